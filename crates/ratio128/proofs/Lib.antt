@@ -1,0 +1,2 @@
+pub mod RatioLemmas
+pub mod LcmLemmas

@@ -1,0 +1,52 @@
+ghost use Rattle.std.specs.Prelude.{◌≡◌, ℕ, ◌<◌, ◌^◌, ℤ, pos, ◌*ℤ◌, unsigned_abs};
+ghost use Rattle.std.specs.Int.{IsGcd};
+ghost use Rattle.ratio128.specs.Ratio.{signed_like};
+
+/// The greatest common divisor: the one that every common divisor divides. It is 0 for two zeros.
+pub fn gcd(a: u128, b: u128) -> u128
+    ensures { IsGcd a b result }
+{
+    let mut x = a;
+    let mut y = b;
+    while y != 0 {
+        let rest = x % y;
+        x = y;
+        y = rest;
+    }
+    x
+}
+
+/// A whole numerator over a whole denominator, just as given; `lowest` makes one in lowest terms.
+#[derive(Clone, Copy, Debug, PartialEq, Eq)]
+pub struct Frac {
+    pub num: i128,
+    pub den: u128,
+}
+
+/// The same fraction in lowest terms: its numerator and denominator have no common divisor but 1.
+///
+/// `den` is at least 1, and so is the denominator of the answer, so that the numerator has the
+/// sign; 0 is 0/1. `num` is any number but the least `i128`, whose amount has no `i128`.
+pub fn lowest(num: i128, den: u128) -> Frac
+    requires positive { 0 < den }
+    requires kept { unsigned_abs num < 2 ^ 127 }
+    ensures lowest { IsGcd (unsigned_abs result.num) result.den 1 }
+    ensures positive { 0 < result.den }
+    ensures same { num *ℤ pos result.den ≡ result.num *ℤ pos den }
+{
+    let amount = num.unsigned_abs();
+    let common = gcd(amount, den);
+    Frac {
+        num: with_sign_of(num, amount / common),
+        den: den / common,
+    }
+}
+
+// The amount, below 0 where the number is.
+fn with_sign_of(number: i128, amount: u128) -> i128
+    requires { amount < 2 ^ 127 }
+    ensures { result ≡ signed_like number amount }
+{
+    let size = amount as i128;
+    if number < 0 { -size } else { size }
+}
