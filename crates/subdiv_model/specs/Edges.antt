@@ -1,0 +1,56 @@
+-- The edges of a list of polygons, by first appearance, and the faces and edges that meet.
+-- Source: this profile.
+use Rattle.std.specs.Prelude.{ℕ, Bool, not, ◌&&◌, ◌||◌, nat_eq, List, [], ◌∷◌, length}
+use Rattle.std.specs.List.{filter, flat_map, list_all, count_by}
+use Rattle.subdiv_model.specs.Polygons.{Polygon, sides_of, same_side, same_edge, has_corner, has_edge, places}
+
+-- the directed edges of all polygons, over polygons and corners
+abbrev pub all_sides : List Polygon → List (ℕ × ℕ)
+all_sides polygons = flat_map sides_of polygons
+
+-- each directed edge that names an edge for the first time
+abbrev pub first_named : List (ℕ × ℕ) → List (ℕ × ℕ)
+first_named [] = []
+first_named (s ∷ sides) = s ∷ filter (λ t. not (same_edge s t)) (first_named sides)
+
+-- the edges: the unordered pairs of neighbouring corners, in order of first appearance over polygons and
+-- corners, each with its ends in the direction of that appearance
+abbrev pub edges_of : List Polygon → List (ℕ × ℕ)
+edges_of polygons = first_named (all_sides polygons)
+
+-- the numbers of the polygons that have the edge, ascending
+abbrev pub faces_of_edge : List Polygon → ℕ × ℕ → List ℕ
+faces_of_edge polygons edge = places (has_edge edge) polygons
+
+-- the numbers of the polygons that have the point, ascending
+abbrev pub faces_of_point : List Polygon → ℕ → List ℕ
+faces_of_point polygons v = places (has_corner v) polygons
+
+-- the edge ends at the point
+abbrev pub has_end : ℕ → ℕ × ℕ → Bool
+has_end v edge = nat_eq v edge.0 || nat_eq v edge.1
+
+-- the edges that end at the point, by first appearance
+abbrev pub edges_of_point : List Polygon → ℕ → List (ℕ × ℕ)
+edges_of_point polygons v = filter (has_end v) (edges_of polygons)
+
+-- a boundary edge is an edge of one face
+abbrev pub is_boundary : List Polygon → ℕ × ℕ → Bool
+is_boundary polygons edge = nat_eq (length (faces_of_edge polygons edge)) 1
+
+-- each edge is in exactly two polygons
+abbrev pub is_closed : List Polygon → Bool
+is_closed polygons = list_all (λ edge. nat_eq (length (faces_of_edge polygons edge)) 2) (edges_of polygons)
+
+-- a directed edge the other way
+abbrev pub reversed : ℕ × ℕ → ℕ × ℕ
+reversed side = (side.1, side.0)
+
+-- how often a directed edge occurs
+abbrev pub times_used : List Polygon → ℕ × ℕ → ℕ
+times_used polygons side = count_by (same_side side) (all_sides polygons)
+
+-- each directed edge occurs once, and once the other way
+abbrev pub goes_both_ways : List Polygon → Bool
+goes_both_ways polygons =
+    list_all (λ side. nat_eq (times_used polygons side) 1 && nat_eq (times_used polygons (reversed side)) 1) (all_sides polygons)

@@ -1,0 +1,71 @@
+-- Manifolds: polygons with three or more distinct corners, each directed edge once, and one fan at each point.
+-- Source: this profile.
+use Rattle.std.specs.Prelude.{ℕ, zero, suc, ◌<◌, Bool, true, false, not, ◌&&◌, ◌||◌, nat_eq, nat_le, List, [], ◌∷◌, length, Option, Some, None, IsTrue, ◌↔◌}
+use Rattle.std.specs.List.{All, filter, list_all, list_any, find, range_with_len}
+use Rattle.subdiv_model.specs.Polygons.{Polygon, sides_of, has_side, has_corner, is_among, is_distinct, has_distinct_sides, polygon_at}
+use Rattle.subdiv_model.specs.Edges.{all_sides, faces_of_point}
+
+-- about v the face `next` is the successor of `face`: a corner follows v in `face`, and `next` has the
+-- directed edge from that corner back to v
+pub record IsSuccessor (polygons : List Polygon) (v face next : ℕ) : Type 0 where
+  pub corner : ℕ
+  pub follows : IsTrue (has_side (v, corner) (polygon_at polygons face))
+  pub leads_back : IsTrue (has_side (corner, v) (polygon_at polygons next))
+
+-- about v each face of the list is the successor of the one before it
+abbrev pub IsPath : List Polygon → ℕ → List ℕ → Type 0
+IsPath polygons v [] = Unit {0}
+IsPath polygons v (face ∷ []) = Unit {0}
+IsPath polygons v (face ∷ (next ∷ rest)) = IsSuccessor polygons v face next × IsPath polygons v (next ∷ rest)
+
+-- the faces at v form one fan: they can be listed, each once, so that each is the successor of the one
+-- before it. The last may lead back to the first. A point without faces has one fan.
+pub record HasOneFan (polygons : List Polygon) (v : ℕ) : Type 0 where
+  pub fan : List ℕ
+  pub once : IsTrue (is_distinct fan)
+  pub all : (face : ℕ) → IsTrue (is_among fan face) ↔ IsTrue (has_corner v (polygon_at polygons face))
+  pub path : IsPath polygons v fan
+
+-- at least three corners, all distinct
+abbrev pub is_simple : Polygon → Bool
+is_simple polygon = nat_le 3 (length polygon) && is_distinct polygon
+
+-- the polygons over this number of points are a manifold
+pub record IsManifold (points : ℕ) (polygons : List Polygon) : Type 0 where
+  pub simple : All (λ polygon. IsTrue (is_simple polygon)) polygons
+  pub sides_once : IsTrue (has_distinct_sides (all_sides polygons))
+  pub fans : (v : ℕ) → v < points → HasOneFan polygons v
+
+-- the test for the successor
+abbrev pub is_successor : List Polygon → ℕ → ℕ → ℕ → Bool
+is_successor polygons v face next =
+    list_any (λ side. nat_eq v side.0 && has_side (side.1, v) (polygon_at polygons next)) (sides_of (polygon_at polygons face))
+
+-- the list without this number
+abbrev pub without : ℕ → List ℕ → List ℕ
+without n numbers = filter (λ m. not (nat_eq n m)) numbers
+
+-- what is left of the faces after a walk of so many steps: each step takes the face away that was found, and
+-- finds its successor about v among the others
+abbrev pub left_after : ℕ → List Polygon → ℕ → Option ℕ → List ℕ → List ℕ
+left_after zero polygons v found faces = faces
+left_after (suc steps) polygons v None faces = faces
+left_after (suc steps) polygons v (Some face) faces =
+    left_after steps polygons v (find (is_successor polygons v face) (without face faces)) (without face faces)
+
+abbrev pub is_empty : List ℕ → Bool
+is_empty [] = true
+is_empty (n ∷ rest) = false
+
+-- a walk about v from this face leaves no face
+abbrev pub walk_meets_all : List Polygon → ℕ → List ℕ → ℕ → Bool
+walk_meets_all polygons v faces face = is_empty (left_after (length faces) polygons v (Some face) faces)
+
+-- the test for one fan: there is no face at v, or the walk from one of them meets all
+abbrev pub has_one_fan : List Polygon → ℕ → Bool
+has_one_fan polygons v = is_empty (faces_of_point polygons v) || list_any (walk_meets_all polygons v (faces_of_point polygons v)) (faces_of_point polygons v)
+
+-- the test for a manifold
+abbrev pub is_manifold : ℕ → List Polygon → Bool
+is_manifold points polygons =
+    list_all is_simple polygons && has_distinct_sides (all_sides polygons) && list_all (has_one_fan polygons) (range_with_len 0 points)

@@ -1,0 +1,50 @@
+-- The mesh that an OBJ text gives, before any of it is judged as a mesh.
+-- Source: this profile.
+use Rattle.std.specs.Prelude.{ℕ, ℤ, Bool, ◌&&◌, nat_lt, List, length}
+use Rattle.std.specs.List.{list_all}
+use Rattle.subdiv_model.specs.Polygons.{Polygon, is_over}
+use Rattle.subdiv_model.specs.Sharpness.{Sharpness, Method}
+use Rattle.subdiv_model.specs.Base.{Boundary}
+
+-- points, faces and texture values are counted from 0; creases, corners and holes stand in the order of the
+-- file, also where they name an edge, a vertex or a face again
+pub record ObjMesh : Type 0 where
+  -- whole numbers over 10^scale
+  pub points : List (ℤ × ℤ × ℤ)
+  pub scale : ℕ
+  -- whole numbers over 10^texture_scale
+  pub texture : List (ℤ × ℤ)
+  pub texture_scale : ℕ
+  pub faces : List Polygon
+  pub has_texture : Bool
+  -- where there is texture, for each corner of each face the number of its texture value; else nothing
+  pub texture_corners : List Polygon
+  -- two vertices and the sharpness between them
+  pub creases : List ((ℕ × ℕ) × Sharpness)
+  -- a vertex and its sharpness
+  pub corners : List (ℕ × Sharpness)
+  -- numbers of faces
+  pub holes : List ℕ
+  pub boundary : Boundary
+  pub method : Method
+
+-- each corner of a face is a point
+abbrev pub has_faces_over_points : ObjMesh → Bool
+has_faces_over_points mesh = is_over (length mesh.points) mesh.faces
+
+-- each texture corner is a texture value
+abbrev pub has_corners_over_texture : ObjMesh → Bool
+has_corners_over_texture mesh = is_over (length mesh.texture) mesh.texture_corners
+
+-- both vertices of each crease are points
+abbrev pub has_creases_over_points : ObjMesh → Bool
+has_creases_over_points mesh =
+    list_all (λ crease. nat_lt crease.0.0 (length mesh.points) && nat_lt crease.0.1 (length mesh.points)) mesh.creases
+
+-- the vertex of each corner is a point
+abbrev pub has_corners_over_points : ObjMesh → Bool
+has_corners_over_points mesh = list_all (λ corner. nat_lt corner.0 (length mesh.points)) mesh.corners
+
+-- each hole is a face
+abbrev pub has_holes_over_faces : ObjMesh → Bool
+has_holes_over_faces mesh = list_all (λ face. nat_lt face (length mesh.faces)) mesh.holes

@@ -1,0 +1,100 @@
+-- Words of OBJ lines: kept numerals, corners of faces, and what is wrong with each.
+-- Source: this profile.
+use Rattle.std.specs.Prelude.{ℕ, zero, suc, ◌+◌, ◌-◌, ◌^◌, ℤ, pos, negsuc, ◌*ℤ◌, Bool, false, not, ◌&&◌, ◌||◌, nat_eq, nat_lt, List, [], ◌∷◌, length, get_or, Option, Some, None, is_none, if◌then◌else◌}
+use Rattle.std.specs.List.{slice_split}
+use Rattle.subdiv_model.specs.PlainLine.{number_of_digits}
+use Rattle.subdiv_model.specs.Numeral.{is_numeral, all_digits, tens_above, tens_below, normal_form, is_in_range}
+use Rattle.subdiv_model.specs.Index.{is_index, index_of}
+use Rattle.subdiv_model.specs.ObjFault.{ObjCause, BadNumeral, NumberRange, BadCorner, IndexRange}
+
+-- the exponent alone makes more than 37 digits, or more than 37 decimals whatever tens the digits have
+abbrev pub is_far_exponent : List ℕ → Bool
+is_far_exponent word =
+    nat_lt (tens_below word + 36) (tens_above word)
+    || nat_lt (length (all_digits word) + tens_above word + 37) (tens_below word)
+
+-- the numeral is no zero and has such an exponent
+abbrev pub is_past_range : List ℕ → Bool
+is_past_range word = nat_lt 0 (number_of_digits (all_digits word)) && is_far_exponent word
+
+-- at most 37 digits and at most 37 decimals in normal form; the first test only spares a huge power
+abbrev pub is_kept : List ℕ → Bool
+is_kept word = not (is_past_range word) && is_in_range word
+
+-- what is wrong with a word that must be a numeral
+abbrev pub numeral_fault : List ℕ → Option ObjCause
+numeral_fault word = if is_numeral word then if is_kept word then None else Some NumberRange else Some BadNumeral
+
+-- the numeral as a whole number over 10^scale, for a scale of at least its decimals
+abbrev pub number_at : ℕ → List ℕ → ℤ
+number_at scale word = (normal_form word).0 *ℤ pos (10 ^ (scale - (normal_form word).1))
+
+abbrev pub is_slash : ℕ → Bool
+is_slash b = nat_eq b 47
+
+abbrev pub is_empty : List ℕ → Bool
+is_empty word = nat_eq (length word) 0
+
+-- the parts of a corner between its slashes
+abbrev pub corner_parts : List ℕ → List (List ℕ)
+corner_parts word = slice_split is_slash word
+
+-- the parts of `a`, `a/b`, `a//c` or `a/b/c`
+abbrev pub are_corner_parts : List (List ℕ) → Bool
+are_corner_parts [] = false
+are_corner_parts (a ∷ []) = is_index a
+are_corner_parts (a ∷ (b ∷ [])) = is_index a && is_index b
+are_corner_parts (a ∷ (b ∷ (c ∷ []))) = is_index a && (is_empty b || is_index b) && is_index c
+are_corner_parts (a ∷ (b ∷ (c ∷ (d ∷ parts)))) = false
+
+abbrev pub is_corner : List ℕ → Bool
+is_corner word = are_corner_parts (corner_parts word)
+
+-- the index of a vertex, and that of a texture value, which may be empty
+abbrev pub vertex_part : List ℕ → List ℕ
+vertex_part corner = get_or (corner_parts corner) 0 []
+
+abbrev pub texture_part : List ℕ → List ℕ
+texture_part corner = get_or (corner_parts corner) 1 []
+
+abbrev pub has_texture_part : List ℕ → Bool
+has_texture_part corner = not (is_empty (texture_part corner))
+
+-- two corners have as many parts, and both or neither have a texture value
+abbrev pub same_form : List ℕ → List ℕ → Bool
+same_form first corner =
+    nat_eq (length (corner_parts first)) (length (corner_parts corner))
+    && (if has_texture_part first then has_texture_part corner else not (has_texture_part corner))
+
+-- the place, from 0, that an index names: from 1 on it counts the whole list, and below 0 it counts back
+-- from the last of those that stand before
+abbrev pub place_of_index : ℕ → ℕ → ℤ → Option ℕ
+place_of_index before whole (pos zero) = None
+place_of_index before whole (pos (suc n)) = if nat_lt n whole then Some n else None
+place_of_index before whole (negsuc n) = if nat_lt n before then Some (before - suc n) else None
+
+abbrev pub place_of_word : ℕ → ℕ → List ℕ → Option ℕ
+place_of_word before whole word = place_of_index before whole (index_of word)
+
+-- how many points, texture values and faces some lines have
+pub record Counts : Type 0 where
+  pub points : ℕ
+  pub textures : ℕ
+  pub faces : ℕ
+
+-- the point and the texture value of a corner, by the counts of the lines before it and of the whole file
+abbrev pub corner_point : Counts → Counts → List ℕ → Option ℕ
+corner_point before whole corner = place_of_word before.points whole.points (vertex_part corner)
+
+abbrev pub corner_texture : Counts → Counts → List ℕ → Option ℕ
+corner_texture before whole corner = place_of_word before.textures whole.textures (texture_part corner)
+
+-- the corner names no point, or has a texture value and names none
+abbrev pub is_past_lists : Counts → Counts → List ℕ → Bool
+is_past_lists before whole corner =
+    is_none (corner_point before whole corner) || (has_texture_part corner && is_none (corner_texture before whole corner))
+
+-- what is wrong with a corner of a line whose first corner is given
+abbrev pub corner_fault : Counts → Counts → List ℕ → List ℕ → Option ObjCause
+corner_fault before whole first corner =
+    if is_corner corner && same_form first corner then if is_past_lists before whole corner then Some IndexRange else None else Some BadCorner

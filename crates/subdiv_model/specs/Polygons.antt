@@ -1,0 +1,69 @@
+-- Polygons over points, as plain lists: their corners, their directed edges, and their places in a list.
+-- Source: this profile.
+use Rattle.std.specs.Prelude.{ℕ, ◌+◌, Bool, true, not, ◌&&◌, ◌||◌, nat_eq, nat_lt, List, [], ◌∷◌, get_or, if◌then◌else◌}
+use Rattle.std.specs.List.{list_any, list_all}
+
+-- a polygon is its corners in order, each the number of a point
+abbrev pub Polygon : Type 0
+Polygon = List ℕ
+
+-- each corner of a path with the next one, and the last with `first`
+abbrev pub sides_back_to : ℕ → Polygon → List (ℕ × ℕ)
+sides_back_to first [] = []
+sides_back_to first (v ∷ rest) = (v, get_or rest 0 first) ∷ sides_back_to first rest
+
+-- the directed edges of a polygon: each corner with the next one, and the last with the first
+abbrev pub sides_of : Polygon → List (ℕ × ℕ)
+sides_of [] = []
+sides_of (v ∷ rest) = sides_back_to v (v ∷ rest)
+
+-- the same two ends in the same direction
+abbrev pub same_side : ℕ × ℕ → ℕ × ℕ → Bool
+same_side s t = nat_eq s.0 t.0 && nat_eq s.1 t.1
+
+-- the same two ends, in either direction
+abbrev pub same_edge : ℕ × ℕ → ℕ × ℕ → Bool
+same_edge s t = same_side s t || (nat_eq s.0 t.1 && nat_eq s.1 t.0)
+
+-- the number is one of the list
+abbrev pub is_among : List ℕ → ℕ → Bool
+is_among numbers n = list_any (nat_eq n) numbers
+
+-- the polygon has a corner at the point
+abbrev pub has_corner : ℕ → Polygon → Bool
+has_corner v polygon = is_among polygon v
+
+-- the polygon has the directed edge
+abbrev pub has_side : ℕ × ℕ → Polygon → Bool
+has_side s polygon = list_any (same_side s) (sides_of polygon)
+
+-- the polygon has the edge, in either direction
+abbrev pub has_edge : ℕ × ℕ → Polygon → Bool
+has_edge s polygon = list_any (same_edge s) (sides_of polygon)
+
+-- no number stands twice
+abbrev pub is_distinct : List ℕ → Bool
+is_distinct [] = true
+is_distinct (v ∷ rest) = not (is_among rest v) && is_distinct rest
+
+-- no directed edge occurs twice
+abbrev pub has_distinct_sides : List (ℕ × ℕ) → Bool
+has_distinct_sides [] = true
+has_distinct_sides (s ∷ sides) = not (list_any (same_side s) sides) && has_distinct_sides sides
+
+-- the places of what passes the test, ascending, where the first of the list is at `place`
+abbrev pub places_from : {X : Type 0} → ℕ → (X → Bool) → List X → List ℕ
+places_from place test [] = []
+places_from place test (x ∷ xs) = if test x then place ∷ places_from (place + 1) test xs else places_from (place + 1) test xs
+
+-- the places of what passes the test, counted from 0, ascending
+abbrev pub places : {X : Type 0} → (X → Bool) → List X → List ℕ
+places test xs = places_from 0 test xs
+
+-- the polygon with this number, and no corner where there is none
+abbrev pub polygon_at : List Polygon → ℕ → Polygon
+polygon_at polygons face = get_or polygons face []
+
+-- each corner is one of so many points
+abbrev pub is_over : ℕ → List Polygon → Bool
+is_over points polygons = list_all (list_all (λ v. nat_lt v points)) polygons

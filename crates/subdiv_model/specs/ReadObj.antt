@@ -1,0 +1,208 @@
+-- Reading OBJ text: its first fault, or its mesh.
+-- Source: this profile.
+use Rattle.std.specs.Prelude.{ℕ, suc, ◌-◌, ◌^◌, ℤ, unsigned_abs, Bool, not, ◌&&◌, ◌||◌, nat_eq, nat_le, nat_lt, max, List, [], ◌∷◌, length, map, take, drop, get_or, Option, Some, None, option_map, unwrap_or, bytes_eq, codes, if◌then◌else◌}
+use Rattle.std.specs.List.{filter, filter_map, flat_map, list_any, list_all, fold, count_by, range_with_len}
+use Rattle.subdiv_model.specs.MeshFault.{first_of}
+use Rattle.subdiv_model.specs.Polygons.{Polygon, places}
+use Rattle.subdiv_model.specs.PlainLine.{lines_of, begins_with, is_vertex_line, is_face_line}
+use Rattle.subdiv_model.specs.ObjLine.{line_words}
+use Rattle.subdiv_model.specs.Numeral.{normal_form}
+use Rattle.subdiv_model.specs.Sharpness.{Method, Normal}
+use Rattle.subdiv_model.specs.Base.{Boundary, EdgeOnly}
+use Rattle.subdiv_model.specs.ObjFault.{ObjCause, ObjFault, NumberRange, UnknownKeyword, Continuation, ShortLine, first_cause, or_else}
+use Rattle.subdiv_model.specs.ObjMesh.{ObjMesh}
+use Rattle.subdiv_model.specs.ObjWord.{Counts, numeral_fault, number_at, corner_fault, corner_point, corner_texture, has_texture_part}
+use Rattle.subdiv_model.specs.ObjTag.{tag_fault, is_tag, tag_creases, tag_corners, tag_indices, tag_mode, tag_method}
+
+-- a byte order mark at the front is skipped
+abbrev pub byte_order_mark : List ℕ
+byte_order_mark = 239 ∷ 187 ∷ 191 ∷ []
+
+abbrev pub without_mark : List ℕ → List ℕ
+without_mark text = if bytes_eq (take 3 text) byte_order_mark then drop 3 text else text
+
+-- each line as its words
+abbrev pub obj_lines : List ℕ → List (List (List ℕ))
+obj_lines text = map line_words (lines_of (without_mark text))
+
+-- lines of a texture value, and lines of a tag
+abbrev pub is_texture_line : List (List ℕ) → Bool
+is_texture_line words = begins_with (codes "vt") words
+
+abbrev pub is_tag_line : List (List ℕ) → Bool
+is_tag_line words = begins_with (codes "t") words
+
+-- keywords whose lines are dropped unread
+abbrev pub dropped_keywords : List (List ℕ)
+dropped_keywords =
+    codes "vn" ∷ codes "g" ∷ codes "o" ∷ codes "s" ∷ codes "usemtl" ∷ codes "mtllib" ∷ codes "l" ∷ codes "p" ∷ []
+
+abbrev pub is_dropped_line : List (List ℕ) → Bool
+is_dropped_line words = list_any (λ keyword. begins_with keyword words) dropped_keywords
+
+abbrev pub has_known_keyword : List (List ℕ) → Bool
+has_known_keyword words =
+    is_vertex_line words || is_texture_line words || is_face_line words || is_tag_line words || is_dropped_line words
+
+-- the words behind the keyword
+abbrev pub values_of : List (List ℕ) → List (List ℕ)
+values_of words = drop 1 words
+
+-- `\` at the end of a word
+abbrev pub ends_with_backslash : List ℕ → Bool
+ends_with_backslash word = nat_eq (get_or word (length word - 1) 0) 92
+
+-- the last word of the line ends with `\`
+abbrev pub is_continued : List (List ℕ) → Bool
+is_continued words = ends_with_backslash (get_or words (length words - 1) [])
+
+-- how many words a line needs behind its keyword
+abbrev pub least_values : List (List ℕ) → ℕ
+least_values words =
+    if is_vertex_line words then 3
+    else if is_tag_line words then 2
+    else if is_texture_line words || is_face_line words then 1
+    else 0
+
+-- the fault of the first bad word from the left, by the counts of the lines before and of the whole file
+abbrev pub words_fault : Counts → Counts → List (List ℕ) → Option ObjCause
+words_fault before whole words =
+    if is_vertex_line words || is_texture_line words then first_cause numeral_fault (values_of words)
+    else if is_face_line words then first_cause (corner_fault before whole (get_or words 1 [])) (values_of words)
+    else if is_tag_line words then tag_fault whole words
+    else None
+
+-- what is wrong with a line that has words
+abbrev pub line_fault_of_words : Counts → Counts → List (List ℕ) → Option ObjCause
+line_fault_of_words before whole words =
+    if is_continued words then Some Continuation
+    else if not (has_known_keyword words) then Some UnknownKeyword
+    else if nat_lt (length (values_of words)) (least_values words) then Some ShortLine
+    else words_fault before whole words
+
+-- what is wrong with a line; one without words is skipped
+abbrev pub line_fault : Counts → Counts → List (List ℕ) → Option ObjCause
+line_fault before whole [] = None
+line_fault before whole (keyword ∷ values) = line_fault_of_words before whole (keyword ∷ values)
+
+-- how many points, texture values and faces the lines have, also where they are bad
+abbrev pub counts_of : List (List (List ℕ)) → Counts
+counts_of lines = record {
+  points = count_by is_vertex_line lines;
+  textures = count_by is_texture_line lines;
+  faces = count_by is_face_line lines;
+}
+
+-- what is wrong with the line at place i, counted from 0
+abbrev pub fault_at : List (List (List ℕ)) → ℕ → Option ObjCause
+fault_at lines i = line_fault (counts_of (take i lines)) (counts_of lines) (get_or lines i [])
+
+-- the coordinates that are kept of a line: three of a point, and one or two of a texture value
+abbrev pub kept_coordinates : List (List ℕ) → List (List ℕ)
+kept_coordinates words =
+    if is_vertex_line words then take 3 (values_of words)
+    else if is_texture_line words then take 2 (values_of words)
+    else []
+
+-- a channel's scale: the greatest number of decimals among its kept coordinates, or more
+abbrev pub scale_over : ℕ → List (List (List ℕ)) → ℕ
+scale_over least lines = fold max least (map (λ word. (normal_form word).1) (flat_map kept_coordinates lines))
+
+-- the scale of the positions, which is at least `least`, and that of the texture values
+abbrev pub position_scale : ℕ → List (List (List ℕ)) → ℕ
+position_scale least lines = scale_over least (filter is_vertex_line lines)
+
+abbrev pub texture_scale_of : List (List (List ℕ)) → ℕ
+texture_scale_of lines = scale_over 0 (filter is_texture_line lines)
+
+-- the scale of the channel of a `v` or `vt` line
+abbrev pub line_scale : ℕ → List (List (List ℕ)) → List (List ℕ) → ℕ
+line_scale least lines words = if is_vertex_line words then position_scale least lines else texture_scale_of lines
+
+-- the numeral has more than 37 digits at a scale
+abbrev pub is_long_at : ℕ → List ℕ → Bool
+is_long_at scale word = nat_le (10 ^ 37) (unsigned_abs (number_at scale word))
+
+-- a kept coordinate of the line has more than 37 digits at its channel's scale
+abbrev pub long_fault : ℕ → List (List (List ℕ)) → List (List ℕ) → Option ObjCause
+long_fault least lines words =
+    if list_any (is_long_at (line_scale least lines words)) (kept_coordinates words) then Some NumberRange else None
+
+-- the first fault of the lines, where `cause_at` gives what is wrong at a place counted from 0
+abbrev pub first_fault : (ℕ → Option ObjCause) → ℕ → Option ObjFault
+first_fault cause_at count =
+    first_of (filter_map (λ i. option_map (λ cause. record { line = suc i; cause = cause }) (cause_at i)) (range_with_len 0 count))
+
+-- the least line that is bad by itself
+abbrev pub first_bad_line : List (List (List ℕ)) → Option ObjFault
+first_bad_line lines = first_fault (fault_at lines) (length lines)
+
+-- the least line with a coordinate that is too long at its channel's scale
+abbrev pub first_long_line : ℕ → List (List (List ℕ)) → Option ObjFault
+first_long_line least lines = first_fault (λ i. long_fault least lines (get_or lines i [])) (length lines)
+
+-- the fault of a text, read with a scale of at least `least` for positions
+abbrev pub read_obj_fault : List ℕ → ℕ → Option ObjFault
+read_obj_fault text least = or_else (first_bad_line (obj_lines text)) (first_long_line least (obj_lines text))
+
+-- a point at a scale, and a texture value, whose second coordinate is 0 where it is missing
+abbrev pub point_at : ℕ → List (List ℕ) → ℤ × ℤ × ℤ
+point_at scale words =
+    (number_at scale (get_or words 1 []), number_at scale (get_or words 2 []), number_at scale (get_or words 3 []))
+
+abbrev pub texture_at : ℕ → List (List ℕ) → ℤ × ℤ
+texture_at scale words = (number_at scale (get_or words 1 []), number_at scale (get_or words 2 (codes "0")))
+
+-- the numbers that the corners of the face line at place i name, by what one corner names
+abbrev pub corner_numbers : (Counts → Counts → List ℕ → Option ℕ) → List (List (List ℕ)) → ℕ → List ℕ
+corner_numbers named lines i =
+    map (λ corner. unwrap_or (named (counts_of (take i lines)) (counts_of lines) corner) 0) (values_of (get_or lines i []))
+
+abbrev pub faces_of : List (List (List ℕ)) → List Polygon
+faces_of lines = map (corner_numbers corner_point lines) (places is_face_line lines)
+
+-- there is a face, and each corner of each face has a texture value
+abbrev pub has_texture_channel : List (List (List ℕ)) → Bool
+has_texture_channel lines =
+    list_any is_face_line lines && list_all (λ words. list_all has_texture_part (values_of words)) (filter is_face_line lines)
+
+abbrev pub texture_corners_of : List (List (List ℕ)) → List Polygon
+texture_corners_of lines =
+    if has_texture_channel lines then map (corner_numbers corner_texture lines) (places is_face_line lines) else []
+
+-- the tags with a name, in the order of the file
+abbrev pub tags_named : List ℕ → List (List (List ℕ)) → List (List (List ℕ))
+tags_named name lines = filter (is_tag name) lines
+
+-- the last of a list, or else what is given
+abbrev pub last_of : {X : Type 0} → X → List X → X
+last_of given [] = given
+last_of given (x ∷ xs) = last_of x xs
+
+-- the last tag gives the boundary mode and the method
+abbrev pub boundary_of : List (List (List ℕ)) → Boundary
+boundary_of lines = last_of EdgeOnly (map tag_mode (tags_named (codes "interpolateboundary") lines))
+
+abbrev pub method_of : List (List (List ℕ)) → Method
+method_of lines = last_of Normal (map tag_method (tags_named (codes "creasemethod") lines))
+
+-- the mesh of lines without fault
+abbrev pub mesh_of_lines : List (List (List ℕ)) → ℕ → ObjMesh
+mesh_of_lines lines least = record {
+  points = map (point_at (position_scale least lines)) (filter is_vertex_line lines);
+  scale = position_scale least lines;
+  texture = map (texture_at (texture_scale_of lines)) (filter is_texture_line lines);
+  texture_scale = texture_scale_of lines;
+  faces = faces_of lines;
+  has_texture = has_texture_channel lines;
+  texture_corners = texture_corners_of lines;
+  creases = flat_map tag_creases (tags_named (codes "crease") lines);
+  corners = flat_map tag_corners (tags_named (codes "corner") lines);
+  holes = flat_map tag_indices (tags_named (codes "hole") lines);
+  boundary = boundary_of lines;
+  method = method_of lines;
+}
+
+-- the mesh of a text without fault
+abbrev pub read_obj_mesh : List ℕ → ℕ → ObjMesh
+read_obj_mesh text least = mesh_of_lines (obj_lines text) least

@@ -1,0 +1,97 @@
+-- Sharpness of edges and vertices, and the sharpness of the next level.
+-- Source: DeRose, Kass and Truong 1998 for semi-sharp creases; the rule named `chaikin` is this profile's.
+use Rattle.std.specs.Prelude.{ℕ, zero, suc, ◌-◌, ◌*◌, ◌^◌, Bool, true, false, ◌&&◌, nat_le, nat_lt, List, [], ◌∷◌, length, get_or, if◌then◌else◌}
+use Rattle.std.specs.List.{flat_map}
+use Rattle.subdiv_model.specs.Fractions.{lowest, plus_fraction, minus_fraction, times_fraction, sum_of_fractions}
+use Rattle.subdiv_model.specs.Multiples.{common_denominator}
+
+-- smooth is sharpness 0; a semi-sharp one is a fraction in lowest terms, above 0 and below 10
+pub data Sharpness : Type 0 where
+  Smooth : Sharpness
+  Semi : ℕ → ℕ → Sharpness
+  Infinite : Sharpness
+
+-- how the halves of an edge get their sharpness
+pub data Method : Type 0 where
+  Normal : Method
+  Chaikin : Method
+
+abbrev pub semi_of : ℕ × ℕ → Sharpness
+semi_of x = Semi x.0 x.1
+
+-- the sharpness of a fraction above 0: infinite from 10 on
+abbrev pub sharpness_above_zero : ℕ → ℕ → Sharpness
+sharpness_above_zero num den = if nat_le (10 * den) num then Infinite else semi_of (lowest (num, den))
+
+-- the sharpness of any fraction: 0 is smooth, and at least 10 is infinite
+abbrev pub sharpness_of : ℕ → ℕ → Sharpness
+sharpness_of zero den = Smooth
+sharpness_of (suc num) den = sharpness_above_zero (suc num) den
+
+abbrev pub sharpness_of_fraction : ℕ × ℕ → Sharpness
+sharpness_of_fraction x = sharpness_of x.0 x.1
+
+-- above 0
+abbrev pub is_sharp : Sharpness → Bool
+is_sharp Smooth = false
+is_sharp (Semi num den) = true
+is_sharp Infinite = true
+
+-- above 0 and not infinite
+abbrev pub is_semi_sharp : Sharpness → Bool
+is_semi_sharp Smooth = false
+is_semi_sharp (Semi num den) = true
+is_semi_sharp Infinite = false
+
+-- the uniform rule: 0 and infinite stay, and all else is less by 1 but not below 0
+abbrev pub uniform_child : Sharpness → Sharpness
+uniform_child Smooth = Smooth
+uniform_child (Semi num den) = sharpness_of_fraction (minus_fraction (num, den) (1, 1))
+uniform_child Infinite = Infinite
+
+-- the value of a semi-sharp one, and nothing for all else
+abbrev pub semi_values : Sharpness → List (ℕ × ℕ)
+semi_values Smooth = []
+semi_values (Semi num den) = (num, den) ∷ []
+semi_values Infinite = []
+
+-- s is one of `count` semi-sharp edges at a vertex, and `total` is their sum:
+-- 3s/4 + (total - s) / (4 (count - 1)) - 1, but not below 0
+abbrev pub chaikin_value : ℕ × ℕ → ℕ × ℕ → ℕ → ℕ × ℕ
+chaikin_value s total count =
+    minus_fraction (plus_fraction (times_fraction (3, 4) s) (times_fraction (1, 4 * (count - 1)) (minus_fraction total s))) (1, 1)
+
+-- the half of a semi-sharp edge at a vertex, where `values` are those of all semi-sharp edges there
+abbrev pub chaikin_half : List (ℕ × ℕ) → ℕ × ℕ → Sharpness
+chaikin_half values s =
+    if nat_le 2 (length values) then sharpness_of_fraction (chaikin_value s (sum_of_fractions values) (length values)) else uniform_child (semi_of s)
+
+-- the chaikin rule, for an edge of this sharpness in the ring of all edges at a vertex: infinite edges
+-- count neither among the semi-sharp ones nor in their sum, and 0 and infinite stay
+abbrev pub chaikin_child_of : List Sharpness → Sharpness → Sharpness
+chaikin_child_of ring Smooth = Smooth
+chaikin_child_of ring (Semi num den) = chaikin_half (flat_map semi_values ring) (num, den)
+chaikin_child_of ring Infinite = Infinite
+
+-- the same for the edge at a place of the ring
+abbrev pub chaikin_child : List Sharpness → ℕ → Sharpness
+chaikin_child ring place = chaikin_child_of ring (get_or ring place Smooth)
+
+-- the number is too great for the denominator of a sharpness or of a weight
+abbrev pub is_too_fine : ℕ → Bool
+is_too_fine den = nat_lt (2 ^ 60) den
+
+-- the semi-sharp edges of the ring have their chaikin halves over 4 (count - 1) times their common
+-- denominator, and that is too great; one such edge alone takes the uniform rule
+abbrev pub chaikin_overflows : List Sharpness → Bool
+chaikin_overflows ring =
+    let values = flat_map semi_values ring in nat_le 2 (length values) && is_too_fine (4 * (length values - 1) * common_denominator values)
+
+-- the edge at a place of the ring has no chaikin half
+abbrev pub half_overflows : List Sharpness → ℕ → Bool
+half_overflows ring place = is_semi_sharp (get_or ring place Smooth) && chaikin_overflows ring
+
+-- the half of an edge at a vertex, by the method
+abbrev pub half_child : Method → List Sharpness → Sharpness → Sharpness
+half_child Normal ring s = uniform_child s
+half_child Chaikin ring s = chaikin_child_of ring s

@@ -1,0 +1,115 @@
+//! Examples of the words, numerals and indices of OBJ text, and laws of them, each proved: a function
+//! here does nothing, and its clause is the law.
+
+ghost use Rattle.std.specs.Prelude.{◌≡◌, ◌-◌, ◌≤◌, ◌^◌, ℕ, ℤ, pos, negsuc, true, false, List, [], ◌∷◌, codes};
+ghost use Rattle.subdiv_model.specs.ObjLine.{line_end_of, line_words};
+ghost use Rattle.subdiv_model.specs.Numeral.{is_numeral, numeral_value, normal_form, is_in_range, form_value, form_text};
+ghost use Rattle.subdiv_model.specs.Index.{is_index, index_of, nearest_index};
+ghost use Rattle.subdiv_model.specs.Value.{IsSameValue};
+
+/// Where lines end.
+pub fn line_ends()
+    ensures first { line_end_of (codes "v 1\n\nf") 0 ≡ 3 }
+    ensures empty { line_end_of (codes "v 1\n\nf") 4 ≡ 4 }
+    ensures last { line_end_of (codes "v 1\n\nf") 5 ≡ 6 }
+    ensures end { line_end_of (codes "v") 1 ≡ 1 }
+{}
+
+/// Words, blanks and comments.
+pub fn words_and_comments()
+    ensures none { line_words (codes " \t \r") ≡ [] }
+    ensures blanks { line_words (codes " v\t1  2\t \t3\r") ≡ codes "v" ∷ codes "1" ∷ codes "2" ∷ codes "3" ∷ [] }
+    ensures comment { line_words (codes "f 1 # 2 3") ≡ codes "f" ∷ codes "1" ∷ [] }
+    ensures joined { line_words (codes "f 1 #2 3") ≡ codes "f" ∷ codes "1" ∷ [] }
+    ensures inner { line_words (codes "o x# y") ≡ codes "o" ∷ codes "x#" ∷ codes "y" ∷ [] }
+    ensures other { line_words (11 ∷ 32 ∷ 200 ∷ []) ≡ (11 ∷ []) ∷ (200 ∷ []) ∷ [] }
+{}
+
+/// Words that are numerals.
+pub fn words_that_are_numerals()
+    ensures digits { is_numeral (codes "007") ≡ true }
+    ensures plus { is_numeral (codes "+1") ≡ true }
+    ensures before { is_numeral (codes "-1.") ≡ true }
+    ensures behind { is_numeral (codes ".5") ≡ true }
+    ensures exponent { is_numeral (codes "1.e5") ≡ true }
+    ensures large { is_numeral (codes "0E+00") ≡ true }
+{}
+
+/// Words that are no numerals.
+pub fn words_that_are_no_numerals()
+    ensures none { is_numeral [] ≡ false }
+    ensures sign { is_numeral (codes "+") ≡ false }
+    ensures point { is_numeral (codes ".") ≡ false }
+    ensures points { is_numeral (codes "1.2.3") ≡ false }
+    ensures signs { is_numeral (codes "--1") ≡ false }
+    ensures mark { is_numeral (codes "1e") ≡ false }
+    ensures mantissa { is_numeral (codes "e5") ≡ false }
+    ensures fraction { is_numeral (codes "1e5.") ≡ false }
+    ensures letters { is_numeral (codes "nan") ≡ false }
+    ensures gap { is_numeral (codes "1_0") ≡ false }
+{}
+
+/// Normal forms: the mantissa and the number of decimals.
+pub fn normal_forms_of_numerals()
+    ensures half { normal_form (codes "0.50") ≡ (pos 5, 1) }
+    ensures negative { normal_form (codes "-12.340e1") ≡ (negsuc 1233, 1) }
+    ensures whole { normal_form (codes "1.e3") ≡ (pos 1000, 0) }
+    ensures tens { normal_form (codes "1200e-2") ≡ (pos 12, 0) }
+    ensures zero { normal_form (codes "-0.00e-5") ≡ (pos 0, 0) }
+    ensures zero_far { normal_form (codes "0e-999999999999999999999") ≡ (pos 0, 0) }
+    ensures small { normal_form (codes "1e-000000000000000000000000000000000000001") ≡ (pos 1, 1) }
+{}
+
+/// Normal forms as texts.
+pub fn normal_forms_as_texts()
+    ensures negative { form_text (normal_form (codes "-12.340e1")) ≡ codes "-1234e-1" }
+    ensures zero { form_text (normal_form (codes "+0.0")) ≡ codes "0e-0" }
+{}
+
+/// Numerals at the bounds of the range.
+pub fn bounds_of_the_range()
+    ensures most { is_in_range (codes "9999999999999999999999999999999999999") ≡ true }
+    ensures past { is_in_range (codes "10000000000000000000000000000000000000") ≡ false }
+    ensures fine { is_in_range (codes "1e-37") ≡ true }
+    ensures finer { is_in_range (codes "1e-38") ≡ false }
+    ensures even { is_in_range (codes "10e-38") ≡ true }
+    ensures high { is_in_range (codes "1e36") ≡ true }
+    ensures higher { is_in_range (codes "1e37") ≡ false }
+{}
+
+/// Words that are indices, and what they say.
+pub fn indices_and_their_ends()
+    ensures digits { is_index (codes "007") ≡ true }
+    ensures minus { is_index (codes "-0") ≡ true }
+    ensures plus { is_index (codes "+1") ≡ false }
+    ensures none { is_index [] ≡ false }
+    ensures sign { is_index (codes "-") ≡ false }
+    ensures point { is_index (codes "1.") ≡ false }
+    ensures number { index_of (codes "-12") ≡ negsuc 11 }
+    ensures zero { index_of (codes "-0") ≡ pos 0 }
+    ensures greatest { nearest_index (codes "9223372036854775808") ≡ pos (2 ^ 63 - 1) }
+    ensures least { nearest_index (codes "-9223372036854775809") ≡ negsuc (2 ^ 63 - 1) }
+{}
+
+/// A numeral's normal form has its value.
+pub fn normal_forms_keep_the_value()
+    ensures { (word : List ℕ) → IsSameValue (form_value (normal_form word)) (numeral_value word) }
+{}
+
+/// No whole number over a power of ten has a numeral's value with fewer decimals than its normal form.
+pub fn normal_forms_have_the_least_decimals()
+    ensures { (word : List ℕ) (mantissa : ℤ) (decimals : ℕ) → IsSameValue (form_value (mantissa, decimals)) (numeral_value word)
+        → (normal_form word).1 ≤ decimals }
+{}
+
+/// Two words have the same normal form exactly where they have the same value.
+pub fn normal_forms_tell_values_apart()
+    ensures value { (v w : List ℕ) → normal_form v ≡ normal_form w → IsSameValue (numeral_value v) (numeral_value w) }
+    ensures form { (v w : List ℕ) → IsSameValue (numeral_value v) (numeral_value w) → normal_form v ≡ normal_form w }
+{}
+
+/// A normal form that is written as a numeral and read again is the same.
+pub fn normal_forms_are_read_back()
+    ensures numeral { (word : List ℕ) → is_numeral (form_text (normal_form word)) ≡ true }
+    ensures form { (word : List ℕ) → normal_form (form_text (normal_form word)) ≡ normal_form word }
+{}

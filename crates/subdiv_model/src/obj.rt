@@ -1,0 +1,103 @@
+//! Examples of OBJ texts, their faults and their meshes, and laws of them, each proved: a function here
+//! does nothing, and its clause is the law.
+
+ghost use Rattle.std.specs.Prelude.{◌≡◌, ◌+◌, ◌*◌, ◌≤◌, ℕ, length, sum_by, IsTrue, IfSome, pos, negsuc, false, true, None, Some, List, [], ◌∷◌, ◌++◌, codes};
+ghost use Rattle.subdiv_model.specs.Examples.{cube};
+ghost use Rattle.subdiv_model.specs.ExampleTexts.{cube_text, other_cube_text};
+ghost use Rattle.subdiv_model.specs.PlainLine.{plain_points};
+ghost use Rattle.subdiv_model.specs.Numeral.{is_numeral, is_in_range};
+ghost use Rattle.subdiv_model.specs.Sharpness.{Smooth, Semi, Infinite, Chaikin};
+ghost use Rattle.subdiv_model.specs.Base.{EdgeAndCorner};
+ghost use Rattle.subdiv_model.specs.ObjFault.{BadNumeral, NumberRange, UnknownKeyword, Continuation, ShortLine, BadCorner, IndexRange, BadTag, TagIndex, SharpnessRange, is_of_reading};
+ghost use Rattle.subdiv_model.specs.ObjMesh.{has_faces_over_points, has_corners_over_texture, has_creases_over_points, has_corners_over_points, has_holes_over_faces};
+ghost use Rattle.subdiv_model.specs.ObjWord.{is_kept};
+ghost use Rattle.subdiv_model.specs.ReadObj.{read_obj_fault, read_obj_mesh};
+
+/// Each cause that reading gives, with its line.
+pub fn faults_of_texts()
+    ensures numeral { read_obj_fault (codes "\n# v\nv 0 nan 0") 0 ≡ Some (record { line = 3; cause = BadNumeral }) }
+    ensures number { read_obj_fault (codes "v 1 2 3\nv 0 1e999999999999 x") 0 ≡ Some (record { line = 2; cause = NumberRange }) }
+    ensures unknown { read_obj_fault (codes "v 1 2 3\r\nV 1 2 3\r\n") 0 ≡ Some (record { line = 2; cause = UnknownKeyword }) }
+    ensures continued { read_obj_fault (codes "x 1 \\ # y\nf") 0 ≡ Some (record { line = 1; cause = Continuation }) }
+    ensures cut { read_obj_fault (codes "v 0 0 0\nf") 0 ≡ Some (record { line = 2; cause = ShortLine }) }
+    ensures corner { read_obj_fault (codes "v 0 0 0\nvt 0\nf 1/1 1//1 0/0") 0 ≡ Some (record { line = 3; cause = BadCorner }) }
+    ensures index { read_obj_fault (codes "v 0 0 0\nf 1 -2\nv 0 0 0") 0 ≡ Some (record { line = 2; cause = IndexRange }) }
+    ensures tag { read_obj_fault (codes "v 0 0 0\nt corner 1/1/0 9 -1 x") 0 ≡ Some (record { line = 2; cause = BadTag }) }
+    ensures tag_index { read_obj_fault (codes "v 0 0 0\nt corner 1/1/0 1 x") 0 ≡ Some (record { line = 2; cause = TagIndex }) }
+    ensures sharpness { read_obj_fault (codes "t corner 1/1/0 0 0.0000001\nv 0 0 0") 0 ≡ Some (record { line = 1; cause = SharpnessRange }) }
+{}
+
+/// Where no line is bad by itself, a coordinate may have too many digits at the scale of all, which is
+/// at least the least scale for positions. Dropped coordinates have no part in it.
+pub fn numbers_too_long_at_the_scale()
+    ensures position { read_obj_fault (codes "v 0 0 0.1\nv 1e36 0 0\n") 0 ≡ Some (record { line = 2; cause = NumberRange }) }
+    ensures least { read_obj_fault (codes "v 1e36 0 0") 1 ≡ Some (record { line = 1; cause = NumberRange }) }
+    ensures texture { read_obj_fault (codes "vt 1e36\nvt 0.1") 0 ≡ Some (record { line = 1; cause = NumberRange }) }
+    ensures apart { read_obj_fault (codes "vt 1e36\nv 0.1 0 0 0.01") 0 ≡ None }
+    ensures dropped { read_obj_fault (codes "v 1e36 0 0 0.1") 0 ≡ None }
+    ensures later { read_obj_fault (codes "v 1e36 0 0\nv 0.1 0 0\nx") 0 ≡ Some (record { line = 3; cause = UnknownKeyword }) }
+{}
+
+/// Lines that are good: marks, comments and blanks are skipped, and indices may be of later lines.
+pub fn texts_without_fault()
+    ensures empty { read_obj_fault [] 0 ≡ None }
+    ensures mark { read_obj_fault ((239 ∷ 187 ∷ 191 ∷ []) ++ codes "v 1 2 3") 0 ≡ None }
+    ensures comment { read_obj_fault (codes " \t\r\n# x\n#\\\nv 0 0 0 # \\") 0 ≡ None }
+    ensures later { read_obj_fault (codes "t hole 1/0/0 0\nf 1//7 2//0\nv 1 2 3\nv 1 2 3") 0 ≡ None }
+    ensures dropped { read_obj_fault (codes "t facevaryingpropagatecorners 1/0/1 x y\nvn x") 0 ≡ None }
+    ensures infinite { read_obj_fault (codes "v 0 0 0\nt corner 1/1/0 0 10.0000001") 0 ≡ None }
+    ensures six { read_obj_fault (codes "v 0 0 0\nt corner 1/1/0 0 0.0000010") 0 ≡ None }
+{}
+
+/// The cube, however it is written.
+pub fn cube_written_otherwise()
+    ensures good { read_obj_fault other_cube_text 0 ≡ None }
+    ensures points { (read_obj_mesh other_cube_text 0).points ≡ plain_points cube_text }
+    ensures scale { (read_obj_mesh other_cube_text 0).scale ≡ 0 }
+    ensures faces { (read_obj_mesh other_cube_text 0).faces ≡ cube }
+{}
+
+/// Points and texture values, each at the scale of its channel, and texture corners.
+pub fn channels_and_scales()
+    ensures points { (read_obj_mesh (codes "v 1 -2.5 3") 2).points ≡ (pos 100, negsuc 249, pos 300) ∷ [] }
+    ensures texture { (read_obj_mesh (codes "vt 1\nvt 0.25 -2 3.125") 0).texture ≡ (pos 100, pos 0) ∷ (pos 25, negsuc 199) ∷ [] }
+    ensures corners { (read_obj_mesh (codes "v 0 0 0\nvt 0\nf 1/2/5 1/-1/6\nvt 1") 0).texture_corners ≡ (1 ∷ 0 ∷ []) ∷ [] }
+    ensures channel { (read_obj_mesh (codes "v 0 0 0\nvt 0\nf 1/1 1/1") 0).has_texture ≡ true }
+    ensures partly { (read_obj_mesh (codes "v 0 0 0\nvt 0\nf 1/1 1/1\nf 1//1") 0).has_texture ≡ false }
+    ensures no_face { (read_obj_mesh (codes "v 0 0 0\nvt 0") 0).has_texture ≡ false }
+{}
+
+/// Tags stand in the order of the file; for the mode and the method the last one stands.
+pub fn tags_in_file_order()
+    ensures chain { (read_obj_mesh (codes "t crease 3/1/0 0 2 1 1.50\nt crease 2/1/0 2 0 1e1") 0).creases ≡ ((0, 2), Semi 3 2) ∷ ((2, 1), Semi 3 2) ∷ ((2, 0), Infinite) ∷ [] }
+    ensures pairs { (read_obj_mesh (codes "t crease 3/2/0 0 2 1 0.2 -0") 0).creases ≡ ((0, 2), Semi 1 5) ∷ ((2, 1), Smooth) ∷ [] }
+    ensures corners { (read_obj_mesh (codes "t corner 2/2/0 1 0 1 3\nt corner 1/1/0 1 2") 0).corners ≡ (1, Semi 1 1) ∷ (0, Semi 3 1) ∷ (1, Semi 2 1) ∷ [] }
+    ensures holes { (read_obj_mesh (codes "t hole 2/0/0 4 2\nt hole 1/0/0 2") 0).holes ≡ 4 ∷ 2 ∷ 2 ∷ [] }
+    ensures mode { (read_obj_mesh (codes "t interpolateboundary 1/0/0 0\nt interpolateboundary 1/0/0 01") 0).boundary ≡ EdgeAndCorner }
+    ensures method { (read_obj_mesh (codes "t creasemethod 0/0/1 normal\nt creasemethod 0/0/1 chaikin") 0).method ≡ Chaikin }
+{}
+
+/// A numeral is kept exactly where its normal form is in range.
+pub fn kept_numerals_are_in_range()
+    ensures { (word : List ℕ) → IsTrue (is_numeral word) → is_kept word ≡ is_in_range word }
+{}
+
+/// Reading gives ten causes, and never one of those of moves.
+pub fn reading_gives_ten_causes()
+    ensures { (text : List ℕ) (least : ℕ) → IfSome (read_obj_fault text least) (λ fault. IsTrue (is_of_reading fault.cause)) }
+{}
+
+/// In a mesh that is read without fault each corner of a face, and each vertex of a crease or a corner,
+/// is a point; each texture corner is a texture value; and each hole is a face.
+pub fn read_numbers_name_what_they_count()
+    ensures faces { (text : List ℕ) (least : ℕ) → read_obj_fault text least ≡ None → IsTrue (has_faces_over_points (read_obj_mesh text least)) }
+    ensures texture { (text : List ℕ) (least : ℕ) → read_obj_fault text least ≡ None → IsTrue (has_corners_over_texture (read_obj_mesh text least)) }
+    ensures creases { (text : List ℕ) (least : ℕ) → read_obj_fault text least ≡ None → IsTrue (has_creases_over_points (read_obj_mesh text least)) }
+    ensures corners { (text : List ℕ) (least : ℕ) → read_obj_fault text least ≡ None → IsTrue (has_corners_over_points (read_obj_mesh text least)) }
+    ensures holes { (text : List ℕ) (least : ℕ) → read_obj_fault text least ≡ None → IsTrue (has_holes_over_faces (read_obj_mesh text least)) }
+{}
+
+/// Each corner of a face takes at least two bytes of the text, and each face one more.
+pub fn corners_take_two_bytes()
+    ensures { (text : List ℕ) (least : ℕ) → 2 * sum_by length (read_obj_mesh text least).faces + length (read_obj_mesh text least).faces ≤ length text }
+{}
