@@ -1,0 +1,40 @@
+-- What contracts see of the sources and sinks that stand in memory.
+use Rattle.std.specs.Prelude.{ℕ, ◌+◌, ◌-◌, ◌^◌, min, nat_lt, List, length, if◌then◌else◌}
+
+-- one call more, up to the end of 64 bits
+abbrev pub one_more : ℕ → ℕ
+one_more calls = min (calls + 1) (2 ^ 64 - 1)
+
+-- a source in memory: the bytes that are left, the numbers of the calls that fail, and how many
+-- calls were made and failed
+pub record MemInput : Type 0 where
+  pub left : List ℕ
+  pub fails : List ℕ
+  pub calls : ℕ
+  pub faults : ℕ
+
+-- bytes that never grow past their room
+pub record Store : Type 0 where
+  pub held : List ℕ
+  pub room : ℕ
+
+-- how much of a piece there is room for
+abbrev pub fitting : Store → List ℕ → ℕ
+fitting store piece = min (length piece) (store.room - length store.held)
+
+-- a sink that holds so many bytes and no more, and the failures that it has counted
+pub record SureOutput : Type 0 where
+  pub store : Store
+  pub failures : ℕ
+
+-- no call of it has failed while there is room
+abbrev pub sure_faults : SureOutput → ℕ
+sure_faults sink = if nat_lt (length sink.store.held) sink.store.room then 0 else sink.failures
+
+-- a sink in memory: its bytes, the numbers of the calls that fail, and how many calls were made
+-- and failed
+pub record MemOutput : Type 0 where
+  pub store : Store
+  pub fails : List ℕ
+  pub calls : ℕ
+  pub faults : ℕ

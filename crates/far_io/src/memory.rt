@@ -1,0 +1,176 @@
+ghost use Rattle.std.specs.Prelude.{◌≡◌, ℕ, ◌<◌, ◌≤◌, ◌↔◌, ◌⊎◌, [], ◌++◌, length, take, drop, min, Contains, IsTrue, IsErr, IfOk, OnOk, OnErr, Some};
+ghost use Rattle.far_io.specs.Memory.{one_more, fitting};
+
+use crate::plan::is_planned;
+use crate::{ReadFailed, Sink, Source, SureSink, SureSource, WriteFailed};
+use ratio128::Memory;
+use std::alloc::Global;
+use std::marker::Model;
+
+/// Bytes in memory, whose calls with stated numbers fail. It is for tests of what a failing read
+/// leaves.
+#[derive(Drop)]
+pub struct MemSource {
+    source: SureSource,
+    fails: Vec<u32>,
+    calls: u64,
+    count: u64,
+}
+
+impl Model for MemSource {
+    ghost use Rattle.far_io.specs.Memory.{MemInput};
+
+    ghost Value = { MemInput };
+
+    ghost view = { λ s. record { left = s.source; fails = s.fails.items; calls = s.calls; faults = s.count } };
+}
+
+impl MemSource {
+    /// A source of these bytes. The calls whose numbers, counted from 0, stand in `fails` fail, and
+    /// no others.
+    pub fn new(bytes: Vec<u8>, fails: Vec<u32>) -> MemSource
+        ensures left { result.left ≡ bytes.items }
+        ensures plan { (result.fails ≡ fails.items) × (result.calls ≡ 0) }
+        ensures faults { result.faults ≡ 0 }
+    {
+        MemSource {
+            source: SureSource::new(bytes),
+            fails,
+            calls: 0,
+            count: 0,
+        }
+    }
+}
+
+impl Source for MemSource {
+    ghost left = { λ s. Some s.left };
+
+    ghost faults = { λ s. s.faults };
+
+    /// Reads as many bytes as are left and fit into the buffer, unless this call is one of those
+    /// that fail. That one counts a fault, and leaves the bytes and the buffer as they were.
+    fn read(&mut self, buf: &mut [u8]) -> Result<usize, ReadFailed>
+        ensures planned { IsErr result ↔ Contains self.old.fails self.old.calls }
+        ensures count { IfOk result (λ n. n ≡ min (length self.old.left) (length buf.old)) }
+        ensures taken { IfOk result (λ n. self.old.left ≡ take n buf.new ++ self.new.left) }
+        ensures rest { IfOk result (λ n. drop n buf.new ≡ drop n buf.old) }
+        ensures failed { OnErr result ((self.new.left ≡ self.old.left) × (buf.new ≡ buf.old) × (self.new.faults ≡ one_more self.old.faults)) }
+        ensures faults { OnOk result (self.new.faults ≡ self.old.faults) }
+        ensures later { self.old.faults ≤ self.new.faults }
+        ensures plan { (self.new.fails ≡ self.old.fails) × (self.new.calls ≡ one_more self.old.calls) }
+    {
+        let call = self.calls;
+        self.calls = self.calls.saturating_add(1);
+        if is_planned(&self.fails, call) {
+            self.count = self.count.saturating_add(1);
+            return Err(ReadFailed);
+        }
+        self.source.read(buf)
+    }
+}
+
+/// Room for some bytes in memory, whose calls with stated numbers fail. It is for tests of what a
+/// failing write leaves.
+#[derive(Drop)]
+pub struct MemSink {
+    sink: SureSink,
+    fails: Vec<u32>,
+    calls: u64,
+    count: u64,
+}
+
+impl Model for MemSink {
+    ghost use Rattle.far_io.specs.Memory.{MemOutput};
+
+    ghost Value = { MemOutput };
+
+    ghost view = { λ s. record { store = s.sink.store; fails = s.fails.items; calls = s.calls; faults = s.count } };
+}
+
+impl MemSink {
+    /// A sink that holds up to `n` bytes, and takes all its memory here. The calls whose numbers,
+    /// counted from 0 over writes and flushes, stand in `fails` fail; the others do what those of a
+    /// `SureSink` do. `Memory` is answered where memory ran out.
+    pub fn with_room(alloc: Global, n: usize, fails: Vec<u32>) -> Result<MemSink, Memory>
+        ensures empty { IfOk result (λ s. (s.store.held ≡ []) × (s.store.room ≡ n)) }
+        ensures plan { IfOk result (λ s. (s.fails ≡ fails.items) × (s.calls ≡ 0)) }
+        ensures faults { IfOk result (λ s. s.faults ≡ 0) }
+    {
+        let sink = SureSink::with_room(alloc, n)?;
+        Ok(MemSink {
+            sink,
+            fails,
+            calls: 0,
+            count: 0,
+        })
+    }
+
+    /// What it holds.
+    pub fn bytes(&self) -> &[u8]
+        ensures { result.now ≡ self.now.store.held }
+    {
+        self.sink.bytes()
+    }
+
+    // Counts this call, and says whether it is one of those that fail.
+    fn begin(&mut self) -> bool
+        ensures planned { IsTrue result ↔ Contains self.old.fails self.old.calls }
+        ensures same { (self.new.store ≡ self.old.store) × (self.new.faults ≡ self.old.faults) }
+        ensures plan { (self.new.fails ≡ self.old.fails) × (self.new.calls ≡ one_more self.old.calls) }
+    {
+        let call = self.calls;
+        self.calls = self.calls.saturating_add(1);
+        is_planned(&self.fails, call)
+    }
+}
+
+impl Sink for MemSink {
+    ghost held = { λ s. Some s.store.held };
+
+    ghost faults = { λ s. s.faults };
+
+    ghost fixed = { λ s. s.store.room };
+
+    /// Adds as much of the piece as there is room for, unless this call is one of those that fail.
+    /// It also fails where the piece is not empty and there is no room. A failed call adds nothing
+    /// and counts one fault.
+    fn write(&mut self, piece: &[u8]) -> Result<usize, WriteFailed>
+        ensures cause { IsErr result ↔ (Contains self.old.fails self.old.calls ⊎ ((0 < length piece.now) × (length self.old.store.held ≡ self.old.store.room))) }
+        ensures count { IfOk result (λ n. n ≡ fitting self.old.store piece.now) }
+        ensures some { IfOk result (λ n. 0 < length piece.now → 0 < n) }
+        ensures added { IfOk result (λ n. self.new.store.held ≡ self.old.store.held ++ take n piece.now) }
+        ensures failed { OnErr result ((self.new.store.held ≡ self.old.store.held) × (self.new.faults ≡ one_more self.old.faults)) }
+        ensures faults { OnOk result (self.new.faults ≡ self.old.faults) }
+        ensures later { self.old.faults ≤ self.new.faults }
+        ensures room { self.new.store.room ≡ self.old.store.room }
+        ensures plan { (self.new.fails ≡ self.old.fails) × (self.new.calls ≡ one_more self.old.calls) }
+    {
+        if self.begin() {
+            self.count = self.count.saturating_add(1);
+            return Err(WriteFailed);
+        }
+        match self.sink.write(piece) {
+            Ok(n) => Ok(n),
+            Err(WriteFailed) => {
+                self.count = self.count.saturating_add(1);
+                Err(WriteFailed)
+            }
+        }
+    }
+
+    /// Changes nothing that is held, and fails where this call is one of those that fail.
+    fn flush(&mut self) -> Result<(), WriteFailed>
+        ensures cause { IsErr result ↔ Contains self.old.fails self.old.calls }
+        ensures same { self.new.store ≡ self.old.store }
+        ensures failed { OnErr result (self.new.faults ≡ one_more self.old.faults) }
+        ensures faults { OnOk result (self.new.faults ≡ self.old.faults) }
+        ensures later { self.old.faults ≤ self.new.faults }
+        ensures plan { (self.new.fails ≡ self.old.fails) × (self.new.calls ≡ one_more self.old.calls) }
+    {
+        if self.begin() {
+            self.count = self.count.saturating_add(1);
+            return Err(WriteFailed);
+        }
+        Ok(())
+    }
+}

@@ -1,0 +1,91 @@
+ghost use Rattle.std.specs.Prelude.{◌≡◌, ℕ, ◌+◌, ◌^◌, ◌<◌, ◌≤◌, List, length, take, Option, IfOk, OnErr, Err};
+ghost use Rattle.far_io.specs.declared.source.InputFault.TheVariants.{Read, Long};
+ghost use Rattle.far_io.specs.Bytes.{Rose, Took, IsDry};
+
+use std::alloc::{AllocError, Global};
+
+/// A read failed. The source's count of faults has risen, and nothing was taken from it.
+#[derive(Clone, Copy, Debug, PartialEq, Eq)]
+pub struct ReadFailed;
+
+/// Where bytes come from.
+pub trait Source {
+    /// The bytes that are left, where the source tells them.
+    ghost left: { Self → Option (List ℕ) };
+
+    /// How many calls have failed. It never falls, and it stays at 2^64 - 1 once it is there.
+    ghost faults: { Self → ℕ };
+
+    /// Moves the first bytes that are left into the front of the buffer, and answers how many.
+    ///
+    /// For a buffer that is not empty, 0 is the end of input. `ReadFailed` is answered only where
+    /// the count of faults rose, and leaves the bytes as they were. What stands in the rest of the
+    /// buffer, and in all of it after `ReadFailed`, is not told.
+    fn read(&mut self, buf: &mut [u8]) -> Result<usize, ReadFailed>
+        ensures count { IfOk result (λ n. n ≤ length buf.old) }
+        ensures taken { IfOk result (λ n. Took (left self.old) (left self.new) (take n buf.new)) }
+        ensures end { IfOk result (λ n. n ≡ 0 → 0 < length buf.old → IsDry (left self.old)) }
+        ensures failed { OnErr result (left self.new ≡ left self.old) }
+        ensures cause { OnErr result (Rose (faults self.old) (faults self.new)) }
+        ensures later { faults self.old ≤ faults self.new };
+}
+
+/// Why a whole input was not read.
+#[derive(Clone, Copy, Debug, PartialEq, Eq)]
+pub enum InputFault {
+    /// A read failed.
+    Read,
+    /// More bytes came than were allowed.
+    Long,
+    /// Memory ran out.
+    Memory,
+}
+
+impl From<AllocError> for InputFault {
+    ghost use Rattle.std.specs.Prelude.{◌≡◌};
+    ghost use Rattle.far_io.specs.declared.source.InputFault.TheVariants.{Memory};
+
+    ghost from_gives = { λ _ e. e ≡ Memory };
+
+    fn from(_: AllocError) -> Self {
+        InputFault::Memory
+    }
+}
+
+/// Reads all bytes up to the end of input, where there are at most `bound` of them.
+///
+/// `bound` is below 2^32. `Long` is answered exactly where more than `bound` bytes came, `Read` only
+/// where the source's count of faults rose, and `Memory` where memory ran out. Whatever is answered,
+/// what went from the source is a front of the bytes that it had left; an error drops them.
+pub fn read_all<S: Source>(
+    alloc: Global,
+    source: &mut S,
+    bound: usize,
+) -> Result<Vec<u8>, InputFault>
+    requires { bound < 2 ^ 32 }
+    ensures all { IfOk result (λ bytes. Took (S.left source.old) (S.left source.new) bytes.items × IsDry (S.left source.new)) }
+    ensures short { IfOk result (λ bytes. length bytes.items ≤ bound) }
+    ensures long { result ≡ Err Long → (taken : List ℕ) × Took (S.left source.old) (S.left source.new) taken × (bound < length taken) }
+    ensures front { OnErr result ((taken : List ℕ) × Took (S.left source.old) (S.left source.new) taken) }
+    ensures failed { result ≡ Err Read → Rose (S.faults source.old) (S.faults source.new) }
+    ensures within { result ≡ Err Read → (taken : List ℕ) × Took (S.left source.old) (S.left source.new) taken × (length taken ≤ bound) }
+    ensures later { S.faults source.old ≤ S.faults source.new }
+{
+    let mut bytes: Vec<u8> = Vec::new(alloc);
+    let mut piece = [0u8; 4096];
+    // Each turn but the last takes a byte at least.
+    for _ in 0..bound + 1 {
+        let n = match source.read(&mut piece) {
+            Ok(n) => n,
+            Err(ReadFailed) => return Err(InputFault::Read),
+        };
+        if n == 0 {
+            return Ok(bytes);
+        }
+        bytes.extend_from_slice(&piece[..n])?;
+        if bytes.len() > bound {
+            return Err(InputFault::Long);
+        }
+    }
+    Err(InputFault::Long)
+}
