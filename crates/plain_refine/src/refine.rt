@@ -1,0 +1,84 @@
+//! The text of a plain mesh after one step.
+
+ghost use Rattle.std.specs.Prelude.{◌≡◌, ℕ, ◌<◌, ◌≤◌, ◌^◌, ℤ, unsigned_abs, List, ◌++◌, length, map, IfOk, OnOk};
+ghost use Rattle.std.specs.List.{All, flat_map};
+ghost use Rattle.subdiv_model.specs.Edges.{edges_of};
+ghost use Rattle.subdiv_model.specs.Level.{plain_level};
+ghost use Rattle.subdiv_model.specs.Mask.{CatmullClark};
+ghost use Rattle.subdiv_model.specs.Value.{refined_points};
+ghost use Rattle.subdiv_model.specs.Text.{point_line, refined_text};
+ghost use Rattle.plain_refine.specs.Mesh.{coordinates_of, corners_of, IsShort, IsSmall};
+
+use crate::children::child_polygons;
+use crate::edges::edges_of_polygons;
+use crate::text::{put_faces, put_points};
+use crate::values::child_values;
+use ratio128::{Memory, Point3};
+use std::alloc::Global;
+
+// The coordinates of points, each in a list of its own.
+#[derive(Drop)]
+struct Coordinates {
+    xs: Vec<i128>,
+    ys: Vec<i128>,
+    zs: Vec<i128>,
+}
+
+// Takes the coordinates of points apart.
+fn take_apart(alloc: Global, points: &[Point3]) -> Result<Coordinates, Memory>
+    ensures xs { IfOk result (λ c. c.xs.items ≡ map (λ p. p.x) points.now) }
+    ensures ys { IfOk result (λ c. c.ys.items ≡ map (λ p. p.y) points.now) }
+    ensures zs { IfOk result (λ c. c.zs.items ≡ map (λ p. p.z) points.now) }
+{
+    Ok(Coordinates {
+        xs: points.iter().map(|p| p.x).collect(alloc)?,
+        ys: points.iter().map(|p| p.y).collect(alloc)?,
+        zs: points.iter().map(|p| p.z).collect(alloc)?,
+    })
+}
+
+// Puts the lines of all points after one step. Each coordinate is refined by itself.
+fn put_refined_points(
+    alloc: Global,
+    text: &mut Vec<u8>,
+    points: &[Point3],
+    polygons: &[Vec<u32>],
+    edges: &[(u32, u32)],
+) -> Result<(), Memory>
+    requires short { All (λ p. IsShort p.x × IsShort p.y × IsShort p.z) points.now }
+    requires small { IsSmall (length points.now) (corners_of polygons.now) }
+    requires edges { edges.now ≡ edges_of (corners_of polygons.now) }
+    ensures { OnOk result (text.new.items ≡ text.old.items ++ flat_map point_line (refined_points (plain_level (length points.now) (corners_of polygons.now)) CatmullClark 0 (coordinates_of points.now) 1)) }
+{
+    let old = take_apart(alloc, points)?;
+    let xs = child_values(alloc, polygons, edges, &old.xs)?;
+    let ys = child_values(alloc, polygons, edges, &old.ys)?;
+    let zs = child_values(alloc, polygons, edges, &old.zs)?;
+    put_points(text, &xs, &ys, &zs)
+}
+
+/// The text of the mesh after one Catmull-Clark step: a line `v X Y Z` for each point, with each
+/// coordinate a fraction in lowest terms, and then a line `f A B C D` for each face, with its
+/// corners counted from 1.
+///
+/// The polygons name their corners counted from 0. The new points are those of the points, then of
+/// the faces, then of the edges by first appearance; the new faces go by face and then by corner.
+/// The one error is want of memory.
+///
+/// Source: Catmull and Clark 1978; the order of points and faces is this profile's.
+pub fn write_refined(
+    alloc: Global,
+    points: &[Point3],
+    polygons: &[Vec<u32>],
+) -> Result<Vec<u8>, Memory>
+    requires short { All (λ p. IsShort p.x × IsShort p.y × IsShort p.z) points.now }
+    requires small { IsSmall (length points.now) (corners_of polygons.now) }
+    ensures { IfOk result (λ text. text.items ≡ refined_text (plain_level (length points.now) (corners_of polygons.now)) CatmullClark 0 (coordinates_of points.now) 1) }
+{
+    let edges = edges_of_polygons(alloc, polygons)?;
+    let children = child_polygons(alloc, points.len(), polygons, &edges)?;
+    let mut text = Vec::new(alloc);
+    put_refined_points(alloc, &mut text, points, polygons, &edges)?;
+    put_faces(&mut text, &children)?;
+    Ok(text)
+}
