@@ -1,0 +1,4 @@
+mod OutputLemmas
+mod RunLemmas
+mod WordsLemmas
+mod SureLemmas

@@ -1,0 +1,27 @@
+ghost use Rattle.std.specs.Prelude.{◌≡◌, List, map, string_bytes, codes};
+ghost use Rattle.subdiv_model.specs.Words.{usage_of, takes, is_option_of, is_command};
+
+// Whether the word is an option that `refine` takes.
+fn is_option(word: &str) -> bool
+    ensures { result ≡ is_option_of (codes "refine") word.now }
+{
+    match word.split_once('=') {
+        Some((name, value)) => name == "depth" && value == "1",
+        None => false,
+    }
+}
+
+// The place of the first bad word, counted from 0, or the number of words where a required option
+// is missing.
+pub(crate) fn usage(words: &[String]) -> Option<u32>
+    ensures { result ≡ usage_of (map string_bytes words.now) }
+{
+    match words {
+        [] => Some(0),
+        [command, ..] if command.as_str() != "refine" => Some(0),
+        [_] => Some(1),
+        [_, option, ..] if !is_option(option.as_str()) => Some(1),
+        [_, _] => None,
+        [_, _, _, ..] => Some(2),
+    }
+}

@@ -1,0 +1,123 @@
+ghost use Rattle.std.specs.Prelude.{◌≡◌, ℕ, ◌^◌, ◌≤◌, List, length, map, Option, None, Some, Result, Err, IfOk, string_bytes};
+ghost use Rattle.subdiv_model.specs.PlainLine.{first_not_plain};
+ghost use Rattle.far_engine.specs.declared.engine.RefineFault.TheVariants.{NotBuilt};
+ghost use Rattle.far_engine.specs.declared.fault.FarFault.{FarFault};
+ghost use Rattle.far_engine.specs.Faults.{status_of_outcome};
+ghost use Rattle.far_engine.specs.Outcome.{refusal_of_lines, text_of, not_built};
+ghost use Rattle.far_engine.specs.Runs.{Runs, Reports};
+
+use crate::command::usage;
+use crate::fault::{FarFault, report, status};
+use crate::output::put_text;
+use far_io::{InputFault, Sink, Source, WriteFailed, read_all};
+use plain_reader::{PlainFault, read_plain};
+use plain_refine::{is_closed_manifold, write_refined};
+use ratio128::{Memory, Steps};
+use std::alloc::Global;
+use std::sync::ledger::Ledger;
+
+// How many bytes an input may have.
+const LIMIT: usize = 1 << 28;
+
+// Why an input has no refined text.
+enum RefineFault {
+    NotBuilt { line: u32 },
+    Memory,
+}
+
+// The text of the mesh after one step.
+fn refine_bytes(alloc: Global, bytes: &[u8]) -> Result<Vec<u8>, RefineFault>
+    requires { length bytes.now ≤ 2 ^ 28 }
+    ensures refined { IfOk result (λ text. (refusal_of_lines (first_not_plain bytes.now) bytes.now ≡ None) × (text.items ≡ text_of bytes.now)) }
+    ensures refused { (line : ℕ) → result ≡ Err (NotBuilt line) → refusal_of_lines (first_not_plain bytes.now) bytes.now ≡ Some (not_built line) }
+{
+    let mesh = match read_plain(alloc, bytes) {
+        Ok(mesh) => mesh,
+        Err(PlainFault::NotPlain { line }) => return Err(RefineFault::NotBuilt { line }),
+        Err(PlainFault::Memory) => return Err(RefineFault::Memory),
+    };
+    let points = mesh.points.as_slice();
+    let polygons = mesh.polygons.as_slice();
+    match is_closed_manifold(alloc, points.len(), polygons) {
+        Ok(true) => {}
+        Ok(false) => return Err(RefineFault::NotBuilt { line: 0 }),
+        Err(Memory) => return Err(RefineFault::Memory),
+    }
+    match write_refined(alloc, points, polygons) {
+        Ok(text) => Ok(text),
+        Err(Memory) => Err(RefineFault::Memory),
+    }
+}
+
+/// Does what the words ask for: reads the source to its end, and writes the answer into the sink.
+///
+/// `words` are the words after the program's name; today they are a command exactly where they are
+/// `refine depth=1`. The input is a plain closed mesh (see `docs/formats.md`), and the answer is the
+/// text of that mesh after one Catmull-Clark step, each coordinate a fraction in lowest terms.
+///
+/// Every refusal is found before anything is written. `Usage` comes exactly where the words are no
+/// command, `Long` exactly where more than 2^28 bytes came, `NotBuilt` exactly where a line is not
+/// plain (the first such line) or else the mesh is no closed manifold (line 0). `Read` and `Write`
+/// come only where the count of faults of the source or the sink rose; after `Write` the sink holds
+/// what it held and a part of the answer's front. It takes no step.
+pub fn run<S: Source, K: Sink, L: Ledger>(
+    alloc: Global,
+    words: &Vec<String>,
+    source: &mut S,
+    sink: &mut K,
+    steps: &mut Steps<L>,
+) -> Result<(), FarFault>
+    ensures run { Runs S.left S.faults K.held K.faults K.fixed (map string_bytes words.now.items) source.old source.new sink.old sink.new result }
+    ensures steps { steps.new ≡ steps.old }
+{
+    match usage(words) {
+        None => {}
+        Some(word) => return Err(FarFault::Usage { word }),
+    }
+    let bytes = match read_all(alloc, source, LIMIT) {
+        Ok(bytes) => bytes,
+        Err(InputFault::Read) => return Err(FarFault::Read),
+        Err(InputFault::Long) => return Err(FarFault::Long),
+        Err(InputFault::Memory) => return Err(FarFault::Memory),
+    };
+    let text = match refine_bytes(alloc, &bytes) {
+        Ok(text) => text,
+        Err(RefineFault::NotBuilt { line }) => return Err(FarFault::NotBuilt { line }),
+        Err(RefineFault::Memory) => return Err(FarFault::Memory),
+    };
+    match put_text(sink, &text) {
+        Ok(()) => Ok(()),
+        Err(WriteFailed) => Err(FarFault::Write),
+    }
+}
+
+/// Does all that the program does, and answers its exit status: 0 where the run is `Ok`, and then
+/// `errors` is not called; otherwise the status of the fault, whose line goes to `errors`.
+///
+/// The answer does not depend on what `errors` does. `errors` holds what it held and the whole
+/// line, or, only where its own count of faults rose, a part of the line's front.
+pub fn program<S: Source, K: Sink, E: Sink, L: Ledger>(
+    alloc: Global,
+    words: &Vec<String>,
+    source: &mut S,
+    sink: &mut K,
+    errors: &mut E,
+    steps: &mut Steps<L>,
+) -> u8
+    ensures outcome { (outcome : Result (Unit {0}) FarFault)
+        × Runs S.left S.faults K.held K.faults K.fixed (map string_bytes words.now.items) source.old source.new sink.old sink.new outcome
+        × (result ≡ status_of_outcome outcome)
+        × Reports E.held E.faults errors.old errors.new outcome }
+    ensures later { E.faults errors.old ≤ E.faults errors.new }
+    ensures fixed { E.fixed errors.new ≡ E.fixed errors.old }
+    ensures steps { steps.new ≡ steps.old }
+{
+    match run(alloc, words, source, sink, steps) {
+        Ok(()) => 0,
+        Err(fault) => {
+            // There is nowhere to tell that this failed but the count of `errors`.
+            let _ = report(&fault, errors);
+            status(&fault)
+        }
+    }
+}

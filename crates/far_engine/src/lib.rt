@@ -1,0 +1,12 @@
+//! The program `far` as a library: its words, its faults, and the call that does all its work.
+#![tactic(auto)]
+
+mod command;
+mod engine;
+mod fault;
+mod output;
+#[cfg(test)]
+mod tests;
+
+pub use engine::{program, run};
+pub use fault::{FarFault, report, status};
