@@ -1,0 +1,3 @@
+pub mod Significant
+pub mod NumeralFaults
+pub mod NumeralParts

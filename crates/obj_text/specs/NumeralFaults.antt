@@ -1,0 +1,10 @@
+-- Which fault a word has that is not read as a numeral.
+use Rattle.std.specs.Prelude.{ℕ, ◌≡◌, true, false, List}
+use Rattle.obj_text.specs.declared.numeral.NumeralFault.{NumeralFault}
+use Rattle.obj_text.specs.declared.numeral.NumeralFault.TheVariants.{BadNumeral, NumberRange}
+use Rattle.subdiv_model.specs.Numeral.{is_numeral, is_in_range}
+
+-- the word is no numeral; or it is one, and its normal form is out of range
+abbrev pub IsFaultOf : NumeralFault → List ℕ → Type 0
+IsFaultOf BadNumeral word = is_numeral word ≡ false
+IsFaultOf NumberRange word = (is_numeral word ≡ true) × (is_in_range word ≡ false)

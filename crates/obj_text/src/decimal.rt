@@ -1,0 +1,70 @@
+ghost use Rattle.std.specs.Prelude.{◌≡◌, ◌+◌, ◌*◌, ◌^◌, ◌<◌, ◌≤◌, true, length, fold, MatchOption};
+ghost use Rattle.std.specs.List.{list_all};
+ghost use Rattle.obj_text.specs.Significant.{IsSignificant, IsLong, with_next_digit};
+ghost use Rattle.subdiv_model.specs.PlainLine.{is_digit};
+
+// A mantissa has at most 37 digits.
+pub(crate) const BOUND: u128 = 10_000_000_000_000_000_000_000_000_000_000_000_000;
+
+/// A whole number of any size: `amount` times ten to the `zeros`, where the last digit of `amount` is
+/// not 0 unless the number is 0.
+#[derive(Clone, Copy)]
+pub(crate) struct Significant {
+    pub(crate) amount: u128,
+    pub(crate) zeros: u128,
+}
+
+/// The amount with so many zeros behind it; `None` where that has more than 37 digits.
+pub(crate) fn with_zeros(amount: u128, zeros: u128) -> Option<u128>
+    ensures { MatchOption result (10 ^ 37 ≤ amount * 10 ^ zeros) (λ n. (n ≡ amount * 10 ^ zeros) × (n < 10 ^ 37)) }
+{
+    if amount == 0 {
+        return Some(0);
+    }
+    if zeros > 37 {
+        return None;
+    }
+    let number = amount.checked_mul(10u128.pow(zeros as u32))?;
+    if number < BOUND { Some(number) } else { None }
+}
+
+// The number with one more digit behind it; `None` where it is too long to be a mantissa.
+fn with_digit(number: Significant, digit: u8) -> Option<Significant>
+    requires number { IsSignificant number.amount number.zeros }
+    requires digit { digit < 10 }
+    requires few { number.zeros < 2 ^ 100 }
+    ensures { MatchOption result (IsLong (number.amount * 10 ^ number.zeros * 10 + digit)) (λ n. IsSignificant n.amount n.zeros × (n.amount * 10 ^ n.zeros ≡ number.amount * 10 ^ number.zeros * 10 + digit) × (n.zeros ≤ number.zeros + 1)) }
+{
+    if digit == 0 {
+        let zeros = if number.amount == 0 {
+            0
+        } else {
+            number.zeros + 1
+        };
+        return Some(Significant {
+            amount: number.amount,
+            zeros,
+        });
+    }
+    let amount = with_zeros(number.amount, number.zeros)? * 10 + u128::from(digit);
+    if amount < BOUND {
+        Some(Significant { amount, zeros: 0 })
+    } else {
+        None
+    }
+}
+
+/// The number with more digits behind it; `None` where it is too long to be a mantissa, whatever its
+/// decimals.
+pub(crate) fn with_digits(start: Significant, digits: &[u8]) -> Option<Significant>
+    requires start { IsSignificant start.amount start.zeros }
+    requires digits { list_all is_digit digits.now ≡ true }
+    requires few { start.zeros ≤ 2 ^ 64 }
+    ensures { MatchOption result (IsLong (fold with_next_digit (start.amount * 10 ^ start.zeros) digits.now)) (λ n. IsSignificant n.amount n.zeros × (n.amount * 10 ^ n.zeros ≡ fold with_next_digit (start.amount * 10 ^ start.zeros) digits.now) × (n.zeros ≤ start.zeros + length digits.now)) }
+{
+    let mut number = start;
+    for byte in digits {
+        number = with_digit(number, *byte - b'0')?;
+    }
+    Some(number)
+}

@@ -1,0 +1,35 @@
+ghost use Rattle.std.specs.Prelude.{◌≡◌, ◌^◌, ◌<◌, true, false, min, MatchOption};
+ghost use Rattle.std.specs.List.{list_all};
+ghost use Rattle.subdiv_model.specs.PlainLine.{is_digit, number_of_digits};
+ghost use Rattle.subdiv_model.specs.Numeral.{are_digits};
+
+/// Whether the bytes are digits, all of them.
+pub(crate) fn has_digits_alone(bytes: &[u8]) -> bool
+    ensures { result ≡ list_all is_digit bytes.now }
+{
+    for byte in bytes {
+        if !byte.is_ascii_digit() {
+            return false;
+        }
+    }
+    true
+}
+
+/// The number that one or more digits say, or `most` where it is more; `None` where there is no
+/// digit, or another byte.
+pub(crate) fn digits_up_to(bytes: &[u8], most: u128) -> Option<u128>
+    requires { most < 2 ^ 120 }
+    ensures { MatchOption result (are_digits bytes.now ≡ false) (λ n. (are_digits bytes.now ≡ true) × (n ≡ min (number_of_digits bytes.now) most)) }
+{
+    if bytes.is_empty() {
+        return None;
+    }
+    let mut number = 0;
+    for byte in bytes {
+        if !byte.is_ascii_digit() {
+            return None;
+        }
+        number = (number * 10 + u128::from(*byte - b'0')).min(most);
+    }
+    Some(number)
+}

@@ -1,0 +1,14 @@
+//! Lines, words, decimal numerals and indices of OBJ text, read exactly. No call takes memory.
+#![tactic(auto)]
+
+mod decimal;
+mod digits;
+mod index;
+mod line;
+mod numeral;
+#[cfg(test)]
+mod tests;
+
+pub use index::read_index;
+pub use line::{Words, line_end, words_of};
+pub use numeral::{Numeral, NumeralFault, read_numeral};
