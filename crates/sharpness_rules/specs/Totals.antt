@@ -1,0 +1,20 @@
+-- Sums of values over their common denominator.
+use Rattle.std.specs.Prelude.{◌≡◌, ℕ, ◌*◌, ◌/◌, ◌^◌, ◌<◌, List, length, Result, MatchResult}
+use Rattle.std.specs.List.{sum_by}
+use Rattle.subdiv_model.specs.Multiples.{common_denominator}
+use Rattle.sharpness_rules.specs.declared.overflow.SharpOverflow.{SharpOverflow}
+use Rattle.sharpness_rules.specs.declared.total.Total.{Total}
+
+-- a value in parts of 1 over a denominator
+abbrev pub parts_over : ℕ → ℕ × ℕ → ℕ
+parts_over den value = value.0 * (den / value.1)
+
+-- the total is that of these values
+pub record IsTotal (values : List (ℕ × ℕ)) (total : Total) : Type 0 where
+  pub count : total.count ≡ length values
+  pub den : total.den ≡ common_denominator values
+  pub num : total.num ≡ sum_by (parts_over total.den) values
+
+-- the answer is the total of these values, or their common denominator passes 2^60
+abbrev pub Sums : List (ℕ × ℕ) → Result Total SharpOverflow → Type 0
+Sums values result = MatchResult result (IsTotal values) (λ _. 2 ^ 60 < common_denominator values)

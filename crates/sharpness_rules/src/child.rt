@@ -1,0 +1,78 @@
+ghost use Rattle.std.specs.Prelude.{◌≡◌, ◌-◌, ◌+◌, ◌*◌, ◌^◌, ◌<◌, ◌≤◌, IfOk, IsErr, IsTrue, ◌↔◌, length, map};
+ghost use Rattle.std.specs.Int.{◌∣◌};
+ghost use Rattle.subdiv_model.specs.Sharpness.{sharpness_of_fraction, uniform_child, chaikin_child, half_overflows};
+ghost use Rattle.sharpness_rules.specs.View.{sharpness_of};
+ghost use Rattle.sharpness_rules.specs.Totals.{parts_over};
+
+use crate::sharpness::GREATEST_DENOMINATOR;
+use crate::sums::{parts_of, total_of_ring};
+use crate::total::Total;
+use crate::{Semi, SharpOverflow, Sharpness};
+use ratio128::times_within;
+
+/// How the two halves of an edge get their sharpness.
+#[derive(Clone, Copy, Debug, PartialEq, Eq)]
+pub enum Method {
+    /// Each half by `uniform_child`.
+    Normal,
+    /// Each half by `chaikin_child`, in the ring of its end.
+    Chaikin,
+}
+
+/// The sharpness of the next level by the uniform rule: less by 1, and not below 0. 0 and infinite
+/// stay. Source: DeRose, Kass and Truong 1998.
+pub fn uniform_child(s: Sharpness) -> Sharpness
+    ensures { sharpness_of result ≡ uniform_child (sharpness_of s) }
+{
+    match s {
+        Sharpness::Semi(value) => Sharpness::new(
+            value.num().saturating_sub(value.den()),
+            value.den(),
+        ),
+        stays => stays,
+    }
+}
+
+/// The sharpness of the half, at a vertex, of the edge at place `at` of the vertex's ring, counted
+/// from 0. With `c` semi-sharp edges in the ring and `S` their sum, a semi-sharp edge of sharpness `s`
+/// becomes 3s/4 + (S - s)/(4(c - 1)) - 1, and not below 0; a lone one becomes less by 1. Infinite
+/// edges count neither in `c` nor in `S`, and 0 and infinite stay. Source: this profile.
+///
+/// `SharpOverflow` comes exactly where the edge is semi-sharp, `c` is at least 2, and 4(c - 1) times
+/// the least common multiple of the semi-sharp edges' denominators passes 2^60.
+pub fn chaikin_child(ring: &[Sharpness], at: usize) -> Result<Sharpness, SharpOverflow>
+    requires short { length ring.now < 2 ^ 32 }
+    requires in_range { at < length ring.now }
+    ensures overflow { IsErr result ↔ IsTrue (half_overflows (map sharpness_of ring.now) at) }
+    ensures child { IfOk result (λ s. sharpness_of s ≡ chaikin_child (map sharpness_of ring.now) at) }
+{
+    let Sharpness::Semi(edge) = ring[at] else {
+        return Ok(ring[at]);
+    };
+    let total = total_of_ring(ring)?;
+    if total.count < 2 {
+        return Ok(uniform_child(ring[at]));
+    }
+    half_of(edge, total)
+}
+
+// The half of an edge that is one of the total's values, which are two or more: all is made over
+// 4(c - 1) times the common denominator.
+fn half_of(edge: Semi, total: Total) -> Result<Sharpness, SharpOverflow>
+    requires several { 2 ≤ total.count }
+    requires few { total.count ≤ 2 ^ 32 }
+    requires divides { edge.den ∣ total.den }
+    requires among { parts_over total.den (edge.num, edge.den) ≤ total.num }
+    ensures overflow { IsErr result ↔ (2 ^ 60 < 4 * (total.count - 1) * total.den) }
+    ensures half { let own = parts_over total.den (edge.num, edge.den) in
+        let whole = 4 * (total.count - 1) * total.den in
+        IfOk result (λ s. sharpness_of s ≡ sharpness_of_fraction (3 * (total.count - 1) * own + (total.num - own) - whole, whole)) }
+{
+    let others = (total.count - 1) as u128;
+    let Some(den) = times_within(4 * others, total.den, GREATEST_DENOMINATOR) else {
+        return Err(SharpOverflow);
+    };
+    let own = parts_of(edge, total.den);
+    let sum = 3 * others * own + (total.num - own);
+    Ok(Sharpness::new(sum.saturating_sub(den) as u64, den as u64))
+}

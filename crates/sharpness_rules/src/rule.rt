@@ -1,0 +1,56 @@
+ghost use Rattle.std.specs.Prelude.{◌≡◌, ◌+◌, ◌^◌, ◌<◌, ◌≤◌, MatchOption, [], ◌∷◌, length, map, drop};
+ghost use Rattle.subdiv_model.specs.Polygons.{places_from};
+ghost use Rattle.subdiv_model.specs.Sharpness.{is_sharp};
+ghost use Rattle.subdiv_model.specs.Rule.{vertex_rule};
+ghost use Rattle.sharpness_rules.specs.View.{sharpness_of, rule_of};
+
+use crate::Sharpness;
+
+/// The rule of a vertex. Source: DeRose, Kass and Truong 1998.
+#[derive(Clone, Copy, Debug, PartialEq, Eq)]
+pub enum Rule {
+    /// No sharp edge.
+    Smooth,
+    /// One sharp edge.
+    Dart,
+    /// Two sharp edges, by their places in the ring of all edges at the vertex, ascending.
+    Crease { first: u32, second: u32 },
+    /// Three sharp edges or more, a sharp vertex, or no edge.
+    Corner,
+}
+
+/// The rule of a vertex of this sharpness, with the edges of `ring`: a corner where the vertex is
+/// sharp or has no edge, and else by its sharp edges, those of a sharpness above 0.
+pub fn vertex_rule(vertex: Sharpness, ring: &[Sharpness]) -> Rule
+    requires short { length ring.now < 2 ^ 32 }
+    ensures { rule_of result ≡ vertex_rule (sharpness_of vertex) (map sharpness_of ring.now) }
+{
+    if vertex.is_sharp() || ring.is_empty() {
+        return Rule::Corner;
+    }
+    let Some(first) = next_sharp(ring, 0) else {
+        return Rule::Smooth;
+    };
+    let Some(second) = next_sharp(ring, first + 1) else {
+        return Rule::Dart;
+    };
+    match next_sharp(ring, second + 1) {
+        None => Rule::Crease { first, second },
+        Some(_) => Rule::Corner,
+    }
+}
+
+// The place of the first sharp edge from `from` on.
+fn next_sharp(ring: &[Sharpness], from: u32) -> Option<u32>
+    requires short { length ring.now < 2 ^ 32 }
+    requires within { from ≤ length ring.now }
+    ensures { let rest = places_from from is_sharp (drop from (map sharpness_of ring.now)) in
+        MatchOption result (rest ≡ []) (λ place. (place < length ring.now) × (rest ≡ place ∷ places_from (place + 1) is_sharp (drop (place + 1) (map sharpness_of ring.now)))) }
+{
+    for place in from..ring.len() as u32 {
+        if ring[place as usize].is_sharp() {
+            return Some(place);
+        }
+    }
+    None
+}

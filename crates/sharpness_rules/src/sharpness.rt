@@ -1,0 +1,77 @@
+ghost use Rattle.std.specs.Prelude.{◌≡◌, ◌*◌, ◌^◌, ◌<◌, ◌≤◌};
+ghost use Rattle.subdiv_model.specs.Fractions.{gcd_of};
+
+use ratio128::gcd;
+
+/// No sharpness and no weight is made over a denominator above this one, which is 2^60.
+pub(crate) const GREATEST_DENOMINATOR: u128 = 1 << 60;
+
+/// How sharp an edge or a vertex is. Source: DeRose, Kass and Truong 1998; that it is infinite from 10
+/// on is this profile's.
+#[derive(Clone, Copy, Debug, PartialEq, Eq)]
+pub enum Sharpness {
+    /// Sharpness 0.
+    Smooth,
+    /// Above 0 and below 10: sharp for some levels.
+    Semi(Semi),
+    /// Sharp at all levels.
+    Infinite,
+}
+
+/// A fraction in lowest terms, above 0 and below 10, whose denominator is at most 2^60.
+#[derive(Clone, Copy, Debug, PartialEq, Eq)]
+pub struct Semi {
+    num: u64,
+    den: u64,
+    pub ghost above: { 0 < num },
+    pub ghost below: { num < 10 * den },
+    pub ghost short: { den ≤ 2 ^ 60 },
+    pub ghost lowest: { gcd_of num den ≡ 1 },
+}
+
+impl Semi {
+    /// The numerator.
+    pub fn num(&self) -> u64
+        ensures { result ≡ self.now.num }
+    {
+        self.num
+    }
+
+    /// The denominator.
+    pub fn den(&self) -> u64
+        ensures { result ≡ self.now.den }
+    {
+        self.den
+    }
+}
+
+impl Sharpness {
+    ghost use Rattle.subdiv_model.specs.Sharpness.{sharpness_of_fraction, is_sharp};
+    ghost use Rattle.sharpness_rules.specs.View.{sharpness_of};
+
+    /// The sharpness `num / den`: smooth where it is 0, infinite from 10 on. `den` is from 1 to 2^60.
+    pub fn new(num: u64, den: u64) -> Sharpness
+        requires positive { 0 < den }
+        requires short { den ≤ 2 ^ 60 }
+        ensures { sharpness_of result ≡ sharpness_of_fraction (num, den) }
+    {
+        if num == 0 {
+            return Sharpness::Smooth;
+        }
+        if num >= 10 * den {
+            return Sharpness::Infinite;
+        }
+        let common = gcd(num as u128, den as u128) as u64;
+        Sharpness::Semi(Semi {
+            num: num / common,
+            den: den / common,
+        })
+    }
+
+    /// Whether it is above 0.
+    pub(crate) fn is_sharp(&self) -> bool
+        ensures { result ≡ is_sharp (sharpness_of self.now) }
+    {
+        !matches!(self, Sharpness::Smooth)
+    }
+}

@@ -1,0 +1,84 @@
+ghost use Rattle.std.specs.Prelude.{◌≡◌, ◌*◌, ◌^◌, ◌<◌, ◌≤◌, ℕ, List, ◌++◌, length, map};
+ghost use Rattle.std.specs.Int.{◌∣◌};
+ghost use Rattle.std.specs.List.{flat_map};
+ghost use Rattle.subdiv_model.specs.Rule.{ended_value, ended_values};
+ghost use Rattle.subdiv_model.specs.Sharpness.{semi_values};
+ghost use Rattle.sharpness_rules.specs.Totals.{IsTotal, Sums, parts_over};
+ghost use Rattle.sharpness_rules.specs.View.{sharpness_of};
+
+use crate::sharpness::GREATEST_DENOMINATOR;
+use crate::total::Total;
+use crate::{Semi, SharpOverflow, Sharpness};
+use ratio128::lcm_within;
+
+/// The value in parts of 1 over `den`, which its own denominator divides.
+pub fn parts_of(value: Semi, den: u128) -> u128
+    requires divides { value.den ∣ den }
+    requires short { den ≤ 2 ^ 60 }
+    ensures parts { result ≡ parts_over den (value.num, value.den) }
+    ensures bounded { result ≤ 10 * den }
+{
+    value.num() as u128 * (den / value.den() as u128)
+}
+
+// The total with one value more where `s` is semi-sharp, and else the same. `SharpOverflow` comes
+// exactly where the common denominator passes 2^60.
+fn plus(total: Total, s: Sharpness) -> Result<Total, SharpOverflow>
+    requires room { total.count < 2 ^ 32 }
+    ensures { (values : List (ℕ × ℕ)) → IsTotal values total → Sums (values ++ semi_values (sharpness_of s)) result }
+{
+    let Sharpness::Semi(value) = s else {
+        return Ok(total);
+    };
+    let Some(den) = lcm_within(total.den, value.den() as u128, GREATEST_DENOMINATOR) else {
+        return Err(SharpOverflow);
+    };
+    Ok(Total {
+        count: total.count + 1,
+        num: total.num * (den / total.den) + parts_of(value, den),
+        den,
+    })
+}
+
+/// The sum of the semi-sharp edges of a ring. `SharpOverflow` comes exactly where their common
+/// denominator passes 2^60.
+pub fn total_of_ring(ring: &[Sharpness]) -> Result<Total, SharpOverflow>
+    requires short { length ring.now < 2 ^ 32 }
+    ensures { Sums (flat_map semi_values (map sharpness_of ring.now)) result }
+{
+    let mut total = Total::none();
+    for s in ring {
+        total = plus(total, *s)?;
+    }
+    Ok(total)
+}
+
+// The value that ends where `now` is followed by `next` in the next level.
+fn ended(now: Sharpness, next: Sharpness) -> Sharpness
+    ensures { semi_values (sharpness_of result) ≡ ended_value (sharpness_of now, sharpness_of next) }
+{
+    if next.is_sharp() {
+        Sharpness::Smooth
+    } else {
+        now
+    }
+}
+
+/// The sum of the values, at a vertex and in its ring, that are above 0 now and 0 in the next level.
+/// `SharpOverflow` comes exactly where their common denominator passes 2^60.
+pub fn total_of_ended(
+    vertex: Sharpness,
+    vertex_child: Sharpness,
+    ring: &[Sharpness],
+    ring_child: &[Sharpness],
+) -> Result<Total, SharpOverflow>
+    requires short { length ring.now < 2 ^ 32 }
+    requires same_length { length ring.now ≡ length ring_child.now }
+    ensures { Sums (ended_values (sharpness_of vertex) (sharpness_of vertex_child) (map sharpness_of ring.now) (map sharpness_of ring_child.now)) result }
+{
+    let mut total = plus(Total::none(), ended(vertex, vertex_child))?;
+    for (i, s) in ring.iter().enumerate() {
+        total = plus(total, ended(*s, ring_child[i]))?;
+    }
+    Ok(total)
+}
