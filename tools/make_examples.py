@@ -1,0 +1,93 @@
+#!/usr/bin/env python3
+"""Writes the larger meshes of examples/: the dog and the torus of 1,024 quads. Both are closed, and are
+written in plain lines. Run it again after a change: the files come out the same, byte for byte.
+
+    tools/make_examples.py
+"""
+
+import math
+from itertools import product
+from pathlib import Path
+
+EXAMPLES = Path(__file__).resolve().parent.parent / "examples"
+
+
+def write_mesh(name, points, faces):
+    lines = ["v " + " ".join(map(str, point)) for point in points]
+    lines += ["f " + " ".join(str(vertex + 1) for vertex in face) for face in faces]
+    (EXAMPLES / name).write_text("".join(line + "\n" for line in lines))
+    print(f"{name}: {len(points)} points, {len(faces)} faces")
+
+
+# The dog: unit cubes, of which the outer faces are kept. x runs to its nose, y to its left, z up.
+
+BLOCKS = {
+    "body": (range(2, 9), range(0, 4), range(3, 6)),
+    "hind legs": (range(2, 4), (0, 3), range(0, 3)),
+    "fore legs": (range(7, 9), (0, 3), range(0, 3)),
+    "neck": (range(7, 9), range(1, 3), range(6, 7)),
+    "head": (range(7, 11), range(0, 4), range(7, 10)),
+    "muzzle": (range(11, 13), range(1, 3), range(7, 9)),
+    "ears": (range(8, 9), (0, 3), range(10, 12)),
+    "tail": (range(1, 2), range(1, 3), range(5, 6)),
+    "tip of the tail": (range(0, 2), range(1, 3), range(6, 9)),
+}
+
+# The corners of a unit cube's faces, by the direction that each looks in, counterclockwise from outside.
+CUBE_FACES = {
+    (1, 0, 0): ((1, 0, 0), (1, 1, 0), (1, 1, 1), (1, 0, 1)),
+    (-1, 0, 0): ((0, 0, 0), (0, 0, 1), (0, 1, 1), (0, 1, 0)),
+    (0, 1, 0): ((0, 1, 0), (0, 1, 1), (1, 1, 1), (1, 1, 0)),
+    (0, -1, 0): ((0, 0, 0), (1, 0, 0), (1, 0, 1), (0, 0, 1)),
+    (0, 0, 1): ((0, 0, 1), (1, 0, 1), (1, 1, 1), (0, 1, 1)),
+    (0, 0, -1): ((0, 0, 0), (0, 1, 0), (1, 1, 0), (1, 0, 0)),
+}
+
+
+def moved(place, step):
+    return tuple(a + b for a, b in zip(place, step))
+
+
+def surface(cubes):
+    """The outer faces of a set of unit cubes, over the points that they use."""
+    points, faces = {}, []
+    for cube in sorted(cubes):
+        for direction, corners in CUBE_FACES.items():
+            if moved(cube, direction) not in cubes:
+                faces.append([points.setdefault(moved(cube, corner), len(points)) for corner in corners])
+    return list(points), faces
+
+
+def dog():
+    return surface({cube for block in BLOCKS.values() for cube in product(*block)})
+
+
+# The torus: 32 rings of 32 points, rounded to whole numbers.
+
+
+def torus(rings=32, sides=32, great=3000, small=1200):
+    points = []
+    for ring, side in product(range(rings), range(sides)):
+        round_axis, round_tube = 2 * math.pi * ring / rings, 2 * math.pi * side / sides
+        distance = great + small * math.cos(round_tube)
+        points.append(
+            (
+                round(distance * math.cos(round_axis)),
+                round(distance * math.sin(round_axis)),
+                round(small * math.sin(round_tube)),
+            )
+        )
+
+    def place(ring, side):
+        return ring % rings * sides + side % sides
+
+    faces = [
+        (place(ring, side), place(ring + 1, side), place(ring + 1, side + 1), place(ring, side + 1))
+        for ring, side in product(range(rings), range(sides))
+    ]
+    return points, faces
+
+
+if __name__ == "__main__":
+    write_mesh("dog.obj", *dog())
+    write_mesh("grid1024.obj", *torus())

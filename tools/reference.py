@@ -1,0 +1,217 @@
+#!/usr/bin/env python3
+"""A plain, slow reference of `far refine depth=1` for plain closed meshes.
+
+It is written from docs/formats.md and docs/rules.md alone, with whole lists that are scanned and
+`fractions.Fraction` for every value, and shares nothing with the program. It takes the program's words,
+standard input and standard output, and ends with the program's status, so that the runner of the cases can
+be tried on it:
+
+    tools/reference.py refine depth=1 < examples/cube.obj
+    tools/run_cases.py --program tools/reference.py
+"""
+
+import os
+import sys
+from fractions import Fraction
+
+GREATEST_INPUT = 2**28
+GREATEST_COUNT = 1024
+NOT_UNDERSTOOD, TOO_LONG, NOT_BUILT = 2, 4, 12
+
+
+class Refusal(Exception):
+    """A refusal: the status that the program ends with, and its line on standard error."""
+
+    def __init__(self, status, line):
+        super().__init__(line)
+        self.status = status
+        self.line = line
+
+
+# The words of the command line
+
+
+def check_words(words):
+    """Accepts `refine depth=1` alone; refuses other words by the place of the first bad one."""
+    for place, word in enumerate(words):
+        understood = word == b"refine" if place == 0 else word == b"depth=1" and place == 1
+        if not understood:
+            raise Refusal(NOT_UNDERSTOOD, f"far: word {place} is not understood")
+    if len(words) < 2:
+        raise Refusal(NOT_UNDERSTOOD, f"far: word {len(words)} is not understood")
+
+
+def are_text(words):
+    """Whether every word is UTF-8."""
+    try:
+        for word in words:
+            word.decode("utf-8")
+    except UnicodeDecodeError:
+        return False
+    return True
+
+
+# Plain lines
+
+
+def is_digits(word, most):
+    return 1 <= len(word) <= most and all(byte in b"0123456789" for byte in word)
+
+
+def is_number(word):
+    return is_digits(word[1:] if word.startswith(b"-") else word, 18)
+
+
+def read_plain(data):
+    """The points and faces (counted from 0) of a text of plain lines, or the refusal of the least other line."""
+    lines = [[word for word in line.split(b" ") if word] for line in data.split(b"\n")]
+    declared = sum(1 for words in lines if words[:1] == [b"v"])
+    points, faces = [], []
+    for number, words in enumerate(lines, start=1):
+        if not words:
+            continue
+        kind, rest = words[0], words[1:]
+        if kind == b"v" and len(points) < GREATEST_COUNT and len(rest) == 3 and all(map(is_number, rest)):
+            points.append(tuple(Fraction(int(word)) for word in rest))
+        elif kind == b"f" and len(faces) < GREATEST_COUNT and len(rest) in (3, 4) and all(
+            is_digits(word, 4) and 1 <= int(word) <= declared for word in rest
+        ):
+            faces.append(tuple(int(word) - 1 for word in rest))
+        else:
+            raise Refusal(NOT_BUILT, f"far: line {number} is not built yet")
+    return points, faces
+
+
+# Closed manifolds
+
+
+def sides(face):
+    """The directed edges of a face: each corner with the next one."""
+    return [(face[corner], face[(corner + 1) % len(face)]) for corner in range(len(face))]
+
+
+def next_round(faces, face, vertex):
+    """The face after `face` round `vertex`: the one across the side that leaves the vertex."""
+    follower = face[(face.index(vertex) + 1) % len(face)]
+    return next(other for other in faces if (follower, vertex) in sides(other))
+
+
+def is_one_cycle(faces, vertex):
+    """Whether the faces at a vertex of a mesh whose every side has its reverse go once round it."""
+    around = [face for face in faces if vertex in face]
+    if not around:
+        return True
+    seen = []
+    face = around[0]
+    while face not in seen:
+        seen.append(face)
+        face = next_round(around, face, vertex)
+    return len(seen) == len(around)
+
+
+def is_closed_manifold(count, faces):
+    """Distinct corners, each side once and with its reverse, and one cycle of faces at each vertex."""
+    if any(len(set(face)) != len(face) for face in faces):
+        return False
+    directed = [side for face in faces for side in sides(face)]
+    distinct = set(directed)
+    if len(distinct) != len(directed) or any((b, a) not in distinct for a, b in directed):
+        return False
+    return all(is_one_cycle(faces, vertex) for vertex in range(count))
+
+
+# Catmull and Clark's rules on a closed mesh
+
+
+def edges_of(faces):
+    """The edges by first appearance over faces and corners, each with its ends as it first appears."""
+    edges = []
+    known = set()
+    for face in faces:
+        for a, b in sides(face):
+            if (a, b) not in known and (b, a) not in known:
+                known.add((a, b))
+                edges.append((a, b))
+    return edges
+
+
+def weighted(terms, denominator):
+    """The sum of weight times point over the terms, divided by the denominator."""
+    return tuple(sum(weight * point[axis] for weight, point in terms) / denominator for axis in range(3))
+
+
+def face_point(points, face):
+    return weighted([(1, points[vertex]) for vertex in face], len(face))
+
+
+def edge_point(points, faces, face_points, edge):
+    a, b = edge
+    beside = [face_points[number] for number, face in enumerate(faces) if {(a, b), (b, a)} & set(sides(face))]
+    return weighted([(1, points[a]), (1, points[b])] + [(1, point) for point in beside], 4)
+
+
+def vertex_point(points, faces, face_points, edges, vertex):
+    ends = [points[a + b - vertex] for a, b in edges if vertex in (a, b)]
+    around = [face_points[number] for number, face in enumerate(faces) if vertex in face]
+    valence = len(ends)
+    if valence == 0:
+        return points[vertex]
+    terms = [(valence * (valence - 2), points[vertex])] + [(1, point) for point in ends + around]
+    return weighted(terms, valence * valence)
+
+
+def refine(points, faces):
+    """The points and faces of the mesh after one step; the child points are vertices, then faces, then edges."""
+    edges = edges_of(faces)
+    face_points = [face_point(points, face) for face in faces]
+    edge_points = [edge_point(points, faces, face_points, edge) for edge in edges]
+    vertex_points = [vertex_point(points, faces, face_points, edges, vertex) for vertex in range(len(points))]
+
+    place = {}
+    for number, (a, b) in enumerate(edges):
+        place[a, b] = place[b, a] = len(points) + len(faces) + number
+    children = []
+    for number, face in enumerate(faces):
+        for corner, vertex in enumerate(face):
+            after = face[(corner + 1) % len(face)]
+            before = face[corner - 1]
+            children.append((vertex, place[vertex, after], len(points) + number, place[before, vertex]))
+    return vertex_points + face_points + edge_points, children
+
+
+# Texts
+
+
+def text_of(points, faces):
+    lines = ["v " + " ".join(str(number) for number in point) for point in points]
+    lines += ["f " + " ".join(str(vertex + 1) for vertex in face) for face in faces]
+    return "".join(line + "\n" for line in lines)
+
+
+def answer(words, source):
+    """The text that the program writes for these words (a list of bytes) and this input, or a Refusal."""
+    check_words(words)
+    data = source.read(GREATEST_INPUT + 1)
+    if len(data) > GREATEST_INPUT:
+        raise Refusal(TOO_LONG, f"far: input is longer than {GREATEST_INPUT} bytes")
+    points, faces = read_plain(data)
+    if not is_closed_manifold(len(points), faces):
+        raise Refusal(NOT_BUILT, "far: line 0 is not built yet")
+    return text_of(*refine(points, faces))
+
+
+def main():
+    words = [os.fsencode(word) for word in sys.argv[1:]]
+    try:
+        if not are_text(words):
+            raise Refusal(NOT_UNDERSTOOD, "far: word 0 is not understood")
+        text = answer(words, sys.stdin.buffer)
+    except Refusal as refusal:
+        sys.stderr.write(refusal.line + "\n")
+        return refusal.status
+    sys.stdout.write(text)
+    return 0
+
+
+if __name__ == "__main__":
+    sys.exit(main())
