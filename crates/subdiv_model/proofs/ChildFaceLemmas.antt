@@ -32,7 +32,7 @@ last-any : (test : ℕ × ℕ → Bool) (side : ℕ × ℕ) (sides : List (ℕ �
 last-any test side [] h = grind (arith, nat_tests)
 last-any test side (next ∷ sides) h = let behind = last-any test next sides h in grind (arith, nat_tests)
 
-last-all : (test : ℕ × ℕ → Bool) (side : ℕ × ℕ) (sides : List (ℕ × ℕ)) → list_all test (side ∷ sides) ≡ true → test (last_side side sides) ≡ true
+pub last-all : (test : ℕ × ℕ → Bool) (side : ℕ × ℕ) (sides : List (ℕ × ℕ)) → list_all test (side ∷ sides) ≡ true → test (last_side side sides) ≡ true
 last-all test side [] h = (and_parts (test side) true h).0
 last-all test side (next ∷ sides) h = last-all test next sides (and_parts (test side) (list_all test (next ∷ sides)) h).1
 

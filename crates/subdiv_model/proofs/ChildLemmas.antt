@@ -56,7 +56,7 @@ module _ (points : ℕ) (polygons : List Polygon) (test : ℕ × ℕ → Bool) w
       omega (arith, behind, here, both, sums)
 
 -- the last side of a polygon leads back to its first corner
-last-end : (first v : ℕ) (rest : Polygon) (s : ℕ × ℕ) → (last_side s (sides_back_to first (v ∷ rest))).1 ≡ first
+pub last-end : (first v : ℕ) (rest : Polygon) (s : ℕ × ℕ) → (last_side s (sides_back_to first (v ∷ rest))).1 ≡ first
 last-end first v [] s = refl
 last-end first v (w ∷ rest) s = last-end first w rest (v, w)
 

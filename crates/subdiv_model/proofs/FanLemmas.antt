@@ -1,5 +1,5 @@
 -- The test for one fan at a point decides whether the faces there can be listed as a fan.
-use Rattle.std.proofs.Common.{◌≡◌, ℕ, zero, suc, ◌+◌, ◌<◌, ◌≤◌, Bool, true, false, ◌&&◌, nat_eq, nat_le, List, [], ◌∷◌, length, get_or, arith, refl, ap, sym, ◌∙◌}
+use Rattle.std.proofs.Common.{◌≡◌, ℕ, zero, suc, ◌+◌, ◌<◌, ◌≤◌, Bool, true, false, ◌&&◌, nat_eq, nat_le, List, [], ◌∷◌, length, get_or, arith, refl, ap, sym, ◌∙◌, ◌⊎◌, inl, inr}
 use Rattle.std.specs.List.{list_any, list_all, count_by}
 use Rattle.std.proofs.lemmas.Bool.Decides.{nat_tests}
 use Rattle.std.proofs.lemmas.Bool.{and_parts, and_from, eqb-true}
@@ -7,7 +7,7 @@ use Rattle.subdiv_model.specs.Polygons.{Polygon, same_side, sides_of, has_side, 
 use Rattle.subdiv_model.specs.Edges.{all_sides, faces_of_point}
 use Rattle.subdiv_model.specs.Manifold.{IsSuccessor, is_successor, is_simple}
 use Rattle.subdiv_model.proofs.CountLemmas.{count-append, count-some}
-use Rattle.subdiv_model.proofs.SideLemmas.{same_side-refl, side-place, distinct-places, distinct-count}
+use Rattle.subdiv_model.proofs.SideLemmas.{same_side-refl, side-place, among-place, next-corner, distinct-places, distinct-count}
 use Rattle.subdiv_model.proofs.ClosedLemmas.{any-here}
 
 -- the places of what passes
@@ -28,12 +28,12 @@ faces-among polygons v face =
     let e : face ≡ 0 + face = omega arith in
     ap (is_among (faces_of_point polygons v)) e ∙ places-at (has_corner v) [] refl 0 face polygons
 
-any-weaker : {X : Type 0} (p q : X → Bool) → ((x : X) → p x ≡ true → q x ≡ true) → (xs : List X) → list_any p xs ≡ true → list_any q xs ≡ true
+pub any-weaker : {X : Type 0} (p q : X → Bool) → ((x : X) → p x ≡ true → q x ≡ true) → (xs : List X) → list_any p xs ≡ true → list_any q xs ≡ true
 any-weaker p q weaker [] h = h
 any-weaker p q weaker (x ∷ xs) h = grind (arith, nat_tests, weaker x, any-weaker p q weaker xs)
 
 -- a side that passes
-any-side : (p : ℕ × ℕ → Bool) (sides : List (ℕ × ℕ)) → list_any p sides ≡ true → (s : ℕ × ℕ) × (p s ≡ true) × (list_any (same_side s) sides ≡ true)
+pub any-side : (p : ℕ × ℕ → Bool) (sides : List (ℕ × ℕ)) → list_any p sides ≡ true → (s : ℕ × ℕ) × (p s ≡ true) × (list_any (same_side s) sides ≡ true)
 any-side p [] h = absurd (cc)
 any-side p (s ∷ sides) h = here (p s) refl (λ m. any-side p sides m)
   where
@@ -85,7 +85,7 @@ successor-test polygons v face next is =
     and_from _ _ parts.0 (ap (λ (n : ℕ). has_side (n, v) (polygon_at polygons next)) (sym (eqb-true is.corner s.1 parts.1)) ∙ is.leads_back)) (sides_of (polygon_at polygons face)) is.follows
 
 -- one corner follows a corner in a polygon of distinct corners
-follower-unique : (polygon : Polygon) (v a b : ℕ) → is_distinct polygon ≡ true → has_side (v, a) polygon ≡ true → has_side (v, b) polygon ≡ true → a ≡ b
+pub follower-unique : (polygon : Polygon) (v a b : ℕ) → is_distinct polygon ≡ true → has_side (v, a) polygon ≡ true → has_side (v, b) polygon ≡ true → a ≡ b
 follower-unique [] v a b d h k = absurd (cc)
 follower-unique (first ∷ rest) v a b d h k =
     let at_a = side-place first (first ∷ rest) (v, a) h in
@@ -93,8 +93,38 @@ follower-unique (first ∷ rest) v a b d h k =
     let same = distinct-places (first ∷ rest) at_a.0 at_b.0 d at_a.1 at_b.1 (at_a.2 ∙ sym at_b.2) in
     sym at_a.3 ∙ ap (λ n. get_or (first ∷ rest) (suc n) first) same ∙ at_b.3
 
+-- one corner leads to a corner in a polygon of distinct corners
+pub leader-unique : (polygon : Polygon) (v a b : ℕ) → is_distinct polygon ≡ true → has_side (a, v) polygon ≡ true → has_side (b, v) polygon ≡ true → a ≡ b
+leader-unique [] v a b d h k = absurd (cc)
+leader-unique (first ∷ rest) v a b d h k =
+    let at_a = side-place first (first ∷ rest) (a, v) h in
+    let at_b = side-place first (first ∷ rest) (b, v) k in
+    sym at_a.2 ∙ ap (λ n. get_or (first ∷ rest) n 0) (same at_a.0 at_b.0 at_a.1 at_b.1 at_a.3 at_b.3 (next-corner first rest at_a.0 at_a.1) (next-corner first rest at_b.0 at_b.1)) ∙ at_b.2
+  where
+    Next : ℕ → Type 0
+    Next i = ((suc i < length (first ∷ rest)) × (get_or (first ∷ rest) (suc i) first ≡ get_or (first ∷ rest) (suc i) 0)) ⊎ ((suc i ≡ length (first ∷ rest)) × (get_or (first ∷ rest) (suc i) first ≡ first))
+
+    same : (i j : ℕ) → i < length (first ∷ rest) → j < length (first ∷ rest) → get_or (first ∷ rest) (suc i) first ≡ v → get_or (first ∷ rest) (suc j) first ≡ v → Next i → Next j → i ≡ j
+    same i j hi hj vi vj (inl m) (inl n) = let e = distinct-places (first ∷ rest) (suc i) (suc j) d m.0 n.0 (sym m.1 ∙ vi ∙ sym vj ∙ n.1) in omega (arith, e)
+    same i j hi hj vi vj (inl m) (inr n) = let e = distinct-places (first ∷ rest) (suc i) 0 d m.0 (omega arith) (sym m.1 ∙ vi ∙ sym vj ∙ n.1) in absurd (omega (arith, e))
+    same i j hi hj vi vj (inr m) (inl n) = let e = distinct-places (first ∷ rest) 0 (suc j) d (omega arith) n.0 (sym m.1 ∙ vi ∙ sym vj ∙ n.1) in absurd (omega (arith, e))
+    same i j hi hj vi vj (inr m) (inr n) = omega (arith, m.0, n.0)
+
+-- both ends of a side are corners
+pub side-start : (polygon : Polygon) (s : ℕ × ℕ) → has_side s polygon ≡ true → has_corner s.0 polygon ≡ true
+side-start [] s h = h
+side-start (first ∷ rest) s h = let at = side-place first (first ∷ rest) s h in among-place s.0 (first ∷ rest) at.0 at.1 at.2
+
+pub side-end : (polygon : Polygon) (s : ℕ × ℕ) → has_side s polygon ≡ true → has_corner s.1 polygon ≡ true
+side-end [] s h = h
+side-end (first ∷ rest) s h = let at = side-place first (first ∷ rest) s h in go at.0 at.3 (next-corner first rest at.0 at.1)
+  where
+    go : (i : ℕ) → get_or (first ∷ rest) (suc i) first ≡ s.1 → ((suc i < length (first ∷ rest)) × (get_or (first ∷ rest) (suc i) first ≡ get_or (first ∷ rest) (suc i) 0)) ⊎ ((suc i ≡ length (first ∷ rest)) × (get_or (first ∷ rest) (suc i) first ≡ first)) → has_corner s.1 (first ∷ rest) ≡ true
+    go i e (inl m) = among-place s.1 (first ∷ rest) (suc i) m.0 (sym m.1 ∙ e)
+    go i e (inr m) = among-place s.1 (first ∷ rest) 0 (omega arith) (sym m.1 ∙ e)
+
 -- one polygon has a side that occurs once
-owner-unique : (polygons : List Polygon) (s : ℕ × ℕ) (f g : ℕ) → count_by (same_side s) (all_sides polygons) ≤ 1 → has_side s (polygon_at polygons f) ≡ true → has_side s (polygon_at polygons g) ≡ true → f ≡ g
+pub owner-unique : (polygons : List Polygon) (s : ℕ × ℕ) (f g : ℕ) → count_by (same_side s) (all_sides polygons) ≤ 1 → has_side s (polygon_at polygons f) ≡ true → has_side s (polygon_at polygons g) ≡ true → f ≡ g
 owner-unique [] s f g once h k = absurd (cc)
 owner-unique (polygon ∷ polygons) s zero zero once h k = refl
 owner-unique (polygon ∷ polygons) s zero (suc g) once h k =
@@ -111,7 +141,7 @@ owner-unique (polygon ∷ polygons) s (suc f) (suc g) once h k =
     let both = count-append (same_side s) (sides_of polygon) (all_sides polygons) in
     ap suc (owner-unique polygons s f g (omega arith) h k)
 
-distinct-at : (polygons : List Polygon) (f : ℕ) → list_all is_simple polygons ≡ true → is_distinct (polygon_at polygons f) ≡ true
+pub distinct-at : (polygons : List Polygon) (f : ℕ) → list_all is_simple polygons ≡ true → is_distinct (polygon_at polygons f) ≡ true
 distinct-at [] f simple = refl
 distinct-at (polygon ∷ polygons) zero simple = (and_parts (nat_le 3 (length polygon)) (is_distinct polygon) (and_parts (is_simple polygon) (list_all is_simple polygons) simple).0).1
 distinct-at (polygon ∷ polygons) (suc f) simple = distinct-at polygons f (and_parts (is_simple polygon) (list_all is_simple polygons) simple).1

@@ -1,19 +1,20 @@
 -- The laws, from a manifold as it is said.
-use Rattle.std.proofs.Common.{zero, suc, ◌≡◌, ℕ, ◌<◌, ◌≤◌, Bool, true, false, ◌&&◌, nat_eq, nat_lt, List, length, get_or, arith, refl, IsTrue}
+use Rattle.std.proofs.Common.{zero, suc, ◌≡◌, ℕ, ◌<◌, ◌≤◌, true, ◌&&◌, nat_eq, nat_lt, List, length, get_or, arith, IsTrue}
 use Rattle.std.specs.List.{All, list_all, list_any, count_by}
 use Rattle.std.proofs.lemmas.Bool.{and_parts, eqb-true, ltb-true}
-use Rattle.std.proofs.lemmas.List.Sums.{list_all-from_AllPass}
+use Rattle.std.proofs.lemmas.List.Sums.{list_all-from_AllPass, AllPass-from_list_all}
 use Rattle.subdiv_model.specs.Polygons.{Polygon, same_side, same_edge, is_distinct, is_over, has_distinct_sides}
-use Rattle.subdiv_model.specs.Edges.{all_sides, edges_of, times_used, reversed, faces_of_edge, is_closed, goes_both_ways}
+use Rattle.subdiv_model.specs.Edges.{all_sides, edges_of, faces_of_edge, is_closed, goes_both_ways}
 use Rattle.subdiv_model.specs.Manifold.{IsManifold, is_simple}
 use Rattle.subdiv_model.specs.Child.{child_polygons, child_points, refined_level}
 use Rattle.subdiv_model.specs.Level.{Level}
-use Rattle.subdiv_model.proofs.CountLemmas.{count-none, count-some, count-agree}
-use Rattle.subdiv_model.proofs.SideLemmas.{same_side-alike, distinct-from_count}
+use Rattle.subdiv_model.proofs.CountLemmas.{count-some}
 use Rattle.subdiv_model.proofs.EdgeLemmas.{all-named, first_named-once}
 use Rattle.subdiv_model.proofs.ChildFaceLemmas.{is_child, all-child, child-simple, child-over}
-use Rattle.subdiv_model.proofs.ClosedLemmas.{all-at, any-all, closed-both, sides-pass, first_named-all}
+use Rattle.subdiv_model.proofs.ClosedLemmas.{all-at, closed-both, sides-pass, first_named-all}
 use Rattle.subdiv_model.proofs.ChildClosedLemmas.{child-closed}
+use Rattle.subdiv_model.proofs.ChildOnceLemmas.{child-distinct}
+use Rattle.subdiv_model.proofs.EdgeFanLemmas.{child-fans}
 use Rattle.subdiv_model.proofs.FaultLemmas.{edge-faces}
 
 -- each side's edge is listed once
@@ -50,23 +51,32 @@ manifold-quads points polygons over is k d h =
 pub manifold-child : (points : ℕ) (polygons : List Polygon) → IsTrue (is_over points polygons) → IsManifold points polygons → IsTrue (is_closed polygons) → IsTrue (goes_both_ways (child_polygons points polygons)) × IsTrue (is_closed (child_polygons points polygons))
 manifold-child points polygons over is closed = child-closed points polygons over (all-simple points polygons is) is.sides_once closed
 
+-- the next level of a manifold is a manifold
+pub next-manifold : (points : ℕ) (polygons : List Polygon) → IsTrue (is_over points polygons) → IsManifold points polygons → IsManifold (child_points points polygons) (child_polygons points polygons)
+next-manifold points polygons over is =
+    let simple = all-simple points polygons is in
+    let quads = child-simple points polygons (child_polygons points polygons) (all-child points polygons over simple) in
+    record {
+      simple = AllPass-from_list_all is_simple (child_polygons points polygons) quads;
+      sides_once = child-distinct points polygons over simple is.sides_once;
+      fans = λ x inside. child-fans points polygons simple over is.sides_once is.fans x;
+    }
+
+-- and so is each level
+pub manifold-levels : (level : Level) (k : ℕ) → IsTrue (is_over level.points level.polygons) → IsManifold level.points level.polygons → IsTrue (is_over (refined_level level k).points (refined_level level k).polygons) × IsManifold (refined_level level k).points (refined_level level k).polygons
+manifold-levels level zero over is = (over, is)
+manifold-levels level (suc k) over is =
+    let behind = manifold-levels level k over is in
+    let points = (refined_level level k).points in
+    let polygons = (refined_level level k).polygons in
+    (child-over points polygons (child_polygons points polygons) (all-child points polygons behind.0 (all-simple points polygons behind.1)), next-manifold points polygons behind.0 behind.1)
+
 -- what the child of a closed list of simple polygons keeps
 pub record IsClosed (points : ℕ) (polygons : List Polygon) : Type 0 where
   pub over : is_over points polygons ≡ true
   pub simple : list_all is_simple polygons ≡ true
   pub distinct : has_distinct_sides (all_sides polygons) ≡ true
   pub closed : is_closed polygons ≡ true
-
-once-from-both : (polygons : List Polygon) → list_all is_simple polygons ≡ true → goes_both_ways polygons ≡ true → has_distinct_sides (all_sides polygons) ≡ true
-once-from-both polygons simple both = distinct-from_count (all_sides polygons) (λ s. go s (list_any (same_side s) (all_sides polygons)) refl)
-  where
-    go : (s : ℕ × ℕ) (b : Bool) → list_any (same_side s) (all_sides polygons) ≡ b → count_by (same_side s) (all_sides polygons) ≤ 1
-    go s false e = omega (arith, count-none (same_side s) (all_sides polygons) e)
-    go s true e =
-        let found = any-all (same_side s) (λ side. nat_eq (times_used polygons side) 1 && nat_eq (times_used polygons (reversed side)) 1) (all_sides polygons) e both in
-        let one = eqb-true (times_used polygons found.0) 1 (and_parts (nat_eq (times_used polygons found.0) 1) (nat_eq (times_used polygons (reversed found.0)) 1) found.2).0 in
-        let alike = count-agree (same_side s) (same_side found.0) (λ u. same_side-alike s found.0 u found.1) (all_sides polygons) in
-        omega arith
 
 closed-child : (points : ℕ) (polygons : List Polygon) → IsClosed points polygons → IsClosed (child_points points polygons) (child_polygons points polygons)
 closed-child points polygons is =
@@ -76,7 +86,7 @@ closed-child points polygons is =
     record {
       over = child-over points polygons (child_polygons points polygons) quads;
       simple = simple;
-      distinct = once-from-both (child_polygons points polygons) simple closed.0;
+      distinct = child-distinct points polygons is.over is.simple is.distinct;
       closed = closed.1;
     }
 

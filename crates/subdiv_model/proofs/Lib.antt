@@ -19,6 +19,12 @@ mod SideLemmas
 mod EdgeLemmas
 mod ChildLemmas
 mod ChildClosedLemmas
+mod ChildOnceLemmas
+mod ChildPlaceLemmas
+mod ChildCornerLemmas
+mod TurnedLemmas
+mod ChildFanLemmas
+mod EdgeFanLemmas
 mod ChildCountLemmas
 mod ChildFaceLemmas
 mod ClosedLemmas

@@ -66,7 +66,7 @@ side-place first (v ∷ rest) s h = here (same_side s (v, get_or rest 0 first)) 
         let found = behind more in
         (suc found.0, omega (arith, found.1), found.2, found.3)
 
-among-place : (v : ℕ) (numbers : List ℕ) (i : ℕ) → i < length numbers → get_or numbers i 0 ≡ v → is_among numbers v ≡ true
+pub among-place : (v : ℕ) (numbers : List ℕ) (i : ℕ) → i < length numbers → get_or numbers i 0 ≡ v → is_among numbers v ≡ true
 among-place v [] i h e = absurd (omega arith)
 among-place v (n ∷ numbers) zero h e = grind (arith, nat_tests)
 among-place v (n ∷ numbers) (suc i) h e = let behind = among-place v numbers i (omega arith) e in grind (arith, nat_tests)
@@ -84,7 +84,7 @@ distinct-places (n ∷ numbers) (suc i) (suc j) d h k e =
     ap suc (distinct-places numbers i j parts.1 (omega arith) (omega arith) e)
 
 -- behind the last corner of a polygon comes the first one
-next-corner : (v : ℕ) (rest : Polygon) (i : ℕ) → i < length (v ∷ rest) → ((suc i < length (v ∷ rest)) × (get_or (v ∷ rest) (suc i) v ≡ get_or (v ∷ rest) (suc i) 0)) ⊎ ((suc i ≡ length (v ∷ rest)) × (get_or (v ∷ rest) (suc i) v ≡ v))
+pub next-corner : (v : ℕ) (rest : Polygon) (i : ℕ) → i < length (v ∷ rest) → ((suc i < length (v ∷ rest)) × (get_or (v ∷ rest) (suc i) v ≡ get_or (v ∷ rest) (suc i) 0)) ⊎ ((suc i ≡ length (v ∷ rest)) × (get_or (v ∷ rest) (suc i) v ≡ v))
 next-corner v [] zero h = inr (refl, refl)
 next-corner v [] (suc i) h = absurd (omega arith)
 next-corner v (w ∷ rest) zero h = inl (omega arith, refl)

@@ -40,6 +40,18 @@ pub fn child_faces_are_quads()
     ensures { (points : ℕ) (polygons : List Polygon) → IsTrue (is_over points polygons) → IsManifold points polygons → All (λ quad. (length quad ≡ 4) × IsTrue (is_distinct quad) × All (λ v. v < child_points points polygons) quad) (child_polygons points polygons) }
 {}
 
+/// The next level of a manifold is a manifold, at its boundary too: its faces are simple, each directed edge
+/// occurs once at most, and the faces at each point form one fan.
+pub fn child_of_a_manifold()
+    ensures { (points : ℕ) (polygons : List Polygon) → IsTrue (is_over points polygons) → IsManifold points polygons → IsManifold (child_points points polygons) (child_polygons points polygons) }
+{}
+
+/// Each level of a manifold is a manifold, and has its corners among its points.
+pub fn levels_of_a_manifold()
+    ensures over { (level : Level) (k : ℕ) → IsTrue (is_over level.points level.polygons) → IsManifold level.points level.polygons → IsTrue (is_over (refined_level level k).points (refined_level level k).polygons) }
+    ensures manifold { (level : Level) (k : ℕ) → IsTrue (is_over level.points level.polygons) → IsManifold level.points level.polygons → IsManifold (refined_level level k).points (refined_level level k).polygons }
+{}
+
 /// The child of a closed manifold is closed: each of its edges is in exactly two faces, and each directed edge
 /// occurs once, and once the other way.
 pub fn child_of_a_closed_manifold()
