@@ -9,7 +9,7 @@ use Rattle.std.proofs.lemmas.List.Sums.{fold-append, fold_more}
 use Rattle.std.proofs.lemmas.Nat.{mod-mul-add}
 use Rattle.std.proofs.Math.Nat.{pow-le-pow_right, mul-le-mul_left, mul-le-mul_right, mul_assoc, one-le-pow}
 use Rattle.obj_text.specs.Significant.{IsLong, with_next_digit}
-use Rattle.subdiv_model.specs.PlainLine.{is_digit}
+use Rattle.subdiv_model.specs.Digits.{is_digit}
 
 -- 37 zeros behind a digit are too many
 pub zeros-far : (a z : ℕ) → a ≢ 0 → 37 ≤ z → 10 ^ 37 ≤ a * 10 ^ z

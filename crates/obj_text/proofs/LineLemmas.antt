@@ -1,5 +1,5 @@
 -- The first run of a line: a word, a comment, or nothing between two blanks.
-use Rattle.std.proofs.Common.{◌≡◌, ℕ, ◌+◌, ◌<◌, ◌≤◌, Bool, true, false, not, nat_eq, List, [], ◌∷◌, length, arith, refl, ap, sym, ◌∙◌, ⊎_elim}
+use Rattle.std.proofs.Common.{◌≡◌, ℕ, ◌+◌, ◌<◌, ◌≤◌, Bool, false, not, nat_eq, List, [], ◌∷◌, length, arith, refl, ap, sym, ◌∙◌, ⊎_elim}
 use Rattle.std.specs.List.{filter, slice_split, position_or_len, before_first, after_first, take_while}
 use Rattle.std.proofs.lemmas.Bool.{cases_lt}
 use Rattle.std.proofs.lemmas.Bool.Decides.{nat_tests}
@@ -33,19 +33,6 @@ runs-named line run rest e f =
 
 runs-some : (b : ℕ) (run : List ℕ) (rest : List (List ℕ)) → filter has_bytes ((b ∷ run) ∷ rest) ≡ (b ∷ run) ∷ filter has_bytes rest
 runs-some b run rest = grind (arith, nat_tests)
-
--- there is a blank to skip
-pub words-skip : (line run rest : List ℕ) → run ≡ before_first is_blank line → rest ≡ after_first is_blank line → length run ≡ 0 → line_words line ≡ line_words rest
-words-skip line [] rest e f none = ap (take_while is_word) (runs-named line [] rest e f)
-words-skip line (b ∷ run) rest e f none = absurd (omega arith)
-
--- the run opens a comment
-pub words-comment : (line run rest : List ℕ) → run ≡ before_first is_blank line → rest ≡ after_first is_blank line → opens_comment run ≡ true → line_words line ≡ []
-words-comment line [] rest e f opens = cc
-words-comment line (b ∷ run) rest e f opens =
-    ap (take_while is_word) (runs-named line (b ∷ run) rest e f ∙ runs-some b run (slice_split is_blank rest))
-    ∙ take_while-cons is_word (b ∷ run) (runs_of rest)
-    ∙ rw opens refl
 
 -- the run is the first word
 pub words-front : (line run rest : List ℕ) → run ≡ before_first is_blank line → rest ≡ after_first is_blank line → 0 < length run → opens_comment run ≡ false → line_words line ≡ run ∷ line_words rest

@@ -6,7 +6,7 @@ use Rattle.std.proofs.lemmas.Bool.Decides.{nat_tests}
 use Rattle.std.proofs.lemmas.List.Sums.{fold-append}
 use Rattle.obj_text.specs.Significant.{IsLong, with_next_digit}
 use Rattle.obj_text.proofs.DecimalLemmas.{zeros-far, times-tens}
-use Rattle.subdiv_model.specs.PlainLine.{number_of_digits}
+use Rattle.subdiv_model.specs.Digits.{number_of_digits}
 use Rattle.subdiv_model.specs.Numeral.{whole_digits, fraction_digits, all_digits, exponent_part, exponent_amount, exponent_has_minus, tens_above, tens_below, normal_amount, is_in_range}
 use Rattle.subdiv_model.proofs.NumeralLemmas.{normal-tens}
 
@@ -43,9 +43,6 @@ long-word word is =
     let most : BOUND ≤ is.amount = is.long in
     let grows = times-tens is.amount ((is.zeros + tens_above word) - tens_below word) in
     word-outside word _ _ (normal-word word is.amount is.zeros is.says (λ none. absurd (omega arith)) is.ends) (inl (omega arith))
-
-pub zero-word : (word : List ℕ) → number_of_digits (all_digits word) ≡ 0 → normal_amount word ≡ (0, 0)
-zero-word word none = rw none refl
 
 -- the exponent as it was told, and as it is: the same, or both put the word out of range
 abbrev AreAlike : ℕ → ℕ → ℕ → ℕ → Type 0

@@ -1,7 +1,7 @@
 -- The parts of a numeral, as a reader keeps them.
 use Rattle.std.specs.Prelude.{ℕ, ◌≡◌, ◌^◌, min, List}
 use Rattle.obj_text.specs.declared.numeral.Parts.{Parts}
-use Rattle.subdiv_model.specs.PlainLine.{has_minus}
+use Rattle.subdiv_model.specs.Digits.{has_minus}
 use Rattle.subdiv_model.specs.Numeral.{whole_digits, fraction_digits, exponent_part, exponent_amount, exponent_has_minus}
 
 -- the parts of a word; of the exponent's amount no more than 10^20 is told

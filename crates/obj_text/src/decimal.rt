@@ -1,7 +1,7 @@
 ghost use Rattle.std.specs.Prelude.{◌≡◌, ◌+◌, ◌*◌, ◌^◌, ◌<◌, ◌≤◌, true, length, fold, MatchOption};
 ghost use Rattle.std.specs.List.{list_all};
 ghost use Rattle.obj_text.specs.Significant.{IsSignificant, IsLong, with_next_digit};
-ghost use Rattle.subdiv_model.specs.PlainLine.{is_digit};
+ghost use Rattle.subdiv_model.specs.Digits.{is_digit};
 
 // A mantissa has at most 37 digits.
 pub(crate) const BOUND: u128 = 10_000_000_000_000_000_000_000_000_000_000_000_000;

@@ -1,6 +1,6 @@
 ghost use Rattle.std.specs.Prelude.{◌≡◌, ◌^◌, ◌<◌, true, false, min, MatchOption};
 ghost use Rattle.std.specs.List.{list_all};
-ghost use Rattle.subdiv_model.specs.PlainLine.{is_digit, number_of_digits};
+ghost use Rattle.subdiv_model.specs.Digits.{is_digit, number_of_digits};
 ghost use Rattle.subdiv_model.specs.Numeral.{are_digits};
 
 /// Whether the bytes are digits, all of them.

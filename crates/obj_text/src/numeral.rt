@@ -2,7 +2,7 @@ ghost use Rattle.std.specs.Prelude.{◌≡◌, ◌⊎◌, ℕ, ◌-◌, ◌*◌,
 ghost use Rattle.std.specs.List.{list_all, position_or_len, before_first, after_first};
 ghost use Rattle.obj_text.specs.NumeralFaults.{IsFaultOf};
 ghost use Rattle.obj_text.specs.NumeralParts.{ArePartsOf};
-ghost use Rattle.subdiv_model.specs.PlainLine.{is_digit, has_minus};
+ghost use Rattle.subdiv_model.specs.Digits.{is_digit, has_minus};
 ghost use Rattle.subdiv_model.specs.Numeral.{without_sign, is_exponent_mark, is_point, is_exponent, exponent_amount, exponent_has_minus, is_numeral, normal_amount, normal_form, is_in_range};
 
 use crate::decimal::{Significant, with_digits, with_zeros};

@@ -1,7 +1,7 @@
 -- Edges by first appearance, and places in a list, one more element at a time.
 use Rattle.std.proofs.Common.{◌≡◌, ℕ, ◌+◌, ◌<◌, Bool, true, false, cond, not, List, [], ◌∷◌, ◌++◌, length, take, get_or, arith, refl, ap, sym, ◌∙◌, if◌then◌else◌, Vec, append-nil}
 use Rattle.std.specs.Global.{Global}
-use Rattle.std.specs.List.{filter, list_any, list_all}
+use Rattle.std.specs.List.{list_any, list_all}
 use Rattle.std.proofs.lemmas.Grind.{common_steps}
 use Rattle.std.proofs.lemmas.Bool.Decides.{nat_tests}
 use Rattle.std.proofs.lemmas.List.{take_more, length-take, length-map, map-append, get_or-map}
@@ -10,18 +10,8 @@ use Rattle.std.proofs.lemmas.List.Folds.{list_all_at}
 use Rattle.subdiv_model.specs.Polygons.{Polygon, same_edge, places, places_from}
 use Rattle.subdiv_model.specs.Edges.{first_named}
 use Rattle.plain_refine.specs.Mesh.{corners_of}
-
--- to name the same edge is an equivalence
-same_edge-sym : (s t : ℕ × ℕ) → same_edge s t ≡ same_edge t s
-same_edge-sym s t = grind (arith, nat_tests)
-
-same_edge-trans : (s t u : ℕ × ℕ) → same_edge s t ≡ true → same_edge t u ≡ true → same_edge s u ≡ true
-same_edge-trans s t u a b = grind (arith, nat_tests)
-
--- the sides that do not name t's edge name s's edge where s names another
-any-filter : (s t : ℕ × ℕ) (xs : List (ℕ × ℕ)) → list_any (same_edge s) (filter (λ x. not (same_edge t x)) xs) ≡ (if same_edge s t then false else list_any (same_edge s) xs)
-any-filter s t [] = grind (arith, nat_tests)
-any-filter s t (x ∷ xs) = grind (arith, nat_tests, any-filter s t xs, same_edge-trans s x t, same_edge-trans t s x, same_edge-sym s t, same_edge-sym x t)
+use Rattle.subdiv_model.proofs.EdgeLemmas.{any-filter}
+use Rattle.subdiv_model.proofs.SideLemmas.{same_edge-sym}
 
 -- the edges with one more side: behind the others, where none of them is its edge
 abbrev pub with_side : List (ℕ × ℕ) → ℕ × ℕ → List (ℕ × ℕ)

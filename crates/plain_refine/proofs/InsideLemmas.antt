@@ -87,16 +87,16 @@ length-back : (first : ℕ) (path : List ℕ) → length (sides_back_to first pa
 length-back first [] = omega arith
 length-back first (v ∷ rest) = omega (arith, length-back first rest)
 
-length-sides : (p : Polygon) → length (sides_of p) ≡ length p
+pub length-sides : (p : Polygon) → length (sides_of p) ≡ length p
 length-sides [] = omega arith
 length-sides (v ∷ rest) = length-back v (v ∷ rest)
 
-length-all_sides : (polygons : List Polygon) → AllByRecursion (λ p. (3 ≤ length p) × (length p ≤ 4)) polygons → length (all_sides polygons) ≤ 4 * length polygons
+pub length-all_sides : (polygons : List Polygon) → AllByRecursion (λ p. (3 ≤ length p) × (length p ≤ 4)) polygons → length (all_sides polygons) ≤ 4 * length polygons
 length-all_sides [] sizes = omega arith
 length-all_sides (p ∷ polygons) sizes =
     omega (arith, length-append (sides_of p) (all_sides polygons), length-sides p, sizes.0.1, length-all_sides polygons sizes.1)
 
-length-first : (sides : List (ℕ × ℕ)) → length (first_named sides) ≤ length sides
+pub length-first : (sides : List (ℕ × ℕ)) → length (first_named sides) ≤ length sides
 length-first [] = omega arith
 length-first (s ∷ sides) = omega (arith, shorter (λ t. not (same_edge s t)) (first_named sides), length-first sides)
 

@@ -11,4 +11,5 @@ mod PointLemmas
 mod PositiveLemmas
 mod RefineLemmas
 mod StepLemmas
+mod ScaleLemmas
 mod TextLemmas

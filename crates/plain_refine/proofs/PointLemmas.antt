@@ -1,5 +1,5 @@
 -- The new points that the code computes are those of the masks.
-use Rattle.std.proofs.Common.{◌≡◌, ℕ, zero, suc, ◌-◌, ◌*◌, ◌^◌, ◌<◌, ℤ, pos, ◌+ℤ◌, ◌*ℤ◌, unsigned_abs, arith, ap, sym, ◌∙◌, subst, List, [], ◌∷◌, ◌++◌, length, map, get_or, append_assoc}
+use Rattle.std.proofs.Common.{◌≡◌, ℕ, zero, suc, ◌-◌, ◌*◌, ◌^◌, ◌<◌, ◌≤◌, ℤ, pos, ◌+ℤ◌, ◌*ℤ◌, unsigned_abs, arith, ap, sym, ◌∙◌, subst, List, [], ◌∷◌, ◌++◌, length, map, get_or, append_assoc, mul-le-mul}
 use Rattle.std.specs.List.{All, AllZip, AllByRecursion, range_with_len}
 use Rattle.std.proofs.lemmas.List.Elements.{recursion_from_All, All-nil, All-cons}
 use Rattle.ratio128.specs.declared.divisor.Frac.{Frac}
@@ -14,14 +14,15 @@ use Rattle.plain_refine.proofs.MaskSumLemmas.{HasSize, face-point-over, corner-p
 use Rattle.plain_refine.proofs.PlainMaskLemmas.{plain-vertex, plain-corner}
 
 -- a fraction that is the value of a mask is its point
-point-of : (polygons : List Polygon) (values : List ℤ) (mask : Mask) (m : ℕ) (a : ℤ) (point : Frac) → IsOver m (plain_value polygons values mask) a → point.num ≡ a → point.den ≡ m → 0 < m → unsigned_abs point.num < 2 ^ 127 → IsPointOf polygons values point mask
-point-of polygons values mask m a point over num den positive kept = record {
+point-of : (polygons : List Polygon) (values : List ℤ) (mask : Mask) (m : ℕ) (a : ℤ) (point : Frac) → IsOver m (plain_value polygons values mask) a → point.num ≡ a → point.den ≡ m → 0 < m → m ≤ 2 ^ 28 → unsigned_abs point.num < 2 ^ 127 → IsPointOf polygons values point mask
+point-of polygons values mask m a point over num den positive coarse kept = record {
   same =
       ap (λ z. z *ℤ pos (plain_value polygons values mask).den) num
       ∙ same-over m (plain_value polygons values mask) a over
       ∙ ap (λ n. (plain_value polygons values mask).num *ℤ pos n) (sym den);
   positive = omega arith;
   kept = kept;
+  coarse = omega arith;
 }
 
 -- each face of a small mesh has three or four corners
@@ -33,7 +34,7 @@ pub corner-point : (polygons : List Polygon) (values : List ℤ) (v : ℕ) (ends
 corner-point polygons values v ends point e none num den kept =
     let P : Mask → Type 0 = λ mask. IsPointOf polygons values point mask in
     subst P (sym (plain-corner (length values) polygons v (sym (ap length e) ∙ none)))
-    (point-of polygons values (corner_mask v) 1 (get_or values v (pos 0)) point (corner-point-over values polygons v) num den (omega arith) kept)
+    (point-of polygons values (corner_mask v) 1 (get_or values v (pos 0)) point (corner-point-over values polygons v) num den (omega arith) (omega arith) kept)
 
 -- the sums of ends and faces
 sums : (polygons : List Polygon) (values faces : List ℤ) (ends near those : List ℕ) (of_ends of_faces : ℤ) → faces ≡ all_twelfths values polygons → near ≡ those → of_ends ≡ sum_at values ends → of_faces ≡ sum_at faces near → pos 12 *ℤ of_ends +ℤ of_faces ≡ pos 12 *ℤ sum_at values ends +ℤ sum_at (all_twelfths values polygons) those
@@ -46,9 +47,12 @@ squared : (n : ℕ) → 0 < n → 0 < n * n * 12
 squared zero h = absurd (omega arith)
 squared (suc n) h = omega arith
 
+square-few : (n : ℕ) → n ≤ 2 ^ 12 → n * n * 12 ≤ 2 ^ 28
+square-few n h = omega (arith, mul-le-mul h h)
+
 -- from the count of its edges and the three sums
-pub vertex-point : (polygons : List Polygon) (values faces : List ℤ) (v : ℕ) (ends around : List ℕ) (count : ℕ) (own of_ends of_faces : ℤ) (point : Frac) → IsSmall (length values) polygons → faces ≡ all_twelfths values polygons → ends ≡ map (other_end v) (edges_of_point polygons v) → around ≡ faces_of_point polygons v → count ≡ length ends → 0 < count → own ≡ get_or values v (pos 0) → of_ends ≡ sum_at values ends → of_faces ≡ sum_at faces around → point.num ≡ pos (count * (count - 2)) *ℤ (pos 12 *ℤ own) +ℤ (pos 12 *ℤ of_ends +ℤ of_faces) → point.den ≡ count * count * 12 → unsigned_abs point.num < 2 ^ 127 → IsPointOf polygons values point (vertex_mask (plain_level (length values) polygons) CatmullClark v)
-vertex-point polygons values faces v ends around count own of_ends of_faces point small means e f n some o a b num den kept =
+pub vertex-point : (polygons : List Polygon) (values faces : List ℤ) (v : ℕ) (ends around : List ℕ) (count : ℕ) (own of_ends of_faces : ℤ) (point : Frac) → IsSmall (length values) polygons → faces ≡ all_twelfths values polygons → ends ≡ map (other_end v) (edges_of_point polygons v) → around ≡ faces_of_point polygons v → count ≡ length ends → 0 < count → count ≤ 2 ^ 12 → own ≡ get_or values v (pos 0) → of_ends ≡ sum_at values ends → of_faces ≡ sum_at faces around → point.num ≡ pos (count * (count - 2)) *ℤ (pos 12 *ℤ own) +ℤ (pos 12 *ℤ of_ends +ℤ of_faces) → point.den ≡ count * count * 12 → unsigned_abs point.num < 2 ^ 127 → IsPointOf polygons values point (vertex_mask (plain_level (length values) polygons) CatmullClark v)
+vertex-point polygons values faces v ends around count own of_ends of_faces point small means e f n some few o a b num den kept =
     let P : Mask → Type 0 = λ mask. IsPointOf polygons values point mask in
     let counted : 0 < length ends = omega arith in
     subst P (sym (plain-vertex (length values) polygons v ends e counted))
@@ -58,7 +62,7 @@ vertex-point polygons values faces v ends around count own of_ends of_faces poin
     ∙ ap (λ m. pos (m * (m - 2)) *ℤ (pos 12 *ℤ own) +ℤ (pos 12 *ℤ of_ends +ℤ of_faces)) n
     ∙ ap (λ z. pos (length ends * (length ends - 2)) *ℤ (pos 12 *ℤ z) +ℤ (pos 12 *ℤ of_ends +ℤ of_faces)) o
     ∙ ap (λ z. pos (length ends * (length ends - 2)) *ℤ (pos 12 *ℤ get_or values v (pos 0)) +ℤ z) (sums polygons values faces ends around (faces_of_point polygons v) of_ends of_faces means f a b))
-    (den ∙ ap (λ m. m * m * 12) n) (squared (length ends) counted) kept)
+    (den ∙ ap (λ m. m * m * 12) n) (squared (length ends) counted) (square-few (length ends) (omega arith)) kept)
 
 -- from the sums of its ends and faces
 pub edge-point : (polygons : List Polygon) (values faces : List ℤ) (edge : ℕ × ℕ) (ends beside : List ℕ) (of_ends of_faces : ℤ) (point : Frac) → IsSmall (length values) polygons → faces ≡ all_twelfths values polygons → ends ≡ edge.0 ∷ edge.1 ∷ [] → beside ≡ faces_of_edge polygons edge → of_ends ≡ sum_at values ends → of_faces ≡ sum_at faces beside → point.num ≡ pos 12 *ℤ of_ends +ℤ of_faces → point.den ≡ 48 → unsigned_abs point.num < 2 ^ 127 → IsPointOf polygons values point (edge_mask (plain_level (length values) polygons) CatmullClark edge)
@@ -66,14 +70,14 @@ edge-point polygons values faces edge ends beside of_ends of_faces point small m
     point-of polygons values (smooth_edge_mask edge (faces_of_edge polygons edge)) 48 _ point
     (edge-point-over values polygons edge (faces_of_edge polygons edge) (sizes-of (length values) polygons small))
     (num ∙ sums polygons values faces (edge.0 ∷ edge.1 ∷ []) beside (faces_of_edge polygons edge) of_ends of_faces means f (a ∙ ap (sum_at values) e) b)
-    den (omega arith) kept
+    den (omega arith) (omega arith) kept
 
 -- from the mean of its corners over 12
 pub face-point : (polygons : List Polygon) (values faces : List ℤ) (f : ℕ) (point : Frac) → IsSmall (length values) polygons → faces ≡ all_twelfths values polygons → point.num ≡ get_or faces f (pos 0) → point.den ≡ 12 → unsigned_abs point.num < 2 ^ 127 → IsPointOf polygons values point (face_mask (plain_level (length values) polygons) f)
 face-point polygons values faces f point small means num den kept =
     point-of polygons values (face_mask (plain_level (length values) polygons) f) 12 _ point
     (face-point-over values polygons f (sizes-of (length values) polygons small))
-    (num ∙ ap (λ xs. get_or xs f (pos 0)) means) den (omega arith) kept
+    (num ∙ ap (λ xs. get_or xs f (pos 0)) means) den (omega arith) (omega arith) kept
 
 -- points behind points
 abbrev pub ArePointsOf : List Polygon → List ℤ → List Frac → List Mask → Type 0
@@ -107,6 +111,13 @@ points-kept polygons values [] [] h = All-nil CanBeLowest
 points-kept polygons values [] (m ∷ ms) h = absurd h
 points-kept polygons values (p ∷ ps) [] h = absurd h
 points-kept polygons values (p ∷ ps) (m ∷ ms) h = All-cons CanBeLowest p ps (h.0.positive, h.0.kept) (points-kept polygons values ps ms h.1)
+
+-- and leave room for a scale
+pub points-coarse : (polygons : List Polygon) (values : List ℤ) (ps : List Frac) (ms : List Mask) → ArePointsOf polygons values ps ms → All (λ f. f.den ≤ 2 ^ 28) ps
+points-coarse polygons values [] [] h = All-nil (λ (f : Frac). f.den ≤ 2 ^ 28)
+points-coarse polygons values [] (m ∷ ms) h = absurd h
+points-coarse polygons values (p ∷ ps) [] h = absurd h
+points-coarse polygons values (p ∷ ps) (m ∷ ms) h = All-cons (λ (f : Frac). f.den ≤ 2 ^ 28) p ps h.0.coarse (points-coarse polygons values ps ms h.1)
 
 -- one more point behind the others
 pub points-next : (polygons : List Polygon) (values : List ℤ) (ps next : List Frac) (ms more : List Mask) (p : Frac) (m : Mask) → ArePointsOf polygons values ps ms → next ≡ ps ++ p ∷ [] → more ≡ ms ++ m ∷ [] → IsPointOf polygons values p m → ArePointsOf polygons values next more

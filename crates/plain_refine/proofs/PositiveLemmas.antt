@@ -9,19 +9,15 @@ use Rattle.subdiv_model.specs.Mask.{SourcePoint, OfPoint, OfFace, Term, Mask, Ca
 use Rattle.subdiv_model.specs.Value.{Value, weighted, whole_value, sum_of_values, mask_value, point_value, corner_value, source_value, child_values}
 use Rattle.plain_refine.proofs.MaskSumLemmas.{whole-at}
 use Rattle.plain_refine.proofs.PlainMaskLemmas.{plain-vertex, plain-corner}
+use Rattle.subdiv_model.proofs.MultipleLemmas.{product-positive}
 
 abbrev pub IsPositive : Value → Type 0
 IsPositive x = 0 < x.den
 
-times-positive : (a b : ℕ) → 0 < a → 0 < b → 0 < a * b
-times-positive (suc a) (suc b) p q = omega arith
-times-positive zero b p q = absurd (omega arith)
-times-positive (suc a) zero p q = absurd (omega arith)
-
 sum-positive : (q : ℕ) (value : SourcePoint → Value) → 0 < q → ((source : SourcePoint) → IsPositive (value source)) → (terms : List Term) → IsPositive (sum_of_values (map (λ t. weighted t.weight q (value t.source)) terms))
 sum-positive q value above each [] = omega arith
 sum-positive q value above each (t ∷ terms) =
-    times-positive (q * (value t.source).den) _ (times-positive q (value t.source).den above (each t.source)) (sum-positive q value above each terms)
+    product-positive (q * (value t.source).den) _ (product-positive q (value t.source).den above (each t.source)) (sum-positive q value above each terms)
 
 -- a mask over a denominator above 0, or one of no corners
 corners-positive : (value : SourcePoint → Value) → ((source : SourcePoint) → IsPositive (value source)) → (corners : Polygon) → IsPositive (mask_value value (mask_of_corners corners))
@@ -49,7 +45,7 @@ module _ (points : ℕ) (polygons : List Polygon) (values : List ℤ) where
 
   smooth-positive : (v : ℕ) (ends faces : List ℕ) → 0 < length ends → HasPositive (smooth_vertex_mask v ends faces)
   smooth-positive v ends faces some =
-      sum-positive (length ends * length ends) value_at (times-positive (length ends) (length ends) some some) source-positive (smooth_vertex_mask v ends faces).terms
+      sum-positive (length ends * length ends) value_at (product-positive (length ends) (length ends) some some) source-positive (smooth_vertex_mask v ends faces).terms
 
   vertex-positive : (v : ℕ) → HasPositive (vertex_mask (plain_level points polygons) CatmullClark v)
   vertex-positive v = by-count (length (map (other_end v) (edges_of_point polygons v))) refl

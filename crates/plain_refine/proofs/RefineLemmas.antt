@@ -1,5 +1,5 @@
 -- The text of a plain mesh after one step, from the values of each coordinate and the child faces.
-use Rattle.std.proofs.Common.{◌≡◌, ℕ, zero, suc, ◌+◌, ◌*◌, ◌^◌, ◌<◌, ℤ, unsigned_abs, arith, refl, ap, sym, ◌∙◌, subst, Bool, false, not, List, [], ◌∷◌, ◌++◌, length, map, get_or, replicate, codes}
+use Rattle.std.proofs.Common.{◌≡◌, ℕ, zero, suc, ◌+◌, ◌^◌, ◌<◌, ℤ, unsigned_abs, arith, refl, ap, sym, ◌∙◌, subst, Bool, false, not, List, [], ◌∷◌, ◌++◌, length, map, get_or, replicate, codes}
 use Rattle.std.specs.List.{All, AllByRecursion, filter, flat_map, zip, enumerate_from}
 use Rattle.std.proofs.lemmas.List.{length-map}
 use Rattle.std.proofs.lemmas.List.Elements.{recursion_from_All, length_all_zip, All-same, All-map, All-weaker}
@@ -14,7 +14,8 @@ use Rattle.subdiv_model.specs.Text.{value_text, line_text, point_line, face_line
 use Rattle.subdiv_model.proofs.TextLemmas.{fraction_text-same}
 use Rattle.plain_refine.specs.Mesh.{IsShort, coordinates_of}
 use Rattle.plain_refine.specs.Values.{value_of, AreSameValues}
-use Rattle.plain_refine.proofs.ChildrenLemmas.{sides-length}
+use Rattle.plain_refine.proofs.InsideLemmas.{length-sides}
+use Rattle.plain_refine.proofs.ScaleLemmas.{product-positive, tens-positive}
 use Rattle.plain_refine.proofs.PositiveLemmas.{IsPositive, positive-children}
 
 -- no face of a plain level is a hole
@@ -43,7 +44,7 @@ shown-from points polygons (p ∷ rest) place count =
     let children = flat_map (λ (face : ℕ × Polygon). child_faces points polygons face.0 face.1) (enumerate_from (place + 1) rest) in
     let holes = flat_map (λ (face : ℕ × Polygon). replicate (length face.1) (get_or (replicate count false) face.0 false)) (enumerate_from (place + 1) rest) in
     ap (λ b. shown (child_faces points polygons place p ++ children) (replicate (length p) b ++ holes)) (no-hole count place)
-    ∙ shown-behind (child_faces points polygons place p) children holes (length p) (length-along points polygons place _ (sides_of p) ∙ sides-length p)
+    ∙ shown-behind (child_faces points polygons place p) children holes (length p) (length-along points polygons place _ (sides_of p) ∙ length-sides p)
     ∙ ap (λ ps. child_faces points polygons place p ++ ps) (shown-from points polygons rest (place + 1) count)
 
 -- all child faces of a plain level are shown
@@ -51,14 +52,18 @@ shown-children : (points : ℕ) (polygons : List Polygon) → shown_polygons (ch
 shown-children points polygons = shown-from points polygons polygons 0 (length polygons)
 
 -- equal values have one text
-texts-same : (xs ys : List Value) → AreSameValues xs ys → AllByRecursion IsPositive xs → AllByRecursion IsPositive ys → map value_text xs ≡ map value_text (map (at_scale 0) ys)
+texts-same : (xs ys : List Value) → AreSameValues xs ys → AllByRecursion IsPositive xs → AllByRecursion IsPositive ys → map value_text xs ≡ map value_text ys
 texts-same [] [] same px py = refl
 texts-same [] (y ∷ ys) same px py = absurd same
 texts-same (x ∷ xs) [] same px py = absurd same
 texts-same (x ∷ xs) (y ∷ ys) same px py =
-    let scaled : y.den ≡ y.den * 10 ^ 0 = omega arith in
-    ap (λ t. t ∷ map value_text xs) (fraction_text-same x.num y.num x.den y.den px.0 py.0 same.0 ∙ ap (λ d. value_text (record { num = y.num; den = d })) scaled)
-    ∙ ap (λ ts. value_text (at_scale 0 y) ∷ ts) (texts-same xs ys same.1 px.1 py.1)
+    ap (λ t. t ∷ map value_text xs) (fraction_text-same x.num y.num x.den y.den px.0 py.0 same.0)
+    ∙ ap (λ ts. value_text y ∷ ts) (texts-same xs ys same.1 px.1 py.1)
+
+-- a value above any denominator stays so at a scale
+positive-at_scale : (scale : ℕ) (ys : List Value) → AllByRecursion IsPositive ys → AllByRecursion IsPositive (map (at_scale scale) ys)
+positive-at_scale scale [] h = tt
+positive-at_scale scale (y ∷ ys) h = (product-positive y.den (10 ^ scale) h.0 (tens-positive scale), positive-at_scale scale ys h.1)
 
 -- a point's line, from the texts of its coordinates
 abbrev words_line : List ℕ × List ℕ × List ℕ → List ℕ
@@ -89,26 +94,27 @@ shorts-of points values pick short each e =
     (All-map IsShort pick points (All-weaker (λ p. IsShort p.x × IsShort p.y × IsShort p.z) (λ p. IsShort (pick p)) each points short))
 
 -- the fractions of one coordinate after one step: as many as the masks, with the texts of the values
-pub record IsRefined (points : ℕ) (polygons : List Polygon) (controls : List ℤ) (children : List Frac) : Type 0 where
+pub record IsRefined (scale points : ℕ) (polygons : List Polygon) (controls : List ℤ) (children : List Frac) : Type 0 where
   pub count : length children ≡ length (child_masks (plain_level points polygons) CatmullClark)
-  pub texts : map value_text (map value_of children) ≡ map value_text (refined_coordinates (plain_level points polygons) CatmullClark 0 controls 1)
+  pub texts : map value_text (map value_of children) ≡ map value_text (refined_coordinates (plain_level points polygons) CatmullClark scale controls 1)
 
 values-positive : (children : List Frac) → AllByRecursion (λ f. (0 < f.den) × (unsigned_abs f.num < 2 ^ 127)) children → AllByRecursion IsPositive (map value_of children)
 values-positive [] h = tt
 values-positive (f ∷ children) h = (h.0.0, values-positive children h.1)
 
-refined-at : (points : ℕ) (polygons : List Polygon) (controls : List ℤ) (children : List Frac) → AreSameValues (map value_of children) (child_values (plain_level points polygons) CatmullClark (map whole_value controls)) → All (λ f. (0 < f.den) × (unsigned_abs f.num < 2 ^ 127)) children → IsRefined points polygons controls children
-refined-at points polygons controls children same kept =
+refined-at : (scale points : ℕ) (polygons : List Polygon) (controls : List ℤ) (children : List Frac) → AreSameValues (map value_of children) (refined_coordinates (plain_level points polygons) CatmullClark scale controls 1) → All (λ f. (0 < f.den) × (unsigned_abs f.num < 2 ^ 127)) children → IsRefined scale points polygons controls children
+refined-at scale points polygons controls children same kept =
     let level = plain_level points polygons in
     let next = child_values level CatmullClark (map whole_value controls) in
     record {
       count =
           sym (length-map children value_of)
-          ∙ length_all_zip IsSameValue (map value_of children) next same
+          ∙ length_all_zip IsSameValue (map value_of children) (map (at_scale scale) next) same
+          ∙ length-map next (at_scale scale)
           ∙ length-map (child_masks level CatmullClark) (mask_value (source_value level (map whole_value controls)));
       texts =
-          texts-same (map value_of children) next same (values-positive children (recursion_from_All (λ f. (0 < f.den) × (unsigned_abs f.num < 2 ^ 127)) children kept))
-          (recursion_from_All IsPositive next (positive-children points polygons controls));
+          texts-same (map value_of children) (map (at_scale scale) next) same (values-positive children (recursion_from_All (λ f. (0 < f.den) × (unsigned_abs f.num < 2 ^ 127)) children kept))
+          (positive-at_scale scale next (recursion_from_All IsPositive next (positive-children points polygons controls)));
     }
 
 -- a coordinate of the points, as the model picks it
@@ -117,23 +123,23 @@ picked [] pick = refl
 picked (p ∷ points) pick = ap (λ zs. pick (p.x, p.y, p.z) ∷ zs) (picked points pick)
 
 -- the same, from the values of a coordinate of the points
-pub refined-by : (points : List Point3) (polygons : List Polygon) (pick : ℤ × ℤ × ℤ → ℤ) (values : List ℤ) (children kept_children : List Frac) → values ≡ map (λ p. pick (p.x, p.y, p.z)) points → children ≡ kept_children → AreSameValues (map value_of kept_children) (child_values (plain_level (length values) polygons) CatmullClark (map whole_value values)) → All (λ f. (0 < f.den) × (unsigned_abs f.num < 2 ^ 127)) kept_children → IsRefined (length points) polygons (map pick (coordinates_of points)) children
-refined-by points polygons pick values children kept_children e f same kept =
+pub refined-by : (scale : ℕ) (points : List Point3) (polygons : List Polygon) (pick : ℤ × ℤ × ℤ → ℤ) (values : List ℤ) (children kept_children : List Frac) → values ≡ map (λ p. pick (p.x, p.y, p.z)) points → children ≡ kept_children → AreSameValues (map value_of kept_children) (refined_coordinates (plain_level (length values) polygons) CatmullClark scale values 1) → All (λ f. (0 < f.den) × (unsigned_abs f.num < 2 ^ 127)) kept_children → IsRefined scale (length points) polygons (map pick (coordinates_of points)) children
+refined-by scale points polygons pick values children kept_children e f same kept =
     let controls = map pick (coordinates_of points) in
     let as_picked : values ≡ controls = e ∙ picked points pick in
     let count : length values ≡ length points = ap length e ∙ length-map points (λ p. pick (p.x, p.y, p.z)) in
-    let P : ℕ → Type 0 = λ n. AreSameValues (map value_of kept_children) (child_values (plain_level n polygons) CatmullClark (map whole_value values)) in
-    let Q : List ℤ → Type 0 = λ zs. AreSameValues (map value_of kept_children) (child_values (plain_level (length points) polygons) CatmullClark (map whole_value zs)) in
-    let R : List Frac → Type 0 = λ fs. IsRefined (length points) polygons controls fs in
-    subst R (sym f) (refined-at (length points) polygons controls kept_children (subst Q as_picked (subst P count same)) kept)
+    let P : ℕ → Type 0 = λ n. AreSameValues (map value_of kept_children) (refined_coordinates (plain_level n polygons) CatmullClark scale values 1) in
+    let Q : List ℤ → Type 0 = λ zs. AreSameValues (map value_of kept_children) (refined_coordinates (plain_level (length points) polygons) CatmullClark scale zs 1) in
+    let R : List Frac → Type 0 = λ fs. IsRefined scale (length points) polygons controls fs in
+    subst R (sym f) (refined-at scale (length points) polygons controls kept_children (subst Q as_picked (subst P count same)) kept)
 
 -- the lines of the points after one step
-pub lines-of : (points : ℕ) (polygons : List Polygon) (controls : List (ℤ × ℤ × ℤ)) (xs ys zs : List Frac) → IsRefined points polygons (map (λ p. p.0) controls) xs → IsRefined points polygons (map (λ p. p.1) controls) ys → IsRefined points polygons (map (λ p. p.2) controls) zs → flat_map point_line (points_of_coordinates (map value_of xs) (map value_of ys) (map value_of zs)) ≡ flat_map point_line (refined_points (plain_level points polygons) CatmullClark 0 controls 1)
-lines-of points polygons controls xs ys zs x y z =
+pub lines-of : (scale points : ℕ) (polygons : List Polygon) (controls : List (ℤ × ℤ × ℤ)) (xs ys zs : List Frac) → IsRefined scale points polygons (map (λ p. p.0) controls) xs → IsRefined scale points polygons (map (λ p. p.1) controls) ys → IsRefined scale points polygons (map (λ p. p.2) controls) zs → flat_map point_line (points_of_coordinates (map value_of xs) (map value_of ys) (map value_of zs)) ≡ flat_map point_line (refined_points (plain_level points polygons) CatmullClark scale controls 1)
+lines-of scale points polygons controls xs ys zs x y z =
     lines-same (map value_of xs) (map value_of ys) (map value_of zs) _ _ _ x.texts y.texts z.texts
 
 -- the lines of the points, and then of the faces
-pub text-of : (points : ℕ) (polygons children : List Polygon) (controls : List (ℤ × ℤ × ℤ)) (lines text : List ℕ) → lines ≡ flat_map point_line (refined_points (plain_level points polygons) CatmullClark 0 controls 1) → text ≡ lines ++ flat_map face_line children → children ≡ child_polygons points polygons → text ≡ refined_text (plain_level points polygons) CatmullClark 0 controls 1
-text-of points polygons children controls lines text e f g =
-    let new_points = refined_points (plain_level points polygons) CatmullClark 0 controls 1 in
+pub text-of : (scale points : ℕ) (polygons children : List Polygon) (controls : List (ℤ × ℤ × ℤ)) (lines text : List ℕ) → lines ≡ flat_map point_line (refined_points (plain_level points polygons) CatmullClark scale controls 1) → text ≡ lines ++ flat_map face_line children → children ≡ child_polygons points polygons → text ≡ refined_text (plain_level points polygons) CatmullClark scale controls 1
+text-of scale points polygons children controls lines text e f g =
+    let new_points = refined_points (plain_level points polygons) CatmullClark scale controls 1 in
     f ∙ ap (λ t. t ++ flat_map face_line children) e ∙ ap (λ ps. flat_map point_line new_points ++ flat_map face_line ps) (g ∙ sym (shown-children points polygons))

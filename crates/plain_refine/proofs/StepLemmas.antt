@@ -1,5 +1,5 @@
 -- One more place, face or point of a loop, as the code has it.
-use Rattle.std.proofs.Common.{◌≡◌, ℕ, ◌+◌, ◌^◌, ◌<◌, ℤ, pos, unsigned_abs, arith, ap, sym, ◌∙◌, subst, List, [], ◌∷◌, ◌++◌, length, take, get_or, to_z, of_z, Vec, Bool, false, nat_eq}
+use Rattle.std.proofs.Common.{◌≡◌, ℕ, ◌+◌, ◌^◌, ◌<◌, ◌≤◌, ℤ, pos, unsigned_abs, arith, ap, sym, ◌∙◌, subst, List, [], ◌∷◌, ◌++◌, length, take, get_or, to_z, of_z, Vec, Bool, false, nat_eq}
 use Rattle.std.specs.Global.{Global}
 use Rattle.std.specs.Int.{w128}
 use Rattle.std.specs.List.{All}
@@ -22,7 +22,7 @@ number-itself numbers i inside short = let here : unsigned_abs (get_or numbers i
 
 -- a short number fits 64 bits
 pub shorts : (values : List ℤ) → All IsShort values → All (λ z. unsigned_abs z < 2 ^ 64) values
-shorts values short k d inside = let here : unsigned_abs (get_or values k d) < 10 ^ 18 = short k d inside in omega arith
+shorts values short k d inside = let here : unsigned_abs (get_or values k d) ≤ 10 ^ 18 = short k d inside in omega arith
 
 -- the corners of a polygon of the list
 pub corners-at : (P : Polygon → Type 0) (polygons : List (Vec ℕ Global)) (i : ℕ) (p : Vec ℕ Global) (corners : List ℕ) → i < length polygons → All P (corners_of polygons) → p ≡ get_or polygons i p → corners ≡ p.items → P corners

@@ -1,6 +1,6 @@
 -- The values of one coordinate after one step of a plain mesh, as fractions of whole numbers.
 -- Source: Catmull and Clark 1978; fractions over 12 are this profile's.
-use Rattle.std.specs.Prelude.{ℕ, ◌/◌, ◌^◌, ◌<◌, ◌≡◌, ℤ, pos, ◌+ℤ◌, ◌*ℤ◌, unsigned_abs, List, [], ◌∷◌, length, map, get_or}
+use Rattle.std.specs.Prelude.{ℕ, ◌*◌, ◌/◌, ◌^◌, ◌<◌, ◌≤◌, ◌≡◌, ℤ, pos, ◌+ℤ◌, ◌*ℤ◌, unsigned_abs, List, [], ◌∷◌, length, map, get_or}
 use Rattle.std.specs.List.{All, AllZip}
 use Rattle.ratio128.specs.declared.divisor.Frac.{Frac}
 use Rattle.subdiv_model.specs.Polygons.{Polygon}
@@ -12,6 +12,10 @@ use Rattle.plain_refine.specs.Mesh.{IsShort, IsSmall}
 
 abbrev pub value_of : Frac → Value
 value_of f = record { num = f.num; den = f.den }
+
+-- the fraction over so many times its denominator
+abbrev pub over : ℕ → Frac → Frac
+over times f = record { num = f.num; den = f.den * times }
 
 -- as many values in each list, equal place by place
 abbrev pub AreSameValues : List Value → List Value → Type 0
@@ -47,3 +51,5 @@ pub record IsPointOf (polygons : List Polygon) (values : List ℤ) (point : Frac
   pub same : IsSameValue (value_of point) (plain_value polygons values mask)
   pub positive : 0 < point.den
   pub kept : unsigned_abs point.num < 2 ^ 127
+  -- which leaves room for a scale
+  pub coarse : point.den ≤ 2 ^ 28

@@ -1,14 +1,14 @@
 //! One Catmull-Clark step of a plain closed mesh, by scanning lists: the slow, plain program that
 //! faster bodies are compared with.
 //!
-//! A plain mesh has at most 1,024 points with whole coordinates of at most 18 digits, and at most
-//! 1,024 faces of three or four corners, with no sharpness, holes or texture.
+//! A plain mesh has at most 1,024 points, whose coordinates are whole numbers of at most 10^18 in amount
+//! over a power of ten up to 10^18, and at most 1,024 faces of three or four corners, with no sharpness,
+//! holes or texture.
 #![tactic(auto)]
 
 mod children;
 mod edges;
 mod manifold;
-mod mesh;
 mod refine;
 #[cfg(test)]
 mod tests;
@@ -20,5 +20,4 @@ mod value_tests;
 mod values;
 
 pub use manifold::is_closed_manifold;
-pub use mesh::PlainMesh;
 pub use refine::write_refined;

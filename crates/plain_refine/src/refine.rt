@@ -12,7 +12,7 @@ ghost use Rattle.plain_refine.specs.Mesh.{coordinates_of, corners_of, IsShort, I
 use crate::children::child_polygons;
 use crate::edges::edges_of_polygons;
 use crate::text::{put_faces, put_points};
-use crate::values::child_values;
+use crate::values::refined_coordinate;
 use ratio128::{Memory, Point3};
 use std::alloc::Global;
 
@@ -44,16 +44,18 @@ fn put_refined_points(
     points: &[Point3],
     polygons: &[Vec<u32>],
     edges: &[(u32, u32)],
+    scale: u32,
 ) -> Result<(), Memory>
     requires short { All (λ p. IsShort p.x × IsShort p.y × IsShort p.z) points.now }
     requires small { IsSmall (length points.now) (corners_of polygons.now) }
     requires edges { edges.now ≡ edges_of (corners_of polygons.now) }
-    ensures { OnOk result (text.new.items ≡ text.old.items ++ flat_map point_line (refined_points (plain_level (length points.now) (corners_of polygons.now)) CatmullClark 0 (coordinates_of points.now) 1)) }
+    requires scale { scale ≤ 18 }
+    ensures { OnOk result (text.new.items ≡ text.old.items ++ flat_map point_line (refined_points (plain_level (length points.now) (corners_of polygons.now)) CatmullClark scale (coordinates_of points.now) 1)) }
 {
     let old = take_apart(alloc, points)?;
-    let xs = child_values(alloc, polygons, edges, &old.xs)?;
-    let ys = child_values(alloc, polygons, edges, &old.ys)?;
-    let zs = child_values(alloc, polygons, edges, &old.zs)?;
+    let xs = refined_coordinate(alloc, polygons, edges, &old.xs, scale)?;
+    let ys = refined_coordinate(alloc, polygons, edges, &old.ys, scale)?;
+    let zs = refined_coordinate(alloc, polygons, edges, &old.zs, scale)?;
     put_points(text, &xs, &ys, &zs)
 }
 
@@ -61,7 +63,8 @@ fn put_refined_points(
 /// coordinate a fraction in lowest terms, and then a line `f A B C D` for each face, with its
 /// corners counted from 1.
 ///
-/// The polygons name their corners counted from 0. The new points are those of the points, then of
+/// The points are whole numbers over ten to the `scale`, which is at most 18, each at most 10^18 in
+/// amount. The polygons name their corners counted from 0. The new points are those of the points, then of
 /// the faces, then of the edges by first appearance; the new faces go by face and then by corner.
 /// The one error is want of memory.
 ///
@@ -69,16 +72,18 @@ fn put_refined_points(
 pub fn write_refined(
     alloc: Global,
     points: &[Point3],
+    scale: u32,
     polygons: &[Vec<u32>],
 ) -> Result<Vec<u8>, Memory>
     requires short { All (λ p. IsShort p.x × IsShort p.y × IsShort p.z) points.now }
     requires small { IsSmall (length points.now) (corners_of polygons.now) }
-    ensures { IfOk result (λ text. text.items ≡ refined_text (plain_level (length points.now) (corners_of polygons.now)) CatmullClark 0 (coordinates_of points.now) 1) }
+    requires scale { scale ≤ 18 }
+    ensures { IfOk result (λ text. text.items ≡ refined_text (plain_level (length points.now) (corners_of polygons.now)) CatmullClark scale (coordinates_of points.now) 1) }
 {
     let edges = edges_of_polygons(alloc, polygons)?;
     let children = child_polygons(alloc, points.len(), polygons, &edges)?;
     let mut text = Vec::new(alloc);
-    put_refined_points(alloc, &mut text, points, polygons, &edges)?;
+    put_refined_points(alloc, &mut text, points, polygons, &edges, scale)?;
     put_faces(&mut text, &children)?;
     Ok(text)
 }

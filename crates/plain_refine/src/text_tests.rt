@@ -41,7 +41,7 @@ const LIMIT: u128 = 1_000_000_000_000_000_000;
 fn is_short(p: Point3) -> bool
     ensures { IsTrue result → IsShort p.x × IsShort p.y × IsShort p.z }
 {
-    p.x.unsigned_abs() < LIMIT && p.y.unsigned_abs() < LIMIT && p.z.unsigned_abs() < LIMIT
+    p.x.unsigned_abs() <= LIMIT && p.y.unsigned_abs() <= LIMIT && p.z.unsigned_abs() <= LIMIT
 }
 
 fn are_short(points: &[Point3]) -> bool
@@ -60,12 +60,14 @@ fn has_text(
     rt: &impl Abort,
     alloc: Global,
     points: &[Point3],
+    scale: u32,
     polygons: &[Vec<u32>],
     text: &str,
 ) -> Result<bool, Fail> {
     assert!(rt; are_short(points));
     assert!(rt; is_small(points.len(), polygons));
-    Ok(write_refined(alloc, points, polygons)?.as_slice() == text.as_bytes())
+    assert!(rt; scale <= 18);
+    Ok(write_refined(alloc, points, scale, polygons)?.as_slice() == text.as_bytes())
 }
 
 fn point(x: i128, y: i128, z: i128) -> Point3 {
@@ -78,7 +80,7 @@ fn writes_two_triangles_back_to_back(rt: HostRuntime) -> Result<(), Fail> {
     let polygons = triangles(rt.alloc(), &[[0, 1, 2], [0, 2, 1]])?;
     let text = "v 5 5 0\nv 2 5 0\nv 5 2 0\nv 4 4 0\nv 4 4 0\nv 5 2 0\nv 5 5 0\nv 2 5 0\n\
         f 1 6 4 8\nf 2 7 4 6\nf 3 8 4 7\nf 1 8 5 6\nf 3 7 5 8\nf 2 6 5 7\n";
-    assert!(rt; has_text(&rt, rt.alloc(), &points, &polygons, text)?);
+    assert!(rt; has_text(&rt, rt.alloc(), &points, 0, &polygons, text)?);
     Ok(())
 }
 
@@ -95,15 +97,26 @@ fn writes_a_cube(rt: HostRuntime) -> Result<(), Fail> {
         point(1, -1, -1),
     ];
     let polygons = quads(rt.alloc(), &CUBE)?;
-    assert!(rt; has_text(&rt, rt.alloc(), &points, &polygons, REFINED_CUBE)?);
+    assert!(rt; has_text(&rt, rt.alloc(), &points, 0, &polygons, REFINED_CUBE)?);
     Ok(())
 }
 
 #[test]
 fn writes_the_longest_coordinates(rt: HostRuntime) -> Result<(), Fail> {
-    let limit = 999_999_999_999_999_999;
+    let limit = 1_000_000_000_000_000_000;
     let points = [point(limit, -limit, 1 - limit)];
-    let text = "v 999999999999999999 -999999999999999999 -999999999999999998\n";
-    assert!(rt; has_text(&rt, rt.alloc(), &points, &[], text)?);
+    let text = "v 1000000000000000000 -1000000000000000000 -999999999999999999\n";
+    assert!(rt; has_text(&rt, rt.alloc(), &points, 0, &[], text)?);
+    Ok(())
+}
+
+#[test]
+fn writes_points_at_a_scale(rt: HostRuntime) -> Result<(), Fail> {
+    let points = [point(5, -10, 1), point(0, 120, -3)];
+    let text = "v 1/2 -1 1/10\nv 0 12 -3/10\n";
+    assert!(rt; has_text(&rt, rt.alloc(), &points, 1, &[], text)?);
+    let text =
+        "v 1/200000000000000000 -1/100000000000000000 1/1000000000000000000\nv 0 3/25000000000000000 -3/1000000000000000000\n";
+    assert!(rt; has_text(&rt, rt.alloc(), &points, 18, &[], text)?);
     Ok(())
 }

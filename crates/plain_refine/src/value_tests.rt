@@ -14,7 +14,7 @@ fn are_short(values: &[i128]) -> bool
     ensures { IsTrue result → All IsShort values.now }
 {
     for value in values {
-        if value.unsigned_abs() >= 1_000_000_000_000_000_000 {
+        if value.unsigned_abs() > 1_000_000_000_000_000_000 {
             return false;
         }
     }
@@ -74,7 +74,7 @@ fn refines_the_values_of_two_triangles(rt: HostRuntime) -> Result<(), Fail> {
 #[test]
 fn keeps_a_point_without_edges(rt: HostRuntime) -> Result<(), Fail> {
     let polygons = triangles(rt.alloc(), &[[0, 1, 2], [2, 1, 0]])?;
-    let x = 999_999_999_999_999_999;
+    let x = 1_000_000_000_000_000_000;
     let values = [x, x, x, -x];
     let parts = [x, x, x, -x, x, x, x, x, x];
     assert!(rt; has_children(&rt, rt.alloc(), &polygons, &values, &parts, 1)?);

@@ -9,9 +9,9 @@ ghost use Rattle.std.specs.List.{All, AllZip, range_with_len};
 ghost use Rattle.subdiv_model.specs.Edges.{edges_of};
 ghost use Rattle.subdiv_model.specs.Level.{plain_level};
 ghost use Rattle.subdiv_model.specs.Mask.{CatmullClark, vertex_mask, face_mask, edge_mask, smooth_edge_mask};
-ghost use Rattle.subdiv_model.specs.Value.{whole_value, child_values};
+ghost use Rattle.subdiv_model.specs.Value.{whole_value, child_values, refined_coordinates};
 ghost use Rattle.plain_refine.specs.Mesh.{IsShort, IsSmall, corners_of};
-ghost use Rattle.plain_refine.specs.Values.{value_of, AreSameValues, sum_at, twelfths, all_twelfths, IsCoordinate, IsPointOf};
+ghost use Rattle.plain_refine.specs.Values.{value_of, over, AreSameValues, sum_at, twelfths, all_twelfths, IsCoordinate, IsPointOf};
 
 use crate::edges::{ends_of_point, faces_of_edge, faces_of_point};
 use ratio128::{Frac, Memory};
@@ -222,10 +222,48 @@ pub(crate) fn child_values(
     requires edges { edges.now ≡ edges_of (corners_of polygons.now) }
     ensures values { IfOk result (λ children. AreSameValues (map value_of children.items) (child_values (plain_level (length values.now) (corners_of polygons.now)) CatmullClark (map whole_value values.now))) }
     ensures kept { IfOk result (λ children. All (λ f. (0 < f.den) × (unsigned_abs f.num < 2 ^ 127)) children.items) }
+    ensures coarse { IfOk result (λ children. All (λ f. f.den ≤ 2 ^ 28) children.items) }
 {
     let faces = all_twelfths(alloc, polygons, values)?;
     let mut children = vertex_points(alloc, polygons, edges, values, &faces)?;
     children.extend_from_slice(&face_points(alloc, polygons, values, &faces)?)?;
     children.extend_from_slice(&edge_points(alloc, polygons, edges, values, &faces)?)?;
     Ok(children)
+}
+
+// The fractions over so many times their denominators.
+fn all_over(alloc: Global, values: &[Frac], times: u128) -> Result<Vec<Frac>, Memory>
+    requires coarse { All (λ f. f.den ≤ 2 ^ 28) values.now }
+    requires times { times ≤ 10 ^ 18 }
+    ensures { IfOk result (λ scaled. scaled.items ≡ map (over times) values.now) }
+{
+    let mut scaled = Vec::new(alloc);
+    for value in values {
+        scaled.push(Frac {
+            num: value.num,
+            den: value.den * times,
+        })?;
+    }
+    Ok(scaled)
+}
+
+/// The values of all points after one step, of one coordinate that is given as whole numbers over ten
+/// to the scale. The order is that of `child_values`.
+pub(crate) fn refined_coordinate(
+    alloc: Global,
+    polygons: &[Vec<u32>],
+    edges: &[(u32, u32)],
+    values: &[i128],
+    scale: u32,
+) -> Result<Vec<Frac>, Memory>
+    requires short { All IsShort values.now }
+    requires small { IsSmall (length values.now) (corners_of polygons.now) }
+    requires edges { edges.now ≡ edges_of (corners_of polygons.now) }
+    requires scale { scale ≤ 18 }
+    ensures values { IfOk result (λ children. AreSameValues (map value_of children.items) (refined_coordinates (plain_level (length values.now) (corners_of polygons.now)) CatmullClark scale values.now 1)) }
+    ensures kept { IfOk result (λ children. All (λ f. (0 < f.den) × (unsigned_abs f.num < 2 ^ 127)) children.items) }
+{
+    let children = child_values(alloc, polygons, edges, values)?;
+    let scaled = all_over(alloc, &children, 10u128.pow(scale))?;
+    Ok(scaled)
 }

@@ -9,7 +9,7 @@ use Rattle.subdiv_model.specs.Polygons.{Polygon, same_side, same_edge, sides_of,
 use Rattle.subdiv_model.specs.Edges.{first_named, all_sides, edges_of, faces_of_edge, is_closed, reversed, times_used, goes_both_ways}
 use Rattle.subdiv_model.specs.Manifold.{is_simple}
 use Rattle.subdiv_model.proofs.CountLemmas.{count-agree}
-use Rattle.subdiv_model.proofs.SideLemmas.{same_side-refl, same_side-alike, same_edge-alike, no-side-back, distinct-count, edge-count}
+use Rattle.subdiv_model.proofs.SideLemmas.{same_side-refl, same_edge-alike, no-side-back, distinct-count, edge-count}
 use Rattle.subdiv_model.proofs.EdgeLemmas.{any-first_named, faces-count}
 
 -- what passes one test somewhere, and another everywhere
@@ -55,17 +55,11 @@ no-loop polygons a simple there =
     let back : has_side (a.1, a.0) (polygon_at polygons found.0) ≡ true = ap (λ (k : ℕ). has_side (k, a.0) (polygon_at polygons found.0)) (sym same) ∙ ap (λ (k : ℕ). has_side (a.0, k) (polygon_at polygons found.0)) same ∙ found.2 in
     no-side-back (polygon_at polygons found.0) a.0 a.1 one found.2 back)
 
-times-alike : (polygons : List Polygon) (a b : ℕ × ℕ) → same_side a b ≡ true → times_used polygons a ≡ times_used polygons b
-times-alike polygons a b h = count-agree (same_side a) (same_side b) (λ u. same_side-alike a b u h) (all_sides polygons)
-
 -- a test of each side that passes at its own place
 pub sides-pass : (q : ℕ × ℕ → Bool) (polygons : List Polygon) → ((a : ℕ × ℕ) → list_any (same_side a) (all_sides polygons) ≡ true → q a ≡ true) → list_all q (all_sides polygons) ≡ true
 sides-pass q polygons each =
     list_all-from_AllPass q (all_sides polygons) (λ k d h.
     each (get_or (all_sides polygons) k d) (list_any_at (same_side (get_or (all_sides polygons) k d)) (all_sides polygons) k d h (same_side-refl (get_or (all_sides polygons) k d))))
-
-side-edge : (a b : ℕ × ℕ) → same_side a b ≡ true → same_edge a b ≡ true
-side-edge a b h = grind (arith, nat_tests)
 
 pub any-side-edge : (a : ℕ × ℕ) (sides : List (ℕ × ℕ)) → list_any (same_side a) sides ≡ true → list_any (same_edge a) sides ≡ true
 any-side-edge a [] h = h

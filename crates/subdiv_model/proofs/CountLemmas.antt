@@ -2,13 +2,19 @@
 use Rattle.std.proofs.Common.{◌≡◌, ℕ, zero, suc, ◌+◌, ◌<◌, ◌≤◌, Bool, true, false, cond, ◌&&◌, nat_lt, List, [], ◌∷◌, ◌++◌, length, get_or, arith, refl, ap, sym, ◌∙◌}
 use Rattle.std.specs.List.{list_any, list_all, flat_map, sum_by, count_by}
 use Rattle.std.proofs.lemmas.Bool.Decides.{nat_tests}
-use Rattle.std.proofs.lemmas.Bool.{and_parts}
+use Rattle.std.proofs.lemmas.Bool.{and_parts, and_from}
 use Rattle.std.proofs.lemmas.List.Sums.{sum_by-cons, sum_by-append}
 use Rattle.std.proofs.lemmas.List.Folds.{list_all-append}
 
 -- 1 for a test that passes, and 0 for one that does not
 abbrev pub one_if : Bool → ℕ
 one_if b = cond b 1 0
+
+pub one-yes : (passes : Bool) → passes ≡ true → one_if passes ≡ 1
+one-yes passes e = rw e refl
+
+pub one-no : (passes : Bool) → passes ≡ false → one_if passes ≡ 0
+one-no passes e = rw e refl
 
 pub count-cons : {X : Type 0} (test : X → Bool) (x : X) (xs : List X) → count_by test (x ∷ xs) ≡ one_if (test x) + count_by test xs
 count-cons test x xs = sum_by-cons (λ y. one_if (test y)) x xs
@@ -63,11 +69,16 @@ sum-place f d (x ∷ xs) h = here (f x) refl (λ more. sum-place f d xs more)
         let found = behind more in
         (suc found.0, omega (arith, found.1), found.2)
 
-pub sum-flat_map : {X Y : Type 0} (f : Y → ℕ) (parts : X → List Y) (xs : List X) → sum_by f (flat_map parts xs) ≡ sum_by (λ x. sum_by f (parts x)) xs
-sum-flat_map f parts [] = refl
-sum-flat_map f parts (x ∷ xs) =
-    sum_by-append f (parts x) (flat_map parts xs) ∙ ap (λ n. sum_by f (parts x) + n) (sum-flat_map f parts xs) ∙ sym (sum_by-cons (λ y. sum_by f (parts y)) x xs)
-
 pub all-flat_map : {X Y : Type 0} (test : Y → Bool) (parts : X → List Y) (xs : List X) → list_all test (flat_map parts xs) ≡ list_all (λ x. list_all test (parts x)) xs
 all-flat_map test parts [] = refl
 all-flat_map test parts (x ∷ xs) = list_all-append test (parts x) (flat_map parts xs) ∙ ap (λ b. list_all test (parts x) && b) (all-flat_map test parts xs)
+
+-- what each has that passes one test, passes another
+pub all-weaker : {X : Type 0} (p q : X → Bool) → ((x : X) → p x ≡ true → q x ≡ true) → (xs : List X) → list_all p xs ≡ true → list_all q xs ≡ true
+all-weaker p q weaker [] h = refl
+all-weaker p q weaker (x ∷ xs) h =
+    let parts = and_parts (p x) (list_all p xs) h in and_from _ _ (weaker x parts.0) (all-weaker p q weaker xs parts.1)
+
+pub any-weaker : {X : Type 0} (p q : X → Bool) → ((x : X) → p x ≡ true → q x ≡ true) → (xs : List X) → list_any p xs ≡ true → list_any q xs ≡ true
+any-weaker p q weaker [] h = h
+any-weaker p q weaker (x ∷ xs) h = grind (arith, nat_tests, weaker x, any-weaker p q weaker xs)

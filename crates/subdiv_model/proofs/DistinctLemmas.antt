@@ -17,8 +17,10 @@ use Rattle.subdiv_model.specs.Mask.{Scheme, CatmullClark, Linear, SourcePoint, O
 use Rattle.subdiv_model.specs.Multiples.{lcm_of}
 use Rattle.subdiv_model.proofs.BlendLemmas.{are_distinct, distinct-once}
 use Rattle.subdiv_model.proofs.ClosedLemmas.{all-at, no-loop, sides-pass, first_named-all}
-use Rattle.subdiv_model.proofs.SourceLemmas.{all-imply, all-kept, all-range, all-append}
+use Rattle.subdiv_model.proofs.SourceLemmas.{all-kept, all-range, all-append}
 use Rattle.subdiv_model.proofs.SideLemmas.{distinct-places}
+use Rattle.subdiv_model.proofs.CountLemmas.{all-weaker}
+use Rattle.subdiv_model.proofs.FanLemmas.{places-before}
 
 -- a source that is not there is not among those kept
 source-kept : (keep : Term → Bool) (s : SourcePoint) (terms : List Term) → has_source terms s ≡ false → has_source (filter keep terms) s ≡ false
@@ -60,18 +62,11 @@ distinct-terms w u (v ∷ points) faces h k =
     let apart = list_any-append (λ (t : Term). same_source (OfPoint v) t.source) (weigh_points w points) (weigh_faces u faces) ∙ or_from _ _ (point-among w v points ∙ not-true _ parts.0) (point-no-face u v faces) in
     and_from _ _ (ap not apart) (distinct-terms w u points faces parts.1 k)
 
--- the places that pass are distinct, and lie in order below the end
-low-places : {X : Type 0} (test : X → Bool) (place n : ℕ) (xs : List X) → n < place → is_among (places_from place test xs) n ≡ false
-low-places test place n [] h = refl
-low-places test place n (x ∷ xs) h =
-    let rest = low-places test (place + 1) n xs (omega arith) in
-    cond_both (test x) (place ∷ places_from (place + 1) test xs) (places_from (place + 1) test xs) (λ ps. is_among ps n ≡ false) (λ _. or_from _ _ (ne_eqb n place (λ e. omega arith)) rest) (λ _. rest)
-
 pub distinct-places_from : {X : Type 0} (test : X → Bool) (place : ℕ) (xs : List X) → is_distinct (places_from place test xs) ≡ true
 distinct-places_from test place [] = refl
 distinct-places_from test place (x ∷ xs) =
     let rest = distinct-places_from test (place + 1) xs in
-    cond_both (test x) (place ∷ places_from (place + 1) test xs) (places_from (place + 1) test xs) (λ ps. is_distinct ps ≡ true) (λ _. and_from _ _ (ap not (low-places test (place + 1) place xs (omega arith))) rest) (λ _. rest)
+    cond_both (test x) (place ∷ places_from (place + 1) test xs) (places_from (place + 1) test xs) (λ ps. is_distinct ps ≡ true) (λ _. and_from _ _ (ap not (places-before test (place + 1) place xs (omega arith))) rest) (λ _. rest)
 
 -- edges of which no two are the same
 abbrev are_apart : List (ℕ × ℕ) → Bool
@@ -282,4 +277,4 @@ module _ (level : Level) (simple : list_all is_simple level.polygons ≡ true) w
       (list_all-map test (vertex_mask level scheme) (range_with_len 0 level.points) ∙ all-range (λ v. test (vertex_mask level scheme v)) 0 level.points (λ v low high. distinct-vertex_mask scheme v))
       (all-append test faces edges
       (list_all-map test (face_mask level) (range_with_len 0 (length level.polygons)) ∙ all-range (λ f. test (face_mask level f)) 0 (length level.polygons) (λ f low high. distinct-face_mask f (omega arith)))
-      (list_all-map test (edge_mask level scheme) (edges_of level.polygons) ∙ all-imply (λ e. not (nat_eq e.0 e.1)) (λ e. test (edge_mask level scheme e)) (λ e h. distinct-edge_mask scheme e h) (edges_of level.polygons) no-loops))
+      (list_all-map test (edge_mask level scheme) (edges_of level.polygons) ∙ all-weaker (λ e. not (nat_eq e.0 e.1)) (λ e. test (edge_mask level scheme e)) (λ e h. distinct-edge_mask scheme e h) (edges_of level.polygons) no-loops))

@@ -9,7 +9,8 @@ use Rattle.subdiv_model.specs.Manifold.{IsSuccessor, HasOneFan, is_simple}
 use Rattle.subdiv_model.specs.Child.{edge_point, face_point, child_polygons}
 use Rattle.subdiv_model.proofs.SideLemmas.{no-side-back, distinct-count}
 use Rattle.subdiv_model.proofs.ClosedLemmas.{all-at, any-here, any-place}
-use Rattle.subdiv_model.proofs.FanLemmas.{any-weaker, any-side, owner-unique, side-start, side-end}
+use Rattle.subdiv_model.proofs.CountLemmas.{any-weaker}
+use Rattle.subdiv_model.proofs.FanLemmas.{any-side, owner-unique, side-start, side-end}
 use Rattle.subdiv_model.proofs.ChildCountLemmas.{same-edge-point, corner-edge, face-edge}
 use Rattle.subdiv_model.proofs.ChildClosedLemmas.{back-point, same-pair}
 use Rattle.subdiv_model.proofs.ChildPlaceLemmas.{IsChildOf, child_at, all-of}

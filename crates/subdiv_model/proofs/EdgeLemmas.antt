@@ -12,7 +12,7 @@ use Rattle.subdiv_model.proofs.CountLemmas.{count-cons, count-append, count-none
 use Rattle.subdiv_model.proofs.SideLemmas.{same_edge-refl, same_edge-sym, same_edge-trans, same_edge-alike, polygon-edge-count}
 
 -- the sides that do not name t's edge name s's edge where s names another
-any-filter : (s t : ℕ × ℕ) (xs : List (ℕ × ℕ)) → list_any (same_edge s) (filter (λ x. not (same_edge t x)) xs) ≡ (if same_edge s t then false else list_any (same_edge s) xs)
+pub any-filter : (s t : ℕ × ℕ) (xs : List (ℕ × ℕ)) → list_any (same_edge s) (filter (λ x. not (same_edge t x)) xs) ≡ (if same_edge s t then false else list_any (same_edge s) xs)
 any-filter s t [] = grind (arith, nat_tests)
 any-filter s t (x ∷ xs) = grind (arith, nat_tests, any-filter s t xs, same_edge-trans s x t, same_edge-trans t s x, same_edge-sym s t, same_edge-sym x t)
 

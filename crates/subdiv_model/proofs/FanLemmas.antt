@@ -6,12 +6,12 @@ use Rattle.std.proofs.lemmas.Bool.{and_parts, and_from, eqb-true}
 use Rattle.subdiv_model.specs.Polygons.{Polygon, same_side, sides_of, has_side, has_corner, is_among, is_distinct, has_distinct_sides, polygon_at, places_from}
 use Rattle.subdiv_model.specs.Edges.{all_sides, faces_of_point}
 use Rattle.subdiv_model.specs.Manifold.{IsSuccessor, is_successor, is_simple}
-use Rattle.subdiv_model.proofs.CountLemmas.{count-append, count-some}
+use Rattle.subdiv_model.proofs.CountLemmas.{count-append, count-some, any-weaker}
 use Rattle.subdiv_model.proofs.SideLemmas.{same_side-refl, side-place, among-place, next-corner, distinct-places, distinct-count}
 use Rattle.subdiv_model.proofs.ClosedLemmas.{any-here}
 
 -- the places of what passes
-places-before : {X : Type 0} (test : X → Bool) (place n : ℕ) (xs : List X) → n < place → is_among (places_from place test xs) n ≡ false
+pub places-before : {X : Type 0} (test : X → Bool) (place n : ℕ) (xs : List X) → n < place → is_among (places_from place test xs) n ≡ false
 places-before test place n [] h = refl
 places-before test place n (x ∷ xs) h = let behind = places-before test (place + 1) n xs (omega arith) in grind (arith, nat_tests)
 
@@ -27,10 +27,6 @@ pub faces-among : (polygons : List Polygon) (v face : ℕ) → is_among (faces_o
 faces-among polygons v face =
     let e : face ≡ 0 + face = omega arith in
     ap (is_among (faces_of_point polygons v)) e ∙ places-at (has_corner v) [] refl 0 face polygons
-
-pub any-weaker : {X : Type 0} (p q : X → Bool) → ((x : X) → p x ≡ true → q x ≡ true) → (xs : List X) → list_any p xs ≡ true → list_any q xs ≡ true
-any-weaker p q weaker [] h = h
-any-weaker p q weaker (x ∷ xs) h = grind (arith, nat_tests, weaker x, any-weaker p q weaker xs)
 
 -- a side that passes
 pub any-side : (p : ℕ × ℕ → Bool) (sides : List (ℕ × ℕ)) → list_any p sides ≡ true → (s : ℕ × ℕ) × (p s ≡ true) × (list_any (same_side s) sides ≡ true)

@@ -8,7 +8,7 @@ use Rattle.subdiv_model.specs.Polygons.{Polygon, same_side, same_edge, is_distin
 use Rattle.subdiv_model.specs.Edges.{all_sides, edges_of, faces_of_edge, times_used, reversed}
 use Rattle.subdiv_model.specs.Manifold.{is_simple, has_one_fan, is_manifold}
 use Rattle.subdiv_model.specs.MeshFault.{FaceTooSmall, RepeatedVertex, NonManifoldEdge, WindingClash, SplitVertex, small_faces, repeating_faces, crowded_edges, clashing_edges, split_vertices, is_crowded, is_clashing, mesh_faults, first_of, first_mesh_fault}
-use Rattle.subdiv_model.proofs.CountLemmas.{count-none, count-some, count-agree}
+use Rattle.subdiv_model.proofs.CountLemmas.{count-none, count-some, count-agree, all-weaker}
 use Rattle.subdiv_model.proofs.SideLemmas.{same_side-alike, same_edge-refl, distinct-count, distinct-from_count, edge-count-le}
 use Rattle.subdiv_model.proofs.EdgeLemmas.{any-first_named, faces-count}
 use Rattle.subdiv_model.proofs.ClosedLemmas.{any-all, any-side-edge}
@@ -52,12 +52,6 @@ none-filter test (x ∷ xs) h = go (test x) refl (λ k. none-filter test xs k)
     go : (b : Bool) → test x ≡ b → (filter test xs ≡ [] → list_all (λ y. not (test y)) xs ≡ true) → list_all (λ y. not (test y)) (x ∷ xs) ≡ true
     go true e behind = let some : x ∷ filter test xs ≡ [] = rw e at h in absurd (cc)
     go false e behind = and_from _ _ (ap not e) (behind (rw e at h))
-
-all-weaker : {X : Type 0} (p q : X → Bool) → ((x : X) → p x ≡ true → q x ≡ true) → (xs : List X) → list_all p xs ≡ true → list_all q xs ≡ true
-all-weaker p q weaker [] h = refl
-all-weaker p q weaker (x ∷ xs) h =
-    let parts = and_parts (p x) (list_all p xs) h in
-    and_from _ _ (weaker x parts.0) (all-weaker p q weaker xs parts.1)
 
 all-always : {X : Type 0} (p : X → Bool) → ((x : X) → p x ≡ true) → (xs : List X) → list_all p xs ≡ true
 all-always p each [] = refl

@@ -13,10 +13,10 @@ fault_of cause_at i = option_map (λ cause. record { line = suc i; cause = cause
 abbrev pub first_from : (ℕ → Option ObjCause) → ℕ → ℕ → Option ObjFault
 first_from cause_at start count = first_of (filter_map (fault_of cause_at) (range_with_len start count))
 
-good-first : (cause_at : ℕ → Option ObjCause) (start count : ℕ) → cause_at start ≡ None → first_from cause_at start (suc count) ≡ first_from cause_at (start + 1) count
+pub good-first : (cause_at : ℕ → Option ObjCause) (start count : ℕ) → cause_at start ≡ None → first_from cause_at start (suc count) ≡ first_from cause_at (start + 1) count
 good-first cause_at start count good = rw good refl
 
-bad-first : (cause_at : ℕ → Option ObjCause) (start count : ℕ) (cause : ObjCause) → cause_at start ≡ Some cause → first_from cause_at start (suc count) ≡ Some (record { line = suc start; cause = cause })
+pub bad-first : (cause_at : ℕ → Option ObjCause) (start count : ℕ) (cause : ObjCause) → cause_at start ≡ Some cause → first_from cause_at start (suc count) ≡ Some (record { line = suc start; cause = cause })
 bad-first cause_at start count cause bad = rw bad refl
 
 least-from : (cause_at : ℕ → Option ObjCause) (start count n : ℕ) (cause : ObjCause) → start ≤ n → n < start + count → ((k : ℕ) → start ≤ k → k < n → cause_at k ≡ None) → cause_at n ≡ Some cause → first_from cause_at start count ≡ Some (record { line = suc n; cause = cause })

@@ -1,7 +1,7 @@
 -- The least number below a bound that passes a test, as `find` over the numbers gives it.
-use Rattle.std.proofs.Common.{◌≡◌, ℕ, zero, suc, ◌+◌, ◌<◌, ◌≤◌, Bool, true, false, cond, List, [], ◌∷◌, length, get_or, Option, Some, None, arith, refl, ap, sym, ◌∙◌, inl, inr, zero-add}
+use Rattle.std.proofs.Common.{◌≡◌, ℕ, zero, suc, ◌+◌, ◌<◌, ◌≤◌, Bool, true, false, cond, List, [], ◌∷◌, length, get_or, Option, Some, None, arith, refl, ap, sym, ◌∙◌, zero-add}
 use Rattle.std.specs.List.{find, range_with_len}
-use Rattle.std.proofs.lemmas.Bool.{cases_eq, cond-true, cond-false}
+use Rattle.std.proofs.lemmas.Bool.{cond-false}
 use Rattle.std.proofs.lemmas.List.FromFn.{get_or-range_with_len, length-range_with_len}
 
 not-here : {X : Type 0} (here : Bool) (x : X) (o : Option X) → cond here (Some x) o ≡ None → (here ≡ false) × (o ≡ None)
@@ -20,26 +20,8 @@ fails-below p n i h below =
     let placed : i < length (range_with_len 0 n) = rw (length-range_with_len 0 n) below in
     ap p (sym (get_or-range_with_len 0 n i 0 below ∙ zero-add i)) ∙ find-none p (range_with_len 0 n) i 0 h placed
 
-first-from : (p : ℕ → Bool) (a n i : ℕ) → a ≤ i → i < a + n → p i ≡ true → ((k : ℕ) → a ≤ k → k < i → p k ≡ false) → find p (range_with_len a n) ≡ Some i
-first-from p a zero i low high h none = absurd (omega arith)
-first-from p a (suc n) i low high h none =
-    elim (cases_eq a i) [
-      | inl same ↦ cond-true (p a) (Some a) (find p (range_with_len (a + 1) n)) (ap p same ∙ h) ∙ ap Some same
-      | inr other ↦
-          cond-false (p a) (Some a) (find p (range_with_len (a + 1) n)) (none a (omega arith) (omega arith))
-          ∙ first-from p (a + 1) n i (omega arith) (omega arith) h (λ k l b. none k (omega arith) b)
-    ]
-
 none-from : (p : ℕ → Bool) (a n : ℕ) → ((k : ℕ) → a ≤ k → k < a + n → p k ≡ false) → find p (range_with_len a n) ≡ None
 none-from p a zero none = refl
 none-from p a (suc n) none =
     cond-false (p a) (Some a) (find p (range_with_len (a + 1) n)) (none a (omega arith) (omega arith))
     ∙ none-from p (a + 1) n (λ k l b. none k (omega arith) (omega arith))
-
--- the least number that passes is found
-pub first-below : (p : ℕ → Bool) (n i : ℕ) → i < n → p i ≡ true → ((k : ℕ) → k < i → p k ≡ false) → find p (range_with_len 0 n) ≡ Some i
-first-below p n i below h none = first-from p 0 n i (omega arith) (omega arith) h (λ k l b. none k b)
-
--- where none passes, nothing is found
-pub none-below : (p : ℕ → Bool) (n : ℕ) → ((k : ℕ) → k < n → p k ≡ false) → find p (range_with_len 0 n) ≡ None
-none-below p n none = none-from p 0 n (λ k l b. none k (omega arith))

@@ -3,7 +3,7 @@ pub mod CommandLemmas
 pub mod DivisorLemmas
 pub mod FirstLemmas
 pub mod MaskLemmas
-pub mod PlainLemmas
+pub mod DigitLemmas
 pub mod TextLemmas
 pub mod ValueLemmas
 pub mod VertexLemmas
@@ -14,9 +14,9 @@ pub mod RoundLemmas
 pub mod SourceLemmas
 pub mod DistinctLemmas
 pub mod WholeNumberLemmas
-mod CountLemmas
-mod SideLemmas
-mod EdgeLemmas
+pub mod CountLemmas
+pub mod SideLemmas
+pub mod EdgeLemmas
 mod ChildLemmas
 mod ChildClosedLemmas
 mod ChildOnceLemmas
@@ -29,12 +29,12 @@ mod ChildCountLemmas
 mod ChildFaceLemmas
 mod ClosedLemmas
 mod FanLemmas
-mod WalkLemmas
+pub mod WalkLemmas
 mod FaultLemmas
 pub mod FractionLemmas
-mod Laws
+pub mod Laws
 pub mod NumeralLemmas
-mod NumeralValueLemmas
+pub mod NumeralValueLemmas
 mod NumeralTextLemmas
 pub mod RangeLemmas
 pub mod FirstFaultLemmas
@@ -46,4 +46,3 @@ pub mod ObjStepLemmas
 mod ReadingCauseLemmas
 pub mod ObjChannelLemmas
 pub mod ObjLateLemmas
-pub mod ObjTagLemmas

@@ -7,7 +7,7 @@ use Rattle.std.proofs.lemmas.Bool.Decides.{nat_tests}
 use Rattle.std.proofs.lemmas.Int.Digits.{number_digits_of, all_below_base_digits_of, length-digits_of_step}
 use Rattle.std.proofs.lemmas.List.{take_at, drop_at, drop_all, length-map}
 use Rattle.subdiv_model.specs.Numeral.{are_digits, is_sign, without_sign, signed, is_exponent_mark, is_point, decimal_part, exponent_part, fraction_digits, all_digits, exponent_amount, exponent_has_minus, is_exponent, is_numeral, cancelled, normal_amount, normal_form, digits_text, form_text}
-use Rattle.subdiv_model.specs.PlainLine.{is_digit, number_of_digits, has_minus}
+use Rattle.subdiv_model.specs.Digits.{is_digit, number_of_digits, has_minus}
 use Rattle.subdiv_model.proofs.NumeralLemmas.{cancelled-stays}
 use Rattle.subdiv_model.proofs.NumeralValueLemmas.{word-reduced, signed-amount}
 

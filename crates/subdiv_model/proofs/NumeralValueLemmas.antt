@@ -7,7 +7,7 @@ use Rattle.std.proofs.lemmas.Nat.{div-add-mod', pow-add}
 use Rattle.std.proofs.Math.IntN.{*ℤ_comm, pos-*ℤ-pos, negsuc-*ℤ-pos}
 use Rattle.std.proofs.Math.Nat.{mul-div_cancel, one-le-pow}
 use Rattle.subdiv_model.specs.Numeral.{signed, tens_above, tens_below, all_digits, cancelled, normal_amount, normal_form, numeral_value, form_value}
-use Rattle.subdiv_model.specs.PlainLine.{number_of_digits, has_minus}
+use Rattle.subdiv_model.specs.Digits.{number_of_digits, has_minus}
 use Rattle.subdiv_model.specs.Value.{Value, IsSameValue}
 use Rattle.subdiv_model.proofs.NumeralLemmas.{ten-times, cancelled-step, cancelled-stays}
 use Rattle.subdiv_model.proofs.WholeNumberLemmas.{pos-swap, pos-cancel}

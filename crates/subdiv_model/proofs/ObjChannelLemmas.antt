@@ -1,18 +1,12 @@
 -- The texture channel by counting: it is there where there is a face and as many corners have a texture value as there are corners.
-use Rattle.std.proofs.Common.{◌≡◌, ◌≢◌, ℕ, ◌+◌, ◌≤◌, Bool, true, false, cond, ◌&&◌, nat_eq, List, [], ◌∷◌, ◌++◌, length, map, arith, refl, ap, sym, true≢false, inl, inr, ◌⊎◌, suc, ◌∙◌, if◌then◌else◌}
+use Rattle.std.proofs.Common.{◌≡◌, ◌≢◌, ℕ, ◌+◌, ◌≤◌, Bool, true, false, ◌&&◌, nat_eq, List, [], ◌∷◌, ◌++◌, length, map, arith, refl, ap, sym, true≢false, inl, inr, ◌⊎◌, suc, ◌∙◌, if◌then◌else◌}
 use Rattle.std.specs.List.{list_all, list_any, filter, flat_map, count_by}
 use Rattle.std.proofs.lemmas.Bool.{cases_eq, eq-eqb, ne_eqb}
-use Rattle.std.proofs.lemmas.List.Folds.{list_all-append}
-use Rattle.std.proofs.lemmas.List.Sums.{sum_by-cons, count_by-le-length}
-use Rattle.subdiv_model.specs.PlainLine.{is_face_line}
+use Rattle.std.proofs.lemmas.List.Sums.{count_by-le-length}
+use Rattle.subdiv_model.specs.ObjLine.{is_face_line}
 use Rattle.subdiv_model.specs.ObjWord.{has_texture_part}
 use Rattle.subdiv_model.specs.ReadObj.{values_of, has_texture_channel}
-
-abbrev one-where : Bool → ℕ
-one-where passes = cond passes 1 0
-
-counted : {X : Type 0} (P : X → Bool) (x : X) (xs : List X) → count_by P (x ∷ xs) ≡ one-where (P x) + count_by P xs
-counted P x xs = sum_by-cons (λ y. cond (P y) 1 0) x xs
+use Rattle.subdiv_model.proofs.CountLemmas.{all-flat_map, one_if, count-cons}
 
 -- a list of what those have that pass a test
 abbrev pub where-passing : {X Y : Type 0} → (X → Bool) → (X → Y) → List X → List Y
@@ -30,18 +24,18 @@ passing-all P f (x ∷ xs) h = front (P x) h (passing-all P f xs)
 -- and in any case one for each that passes
 pub passing-count : {X Y : Type 0} (P : X → Bool) (f : X → Y) (xs : List X) → length (where-passing P f xs) ≡ count_by P xs
 passing-count P f [] = refl
-passing-count P f (x ∷ xs) = front (P x) (passing-count P f xs) ∙ sym (counted P x xs)
+passing-count P f (x ∷ xs) = front (P x) (passing-count P f xs) ∙ sym (count-cons P x xs)
   where
-    front : (b : Bool) → length (where-passing P f xs) ≡ count_by P xs → length ((if b then f x ∷ [] else []) ++ where-passing P f xs) ≡ one-where b + count_by P xs
+    front : (b : Bool) → length (where-passing P f xs) ≡ count_by P xs → length ((if b then f x ∷ [] else []) ++ where-passing P f xs) ≡ one_if b + count_by P xs
     front true rest = omega (arith, rest)
     front false rest = omega (arith, rest)
 
 -- all pass exactly where as many pass as there are
 pub all-counted : {X : Type 0} (P : X → Bool) (xs : List X) → nat_eq (count_by P xs) (length xs) ≡ list_all P xs
 all-counted P [] = refl
-all-counted P (x ∷ xs) = ap (λ n. nat_eq n (suc (length xs))) (counted P x xs) ∙ front (P x) (all-counted P xs) (count_by-le-length P xs)
+all-counted P (x ∷ xs) = ap (λ n. nat_eq n (suc (length xs))) (count-cons P x xs) ∙ front (P x) (all-counted P xs) (count_by-le-length P xs)
   where
-    front : (b : Bool) → nat_eq (count_by P xs) (length xs) ≡ list_all P xs → count_by P xs ≤ length xs → nat_eq (one-where b + count_by P xs) (suc (length xs)) ≡ b && list_all P xs
+    front : (b : Bool) → nat_eq (count_by P xs) (length xs) ≡ list_all P xs → count_by P xs ≤ length xs → nat_eq (one_if b + count_by P xs) (suc (length xs)) ≡ b && list_all P xs
     front true rest most = same (cases_eq (count_by P xs) (length xs)) ∙ rest
       where
         same : (count_by P xs ≡ length xs) ⊎ (count_by P xs ≢ length xs) → nat_eq (1 + count_by P xs) (suc (length xs)) ≡ nat_eq (count_by P xs) (length xs)
@@ -49,15 +43,10 @@ all-counted P (x ∷ xs) = ap (λ n. nat_eq n (suc (length xs))) (counted P x xs
         same (inr d) = ne_eqb _ _ (λ e. d (omega (arith, e))) ∙ sym (ne_eqb _ _ d)
     front false rest most = ne_eqb _ _ (λ e. absurd (omega (arith, e, most)))
 
--- what all of the lists have, all of their items have
-pub all-of-all : {X Y : Type 0} (P : Y → Bool) (h : X → List Y) (xs : List X) → list_all P (flat_map h xs) ≡ list_all (λ x. list_all P (h x)) xs
-all-of-all P h [] = refl
-all-of-all P h (x ∷ xs) = list_all-append P (h x) (flat_map h xs) ∙ ap (λ b. list_all P (h x) && b) (all-of-all P h xs)
-
 -- the corners of all face lines, as words
 abbrev pub corner-words : List (List (List ℕ)) → List (List ℕ)
 corner-words lines = flat_map values_of (filter is_face_line lines)
 
 pub channel-counted : (lines : List (List (List ℕ))) → has_texture_channel lines ≡ list_any is_face_line lines && nat_eq (count_by has_texture_part (corner-words lines)) (length (corner-words lines))
 channel-counted lines =
-    ap (λ b. list_any is_face_line lines && b) (sym (all-counted has_texture_part (corner-words lines) ∙ all-of-all has_texture_part values_of (filter is_face_line lines)))
+    ap (λ b. list_any is_face_line lines && b) (sym (all-counted has_texture_part (corner-words lines) ∙ all-flat_map has_texture_part values_of (filter is_face_line lines)))

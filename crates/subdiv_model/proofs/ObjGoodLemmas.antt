@@ -6,7 +6,7 @@ use Rattle.std.specs.Cmp.Lexicographic.{same_text}
 use Rattle.std.proofs.lemmas.Bool.{and_parts, and_from, or_parts, ltb-true, lt-ltb}
 use Rattle.std.proofs.lemmas.List.Folds.{list_all-map}
 use Rattle.subdiv_model.specs.MeshFault.{first_of}
-use Rattle.subdiv_model.specs.PlainLine.{is_face_line}
+use Rattle.subdiv_model.specs.ObjLine.{is_face_line}
 use Rattle.subdiv_model.specs.Index.{is_index, index_of}
 use Rattle.subdiv_model.specs.ObjFault.{ObjCause, first_cause, or_else}
 use Rattle.subdiv_model.specs.ObjWord.{Counts, place_of_index, corner_point, corner_texture, corner_fault, is_corner, same_form, is_past_lists, has_texture_part}

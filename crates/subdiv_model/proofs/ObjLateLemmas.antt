@@ -1,27 +1,10 @@
 -- Coordinates that are too long at the scale of their channel, line by line, and the lines of a kind by their places.
-use Rattle.std.proofs.Common.{◌≡◌, ℕ, suc, ◌+◌, ◌<◌, Bool, true, false, List, [], ◌∷◌, length, map, take, get_or, Option, Some, None, arith, refl, ap, sym, ◌∙◌, if◌then◌else◌}
-use Rattle.std.specs.Prelude.{codes}
-use Rattle.std.specs.List.{list_any, filter}
+use Rattle.std.proofs.Common.{◌≡◌, ℕ, suc, ◌+◌, ◌<◌, Bool, false, List, [], ◌∷◌, length, map, get_or, None, arith, refl, ap, sym, ◌∙◌}
+use Rattle.std.specs.List.{filter}
 use Rattle.std.proofs.lemmas.Bool.{cond_both, cond-true, cond-false}
 use Rattle.subdiv_model.specs.Polygons.{places, places_from}
-use Rattle.subdiv_model.specs.PlainLine.{is_vertex_line}
-use Rattle.subdiv_model.specs.ObjFault.{ObjCause, NumberRange}
-use Rattle.subdiv_model.specs.ReadObj.{is_texture_line, values_of, position_scale, texture_scale_of, is_long_at, long_fault}
-use Rattle.subdiv_model.proofs.ObjLineLemmas.{keyword-front}
-
--- a word of these is too long at the scale
-abbrev pub long-among : ℕ → List (List ℕ) → Option ObjCause
-long-among scale words = if list_any (is_long_at scale) words then Some NumberRange else None
-
-pub long-vertex : (least : ℕ) (lines : List (List (List ℕ))) (words : List (List ℕ)) → is_vertex_line words ≡ true → long_fault least lines words ≡ long-among (position_scale least lines) (take 3 (values_of words))
-long-vertex least lines words is = rw is refl
-
--- a texture line is no vertex line
-texture-other : (words : List (List ℕ)) → is_texture_line words ≡ true → is_vertex_line words ≡ false
-texture-other words is = ap is_vertex_line (keyword-front (codes "vt") words is)
-
-pub long-texture : (least : ℕ) (lines : List (List (List ℕ))) (words : List (List ℕ)) → is_texture_line words ≡ true → long_fault least lines words ≡ long-among (texture_scale_of lines) (take 2 (values_of words))
-long-texture least lines words is = let other = texture-other words is in rw (other, is) refl
+use Rattle.subdiv_model.specs.ObjLine.{is_vertex_line}
+use Rattle.subdiv_model.specs.ReadObj.{is_texture_line, long_fault}
 
 pub long-other : (least : ℕ) (lines : List (List (List ℕ))) (words : List (List ℕ)) → is_vertex_line words ≡ false → is_texture_line words ≡ false → long_fault least lines words ≡ None
 long-other least lines words vertex texture = rw (vertex, texture) refl

@@ -1,16 +1,15 @@
 -- Lines of OBJ text as a reader meets them: the first line of a text, the keyword of a line, and what one more line counts.
-use Rattle.std.proofs.Common.{◌≡◌, ℕ, suc, ◌+◌, ◌<◌, ◌≤◌, Bool, true, false, cond, List, [], ◌∷◌, ◌++◌, length, take, drop, arith, refl, ap, sym, true≢false, ◌∙◌, ⊎_elim}
+use Rattle.std.proofs.Common.{◌≡◌, ℕ, suc, ◌+◌, ◌<◌, ◌≤◌, Bool, true, cond, List, [], ◌∷◌, ◌++◌, length, take, drop, arith, refl, ap, sym, true≢false, ◌∙◌, ⊎_elim}
 use Rattle.std.specs.List.{slice_split, position_or_len, before_first, after_first, count_by}
 use Rattle.std.specs.Cmp.Lexicographic.{same_text}
 use Rattle.std.proofs.lemmas.Bool.{cases_lt, cond_both, cond-true, cond-false}
 use Rattle.std.proofs.lemmas.Bool.Decides.{nat_tests}
 use Rattle.std.proofs.lemmas.List.{take_all, drop_all}
 use Rattle.std.proofs.lemmas.List.Splits.{slice_split_none, slice_split_first, length-slice_split}
-use Rattle.std.proofs.lemmas.List.Sums.{fails_before_first, sum_by-append, sum_by-cons, sum_by-take-le}
+use Rattle.std.proofs.lemmas.List.Sums.{fails_before_first, sum_by-cons, sum_by-take-le}
 use Rattle.subdiv_model.specs.Polygons.{places, places_from}
-use Rattle.subdiv_model.specs.PlainLine.{closed_lines, lines_of, begins_with, is_vertex_line, is_face_line}
-use Rattle.subdiv_model.specs.ObjLine.{is_lf}
-use Rattle.subdiv_model.specs.ReadObj.{counts_of, is_texture_line}
+use Rattle.subdiv_model.specs.ObjLine.{closed_lines, lines_of, begins_with, is_lf}
+use Rattle.subdiv_model.proofs.CountLemmas.{one_if, one-yes, one-no}
 
 -- a text without line end is one part, and nothing follows it
 one-part : (text : List ℕ) → length text ≤ position_or_len is_lf text → slice_split is_lf text ≡ text ∷ []
@@ -46,15 +45,6 @@ pub keyword-front : (keyword : List ℕ) (words : List (List ℕ)) → begins_wi
 keyword-front keyword [] h = absurd (true≢false (sym h))
 keyword-front keyword (word ∷ words) h = ap (λ w. w ∷ words) (same_text word keyword (sym h))
 
--- one more of a list
-pub count-more : {X : Type 0} (kind : X → Bool) (xs : List X) (x : X) → count_by kind (xs ++ x ∷ []) ≡ count_by kind xs + cond (kind x) 1 0
-count-more kind xs x =
-    let one : 0 + cond (kind x) 1 0 ≡ cond (kind x) 1 0 = omega arith in
-    sum_by-append (λ y. cond (kind y) 1 0) xs (x ∷ []) ∙ ap (λ n. count_by kind xs + n) one
-
-pub counts-more : (lines : List (List (List ℕ))) (words : List (List ℕ)) → counts_of (lines ++ words ∷ []) ≡ record { points = (counts_of lines).points + cond (is_vertex_line words) 1 0; textures = (counts_of lines).textures + cond (is_texture_line words) 1 0; faces = (counts_of lines).faces + cond (is_face_line words) 1 0 }
-counts-more lines words = rw (count-more is_vertex_line lines words, count-more is_texture_line lines words, count-more is_face_line lines words) refl
-
 -- the lines before have no more of a kind than all lines
 pub count-before : {X : Type 0} (kind : X → Bool) (xs : List X) (i : ℕ) → count_by kind (take i xs) ≤ count_by kind xs
 count-before kind xs i = sum_by-take-le (λ x. cond (kind x) 1 0) xs i
@@ -80,23 +70,14 @@ places-more test xs x =
     let e : 0 + length xs ≡ length xs = omega arith in
     places-from-more test 0 xs x ∙ ap (λ n. places test xs ++ last-place (test x) n) e
 
-abbrev one-where : Bool → ℕ
-one-where passes = cond passes 1 0
-
-one-yes : (passes : Bool) → passes ≡ true → one-where passes ≡ 1
-one-yes passes e = rw e refl
-
-one-no : (passes : Bool) → passes ≡ false → one-where passes ≡ 0
-one-no passes e = rw e refl
-
 places-from-length : {X : Type 0} (test : X → Bool) (place : ℕ) (xs : List X) → length (places_from place test xs) ≡ count_by test xs
 places-from-length test place [] = refl
 places-from-length test place (x ∷ xs) =
     let rest : length (places_from (place + 1) test xs) ≡ count_by test xs = places-from-length test (place + 1) xs in
-    let sum : count_by test (x ∷ xs) ≡ one-where (test x) + count_by test xs = sum_by-cons (λ y. cond (test y) 1 0) x xs in
+    let sum : count_by test (x ∷ xs) ≡ one_if (test x) + count_by test xs = sum_by-cons (λ y. cond (test y) 1 0) x xs in
     cond_both (test x) (place ∷ places_from (place + 1) test xs) (places_from (place + 1) test xs) (λ ps. length ps ≡ count_by test (x ∷ xs))
-    (λ yes. let one : one-where (test x) ≡ 1 = one-yes (test x) yes in omega arith)
-    (λ no. let none : one-where (test x) ≡ 0 = one-no (test x) no in omega arith)
+    (λ yes. let one : one_if (test x) ≡ 1 = one-yes (test x) yes in omega arith)
+    (λ no. let none : one_if (test x) ≡ 0 = one-no (test x) no in omega arith)
 
 pub places-length : {X : Type 0} (test : X → Bool) (xs : List X) → length (places test xs) ≡ count_by test xs
 places-length test xs = places-from-length test 0 xs

@@ -7,7 +7,7 @@ use Rattle.std.proofs.lemmas.List.{length-map}
 use Rattle.std.proofs.lemmas.List.Folds.{list_all-map, list_all-append}
 use Rattle.std.proofs.lemmas.List.Sums.{length-filter}
 use Rattle.subdiv_model.specs.Polygons.{places, places_from, is_over}
-use Rattle.subdiv_model.specs.PlainLine.{is_vertex_line, is_face_line}
+use Rattle.subdiv_model.specs.ObjLine.{is_vertex_line, is_face_line}
 use Rattle.subdiv_model.specs.ObjFault.{first_cause}
 use Rattle.subdiv_model.specs.ObjMesh.{has_faces_over_points, has_corners_over_texture, has_creases_over_points, has_corners_over_points, has_holes_over_faces}
 use Rattle.subdiv_model.specs.ObjWord.{corner_fault, corner_point, corner_texture, has_texture_part}
@@ -21,7 +21,7 @@ abbrev Words : Type 0
 Words = List (List ℕ)
 
 -- each line of a list is good by itself
-abbrev AreGood : List Words → Type 0
+abbrev pub AreGood : List Words → Type 0
 AreGood lines = (i : ℕ) → i < length lines → fault_at lines i ≡ None
 
 good-lines : (text : List ℕ) (least : ℕ) → read_obj_fault text least ≡ None → AreGood (obj_lines text)
@@ -38,7 +38,7 @@ all-places-from test P d place (x ∷ xs) h =
     (λ passes. and_from _ _ (ap P (sym here) ∙ h 0 (omega arith) passes) rest)
     (λ _. rest)
 
-all-places : {X : Type 0} (test : X → Bool) (P : ℕ → Bool) (d : X) (xs : List X) → ((i : ℕ) → i < length xs → test (get_or xs i d) ≡ true → P i ≡ true) → list_all P (places test xs) ≡ true
+pub all-places : {X : Type 0} (test : X → Bool) (P : ℕ → Bool) (d : X) (xs : List X) → ((i : ℕ) → i < length xs → test (get_or xs i d) ≡ true → P i ≡ true) → list_all P (places test xs) ≡ true
 all-places test P d xs h = all-places-from test P d 0 xs (λ i low passes. let e : 0 + i ≡ i = omega arith in ap P e ∙ h i low passes)
 
 -- what holds of all that is made of each line of a kind
@@ -75,12 +75,15 @@ face-below lines good i low is =
     (λ corner fine. point-below before (counts_of lines) first corner (count-before is_vertex_line lines i) fine)
     (values_of words) (face-corners before (counts_of lines) words is (good i low))
 
+pub vertices-good : (lines : List Words) → AreGood lines → list_all (are-below (counts_of lines).points) (faces_of lines) ≡ true
+vertices-good lines good =
+    list_all-map (are-below (counts_of lines).points) (corner_numbers corner_point lines) (places is_face_line lines)
+    ∙ all-places is_face_line (λ i. are-below (counts_of lines).points (corner_numbers corner_point lines i)) [] lines (face-below lines good)
+
 pub faces-over : (text : List ℕ) (least : ℕ) → read_obj_fault text least ≡ None → has_faces_over_points (read_obj_mesh text least) ≡ true
 faces-over text least h =
     let lines = obj_lines text in
-    subst (λ n. is_over n (faces_of lines) ≡ true) (points-counted is_vertex_line _ lines)
-    (list_all-map (are-below (counts_of lines).points) (corner_numbers corner_point lines) (places is_face_line lines)
-    ∙ all-places is_face_line (λ i. are-below (counts_of lines).points (corner_numbers corner_point lines i)) [] lines (face-below lines (good-lines text least h)))
+    subst (λ n. is_over n (faces_of lines) ≡ true) (points-counted is_vertex_line _ lines) (vertices-good lines (good-lines text least h))
 
 -- and their texture corners are texture values
 texture-corners-below : (lines : List Words) → AreGood lines → has_texture_channel lines ≡ true → (i : ℕ) → i < length lines → is_face_line (get_or lines i []) ≡ true → are-below (counts_of lines).textures (corner_numbers corner_texture lines i) ≡ true
@@ -111,23 +114,32 @@ tag-at lines name kind known good i low is =
     let parts : (is_tag_line words ≡ true) × (bytes_eq (tag_name words) name ≡ true) = and_parts _ _ is in
     tag-values-good (counts_of lines) name kind words known parts.1 (tag-good (counts_of (take i lines)) (counts_of lines) words parts.0 (good i low))
 
+pub creases-good : (lines : List Words) → AreGood lines → list_all (λ crease. nat_lt crease.0.0 (counts_of lines).points && nat_lt crease.0.1 (counts_of lines).points) (flat_map tag_creases (tags_named (codes "crease") lines)) ≡ true
+creases-good lines good =
+    all-made (is_tag (codes "crease")) tag_creases _ [] lines
+    (λ i low is. creases-below (counts_of lines).points (get_or lines i []) (indices-below (counts_of lines).points (get_or lines i []) (or-else-none (first_cause (tag_index_fault (counts_of lines).points) (tag_wholes (get_or lines i []))) (first_cause tag_numeral_fault (tag_numerals (get_or lines i []))) (tag-at lines (codes "crease") CreaseTag refl good i low is))))
+
 pub creases-over : (text : List ℕ) (least : ℕ) → read_obj_fault text least ≡ None → has_creases_over_points (read_obj_mesh text least) ≡ true
 creases-over text least h =
     let lines = obj_lines text in
-    subst (λ n. list_all (λ crease. nat_lt crease.0.0 n && nat_lt crease.0.1 n) (flat_map tag_creases (tags_named (codes "crease") lines)) ≡ true) (points-counted is_vertex_line _ lines)
-    (all-made (is_tag (codes "crease")) tag_creases _ [] lines
-    (λ i low is. creases-below (counts_of lines).points (get_or lines i []) (indices-below (counts_of lines).points (get_or lines i []) (or-else-none (first_cause (tag_index_fault (counts_of lines).points) (tag_wholes (get_or lines i []))) (first_cause tag_numeral_fault (tag_numerals (get_or lines i []))) (tag-at lines (codes "crease") CreaseTag refl (good-lines text least h) i low is)))))
+    subst (λ n. list_all (λ crease. nat_lt crease.0.0 n && nat_lt crease.0.1 n) (flat_map tag_creases (tags_named (codes "crease") lines)) ≡ true) (points-counted is_vertex_line _ lines) (creases-good lines (good-lines text least h))
+
+pub corners-good : (lines : List Words) → AreGood lines → list_all (λ corner. nat_lt corner.0 (counts_of lines).points) (flat_map tag_corners (tags_named (codes "corner") lines)) ≡ true
+corners-good lines good =
+    all-made (is_tag (codes "corner")) tag_corners _ [] lines
+    (λ i low is. corners-below (counts_of lines).points (get_or lines i []) (indices-below (counts_of lines).points (get_or lines i []) (or-else-none (first_cause (tag_index_fault (counts_of lines).points) (tag_wholes (get_or lines i []))) (first_cause tag_numeral_fault (tag_numerals (get_or lines i []))) (tag-at lines (codes "corner") CornerTag refl good i low is))))
 
 pub corners-over : (text : List ℕ) (least : ℕ) → read_obj_fault text least ≡ None → has_corners_over_points (read_obj_mesh text least) ≡ true
 corners-over text least h =
     let lines = obj_lines text in
-    subst (λ n. list_all (λ corner. nat_lt corner.0 n) (flat_map tag_corners (tags_named (codes "corner") lines)) ≡ true) (points-counted is_vertex_line _ lines)
-    (all-made (is_tag (codes "corner")) tag_corners _ [] lines
-    (λ i low is. corners-below (counts_of lines).points (get_or lines i []) (indices-below (counts_of lines).points (get_or lines i []) (or-else-none (first_cause (tag_index_fault (counts_of lines).points) (tag_wholes (get_or lines i []))) (first_cause tag_numeral_fault (tag_numerals (get_or lines i []))) (tag-at lines (codes "corner") CornerTag refl (good-lines text least h) i low is)))))
+    subst (λ n. list_all (λ corner. nat_lt corner.0 n) (flat_map tag_corners (tags_named (codes "corner") lines)) ≡ true) (points-counted is_vertex_line _ lines) (corners-good lines (good-lines text least h))
+
+pub holes-good : (lines : List Words) → AreGood lines → are-below (counts_of lines).faces (flat_map tag_indices (tags_named (codes "hole") lines)) ≡ true
+holes-good lines good =
+    all-made (is_tag (codes "hole")) tag_indices _ [] lines
+    (λ i low is. indices-below (counts_of lines).faces (get_or lines i []) (tag-at lines (codes "hole") HoleTag refl good i low is))
 
 pub holes-over : (text : List ℕ) (least : ℕ) → read_obj_fault text least ≡ None → has_holes_over_faces (read_obj_mesh text least) ≡ true
 holes-over text least h =
     let lines = obj_lines text in
-    subst (λ n. list_all (λ face. nat_lt face n) (flat_map tag_indices (tags_named (codes "hole") lines)) ≡ true) (faces-counted lines)
-    (all-made (is_tag (codes "hole")) tag_indices _ [] lines
-    (λ i low is. indices-below (counts_of lines).faces (get_or lines i []) (tag-at lines (codes "hole") HoleTag refl (good-lines text least h) i low is)))
+    subst (λ n. list_all (λ face. nat_lt face n) (flat_map tag_indices (tags_named (codes "hole") lines)) ≡ true) (faces-counted lines) (holes-good lines (good-lines text least h))

@@ -9,11 +9,10 @@ use Rattle.std.proofs.lemmas.List.Sums.{sum_by-cons}
 use Rattle.std.proofs.lemmas.List.Splits.{slice_split-cons_yes, slice_split-cons_no}
 use Rattle.std.proofs.lemmas.List.Folds.{fold-map}
 use Rattle.subdiv_model.specs.Polygons.{places, places_from}
-use Rattle.subdiv_model.specs.PlainLine.{closed_lines, lines_of, is_face_line}
+use Rattle.subdiv_model.specs.ObjLine.{closed_lines, lines_of, is_face_line, is_blank, runs_of, opens_comment, line_words}
 use Rattle.subdiv_model.specs.ObjWord.{corner_point}
 use Rattle.subdiv_model.specs.ReadObj.{obj_lines, without_mark, byte_order_mark, counts_of, values_of, corner_numbers, faces_of, read_obj_mesh}
 use Rattle.subdiv_model.proofs.ObjLineLemmas.{keyword-front}
-use Rattle.subdiv_model.specs.ObjLine.{is_blank, runs_of, opens_comment, line_words}
 
 abbrev has_bytes : List ℕ → Bool
 has_bytes run = not (nat_eq (length run) 0)
@@ -157,7 +156,7 @@ faces-bytes lines =
     ap (λ j. face-bytes (corner_numbers corner_point lines j)) e
     ∙ ap (λ n. 2 * n + 1) (length-map (values_of (get_or lines i [])) (λ corner. unwrap_or (corner_point (counts_of (take i lines)) (counts_of lines) corner) 0)))
 
-without-mark-bytes : (text : List ℕ) → length (without_mark text) ≤ length text
+pub without-mark-bytes : (text : List ℕ) → length (without_mark text) ≤ length text
 without-mark-bytes text =
     cond_both (bytes_eq (take 3 text) byte_order_mark) (drop 3 text) text (λ t. length t ≤ length text)
     (λ _. let less = length-drop 3 text in omega (arith, less)) (λ _. omega arith)

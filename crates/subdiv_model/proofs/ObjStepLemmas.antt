@@ -1,17 +1,12 @@
 -- What one more line of a text adds to each part of the mesh, for readers that walk the lines.
-use Rattle.std.proofs.Common.{◌≡◌, ℕ, ◌+◌, ◌<◌, Bool, true, false, cond, List, [], ◌∷◌, ◌++◌, length, map, take, get_or, Option, arith, refl, ap, sym, ◌∙◌, append-nil}
-use Rattle.std.specs.Prelude.{max}
-use Rattle.std.specs.List.{filter, flat_map, fold}
+use Rattle.std.proofs.Common.{◌≡◌, ℕ, ◌+◌, ◌<◌, Bool, true, false, cond, List, [], ◌∷◌, ◌++◌, length, map, take, get_or, arith, refl, ap, sym, ◌∙◌, append-nil}
+use Rattle.std.specs.List.{filter, flat_map}
 use Rattle.std.proofs.lemmas.List.{take_more, length-take}
 use Rattle.std.proofs.lemmas.List.Elements.{filter-append}
-use Rattle.std.proofs.lemmas.List.Sums.{fold-append}
 use Rattle.std.proofs.lemmas.Grind.{flat_map-append}
 use Rattle.subdiv_model.specs.Polygons.{places}
-use Rattle.subdiv_model.specs.PlainLine.{is_vertex_line, is_face_line}
-use Rattle.subdiv_model.specs.Numeral.{normal_form}
-use Rattle.subdiv_model.specs.ObjWord.{Counts}
-use Rattle.subdiv_model.specs.ReadObj.{counts_of, is_texture_line, corner_numbers, scale_over, kept_coordinates, last_of}
-use Rattle.subdiv_model.proofs.ObjLineLemmas.{counts-more, places-more}
+use Rattle.subdiv_model.specs.ReadObj.{last_of}
+use Rattle.subdiv_model.proofs.ObjLineLemmas.{places-more}
 
 abbrev Words : Type 0
 Words = List (List ℕ)
@@ -68,35 +63,3 @@ places-take kind xs n d h =
     ap (places kind) (take_more xs n d h)
     ∙ places-more kind (take n xs) (get_or xs n d)
     ∙ ap (λ k. places kind (take n xs) ++ cond (kind (get_or xs n d)) (k ∷ []) []) short
-
--- the faces, or the texture corners, of the first lines, by the counts of all lines
-pub numbers-take : (named : Counts → Counts → List ℕ → Option ℕ) (lines : List Words) (n : ℕ) → n < length lines → map (corner_numbers named lines) (places is_face_line (take (n + 1) lines)) ≡ map (corner_numbers named lines) (places is_face_line (take n lines)) ++ cond (is_face_line (get_or lines n [])) (corner_numbers named lines n ∷ []) []
-numbers-take named lines n h =
-    ap (map (corner_numbers named lines)) (places-take is_face_line lines n [] h)
-    ∙ map-append (corner_numbers named lines) (places is_face_line (take n lines)) _
-    ∙ ap (λ ys. map (corner_numbers named lines) (places is_face_line (take n lines)) ++ ys) (map-one (corner_numbers named lines) (is_face_line (get_or lines n [])) n)
-
--- the greatest number of decimals after one more line, which is the greater of those before and its own
-pub scale-take : (kind : Words → Bool) (least : ℕ) (lines : List Words) (n : ℕ) → n < length lines → scale_over least (filter kind (take (n + 1) lines)) ≡ cond (kind (get_or lines n [])) (scale_over (scale_over least (filter kind (take n lines))) (get_or lines n [] ∷ [])) (scale_over least (filter kind (take n lines)))
-scale-take kind least lines n h =
-    ap (λ ls. scale_over least ls) (filter-take kind lines n [] h) ∙ scale-more (kind (get_or lines n []))
-  where
-    before : List Words
-    before = filter kind (take n lines)
-
-    words : Words
-    words = get_or lines n []
-
-    decimals : List Words → List ℕ
-    decimals ls = map (λ word. (normal_form word).1) (flat_map kept_coordinates ls)
-
-    scale-more : (b : Bool) → scale_over least (before ++ cond b (words ∷ []) []) ≡ cond b (scale_over (scale_over least before) (words ∷ [])) (scale_over least before)
-    scale-more true =
-        ap (λ ws. fold max least (map (λ word. (normal_form word).1) ws)) (flat_map-append kept_coordinates before (words ∷ []))
-        ∙ ap (fold max least) (map-append (λ word. (normal_form word).1) (flat_map kept_coordinates before) (flat_map kept_coordinates (words ∷ [])))
-        ∙ fold-append max least (decimals before) (decimals (words ∷ []))
-    scale-more false = ap (λ ls. scale_over least ls) (append-nil before)
-
--- the counts before the next line
-pub counts-take : (lines : List Words) (n : ℕ) → n < length lines → counts_of (take (n + 1) lines) ≡ record { points = (counts_of (take n lines)).points + cond (is_vertex_line (get_or lines n [])) 1 0; textures = (counts_of (take n lines)).textures + cond (is_texture_line (get_or lines n [])) 1 0; faces = (counts_of (take n lines)).faces + cond (is_face_line (get_or lines n [])) 1 0 }
-counts-take lines n h = ap counts_of (take_more lines n [] h) ∙ counts-more (take n lines) (get_or lines n [])

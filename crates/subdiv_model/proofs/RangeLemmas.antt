@@ -5,13 +5,13 @@ use Rattle.std.proofs.lemmas.Bool.{cases_lt, cases_Bool, or_cases, and_parts, lt
 use Rattle.std.proofs.lemmas.Bool.Decides.{nat_tests}
 use Rattle.std.proofs.lemmas.Nat.{pow-add}
 use Rattle.std.proofs.Math.Nat.{pow-le-pow_right, mul-le-mul_left, mul-le-mul_right, one-le-pow}
-use Rattle.subdiv_model.specs.PlainLine.{is_digit, number_of_digits}
+use Rattle.subdiv_model.specs.Digits.{is_digit, number_of_digits}
 use Rattle.subdiv_model.specs.Numeral.{is_numeral, all_digits, tens_above, tens_below, normal_amount, is_in_range}
 use Rattle.subdiv_model.specs.ObjWord.{is_far_exponent, is_past_range, is_kept}
-use Rattle.subdiv_model.proofs.PlainLemmas.{digits-below}
+use Rattle.subdiv_model.proofs.DigitLemmas.{digits-below}
 use Rattle.subdiv_model.proofs.NumeralValueLemmas.{IsReduced, word-reduced}
 
-grows : (i j : ℕ) → i ≤ j → 10 ^ i ≤ 10 ^ j
+pub grows : (i j : ℕ) → i ≤ j → 10 ^ i ≤ 10 ^ j
 grows i j h = pow-le-pow_right {n = 10} (lit< tt) {i = i} {j = j} h
 
 -- far more tens above than below leave a long amount

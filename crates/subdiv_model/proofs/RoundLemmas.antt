@@ -1,15 +1,15 @@
 -- At a point of a closed list of polygons are as many edges as faces, and at least two of each.
-use Rattle.std.proofs.Common.{◌≡◌, ℕ, zero, suc, ◌+◌, ◌*◌, ◌≤◌, Bool, true, false, not, ◌&&◌, ◌||◌, nat_eq, nat_lt, nat_le, List, [], ◌∷◌, length, get_or, arith, refl, ap, sym, ◌∙◌, inl, inr}
+use Rattle.std.proofs.Common.{◌≡◌, ℕ, zero, suc, ◌+◌, ◌*◌, ◌≤◌, Bool, true, false, not, ◌&&◌, ◌||◌, nat_eq, nat_lt, nat_le, List, [], ◌∷◌, length, get_or, arith, refl, ap, sym, ◌∙◌}
 use Rattle.std.specs.List.{list_any, list_all, sum_by, count_by}
 use Rattle.std.proofs.lemmas.Bool.Decides.{nat_tests}
-use Rattle.std.proofs.lemmas.Bool.{and_parts, and_from, eqb-true, eq-eqb, not-true, or_cases, or_left, or_right, false_from_ne_true}
+use Rattle.std.proofs.lemmas.Bool.{and_parts, and_from, eqb-true, eq-eqb, not-true, false_from_ne_true}
 use Rattle.std.proofs.lemmas.List.Sums.{length-filter, list_all-from_AllPass}
 use Rattle.std.proofs.lemmas.List.Folds.{list_any_at}
 use Rattle.std.proofs.Math.Nat.{one-mul, zero-mul, mul-one}
 use Rattle.subdiv_model.specs.Polygons.{Polygon, same_side, same_edge, sides_of, sides_back_to, has_side, has_corner, is_distinct, places_from, polygon_at}
 use Rattle.subdiv_model.specs.Edges.{all_sides, edges_of, edges_of_point, faces_of_point, has_end, reversed, times_used}
 use Rattle.subdiv_model.specs.Manifold.{is_simple}
-use Rattle.subdiv_model.proofs.CountLemmas.{one_if, count-cons, count-append, count-some, any-count, any-from_count, count-agree, sum-agree, sum-plus, sum-zero}
+use Rattle.subdiv_model.proofs.CountLemmas.{one_if, count-cons, count-append, count-some, any-count, any-from_count, count-agree, sum-agree, sum-plus, sum-zero, any-weaker}
 use Rattle.subdiv_model.proofs.SideLemmas.{same_side-refl, no-side-back, distinct-number-count}
 use Rattle.subdiv_model.proofs.ClosedLemmas.{all-at, any-all, any-here, any-place, no-loop, sides-pass, first_named-all, closed-times}
 use Rattle.subdiv_model.proofs.Laws.{IsClosed, named-once}
@@ -124,11 +124,6 @@ polygon-stops : (v : ℕ) (polygon : Polygon) → count_by (stops_at v) (sides_o
 polygon-stops v [] = refl
 polygon-stops v (w ∷ rest) = omega (arith, path-stops v w w rest, path-starts v w (w ∷ rest))
 
-any-imply : {X : Type 0} (p q : X → Bool) → ((x : X) → p x ≡ true → q x ≡ true) → (xs : List X) → list_any p xs ≡ true → list_any q xs ≡ true
-any-imply p q imply [] h = h
-any-imply p q imply (x ∷ xs) h =
-    elim (or_cases (p x) (list_any p xs) h) [ inl here ↦ or_left _ _ (imply x here) | inr behind ↦ or_right _ _ (any-imply p q imply xs behind) ]
-
 among-themselves : (sides : List (ℕ × ℕ)) → list_all (λ s. list_any (same_side s) sides) sides ≡ true
 among-themselves sides =
     list_all-from_AllPass (λ s. list_any (same_side s) sides) sides (λ k d h. list_any_at (same_side (get_or sides k d)) sides k d h (same_side-refl (get_or sides k d)))
@@ -174,7 +169,7 @@ module _ (points : ℕ) (polygons : List Polygon) (is : IsClosed points polygons
       let face = any-place (same_side s) polygons out.2 in
       let polygon : Polygon = polygon_at polygons face.0 in
       let simple : is_simple polygon ≡ true = all-at is_simple polygons face.0 [] face.1 is.simple in
-      let starts : list_any (starts_at v) (sides_of polygon) ≡ true = any-imply (same_side s) (starts_at v) (λ t k. side-starts v s t out.1 k) (sides_of polygon) face.2 in
+      let starts : list_any (starts_at v) (sides_of polygon) ≡ true = any-weaker (same_side s) (starts_at v) (λ t k. side-starts v s t out.1 k) (sides_of polygon) face.2 in
       let some : 1 ≤ count_by (starts_at v) (sides_of polygon) = count-some (starts_at v) (sides_of polygon) starts in
       let stops : list_any (stops_at v) (sides_of polygon) ≡ true = any-from_count (stops_at v) (sides_of polygon) (omega (arith, polygon-stops v polygon)) in
       let into = any-all (stops_at v) (λ t. list_any (same_side t) (sides_of polygon)) (sides_of polygon) stops (among-themselves (sides_of polygon)) in

@@ -22,11 +22,7 @@ use Rattle.subdiv_model.proofs.MaskLemmas.{mean-corners, mean-edge_mask}
 use Rattle.subdiv_model.proofs.VertexLemmas.{mean-vertex_mask}
 use Rattle.subdiv_model.proofs.ProperLemmas.{all-get_or, proper-at, proper-levels}
 use Rattle.subdiv_model.proofs.RoundLemmas.{faces-edges, two-edges}
-
-pub all-imply : {X : Type 0} (p q : X → Bool) → ((x : X) → p x ≡ true → q x ≡ true) → (xs : List X) → list_all p xs ≡ true → list_all q xs ≡ true
-all-imply p q imply [] h = refl
-all-imply p q imply (x ∷ xs) h =
-    let parts = and_parts (p x) (list_all p xs) h in and_from _ _ (imply x parts.0) (all-imply p q imply xs parts.1)
+use Rattle.subdiv_model.proofs.CountLemmas.{all-weaker}
 
 pub all-kept : {X : Type 0} (keep p : X → Bool) (xs : List X) → list_all p xs ≡ true → list_all p (filter keep xs) ≡ true
 all-kept keep p [] h = refl
@@ -143,7 +139,7 @@ module _ (level : Level) (is : IsClosed level.points level.polygons) (proper : i
   ends-inside : (v : ℕ) → list_all (λ e. nat_lt e level.points) (ends_at level v) ≡ true
   ends-inside v =
       list_all-map (λ e. nat_lt e level.points) (other_end v) (edges_at level v)
-      ∙ all-imply (is_inside level.points) (λ edge. nat_lt (other_end v edge) level.points) inside (edges_at level v) (all-kept (has_end v) (is_inside level.points) (edges_of level.polygons) edges-inside)
+      ∙ all-weaker (is_inside level.points) (λ edge. nat_lt (other_end v edge) level.points) inside (edges_at level v) (all-kept (has_end v) (is_inside level.points) (edges_of level.polygons) edges-inside)
     where
       inside : (edge : ℕ × ℕ) → is_inside level.points edge ≡ true → nat_lt (other_end v edge) level.points ≡ true
       inside edge h =

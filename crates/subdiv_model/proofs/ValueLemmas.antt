@@ -2,7 +2,6 @@
 use Rattle.std.proofs.Common.{◌≡◌, ℕ, zero, suc, ◌+◌, ◌*◌, ◌<◌, ℤ, pos, ◌+ℤ◌, ◌*ℤ◌, arith, refl, ap, sym, ◌∙◌, List, [], ◌∷◌, ◌++◌, map, subst, Bool, true, length, get_or, nat_lt, length-append, zero-add}
 use Rattle.std.specs.List.{AllByRecursion}
 use Rattle.std.proofs.lemmas.List.Sums.{sum_by-cons}
-use Rattle.std.proofs.lemmas.Int.{ints}
 use Rattle.std.proofs.Math.IntN.{*ℤ_comm, zero-*ℤ, +ℤ_idr}
 use Rattle.std.specs.List.{AllZip, list_all, filter, range_with_len}
 use Rattle.std.proofs.lemmas.Bool.{and_parts, ltb-true, eqb-true}
@@ -16,7 +15,7 @@ use Rattle.subdiv_model.specs.Level.{Level}
 use Rattle.subdiv_model.specs.Child.{child_level, refined_level}
 use Rattle.subdiv_model.specs.Mask.{SourcePoint, OfPoint, OfFace, Term, Mask, Scheme, weigh_points, total_weight, is_mean, is_mean_of, is_source_of, has_means, face_mask, edge_mask, vertex_mask, child_masks}
 use Rattle.subdiv_model.specs.Value.{Value, AreMovedBy, IsSameValue, plus, weighted, sum_of_values, mask_value, whole_value, point_value, corner_value, source_value, face_value, child_values, refined_values, control_values, moved_controls}
-use Rattle.subdiv_model.proofs.WholeNumberLemmas.{pos-distrib, pos-sum, pos-assoc, pos-swap, pos-cancel, times-one}
+use Rattle.subdiv_model.proofs.WholeNumberLemmas.{pos-distrib, pos-sum, pos-assoc, pos-swap, pos-cancel, times-one, swap_middle}
 
 -- the same value moved by a whole number, over the same denominator
 pub record IsMoved (t : ℤ) (x y : Value) : Type 0 where
@@ -42,9 +41,6 @@ rest-moved q b d total t r s e =
     ∙ pos-distrib (q * b) (pos q *ℤ r) (pos (total * d) *ℤ t)
     ∙ ap (λ z. z +ℤ pos (q * b) *ℤ (pos (total * d) *ℤ t)) (pos-swap (q * b) q r)
     ∙ ap (λ z. pos q *ℤ (pos (q * b) *ℤ r) +ℤ z) (pos-assoc (q * b) (total * d) t)
-
-swap_middle : (a b c d : ℤ) → (a +ℤ b) +ℤ (c +ℤ d) ≡ (a +ℤ c) +ℤ (b +ℤ d)
-swap_middle a b c d = omega (arith, ints)
 
 both-moved : (q w b d total : ℕ) (a t r s : ℤ) → pos q *ℤ s ≡ pos q *ℤ r +ℤ pos (total * d) *ℤ t → pos q *ℤ ((pos w *ℤ (a +ℤ pos b *ℤ t)) *ℤ pos d +ℤ s *ℤ pos (q * b)) ≡ pos q *ℤ ((pos w *ℤ a) *ℤ pos d +ℤ r *ℤ pos (q * b)) +ℤ pos ((w + total) * (q * b * d)) *ℤ t
 both-moved q w b d total a t r s e =

@@ -14,6 +14,7 @@ use Rattle.subdiv_model.specs.Level.{Level, vertex_sharpness_of, ring_at, edges_
 use Rattle.subdiv_model.specs.Mask.{CatmullClark, vertex_mask, is_round, is_proper_at, rule_at, child_rule_at, ends_at, other_end, is_mean, mask_of_rule, mask_of_vertex, transition_mask}
 use Rattle.subdiv_model.proofs.MaskLemmas.{mean-smooth_vertex}
 use Rattle.subdiv_model.proofs.BlendLemmas.{mean-transition}
+use Rattle.subdiv_model.proofs.MultipleLemmas.{product-positive}
 
 -- a smooth vertex has as many faces as edges, and at least two
 abbrev pub IsRoundFor : List ℕ → List ℕ → Rule → Type 0
@@ -95,10 +96,6 @@ values-positive : (method : Method) (vertex : Sharpness) (ring : List Sharpness)
 values-positive method vertex ring h k =
     list_all-append is_positive (ended_value (vertex, uniform_child vertex)) (flat_map ended_value (zip ring (child_ring method ring)))
     ∙ and_from _ _ (ended-positive vertex (uniform_child vertex) h) (ring-positive method ring ring k)
-
-pub product-positive : (a b : ℕ) → 0 < a → 0 < b → 0 < a * b
-product-positive zero b h k = absurd (omega arith)
-product-positive (suc a) b h k = omega arith
 
 pub sum-den : (values : List (ℕ × ℕ)) → list_all is_positive values ≡ true → 0 < (sum_of_fractions values).1
 sum-den [] h = omega arith

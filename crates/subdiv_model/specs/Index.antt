@@ -3,7 +3,7 @@
 use Rattle.std.specs.Prelude.{ℕ, ℤ, Bool, List}
 use Rattle.std.specs.Int.{saturate_to_bits}
 use Rattle.subdiv_model.specs.Numeral.{are_digits, signed}
-use Rattle.subdiv_model.specs.PlainLine.{number_of_digits, has_minus, without_minus}
+use Rattle.subdiv_model.specs.Digits.{number_of_digits, has_minus, without_minus}
 
 -- an optional `-` and one or more digits
 abbrev pub is_index : List ℕ → Bool

@@ -11,7 +11,7 @@ pub mod ExampleControls
 pub mod ExampleTexts
 pub mod Mask
 pub mod Multiples
-pub mod PlainLine
+pub mod Digits
 pub mod Rule
 pub mod Text
 pub mod Value

@@ -3,7 +3,7 @@
 use Rattle.std.specs.Prelude.{ℕ, zero, suc, ◌+◌, ◌*◌, ◌/◌, ◌%◌, ◌^◌, ℤ, pos, neg_ℤ, unsigned_abs, Bool, true, false, ◌&&◌, ◌||◌, nat_eq, nat_le, nat_lt, List, [], ◌∷◌, ◌++◌, length, map, drop, codes, if◌then◌else◌}
 use Rattle.std.specs.Int.Digits.{digits_of}
 use Rattle.std.specs.List.{list_all, position_or_len, before_first, after_first}
-use Rattle.subdiv_model.specs.PlainLine.{is_digit, number_of_digits, has_minus}
+use Rattle.subdiv_model.specs.Digits.{is_digit, number_of_digits, has_minus}
 use Rattle.subdiv_model.specs.Text.{sign_text}
 use Rattle.subdiv_model.specs.Value.{Value}
 

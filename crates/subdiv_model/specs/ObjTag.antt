@@ -2,7 +2,8 @@
 -- Source: this profile; the names of the tags are those of OpenSubdiv's files of shapes.
 use Rattle.std.specs.Prelude.{ℕ, ◌+◌, ◌-◌, ◌*◌, ◌^◌, ℤ, pos, negsuc, unsigned_abs, Bool, true, false, ◌&&◌, ◌||◌, nat_eq, nat_le, nat_lt, List, [], length, map, take, drop, zip, get_or, replicate, Option, Some, None, is_some, unwrap_or, bytes_eq, codes, if◌then◌else◌}
 use Rattle.std.specs.List.{list_all, slice_split}
-use Rattle.subdiv_model.specs.PlainLine.{begins_with, is_digits, number_of_digits, has_minus}
+use Rattle.subdiv_model.specs.ObjLine.{begins_with}
+use Rattle.subdiv_model.specs.Digits.{is_digits, number_of_digits, has_minus}
 use Rattle.subdiv_model.specs.Numeral.{normal_amount}
 use Rattle.subdiv_model.specs.Index.{is_index, index_of}
 use Rattle.subdiv_model.specs.Sharpness.{Sharpness, Smooth, Method, Normal, Chaikin, sharpness_of_fraction}

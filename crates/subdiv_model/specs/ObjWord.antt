@@ -2,7 +2,7 @@
 -- Source: this profile.
 use Rattle.std.specs.Prelude.{ℕ, zero, suc, ◌+◌, ◌-◌, ◌^◌, ℤ, pos, negsuc, ◌*ℤ◌, Bool, false, not, ◌&&◌, ◌||◌, nat_eq, nat_lt, List, [], ◌∷◌, length, get_or, Option, Some, None, is_none, if◌then◌else◌}
 use Rattle.std.specs.List.{slice_split}
-use Rattle.subdiv_model.specs.PlainLine.{number_of_digits}
+use Rattle.subdiv_model.specs.Digits.{number_of_digits}
 use Rattle.subdiv_model.specs.Numeral.{is_numeral, all_digits, tens_above, tens_below, normal_form, is_in_range}
 use Rattle.subdiv_model.specs.Index.{is_index, index_of}
 use Rattle.subdiv_model.specs.ObjFault.{ObjCause, BadNumeral, NumberRange, BadCorner, IndexRange}

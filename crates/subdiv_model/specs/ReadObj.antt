@@ -4,8 +4,7 @@ use Rattle.std.specs.Prelude.{ℕ, suc, ◌-◌, ◌^◌, ℤ, unsigned_abs, Boo
 use Rattle.std.specs.List.{filter, filter_map, flat_map, list_any, list_all, fold, count_by, range_with_len}
 use Rattle.subdiv_model.specs.MeshFault.{first_of}
 use Rattle.subdiv_model.specs.Polygons.{Polygon, places}
-use Rattle.subdiv_model.specs.PlainLine.{lines_of, begins_with, is_vertex_line, is_face_line}
-use Rattle.subdiv_model.specs.ObjLine.{line_words}
+use Rattle.subdiv_model.specs.ObjLine.{lines_of, begins_with, is_vertex_line, is_face_line, line_words}
 use Rattle.subdiv_model.specs.Numeral.{normal_form}
 use Rattle.subdiv_model.specs.Sharpness.{Method, Normal}
 use Rattle.subdiv_model.specs.Base.{Boundary, EdgeOnly}

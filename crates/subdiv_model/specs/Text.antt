@@ -7,7 +7,7 @@ use Rattle.subdiv_model.specs.Fractions.{lowest}
 use Rattle.subdiv_model.specs.Level.{Level, plain_level}
 use Rattle.subdiv_model.specs.Child.{refined_level}
 use Rattle.subdiv_model.specs.Mask.{Scheme, CatmullClark}
-use Rattle.subdiv_model.specs.PlainLine.{plain_points, plain_polygons}
+use Rattle.subdiv_model.specs.ObjMesh.{ObjMesh}
 use Rattle.subdiv_model.specs.Value.{Value, Point, refined_points}
 
 -- a number below 0 begins with `-`
@@ -50,10 +50,7 @@ abbrev pub refined_text : Level → Scheme → ℕ → List (ℤ × ℤ × ℤ) 
 refined_text level scheme scale controls k =
     refine_text (refined_points level scheme scale controls k) (shown_polygons (refined_level level k))
 
--- the level of a plain text, which has no sharpness and no holes
-abbrev pub plain_text_level : List ℕ → Level
-plain_text_level text = plain_level (length (plain_points text)) (plain_polygons text)
-
--- the text of a plain text's mesh after k steps
-abbrev pub refined_plain_text : List ℕ → ℕ → List ℕ
-refined_plain_text text k = refined_text (plain_text_level text) CatmullClark 0 (plain_points text) k
+-- the text of a mesh without tags after k Catmull-Clark steps
+abbrev pub refined_mesh_text : ObjMesh → ℕ → List ℕ
+refined_mesh_text mesh k =
+    refined_text (plain_level (length mesh.points) mesh.faces) CatmullClark mesh.scale mesh.points k

@@ -4,7 +4,6 @@
 ghost use Rattle.std.specs.Prelude.{◌≡◌, ◌+◌, ◌*◌, ◌≤◌, ℕ, length, sum_by, IsTrue, IfSome, pos, negsuc, false, true, None, Some, List, [], ◌∷◌, ◌++◌, codes};
 ghost use Rattle.subdiv_model.specs.Examples.{cube};
 ghost use Rattle.subdiv_model.specs.ExampleTexts.{cube_text, other_cube_text};
-ghost use Rattle.subdiv_model.specs.PlainLine.{plain_points};
 ghost use Rattle.subdiv_model.specs.Numeral.{is_numeral, is_in_range};
 ghost use Rattle.subdiv_model.specs.Sharpness.{Smooth, Semi, Infinite, Chaikin};
 ghost use Rattle.subdiv_model.specs.Base.{EdgeAndCorner};
@@ -52,7 +51,7 @@ pub fn texts_without_fault()
 /// The cube, however it is written.
 pub fn cube_written_otherwise()
     ensures good { read_obj_fault other_cube_text 0 ≡ None }
-    ensures points { (read_obj_mesh other_cube_text 0).points ≡ plain_points cube_text }
+    ensures points { (read_obj_mesh other_cube_text 0).points ≡ (read_obj_mesh cube_text 0).points }
     ensures scale { (read_obj_mesh other_cube_text 0).scale ≡ 0 }
     ensures faces { (read_obj_mesh other_cube_text 0).faces ≡ cube }
 {}

@@ -1,6 +1,6 @@
 use Rattle.std.proofs.Common.{◌≡◌, ◌≤◌, true, take, min}
 use Rattle.std.specs.List.{list_all}
-use Rattle.subdiv_model.specs.PlainLine.{is_digit, number_of_digits}
+use Rattle.subdiv_model.specs.Digits.{is_digit, number_of_digits}
 use Rattle.obj_text.proofs.digits.digits_up_to.Given as goal
 
 -- the bytes so far are digits, and the number is what they say, or the most

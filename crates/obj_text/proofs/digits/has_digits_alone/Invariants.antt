@@ -1,6 +1,6 @@
 use Rattle.std.proofs.Common.{◌≡◌, true, take}
 use Rattle.std.specs.List.{list_all}
-use Rattle.subdiv_model.specs.PlainLine.{is_digit}
+use Rattle.subdiv_model.specs.Digits.{is_digit}
 use Rattle.obj_text.proofs.digits.has_digits_alone.Given as goal
 
 abbrev pub invariant-loop-byte : goal.invariant-loop-byte

@@ -2,7 +2,7 @@ use Rattle.std.proofs.Common.{length, ◌++◌, ap, ◌∙◌}
 use Rattle.subdiv_model.specs.Level.{plain_level}
 use Rattle.subdiv_model.specs.Mask.{CatmullClark, child_masks}
 use Rattle.plain_refine.specs.Mesh.{corners_of}
-use Rattle.plain_refine.proofs.PointLemmas.{ArePointsOf, child-points, points-same, points-kept}
+use Rattle.plain_refine.proofs.PointLemmas.{ArePointsOf, child-points, points-same, points-kept, points-coarse}
 use Rattle.plain_refine.proofs.values.child_values.Goals as goal
 
 all-points : (c : goal.After-drop-faces-2) → ArePointsOf (corners_of c.args.polygons.now) c.args.values.now c.extend_from_slice-2.new.self.items (child_masks (plain_level (length c.args.values.now) (corners_of c.args.polygons.now)) CatmullClark)
@@ -15,3 +15,6 @@ returns-clause-values c = points-same (corners_of c.args.polygons.now) c.args.va
 
 pub returns-clause-kept : goal.returns-clause-kept
 returns-clause-kept c = points-kept (corners_of c.args.polygons.now) c.args.values.now c.extend_from_slice-2.new.self.items (child_masks (plain_level (length c.args.values.now) (corners_of c.args.polygons.now)) CatmullClark) (all-points c)
+
+pub returns-clause-coarse : goal.returns-clause-coarse
+returns-clause-coarse c = points-coarse (corners_of c.args.polygons.now) c.args.values.now c.extend_from_slice-2.new.self.items (child_masks (plain_level (length c.args.values.now) (corners_of c.args.polygons.now)) CatmullClark) (all-points c)

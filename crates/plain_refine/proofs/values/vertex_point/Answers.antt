@@ -67,6 +67,13 @@ returns c =
     (c.deref-2.ensures.value ∙ c.in_ok-around.ensures)
     (omega (arith, c.len.ensures, c.deref.ensures.len))
     (omega (arith, c.len.ensures))
+    (omega (
+      arith,
+      c.len.ensures,
+      c.deref.ensures.len,
+      length-ends c.args.v c.args.edges.now c.deref.result.now (c.deref.ensures.value ∙ c.in_ok-ends.ensures),
+      length-edges (length c.args.values.now) (corners_of c.args.polygons.now) c.args.edges.now c.requires.coordinate.small c.requires.coordinate.by_appearance,
+    ))
     (number-itself c.args.values.now c.args.v c.requires.inside (shorts c.args.values.now c.requires.coordinate.short))
     (to_z-of_z w128 c.sum_at.result (record { sfits = c.sum_at.type_inv }) ∙ c.sum_at.ensures.sum)
     (to_z-of_z w128 c.sum_at-2.result (record { sfits = c.sum_at-2.type_inv }) ∙ c.sum_at-2.ensures.sum)

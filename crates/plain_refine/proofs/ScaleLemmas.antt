@@ -1,0 +1,46 @@
+-- Values over more times their denominators.
+use Rattle.std.proofs.Common.{◌≡◌, ℕ, ◌*◌, ◌^◌, ◌<◌, ◌≤◌, ℤ, pos, ◌*ℤ◌, unsigned_abs, arith, ap, sym, ◌∙◌, List, [], ◌∷◌, map, mul-le-mul}
+use Rattle.std.specs.List.{All}
+use Rattle.std.proofs.Math.IntN.{*ℤ_comm}
+use Rattle.std.proofs.Math.Nat.{one-le-pow, pow-le-pow_right}
+use Rattle.std.proofs.lemmas.List.Elements.{All-map, All-weaker}
+use Rattle.ratio128.specs.declared.divisor.Frac.{Frac}
+use Rattle.subdiv_model.specs.Value.{Value, at_scale}
+use Rattle.subdiv_model.proofs.WholeNumberLemmas.{pos-assoc}
+use Rattle.plain_refine.specs.Values.{value_of, over, AreSameValues}
+
+-- a power of ten that is a scale
+pub tens-few : (scale : ℕ) → scale ≤ 18 → 10 ^ scale ≤ 10 ^ 18
+tens-few scale h = pow-le-pow_right (omega arith) h
+
+pub tens-positive : (scale : ℕ) → 1 ≤ 10 ^ scale
+tens-positive scale = one-le-pow scale 10 (omega arith)
+
+pub product-positive : (a b : ℕ) → 0 < a → 1 ≤ b → 0 < a * b
+product-positive a b h k = omega (arith, mul-le-mul h k)
+
+-- there is room for a scale
+pub product-fits : (den times : ℕ) → den ≤ 2 ^ 28 → times ≤ 10 ^ 18 → den * times < 2 ^ 128
+product-fits den times h k = omega (arith, mul-le-mul h k)
+
+turned : (n : ℤ) (den times : ℕ) → n *ℤ pos (den * times) ≡ pos times *ℤ (n *ℤ pos den)
+turned n den times =
+    let other : den * times ≡ times * den = omega arith in
+    *ℤ_comm n (pos (den * times))
+    ∙ ap (λ k. pos k *ℤ n) other
+    ∙ sym (pos-assoc times den n)
+    ∙ ap (λ z. pos times *ℤ z) (*ℤ_comm (pos den) n)
+
+-- equal values are equal at a scale
+pub same-at_scale : (scale : ℕ) (xs : List Frac) (ys : List Value) → AreSameValues (map value_of xs) ys → AreSameValues (map value_of (map (over (10 ^ scale)) xs)) (map (at_scale scale) ys)
+same-at_scale scale [] [] same = tt
+same-at_scale scale [] (y ∷ ys) same = absurd same
+same-at_scale scale (x ∷ xs) [] same = absurd same
+same-at_scale scale (x ∷ xs) (y ∷ ys) same =
+    (turned x.num y.den (10 ^ scale) ∙ ap (λ z. pos (10 ^ scale) *ℤ z) same.0 ∙ sym (turned y.num x.den (10 ^ scale)), same-at_scale scale xs ys same.1)
+
+-- fractions that can be brought to lowest terms can be so at a scale
+pub kept-at_scale : (scale : ℕ) (xs : List Frac) → All (λ f. (0 < f.den) × (unsigned_abs f.num < 2 ^ 127)) xs → All (λ f. (0 < f.den) × (unsigned_abs f.num < 2 ^ 127)) (map (over (10 ^ scale)) xs)
+kept-at_scale scale xs kept =
+    All-map (λ f. (0 < f.den) × (unsigned_abs f.num < 2 ^ 127)) (over (10 ^ scale)) xs
+    (All-weaker (λ (f : Frac). (0 < f.den) × (unsigned_abs f.num < 2 ^ 127)) (λ f. (0 < f.den * 10 ^ scale) × (unsigned_abs f.num < 2 ^ 127)) (λ f h. (product-positive f.den (10 ^ scale) h.0 (tens-positive scale), h.1)) xs kept)

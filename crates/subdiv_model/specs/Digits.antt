@@ -1,0 +1,23 @@
+-- Digits, the number that they say, and a minus before them.
+-- Source: this profile.
+use Rattle.std.specs.Prelude.{ℕ, ◌+◌, ◌-◌, ◌*◌, Bool, false, ◌&&◌, nat_eq, nat_le, List, [], ◌∷◌, length, if◌then◌else◌}
+use Rattle.std.specs.List.{list_all, fold}
+
+abbrev pub is_digit : ℕ → Bool
+is_digit b = nat_le 48 b && nat_le b 57
+
+-- the number that digits say, the last of them counting one
+abbrev pub number_of_digits : List ℕ → ℕ
+number_of_digits digits = fold (λ n b. n * 10 + (b - 48)) 0 digits
+
+-- from 1 to `most` digits and nothing else
+abbrev pub is_digits : ℕ → List ℕ → Bool
+is_digits most word = nat_le 1 (length word) && nat_le (length word) most && list_all is_digit word
+
+abbrev pub has_minus : List ℕ → Bool
+has_minus [] = false
+has_minus (b ∷ rest) = nat_eq b 45
+
+abbrev pub without_minus : List ℕ → List ℕ
+without_minus [] = []
+without_minus (b ∷ rest) = if nat_eq b 45 then rest else b ∷ rest
