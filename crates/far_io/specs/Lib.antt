@@ -1,3 +1,4 @@
 pub mod Bytes
 pub mod Memory
 pub mod Standard
+pub mod Faults

@@ -1,9 +1,23 @@
 ghost use Rattle.std.specs.Prelude.{◌≡◌, ℕ, ◌-◌, ◌<◌, ◌≤◌, List, length, take, drop, Option, IfOk, OnOk, OnErr};
 ghost use Rattle.far_io.specs.Bytes.{Rose, Added};
 
+use std::fmt;
+
 /// A write or a flush failed. The sink's count of faults has risen.
 #[derive(Clone, Copy, Debug, PartialEq, Eq)]
 pub struct WriteFailed;
+
+impl fmt::Display for WriteFailed {
+    ghost use Rattle.std.specs.Prelude.{Some, codes};
+
+    ghost output = { λ _. Some (codes "writing failed") };
+
+    fn fmt<W: fmt::Write>(&self, f: &mut fmt::Formatter<W>) -> fmt::Result {
+        f.write_str("writing failed")
+    }
+}
+
+impl std::error::Error for WriteFailed {}
 
 /// Where bytes go.
 pub trait Sink {

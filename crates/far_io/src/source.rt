@@ -3,10 +3,23 @@ ghost use Rattle.far_io.specs.declared.source.InputFault.TheVariants.{Read, Long
 ghost use Rattle.far_io.specs.Bytes.{Rose, Took, IsDry};
 
 use std::alloc::{AllocError, Global};
+use std::fmt;
 
 /// A read failed. The source's count of faults has risen, and nothing was taken from it.
 #[derive(Clone, Copy, Debug, PartialEq, Eq)]
 pub struct ReadFailed;
+
+impl fmt::Display for ReadFailed {
+    ghost use Rattle.std.specs.Prelude.{Some, codes};
+
+    ghost output = { λ _. Some (codes "reading failed") };
+
+    fn fmt<W: fmt::Write>(&self, f: &mut fmt::Formatter<W>) -> fmt::Result {
+        f.write_str("reading failed")
+    }
+}
+
+impl std::error::Error for ReadFailed {}
 
 /// Where bytes come from.
 pub trait Source {
@@ -40,6 +53,23 @@ pub enum InputFault {
     /// Memory ran out.
     Memory,
 }
+
+impl fmt::Display for InputFault {
+    ghost use Rattle.far_io.specs.Faults.{text_of_fault};
+    ghost use Rattle.std.specs.Prelude.{Some};
+
+    ghost output = { λ fault. Some (text_of_fault fault) };
+
+    fn fmt<W: fmt::Write>(&self, f: &mut fmt::Formatter<W>) -> fmt::Result {
+        f.write_str(match self {
+            InputFault::Read => "reading failed",
+            InputFault::Long => "input is too long",
+            InputFault::Memory => "out of memory",
+        })
+    }
+}
+
+impl std::error::Error for InputFault {}
 
 impl From<AllocError> for InputFault {
     ghost use Rattle.std.specs.Prelude.{◌≡◌};

@@ -93,3 +93,12 @@ fn faults_of_std_are_faults(rt: HostRuntime) -> Result<(), Fail> {
     assert_eq!(rt; sink.flush(), Err(WriteFailed));
     Ok(())
 }
+
+#[test]
+fn names_its_faults(rt: HostRuntime) -> Result<(), Fail> {
+    let calls = format!(in rt.alloc(); "{ReadFailed}, {WriteFailed}")?;
+    assert_eq!(rt; calls.as_str(), "reading failed, writing failed");
+    let long = format!(in rt.alloc(); "{}", InputFault::Long)?;
+    assert_eq!(rt; long.as_str(), "input is too long");
+    Ok(())
+}

@@ -1,5 +1,5 @@
 -- Which fault a word has that is not read as a numeral.
-use Rattle.std.specs.Prelude.{ℕ, ◌≡◌, true, false, List}
+use Rattle.std.specs.Prelude.{ℕ, ◌≡◌, true, false, List, codes}
 use Rattle.obj_text.specs.declared.numeral.NumeralFault.{NumeralFault}
 use Rattle.obj_text.specs.declared.numeral.NumeralFault.TheVariants.{BadNumeral, NumberRange}
 use Rattle.subdiv_model.specs.Numeral.{is_numeral, is_in_range}
@@ -8,3 +8,8 @@ use Rattle.subdiv_model.specs.Numeral.{is_numeral, is_in_range}
 abbrev pub IsFaultOf : NumeralFault → List ℕ → Type 0
 IsFaultOf BadNumeral word = is_numeral word ≡ false
 IsFaultOf NumberRange word = (is_numeral word ≡ true) × (is_in_range word ≡ false)
+
+-- the same in words
+abbrev pub text_of_fault : NumeralFault → List ℕ
+text_of_fault BadNumeral = codes "bad numeral"
+text_of_fault NumberRange = codes "number out of range"

@@ -7,6 +7,7 @@ ghost use Rattle.subdiv_model.specs.Numeral.{without_sign, is_exponent_mark, is_
 
 use crate::decimal::{Significant, with_digits, with_zeros};
 use crate::digits::{digits_up_to, has_digits_alone};
+use std::fmt;
 
 /// A decimal number in normal form: `mantissa` over ten to the `decimals`, with the least number of
 /// decimals. The mantissa has at most 37 digits, and there are at most 37 decimals. Zero is 0 over 1.
@@ -24,6 +25,22 @@ pub enum NumeralFault {
     /// The word is a numeral whose normal form has more than 37 digits or more than 37 decimals.
     NumberRange,
 }
+
+impl fmt::Display for NumeralFault {
+    ghost use Rattle.obj_text.specs.NumeralFaults.{text_of_fault};
+    ghost use Rattle.std.specs.Prelude.{Some};
+
+    ghost output = { λ fault. Some (text_of_fault fault) };
+
+    fn fmt<W: fmt::Write>(&self, f: &mut fmt::Formatter<W>) -> fmt::Result {
+        f.write_str(match self {
+            NumeralFault::BadNumeral => "bad numeral",
+            NumeralFault::NumberRange => "number out of range",
+        })
+    }
+}
+
+impl std::error::Error for NumeralFault {}
 
 // An exponent of this amount puts each number but 0 out of range, since no word has as many digits.
 const MOST_EXPONENT: u128 = 100_000_000_000_000_000_000;

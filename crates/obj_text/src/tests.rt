@@ -234,3 +234,12 @@ fn splits_lines_into_words(rt: HostRuntime) -> Result<(), Fail> {
     }
     Ok(())
 }
+
+#[test]
+fn names_its_faults(rt: HostRuntime) -> Result<(), Fail> {
+    let bad = format!(in rt.alloc(); "{}", NumeralFault::BadNumeral)?;
+    assert_eq!(rt; bad.as_str(), "bad numeral");
+    let out_of_range = format!(in rt.alloc(); "{}", NumeralFault::NumberRange)?;
+    assert_eq!(rt; out_of_range.as_str(), "number out of range");
+    Ok(())
+}
