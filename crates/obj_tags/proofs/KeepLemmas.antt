@@ -1,0 +1,262 @@
+-- A line is kept behind the lines before it, by its keyword.
+use Rattle.std.proofs.Common.{◌≡◌, ℕ, suc, ◌+◌, ◌-◌, ◌^◌, ◌<◌, ◌≤◌, Bool, true, false, cond, List, [], ◌∷◌, ◌++◌, length, map, take, drop, get_or, arith, refl, ap, sym, subst, ◌∙◌, codes, Result, Ok, Err, MatchResult, None, Some, nat_lt}
+use Rattle.std.proofs.lemmas.Bool.Decides.{nat_tests}
+use Rattle.std.specs.List.{count_by, flat_map}
+use Rattle.std.proofs.lemmas.Bool.{cond_both}
+use Rattle.std.proofs.lemmas.List.{take_more, length-take, length-map}
+use Rattle.std.proofs.lemmas.List.Sums.{sum_by-cons}
+use Rattle.subdiv_model.specs.Polygons.{places}
+use Rattle.subdiv_model.specs.ObjLine.{is_vertex_line, is_face_line}
+use Rattle.subdiv_model.specs.ObjFault as fault
+use Rattle.subdiv_model.specs.ObjWord.{Counts, numeral_fault, corner_fault, corner_point}
+use Rattle.subdiv_model.specs.ObjTag.{tag_fault}
+use Rattle.subdiv_model.specs.ReadObj.{counts_of, is_texture_line, is_tag_line, words_fault, values_of, corner_numbers, is_continued, has_known_keyword, least_values, line_fault, fault_at}
+use Rattle.subdiv_model.proofs.ObjLineLemmas.{keyword-front, places-length, count-before}
+use Rattle.obj_tags.specs.Channel.{ArePositions, AreTextureValues, kept_from, position_forms, texture_forms, position_line_forms, texture_line_forms}
+use Rattle.obj_tags.specs.Draft.{IsDraftOf, IsLineAt, HasRoom, textures_at}
+use Rattle.obj_tags.specs.Mesh.{pieces, Ascend}
+use Rattle.obj_tags.specs.View as view
+use Rattle.obj_tags.specs.Kept.{IsLineFault, point_of, textures_of}
+use Rattle.obj_tags.specs.declared.draft.Draft.{Draft}
+use Rattle.obj_tags.specs.declared.face.Counts as face
+use Rattle.obj_tags.specs.declared.channel.Position.{Position}
+use Rattle.obj_tags.specs.declared.channel.TextureValue.{TextureValue}
+use Rattle.obj_tags.specs.declared.fault.LineFault.{LineFault}
+use Rattle.obj_tags.specs.TagAdded.{AddsTag}
+use Rattle.obj_tags.proofs.ChannelLemmas.{positions-other, textures-other}
+use Rattle.obj_tags.proofs.DraftLemmas.{tags-more, tags-other, faces-more, faces-other}
+use Rattle.obj_tags.proofs.ScaleLemmas.{Words, Forms}
+use Rattle.obj_tags.proofs.PiecesLemmas.{length-pieces}
+use Rattle.subdiv_model.proofs.CountLemmas.{one_if, one-yes, one-no}
+
+-- a line begins with one keyword
+vertex-only : (line : Words) → is_vertex_line line ≡ true → (is_texture_line line ≡ false) × (is_face_line line ≡ false) × (is_tag_line line ≡ false)
+vertex-only line kind = rw (keyword-front (codes "v") line kind) (refl, refl, refl)
+
+texture-only : (line : Words) → is_texture_line line ≡ true → (is_face_line line ≡ false) × (is_tag_line line ≡ false)
+texture-only line kind = rw (keyword-front (codes "vt") line kind) (refl, refl)
+
+-- the lines up to this one
+taken : (all : face.Counts) (number : ℕ) (lines : List Words) (n : ℕ) (line : Words) → IsLineAt all number lines n line → take (n + 1) lines ≡ take n lines ++ line ∷ []
+taken all number lines n line at = take_more lines n [] at.inside ∙ ap (λ ws. take n lines ++ ws ∷ []) at.here
+
+before : (all : face.Counts) (number : ℕ) (lines : List Words) (n : ℕ) (line : Words) → IsLineAt all number lines n line → number ≡ suc (length (take n lines))
+before all number lines n line at =
+    let inside = at.inside in
+    let place = at.place in
+    let short = length-take n lines in
+    omega (arith, short, inside, place)
+
+-- a kind of line that this line is not
+same-positions : (ps : List Position) (all : face.Counts) (number : ℕ) (lines : List Words) (n : ℕ) (line : Words) → IsLineAt all number lines n line → ArePositions ps (take n lines) → is_vertex_line line ≡ false → ArePositions ps (take (n + 1) lines)
+same-positions ps all number lines n line at are other =
+    subst (λ ls. ArePositions ps ls) (sym (taken all number lines n line at)) (positions-other ps (take n lines) line are other)
+
+same-textures : (ts : List TextureValue) (all : face.Counts) (number : ℕ) (lines : List Words) (n : ℕ) (line : Words) → IsLineAt all number lines n line → AreTextureValues ts (take n lines) → is_texture_line line ≡ false → AreTextureValues ts (take (n + 1) lines)
+same-textures ts all number lines n line at are other =
+    subst (λ ls. AreTextureValues ts ls) (sym (taken all number lines n line at)) (textures-other ts (take n lines) line are other)
+
+-- what holds of a result holds also in other words
+match-map : {T E : Type 0} {A A' : T → Type 0} {B B' : E → Type 0} (r : Result T E) → ((x : T) → A x → A' x) → ((e : E) → B e → B' e) → MatchResult r A B → MatchResult r A' B'
+match-map (Ok x) f g said = f x said
+match-map (Err e) f g said = g e said
+
+vertex-fault : (b w : Counts) (line values : Words) → is_vertex_line line ≡ true → drop 1 line ≡ values → words_fault b w line ≡ fault.first_cause numeral_fault values
+vertex-fault b w line values kind e = rw kind (ap (fault.first_cause numeral_fault) e)
+
+texture-fault : (b w : Counts) (line values : Words) → is_vertex_line line ≡ false → is_texture_line line ≡ true → drop 1 line ≡ values → words_fault b w line ≡ fault.first_cause numeral_fault values
+texture-fault b w line values other kind e = rw (other, kind) (ap (fault.first_cause numeral_fault) e)
+
+tag-line-fault : (b w : Counts) (line : Words) → is_vertex_line line ≡ false → is_texture_line line ≡ false → is_face_line line ≡ false → is_tag_line line ≡ true → words_fault b w line ≡ tag_fault w line
+tag-line-fault b w line a c d kind = rw (a, c, d, kind) refl
+
+no-words-fault : (b w : Counts) (line : Words) → is_vertex_line line ≡ false → is_texture_line line ≡ false → is_face_line line ≡ false → is_tag_line line ≡ false → words_fault b w line ≡ None
+no-words-fault b w line a c d e = rw (a, c, d, e) refl
+
+-- a line whose position was kept
+pub kept-position : (r : Result (Unit {0}) LineFault) (draft : Draft) (ps : List Position) (next : Draft) (all : face.Counts) (number : ℕ) (lines : List Words) (n : ℕ) (line values : Words) → next.positions.items ≡ ps → next.texture ≡ draft.texture → next.faces ≡ draft.faces → next.tags ≡ draft.tags → IsLineAt all number lines n line → is_vertex_line line ≡ true → drop 1 line ≡ values → IsDraftOf draft lines n → MatchResult r (λ _. (fault.first_cause numeral_fault values ≡ None) × ((earlier : List Words) (here : Words) → ArePositions draft.positions.items earlier → is_vertex_line here ≡ true → drop 1 here ≡ values → number ≡ suc (length earlier) → ArePositions ps (earlier ++ here ∷ []))) (λ f. IsLineFault f (fault.first_cause numeral_fault values)) → MatchResult r (λ _. (words_fault (counts_of (take n lines)) (counts_of lines) line ≡ None) × IsDraftOf next lines (n + 1)) (λ f. IsLineFault f (words_fault (counts_of (take n lines)) (counts_of lines) line))
+kept-position r draft ps next all number lines n line values e texture faces tags at kind v is said =
+    let b = counts_of (take n lines) in
+    let w = counts_of lines in
+    let same = vertex-fault b w line values kind v in
+    let only = vertex-only line kind in
+    match-map r
+    (λ _ good. (
+      same ∙ good.0,
+      record {
+        positions = subst (λ xs. ArePositions xs (take (n + 1) lines)) (sym e) (subst (λ ls. ArePositions ps ls) (sym (taken all number lines n line at)) (good.1 (take n lines) line is.positions kind v (before all number lines n line at)));
+        texture = rw texture (same-textures draft.texture.items all number lines n line at is.texture only.0);
+        faces = rw faces (faces-other draft.faces lines n at.inside is.faces (ap is_face_line at.here ∙ only.1));
+        tags = rw tags (tags-other draft.tags lines n at.inside is.tags (ap is_tag_line at.here ∙ only.2));
+      },
+    ))
+    (λ f bad. subst (λ o. IsLineFault f o) (sym same) bad)
+    said
+
+-- a line whose texture value was kept
+pub kept-texture : (r : Result (Unit {0}) LineFault) (draft : Draft) (ts : List TextureValue) (next : Draft) (all : face.Counts) (number : ℕ) (lines : List Words) (n : ℕ) (line values : Words) → next.texture.items ≡ ts → next.positions ≡ draft.positions → next.faces ≡ draft.faces → next.tags ≡ draft.tags → IsLineAt all number lines n line → is_vertex_line line ≡ false → is_texture_line line ≡ true → drop 1 line ≡ values → IsDraftOf draft lines n → MatchResult r (λ _. (fault.first_cause numeral_fault values ≡ None) × ((earlier : List Words) (here : Words) → AreTextureValues draft.texture.items earlier → is_texture_line here ≡ true → drop 1 here ≡ values → number ≡ suc (length earlier) → AreTextureValues ts (earlier ++ here ∷ []))) (λ f. IsLineFault f (fault.first_cause numeral_fault values)) → MatchResult r (λ _. (words_fault (counts_of (take n lines)) (counts_of lines) line ≡ None) × IsDraftOf next lines (n + 1)) (λ f. IsLineFault f (words_fault (counts_of (take n lines)) (counts_of lines) line))
+kept-texture r draft ts next all number lines n line values e positions faces tags at other kind v is said =
+    let b = counts_of (take n lines) in
+    let w = counts_of lines in
+    let same = texture-fault b w line values other kind v in
+    let only = texture-only line kind in
+    match-map r
+    (λ _ good. (
+      same ∙ good.0,
+      record {
+        positions = rw positions (same-positions draft.positions.items all number lines n line at is.positions other);
+        texture = subst (λ xs. AreTextureValues xs (take (n + 1) lines)) (sym e) (subst (λ ls. AreTextureValues ts ls) (sym (taken all number lines n line at)) (good.1 (take n lines) line is.texture kind v (before all number lines n line at)));
+        faces = rw faces (faces-other draft.faces lines n at.inside is.faces (ap is_face_line at.here ∙ only.0));
+        tags = rw tags (tags-other draft.tags lines n at.inside is.tags (ap is_tag_line at.here ∙ only.1));
+      },
+    ))
+    (λ f bad. subst (λ o. IsLineFault f o) (sym same) bad)
+    said
+
+-- a line whose tag was kept
+pub kept-tag : (r : Result (Unit {0}) LineFault) (draft next : Draft) (all : face.Counts) (w : Counts) (number : ℕ) (lines : List Words) (n : ℕ) (line values : Words) → next.positions ≡ draft.positions → next.texture ≡ draft.texture → next.faces ≡ draft.faces → IsLineAt all number lines n line → w ≡ counts_of lines → is_vertex_line line ≡ false → is_texture_line line ≡ false → is_face_line line ≡ false → is_tag_line line ≡ true → drop 1 line ≡ values → IsDraftOf draft lines n → MatchResult r (λ _. (tag_fault w (codes "t" ∷ values) ≡ None) × AddsTag (codes "t" ∷ values) draft.tags next.tags) (λ f. IsLineFault f (tag_fault w (codes "t" ∷ values))) → MatchResult r (λ _. (words_fault (counts_of (take n lines)) (counts_of lines) line ≡ None) × IsDraftOf next lines (n + 1)) (λ f. IsLineFault f (words_fault (counts_of (take n lines)) (counts_of lines) line))
+kept-tag r draft next all w number lines n line values positions texture faces at whole no-v no-vt no-f kind v is said =
+    let front : line ≡ codes "t" ∷ values = keyword-front (codes "t") line kind ∙ ap (λ vs. codes "t" ∷ vs) v in
+    let same : words_fault (counts_of (take n lines)) (counts_of lines) line ≡ tag_fault w (codes "t" ∷ values) =
+    tag-line-fault (counts_of (take n lines)) (counts_of lines) line no-v no-vt no-f kind ∙ ap (λ c. tag_fault c line) (sym whole) ∙ ap (tag_fault w) front in
+    match-map r
+    (λ _ good. (
+      same ∙ good.0,
+      record {
+        positions = rw positions (same-positions draft.positions.items all number lines n line at is.positions no-v);
+        texture = rw texture (same-textures draft.texture.items all number lines n line at is.texture no-vt);
+        faces = rw faces (faces-other draft.faces lines n at.inside is.faces (ap is_face_line at.here ∙ no-f));
+        tags = tags-more draft.tags next.tags lines n at.inside is.tags (subst (λ l. AddsTag l draft.tags next.tags) (sym (at.here ∙ front)) good.1);
+      },
+    ))
+    (λ f bad. subst (λ o. IsLineFault f o) (sym same) bad)
+    said
+
+-- a line that is dropped unread
+pub kept-nothing : (draft : Draft) (all : face.Counts) (number : ℕ) (lines : List Words) (n : ℕ) (line : Words) → IsLineAt all number lines n line → is_vertex_line line ≡ false → is_texture_line line ≡ false → is_face_line line ≡ false → is_tag_line line ≡ false → IsDraftOf draft lines n → (words_fault (counts_of (take n lines)) (counts_of lines) line ≡ None) × IsDraftOf draft lines (n + 1)
+kept-nothing draft all number lines n line at no-v no-vt no-f no-t is = (
+  no-words-fault (counts_of (take n lines)) (counts_of lines) line no-v no-vt no-f no-t,
+  record {
+    positions = same-positions draft.positions.items all number lines n line at is.positions no-v;
+    texture = same-textures draft.texture.items all number lines n line at is.texture no-vt;
+    faces = faces-other draft.faces lines n at.inside is.faces (ap is_face_line at.here ∙ no-f);
+    tags = tags-other draft.tags lines n at.inside is.tags (ap is_tag_line at.here ∙ no-t);
+  },
+)
+
+kept-count : (place : ℕ) (kind : Words → Bool) (forms : Words → Forms) (lines : List Words) → length (kept_from place kind forms lines) ≡ count_by kind lines
+kept-count place kind forms [] = refl
+kept-count place kind forms (line ∷ lines) =
+    let rest : length (kept_from (place + 1) kind forms lines) ≡ count_by kind lines = kept-count (place + 1) kind forms lines in
+    let sum : count_by kind (line ∷ lines) ≡ one_if (kind line) + count_by kind lines = sum_by-cons (λ y. cond (kind y) 1 0) line lines in
+    cond_both (kind line) ((place, forms line) ∷ kept_from (place + 1) kind forms lines) (kept_from (place + 1) kind forms lines) (λ ps. length ps ≡ count_by kind (line ∷ lines))
+    (λ yes. let one : one_if (kind line) ≡ 1 = one-yes (kind line) yes in omega (arith, rest, sum, one))
+    (λ no. let none : one_if (kind line) ≡ 0 = one-no (kind line) no in omega (arith, rest, sum, none))
+
+-- what was kept of the lines counts them
+pub counts-kept : (draft : Draft) (b : face.Counts) (lines : List Words) (n : ℕ) → b.points ≡ length draft.positions.items → b.textures ≡ length draft.texture.items → b.faces + 1 ≡ length draft.faces.starts.items → IsDraftOf draft lines n → view.counts_of b ≡ counts_of (take n lines)
+counts-kept draft b lines n points textures faces is =
+    let ps : b.points ≡ count_by is_vertex_line (take n lines) =
+    points ∙ sym (length-map draft.positions.items (λ (p : Position). (p.line, position_forms p))) ∙ ap length is.positions.read ∙ kept-count 1 is_vertex_line position_line_forms (take n lines) in
+    let ts : b.textures ≡ count_by is_texture_line (take n lines) =
+    textures ∙ sym (length-map draft.texture.items (λ (t : TextureValue). (t.line, texture_forms t))) ∙ ap length is.texture.read ∙ kept-count 1 is_texture_line texture_line_forms (take n lines) in
+    let pieced : length (pieces draft.faces.starts.items draft.faces.corners.items) ≡ length draft.faces.starts.items - 1 = length-pieces draft.faces.starts.items draft.faces.corners.items in
+    let counted : length (pieces draft.faces.starts.items draft.faces.corners.items) ≡ count_by is_face_line (take n lines) =
+    ap length is.faces.read ∙ length-map (places is_face_line (take n lines)) (corner_numbers corner_point lines) ∙ places-length is_face_line (take n lines) in
+    let fs : b.faces ≡ count_by is_face_line (take n lines) = omega (arith, faces, pieced, counted) in
+    rw (ps, ts, fs) refl
+
+face-line-fault : (b w : Counts) (line values : Words) → is_vertex_line line ≡ false → is_texture_line line ≡ false → is_face_line line ≡ true → line ≡ codes "f" ∷ values → words_fault b w line ≡ fault.first_cause (corner_fault b w (get_or values 0 [])) values
+face-line-fault b w line values a c kind front = rw (a, c, kind) (ap (λ l. fault.first_cause (corner_fault b w (get_or l 1 [])) (values_of l)) front)
+
+face-only : (line : Words) → is_face_line line ≡ true → is_tag_line line ≡ false
+face-only line kind = rw (keyword-front (codes "f") line kind) refl
+
+-- a line whose face was kept
+pub kept-face : (r : Result (Unit {0}) LineFault) (draft next : Draft) (all : face.Counts) (b w : Counts) (number : ℕ) (lines : List Words) (n : ℕ) (line values : Words) → next.positions ≡ draft.positions → next.texture ≡ draft.texture → next.tags ≡ draft.tags → IsLineAt all number lines n line → b ≡ counts_of (take n lines) → w ≡ counts_of lines → is_vertex_line line ≡ false → is_texture_line line ≡ false → is_face_line line ≡ true → drop 1 line ≡ values → IsDraftOf draft lines n → MatchResult r (λ _. (fault.first_cause (corner_fault b w (get_or values 0 [])) values ≡ None) × (next.faces.corners.items ≡ draft.faces.corners.items ++ map (point_of b w) values) × (next.faces.texture_corners.items ≡ draft.faces.texture_corners.items ++ flat_map (textures_of b w) values) × (next.faces.starts.items ≡ draft.faces.starts.items ++ (length draft.faces.corners.items + length values) ∷ [])) (λ f. IsLineFault f (fault.first_cause (corner_fault b w (get_or values 0 [])) values)) → MatchResult r (λ _. (words_fault (counts_of (take n lines)) (counts_of lines) line ≡ None) × IsDraftOf next lines (n + 1)) (λ f. IsLineFault f (words_fault (counts_of (take n lines)) (counts_of lines) line))
+kept-face r draft next all b w number lines n line values positions texture tags at eb ew no-v no-vt kind v is said =
+    let bn = counts_of (take n lines) in
+    let wn = counts_of lines in
+    let front : line ≡ codes "f" ∷ values = keyword-front (codes "f") line kind ∙ ap (λ vs. codes "f" ∷ vs) v in
+    let vals : values ≡ values_of (get_or lines n []) = sym (ap values_of at.here ∙ v) in
+    let same : words_fault bn wn line ≡ fault.first_cause (corner_fault b w (get_or values 0 [])) values =
+    ap (λ c. words_fault c wn line) (sym eb) ∙ ap (λ c. words_fault b c line) (sym ew) ∙ face-line-fault b w line values no-v no-vt kind front in
+    let points : map (point_of b w) values ≡ corner_numbers corner_point lines n =
+    ap (λ c. map (point_of c w) values) eb ∙ ap (λ c. map (point_of bn c) values) ew ∙ ap (map (point_of bn wn)) vals in
+    let named : flat_map (textures_of b w) values ≡ textures_at lines n =
+    ap (λ c. flat_map (textures_of c w) values) eb ∙ ap (λ c. flat_map (textures_of bn c) values) ew ∙ ap (flat_map (textures_of bn wn)) vals in
+    let size : length values ≡ length (corner_numbers corner_point lines n) = sym (length-map values (point_of b w)) ∙ ap length points in
+    match-map r
+    (λ _ good. (
+      same ∙ good.0,
+      record {
+        positions = rw positions (same-positions draft.positions.items all number lines n line at is.positions no-v);
+        texture = rw texture (same-textures draft.texture.items all number lines n line at is.texture no-vt);
+        faces = faces-more draft.faces next.faces lines n at.inside is.faces (ap is_face_line at.here ∙ kind)
+            (good.1 ∙ ap (λ xs. draft.faces.corners.items ++ xs) points)
+            (good.2 ∙ ap (λ xs. draft.faces.texture_corners.items ++ xs) named)
+            (good.3 ∙ ap (λ k. draft.faces.starts.items ++ (length draft.faces.corners.items + k) ∷ []) size);
+        tags = rw tags (tags-other draft.tags lines n at.inside is.tags (ap is_tag_line at.here ∙ face-only line kind));
+      },
+    ))
+    (λ f bad. subst (λ o. IsLineFault f o) (sym same) bad)
+    said
+
+ltb-of : (a b : ℕ) → a < b → nat_lt a b ≡ true
+ltb-of a b h = grind (arith, nat_tests)
+
+ltb-not : (a b : ℕ) → b ≤ a → nat_lt a b ≡ false
+ltb-not a b h = grind (arith, nat_tests)
+
+pub line-unknown : (b w : Counts) (word : List ℕ) (values : Words) → is_continued (word ∷ values) ≡ false → has_known_keyword (word ∷ values) ≡ false → line_fault b w (word ∷ values) ≡ Some fault.UnknownKeyword
+line-unknown b w word values last unknown = rw (last, unknown) refl
+
+pub line-short : (b w : Counts) (word : List ℕ) (values : Words) → is_continued (word ∷ values) ≡ false → has_known_keyword (word ∷ values) ≡ true → length values < least_values (word ∷ values) → line_fault b w (word ∷ values) ≡ Some fault.ShortLine
+line-short b w word values last known short = rw (last, known, ltb-of (length values) (least_values (word ∷ values)) short) refl
+
+pub line-read : (b w : Counts) (word : List ℕ) (values : Words) → is_continued (word ∷ values) ≡ false → has_known_keyword (word ∷ values) ≡ true → least_values (word ∷ values) ≤ length values → line_fault b w (word ∷ values) ≡ words_fault b w (word ∷ values)
+line-read b w word values last known enough = rw (last, known, ltb-not (length values) (least_values (word ∷ values)) enough) refl
+
+-- a line without words
+pub empty-kept : (draft : Draft) (all : face.Counts) (number : ℕ) (lines : List Words) (n : ℕ) (line : Words) → line ≡ [] → IsLineAt all number lines n line → IsDraftOf draft lines n → (fault_at lines n ≡ None) × IsDraftOf draft lines (n + 1)
+empty-kept draft all number lines n line e at is =
+    let kept = kept-nothing draft all number lines n line at (ap is_vertex_line e) (ap is_texture_line e) (ap is_face_line e) (ap is_tag_line e) is in
+    (ap (line_fault (counts_of (take n lines)) (counts_of lines)) (at.here ∙ e), kept.1)
+
+-- a line whose words were read
+pub read-kept : (r : Result (Unit {0}) LineFault) (next : Draft) (all : face.Counts) (number : ℕ) (lines : List Words) (n : ℕ) (line : Words) (word : List ℕ) (values : Words) → line ≡ word ∷ values → IsLineAt all number lines n line → is_continued (word ∷ values) ≡ false → has_known_keyword (word ∷ values) ≡ true → least_values (word ∷ values) ≤ length values → MatchResult r (λ _. (words_fault (counts_of (take n lines)) (counts_of lines) line ≡ None) × IsDraftOf next lines (n + 1)) (λ f. IsLineFault f (words_fault (counts_of (take n lines)) (counts_of lines) line)) → MatchResult r (λ _. (fault_at lines n ≡ None) × IsDraftOf next lines (n + 1)) (λ f. IsLineFault f (fault_at lines n))
+read-kept r next all number lines n line word values e at last known enough said =
+    let bn = counts_of (take n lines) in
+    let wn = counts_of lines in
+    let same : fault_at lines n ≡ words_fault bn wn line =
+    ap (line_fault bn wn) (at.here ∙ e) ∙ line-read bn wn word values last known enough ∙ ap (words_fault bn wn) (sym e) in
+    match-map r
+    (λ _ good. (same ∙ good.0, good.1))
+    (λ f bad. subst (λ o. IsLineFault f o) (sym same) bad)
+    said
+
+pub some-starts : (starts : List ℕ) (end : ℕ) → Ascend starts end → 1 ≤ length starts
+some-starts [] end ascend = absurd ascend
+some-starts (a ∷ starts) end ascend = omega arith
+
+-- what was kept of the first lines is no more than what all lines have
+pub kept-room : (draft : Draft) (all : face.Counts) (lines : List Words) (n more : ℕ) → view.counts_of all ≡ counts_of lines → all.faces < 2 ^ 32 → IsDraftOf draft lines n → length draft.faces.corners.items + more < 2 ^ 32 → HasRoom draft all more
+kept-room draft all lines n more counted few is corners =
+    let starts = draft.faces.starts.items in
+    let some = some-starts starts (length draft.faces.corners.items) is.faces.ascend in
+    let b : face.Counts = record { points = length draft.positions.items; textures = length draft.texture.items; faces = length starts - 1 } in
+    let whole : (length starts - 1) + 1 ≡ length starts = omega (arith, some) in
+    let before = counts-kept draft b lines n refl refl whole is in
+    let ps : length draft.positions.items ≡ count_by is_vertex_line (take n lines) = ap (λ (k : Counts). k.points) before in
+    let ts : length draft.texture.items ≡ count_by is_texture_line (take n lines) = ap (λ (k : Counts). k.textures) before in
+    let fs : length starts - 1 ≡ count_by is_face_line (take n lines) = ap (λ (k : Counts). k.faces) before in
+    let all-ps : all.points ≡ count_by is_vertex_line lines = ap (λ (k : Counts). k.points) counted in
+    let all-ts : all.textures ≡ count_by is_texture_line lines = ap (λ (k : Counts). k.textures) counted in
+    let all-fs : all.faces ≡ count_by is_face_line lines = ap (λ (k : Counts). k.faces) counted in
+    record {
+      points = omega (arith, ps, all-ps, count-before is_vertex_line lines n);
+      textures = omega (arith, ts, all-ts, count-before is_texture_line lines n);
+      some = some;
+      faces = omega (arith, whole, fs, all-fs, few, count-before is_face_line lines n);
+      corners = corners;
+    }

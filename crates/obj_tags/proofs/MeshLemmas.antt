@@ -1,0 +1,116 @@
+-- The mesh of a draft of all lines is that of the lines.
+use Rattle.std.proofs.Common.{◌≡◌, ℕ, ◌+◌, ℤ, Bool, true, false, ◌&&◌, nat_eq, nat_lt, List, [], ◌∷◌, ◌++◌, length, map, take, get_or, arith, refl, ap, sym, subst, ◌∙◌, Option, option_map, ⊎_elim, if◌then◌else◌}
+use Rattle.std.specs.Prelude.{unwrap_or}
+use Rattle.std.specs.List.{list_all, list_any, count_by, filter, flat_map}
+use Rattle.std.proofs.Math.Seq.{take-length}
+use Rattle.std.proofs.lemmas.Bool.{and_parts, cases_Bool}
+use Rattle.std.proofs.lemmas.Bool.Decides.{nat_tests}
+use Rattle.std.proofs.lemmas.List.{length-map, length-append}
+use Rattle.std.proofs.lemmas.List.Folds.{list_all-map, flat_map-map}
+use Rattle.std.proofs.lemmas.List.Sums.{sum_by-append}
+use Rattle.sharpness_rules.specs.View.{method_of}
+use Rattle.subdiv_model.specs.ObjLine.{is_vertex_line, is_face_line}
+use Rattle.subdiv_model.specs.ObjWord.{corner_point, corner_texture, has_texture_part}
+use Rattle.subdiv_model.specs.ReadObj.{counts_of, values_of, corner_numbers, has_texture_channel, texture_corners_of, is_texture_line, position_scale, texture_scale_of, point_at, texture_at, mesh_of_lines, first_long_line}
+use Rattle.subdiv_model.proofs.CountLemmas.{any-count}
+use Rattle.subdiv_model.proofs.ObjChannelLemmas.{passing-all, passing-count, corner-words, channel-counted}
+use Rattle.subdiv_model.proofs.ObjLateLemmas.{filter-places}
+use Rattle.obj_tags.specs.declared.channel.Position.{Position}
+use Rattle.obj_tags.specs.declared.channel.TextureValue.{TextureValue}
+use Rattle.obj_tags.specs.Channel.{ArePositions, AreTextureValues, first_long_of_kind, lesser_line}
+use Rattle.obj_tags.proofs.LongLemmas.{long_fault_at, first-long}
+use Rattle.obj_tags.specs.Draft.{IsDraftOf, textures_at}
+use Rattle.obj_tags.specs.Mesh.{pieces, Ascend}
+use Rattle.obj_tags.specs.View.{boundary_of, crease_of, corner_tag_of}
+use Rattle.obj_tags.specs.declared.draft.Draft.{Draft}
+use Rattle.obj_tags.proofs.PiecesLemmas.{pieces-same}
+use Rattle.obj_tags.proofs.ScaleLemmas.{Words}
+use Rattle.obj_tags.proofs.WholeLemmas.{OfAll, of-all, face-places}
+
+-- the corners of the face lines at places, as words
+abbrev words-at : List Words → List ℕ → List (List ℕ)
+words-at lines is = flat_map (λ i. values_of (get_or lines i [])) is
+
+words-of-faces : (lines : List Words) → words-at lines (face-places lines) ≡ corner-words lines
+words-of-faces lines =
+    sym (flat_map-map values_of (λ i. get_or lines i []) (face-places lines)) ∙ ap (flat_map values_of) (filter-places is_face_line [] lines)
+
+-- each corner has a point
+points-count : (lines : List Words) (is : List ℕ) → length (flat_map (corner_numbers corner_point lines) is) ≡ length (words-at lines is)
+points-count lines [] = refl
+points-count lines (i ∷ is) =
+    let named = corner_numbers corner_point lines in
+    let values = values_of (get_or lines i []) in
+    let here : length (named i) ≡ length values = length-map values (λ corner. unwrap_or (corner_point (counts_of (take i lines)) (counts_of lines) corner) 0) in
+    omega (arith, length-append (named i) (flat_map named is), length-append values (words-at lines is), here, points-count lines is)
+
+-- and where it has a texture value it has one
+textures-count : (lines : List Words) (is : List ℕ) → length (flat_map (textures_at lines) is) ≡ count_by has_texture_part (words-at lines is)
+textures-count lines [] = refl
+textures-count lines (i ∷ is) =
+    let values = values_of (get_or lines i []) in
+    let here : length (textures_at lines i) ≡ count_by has_texture_part values = passing-count has_texture_part (λ word. unwrap_or (corner_texture (counts_of (take i lines)) (counts_of lines) word) 0) values in
+    let sum : count_by has_texture_part (values ++ words-at lines is) ≡ count_by has_texture_part values + count_by has_texture_part (words-at lines is) = sum_by-append (λ w. if has_texture_part w then 1 else 0) values (words-at lines is) in
+    omega (arith, length-append (textures_at lines i) (flat_map (textures_at lines) is), sum, here, textures-count lines is)
+
+some-counted : {X : Type 0} (test : X → Bool) (xs : List X) (n : ℕ) → n ≡ count_by test xs + 1 → nat_lt 1 n ≡ list_any test xs
+some-counted test xs n e = grind (arith, nat_tests, any-count test xs)
+
+-- whether all corners have a texture value
+pub has-texture : (draft : Draft) (lines : List Words) → OfAll draft lines → (nat_lt 1 (length draft.faces.starts.items) && nat_eq (length draft.faces.texture_corners.items) (length draft.faces.corners.items)) ≡ has_texture_channel lines
+has-texture draft lines all =
+    let words = words-of-faces lines in
+    let some : nat_lt 1 (length draft.faces.starts.items) ≡ list_any is_face_line lines = some-counted is_face_line lines (length draft.faces.starts.items) all.faces in
+    let textures : length draft.faces.texture_corners.items ≡ count_by has_texture_part (corner-words lines) = ap length all.texture ∙ textures-count lines (face-places lines) ∙ ap (count_by has_texture_part) words in
+    let corners : length draft.faces.corners.items ≡ length (corner-words lines) = ap length all.corners ∙ points-count lines (face-places lines) ∙ ap length words in
+    rw (some, textures, corners) (sym (channel-counted lines))
+
+-- then these are all that were kept
+all-textured : (lines : List Words) (is : List ℕ) → list_all (λ i. list_all has_texture_part (values_of (get_or lines i []))) is ≡ true → flat_map (textures_at lines) is ≡ flat_map (corner_numbers corner_texture lines) is
+all-textured lines [] h = refl
+all-textured lines (i ∷ is) h =
+    let parts : (list_all has_texture_part (values_of (get_or lines i [])) ≡ true) × (list_all (λ j. list_all has_texture_part (values_of (get_or lines j []))) is ≡ true) = and_parts _ _ h in
+    let here : textures_at lines i ≡ corner_numbers corner_texture lines i = passing-all has_texture_part (λ word. unwrap_or (corner_texture (counts_of (take i lines)) (counts_of lines) word) 0) (values_of (get_or lines i [])) parts.0 in
+    ap (λ xs. xs ++ flat_map (textures_at lines) is) here ∙ ap (λ xs. corner_numbers corner_texture lines i ++ xs) (all-textured lines is parts.1)
+
+textured-faces : (lines : List Words) → has_texture_channel lines ≡ true → flat_map (textures_at lines) (face-places lines) ≡ flat_map (corner_numbers corner_texture lines) (face-places lines)
+textured-faces lines has =
+    let parts : (list_any is_face_line lines ≡ true) × (list_all (λ words. list_all has_texture_part (values_of words)) (filter is_face_line lines) ≡ true) = and_parts _ _ has in
+    all-textured lines (face-places lines)
+    (sym (list_all-map (λ words. list_all has_texture_part (values_of words)) (λ i. get_or lines i []) (face-places lines)) ∙ ap (list_all (λ words. list_all has_texture_part (values_of words))) (filter-places is_face_line [] lines) ∙ parts.1)
+
+texture-corners : (draft : Draft) (lines : List Words) → Ascend draft.faces.starts.items (length draft.faces.corners.items) → OfAll draft lines → (if has_texture_channel lines then pieces draft.faces.starts.items draft.faces.texture_corners.items else []) ≡ texture_corners_of lines
+texture-corners draft lines ascend all =
+    let named = corner_numbers corner_texture lines in
+    let alike : (i : ℕ) → length (corner_numbers corner_texture lines i) ≡ length (corner_numbers corner_point lines i) = λ i.
+    length-map (values_of (get_or lines i [])) (λ corner. unwrap_or (corner_texture (counts_of (take i lines)) (counts_of lines) corner) 0)
+    ∙ sym (length-map (values_of (get_or lines i [])) (λ corner. unwrap_or (corner_point (counts_of (take i lines)) (counts_of lines) corner) 0)) in
+    ⊎_elim
+    (λ (has : has_texture_channel lines ≡ true).
+    let kept : draft.faces.texture_corners.items ≡ flat_map named (face-places lines) = all.texture ∙ textured-faces lines has in
+    rw has
+    (ap (pieces draft.faces.starts.items) kept
+    ∙ pieces-same (corner_numbers corner_point lines) named alike draft.faces.starts.items draft.faces.corners.items (face-places lines) ascend all.read all.corners))
+    (λ (none : has_texture_channel lines ≡ false). rw none refl)
+    (cases_Bool (has_texture_channel lines))
+
+-- what was kept of all lines
+pub all-positions : (draft : Draft) (lines : List Words) (ps : List Position) → ps ≡ draft.positions.items → IsDraftOf draft lines (length lines) → ArePositions ps lines
+all-positions draft lines ps e is = rw e (subst (ArePositions draft.positions.items) (take-length lines) is.positions)
+
+pub all-values : (draft : Draft) (lines : List Words) (ts : List TextureValue) → ts ≡ draft.texture.items → IsDraftOf draft lines (length lines) → AreTextureValues ts lines
+all-values draft lines ts e is = rw e (subst (AreTextureValues draft.texture.items) (take-length lines) is.texture)
+
+-- what was kept, at its scales, is the mesh of the lines
+pub mesh-draft : (draft : Draft) (lines : List Words) (least scale texture_scale : ℕ) (has : Bool) (points : List (ℤ × ℤ × ℤ)) (values : List (ℤ × ℤ)) → IsDraftOf draft lines (length lines) → scale ≡ position_scale least lines → texture_scale ≡ texture_scale_of lines → has ≡ (nat_lt 1 (length draft.faces.starts.items) && nat_eq (length draft.faces.texture_corners.items) (length draft.faces.corners.items)) → points ≡ map (point_at scale) (filter is_vertex_line lines) → values ≡ map (texture_at texture_scale) (filter is_texture_line lines) → (record { points = points; scale = scale; texture = values; texture_scale = texture_scale; faces = pieces draft.faces.starts.items draft.faces.corners.items; has_texture = has; texture_corners = if has then pieces draft.faces.starts.items draft.faces.texture_corners.items else []; creases = map crease_of draft.tags.creases.items; corners = map corner_tag_of draft.tags.corners.items; holes = draft.tags.holes.items; boundary = boundary_of draft.tags.boundary; method = method_of draft.tags.method }) ≡ mesh_of_lines lines least
+mesh-draft draft lines least scale texture_scale has points values is e_scale e_texture_scale e_has e_points e_values =
+    let all = of-all draft lines is in
+    let same : has ≡ has_texture_channel lines = e_has ∙ has-texture draft lines all in
+    rw (e_points, e_values, e_scale, e_texture_scale, all.read, all.tags.creases, all.tags.corners, all.tags.holes, all.tags.boundary, all.tags.method, same, texture-corners draft lines is.faces.ascend all) refl
+
+-- the first line that is too long at these scales
+pub long-draft : (lines : List Words) (least scale texture_scale : ℕ) (a b : Option ℕ) → scale ≡ position_scale least lines → texture_scale ≡ texture_scale_of lines → option_map long_fault_at a ≡ first_long_of_kind is_vertex_line scale lines → option_map long_fault_at b ≡ first_long_of_kind is_texture_line texture_scale lines → option_map long_fault_at (lesser_line a b) ≡ first_long_line least lines
+long-draft lines least scale texture_scale a b e_scale e_texture_scale e_a e_b =
+    first-long least lines a b
+    (e_a ∙ ap (λ n. first_long_of_kind is_vertex_line n lines) e_scale)
+    (e_b ∙ ap (λ n. first_long_of_kind is_texture_line n lines) e_texture_scale)

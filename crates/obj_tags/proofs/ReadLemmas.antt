@@ -1,0 +1,28 @@
+-- The next line of a text, among the lines that a reader walks.
+use Rattle.std.proofs.Common.{◌≡◌, ℕ, ◌+◌, ◌-◌, ◌<◌, ◌≤◌, List, [], ◌∷◌, length, map, drop, get_or, arith, ap, sym, ◌∙◌, length-drop}
+use Rattle.std.proofs.lemmas.List.{drop_more}
+use Rattle.subdiv_model.specs.ObjLine.{lines_of, line_words}
+use Rattle.obj_tags.proofs.ScaleLemmas.{Words}
+
+-- a line stands at place n, and others follow it
+pub record IsNext (lines : List Words) (n : ℕ) (words : Words) (rest : List Words) : Type 0 where
+  pub inside : n < length lines
+  pub here : get_or lines n [] ≡ words
+  pub left : rest ≡ drop (n + 1) lines
+
+inside-drop : (lines : List Words) (n : ℕ) (words : Words) (rest : List Words) → words ∷ rest ≡ drop n lines → n < length lines
+inside-drop lines n words rest e =
+    let short : length (words ∷ rest) ≡ length lines - n = ap length e ∙ length-drop n lines in omega arith
+
+pub next-line : (rest line others : List ℕ) (lines : List Words) (n : ℕ) → lines_of rest ≡ line ∷ lines_of others → map line_words (lines_of rest) ≡ drop n lines → IsNext lines n (line_words line) (map line_words (lines_of others))
+next-line rest line others lines n e left =
+    let whole : line_words line ∷ map line_words (lines_of others) ≡ drop n lines = sym (ap (map line_words) e) ∙ left in
+    let inside = inside-drop lines n (line_words line) (map line_words (lines_of others)) whole in
+    let split : line_words line ∷ map line_words (lines_of others) ≡ get_or lines n [] ∷ drop (n + 1) lines = whole ∙ drop_more lines n [] inside in
+    record { inside = inside; here = cc; left = cc }
+
+-- no line is left
+pub at-end : (rest : List ℕ) (lines : List Words) (n : ℕ) → lines_of rest ≡ [] → map line_words (lines_of rest) ≡ drop n lines → length lines ≤ n
+at-end rest lines n e left =
+    let none : length (drop n lines) ≡ 0 = ap length (sym left) ∙ ap (λ ls. length (map line_words ls)) e in
+    omega (arith, length-drop n lines)

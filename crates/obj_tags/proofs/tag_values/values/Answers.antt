@@ -1,0 +1,34 @@
+use Rattle.std.proofs.Common.{◌<◌, ◌-◌, ◌++◌, length, map, take, rules, arith, ap, sym, ◌∙◌}
+use Rattle.obj_tags.specs.View.{cause_of}
+use Rattle.obj_tags.specs.Walk.{words_left}
+use Rattle.obj_tags.proofs.WalkLemmas.{taken-cause, taken-some, taken-found, taken-rest, taken-inside}
+use Rattle.std.proofs.lemmas.List.{map_push, length_push}
+use Rattle.subdiv_model.specs.Sharpness as model
+use Rattle.subdiv_model.specs.ObjTag.{tag_numeral_fault, amount_fraction}
+use Rattle.sharpness_rules.specs.View.{sharpness_of}
+use Rattle.obj_tags.proofs.tag_values.values.Goals as goal
+
+pub loop-left-preserved : goal.loop-left-preserved
+loop-left-preserved c =
+    let some : 0 < c.loop-left.left = omega (arith, c.loop-left-test.true) in
+    let left = words_left c.loop-left.words in
+    let next = words_left c.next_word.new.words in
+    let word = c.in-Some.word.now in
+    let read = c.in_ok-sharpness.ensures in
+    record {
+      fault = taken-cause tag_numeral_fault c.loop-left.left word left next some c.in-Some.ensures read.0 ∙ c.loop-left.invariant.fault;
+      found =
+          ap (λ xs. map sharpness_of xs ++ map (λ word. model.sharpness_of_fraction (amount_fraction word)) (take (c.loop-left.left - 1) next)) c.in_ok-push.ensures.items
+          ∙ ap (λ xs. xs ++ map (λ word. model.sharpness_of_fraction (amount_fraction word)) (take (c.loop-left.left - 1) next)) (map_push sharpness_of c.loop-left.found.items c.in_ok-sharpness.field-0)
+          ∙ taken-found (λ word. model.sharpness_of_fraction (amount_fraction word)) c.loop-left.left word left next (map sharpness_of c.loop-left.found.items) (sharpness_of c.in_ok-sharpness.field-0) some c.in-Some.ensures read.1
+          ∙ c.loop-left.invariant.found;
+      rest = taken-rest c.loop-left.left word left next some c.in-Some.ensures ∙ c.loop-left.invariant.rest;
+      count = omega (arith, some, c.loop-left.invariant.count, ap length c.in_ok-push.ensures.items, length_push c.loop-left.found.items c.in_ok-sharpness.field-0);
+      inside = taken-inside c.loop-left.left word left next c.loop-left.invariant.inside c.in-Some.ensures;
+    }
+
+pub returns-in_err-sharpness-clause-found : goal.returns-in_err-sharpness-clause-found
+returns-in_err-sharpness-clause-found c =
+    let some : 0 < c.loop-left.left = omega (arith, c.loop-left-test.true) in
+    let total = sym c.loop-left.invariant.fault ∙ taken-some tag_numeral_fault c.loop-left.left c.in-Some.word.now (words_left c.loop-left.words) (words_left c.next_word.new.words) (cause_of c.in_err-sharpness.field-0.0) some c.in-Some.ensures c.in_err-sharpness.ensures in
+    rw total (search rules)

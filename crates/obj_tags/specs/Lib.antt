@@ -1,0 +1,13 @@
+pub mod View
+pub mod Walk
+pub mod Corner
+pub mod Kept
+pub mod Counts
+pub mod Channel
+pub mod Mesh
+pub mod TagView
+pub mod TagAdded
+pub mod Keyword
+pub mod Laws
+pub mod Draft
+pub mod Text

@@ -1,0 +1,71 @@
+-- The types of this crate, seen as those of the definitions.
+use Rattle.std.specs.Prelude.{ℕ, ℤ}
+use Rattle.subdiv_model.specs.ObjFault as fault
+use Rattle.subdiv_model.specs.Base as base
+use Rattle.subdiv_model.specs.ObjWord as words
+use Rattle.subdiv_model.specs.ObjTag as tags
+use Rattle.subdiv_model.specs.Sharpness as sharp
+use Rattle.ratio128.specs.declared.point.Point3.{Point3}
+use Rattle.ratio128.specs.declared.point.Point2.{Point2}
+use Rattle.sharpness_rules.specs.View.{sharpness_of}
+use Rattle.obj_tags.specs.declared.mesh.Crease.{Crease}
+use Rattle.obj_tags.specs.declared.mesh.CornerTag.{CornerTag}
+use Rattle.obj_text.specs.declared.numeral.Numeral.{Numeral}
+use Rattle.obj_tags.specs.declared.fault.ObjCause.{ObjCause}
+use Rattle.obj_tags.specs.declared.fault.ObjCause.TheVariants.{BadNumeral, NumberRange, UnknownKeyword, Continuation, ShortLine, BadCorner, IndexRange, BadTag, TagIndex, SharpnessRange, MoveIndex, TooFine, LongLine}
+use Rattle.obj_tags.specs.declared.fault.ObjFault.{ObjFault}
+use Rattle.obj_tags.specs.declared.mesh.Boundary.{Boundary}
+use Rattle.obj_tags.specs.declared.mesh.Boundary.TheVariants.{Hidden, EdgeAndCorner, EdgeOnly}
+use Rattle.obj_tags.specs.declared.face.Counts.{Counts}
+use Rattle.obj_tags.specs.declared.tag_counts.TagKind.{TagKind}
+use Rattle.obj_tags.specs.declared.tag_counts.TagKind.TheVariants as kind
+
+abbrev pub cause_of : ObjCause → fault.ObjCause
+cause_of BadNumeral = fault.BadNumeral
+cause_of NumberRange = fault.NumberRange
+cause_of UnknownKeyword = fault.UnknownKeyword
+cause_of Continuation = fault.Continuation
+cause_of ShortLine = fault.ShortLine
+cause_of BadCorner = fault.BadCorner
+cause_of IndexRange = fault.IndexRange
+cause_of BadTag = fault.BadTag
+cause_of TagIndex = fault.TagIndex
+cause_of SharpnessRange = fault.SharpnessRange
+cause_of MoveIndex = fault.MoveIndex
+cause_of TooFine = fault.TooFine
+cause_of LongLine = fault.LongLine
+
+abbrev pub fault_of : ObjFault → fault.ObjFault
+fault_of f = record { line = f.line; cause = cause_of f.cause }
+
+abbrev pub boundary_of : Boundary → base.Boundary
+boundary_of Hidden = base.Hidden
+boundary_of EdgeAndCorner = base.EdgeAndCorner
+boundary_of EdgeOnly = base.EdgeOnly
+
+abbrev pub counts_of : Counts → words.Counts
+counts_of c = record { points = c.points; textures = c.textures; faces = c.faces }
+
+abbrev pub kind_of : TagKind → tags.TagKind
+kind_of kind.Crease = tags.CreaseTag
+kind_of kind.Corner = tags.CornerTag
+kind_of kind.Hole = tags.HoleTag
+kind_of kind.Boundary = tags.BoundaryTag
+kind_of kind.Method = tags.MethodTag
+kind_of kind.Dropped = tags.DroppedTag
+
+-- a numeral's mantissa and decimals
+abbrev pub form_of : Numeral → ℤ × ℕ
+form_of n = (n.mantissa, n.decimals)
+
+abbrev pub crease_of : Crease → (ℕ × ℕ) × sharp.Sharpness
+crease_of c = ((c.a, c.b), sharpness_of c.sharpness)
+
+abbrev pub corner_tag_of : CornerTag → ℕ × sharp.Sharpness
+corner_tag_of c = (c.vertex, sharpness_of c.sharpness)
+
+abbrev pub point_of : Point3 → ℤ × ℤ × ℤ
+point_of p = (p.x, p.y, p.z)
+
+abbrev pub texture_of : Point2 → ℤ × ℤ
+texture_of p = (p.u, p.v)

@@ -1,0 +1,156 @@
+ghost use Rattle.std.specs.Prelude.{◌≡◌, Some};
+ghost use Rattle.obj_tags.specs.Text.{cause_text, fault_text, read_fault_text};
+
+use std::alloc::{AllocError, AllocFailed};
+use std::fmt;
+
+/// Why a line is refused.
+#[derive(Clone, Copy, Debug, PartialEq, Eq)]
+pub enum ObjCause {
+    /// A word that should be a decimal numeral is none.
+    BadNumeral,
+    /// A numeral has more than 37 digits or more than 37 decimals, or more than 37 digits at the
+    /// scale of its channel.
+    NumberRange,
+    /// The first word of a line is no keyword.
+    UnknownKeyword,
+    /// The last word of a line ends with a backslash.
+    Continuation,
+    /// A line has too few words for its keyword.
+    ShortLine,
+    /// A face corner has no known form, or another than the first corner of its line.
+    BadCorner,
+    /// A face corner names no `v` line or no `vt` line.
+    IndexRange,
+    /// A tag has an unknown name, counts that do not fit, or a word that does not fit.
+    BadTag,
+    /// A tag names no vertex or no face.
+    TagIndex,
+    /// A sharpness is below 0, or below 10 with more than six decimals.
+    SharpnessRange,
+    /// A move names no control point.
+    MoveIndex,
+    /// A move has more decimals than the scale.
+    TooFine,
+    /// A line is too long.
+    LongLine,
+}
+
+impl ObjCause {
+    /// The cause in a few words, as in the line that `far` prints.
+    pub fn text(&self) -> &'static str
+        ensures { result.now ≡ cause_text self.now }
+    {
+        match self {
+            ObjCause::BadNumeral => "bad numeral",
+            ObjCause::NumberRange => "number out of range",
+            ObjCause::UnknownKeyword => "unknown keyword",
+            ObjCause::Continuation => "line continuation",
+            ObjCause::ShortLine => "line too short",
+            ObjCause::BadCorner => "bad face corner",
+            ObjCause::IndexRange => "index out of range",
+            ObjCause::BadTag => "bad tag",
+            ObjCause::TagIndex => "tag index out of range",
+            ObjCause::SharpnessRange => "sharpness out of range",
+            ObjCause::MoveIndex => "move index out of range",
+            ObjCause::TooFine => "move finer than the scale",
+            ObjCause::LongLine => "line too long",
+        }
+    }
+}
+
+impl fmt::Display for ObjCause {
+    ghost output = { λ cause. Some (cause_text cause) };
+
+    fn fmt<W: fmt::Write>(&self, f: &mut fmt::Formatter<W>) -> fmt::Result {
+        f.write_str(self.text())
+    }
+}
+
+impl std::error::Error for ObjCause {}
+
+/// A line that is refused, counted from 1, and why.
+#[derive(Clone, Copy, Debug, PartialEq, Eq)]
+pub struct ObjFault {
+    pub line: u32,
+    pub cause: ObjCause,
+}
+
+impl fmt::Display for ObjFault {
+    ghost output = { λ fault. Some (fault_text fault) };
+
+    fn fmt<W: fmt::Write>(&self, f: &mut fmt::Formatter<W>) -> fmt::Result {
+        write!(f, "line {}: {}", self.line, self.cause)
+    }
+}
+
+impl std::error::Error for ObjFault {}
+
+/// Why a text was not read.
+#[derive(Clone, Copy, Debug, PartialEq, Eq)]
+pub enum ReadFault {
+    /// A line is refused.
+    Obj(ObjFault),
+    /// Memory ran out.
+    Memory,
+}
+
+impl fmt::Display for ReadFault {
+    ghost output = { λ fault. Some (read_fault_text fault) };
+
+    fn fmt<W: fmt::Write>(&self, f: &mut fmt::Formatter<W>) -> fmt::Result {
+        match self {
+            ReadFault::Obj(fault) => write!(f, "{fault}"),
+            ReadFault::Memory => f.write_str("out of memory"),
+        }
+    }
+}
+
+impl std::error::Error for ReadFault {}
+
+impl From<AllocError> for ReadFault {
+    ghost use Rattle.obj_tags.specs.declared.fault.ReadFault.TheVariants.{Memory};
+
+    ghost from_gives = { λ _ e. e ≡ Memory };
+
+    fn from(_: AllocError) -> ReadFault {
+        ReadFault::Memory
+    }
+}
+
+/// Why a line was not kept.
+#[derive(Clone, Copy, Debug, PartialEq, Eq)]
+pub(crate) enum LineFault {
+    Cause(ObjCause),
+    Memory,
+}
+
+impl From<AllocError> for LineFault {
+    ghost use Rattle.obj_tags.specs.declared.fault.LineFault.TheVariants.{Memory};
+
+    ghost from_gives = { λ _ e. e ≡ Memory };
+
+    fn from(_: AllocError) -> LineFault {
+        LineFault::Memory
+    }
+}
+
+impl<T: Drop> From<AllocFailed<T>> for LineFault {
+    ghost use Rattle.obj_tags.specs.declared.fault.LineFault.TheVariants.{Memory};
+
+    ghost from_gives = { λ _ e. e ≡ Memory };
+
+    fn from(_: AllocFailed<T>) -> LineFault {
+        LineFault::Memory
+    }
+}
+
+impl From<ObjCause> for LineFault {
+    ghost use Rattle.obj_tags.specs.declared.fault.LineFault.TheVariants.{Cause};
+
+    ghost from_gives = { λ cause e. e ≡ Cause cause };
+
+    fn from(cause: ObjCause) -> LineFault {
+        LineFault::Cause(cause)
+    }
+}

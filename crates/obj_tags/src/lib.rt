@@ -1,0 +1,23 @@
+//! Reads the OBJ text of a mesh with its tags: positions, texture values, faces, creases, corners,
+//! holes, the boundary mode and the crease method. A refusal names its line and its cause.
+#![tactic(auto)]
+
+mod channel;
+mod corner;
+mod draft;
+mod face;
+mod fault;
+mod line;
+mod mesh;
+mod number;
+mod read;
+mod tag;
+mod tag_counts;
+mod tag_values;
+#[cfg(test)]
+mod tests;
+mod words;
+
+pub use fault::{ObjCause, ObjFault, ReadFault};
+pub use mesh::{Boundary, CornerTag, Crease, RawMesh};
+pub use read::read_obj;

@@ -1,0 +1,100 @@
+ghost use Rattle.std.specs.Prelude.{◌≡◌, ℕ, List, ◌+◌, ◌-◌, ◌*◌, ◌^◌, ◌<◌, ◌≤◌, nat_lt, ℤ, pos, ◌*ℤ◌, unsigned_abs, Some, None, MatchResult, MatchOption};
+ghost use Rattle.subdiv_model.specs.Numeral.{normal_form};
+ghost use Rattle.subdiv_model.specs.Index.{index_of, nearest_index};
+ghost use Rattle.subdiv_model.specs.Sharpness.{sharpness_of_fraction};
+ghost use Rattle.subdiv_model.specs.ObjFault as model;
+ghost use Rattle.subdiv_model.specs.ObjWord.{numeral_fault, place_of_index, place_of_word};
+ghost use Rattle.subdiv_model.specs.ObjTag.{tag_index_fault, tag_numeral_fault, amount_fraction};
+ghost use Rattle.sharpness_rules.specs.View.{sharpness_of};
+ghost use Rattle.obj_tags.specs.View.{cause_of, form_of};
+
+use crate::ObjCause;
+use obj_text::{Numeral, NumeralFault, read_index, read_numeral};
+use sharpness_rules::Sharpness;
+
+// A numerator has at most 37 digits.
+const BOUND: u128 = 10_000_000_000_000_000_000_000_000_000_000_000_000;
+
+/// A numeral, or the cause that its word is refused for.
+pub(crate) fn numeral(word: &[u8]) -> Result<Numeral, ObjCause>
+    ensures { MatchResult result (λ n. (numeral_fault word.now ≡ None) × (form_of n ≡ normal_form word.now) × (unsigned_abs n.mantissa < 10 ^ 37) × (n.decimals ≤ 37)) (λ cause. numeral_fault word.now ≡ Some (cause_of cause)) }
+{
+    match read_numeral(word) {
+        Ok(number) => Ok(number),
+        Err(NumeralFault::BadNumeral) => Err(ObjCause::BadNumeral),
+        Err(NumeralFault::NumberRange) => Err(ObjCause::NumberRange),
+    }
+}
+
+/// Whether the numeral's numerator at a scale, which is at most 37, has at most 37 digits.
+pub(crate) fn fits_scale(number: Numeral, scale: u32) -> bool
+    requires finer { number.decimals ≤ scale }
+    requires scale { scale ≤ 37 }
+    ensures { result ≡ nat_lt (unsigned_abs number.mantissa * 10 ^ (scale - number.decimals)) (10 ^ 37) }
+{
+    match number
+        .mantissa
+        .unsigned_abs()
+        .checked_mul(10u128.pow(scale - number.decimals))
+    {
+        Some(amount) => amount < BOUND,
+        None => false,
+    }
+}
+
+/// The numeral's numerator over ten to the scale, where it fits.
+pub(crate) fn at_scale(number: Numeral, scale: u32) -> i128
+    requires finer { number.decimals ≤ scale }
+    requires scale { scale ≤ 37 }
+    requires fits { unsigned_abs number.mantissa * 10 ^ (scale - number.decimals) < 10 ^ 37 }
+    ensures { result ≡ number.mantissa *ℤ pos (10 ^ (scale - number.decimals)) }
+{
+    number.mantissa * 10i128.pow(scale - number.decimals)
+}
+
+/// The place of the line that an index of a face corner names, counted from 0. A positive index
+/// counts all lines from 1; a negative one counts back from the last of the lines `before`.
+#[tactic(auto, using(crate::proofs::WalkLemmas::place_nearest))]
+pub(crate) fn place(index: i64, all: u32, before: u32) -> Result<u32, ObjCause>
+    requires { before ≤ all }
+    ensures index { MatchResult result (λ p. (place_of_index before all index ≡ Some p) × (p < all)) (λ cause. (place_of_index before all index ≡ None) × (cause_of cause ≡ model.IndexRange)) }
+    ensures word { (word : List ℕ) → index ≡ nearest_index word → MatchResult result (λ p. place_of_word before all word ≡ Some p) (λ _. place_of_word before all word ≡ None) }
+{
+    if 0 < index && index <= i64::from(all) {
+        return Ok((index - 1) as u32);
+    }
+    if index < 0 && -i64::from(before) <= index {
+        return Ok((i64::from(before) + index) as u32);
+    }
+    Err(ObjCause::IndexRange)
+}
+
+/// The vertex or face that a word of a tag names, counted from 0.
+pub(crate) fn tag_index(word: &[u8], all: u32) -> Result<u32, ObjCause>
+    ensures { MatchResult result (λ i. (tag_index_fault all word.now ≡ None) × (i ≡ unsigned_abs (index_of word.now)) × (i < all)) (λ cause. tag_index_fault all word.now ≡ Some (cause_of cause)) }
+{
+    let index = read_index(word).ok_or(ObjCause::BadTag)?;
+    if 0 <= index && index < i64::from(all) {
+        Ok(index as u32)
+    } else {
+        Err(ObjCause::TagIndex)
+    }
+}
+
+/// The sharpness that a word of a tag gives.
+pub(crate) fn sharpness(word: &[u8]) -> Result<Sharpness, ObjCause>
+    ensures { MatchResult result (λ s. (tag_numeral_fault word.now ≡ None) × (sharpness_of s ≡ sharpness_of_fraction (amount_fraction word.now))) (λ cause. tag_numeral_fault word.now ≡ Some (cause_of cause)) }
+{
+    let number = numeral(word)?;
+    if number.mantissa < 0 {
+        return Err(ObjCause::SharpnessRange);
+    }
+    let amount = number.mantissa.unsigned_abs();
+    if amount >= 10u128.pow(number.decimals + 1) {
+        return Ok(Sharpness::Infinite);
+    }
+    if number.decimals > 6 {
+        return Err(ObjCause::SharpnessRange);
+    }
+    Ok(Sharpness::new(amount as u64, 10u64.pow(number.decimals)))
+}

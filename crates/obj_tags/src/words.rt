@@ -1,0 +1,102 @@
+ghost use Rattle.std.specs.Prelude.{◌≡◌, ◌+◌, ◌<◌, ◌≤◌, ◌^◌, length, Option, Some, None, [], ◌∷◌, MatchOption, IfSome, bytes_eq};
+ghost use Rattle.std.specs.List.{slice_split, position_or_len};
+ghost use Rattle.subdiv_model.specs.ObjLine.{lines_of, line_words};
+ghost use Rattle.subdiv_model.specs.ObjWord.{is_slash};
+ghost use Rattle.subdiv_model.specs.ReadObj.{without_mark, is_continued, ends_with_backslash};
+ghost use Rattle.obj_tags.specs.Walk.{words_left, parts_left};
+
+use obj_text::{Words, line_end, words_of};
+
+/// What follows a byte order mark at the front of a text, or the text where there is none.
+pub(crate) fn skip_mark(text: &[u8]) -> &[u8]
+    ensures { result.now ≡ without_mark text.now }
+{
+    match text {
+        [0xEF, 0xBB, 0xBF, rest @ ..] => rest,
+        _ => text,
+    }
+}
+
+/// The first line of a text without its line end, and the text of the other lines; `None` where
+/// there is no line. The last line may have no line end.
+pub(crate) fn first_line(text: &[u8]) -> Option<(&[u8], &[u8])>
+    ensures lines { MatchOption result (lines_of text.now ≡ []) (λ r. lines_of text.now ≡ r.0.now ∷ lines_of r.1.now) }
+    ensures shorter { IfSome result (λ r. length r.1.now < length text.now) }
+    ensures parts { IfSome result (λ r. length r.0.now + length r.1.now ≤ length text.now) }
+{
+    if text.is_empty() {
+        return None;
+    }
+    let (line, others) = text.split_at(line_end(text, 0));
+    match others {
+        [_, rest @ ..] => Some((line, rest)),
+        [] => Some((line, others)),
+    }
+}
+
+/// How many words a line has.
+pub(crate) fn count_words(line: &[u8]) -> usize
+    requires { length line.now ≤ 2 ^ 28 }
+    ensures { result ≡ length (line_words line.now) }
+{
+    words_of(line).count()
+}
+
+fn ends_in_backslash(word: &[u8]) -> bool
+    ensures { result ≡ ends_with_backslash word.now }
+{
+    match word {
+        [.., last] => *last == b'\\',
+        [] => false,
+    }
+}
+
+/// Whether the last word of a line ends with a backslash.
+pub(crate) fn has_continuation(line: &[u8]) -> bool
+    ensures { result ≡ is_continued (line_words line.now) }
+{
+    let mut words = words_of(line);
+    let mut continued = false;
+    while let Some(word) = next_word(&mut words) {
+        continued = ends_in_backslash(word);
+    }
+    continued
+}
+
+/// Takes the next word of a line; `None` where there is none.
+pub(crate) fn next_word<'a>(words: &mut Words<'a>) -> Option<&'a [u8]>
+    ensures { MatchOption result ((words_left words.old ≡ []) × (words_left words.new ≡ [])) (λ word. words_left words.old ≡ word.now ∷ words_left words.new) }
+{
+    words.next()
+}
+
+/// Whether a word is this text.
+pub(crate) fn is_word(word: &[u8], text: &[u8]) -> bool
+    ensures { result ≡ bytes_eq word.now text.now }
+{
+    word == text
+}
+
+// How many bytes stand before the first slash.
+fn part_len(word: &[u8]) -> usize
+    ensures { result ≡ position_or_len is_slash word.now }
+{
+    for (i, b) in word.iter().enumerate() {
+        if *b == b'/' {
+            return i;
+        }
+    }
+    word.len()
+}
+
+/// What stands before the first slash, and what follows it; the second is `None` where there is no
+/// slash.
+pub(crate) fn split_slash(word: &[u8]) -> (&[u8], Option<&[u8]>)
+    ensures { slice_split is_slash word.now ≡ result.0.now ∷ parts_left result.1 }
+{
+    let (part, others) = word.split_at(part_len(word));
+    match others {
+        [_, rest @ ..] => (part, Some(rest)),
+        [] => (part, None),
+    }
+}
