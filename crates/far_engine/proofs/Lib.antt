@@ -1,4 +1,5 @@
 mod OutputLemmas
+mod BuiltLemmas
 mod RunLemmas
 mod WordsLemmas
 mod SureLemmas

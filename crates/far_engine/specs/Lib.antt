@@ -1,3 +1,4 @@
+pub mod Built
 pub mod Faults
 pub mod Outcome
 pub mod Runs

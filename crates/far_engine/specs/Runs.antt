@@ -1,11 +1,12 @@
 -- What a run does to its source and its sink, and what its report does to the sink of errors.
 use Rattle.std.specs.Prelude.{ℕ, ◌≡◌, ◌≢◌, ◌^◌, ◌<◌, ◌≤◌, ◌↔◌, ◌⊎◌, List, length, take, Option, Some, Result, Ok, Err, OnOk}
 use Rattle.far_io.specs.Bytes.{Rose, Took, Added, IsDry}
+use Rattle.subdiv_model.specs.Manifold.{IsManifold}
 use Rattle.subdiv_model.specs.Words.{usage_of}
 use Rattle.far_engine.specs.declared.fault.FarFault.{FarFault}
 use Rattle.far_engine.specs.declared.fault.FarFault.TheVariants.{Usage, Read, Long, Write}
 use Rattle.far_engine.specs.Faults.{line_of_fault}
-use Rattle.far_engine.specs.Outcome.{refusal_of, text_of, IsAnswered}
+use Rattle.far_engine.specs.Outcome.{refusal_of, text_of, level_of, IsAnswered}
 
 -- a part of the front of the text was added, or all of it
 abbrev pub AddedPart : Option (List ℕ) → Option (List ℕ) → List ℕ → Type 0
@@ -22,6 +23,8 @@ pub record Runs {S K : Type 0} (left : S → Option (List ℕ)) (source_faults :
   -- on Ok the input was read to its end, and the whole text was added
   pub whole : OnOk result (IsDry (left s'))
   pub text : (bytes : List ℕ) → left s ≡ Some bytes → OnOk result (Added (held k) (held k') (text_of bytes))
+  -- then every level of the mesh that was read is a manifold
+  pub manifold : (bytes : List ℕ) → left s ≡ Some bytes → OnOk result ((k : ℕ) → IsManifold (level_of bytes k).points (level_of bytes k).polygons)
   -- after Write a part of the front of the text was added, and after any other fault nothing was called
   pub part : (bytes : List ℕ) → left s ≡ Some bytes → result ≡ Err Write → AddedPart (held k) (held k') (text_of bytes)
   pub kept : (fault : FarFault) → result ≡ Err fault → fault ≢ Write → k' ≡ k

@@ -1,16 +1,20 @@
-ghost use Rattle.std.specs.Prelude.{◌≡◌, ℕ, ◌^◌, ◌≤◌, List, length, map, Option, None, Some, Result, Err, IfOk, string_bytes};
-ghost use Rattle.subdiv_model.specs.PlainLine.{first_not_plain};
-ghost use Rattle.far_engine.specs.declared.engine.RefineFault.TheVariants.{NotBuilt};
+ghost use Rattle.std.specs.Prelude.{◌≡◌, ◌≢◌, ℕ, ◌^◌, ◌≤◌, List, length, map, true, false, Option, None, Some, Result, Err, IfOk, string_bytes};
+ghost use Rattle.obj_tags.specs.declared.fault.ObjFault.{ObjFault};
+ghost use Rattle.obj_tags.specs.Laws.{IsWithin};
+ghost use Rattle.far_engine.specs.declared.engine.RefineFault.TheVariants.{Obj, NotBuilt};
 ghost use Rattle.far_engine.specs.declared.fault.FarFault.{FarFault};
+ghost use Rattle.far_engine.specs.Built.{is_built};
 ghost use Rattle.far_engine.specs.Faults.{status_of_outcome};
-ghost use Rattle.far_engine.specs.Outcome.{refusal_of_lines, text_of, not_built};
+ghost use Rattle.far_engine.specs.Outcome.{refusal_of_obj, text_of, obj_fault, not_built};
 ghost use Rattle.far_engine.specs.Runs.{Runs, Reports};
+ghost use Rattle.subdiv_model.specs.Text.{refined_mesh_text};
 
+use crate::built::{has_built_form, polygons_of};
 use crate::command::usage;
 use crate::fault::{FarFault, report, status};
 use crate::output::put_text;
 use far_io::{InputFault, Sink, Source, WriteFailed, read_all};
-use plain_reader::{PlainFault, read_plain};
+use obj_tags::{ObjFault, RawMesh, ReadFault, read_obj};
 use plain_refine::{is_closed_manifold, write_refined};
 use ratio128::{Memory, Steps};
 use std::alloc::Global;
@@ -21,45 +25,65 @@ const LIMIT: usize = 1 << 28;
 
 // Why an input has no refined text.
 enum RefineFault {
-    NotBuilt { line: u32 },
+    Obj(ObjFault),
+    NotBuilt,
     Memory,
+}
+
+// The text of a mesh that was read after one step.
+fn refine_mesh(alloc: Global, mesh: &RawMesh) -> Result<Vec<u8>, RefineFault>
+    requires { IsWithin mesh.now }
+    ensures refined { IfOk result (λ text. (is_built mesh.now ≡ true) × (text.items ≡ refined_mesh_text mesh.now 1)) }
+    ensures not_built { result ≡ Err NotBuilt → is_built mesh.now ≡ false }
+    ensures no_fault { (fault : ObjFault) → result ≢ Err (Obj fault) }
+{
+    if !has_built_form(mesh) {
+        return Err(RefineFault::NotBuilt);
+    }
+    let polygons = match polygons_of(alloc, mesh) {
+        Ok(polygons) => polygons,
+        Err(Memory) => return Err(RefineFault::Memory),
+    };
+    let points = mesh.points();
+    match is_closed_manifold(alloc, points.len(), &polygons) {
+        Ok(true) => {}
+        Ok(false) => return Err(RefineFault::NotBuilt),
+        Err(Memory) => return Err(RefineFault::Memory),
+    }
+    match write_refined(alloc, points, mesh.scale(), &polygons) {
+        Ok(text) => Ok(text),
+        Err(Memory) => Err(RefineFault::Memory),
+    }
 }
 
 // The text of the mesh after one step.
 fn refine_bytes(alloc: Global, bytes: &[u8]) -> Result<Vec<u8>, RefineFault>
     requires { length bytes.now ≤ 2 ^ 28 }
-    ensures refined { IfOk result (λ text. (refusal_of_lines (first_not_plain bytes.now) bytes.now ≡ None) × (text.items ≡ text_of bytes.now)) }
-    ensures refused { (line : ℕ) → result ≡ Err (NotBuilt line) → refusal_of_lines (first_not_plain bytes.now) bytes.now ≡ Some (not_built line) }
+    ensures refined { IfOk result (λ text. (refusal_of_obj bytes.now ≡ None) × (text.items ≡ text_of bytes.now)) }
+    ensures faulty { (fault : ObjFault) → result ≡ Err (Obj fault) → refusal_of_obj bytes.now ≡ Some (obj_fault fault.line fault.cause) }
+    ensures not_built { result ≡ Err NotBuilt → refusal_of_obj bytes.now ≡ Some (not_built 0) }
 {
-    let mesh = match read_plain(alloc, bytes) {
-        Ok(mesh) => mesh,
-        Err(PlainFault::NotPlain { line }) => return Err(RefineFault::NotBuilt { line }),
-        Err(PlainFault::Memory) => return Err(RefineFault::Memory),
-    };
-    let points = mesh.points.as_slice();
-    let polygons = mesh.polygons.as_slice();
-    match is_closed_manifold(alloc, points.len(), polygons) {
-        Ok(true) => {}
-        Ok(false) => return Err(RefineFault::NotBuilt { line: 0 }),
-        Err(Memory) => return Err(RefineFault::Memory),
-    }
-    match write_refined(alloc, points, polygons) {
-        Ok(text) => Ok(text),
-        Err(Memory) => Err(RefineFault::Memory),
+    match read_obj(alloc, bytes, 0) {
+        Ok(mesh) => refine_mesh(alloc, &mesh),
+        Err(ReadFault::Obj(fault)) => Err(RefineFault::Obj(fault)),
+        Err(ReadFault::Memory) => Err(RefineFault::Memory),
     }
 }
 
 /// Does what the words ask for: reads the source to its end, and writes the answer into the sink.
 ///
 /// `words` are the words after the program's name; today they are a command exactly where they are
-/// `refine depth=1`. The input is a plain closed mesh (see `docs/formats.md`), and the answer is the
+/// `refine depth=1`. The input is the OBJ text of a mesh (see `docs/formats.md`), and the answer is the
 /// text of that mesh after one Catmull-Clark step, each coordinate a fraction in lowest terms.
 ///
 /// Every refusal is found before anything is written. `Usage` comes exactly where the words are no
-/// command, `Long` exactly where more than 2^28 bytes came, `NotBuilt` exactly where a line is not
-/// plain (the first such line) or else the mesh is no closed manifold (line 0). `Read` and `Write`
-/// come only where the count of faults of the source or the sink rose; after `Write` the sink holds
-/// what it held and a part of the answer's front. It takes no step.
+/// command, `Long` exactly where more than 2^28 bytes came, `Obj` exactly where a line is refused (the
+/// least such line, and its cause), and `NotBuilt`, with line 0, exactly where a mesh that was read is
+/// not one of those that are built today: closed manifolds of at most 1,024 points and 1,024 faces of
+/// three or four corners, with coordinates of at most 10^18 in amount over at most 10^18, and without
+/// creases, sharp corners, holes, texture or other modes than the usual. `Read` and `Write` come only
+/// where the count of faults of the source or the sink rose; after `Write` the sink holds what it held
+/// and a part of the answer's front. It takes no step.
 pub fn run<S: Source, K: Sink, L: Ledger>(
     alloc: Global,
     words: &Vec<String>,
@@ -82,7 +106,11 @@ pub fn run<S: Source, K: Sink, L: Ledger>(
     };
     let text = match refine_bytes(alloc, &bytes) {
         Ok(text) => text,
-        Err(RefineFault::NotBuilt { line }) => return Err(FarFault::NotBuilt { line }),
+        Err(RefineFault::Obj(ObjFault { line, cause })) => return Err(FarFault::Obj {
+            line,
+            cause,
+        }),
+        Err(RefineFault::NotBuilt) => return Err(FarFault::NotBuilt { line: 0 }),
         Err(RefineFault::Memory) => return Err(FarFault::Memory),
     };
     match put_text(sink, &text) {

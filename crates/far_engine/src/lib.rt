@@ -1,6 +1,7 @@
 //! The program `far` as a library: its words, its faults, and the call that does all its work.
 #![tactic(auto)]
 
+mod built;
 mod command;
 mod engine;
 mod fault;

@@ -4,6 +4,7 @@ ghost use Rattle.far_engine.specs.Outcome.{text_of};
 
 use crate::*;
 use far_io::{MemSink, MemSource, SureSink, SureSource};
+use obj_tags::ObjCause;
 use ratio128::Steps;
 use std::alloc::{AllocError, Global};
 use std::marker::Brand;
@@ -80,6 +81,21 @@ const TRIANGLES: &str = "v 0 0 0\nv 12 0 0\nv 0 12 0\nf 1 2 3\nf 1 3 2\n";
 const TRIANGLES_REFINED: &str =
     "v 5 5 0\nv 2 5 0\nv 5 2 0\nv 4 4 0\nv 4 4 0\nv 5 2 0\nv 5 5 0\nv 2 5 0\nf 1 6 4 8\nf 2 7 4 6\nf 3 8 4 7\nf 1 8 5 6\nf 3 7 5 8\nf 2 6 5 7\n";
 
+// The cube in lines that end in CR LF, with a comment, decimals, and one face by negative indices.
+const OTHER_CUBE: &str =
+    "# a cube\r\nv -1.0 -1.0 1.0\r\nv 1.0 -1.0 1.0\r\nv -1.0 1.0 1.0\r\nv 1.0 1.0 1.0\r\nv -1.0 1.0 -1.0\r\nv 1.0 1.0 -1.0\r\nv -1.0 -1.0 -1.0\r\nv 1.0 -1.0 -1.0\r\nf 1 2 4 3\r\nf 3 4 6 5\r\nf 5 6 8 7\r\nf 7 8 2 1\r\nf 2 8 6 4\r\nf -2 -8 -6 -4\r\n";
+
+const CUBE: &str =
+    "v -1 -1 1\nv 1 -1 1\nv -1 1 1\nv 1 1 1\nv -1 1 -1\nv 1 1 -1\nv -1 -1 -1\nv 1 -1 -1\nf 1 2 4 3\nf 3 4 6 5\nf 5 6 8 7\nf 7 8 2 1\nf 2 8 6 4\nf 7 1 3 5\n";
+
+const CUBE_REFINED: &str =
+    "v -5/9 -5/9 5/9\nv 5/9 -5/9 5/9\nv -5/9 5/9 5/9\nv 5/9 5/9 5/9\nv -5/9 5/9 -5/9\nv 5/9 5/9 -5/9\nv -5/9 -5/9 -5/9\nv 5/9 -5/9 -5/9\n\
+    v 0 0 1\nv 0 1 0\nv 0 0 -1\nv 0 -1 0\nv 1 0 0\nv -1 0 0\n\
+    v 0 -3/4 3/4\nv 3/4 0 3/4\nv 0 3/4 3/4\nv -3/4 0 3/4\nv 3/4 3/4 0\nv 0 3/4 -3/4\nv -3/4 3/4 0\nv 3/4 0 -3/4\nv 0 -3/4 -3/4\nv -3/4 0 -3/4\nv 3/4 -3/4 0\nv -3/4 -3/4 0\n\
+    f 1 15 9 18\nf 2 16 9 15\nf 4 17 9 16\nf 3 18 9 17\nf 3 17 10 21\nf 4 19 10 17\nf 6 20 10 19\nf 5 21 10 20\n\
+    f 5 20 11 24\nf 6 22 11 20\nf 8 23 11 22\nf 7 24 11 23\nf 7 23 12 26\nf 8 25 12 23\nf 2 15 12 25\nf 1 26 12 15\n\
+    f 2 25 13 16\nf 8 22 13 25\nf 6 19 13 22\nf 4 16 13 19\nf 7 26 14 24\nf 1 18 14 26\nf 3 21 14 18\nf 5 24 14 21\n";
+
 const SQUARE: &str = "v 0 0 0\nv 4 0 0\nv 4 4 0\nv 0 4 0\nf 1 2 3 4\n";
 
 #[test]
@@ -93,10 +109,27 @@ fn answers_words_and_texts(rt: HostRuntime) -> Result<(), Fail> {
         ("refine", "", Err(FarFault::Usage { word: 1 }), ""),
         ("refine depth=2", "", Err(FarFault::Usage { word: 1 }), ""),
         ("refine depth=1 x", "", Err(FarFault::Usage { word: 2 }), ""),
+        ("refine depth=1", CUBE, Ok(()), CUBE_REFINED),
+        ("refine depth=1", OTHER_CUBE, Ok(()), CUBE_REFINED),
         (
             "refine depth=1",
-            "v 0 0 0.5\nv",
-            Err(FarFault::NotBuilt { line: 1 }),
+            "v 0.50 -1e-1 .02",
+            Ok(()),
+            "v 1/2 -1/10 1/50\n",
+        ),
+        (
+            "refine depth=1",
+            "v 0 0 0.5\n\nv 0 nan",
+            Err(FarFault::Obj {
+                line: 3,
+                cause: ObjCause::ShortLine,
+            }),
+            "",
+        ),
+        (
+            "refine depth=1",
+            "v 1e18 0 0\nv 1000000000000000001 0 0",
+            Err(FarFault::NotBuilt { line: 0 }),
             "",
         ),
         (
@@ -112,6 +145,81 @@ fn answers_words_and_texts(rt: HostRuntime) -> Result<(), Fail> {
         let given = surely_counted::<Brand>(alloc, Blank::new(1), &words, &mut source, &mut sink);
         assert_eq!(rt; given, answer, "{text} on {input}");
         assert_eq!(rt; sink.bytes(), written.as_bytes(), "{text} on {input}");
+    }
+    Ok(())
+}
+
+// Lines behind two triangles, each of which makes them a mesh that is not built, or makes a fault.
+#[test]
+fn answers_tags_and_texture(rt: HostRuntime) -> Result<(), Fail> {
+    let alloc = rt.alloc();
+    for (line, answer) in [
+        ("", Ok(())),
+        ("v 1 2 3", Ok(())),
+        ("vt 0 0", Ok(())),
+        ("v 0 0 1e-18", Err(FarFault::NotBuilt { line: 0 })),
+        ("v 0 0 1e-19", Err(FarFault::NotBuilt { line: 0 })),
+        ("t crease 2/1/0 0 1 0", Err(FarFault::NotBuilt { line: 0 })),
+        ("t corner 1/1/0 0 2", Err(FarFault::NotBuilt { line: 0 })),
+        ("t hole 1/0/0 0", Err(FarFault::NotBuilt { line: 0 })),
+        (
+            "t interpolateboundary 1/0/0 1",
+            Err(FarFault::NotBuilt { line: 0 }),
+        ),
+        ("t interpolateboundary 1/0/0 2", Ok(())),
+        (
+            "t creasemethod 0/0/1 chaikin",
+            Err(FarFault::NotBuilt { line: 0 }),
+        ),
+        ("t creasemethod 0/0/1 normal", Ok(())),
+        (
+            "t corner 1/1/0 3 2",
+            Err(FarFault::Obj {
+                line: 6,
+                cause: ObjCause::TagIndex,
+            }),
+        ),
+        (
+            "f 1 2 4",
+            Err(FarFault::Obj {
+                line: 6,
+                cause: ObjCause::IndexRange,
+            }),
+        ),
+    ] {
+        let words = words_of(alloc, "refine depth=1")?;
+        let mut input = TRIANGLES.as_bytes().to_vec(alloc)?;
+        input.extend_from_slice(line.as_bytes())?;
+        let mut source = SureSource::new(input);
+        let mut sink = SureSink::with_room(alloc, 4096)?;
+        let given = surely_counted::<Brand>(alloc, Blank::new(1), &words, &mut source, &mut sink);
+        assert_eq!(rt; given, answer, "{line}");
+    }
+    Ok(())
+}
+
+#[test]
+fn reports_the_line_and_the_cause(rt: HostRuntime) -> Result<(), Fail> {
+    for (cause, text) in [
+        (ObjCause::BadNumeral, "far: line 4: bad numeral\n"),
+        (ObjCause::NumberRange, "far: line 4: number out of range\n"),
+        (ObjCause::UnknownKeyword, "far: line 4: unknown keyword\n"),
+        (ObjCause::Continuation, "far: line 4: line continuation\n"),
+        (ObjCause::ShortLine, "far: line 4: line too short\n"),
+        (ObjCause::BadCorner, "far: line 4: bad face corner\n"),
+        (ObjCause::IndexRange, "far: line 4: index out of range\n"),
+        (ObjCause::BadTag, "far: line 4: bad tag\n"),
+        (ObjCause::TagIndex, "far: line 4: tag index out of range\n"),
+        (
+            ObjCause::SharpnessRange,
+            "far: line 4: sharpness out of range\n",
+        ),
+    ] {
+        let mut errors = SureSink::with_room(rt.alloc(), 64)?;
+        let fault = FarFault::Obj { line: 4, cause };
+        assert!(rt; report(&fault, &mut errors).is_ok());
+        assert_eq!(rt; errors.bytes(), text.as_bytes());
+        assert_eq!(rt; status(&fault), 5);
     }
     Ok(())
 }
@@ -180,5 +288,16 @@ fn answers_failing_calls(rt: HostRuntime) -> Result<(), Fail> {
         assert_eq!(rt; errors.bytes(), line.as_bytes());
         assert_eq!(rt; sink.bytes(), written.as_bytes());
     }
+    Ok(())
+}
+
+#[test]
+fn names_its_faults(rt: HostRuntime) -> Result<(), Fail> {
+    let fault = FarFault::Obj {
+        line: 2,
+        cause: ObjCause::BadTag,
+    };
+    let text = format!(in rt.alloc(); "{fault}; {}", FarFault::Usage { word: 1 })?;
+    assert_eq!(rt; text.as_str(), "line 2: bad tag; word 1 is not understood");
     Ok(())
 }
