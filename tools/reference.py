@@ -1,5 +1,5 @@
 #!/usr/bin/env python3
-"""A plain, slow reference of `far refine depth=1` for plain closed meshes.
+"""A plain, slow reference of `far refine depth=1`.
 
 It is written from docs/formats.md and docs/rules.md alone, with whole lists that are scanned and
 `fractions.Fraction` for every value, and shares nothing with the program. It takes the program's words,
@@ -14,9 +14,11 @@ import os
 import sys
 from fractions import Fraction
 
+from obj_reference import Fault, read_obj
+
 GREATEST_INPUT = 2**28
 GREATEST_COUNT = 1024
-NOT_UNDERSTOOD, TOO_LONG, NOT_BUILT = 2, 4, 12
+NOT_UNDERSTOOD, TOO_LONG, BAD_LINE, NOT_BUILT = 2, 4, 5, 12
 
 
 class Refusal(Exception):
@@ -51,35 +53,21 @@ def are_text(words):
     return True
 
 
-# Plain lines
+# Meshes that are built today
 
 
-def is_digits(word, most):
-    return 1 <= len(word) <= most and all(byte in b"0123456789" for byte in word)
-
-
-def is_number(word):
-    return is_digits(word[1:] if word.startswith(b"-") else word, 18)
-
-
-def read_plain(data):
-    """The points and faces (counted from 0) of a text of plain lines, or the refusal of the least other line."""
-    lines = [[word for word in line.split(b" ") if word] for line in data.split(b"\n")]
-    declared = sum(1 for words in lines if words[:1] == [b"v"])
-    points, faces = [], []
-    for number, words in enumerate(lines, start=1):
-        if not words:
-            continue
-        kind, rest = words[0], words[1:]
-        if kind == b"v" and len(points) < GREATEST_COUNT and len(rest) == 3 and all(map(is_number, rest)):
-            points.append(tuple(Fraction(int(word)) for word in rest))
-        elif kind == b"f" and len(faces) < GREATEST_COUNT and len(rest) in (3, 4) and all(
-            is_digits(word, 4) and 1 <= int(word) <= declared for word in rest
-        ):
-            faces.append(tuple(int(word) - 1 for word in rest))
-        else:
-            raise Refusal(NOT_BUILT, f"far: line {number} is not built yet")
-    return points, faces
+def is_built(mesh):
+    """Whether a mesh that was read is refined today, however its faces join."""
+    return (
+        len(mesh.points) <= GREATEST_COUNT
+        and len(mesh.faces) <= GREATEST_COUNT
+        and all(len(face) in (3, 4) for face in mesh.faces)
+        and not mesh.tags
+        and (mesh.mode, mesh.method) == (2, b"normal")
+        and not mesh.has_texture
+        and mesh.scale <= 18
+        and all(abs(number) <= 10**18 for point in mesh.points for number in point)
+    )
 
 
 # Closed manifolds
@@ -194,10 +182,14 @@ def answer(words, source):
     data = source.read(GREATEST_INPUT + 1)
     if len(data) > GREATEST_INPUT:
         raise Refusal(TOO_LONG, f"far: input is longer than {GREATEST_INPUT} bytes")
-    points, faces = read_plain(data)
-    if not is_closed_manifold(len(points), faces):
+    try:
+        mesh = read_obj(data)
+    except Fault as fault:
+        raise Refusal(BAD_LINE, f"far: line {fault.line}: {fault.cause}") from None
+    if not is_built(mesh) or not is_closed_manifold(len(mesh.points), mesh.faces):
         raise Refusal(NOT_BUILT, "far: line 0 is not built yet")
-    return text_of(*refine(points, faces))
+    points = [tuple(Fraction(number, 10**mesh.scale) for number in point) for point in mesh.points]
+    return text_of(*refine(points, mesh.faces))
 
 
 def main():

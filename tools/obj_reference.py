@@ -1,0 +1,220 @@
+"""A plain, slow reader of OBJ text with tags: its mesh, or the fault of its least bad line.
+
+It is written from docs/formats.md alone, and shares nothing with the program. `tools/reference.py` reads
+through it.
+"""
+
+import re
+import sys
+from collections import Counter
+from dataclasses import dataclass
+
+MARK = b"\xef\xbb\xbf"
+NUMERAL = re.compile(rb"[+-]?(?:(\d+)\.?(\d*)|()\.(\d+))(?:[eE]([+-]?\d+))?")
+INDEX = re.compile(rb"-?\d+")
+COUNTS = re.compile(rb"(\d{1,9})/(\d{1,9})/(\d{1,9})")
+UNREAD = (b"vn", b"g", b"o", b"s", b"usemtl", b"mtllib", b"l", b"p")
+DROPPED_TAGS = (b"facevaryinginterpolateboundary", b"facevaryingpropagatecorners")
+LEAST_WORDS = {b"v": 3, b"vt": 1, b"f": 1, b"t": 2}
+MOST_DIGITS = 37
+
+if hasattr(sys, "set_int_max_str_digits"):
+    sys.set_int_max_str_digits(0)
+
+
+class Fault(Exception):
+    """What is wrong with a line; `line` is counted from 1."""
+
+    def __init__(self, cause, line=None):
+        super().__init__(cause)
+        self.cause = cause
+        self.line = line
+
+
+@dataclass
+class Mesh:
+    """Points are whole numbers over 10^scale; faces count from 0; tags are the creases, corners and holes."""
+
+    points: list
+    scale: int
+    faces: list
+    has_texture: bool
+    tags: list
+    mode: int
+    method: bytes
+
+
+def words_of(line):
+    """The words of a line, up to a comment."""
+    words = []
+    for word in re.split(rb"[ \t\r]+", line):
+        if word.startswith(b"#"):
+            break
+        if word:
+            words.append(word)
+    return words
+
+
+# Words
+
+
+def normal_form(word):
+    """(mantissa, decimals) of a numeral that is in range."""
+    match = NUMERAL.fullmatch(word)
+    if not match:
+        raise Fault("bad numeral")
+    whole, behind = (match[1], match[2]) if match[1] is not None else (match[3], match[4])
+    digits = (whole + behind).lstrip(b"0")
+    if not digits:
+        return 0, 0
+    kept = digits.rstrip(b"0")
+    tens = int(match[5] or 0) - len(behind) + len(digits) - len(kept)
+    if len(kept) + max(tens, 0) > MOST_DIGITS or -tens > MOST_DIGITS:
+        raise Fault("number out of range")
+    amount = int(kept) * 10 ** max(tens, 0)
+    return (-amount if word.startswith(b"-") else amount), max(-tens, 0)
+
+
+def place(word, before, whole):
+    """The place, from 0, that an index of a face names."""
+    index = int(word)
+    if 1 <= index <= whole:
+        return index - 1
+    if -before <= index <= -1:
+        return before + index
+    raise Fault("index out of range")
+
+
+def form(corner):
+    """How many parts a corner has, and whether it names a texture value; None where it has no form."""
+    parts = corner.split(b"/")
+    may_be_empty = len(parts) == 3
+    good = len(parts) <= 3 and all(
+        INDEX.fullmatch(part) or (part == b"" and may_be_empty and number == 1) for number, part in enumerate(parts)
+    )
+    return (len(parts), len(parts) > 1 and parts[1] != b"") if good else None
+
+
+def read_corner(corner, first, before, whole):
+    """The point that a corner names, and whether it names a texture value."""
+    if form(corner) is None or form(corner) != form(first):
+        raise Fault("bad face corner")
+    parts = corner.split(b"/")
+    vertex = place(parts[0], before[b"v"], whole[b"v"])
+    if form(corner)[1]:
+        place(parts[1], before[b"vt"], whole[b"vt"])
+    return vertex, form(corner)[1]
+
+
+# Tags
+
+
+def check_listed(word, count):
+    """Refuses what is no index from 0 to below the count."""
+    if not INDEX.fullmatch(word):
+        raise Fault("bad tag")
+    if not 0 <= int(word) < count:
+        raise Fault("tag index out of range")
+
+
+def check_sharpness(word):
+    mantissa, decimals = normal_form(word)
+    if mantissa < 0 or (mantissa < 10 * 10**decimals and decimals > 6):
+        raise Fault("sharpness out of range")
+
+
+def fits(name, wholes, numerals, strings):
+    """Whether a tag of this name may have these counts."""
+    if name == b"crease":
+        return wholes >= 2 and numerals in (1, wholes - 1) and strings == 0
+    if name == b"corner":
+        return wholes >= 1 and numerals in (1, wholes) and strings == 0
+    if name == b"hole":
+        return wholes >= 1 and numerals == 0 and strings == 0
+    if name == b"interpolateboundary":
+        return (wholes, numerals, strings) == (1, 0, 0)
+    if name == b"creasemethod":
+        return (wholes, numerals, strings) == (0, 0, 1)
+    return name in DROPPED_TAGS
+
+
+def read_tag(mesh, words, whole):
+    name, values = words[1], words[3:]
+    counts = COUNTS.fullmatch(words[2])
+    if not counts or not fits(name, *map(int, counts.groups())) or sum(map(int, counts.groups())) != len(values):
+        raise Fault("bad tag")
+    wholes = int(counts[1])
+    if name in (b"crease", b"corner", b"hole"):
+        for word in values[:wholes]:
+            check_listed(word, whole[b"f" if name == b"hole" else b"v"])
+        for word in values[wholes:]:
+            check_sharpness(word)
+        mesh.tags.append(name)
+    elif name == b"interpolateboundary":
+        if not INDEX.fullmatch(values[0]) or int(values[0]) not in (0, 1, 2):
+            raise Fault("bad tag")
+        mesh.mode = int(values[0])
+    elif name == b"creasemethod":
+        if values[0] not in (b"normal", b"chaikin"):
+            raise Fault("bad tag")
+        mesh.method = values[0]
+
+
+# Lines
+
+
+def check_line(words):
+    """Refuses what is wrong with a line before its words are judged one by one."""
+    if words[-1].endswith(b"\\"):
+        raise Fault("line continuation")
+    if words[0] not in LEAST_WORDS and words[0] not in UNREAD:
+        raise Fault("unknown keyword")
+    if len(words) - 1 < LEAST_WORDS.get(words[0], 0):
+        raise Fault("line too short")
+
+
+def first_long(channel, scale):
+    """The lines with a coordinate of too many digits at the scale, least first."""
+    return [
+        line
+        for line, forms in channel
+        if any(abs(mantissa) * 10 ** (scale - decimals) >= 10**MOST_DIGITS for mantissa, decimals in forms)
+    ]
+
+
+def scale_of(channel):
+    return max((decimals for _, forms in channel for _, decimals in forms), default=0)
+
+
+def read_obj(data):
+    """The mesh of a text, or the Fault of its least bad line."""
+    text = data[len(MARK) :] if data.startswith(MARK) else data
+    lines = [words_of(line) for line in text.split(b"\n")]
+    whole = Counter(words[0] for words in lines if words)
+    before, textured = Counter(), []
+    channels = {b"v": [], b"vt": []}
+    mesh = Mesh([], 0, [], False, [], 2, b"normal")
+    for number, words in enumerate(lines, start=1):
+        if not words:
+            continue
+        try:
+            check_line(words)
+            if words[0] in channels:
+                forms = [normal_form(word) for word in words[1:]]
+                channels[words[0]].append((number, forms[: 3 if words[0] == b"v" else 2]))
+            elif words[0] == b"f":
+                corners = [read_corner(word, words[1], before, whole) for word in words[1:]]
+                mesh.faces.append(tuple(vertex for vertex, _ in corners))
+                textured.append(all(texture for _, texture in corners))
+            elif words[0] == b"t":
+                read_tag(mesh, words, whole)
+        except Fault as fault:
+            raise Fault(fault.cause, number) from None
+        before[words[0]] += 1
+    long = [line for channel in channels.values() for line in first_long(channel, scale_of(channel))]
+    if long:
+        raise Fault("number out of range", min(long))
+    mesh.scale = scale_of(channels[b"v"])
+    mesh.points = [tuple(m * 10 ** (mesh.scale - d) for m, d in forms) for _, forms in channels[b"v"]]
+    mesh.has_texture = bool(textured) and all(textured)
+    return mesh
