@@ -9,8 +9,8 @@ use std::fmt;
 pub enum ObjCause {
     /// A word that should be a decimal numeral is none.
     BadNumeral,
-    /// A numeral has more than 37 digits or more than 37 decimals, or more than 37 digits at the
-    /// scale of its channel.
+    /// A numeral passes 37 digits in its mantissa or in its decimals, in normal form, or 37 digits at
+    /// the scale of its channel.
     NumberRange,
     /// The first word of a line is no keyword.
     UnknownKeyword,
@@ -28,11 +28,11 @@ pub enum ObjCause {
     TagIndex,
     /// A sharpness is below 0, or below 10 with more than six decimals.
     SharpnessRange,
-    /// A move names no control point.
+    /// A move names no control point. Moves are not built yet, and `read_obj` never answers this.
     MoveIndex,
-    /// A move has more decimals than the scale.
+    /// A move has more decimals than the scale; `read_obj` never answers this.
     TooFine,
-    /// A line is too long.
+    /// A line of moves is too long; `read_obj` never answers this.
     LongLine,
 }
 

@@ -20,7 +20,7 @@ pub enum Boundary {
     EdgeOnly,
 }
 
-/// The sharpness of a pair of vertices.
+/// The sharpness of a pair of vertices, `a` and `b`, counted from 0.
 #[derive(Clone, Copy, Debug, PartialEq, Eq)]
 pub struct Crease {
     pub a: u32,
@@ -28,7 +28,7 @@ pub struct Crease {
     pub sharpness: Sharpness,
 }
 
-/// The sharpness of a vertex.
+/// The sharpness of a vertex, counted from 0.
 #[derive(Clone, Copy, Debug, PartialEq, Eq)]
 pub struct CornerTag {
     pub vertex: u32,
@@ -122,7 +122,7 @@ impl RawMesh {
         (self.faces.starts.len() - 1) as u32
     }
 
-    /// The vertices of a face.
+    /// The vertices of a face, which is counted from 0 and below [`RawMesh::faces`].
     pub fn face(&self, f: u32) -> &[u32]
         requires { f < length self.now.faces }
         ensures { slice_get self.now.faces f ≡ Some result.now }
@@ -137,7 +137,8 @@ impl RawMesh {
         self.has_texture
     }
 
-    /// The texture values of a face's corners.
+    /// The texture values of a face's corners, where [`RawMesh::has_texture`]; the face is counted from 0
+    /// and below [`RawMesh::faces`].
     pub fn texture_corners(&self, f: u32) -> &[u32]
         requires texture { self.now.has_texture ≡ true }
         requires face { f < length self.now.faces }
@@ -168,7 +169,7 @@ impl RawMesh {
         self.tags.creases.as_slice()
     }
 
-    /// The sharp vertices in the order of the text. The last for a vertex counts.
+    /// The corner tags in the order of the text. The last for a vertex counts.
     pub fn corner_tags(&self) -> &[CornerTag]
         ensures { map corner_tag_of result.now ≡ self.now.corners }
     {

@@ -22,7 +22,7 @@ pub struct Numeral {
 pub enum NumeralFault {
     /// The word is no numeral.
     BadNumeral,
-    /// The word is a numeral whose normal form has more than 37 digits or more than 37 decimals.
+    /// The word is a numeral, and in normal form its mantissa or its decimals pass 37 digits.
     NumberRange,
 }
 
@@ -204,7 +204,7 @@ fn normal_form_of(parts: &Parts<'_>) -> Option<(u128, u32)>
 /// one or more digits. There may be any number of digits, in the exponent too.
 ///
 /// `BadNumeral` comes exactly where the word is no numeral, and `NumberRange` exactly where it is one
-/// whose normal form has more than 37 digits or more than 37 decimals (this profile).
+/// that in normal form passes 37 digits in its mantissa or in its decimals (this profile).
 pub fn read_numeral(word: &[u8]) -> Result<Numeral, NumeralFault>
     ensures cases { MatchResult result (λ n. (is_numeral word.now ≡ true) × (is_in_range word.now ≡ true) × ((n.mantissa, n.decimals) ≡ normal_form word.now)) (λ fault. IsFaultOf fault word.now) }
     ensures small { IfOk result (λ n. (unsigned_abs n.mantissa < 10 ^ 37) × (n.decimals ≤ 37)) }

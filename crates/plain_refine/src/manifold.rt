@@ -229,7 +229,10 @@ fn are_between_two(
 
 /// Whether the polygons over so many points are a manifold with no boundary: three or more
 /// distinct corners each, no directed edge twice, each edge in two polygons, and the faces at each
-/// point one fan. A point without faces has one fan.
+/// point one fan. A point without faces is fine.
+///
+/// There are at most 1,024 points and at most 1,024 polygons of three or four corners, each one of the
+/// points, counted from 0.
 ///
 /// # Errors
 ///

@@ -66,6 +66,8 @@ fn put_refined_points(
 /// The points are whole numbers over ten to the `scale`, which is at most 18, each at most 10^18 in
 /// amount. The polygons name their corners counted from 0. The new points are those of the points, then of
 /// the faces, then of the edges by first appearance; the new faces go by face and then by corner.
+/// There are at most 1,024 points and at most 1,024 polygons of three or four corners. The mesh need not
+/// be closed; along a boundary the values are then no means, since its edges are smooth.
 /// The one error is want of memory.
 ///
 /// Source: Catmull and Clark 1978; the order of points and faces is this profile's.

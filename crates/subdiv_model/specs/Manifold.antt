@@ -18,8 +18,8 @@ IsPath polygons v [] = Unit {0}
 IsPath polygons v (face ∷ []) = Unit {0}
 IsPath polygons v (face ∷ (next ∷ rest)) = IsSuccessor polygons v face next × IsPath polygons v (next ∷ rest)
 
--- the faces at v form one fan: they can be listed, each once, so that each is the successor of the one
--- before it. The last may lead back to the first. A point without faces has one fan.
+-- one walk about v from successor to successor meets each face at v once and no other; it may end at the
+-- face that leads back to the first, and where there is no face it is empty
 pub record HasOneFan (polygons : List Polygon) (v : ℕ) : Type 0 where
   pub fan : List ℕ
   pub once : IsTrue (is_distinct fan)

@@ -11,7 +11,7 @@ pub data ObjCause : Type 0 where
   NumberRange : ObjCause
   -- the first word of a line is no keyword
   UnknownKeyword : ObjCause
-  -- a line ends with `\`
+  -- the last word of a line ends with `\`
   Continuation : ObjCause
   -- a line has too few words
   ShortLine : ObjCause

@@ -112,7 +112,7 @@ is_negative word = has_minus word && nat_lt 0 (normal_amount word).0
 abbrev pub is_fine : List ℕ → Bool
 is_fine word = nat_lt (amount_fraction word).0 (10 * (amount_fraction word).1) && nat_lt 6 (normal_amount word).1
 
--- a numeral that is kept is no sharpness
+-- what is wrong with a numeral that is kept, as a sharpness
 abbrev pub sharpness_fault : List ℕ → Option ObjCause
 sharpness_fault word = if is_negative word || is_fine word then Some SharpnessRange else None
 
