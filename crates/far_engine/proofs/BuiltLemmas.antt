@@ -29,7 +29,7 @@ use Rattle.obj_tags.specs.declared.fault.ReadFault.{ReadFault}
 use Rattle.obj_tags.specs.declared.fault.ReadFault.TheVariants as ReadFaults
 use Rattle.obj_tags.specs.Kept.{IsReadFault}
 use Rattle.obj_tags.specs.View.{point_of, cause_of, fault_of}
-use Rattle.far_engine.specs.Built.{is_built, has_built_form, is_closed_manifold, is_small, is_small_face, has_no_tags, has_plain_modes, has_short_numbers, is_short, is_short_point}
+use Rattle.far_engine.specs.Built.{is_built, has_built_form, is_closed_manifold, is_small, is_small_face, has_no_tags, has_default_modes, has_short_numbers, is_short, is_short_point}
 use Rattle.subdiv_model.specs.Text.{refined_mesh_text}
 use Rattle.far_engine.specs.Outcome.{named_cause, refusal_of_obj, refusal_of_text, refusal_of_mesh, text_of, level_of, obj_fault, not_built}
 
@@ -82,7 +82,7 @@ all-short (p ∷ points) h =
 -- a mesh of a built form has short points
 pub short-points : (mesh : ObjMesh) (points : List Point3) → map point_of points ≡ mesh.points → true ≡ has_built_form mesh → All (λ p. IsShort p.x × IsShort p.y × IsShort p.z) points
 short-points mesh points same form =
-    let others = is_small mesh && list_all is_small_face mesh.faces && has_no_tags mesh && has_plain_modes mesh && not mesh.has_texture in
+    let others = is_small mesh && list_all is_small_face mesh.faces && has_no_tags mesh && has_default_modes mesh && not mesh.has_texture in
     let numbers = (and_parts others (has_short_numbers mesh) (sym form)).1 in
     let shorts = and_parts (nat_le mesh.scale 18) (list_all is_short_point mesh.points) numbers in
     all-short points (ap (list_all is_short_point) same ∙ shorts.1)

@@ -21,7 +21,7 @@ is_small_face face = nat_le 3 (length face) && nat_le (length face) 4
 abbrev pub is_closed_manifold : ObjMesh → Bool
 is_closed_manifold mesh = is_manifold (length mesh.points) mesh.faces && is_closed mesh.faces
 
--- no crease, no sharp corner and no hole, whatever its sharpness
+-- no crease, no corner tag and no hole, whatever its sharpness
 abbrev pub has_no_tags : ObjMesh → Bool
 has_no_tags mesh = nat_eq (length mesh.creases) 0 && nat_eq (length mesh.corners) 0 && nat_eq (length mesh.holes) 0
 
@@ -35,8 +35,8 @@ is_normal Normal = true
 is_normal Chaikin = false
 
 -- the boundary mode and the method that a text without tags has
-abbrev pub has_plain_modes : ObjMesh → Bool
-has_plain_modes mesh = is_edge_only mesh.boundary && is_normal mesh.method
+abbrev pub has_default_modes : ObjMesh → Bool
+has_default_modes mesh = is_edge_only mesh.boundary && is_normal mesh.method
 
 abbrev pub is_short : ℤ → Bool
 is_short number = nat_le (unsigned_abs number) (10 ^ 18)
@@ -54,7 +54,7 @@ has_built_form mesh =
     is_small mesh
     && list_all is_small_face mesh.faces
     && has_no_tags mesh
-    && has_plain_modes mesh
+    && has_default_modes mesh
     && not mesh.has_texture
     && has_short_numbers mesh
 

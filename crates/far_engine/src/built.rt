@@ -4,7 +4,7 @@ ghost use Rattle.std.specs.Prelude.{◌≡◌, ℕ, ◌<◌, length, map, IfOk};
 ghost use Rattle.std.specs.List.{list_all};
 ghost use Rattle.plain_refine.specs.Mesh.{corners_of};
 ghost use Rattle.obj_tags.specs.View.{point_of};
-ghost use Rattle.far_engine.specs.Built.{is_small, is_small_face, has_no_tags, has_plain_modes, is_short, is_short_point, has_short_numbers, has_built_form};
+ghost use Rattle.far_engine.specs.Built.{is_small, is_small_face, has_no_tags, has_default_modes, is_short, is_short_point, has_short_numbers, has_built_form};
 
 use obj_tags::{Boundary, RawMesh};
 use ratio128::{Memory, Point3};
@@ -46,7 +46,7 @@ fn has_small_faces(mesh: &RawMesh) -> bool
     true
 }
 
-// Whether there is no crease, no sharp corner and no hole.
+// Whether there is no crease, no corner tag and no hole, whatever its sharpness.
 fn has_no_tags(mesh: &RawMesh) -> bool
     ensures { result ≡ has_no_tags mesh.now }
 {
@@ -54,8 +54,8 @@ fn has_no_tags(mesh: &RawMesh) -> bool
 }
 
 // Whether the boundary mode and the method are those of a text without tags.
-fn has_plain_modes(mesh: &RawMesh) -> bool
-    ensures { result ≡ has_plain_modes mesh.now }
+fn has_default_modes(mesh: &RawMesh) -> bool
+    ensures { result ≡ has_default_modes mesh.now }
 {
     matches!(mesh.boundary(), Boundary::EdgeOnly) && matches!(mesh.method(), Method::Normal)
 }
@@ -100,7 +100,7 @@ pub(crate) fn has_built_form(mesh: &RawMesh) -> bool
     is_small(mesh)
         && has_small_faces(mesh)
         && has_no_tags(mesh)
-        && has_plain_modes(mesh)
+        && has_default_modes(mesh)
         && !mesh.has_texture()
         && has_short_numbers(mesh)
 }

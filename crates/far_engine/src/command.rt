@@ -11,8 +11,8 @@ fn is_option(word: &str) -> bool
     }
 }
 
-// The place of the first bad word, counted from 0, or the number of words where a required option
-// is missing.
+// The first word that does not fit, counted from 0; where only a required option is wanting, how many
+// words there are.
 pub(crate) fn usage(words: &[String]) -> Option<u32>
     ensures { result ≡ usage_of (map string_bytes words.now) }
 {

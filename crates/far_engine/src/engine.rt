@@ -77,13 +77,15 @@ fn refine_bytes(alloc: Global, bytes: &[u8]) -> Result<Vec<u8>, RefineFault>
 /// text of that mesh after one Catmull-Clark step, each coordinate a fraction in lowest terms.
 ///
 /// Every refusal is found before anything is written. `Usage` comes exactly where the words are no
-/// command, `Long` exactly where more than 2^28 bytes came, `Obj` exactly where a line is refused (the
-/// least such line, and its cause), and `NotBuilt`, with line 0, exactly where a mesh that was read is
-/// not one of those that are built today: closed manifolds of at most 1,024 points and 1,024 faces of
-/// three or four corners, with coordinates of at most 10^18 in amount over at most 10^18, and without
-/// creases, sharp corners, holes, texture or other modes than the usual. `Read` and `Write` come only
-/// where the count of faults of the source or the sink rose; after `Write` the sink holds what it held
-/// and a part of the answer's front. It takes no step.
+/// command. Of a source that tells its bytes, `Long` comes only where more than 2^28 bytes came, `Obj`
+/// only where a line is refused, with the least such line, counted from 1, and its cause, and
+/// `NotBuilt`, with line 0, only where a mesh that was read is not one of those that are built today:
+/// closed manifolds of at most 1,024 points and 1,024 faces of three or four corners, with coordinates
+/// of at most 10^18 in amount over at most 10^18, and without creases, corner tags, holes, texture or
+/// other modes than the usual. Such words and bytes are answered so, unless `Read` or `Memory` comes
+/// first. `Read` and `Write` come only where the count of faults of the source or the sink rose, and
+/// `Memory` may come at any time after good words. After `Write` the sink holds what it held and a part
+/// of the answer's front. It takes no step.
 pub fn run<S: Source, K: Sink, L: Ledger>(
     alloc: Global,
     words: &Vec<String>,
@@ -119,11 +121,29 @@ pub fn run<S: Source, K: Sink, L: Ledger>(
     }
 }
 
+// The status of an outcome: 0 where it is `Ok`, and then `errors` is not called; otherwise that of the
+// fault, whose line goes to `errors`. What `errors` does with it changes nothing of the answer.
+fn conclude<E: Sink>(outcome: Result<(), FarFault>, errors: &mut E) -> u8
+    ensures status { result ≡ status_of_outcome outcome }
+    ensures reports { Reports E.held E.faults errors.old errors.new outcome }
+    ensures later { E.faults errors.old ≤ E.faults errors.new }
+    ensures fixed { E.fixed errors.new ≡ E.fixed errors.old }
+{
+    match outcome {
+        Ok(()) => 0,
+        Err(fault) => {
+            // There is nowhere to tell that this failed but the count of `errors`.
+            let _ = report(&fault, errors);
+            status(&fault)
+        }
+    }
+}
+
 /// Does all that the program does, and answers its exit status: 0 where the run is `Ok`, and then
 /// `errors` is not called; otherwise the status of the fault, whose line goes to `errors`.
 ///
-/// The answer does not depend on what `errors` does. `errors` holds what it held and the whole
-/// line, or, only where its own count of faults rose, a part of the line's front.
+/// `errors` holds what it held and the whole line, or, only where its own count of faults rose, a part
+/// of the line's front.
 pub fn program<S: Source, K: Sink, E: Sink, L: Ledger>(
     alloc: Global,
     words: &Vec<String>,
@@ -140,12 +160,5 @@ pub fn program<S: Source, K: Sink, E: Sink, L: Ledger>(
     ensures fixed { E.fixed errors.new ≡ E.fixed errors.old }
     ensures steps { steps.new ≡ steps.old }
 {
-    match run(alloc, words, source, sink, steps) {
-        Ok(()) => 0,
-        Err(fault) => {
-            // There is nowhere to tell that this failed but the count of `errors`.
-            let _ = report(&fault, errors);
-            status(&fault)
-        }
-    }
+    conclude(run(alloc, words, source, sink, steps), errors)
 }

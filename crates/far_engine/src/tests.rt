@@ -52,7 +52,7 @@ fn program_counted<L: Ledger>(
     words: &Vec<String>,
     source: &mut MemSource,
     sink: &mut MemSink,
-    errors: &mut SureSink,
+    errors: &mut MemSink,
 ) -> u8
     requires name { blank.name ≡ L.name }
     requires parts { blank.parts ≡ L.parts }
@@ -227,14 +227,34 @@ fn reports_the_line_and_the_cause(rt: HostRuntime) -> Result<(), Fail> {
 #[test]
 fn answers_failing_calls(rt: HostRuntime) -> Result<(), Fail> {
     let alloc = rt.alloc();
-    for (text, read, write, room, status, line, written) in [
-        ("refine depth=1", 9, 9, 4096, 0, "", TRIANGLES_REFINED),
-        ("refine depth=1", 0, 9, 4096, 3, "far: reading failed\n", ""),
-        ("refine depth=1", 1, 9, 4096, 3, "far: reading failed\n", ""),
+    // The call of each stream that fails, and none from 9 on.
+    for (text, read, write, tell, room, status, line, written) in [
+        ("refine depth=1", 9, 9, 9, 4096, 0, "", TRIANGLES_REFINED),
+        (
+            "refine depth=1",
+            0,
+            9,
+            9,
+            4096,
+            3,
+            "far: reading failed\n",
+            "",
+        ),
+        (
+            "refine depth=1",
+            1,
+            9,
+            9,
+            4096,
+            3,
+            "far: reading failed\n",
+            "",
+        ),
         (
             "refine depth=1",
             9,
             0,
+            9,
             4096,
             10,
             "far: writing failed\n",
@@ -244,6 +264,7 @@ fn answers_failing_calls(rt: HostRuntime) -> Result<(), Fail> {
             "refine depth=1",
             9,
             1,
+            9,
             4096,
             10,
             "far: writing failed\n",
@@ -251,6 +272,7 @@ fn answers_failing_calls(rt: HostRuntime) -> Result<(), Fail> {
         ),
         (
             "refine depth=1",
+            9,
             9,
             9,
             8,
@@ -262,16 +284,20 @@ fn answers_failing_calls(rt: HostRuntime) -> Result<(), Fail> {
             "refine",
             0,
             0,
+            9,
             4096,
             2,
             "far: word 1 is not understood\n",
             "",
         ),
+        ("refine", 0, 0, 0, 4096, 2, "", ""),
+        ("refine", 0, 0, 1, 4096, 2, "far: word ", ""),
+        ("refine depth=1", 0, 9, 0, 4096, 3, "", ""),
     ] {
         let words = words_of(alloc, text)?;
         let mut source = MemSource::new(TRIANGLES.as_bytes().to_vec(alloc)?, vec![in alloc; read]?);
         let mut sink = MemSink::with_room(alloc, room, vec![in alloc; write]?)?;
-        let mut errors = SureSink::with_room(alloc, 64)?;
+        let mut errors = MemSink::with_room(alloc, 64, vec![in alloc; tell]?)?;
         let given = program_counted::<Brand>(
             alloc,
             Blank::new(1),
@@ -283,7 +309,7 @@ fn answers_failing_calls(rt: HostRuntime) -> Result<(), Fail> {
         assert_eq!(rt;
             given,
             status,
-            "{text} with read {read} and write {write} failing"
+            "{text} with read {read}, write {write} and line {tell} failing"
         );
         assert_eq!(rt; errors.bytes(), line.as_bytes());
         assert_eq!(rt; sink.bytes(), written.as_bytes());
