@@ -1,6 +1,6 @@
 #!/usr/bin/env python3
 """Writes the larger meshes of examples/: the dog and the torus of 1,024 quads. Both are closed, and are
-written in plain lines. Run it again after a change: the files come out the same, byte for byte.
+written with whole numbers. Run it again after a change: the files come out the same, byte for byte.
 
     tools/make_examples.py
 """

@@ -33,7 +33,8 @@ class Fault(Exception):
 
 @dataclass
 class Mesh:
-    """Points are whole numbers over 10^scale; faces count from 0; tags are the creases, corners and holes."""
+    """Points are whole numbers over 10^scale, and faces count from 0. Of creases, corners and holes `tags` has the
+    names alone: their values, and those of texture, are checked and not kept."""
 
     points: list
     scale: int
