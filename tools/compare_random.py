@@ -1,0 +1,157 @@
+#!/usr/bin/env python3
+"""Compares the built program with `tools/reference.py` on random OBJ texts.
+
+The texts are made of lines that are good, bad or nearly bad, and of the cube with a few changes. The same
+seed makes the same texts. A text on which the two differ is printed, and the exit status is then 1.
+
+    tools/compare_random.py --seed 1 --count 3000
+"""
+
+import argparse
+import io
+import random
+import subprocess
+import sys
+from collections import Counter
+from pathlib import Path
+
+import reference
+
+TOP = Path(__file__).resolve().parent.parent
+WORDS = ["refine", "depth=1"]
+CUBE = (TOP / "examples" / "cube.obj").read_text().splitlines()
+NUMERALS = (
+    ["1.", "-.5", ".", "+", "-", "nan", "0x1", "1e", "1e+", "--1", "-0", "00.10", "1e36", "1e37", "1e-37", "1e-38"]
+    + ["0.0000001", "0.0000010", "9.9999999", "10.0000001", "9" * 37, "9" * 38, f"0.{1:037}", f"0.{1:038}"]
+)
+INDICES = ["0", "-0", "01", "-01", "+1", "", "x", str(2**63), str(-(2**63) - 1), "9" * 23]
+OTHER_LINES = (
+    ["", "# c", "vn 0 0 1", "g a", "o b", "s off", "usemtl x", "mtllib y", "l 1 2", "p 1", "x", "V 1 2 3", "v", "f"]
+    + ["t", "t crease", "g a\\", "# a\\", "  ", "\t", "f 1 #2", "v 1 2 3 # x", "v 1 2 3#x"]
+)
+COUNTS = ["1/1", "1/1/0/0", "01/01/00", "-1/0/0", "1000000000/0/0", "000000001/1/0", "//", "1/1/x"]
+# The counts of each tag, where `n` stands for a few words.
+TAGS = {
+    "crease": ("n", 1, 0),
+    "corner": ("n", 1, 0),
+    "hole": ("n", 0, 0),
+    "interpolateboundary": (1, 0, 0),
+    "creasemethod": (0, 0, 1),
+    "facevaryingpropagatecorners": ("n", "n", "n"),
+    "smooth": (0, 0, 0),
+}
+
+
+class Texts:
+    """Random texts from a seed."""
+
+    def __init__(self, seed):
+        self.random = random.Random(seed)
+
+    def happens(self, chance):
+        return self.random.random() < chance
+
+    def numeral(self):
+        if self.happens(0.5):
+            return str(self.random.randint(-9, 9))
+        if self.happens(0.4):
+            return f"{self.random.randint(-5, 5)}.{self.random.randint(0, 99)}"
+        if self.happens(0.5):
+            exponent = self.random.choice([0, 1, 2, 17, 18, 19, 35, 36, 37, 38, 10**12, 10**25])
+            return f"{self.random.randint(-99, 99)}{self.random.choice('eE')}{self.random.choice(['', '+', '-'])}{exponent}"
+        return self.random.choice(NUMERALS)
+
+    def index(self, most):
+        if self.happens(0.7):
+            return str(self.random.randint(1, most))
+        return str(-self.random.randint(1, most)) if self.happens(0.7) else self.random.choice(INDICES)
+
+    def corner(self, form):
+        if self.happens(0.06):
+            form = self.random.randint(0, 5)
+        a, b, c = self.index(6), self.index(3), self.index(3)
+        return [a, f"{a}/{b}", f"{a}//{c}", f"{a}/{b}/{c}", f"{a}/", f"{a}/{b}/{c}/1"][form]
+
+    def tag(self):
+        name = self.random.choice(list(TAGS))
+        wholes, numerals, strings = (self.random.randint(0, 3) if n == "n" else n for n in TAGS[name])
+        if self.happens(0.4):
+            numerals = {"crease": wholes - 1, "corner": wholes}.get(name, numerals)
+        counts = self.random.choice(COUNTS) if self.happens(0.05) else f"{wholes}/{max(numerals, 0)}/{strings}"
+        words = [str(self.random.randint(0, 4)) if self.happens(0.85) else self.index(6) for _ in range(wholes)]
+        words += [self.numeral() for _ in range(numerals)]
+        words += [self.random.choice(["normal", "chaikin", "x"]) for _ in range(strings)]
+        if self.happens(0.06):
+            words = words[:-1] if self.happens(0.5) else words + ["1"]
+        return " ".join(["t", name, counts] + words)
+
+    def plain_line(self):
+        kind = self.random.choice(["v", "v", "v", "vt", "f", "f", "t", "other"])
+        if kind == "v":
+            return "v " + " ".join(self.numeral() for _ in range(self.random.choice([3, 3, 3, 3, 4, 6, 2])))
+        if kind == "vt":
+            return "vt " + " ".join(self.numeral() for _ in range(self.random.choice([1, 2, 2, 3, 0])))
+        if kind == "f":
+            form = self.random.choice([0, 0, 0, 1, 2, 3])
+            return "f " + " ".join(self.corner(form) for _ in range(self.random.choice([3, 3, 4, 4, 2, 5, 1, 0])))
+        return self.tag() if kind == "t" else self.random.choice(OTHER_LINES)
+
+    def line(self):
+        line = self.plain_line()
+        if self.happens(0.05):
+            line = line.replace(" ", "\t ", 1)
+        return line + self.random.choice([""] * 20 + [" \\", "\r", "\r", " # c"])
+
+    def changed_cube(self):
+        lines = list(CUBE)
+        for _ in range(self.random.randint(0, 3)):
+            place = self.random.randrange(len(lines))
+            if self.happens(0.5):
+                lines.insert(place, self.line())
+            elif lines[place].startswith("v "):
+                lines[place] = "v " + " ".join(self.numeral() for _ in range(3))
+            else:
+                self.random.shuffle(lines)
+        return lines
+
+    def text(self):
+        lines = self.changed_cube() if self.happens(0.5) else [self.line() for _ in range(self.random.randint(0, 9))]
+        data = ("\n".join(lines) + self.random.choice(["\n", "\n", ""])).encode()
+        if self.happens(0.03):
+            data = b"\xef\xbb\xbf" + data
+        if self.happens(0.05):
+            data = data[: self.random.randrange(len(data) + 1)]
+        return data
+
+
+def expected(data):
+    """The status and what is written on standard output and standard error, by the reference."""
+    try:
+        text = reference.answer([word.encode() for word in WORDS], io.BytesIO(data))
+    except reference.Refusal as refusal:
+        return refusal.status, b"", f"{refusal.line}\n".encode()
+    return 0, text.encode(), b""
+
+
+def main():
+    parser = argparse.ArgumentParser(description="Compares the program with the reference on random texts.")
+    parser.add_argument("--program", default=TOP / "crates" / "far_cli" / "out" / "far_cli", help="the program to run")
+    parser.add_argument("--seed", type=int, default=1, help="the seed of the texts")
+    parser.add_argument("--count", type=int, default=1000, help="how many texts")
+    arguments = parser.parse_args()
+    texts = Texts(arguments.seed)
+    statuses = Counter()
+    for _ in range(arguments.count):
+        data = texts.text()
+        run = subprocess.run([arguments.program] + WORDS, input=data, capture_output=True)
+        given = run.returncode, run.stdout, run.stderr
+        statuses[run.returncode] += 1
+        if given != expected(data):
+            print(f"{data!r}\n  gives  {given}\n  wanted {expected(data)}")
+            return 1
+    print(f"{arguments.count} texts agree; by status: {dict(sorted(statuses.items()))}")
+    return 0
+
+
+if __name__ == "__main__":
+    sys.exit(main())
