@@ -30,6 +30,16 @@ enum RefineFault {
     Memory,
 }
 
+impl From<Memory> for RefineFault {
+    ghost use Rattle.far_engine.specs.declared.engine.RefineFault.TheVariants as fault;
+
+    ghost from_gives = { λ _ e. e ≡ fault.Memory };
+
+    fn from(_: Memory) -> RefineFault {
+        RefineFault::Memory
+    }
+}
+
 // The text of a mesh that was read after one step.
 fn refine_mesh(alloc: Global, mesh: &RawMesh) -> Result<Vec<u8>, RefineFault>
     requires { IsWithin mesh.now }
@@ -40,20 +50,13 @@ fn refine_mesh(alloc: Global, mesh: &RawMesh) -> Result<Vec<u8>, RefineFault>
     if !has_built_form(mesh) {
         return Err(RefineFault::NotBuilt);
     }
-    let polygons = match polygons_of(alloc, mesh) {
-        Ok(polygons) => polygons,
-        Err(Memory) => return Err(RefineFault::Memory),
-    };
     let points = mesh.points();
-    match is_closed_manifold(alloc, points.len(), &polygons) {
-        Ok(true) => {}
-        Ok(false) => return Err(RefineFault::NotBuilt),
-        Err(Memory) => return Err(RefineFault::Memory),
+    let polygons = polygons_of(alloc, mesh)?;
+    if !is_closed_manifold(alloc, points.len(), &polygons)? {
+        return Err(RefineFault::NotBuilt);
     }
-    match write_refined(alloc, points, mesh.scale(), &polygons) {
-        Ok(text) => Ok(text),
-        Err(Memory) => Err(RefineFault::Memory),
-    }
+    let text = write_refined(alloc, points, mesh.scale(), &polygons)?;
+    Ok(text)
 }
 
 // The text of the mesh after one step.

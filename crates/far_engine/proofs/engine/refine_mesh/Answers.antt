@@ -6,9 +6,9 @@ use Rattle.far_engine.proofs.engine.refine_mesh.Goals as goal
 pub write_refined-requires-clause-short : goal.write_refined-requires-clause-short
 write_refined-requires-clause-short c = short-points c.args.mesh.now c.points-points.result.now c.points-points.ensures c.if-not-has_built_form.ensures
 
-pub returns-in-Ok-write_refined-clause-refined : goal.returns-in-Ok-write_refined-clause-refined
-returns-in-Ok-write_refined-clause-refined c =
-    refined-mesh c.args.mesh.now c.points-points.result.now (corners_of c.in-Ok.polygons.items) _ c.scale.result c.in-Ok-true.field-0 c.in-Ok-write_refined.text.items c.points-points.ensures c.in-Ok.ensures refl c.scale.ensures c.if-not-has_built_form.ensures
-    (rw c.deref.ensures.value at c.in-Ok-true.ensures)
-    c.in-Ok-true.field-0-test
-    (rw c.deref-2.ensures.value at c.in-Ok-write_refined.ensures)
+pub returns-clause-refined : goal.returns-clause-refined
+returns-clause-refined c =
+    refined-mesh c.args.mesh.now c.points-points.result.now (corners_of c.in_ok-polygons.polygons.items) _ c.scale.result c.in_ok-is_closed_manifold.field-0 c.in_ok-text.text.items c.points-points.ensures c.in_ok-polygons.ensures refl c.scale.ensures c.if-not-has_built_form.ensures
+    (rw c.deref.ensures.value at c.in_ok-is_closed_manifold.ensures)
+    c.if-not-branch.false
+    (rw c.deref-2.ensures.value at c.in_ok-text.ensures)
