@@ -1,25 +1,26 @@
--- Level 0: an accepted mesh with the sharpness, holes and boundary mode that its file gives.
+-- Level 0: an accepted mesh with the sharpness, holes and boundary mode that its text gives.
 -- Source: this profile.
-use Rattle.std.specs.Prelude.{ℕ, Bool, false, ◌&&◌, ◌||◌, nat_eq, List, map, get_or, length, if◌then◌else◌}
-use Rattle.std.specs.List.{list_any, range_with_len, enumerate_from}
-use Rattle.subdiv_model.specs.Polygons.{Polygon}
+use Rattle.std.specs.Prelude.{ℕ, Bool, false, ◌&&◌, ◌||◌, nat_eq, List, map, length, if◌then◌else◌}
+use Rattle.std.specs.List.{filter, list_any, range_with_len, enumerate_from}
+use Rattle.subdiv_model.specs.Lists.{last_of}
+use Rattle.subdiv_model.specs.Polygons.{Polygon, same_edge, is_among}
 use Rattle.subdiv_model.specs.Edges.{edges_of, is_boundary, faces_of_point, has_end}
-use Rattle.subdiv_model.specs.Sharpness.{Sharpness, Smooth, Infinite, Method}
-use Rattle.subdiv_model.specs.Level.{Level, sharpness_among}
+use Rattle.subdiv_model.specs.Sharpness.{Sharpness, Smooth, Infinite}
+use Rattle.subdiv_model.specs.Level.{Level}
+use Rattle.subdiv_model.specs.Boundary.{Boundary, Hidden, EdgeOnly, EdgeAndCorner}
+use Rattle.subdiv_model.specs.ObjMesh.{ObjMesh}
 
--- the boundary modes of this profile
-pub data Boundary : Type 0 where
-  -- edge only, and the faces at the boundary count as holes
-  Hidden : Boundary
-  -- boundary edges are infinitely sharp
-  EdgeOnly : Boundary
-  -- and so are the vertices of exactly one face
-  EdgeAndCorner : Boundary
+-- of the tags that name the edge, in either direction, the last gives its sharpness
+abbrev pub tagged_edge : List ((ℕ × ℕ) × Sharpness) → ℕ × ℕ → Sharpness
+tagged_edge creases edge = last_of Smooth (map (λ crease. crease.1) (filter (λ crease. same_edge edge crease.0) creases))
 
--- a boundary edge is infinitely sharp, whatever is given; any other edge has what the first pair that names
--- it gives
-abbrev pub base_edge_sharpness : List Polygon → List ((ℕ × ℕ) × Sharpness) → ℕ × ℕ → Sharpness
-base_edge_sharpness polygons given edge = if is_boundary polygons edge then Infinite else sharpness_among given edge
+-- of the tags that name the vertex, the last gives its sharpness
+abbrev pub tagged_vertex : List (ℕ × Sharpness) → ℕ → Sharpness
+tagged_vertex corner_tags v = last_of Smooth (map (λ tag. tag.1) (filter (λ tag. nat_eq v tag.0) corner_tags))
+
+-- a boundary edge is infinitely sharp, whatever its tags
+abbrev pub base_edge_sharpness : ObjMesh → ℕ × ℕ → Sharpness
+base_edge_sharpness mesh edge = if is_boundary mesh.faces edge then Infinite else tagged_edge mesh.creases edge
 
 -- the vertex is infinitely sharp as the corner of one face
 abbrev pub is_end_corner : Boundary → List Polygon → ℕ → Bool
@@ -27,8 +28,8 @@ is_end_corner Hidden polygons v = false
 is_end_corner EdgeOnly polygons v = false
 is_end_corner EdgeAndCorner polygons v = nat_eq (length (faces_of_point polygons v)) 1
 
-abbrev pub base_vertex_sharpness : Boundary → List Polygon → List Sharpness → ℕ → Sharpness
-base_vertex_sharpness mode polygons given v = if is_end_corner mode polygons v then Infinite else get_or given v Smooth
+abbrev pub base_vertex_sharpness : ObjMesh → ℕ → Sharpness
+base_vertex_sharpness mesh v = if is_end_corner mesh.boundary mesh.faces v then Infinite else tagged_vertex mesh.corner_tags v
 
 -- the point is an end of a boundary edge
 abbrev pub is_at_boundary : List Polygon → ℕ → Bool
@@ -40,13 +41,17 @@ is_hidden Hidden polygons polygon = list_any (is_at_boundary polygons) polygon
 is_hidden EdgeOnly polygons polygon = false
 is_hidden EdgeAndCorner polygons polygon = false
 
--- level 0; `marks` are the holes that are given, one for each polygon
-abbrev pub base_level : Boundary → Method → ℕ → List Polygon → List Bool → List ((ℕ × ℕ) × Sharpness) → List Sharpness → Level
-base_level mode method points polygons marks creases corners = record {
-  points = points;
-  polygons = polygons;
-  holes = map (λ face. get_or marks face.0 false || is_hidden mode polygons face.1) (enumerate_from 0 polygons);
-  edge_sharpness = map (λ edge. (edge, base_edge_sharpness polygons creases edge)) (edges_of polygons);
-  vertex_sharpness = map (base_vertex_sharpness mode polygons corners) (range_with_len 0 points);
-  method = method;
+-- a face is a hole where a tag names it, and where it is hidden with the boundary
+abbrev pub is_base_hole : ObjMesh → ℕ × Polygon → Bool
+is_base_hole mesh face = is_among mesh.holes face.0 || is_hidden mesh.boundary mesh.faces face.1
+
+-- level 0 of a mesh; tags that name no edge, or one vertex twice, name nothing here
+abbrev pub base_level : ObjMesh → Level
+base_level mesh = record {
+  point_count = length mesh.points;
+  polygons = mesh.faces;
+  holes = map (is_base_hole mesh) (enumerate_from 0 mesh.faces);
+  edge_sharpness = map (base_edge_sharpness mesh) (edges_of mesh.faces);
+  vertex_sharpness = map (base_vertex_sharpness mesh) (range_with_len 0 (length mesh.points));
+  method = mesh.method;
 }

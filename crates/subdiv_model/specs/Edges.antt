@@ -1,8 +1,9 @@
 -- The edges of a list of polygons, by first appearance, and the faces and edges that meet.
 -- Source: this profile.
-use Rattle.std.specs.Prelude.{ℕ, Bool, not, ◌&&◌, ◌||◌, nat_eq, List, [], ◌∷◌, length}
-use Rattle.std.specs.List.{filter, flat_map, list_all, count_by}
-use Rattle.subdiv_model.specs.Polygons.{Polygon, sides_of, same_side, same_edge, has_corner, has_edge, places}
+use Rattle.std.specs.Prelude.{ℕ, Bool, ◌&&◌, ◌||◌, nat_eq, List, length}
+use Rattle.std.specs.List.{filter, flat_map, list_all, count_by, position_or_len}
+use Rattle.subdiv_model.specs.Polygons.{Polygon, sides_of, same_side, same_edge, has_corner, has_edge}
+use Rattle.subdiv_model.specs.Lists.{places, each_once_by}
 
 -- the directed edges of all polygons, over polygons and corners
 abbrev pub all_sides : List Polygon → List (ℕ × ℕ)
@@ -10,13 +11,16 @@ all_sides polygons = flat_map sides_of polygons
 
 -- each directed edge that names an edge for the first time
 abbrev pub first_named : List (ℕ × ℕ) → List (ℕ × ℕ)
-first_named [] = []
-first_named (s ∷ sides) = s ∷ filter (λ t. not (same_edge s t)) (first_named sides)
+first_named sides = each_once_by same_edge sides
 
 -- the edges: the unordered pairs of neighbouring corners, in order of first appearance over polygons and
 -- corners, each with its ends in the direction of that appearance
 abbrev pub edges_of : List Polygon → List (ℕ × ℕ)
 edges_of polygons = first_named (all_sides polygons)
+
+-- the place of an edge among the edges by first appearance; the number of edges where it is none
+abbrev pub edge_number : List Polygon → ℕ × ℕ → ℕ
+edge_number polygons edge = position_or_len (same_edge edge) (edges_of polygons)
 
 -- the numbers of the polygons that have the edge, ascending
 abbrev pub faces_of_edge : List Polygon → ℕ × ℕ → List ℕ

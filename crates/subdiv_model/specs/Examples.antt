@@ -1,15 +1,18 @@
 -- Small meshes for the examples.
-use Rattle.std.specs.Prelude.{true, List, [], ◌∷◌}
+use Rattle.std.specs.Prelude.{ℕ, ℤ, pos, false, true, List, [], ◌∷◌, ◌++◌, take, drop, replicate}
 use Rattle.subdiv_model.specs.Polygons.{Polygon}
-use Rattle.subdiv_model.specs.Sharpness.{Semi, Normal, Chaikin}
+use Rattle.subdiv_model.specs.Sharpness.{Sharpness, Semi, Normal, Chaikin}
 use Rattle.subdiv_model.specs.Level.{Level}
-use Rattle.subdiv_model.specs.Base.{base_level, EdgeOnly}
+use Rattle.subdiv_model.specs.Boundary.{Boundary, EdgeOnly}
+use Rattle.subdiv_model.specs.ObjMesh.{ObjMesh}
+use Rattle.subdiv_model.specs.Base.{base_level}
+use Rattle.subdiv_model.specs.Generator.{sheet_faces}
 
 -- four triangles round four points
 abbrev pub tetrahedron : List Polygon
 tetrahedron = (0 ∷ 2 ∷ 1 ∷ []) ∷ (0 ∷ 1 ∷ 3 ∷ []) ∷ (1 ∷ 2 ∷ 3 ∷ []) ∷ (2 ∷ 0 ∷ 3 ∷ []) ∷ []
 
--- one triangle, and the same from behind
+-- one triangle, and the same from after
 abbrev pub two_triangles : List Polygon
 two_triangles = (0 ∷ 1 ∷ 2 ∷ []) ∷ (0 ∷ 2 ∷ 1 ∷ []) ∷ []
 
@@ -23,14 +26,88 @@ cube =
     ∷ (6 ∷ 0 ∷ 2 ∷ 4 ∷ [])
     ∷ []
 
+-- four triangles round the top and four round the bottom
+abbrev pub octahedron : List Polygon
+octahedron =
+    (0 ∷ 1 ∷ 4 ∷ [])
+    ∷ (1 ∷ 2 ∷ 4 ∷ [])
+    ∷ (2 ∷ 3 ∷ 4 ∷ [])
+    ∷ (3 ∷ 0 ∷ 4 ∷ [])
+    ∷ (1 ∷ 0 ∷ 5 ∷ [])
+    ∷ (2 ∷ 1 ∷ 5 ∷ [])
+    ∷ (3 ∷ 2 ∷ 5 ∷ [])
+    ∷ (0 ∷ 3 ∷ 5 ∷ [])
+    ∷ []
+
+-- three by three quads, and the same without the one in the middle
+abbrev pub sheet : List Polygon
+sheet = sheet_faces 3
+
+abbrev pub frame : List Polygon
+frame = take 4 sheet ++ drop 5 sheet
+
 -- one quad, open all round
 abbrev pub square : List Polygon
 square = (0 ∷ 1 ∷ 2 ∷ 3 ∷ []) ∷ []
 
+-- a mesh over so many points, all at 0, with these creases and corner tags
+abbrev pub tagged_mesh : ℕ → List Polygon → List ((ℕ × ℕ) × Sharpness) → List (ℕ × Sharpness) → ObjMesh
+tagged_mesh points polygons creases corner_tags = record {
+  points = replicate points (pos 0, pos 0, pos 0);
+  common = 1;
+  texture = [];
+  texture_common = 1;
+  faces = polygons;
+  has_texture = false;
+  texture_corners = [];
+  creases = creases;
+  corner_tags = corner_tags;
+  holes = [];
+  boundary = EdgeOnly;
+  method = Normal;
+}
+
+-- level 0 of such a mesh
+abbrev pub tagged_level : ℕ → List Polygon → List ((ℕ × ℕ) × Sharpness) → List (ℕ × Sharpness) → Level
+tagged_level points polygons creases corner_tags = base_level (tagged_mesh points polygons creases corner_tags)
+
+-- a mesh over so many points, without tags, in a boundary mode
+abbrev pub level_in : Boundary → ℕ → List Polygon → Level
+level_in mode points polygons = base_level (record (tagged_mesh points polygons [] []) { boundary = mode })
+
 -- the cube with face 0 as a hole, and the edge between 1 and 3 of sharpness 3/2
 abbrev pub creased_cube : Level
-creased_cube = base_level EdgeOnly Normal 8 cube (true ∷ []) (((3, 1), Semi 3 2) ∷ []) []
+creased_cube = base_level (record (tagged_mesh 8 cube (((3, 1), Semi 3 2) ∷ []) []) { holes = 0 ∷ [] })
 
 -- the cube with edges of sharpness 1 and 3 that meet at 1, by the chaikin rule
 abbrev pub chaikin_cube : Level
-chaikin_cube = base_level EdgeOnly Chaikin 8 cube [] (((0, 1), Semi 1 1) ∷ ((1, 3), Semi 3 1) ∷ []) []
+chaikin_cube = base_level (record (tagged_mesh 8 cube (((0, 1), Semi 1 1) ∷ ((1, 3), Semi 3 1) ∷ []) []) { method = Chaikin })
+
+-- two quads side by side with these texture values, and these texture corners
+abbrev pub quads_with_texture : List (ℤ × ℤ) → List Polygon → ObjMesh
+quads_with_texture values corners = record (tagged_mesh 6 ((0 ∷ 1 ∷ 2 ∷ 3 ∷ []) ∷ (1 ∷ 4 ∷ 5 ∷ 2 ∷ []) ∷ []) [] []) {
+  texture = values;
+  has_texture = true;
+  texture_corners = corners;
+}
+
+abbrev pub seamed_quads : ObjMesh
+seamed_quads =
+    quads_with_texture
+    ((pos 0, pos 0) ∷ (pos 1, pos 0) ∷ (pos 1, pos 1) ∷ (pos 0, pos 1) ∷ (pos 4, pos 0) ∷ (pos 5, pos 0) ∷ (pos 5, pos 1) ∷ (pos 4, pos 1) ∷ [])
+    ((0 ∷ 1 ∷ 2 ∷ 3 ∷ []) ∷ (4 ∷ 5 ∷ 6 ∷ 7 ∷ []) ∷ [])
+
+abbrev pub joined_quads : ObjMesh
+joined_quads = quads_with_texture (replicate 6 (pos 0, pos 0)) ((5 ∷ 4 ∷ 3 ∷ 2 ∷ []) ∷ (4 ∷ 1 ∷ 0 ∷ 3 ∷ []) ∷ [])
+
+-- the numbers differ at vertex 2 alone
+abbrev pub half_seamed_quads : ObjMesh
+half_seamed_quads = quads_with_texture (replicate 7 (pos 0, pos 0)) ((0 ∷ 1 ∷ 2 ∷ 3 ∷ []) ∷ (1 ∷ 4 ∷ 5 ∷ 6 ∷ []) ∷ [])
+
+-- two by two quads with a texture number a vertex, but for another one at vertex 1 of the second quad
+abbrev pub slit_sheet : ObjMesh
+slit_sheet = record (tagged_mesh 9 (sheet_faces 2) [] []) {
+  texture = replicate 10 (pos 0, pos 0);
+  has_texture = true;
+  texture_corners = (0 ∷ 1 ∷ 4 ∷ 3 ∷ []) ∷ (9 ∷ 2 ∷ 5 ∷ 4 ∷ []) ∷ drop 2 (sheet_faces 2);
+}

@@ -1,29 +1,25 @@
 -- A level: points, polygons, holes and sharpness.
 -- Source: this profile.
-use Rattle.std.specs.Prelude.{ℕ, Bool, false, List, [], ◌∷◌, map, get_or, replicate, length, if◌then◌else◌}
-use Rattle.subdiv_model.specs.Polygons.{Polygon, same_edge}
-use Rattle.subdiv_model.specs.Edges.{faces_of_point, edges_of_point}
-use Rattle.subdiv_model.specs.Sharpness.{Sharpness, Smooth, Method, Normal}
+use Rattle.std.specs.Prelude.{ℕ, Bool, false, ◌&&◌, nat_eq, List, map, get_or, replicate, length}
+use Rattle.std.specs.List.{list_all}
+use Rattle.subdiv_model.specs.Polygons.{Polygon, is_over}
+use Rattle.subdiv_model.specs.Edges.{edges_of, edge_number, faces_of_point, edges_of_point}
+use Rattle.subdiv_model.specs.Sharpness.{Sharpness, Smooth, Method, Normal, is_proper_sharpness}
 
--- edge_sharpness names each edge by its ends in either direction, and an edge that it does not name is
--- smooth; vertex_sharpness goes by points, and a point past its end is smooth
 pub record Level : Type 0 where
-  pub points : ℕ
+  pub point_count : ℕ
   pub polygons : List Polygon
-  -- one mark for each polygon
+  -- a mark for each polygon
   pub holes : List Bool
-  pub edge_sharpness : List ((ℕ × ℕ) × Sharpness)
+  -- a sharpness for each edge, in the order of the edges
+  pub edge_sharpness : List Sharpness
+  -- a sharpness for each point
   pub vertex_sharpness : List Sharpness
   pub method : Method
 
--- the sharpness of the first pair that names the edge
-abbrev pub sharpness_among : List ((ℕ × ℕ) × Sharpness) → ℕ × ℕ → Sharpness
-sharpness_among [] edge = Smooth
-sharpness_among (entry ∷ entries) edge = if same_edge edge entry.0 then entry.1 else sharpness_among entries edge
-
--- the sharpness of the edge between a and b
-abbrev pub edge_sharpness_of : Level → ℕ → ℕ → Sharpness
-edge_sharpness_of level a b = sharpness_among level.edge_sharpness (a, b)
+-- the sharpness of an edge, named by its ends in either direction; what is no edge is smooth
+abbrev pub edge_sharpness_of : Level → ℕ × ℕ → Sharpness
+edge_sharpness_of level edge = get_or level.edge_sharpness (edge_number level.polygons edge) Smooth
 
 abbrev pub vertex_sharpness_of : Level → ℕ → Sharpness
 vertex_sharpness_of level v = get_or level.vertex_sharpness v Smooth
@@ -41,15 +37,26 @@ faces_at level v = faces_of_point level.polygons v
 
 -- the sharpness of the edges at a point, in their order
 abbrev pub ring_at : Level → ℕ → List Sharpness
-ring_at level v = map (λ edge. edge_sharpness_of level edge.0 edge.1) (edges_at level v)
+ring_at level v = map (edge_sharpness_of level) (edges_at level v)
+
+-- corners are points; there is a mark for each face and a sharpness for each edge and each point; and each
+-- sharpness is well formed
+abbrev pub is_well_formed : Level → Bool
+is_well_formed level =
+    is_over level.point_count level.polygons
+    && nat_eq (length level.holes) (length level.polygons)
+    && nat_eq (length level.edge_sharpness) (length (edges_of level.polygons))
+    && nat_eq (length level.vertex_sharpness) level.point_count
+    && list_all is_proper_sharpness level.edge_sharpness
+    && list_all is_proper_sharpness level.vertex_sharpness
 
 -- a level without holes and sharpness, with the method `normal`
 abbrev pub plain_level : ℕ → List Polygon → Level
 plain_level points polygons = record {
-  points = points;
+  point_count = points;
   polygons = polygons;
   holes = replicate (length polygons) false;
-  edge_sharpness = [];
-  vertex_sharpness = [];
+  edge_sharpness = replicate (length (edges_of polygons)) Smooth;
+  vertex_sharpness = replicate points Smooth;
   method = Normal;
 }

@@ -53,17 +53,17 @@ left_after (suc steps) polygons v None faces = faces
 left_after (suc steps) polygons v (Some face) faces =
     left_after steps polygons v (find (is_successor polygons v face) (without face faces)) (without face faces)
 
-abbrev pub is_empty : List ℕ → Bool
-is_empty [] = true
-is_empty (n ∷ rest) = false
+abbrev pub none_left : List ℕ → Bool
+none_left [] = true
+none_left (n ∷ rest) = false
 
 -- a walk about v from this face leaves no face
 abbrev pub walk_meets_all : List Polygon → ℕ → List ℕ → ℕ → Bool
-walk_meets_all polygons v faces face = is_empty (left_after (length faces) polygons v (Some face) faces)
+walk_meets_all polygons v faces face = none_left (left_after (length faces) polygons v (Some face) faces)
 
 -- the test for one fan: there is no face at v, or the walk from one of them meets all
 abbrev pub has_one_fan : List Polygon → ℕ → Bool
-has_one_fan polygons v = is_empty (faces_of_point polygons v) || list_any (walk_meets_all polygons v (faces_of_point polygons v)) (faces_of_point polygons v)
+has_one_fan polygons v = none_left (faces_of_point polygons v) || list_any (walk_meets_all polygons v (faces_of_point polygons v)) (faces_of_point polygons v)
 
 -- the test for a manifold
 abbrev pub is_manifold : ℕ → List Polygon → Bool

@@ -3,11 +3,12 @@
 -- sharp and semi-sharp edges, creases, corners and darts; transitions at a vertex are this profile's.
 use Rattle.std.specs.Prelude.{ℕ, ◌+◌, ◌-◌, ◌*◌, ◌/◌, Bool, true, false, not, ◌&&◌, nat_eq, nat_le, nat_lt, List, [], ◌∷◌, ◌++◌, length, map, get_or, if◌then◌else◌}
 use Rattle.std.specs.List.{filter, list_all, list_any, sum_by, range_with_len}
+use Rattle.subdiv_model.specs.Lists.{each_once_by}
 use Rattle.subdiv_model.specs.Polygons.{Polygon}
 use Rattle.subdiv_model.specs.Edges.{edges_of, faces_of_edge}
-use Rattle.subdiv_model.specs.Sharpness.{Sharpness, Smooth, Semi, Infinite, uniform_child}
+use Rattle.subdiv_model.specs.Sharpness.{Sharpness, Smooth, Semi, Infinite, uniform_child, is_proper_sharpness}
 use Rattle.subdiv_model.specs.Level.{Level, edge_sharpness_of, vertex_sharpness_of, edges_at, faces_at, ring_at}
-use Rattle.subdiv_model.specs.Rule.{Rule, SmoothRule, DartRule, CreaseRule, CornerRule, vertex_rule, same_mask, child_ring, transition_weight, is_proper}
+use Rattle.subdiv_model.specs.Rule.{Rule, SmoothRule, DartRule, CreaseRule, CornerRule, vertex_rule, same_mask, child_ring, transition_weight}
 use Rattle.subdiv_model.specs.Multiples.{lcm_of}
 
 pub data Scheme : Type 0 where
@@ -43,10 +44,34 @@ weigh_points weight points = map (λ v. weigh weight (OfPoint v)) points
 abbrev pub weigh_faces : ℕ → List ℕ → List Term
 weigh_faces weight faces = map (λ f. weigh weight (OfFace f)) faces
 
--- the mask of these terms, without those of weight 0
+-- the weight of a source in a mask, and 0 where it is not there
+abbrev pub weight_in : List Term → SourcePoint → ℕ
+weight_in terms source = sum_by (λ t. t.weight) (filter (λ t. same_source source t.source) terms)
+
+abbrev pub has_source : List Term → SourcePoint → Bool
+has_source terms source = list_any (λ t. same_source source t.source) terms
+
+-- each source once, in order of first appearance
+abbrev pub each_once : List SourcePoint → List SourcePoint
+each_once sources = each_once_by same_source sources
+
+-- no source stands twice
+abbrev pub has_distinct_sources : List Term → Bool
+has_distinct_sources [] = true
+has_distinct_sources (t ∷ terms) = not (has_source terms t.source) && has_distinct_sources terms
+
+-- the terms with all weights multiplied by one amount
+abbrev pub scaled_terms : ℕ → List Term → List Term
+scaled_terms amount terms = map (λ t. weigh (amount * t.weight) t.source) terms
+
+-- the terms of one source joined, in order of first appearance
+abbrev pub joined_terms : List Term → List Term
+joined_terms terms = map (λ source. weigh (weight_in terms source) source) (each_once (map (λ t. t.source) terms))
+
+-- the mask of these terms: those of one source are joined, and those of weight 0 left out
 abbrev pub mask_of : List Term → ℕ → Mask
 mask_of terms denominator = record {
-  terms = filter (λ t. nat_lt 0 t.weight) terms;
+  terms = filter (λ t. nat_lt 0 t.weight) (joined_terms terms);
   denominator = denominator;
 }
 
@@ -99,37 +124,12 @@ mask_of_rule v ends faces DartRule = smooth_vertex_mask v ends faces
 mask_of_rule v ends faces (CreaseRule first second) = crease_mask v (get_or ends first 0) (get_or ends second 0)
 mask_of_rule v ends faces CornerRule = corner_mask v
 
--- the weight of a source in a mask, and 0 where it is not there
-abbrev pub weight_in : List Term → SourcePoint → ℕ
-weight_in terms source = sum_by (λ t. t.weight) (filter (λ t. same_source source t.source) terms)
-
-abbrev pub has_source : List Term → SourcePoint → Bool
-has_source terms source = list_any (λ t. same_source source t.source) terms
-
--- each source once, in order of first appearance
-abbrev pub each_once : List SourcePoint → List SourcePoint
-each_once [] = []
-each_once (s ∷ sources) = s ∷ filter (λ other. not (same_source s other)) (each_once sources)
-
-abbrev pub joint_sources : List Term → List Term → List SourcePoint
-joint_sources first second = each_once (map (λ t. t.source) first ++ map (λ t. t.source) second)
-
--- no source stands twice
-abbrev pub has_distinct_sources : List Term → Bool
-has_distinct_sources [] = true
-has_distinct_sources (t ∷ terms) = not (has_source terms t.source) && has_distinct_sources terms
-
--- the weights of two masks, brought to one denominator and multiplied by two amounts
-abbrev pub joint_terms : ℕ → ℕ → List Term → List Term → List Term
-joint_terms a b first second =
-    map (λ source. weigh (a * weight_in first source + b * weight_in second source) source) (joint_sources first second)
-
--- x/y of the one mask and the rest of the other
+-- x/y of the one mask and the rest of the other, over a common multiple of their denominators
 abbrev pub blend : ℕ × ℕ → Mask → Mask → Mask
 blend w parent child =
     let multiple = lcm_of parent.denominator child.denominator in
     mask_of
-    (joint_terms (w.0 * (multiple / parent.denominator)) ((w.1 - w.0) * (multiple / child.denominator)) parent.terms child.terms)
+    (scaled_terms (w.0 * (multiple / parent.denominator)) parent.terms ++ scaled_terms ((w.1 - w.0) * (multiple / child.denominator)) child.terms)
     (w.1 * multiple)
 
 -- at weight 1 the mask of this level is used as it is
@@ -160,17 +160,13 @@ child_rule_at level v =
     vertex_rule (uniform_child (vertex_sharpness_of level v)) (child_ring level.method (ring_at level v))
 
 -- at the point are as many faces as edges, and at least two
-abbrev pub is_round : Level → ℕ → Bool
-is_round level v =
+abbrev pub is_interior : Level → ℕ → Bool
+is_interior level v =
     nat_le 2 (length (edges_at level v)) && nat_eq (length (faces_at level v)) (length (edges_at level v))
 
 -- the sharpness of the point and of its edges is well formed
 abbrev pub is_proper_at : Level → ℕ → Bool
-is_proper_at level v = is_proper (vertex_sharpness_of level v) && list_all is_proper (ring_at level v)
-
-abbrev pub is_proper_level : Level → Bool
-is_proper_level level =
-    list_all (λ entry. is_proper entry.1) level.edge_sharpness && list_all is_proper level.vertex_sharpness
+is_proper_at level v = is_proper_sharpness (vertex_sharpness_of level v) && list_all is_proper_sharpness (ring_at level v)
 
 -- the mask of each child point, under either scheme; the linear scheme takes every edge as sharp and every vertex as a corner
 abbrev pub face_mask : Level → ℕ → Mask
@@ -178,7 +174,7 @@ face_mask level f = mask_of_corners (get_or level.polygons f [])
 
 abbrev pub edge_mask : Level → Scheme → ℕ × ℕ → Mask
 edge_mask level CatmullClark edge =
-    mask_of_edge (edge_sharpness_of level edge.0 edge.1) edge (faces_of_edge level.polygons edge)
+    mask_of_edge (edge_sharpness_of level edge) edge (faces_of_edge level.polygons edge)
 edge_mask level Linear edge = sharp_edge_mask edge
 
 abbrev pub vertex_mask : Level → Scheme → ℕ → Mask
@@ -188,14 +184,14 @@ vertex_mask level CatmullClark v =
     mask_of_vertex vertex (uniform_child vertex) ring (child_ring level.method ring) v (ends_at level v) (faces_at level v)
 vertex_mask level Linear v = corner_mask v
 
--- the masks of all child points: of the level's points, then of its faces, then of its edges
+-- the masks of all child points, in their order: of the level's points, then of its faces, then of its edges
 abbrev pub child_masks : Level → Scheme → List Mask
 child_masks level scheme =
-    map (vertex_mask level scheme) (range_with_len 0 level.points)
+    map (vertex_mask level scheme) (range_with_len 0 level.point_count)
     ++ (map (face_mask level) (range_with_len 0 (length level.polygons)) ++ map (edge_mask level scheme) (edges_of level.polygons))
 
 abbrev pub is_source_of : Level → SourcePoint → Bool
-is_source_of level (OfPoint v) = nat_lt v level.points
+is_source_of level (OfPoint v) = nat_lt v level.point_count
 is_source_of level (OfFace f) = nat_lt f (length level.polygons)
 
 -- a mean of points and faces of the level
@@ -209,3 +205,7 @@ has_means level scheme = list_all (is_mean_of level) (child_masks level scheme)
 -- no mask has a source in two terms
 abbrev pub has_distinct_masks : Level → Scheme → Bool
 has_distinct_masks level scheme = list_all (λ mask. has_distinct_sources mask.terms) (child_masks level scheme)
+
+-- the mask terms of a step
+abbrev pub mask_terms : Level → Scheme → ℕ
+mask_terms level scheme = sum_by (λ mask. length mask.terms) (child_masks level scheme)

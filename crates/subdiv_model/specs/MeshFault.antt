@@ -1,8 +1,9 @@
 -- What is wrong with a mesh, and the fault that is named.
 -- Source: this profile.
-use Rattle.std.specs.Prelude.{ℕ, Bool, not, ◌||◌, nat_le, nat_lt, List, [], ◌∷◌, ◌++◌, length, map, Option, Some, None}
+use Rattle.std.specs.Prelude.{ℕ, Bool, not, ◌||◌, nat_le, nat_lt, List, ◌++◌, length, map, Option}
 use Rattle.std.specs.List.{filter, count_by, range_with_len}
-use Rattle.subdiv_model.specs.Polygons.{Polygon, same_edge, is_distinct, places}
+use Rattle.subdiv_model.specs.Polygons.{Polygon, same_edge, is_distinct}
+use Rattle.subdiv_model.specs.Lists.{places, first_of}
 use Rattle.subdiv_model.specs.Edges.{all_sides, edges_of, times_used, reversed}
 use Rattle.subdiv_model.specs.Manifold.{has_one_fan}
 
@@ -49,11 +50,6 @@ mesh_faults points polygons =
     ++ (map RepeatedVertex (repeating_faces polygons)
     ++ (map (λ edge. NonManifoldEdge edge.0 edge.1) (crowded_edges polygons)
     ++ (map (λ edge. WindingClash edge.0 edge.1) (clashing_edges polygons) ++ map SplitVertex (split_vertices points polygons))))
-
--- the first of a list, where there is one
-abbrev pub first_of : {X : Type 0} → List X → Option X
-first_of [] = None
-first_of (x ∷ xs) = Some x
 
 -- the fault that is named: the first one
 abbrev pub first_mesh_fault : ℕ → List Polygon → Option MeshFault

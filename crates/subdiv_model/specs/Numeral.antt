@@ -1,10 +1,9 @@
 -- Numerals of OBJ text: their forms, their values and their normal forms.
 -- Source: this profile.
-use Rattle.std.specs.Prelude.{ℕ, zero, suc, ◌+◌, ◌*◌, ◌/◌, ◌%◌, ◌^◌, ℤ, pos, neg_ℤ, unsigned_abs, Bool, true, false, ◌&&◌, ◌||◌, nat_eq, nat_le, nat_lt, List, [], ◌∷◌, ◌++◌, length, map, drop, codes, if◌then◌else◌}
-use Rattle.std.specs.Int.Digits.{digits_of}
+use Rattle.std.specs.Prelude.{ℕ, zero, suc, ◌+◌, ◌*◌, ◌/◌, ◌%◌, ◌^◌, ℤ, pos, neg_ℤ, unsigned_abs, Bool, true, false, ◌&&◌, ◌||◌, nat_eq, nat_le, nat_lt, List, [], ◌∷◌, ◌++◌, length, drop, codes, if◌then◌else◌}
 use Rattle.std.specs.List.{list_all, position_or_len, before_first, after_first}
 use Rattle.subdiv_model.specs.Digits.{is_digit, number_of_digits, has_minus}
-use Rattle.subdiv_model.specs.Text.{sign_text}
+use Rattle.subdiv_model.specs.NumberText.{sign_text, number_text}
 use Rattle.subdiv_model.specs.Value.{Value}
 
 -- one or more digits and nothing else
@@ -27,7 +26,7 @@ signed negative amount = if negative then neg_ℤ (pos amount) else pos amount
 abbrev pub is_exponent_mark : ℕ → Bool
 is_exponent_mark b = nat_eq b 101 || nat_eq b 69
 
--- what stands behind the sign and before the exponent
+-- what stands after the sign and before the exponent
 abbrev pub decimal_part : List ℕ → List ℕ
 decimal_part word = before_first is_exponent_mark (without_sign word)
 
@@ -38,7 +37,7 @@ exponent_part word = drop (position_or_len is_exponent_mark (without_sign word))
 abbrev pub is_point : ℕ → Bool
 is_point b = nat_eq b 46
 
--- the digits before the point and behind it
+-- the digits before the point and after it
 abbrev pub whole_digits : List ℕ → List ℕ
 whole_digits word = before_first is_point (decimal_part word)
 
@@ -61,7 +60,7 @@ abbrev pub exponent_has_minus : List ℕ → Bool
 exponent_has_minus [] = false
 exponent_has_minus (mark ∷ exponent) = has_minus exponent
 
--- an optional sign; digits, with an optional point before, behind or among them; and an optional exponent
+-- an optional sign; digits, with an optional point before, after or among them; and an optional exponent
 abbrev pub is_numeral : List ℕ → Bool
 is_numeral word = are_digits (all_digits word) && is_exponent (exponent_part word)
 
@@ -73,7 +72,7 @@ abbrev pub tens_below : List ℕ → ℕ
 tens_below word =
     if exponent_has_minus (exponent_part word) then length (fraction_digits word) + exponent_amount (exponent_part word) else length (fraction_digits word)
 
--- the value: all digits as one whole number, times ten to the exponent less the number of digits behind the point
+-- the value: all digits as one whole number, times ten to the exponent less the number of digits after the point
 abbrev pub numeral_value : List ℕ → Value
 numeral_value word = record {
   num = signed (has_minus word) (number_of_digits (all_digits word) * 10 ^ tens_above word);
@@ -102,10 +101,6 @@ is_in_range word = nat_lt (normal_amount word).0 (10 ^ 37) && nat_le (normal_amo
 abbrev pub form_value : ℤ × ℕ → Value
 form_value form = record { num = form.0; den = 10 ^ form.1 }
 
--- the digits of a whole number, which has at least one
-abbrev pub digits_text : ℕ → List ℕ
-digits_text n = if nat_eq n 0 then codes "0" else map (λ d. d + 48) (digits_of 10 n)
-
 -- a numeral that says a normal form: a sign where it is below 0, the mantissa's digits, and the decimals as an exponent
 abbrev pub form_text : ℤ × ℕ → List ℕ
-form_text form = sign_text form.0 ++ (digits_text (unsigned_abs form.0) ++ (codes "e-" ++ digits_text form.1))
+form_text form = sign_text form.0 ++ (number_text (unsigned_abs form.0) ++ (codes "e-" ++ number_text form.1))

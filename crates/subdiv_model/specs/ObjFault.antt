@@ -1,8 +1,8 @@
 -- What is wrong with an OBJ text.
 -- Source: this profile.
-use Rattle.std.specs.Prelude.{ℕ, Bool, true, false, List, Option, Some, None}
+use Rattle.std.specs.Prelude.{ℕ, Bool, true, false, List, Option}
 use Rattle.std.specs.List.{filter_map}
-use Rattle.subdiv_model.specs.MeshFault.{first_of}
+use Rattle.subdiv_model.specs.Lists.{first_of}
 
 pub data ObjCause : Type 0 where
   -- a word that must be a numeral is none
@@ -56,8 +56,3 @@ pub record ObjFault : Type 0 where
 -- the first cause among the words, from the left
 abbrev pub first_cause : (List ℕ → Option ObjCause) → List (List ℕ) → Option ObjCause
 first_cause cause_of words = first_of (filter_map cause_of words)
-
--- the first where there is one, and else the second
-abbrev pub or_else : {X : Type 0} → Option X → Option X → Option X
-or_else (Some x) other = Some x
-or_else None other = other

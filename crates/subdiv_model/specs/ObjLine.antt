@@ -17,7 +17,7 @@ closed_lines [] = []
 closed_lines (line ∷ []) = if nat_eq (length line) 0 then [] else line ∷ []
 closed_lines (line ∷ (next ∷ lines)) = line ∷ closed_lines (next ∷ lines)
 
--- lines end at LF; the last may have none, and nothing behind the last LF is no line
+-- lines end at LF; the last may have none, and nothing after the last LF is no line
 abbrev pub lines_of : List ℕ → List (List ℕ)
 lines_of text = closed_lines (slice_split (λ b. nat_eq b 10) text)
 

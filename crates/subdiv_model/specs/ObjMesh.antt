@@ -4,17 +4,17 @@ use Rattle.std.specs.Prelude.{ℕ, ℤ, Bool, ◌&&◌, nat_lt, List, length}
 use Rattle.std.specs.List.{list_all}
 use Rattle.subdiv_model.specs.Polygons.{Polygon, is_over}
 use Rattle.subdiv_model.specs.Sharpness.{Sharpness, Method}
-use Rattle.subdiv_model.specs.Base.{Boundary}
+use Rattle.subdiv_model.specs.Boundary.{Boundary}
 
--- points, faces and texture values are counted from 0; creases, corners and holes stand in the order of the
--- file, also where they name an edge, a vertex or a face again
+-- points, faces and texture values are counted from 0; creases, corner tags and holes stand in the order of the
+-- text, also where they name an edge, a vertex or a face again
 pub record ObjMesh : Type 0 where
-  -- whole numbers over 10^scale
+  -- whole numbers over the common denominator of the positions
   pub points : List (ℤ × ℤ × ℤ)
-  pub scale : ℕ
-  -- whole numbers over 10^texture_scale
+  pub common : ℕ
+  -- whole numbers over the common denominator of the texture values
   pub texture : List (ℤ × ℤ)
-  pub texture_scale : ℕ
+  pub texture_common : ℕ
   pub faces : List Polygon
   pub has_texture : Bool
   -- where there is texture, for each corner of each face the number of its texture value; else nothing
@@ -22,7 +22,7 @@ pub record ObjMesh : Type 0 where
   -- two vertices and the sharpness between them
   pub creases : List ((ℕ × ℕ) × Sharpness)
   -- a vertex and its sharpness
-  pub corners : List (ℕ × Sharpness)
+  pub corner_tags : List (ℕ × Sharpness)
   -- numbers of faces
   pub holes : List ℕ
   pub boundary : Boundary
@@ -41,9 +41,9 @@ abbrev pub has_creases_over_points : ObjMesh → Bool
 has_creases_over_points mesh =
     list_all (λ crease. nat_lt crease.0.0 (length mesh.points) && nat_lt crease.0.1 (length mesh.points)) mesh.creases
 
--- the vertex of each corner is a point
-abbrev pub has_corners_over_points : ObjMesh → Bool
-has_corners_over_points mesh = list_all (λ corner. nat_lt corner.0 (length mesh.points)) mesh.corners
+-- the vertex of each corner tag is a point
+abbrev pub has_corner_tags_over_points : ObjMesh → Bool
+has_corner_tags_over_points mesh = list_all (λ tag. nat_lt tag.0 (length mesh.points)) mesh.corner_tags
 
 -- each hole is a face
 abbrev pub has_holes_over_faces : ObjMesh → Bool

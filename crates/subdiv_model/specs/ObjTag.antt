@@ -1,5 +1,6 @@
 -- Tags of OBJ text: creases, corners, holes, the boundary mode and the method.
 -- Source: this profile; the names of the tags are those of OpenSubdiv's files of shapes.
+use Rattle.std.specs.Option.{option_or}
 use Rattle.std.specs.Prelude.{ℕ, ◌+◌, ◌-◌, ◌*◌, ◌^◌, ℤ, pos, negsuc, unsigned_abs, Bool, true, false, ◌&&◌, ◌||◌, nat_eq, nat_le, nat_lt, List, [], length, map, take, drop, zip, get_or, replicate, Option, Some, None, is_some, unwrap_or, bytes_eq, codes, if◌then◌else◌}
 use Rattle.std.specs.List.{list_all, slice_split}
 use Rattle.subdiv_model.specs.ObjLine.{begins_with}
@@ -7,8 +8,8 @@ use Rattle.subdiv_model.specs.Digits.{is_digits, number_of_digits, has_minus}
 use Rattle.subdiv_model.specs.Numeral.{normal_amount}
 use Rattle.subdiv_model.specs.Index.{is_index, index_of}
 use Rattle.subdiv_model.specs.Sharpness.{Sharpness, Smooth, Method, Normal, Chaikin, sharpness_of_fraction}
-use Rattle.subdiv_model.specs.Base.{Boundary, Hidden, EdgeOnly, EdgeAndCorner}
-use Rattle.subdiv_model.specs.ObjFault.{ObjCause, BadTag, TagIndex, SharpnessRange, first_cause, or_else}
+use Rattle.subdiv_model.specs.Boundary.{Boundary, Hidden, EdgeOnly, EdgeAndCorner}
+use Rattle.subdiv_model.specs.ObjFault.{ObjCause, BadTag, TagIndex, SharpnessRange, first_cause}
 use Rattle.subdiv_model.specs.ObjWord.{Counts, is_slash, numeral_fault}
 
 pub data TagKind : Type 0 where
@@ -109,16 +110,16 @@ abbrev pub is_negative : List ℕ → Bool
 is_negative word = has_minus word && nat_lt 0 (normal_amount word).0
 
 -- the numeral is below 10 and has more than six decimals
-abbrev pub is_fine : List ℕ → Bool
-is_fine word = nat_lt (amount_fraction word).0 (10 * (amount_fraction word).1) && nat_lt 6 (normal_amount word).1
+abbrev pub has_too_many_decimals : List ℕ → Bool
+has_too_many_decimals word = nat_lt (amount_fraction word).0 (10 * (amount_fraction word).1) && nat_lt 6 (normal_amount word).1
 
 -- what is wrong with a numeral that is kept, as a sharpness
 abbrev pub sharpness_fault : List ℕ → Option ObjCause
-sharpness_fault word = if is_negative word || is_fine word then Some SharpnessRange else None
+sharpness_fault word = if is_negative word || has_too_many_decimals word then Some SharpnessRange else None
 
 -- what is wrong with a word that must be a sharpness
 abbrev pub tag_numeral_fault : List ℕ → Option ObjCause
-tag_numeral_fault word = or_else (numeral_fault word) (sharpness_fault word)
+tag_numeral_fault word = option_or (numeral_fault word) (sharpness_fault word)
 
 -- the boundary mode of a number
 abbrev pub mode_of : ℤ → Option Boundary
@@ -141,14 +142,14 @@ method_fault word = if is_some (method_of_word word) then None else Some BadTag
 -- the first fault among indices and then sharpnesses
 abbrev pub index_and_sharpness_fault : ℕ → List (List ℕ) → Option ObjCause
 index_and_sharpness_fault count words =
-    or_else (first_cause (tag_index_fault count) (tag_wholes words)) (first_cause tag_numeral_fault (tag_numerals words))
+    option_or (first_cause (tag_index_fault count) (tag_wholes words)) (first_cause tag_numeral_fault (tag_numerals words))
 
 -- what is wrong with the values of a tag whose counts fit, by the counts of the whole file; those of a
 -- dropped tag are not read
 abbrev pub tag_values_fault : Counts → TagKind → List (List ℕ) → Option ObjCause
-tag_values_fault whole CreaseTag words = index_and_sharpness_fault whole.points words
-tag_values_fault whole CornerTag words = index_and_sharpness_fault whole.points words
-tag_values_fault whole HoleTag words = first_cause (tag_index_fault whole.faces) (tag_wholes words)
+tag_values_fault whole CreaseTag words = index_and_sharpness_fault whole.point_count words
+tag_values_fault whole CornerTag words = index_and_sharpness_fault whole.point_count words
+tag_values_fault whole HoleTag words = first_cause (tag_index_fault whole.face_count) (tag_wholes words)
 tag_values_fault whole BoundaryTag words = first_cause mode_fault (tag_wholes words)
 tag_values_fault whole MethodTag words = first_cause method_fault (tag_strings words)
 tag_values_fault whole DroppedTag words = None

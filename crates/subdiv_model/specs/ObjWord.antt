@@ -18,12 +18,12 @@ abbrev pub is_past_range : List ℕ → Bool
 is_past_range word = nat_lt 0 (number_of_digits (all_digits word)) && is_far_exponent word
 
 -- at most 37 digits and at most 37 decimals in normal form; the first test only spares a huge power
-abbrev pub is_kept : List ℕ → Bool
-is_kept word = not (is_past_range word) && is_in_range word
+abbrev pub is_representable : List ℕ → Bool
+is_representable word = not (is_past_range word) && is_in_range word
 
 -- what is wrong with a word that must be a numeral
 abbrev pub numeral_fault : List ℕ → Option ObjCause
-numeral_fault word = if is_numeral word then if is_kept word then None else Some NumberRange else Some BadNumeral
+numeral_fault word = if is_numeral word then if is_representable word then None else Some NumberRange else Some BadNumeral
 
 -- the numeral as a whole number over 10^scale, for a scale of at least its decimals
 abbrev pub number_at : ℕ → List ℕ → ℤ
@@ -47,8 +47,8 @@ are_corner_parts (a ∷ (b ∷ [])) = is_index a && is_index b
 are_corner_parts (a ∷ (b ∷ (c ∷ []))) = is_index a && (is_empty b || is_index b) && is_index c
 are_corner_parts (a ∷ (b ∷ (c ∷ (d ∷ parts)))) = false
 
-abbrev pub is_corner : List ℕ → Bool
-is_corner word = are_corner_parts (corner_parts word)
+abbrev pub is_face_corner : List ℕ → Bool
+is_face_corner word = are_corner_parts (corner_parts word)
 
 -- the index of a vertex, and that of a texture value, which may be empty
 abbrev pub vertex_part : List ℕ → List ℕ
@@ -78,16 +78,16 @@ place_of_word before whole word = place_of_index before whole (index_of word)
 
 -- how many points, texture values and faces some lines have
 pub record Counts : Type 0 where
-  pub points : ℕ
-  pub textures : ℕ
-  pub faces : ℕ
+  pub point_count : ℕ
+  pub texture_count : ℕ
+  pub face_count : ℕ
 
 -- the point and the texture value of a corner, by the counts of the lines before it and of the whole file
 abbrev pub corner_point : Counts → Counts → List ℕ → Option ℕ
-corner_point before whole corner = place_of_word before.points whole.points (vertex_part corner)
+corner_point before whole corner = place_of_word before.point_count whole.point_count (vertex_part corner)
 
 abbrev pub corner_texture : Counts → Counts → List ℕ → Option ℕ
-corner_texture before whole corner = place_of_word before.textures whole.textures (texture_part corner)
+corner_texture before whole corner = place_of_word before.texture_count whole.texture_count (texture_part corner)
 
 -- the corner names no point, or has a texture value and names none
 abbrev pub is_past_lists : Counts → Counts → List ℕ → Bool
@@ -97,4 +97,4 @@ is_past_lists before whole corner =
 -- what is wrong with a corner of a line whose first corner is given
 abbrev pub corner_fault : Counts → Counts → List ℕ → List ℕ → Option ObjCause
 corner_fault before whole first corner =
-    if is_corner corner && same_form first corner then if is_past_lists before whole corner then Some IndexRange else None else Some BadCorner
+    if is_face_corner corner && same_form first corner then if is_past_lists before whole corner then Some IndexRange else None else Some BadCorner

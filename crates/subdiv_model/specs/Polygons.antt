@@ -1,6 +1,6 @@
 -- Polygons over points, as plain lists: their corners, their directed edges, and their places in a list.
 -- Source: this profile.
-use Rattle.std.specs.Prelude.{ℕ, ◌+◌, Bool, true, not, ◌&&◌, ◌||◌, nat_eq, nat_lt, List, [], ◌∷◌, get_or, if◌then◌else◌}
+use Rattle.std.specs.Prelude.{ℕ, Bool, true, not, ◌&&◌, ◌||◌, nat_eq, nat_lt, List, [], ◌∷◌, get_or}
 use Rattle.std.specs.List.{list_any, list_all}
 
 -- a polygon is its corners in order, each the number of a point
@@ -50,15 +50,6 @@ is_distinct (v ∷ rest) = not (is_among rest v) && is_distinct rest
 abbrev pub has_distinct_sides : List (ℕ × ℕ) → Bool
 has_distinct_sides [] = true
 has_distinct_sides (s ∷ sides) = not (list_any (same_side s) sides) && has_distinct_sides sides
-
--- the places of what passes the test, ascending, where the first of the list is at `place`
-abbrev pub places_from : {X : Type 0} → ℕ → (X → Bool) → List X → List ℕ
-places_from place test [] = []
-places_from place test (x ∷ xs) = if test x then place ∷ places_from (place + 1) test xs else places_from (place + 1) test xs
-
--- the places of what passes the test, counted from 0, ascending
-abbrev pub places : {X : Type 0} → (X → Bool) → List X → List ℕ
-places test xs = places_from 0 test xs
 
 -- the polygon with this number, and no corner where there is none
 abbrev pub polygon_at : List Polygon → ℕ → Polygon

@@ -1,19 +1,21 @@
 -- Reading OBJ text: its first fault, or its mesh.
 -- Source: this profile.
+use Rattle.std.specs.Option.{option_or}
 use Rattle.std.specs.Prelude.{ℕ, suc, ◌-◌, ◌^◌, ℤ, unsigned_abs, Bool, not, ◌&&◌, ◌||◌, nat_eq, nat_le, nat_lt, max, List, [], ◌∷◌, length, map, take, drop, get_or, Option, Some, None, option_map, unwrap_or, bytes_eq, codes, if◌then◌else◌}
 use Rattle.std.specs.List.{filter, filter_map, flat_map, list_any, list_all, fold, count_by, range_with_len}
-use Rattle.subdiv_model.specs.MeshFault.{first_of}
-use Rattle.subdiv_model.specs.Polygons.{Polygon, places}
+use Rattle.subdiv_model.specs.Lists.{first_of, last_of}
+use Rattle.subdiv_model.specs.Polygons.{Polygon}
+use Rattle.subdiv_model.specs.Lists.{places}
 use Rattle.subdiv_model.specs.ObjLine.{lines_of, begins_with, is_vertex_line, is_face_line, line_words}
 use Rattle.subdiv_model.specs.Numeral.{normal_form}
 use Rattle.subdiv_model.specs.Sharpness.{Method, Normal}
-use Rattle.subdiv_model.specs.Base.{Boundary, EdgeOnly}
-use Rattle.subdiv_model.specs.ObjFault.{ObjCause, ObjFault, NumberRange, UnknownKeyword, Continuation, ShortLine, first_cause, or_else}
+use Rattle.subdiv_model.specs.Boundary.{Boundary, EdgeOnly}
+use Rattle.subdiv_model.specs.ObjFault.{ObjCause, ObjFault, NumberRange, UnknownKeyword, Continuation, ShortLine, first_cause}
 use Rattle.subdiv_model.specs.ObjMesh.{ObjMesh}
 use Rattle.subdiv_model.specs.ObjWord.{Counts, numeral_fault, number_at, corner_fault, corner_point, corner_texture, has_texture_part}
 use Rattle.subdiv_model.specs.ObjTag.{tag_fault, is_tag, tag_creases, tag_corners, tag_indices, tag_mode, tag_method}
 
--- a byte order mark at the front is skipped
+-- a byte order mark at the beginning is skipped
 abbrev pub byte_order_mark : List ℕ
 byte_order_mark = 239 ∷ 187 ∷ 191 ∷ []
 
@@ -43,7 +45,7 @@ abbrev pub has_known_keyword : List (List ℕ) → Bool
 has_known_keyword words =
     is_vertex_line words || is_texture_line words || is_face_line words || is_tag_line words || is_dropped_line words
 
--- the words behind the keyword
+-- the words after the keyword
 abbrev pub values_of : List (List ℕ) → List (List ℕ)
 values_of words = drop 1 words
 
@@ -55,7 +57,7 @@ ends_with_backslash word = nat_eq (get_or word (length word - 1) 0) 92
 abbrev pub is_continued : List (List ℕ) → Bool
 is_continued words = ends_with_backslash (get_or words (length words - 1) [])
 
--- how many words a line needs behind its keyword
+-- how many words a line needs after its keyword
 abbrev pub least_values : List (List ℕ) → ℕ
 least_values words =
     if is_vertex_line words then 3
@@ -87,9 +89,9 @@ line_fault before whole (keyword ∷ values) = line_fault_of_words before whole 
 -- how many points, texture values and faces the lines have, also where they are bad
 abbrev pub counts_of : List (List (List ℕ)) → Counts
 counts_of lines = record {
-  points = count_by is_vertex_line lines;
-  textures = count_by is_texture_line lines;
-  faces = count_by is_face_line lines;
+  point_count = count_by is_vertex_line lines;
+  texture_count = count_by is_texture_line lines;
+  face_count = count_by is_face_line lines;
 }
 
 -- what is wrong with the line at place i, counted from 0
@@ -142,7 +144,7 @@ first_long_line least lines = first_fault (λ i. long_fault least lines (get_or 
 
 -- the fault of a text, read with a scale of at least `least` for positions
 abbrev pub read_obj_fault : List ℕ → ℕ → Option ObjFault
-read_obj_fault text least = or_else (first_bad_line (obj_lines text)) (first_long_line least (obj_lines text))
+read_obj_fault text least = option_or (first_bad_line (obj_lines text)) (first_long_line least (obj_lines text))
 
 -- a point at a scale, and a texture value, whose second coordinate is 0 where it is missing
 abbrev pub point_at : ℕ → List (List ℕ) → ℤ × ℤ × ℤ
@@ -173,11 +175,6 @@ texture_corners_of lines =
 abbrev pub tags_named : List ℕ → List (List (List ℕ)) → List (List (List ℕ))
 tags_named name lines = filter (is_tag name) lines
 
--- the last of a list, or else what is given
-abbrev pub last_of : {X : Type 0} → X → List X → X
-last_of given [] = given
-last_of given (x ∷ xs) = last_of x xs
-
 -- the last tag gives the boundary mode and the method
 abbrev pub boundary_of : List (List (List ℕ)) → Boundary
 boundary_of lines = last_of EdgeOnly (map tag_mode (tags_named (codes "interpolateboundary") lines))
@@ -189,14 +186,14 @@ method_of lines = last_of Normal (map tag_method (tags_named (codes "creasemetho
 abbrev pub mesh_of_lines : List (List (List ℕ)) → ℕ → ObjMesh
 mesh_of_lines lines least = record {
   points = map (point_at (position_scale least lines)) (filter is_vertex_line lines);
-  scale = position_scale least lines;
+  common = 10 ^ position_scale least lines;
   texture = map (texture_at (texture_scale_of lines)) (filter is_texture_line lines);
-  texture_scale = texture_scale_of lines;
+  texture_common = 10 ^ texture_scale_of lines;
   faces = faces_of lines;
   has_texture = has_texture_channel lines;
   texture_corners = texture_corners_of lines;
   creases = flat_map tag_creases (tags_named (codes "crease") lines);
-  corners = flat_map tag_corners (tags_named (codes "corner") lines);
+  corner_tags = flat_map tag_corners (tags_named (codes "corner") lines);
   holes = flat_map tag_indices (tags_named (codes "hole") lines);
   boundary = boundary_of lines;
   method = method_of lines;

@@ -1,11 +1,11 @@
 -- The rule of a vertex, and the weight between the rules of two levels.
 -- Source: DeRose, Kass and Truong 1998 for the rules; the weight at a vertex is this profile's.
-use Rattle.std.specs.Prelude.{ℕ, ◌*◌, Bool, true, false, ◌&&◌, ◌||◌, nat_eq, nat_le, nat_lt, List, [], ◌∷◌, ◌++◌, length, map, zip, if◌then◌else◌}
+use Rattle.std.specs.Prelude.{ℕ, ◌*◌, Bool, true, false, ◌&&◌, ◌||◌, nat_eq, nat_le, List, [], ◌∷◌, ◌++◌, length, map, zip, if◌then◌else◌}
 use Rattle.std.specs.List.{flat_map}
-use Rattle.subdiv_model.specs.Polygons.{places}
-use Rattle.subdiv_model.specs.Fractions.{gcd_of, lowest, sum_of_fractions}
+use Rattle.subdiv_model.specs.Lists.{places}
+use Rattle.subdiv_model.specs.Fractions.{lowest, sum_of_fractions}
 use Rattle.subdiv_model.specs.Multiples.{common_denominator}
-use Rattle.subdiv_model.specs.Sharpness.{Sharpness, Smooth, Semi, Infinite, Method, is_sharp, is_too_fine, semi_values, half_child}
+use Rattle.subdiv_model.specs.Sharpness.{Sharpness, Method, is_sharp, is_too_fine, semi_values, half_child}
 
 -- a crease names its two sharp edges by their places in the ring of all edges at the vertex, ascending
 pub data Rule : Type 0 where
@@ -38,28 +38,22 @@ is_crease_of a b DartRule = false
 is_crease_of a b (CreaseRule first second) = nat_eq a first && nat_eq b second
 is_crease_of a b CornerRule = false
 
-abbrev pub is_corner : Rule → Bool
-is_corner SmoothRule = false
-is_corner DartRule = false
-is_corner (CreaseRule first second) = false
-is_corner CornerRule = true
+abbrev pub is_corner_rule : Rule → Bool
+is_corner_rule SmoothRule = false
+is_corner_rule DartRule = false
+is_corner_rule (CreaseRule first second) = false
+is_corner_rule CornerRule = true
 
 -- smooth and dart name one mask, two creases where their ends are the same, and two corners
 abbrev pub same_mask : Rule → Rule → Bool
 same_mask SmoothRule other = is_smooth_or_dart other
 same_mask DartRule other = is_smooth_or_dart other
 same_mask (CreaseRule first second) other = is_crease_of first second other
-same_mask CornerRule other = is_corner other
+same_mask CornerRule other = is_corner_rule other
 
 -- the ring of a vertex in the next level: of each edge, its half at the vertex
 abbrev pub child_ring : Method → List Sharpness → List Sharpness
 child_ring method ring = map (half_child method ring) ring
-
--- a semi-sharp value is a fraction in lowest terms, above 0 and below 10
-abbrev pub is_proper : Sharpness → Bool
-is_proper Smooth = true
-is_proper (Semi num den) = nat_lt 0 num && (nat_lt num (10 * den) && nat_eq (gcd_of num den) 1)
-is_proper Infinite = true
 
 -- a value that is above 0 now and 0 in the next level; one that is infinite stays so
 abbrev pub ended_value : Sharpness × Sharpness → List (ℕ × ℕ)

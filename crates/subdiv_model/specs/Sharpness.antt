@@ -1,8 +1,8 @@
 -- Sharpness of edges and vertices, and the sharpness of the next level.
 -- Source: DeRose, Kass and Truong 1998 for semi-sharp creases; the rule named `chaikin` is this profile's.
-use Rattle.std.specs.Prelude.{ℕ, zero, suc, ◌-◌, ◌*◌, ◌^◌, Bool, true, false, ◌&&◌, nat_le, nat_lt, List, [], ◌∷◌, length, get_or, if◌then◌else◌}
+use Rattle.std.specs.Prelude.{ℕ, zero, suc, ◌-◌, ◌*◌, ◌^◌, Bool, true, false, ◌&&◌, nat_eq, nat_le, nat_lt, List, [], ◌∷◌, length, get_or, if◌then◌else◌}
 use Rattle.std.specs.List.{flat_map}
-use Rattle.subdiv_model.specs.Fractions.{lowest, plus_fraction, minus_fraction, times_fraction, sum_of_fractions}
+use Rattle.subdiv_model.specs.Fractions.{gcd_of, lowest, plus_fraction, minus_fraction, times_fraction, sum_of_fractions}
 use Rattle.subdiv_model.specs.Multiples.{common_denominator}
 
 -- smooth is sharpness 0; a semi-sharp one is a fraction in lowest terms, above 0 and below 10
@@ -15,6 +15,10 @@ pub data Sharpness : Type 0 where
 pub data Method : Type 0 where
   Normal : Method
   Chaikin : Method
+
+abbrev pub is_chaikin : Method → Bool
+is_chaikin Normal = false
+is_chaikin Chaikin = true
 
 abbrev pub semi_of : ℕ × ℕ → Sharpness
 semi_of x = Semi x.0 x.1
@@ -42,6 +46,12 @@ abbrev pub is_semi_sharp : Sharpness → Bool
 is_semi_sharp Smooth = false
 is_semi_sharp (Semi num den) = true
 is_semi_sharp Infinite = false
+
+-- a semi-sharp value is a fraction in lowest terms, above 0 and below 10
+abbrev pub is_proper_sharpness : Sharpness → Bool
+is_proper_sharpness Smooth = true
+is_proper_sharpness (Semi num den) = nat_lt 0 num && (nat_lt num (10 * den) && nat_eq (gcd_of num den) 1)
+is_proper_sharpness Infinite = true
 
 -- the uniform rule: 0 and infinite stay, and all else is less by 1 but not below 0
 abbrev pub uniform_child : Sharpness → Sharpness

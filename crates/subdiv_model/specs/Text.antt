@@ -1,56 +1,94 @@
--- Texts: numbers, lines, and the text of a refined mesh.
--- Source: this profile.
-use Rattle.std.specs.Prelude.{ℕ, ◌+◌, ℤ, pos, negsuc, unsigned_abs, not, nat_eq, List, [], ◌∷◌, ◌++◌, length, map, decimal, codes, if◌then◌else◌}
-use Rattle.std.specs.List.{flat_map, filter, zip}
+-- Texts of refined meshes: lines of points, texture points, faces and tags.
+-- Source: this profile; the names of the tags are those of OpenSubdiv's shapes.
+use Rattle.std.specs.Prelude.{ℕ, ◌+◌, ℤ, Bool, false, not, ◌&&◌, ◌||◌, nat_eq, List, [], ◌∷◌, ◌++◌, length, map, zip, codes, Option, None}
+use Rattle.std.specs.List.{flat_map, filter, range_with_len}
 use Rattle.subdiv_model.specs.Polygons.{Polygon}
-use Rattle.subdiv_model.specs.Fractions.{lowest}
-use Rattle.subdiv_model.specs.Level.{Level, plain_level}
+use Rattle.subdiv_model.specs.Edges.{edges_of, faces_of_edge}
+use Rattle.subdiv_model.specs.Sharpness.{Sharpness, Smooth, Semi, Infinite, Method, Normal, Chaikin, is_sharp}
+use Rattle.subdiv_model.specs.Level.{Level, edge_sharpness_of, vertex_sharpness_of, is_hole}
+use Rattle.subdiv_model.specs.Value.{Value}
 use Rattle.subdiv_model.specs.Child.{refined_level}
-use Rattle.subdiv_model.specs.Mask.{Scheme, CatmullClark}
-use Rattle.subdiv_model.specs.ObjMesh.{ObjMesh}
-use Rattle.subdiv_model.specs.Value.{Value, Point, refined_points}
+use Rattle.subdiv_model.specs.Mask.{Scheme}
+use Rattle.subdiv_model.specs.Refined.{Point, refined_points}
+use Rattle.subdiv_model.specs.NumberText.{number_text, ratio_text, value_text_with}
 
--- a number below 0 begins with `-`
-abbrev pub sign_text : ℤ → List ℕ
-sign_text (pos n) = []
-sign_text (negsuc n) = codes "-"
-
--- `n/d`, or `n` where d is 1; `decimal` is right for numbers of at most 64 digits
-abbrev pub ratio_text : ℕ × ℕ → List ℕ
-ratio_text x = if nat_eq x.1 1 then decimal x.0 else decimal x.0 ++ (codes "/" ++ decimal x.1)
-
--- a fraction in lowest terms, whatever terms it is given in
-abbrev pub fraction_text : ℤ → ℕ → List ℕ
-fraction_text num den = sign_text num ++ ratio_text (lowest (unsigned_abs num, den))
-
-abbrev pub value_text : Value → List ℕ
-value_text value = fraction_text value.num value.den
-
--- a keyword, and each word behind one space
+-- a keyword, and each word after one space
 abbrev pub line_text : List ℕ → List (List ℕ) → List ℕ
 line_text keyword words = keyword ++ (flat_map (λ word. 32 ∷ word) words ++ (10 ∷ []))
 
-abbrev pub point_line : Point → List ℕ
-point_line point = line_text (codes "v") (value_text point.0 ∷ value_text point.1 ∷ value_text point.2 ∷ [])
+-- a point, in lowest terms or rounded to the decimals that are given
+abbrev pub point_line : Option ℕ → Point → List ℕ
+point_line decimals point =
+    line_text (codes "v") (value_text_with decimals point.0 ∷ value_text_with decimals point.1 ∷ value_text_with decimals point.2 ∷ [])
+
+abbrev pub texture_line : Option ℕ → Value × Value → List ℕ
+texture_line decimals point = line_text (codes "vt") (value_text_with decimals point.0 ∷ value_text_with decimals point.1 ∷ [])
 
 -- corners are written from 1
 abbrev pub face_line : Polygon → List ℕ
-face_line polygon = line_text (codes "f") (map (λ corner. decimal (corner + 1)) polygon)
+face_line polygon = line_text (codes "f") (map (λ corner. number_text (corner + 1)) polygon)
 
--- the `v` lines and then the `f` lines
-abbrev pub refine_text : List Point → List Polygon → List ℕ
-refine_text points polygons = flat_map point_line points ++ flat_map face_line polygons
+-- a corner with its texture point
+abbrev pub corner_text : ℕ × ℕ → List ℕ
+corner_text corner = number_text (corner.0 + 1) ++ (codes "/" ++ number_text (corner.1 + 1))
 
--- the polygons of a level that are no holes
-abbrev pub shown_polygons : Level → List Polygon
-shown_polygons level = map (λ face. face.0) (filter (λ face. not face.1) (zip level.polygons level.holes))
+abbrev pub textured_face_line : Polygon × Polygon → List ℕ
+textured_face_line face = line_text (codes "f") (map corner_text (zip face.0 face.1))
 
--- the text of a level's points, given as whole numbers at a scale, and faces after k steps
+-- the items of a list that stand at faces of the level that are no holes, or at all faces
+abbrev pub shown : {X : Type 0} → Bool → Level → List X → List X
+shown all level items = map (λ item. item.0) (filter (λ item. all || not item.1) (zip items level.holes))
+
+-- the `v` lines and then the `f` lines, with the faces that are holes or without them
+abbrev pub mesh_text : Option ℕ → Bool → Level → List Point → List ℕ
+mesh_text decimals holes level points =
+    flat_map (point_line decimals) points ++ flat_map face_line (shown holes level level.polygons)
+
+-- the `v` lines, the `vt` lines, and then the `f` lines; the faces of the cut level have texture points for corners
+abbrev pub textured_mesh_text : Option ℕ → Bool → Level → List Point → Level → List (Value × Value) → List ℕ
+textured_mesh_text decimals holes level points cut texture =
+    flat_map (point_line decimals) points
+    ++ (flat_map (texture_line decimals) texture
+    ++ flat_map textured_face_line (shown holes level (zip level.polygons cut.polygons)))
+
+-- a sharpness in lowest terms; an infinite one is written as 10
+abbrev pub sharpness_text : Sharpness → List ℕ
+sharpness_text Smooth = codes "0"
+sharpness_text (Semi num den) = ratio_text (num, den)
+sharpness_text Infinite = codes "10"
+
+-- a tag's name and counts, and its values
+abbrev pub tag_line : List ℕ → List ℕ → List (List ℕ) → List ℕ
+tag_line name counts values = line_text (codes "t") (name ∷ counts ∷ values)
+
+abbrev pub method_line : Method → List ℕ
+method_line Normal = []
+method_line Chaikin = tag_line (codes "creasemethod") (codes "0/0/1") (codes "chaikin" ∷ [])
+
+-- the edge has two faces and is sharp
+abbrev pub is_written_crease : Level → ℕ × ℕ → Bool
+is_written_crease level edge = nat_eq (length (faces_of_edge level.polygons edge)) 2 && is_sharp (edge_sharpness_of level edge)
+
+abbrev pub crease_line : Level → ℕ × ℕ → List ℕ
+crease_line level edge =
+    tag_line (codes "crease") (codes "2/1/0") (number_text edge.0 ∷ number_text edge.1 ∷ sharpness_text (edge_sharpness_of level edge) ∷ [])
+
+abbrev pub corner_tag_line : Level → ℕ → List ℕ
+corner_tag_line level v = tag_line (codes "corner") (codes "1/1/0") (number_text v ∷ sharpness_text (vertex_sharpness_of level v) ∷ [])
+
+abbrev pub hole_line : ℕ → List ℕ
+hole_line face = tag_line (codes "hole") (codes "1/0/0") (number_text face ∷ [])
+
+-- the tags that give the level again: its mode, its method, its inner edges, its vertices and its holes
+abbrev pub tags_text : Level → List ℕ
+tags_text level =
+    tag_line (codes "interpolateboundary") (codes "1/0/0") (codes "2" ∷ [])
+    ++ (method_line level.method
+    ++ (flat_map (crease_line level) (filter (is_written_crease level) (edges_of level.polygons))
+    ++ (flat_map (corner_tag_line level) (filter (λ v. is_sharp (vertex_sharpness_of level v)) (range_with_len 0 level.point_count))
+    ++ flat_map hole_line (filter (is_hole level) (range_with_len 0 (length level.polygons))))))
+
+-- the text of a level's points, given as whole numbers over a common denominator, and faces after k steps
 abbrev pub refined_text : Level → Scheme → ℕ → List (ℤ × ℤ × ℤ) → ℕ → List ℕ
-refined_text level scheme scale controls k =
-    refine_text (refined_points level scheme scale controls k) (shown_polygons (refined_level level k))
-
--- the text of a mesh without tags after k Catmull-Clark steps
-abbrev pub refined_mesh_text : ObjMesh → ℕ → List ℕ
-refined_mesh_text mesh k =
-    refined_text (plain_level (length mesh.points) mesh.faces) CatmullClark mesh.scale mesh.points k
+refined_text level scheme common controls k =
+    mesh_text None false (refined_level level k) (refined_points level scheme common controls k)

@@ -1,11 +1,6 @@
--- Values of points as fractions that are never reduced, and their refinement.
+-- Values as fractions that are never reduced: numerator over denominator, below 0 or not.
 -- Source: this profile.
-use Rattle.std.specs.Prelude.{ℕ, zero, suc, ◌*◌, ◌^◌, ◌≡◌, ℤ, pos, ◌+ℤ◌, ◌*ℤ◌, List, [], ◌∷◌, map, zip, get_or}
-use Rattle.std.specs.List.{range_with_len, AllZip}
-use Rattle.subdiv_model.specs.Level.{Level}
-use Rattle.subdiv_model.specs.Child.{refined_level}
-use Rattle.subdiv_model.specs.Mask.{Scheme, SourcePoint, OfPoint, OfFace, Mask, face_mask, child_masks}
-use Rattle.subdiv_model.specs.Multiples.{lcm_of_all}
+use Rattle.std.specs.Prelude.{ℕ, ◌*◌, ◌≡◌, ℤ, pos, ◌+ℤ◌, ◌*ℤ◌, List, [], ◌∷◌}
 
 -- a value of a coordinate: a numerator over a denominator of at least 1, in any terms
 pub record Value : Type 0 where
@@ -25,12 +20,8 @@ abbrev pub whole_value : ℤ → Value
 whole_value n = record { num = n; den = 1 }
 
 -- (a, b) + (c, d) is (a·d + c·b, b·d)
-abbrev pub plus : Value → Value → Value
-plus x y = record { num = x.num *ℤ pos y.den +ℤ y.num *ℤ pos x.den; den = x.den * y.den }
-
--- each value of the second list is that of the first plus a whole number
-abbrev pub AreMovedBy : ℤ → List Value → List Value → Type 0
-AreMovedBy t xs ys = AllZip (λ x y. IsSameValue y (plus x (whole_value t))) xs ys
+abbrev pub plus_value : Value → Value → Value
+plus_value x y = record { num = x.num *ℤ pos y.den +ℤ y.num *ℤ pos x.den; den = x.den * y.den }
 
 -- weight w over q turns (a, b) into (w·a, q·b)
 abbrev pub weighted : ℕ → ℕ → Value → Value
@@ -38,88 +29,4 @@ weighted w q x = record { num = pos w *ℤ x.num; den = q * x.den }
 
 abbrev pub sum_of_values : List Value → Value
 sum_of_values [] = whole_value (pos 0)
-sum_of_values (x ∷ xs) = plus x (sum_of_values xs)
-
--- a mask's value, from the values of its sources
-abbrev pub mask_value : (SourcePoint → Value) → Mask → Value
-mask_value value mask = sum_of_values (map (λ t. weighted t.weight mask.denominator (value t.source)) mask.terms)
-
-abbrev pub point_value : List Value → ℕ → Value
-point_value values v = get_or values v (whole_value (pos 0))
-
--- the value of a point, in a face's mask, which has no faces
-abbrev pub corner_value : List Value → SourcePoint → Value
-corner_value values (OfPoint v) = point_value values v
-corner_value values (OfFace f) = whole_value (pos 0)
-
-abbrev pub face_value : Level → List Value → ℕ → Value
-face_value level values f = mask_value (corner_value values) (face_mask level f)
-
--- a new face point stands for its own sum
-abbrev pub source_value : Level → List Value → SourcePoint → Value
-source_value level values (OfPoint v) = point_value values v
-source_value level values (OfFace f) = face_value level values f
-
--- the values of the next level's points, from those of the level's
-abbrev pub child_values : Level → Scheme → List Value → List Value
-child_values level scheme values = map (mask_value (source_value level values)) (child_masks level scheme)
-
--- the values after k steps
-abbrev pub refined_values : Level → Scheme → List Value → ℕ → List Value
-refined_values level scheme values zero = values
-refined_values level scheme values (suc k) =
-    child_values (refined_level level k) scheme (refined_values level scheme values k)
-
--- the values of control numbers that stand for themselves times a power of ten
-abbrev pub control_values : List ℤ → List Value
-control_values controls = map whole_value controls
-
-abbrev pub moved_controls : ℤ → List ℤ → List ℤ
-moved_controls t controls = map (λ c. c +ℤ t) controls
-
--- the value at the channel's scale
-abbrev pub at_scale : ℕ → Value → Value
-at_scale scale x = record { num = x.num; den = x.den * 10 ^ scale }
-
--- the coordinates after k steps, from whole control numbers at a scale
-abbrev pub refined_coordinates : Level → Scheme → ℕ → List ℤ → ℕ → List Value
-refined_coordinates level scheme scale controls k =
-    map (at_scale scale) (refined_values level scheme (control_values controls) k)
-
--- a point is its three coordinates
-abbrev pub Point : Type 0
-Point = Value × Value × Value
-
-abbrev pub points_of_coordinates : List Value → List Value → List Value → List Point
-points_of_coordinates xs ys zs = map (λ p. (p.0.0, p.0.1, p.1)) (zip (zip xs ys) zs)
-
--- the points after k steps, each coordinate by itself
-abbrev pub refined_points : Level → Scheme → ℕ → List (ℤ × ℤ × ℤ) → ℕ → List Point
-refined_points level scheme scale controls k =
-    points_of_coordinates
-    (refined_coordinates level scheme scale (map (λ p. p.0) controls) k)
-    (refined_coordinates level scheme scale (map (λ p. p.1) controls) k)
-    (refined_coordinates level scheme scale (map (λ p. p.2) controls) k)
-
--- the denominator under which a child's value is whole over all controls, from those of the mask's sources
-abbrev pub mask_denominator : (SourcePoint → ℕ) → Mask → ℕ
-mask_denominator denominator mask =
-    mask.denominator * lcm_of_all (map (λ t. denominator t.source) mask.terms)
-
-abbrev pub corner_denominator : List ℕ → SourcePoint → ℕ
-corner_denominator denominators (OfPoint v) = get_or denominators v 1
-corner_denominator denominators (OfFace f) = 1
-
-abbrev pub source_denominator : Level → List ℕ → SourcePoint → ℕ
-source_denominator level denominators (OfPoint v) = get_or denominators v 1
-source_denominator level denominators (OfFace f) = mask_denominator (corner_denominator denominators) (face_mask level f)
-
-abbrev pub child_denominators : Level → Scheme → List ℕ → List ℕ
-child_denominators level scheme denominators =
-    map (mask_denominator (source_denominator level denominators)) (child_masks level scheme)
-
--- the common denominators after k steps, 1 for each control
-abbrev pub refined_denominators : Level → Scheme → ℕ → List ℕ
-refined_denominators level scheme zero = map (λ v. 1) (range_with_len 0 level.points)
-refined_denominators level scheme (suc k) =
-    child_denominators (refined_level level k) scheme (refined_denominators level scheme k)
+sum_of_values (x ∷ xs) = plus_value x (sum_of_values xs)

@@ -1,18 +1,65 @@
--- The words of a command line: a command, then options `name=value`.
+-- The words of a command line: a command, then options `name=value`, by one table.
 -- Source: this profile.
-use Rattle.std.specs.Prelude.{ℕ, ◌+◌, Bool, not, ◌&&◌, ◌||◌, nat_eq, List, [], ◌∷◌, length, take, get_or, Option, Some, None, bytes_eq, codes, if◌then◌else◌}
+use Rattle.std.specs.Prelude.{ℕ, ◌+◌, Bool, true, false, not, ◌&&◌, ◌||◌, nat_eq, nat_le, List, [], ◌∷◌, length, take, get_or, Option, Some, None, option_map, unwrap_or, bytes_eq, codes, if◌then◌else◌}
 use Rattle.std.specs.List.{list_all, list_any, find, before_first, after_first, range_with_len}
+use Rattle.subdiv_model.specs.Digits.{is_digit, number_of_digits}
 
-abbrev pub is_command : List ℕ → Bool
-is_command word = bytes_eq word (codes "refine")
+-- what the value of an option may be
+pub data ValueKind : Type 0 where
+  -- a number, from the first to the second
+  Between : ℕ → ℕ → ValueKind
+  -- one of some names
+  OneOf : List (List ℕ) → ValueKind
 
--- the command has an option of this name that may have this value
-abbrev pub takes : List ℕ → List ℕ → List ℕ → Bool
-takes command name value = bytes_eq command (codes "refine") && bytes_eq name (codes "depth") && bytes_eq value (codes "1")
+-- an option of a command
+pub record OptionRule : Type 0 where
+  pub name : List ℕ
+  pub kind : ValueKind
+  pub required : Bool
 
--- the names of the options that the command cannot go without
-abbrev pub required_names : List ℕ → List (List ℕ)
-required_names command = if bytes_eq command (codes "refine") then codes "depth" ∷ [] else []
+-- a command with its options
+pub record CommandRule : Type 0 where
+  pub name : List ℕ
+  pub options : List OptionRule
+
+abbrev pub required_option : List ℕ → ℕ → ℕ → OptionRule
+required_option name least greatest = record { name = name; kind = Between least greatest; required = true }
+
+abbrev pub number_option : List ℕ → ℕ → ℕ → OptionRule
+number_option name least greatest = record { name = name; kind = Between least greatest; required = false }
+
+abbrev pub name_option : List ℕ → List (List ℕ) → OptionRule
+name_option name names = record { name = name; kind = OneOf names; required = false }
+
+-- the names that say how texture is refined, which path is taken, and whether tags are written; the first is
+-- what stands where the option is missing
+abbrev pub texture_names : List (List ℕ)
+texture_names = codes "smooth" ∷ codes "corners" ∷ codes "boundaries" ∷ codes "linear" ∷ []
+
+abbrev pub path_names : List (List ℕ)
+path_names = codes "table" ∷ codes "level" ∷ []
+
+abbrev pub tags_names : List (List ℕ)
+tags_names = codes "no" ∷ codes "yes" ∷ []
+
+-- the commands and their options
+abbrev pub command_table : List CommandRule
+command_table =
+    record { name = codes "refine"; options = required_option (codes "depth") 0 10 ∷ number_option (codes "decimals") 0 18 ∷ name_option (codes "uv") texture_names ∷ name_option (codes "by") path_names ∷ name_option (codes "tags") tags_names ∷ [] }
+    ∷ record { name = codes "stencils"; options = required_option (codes "depth") 0 10 ∷ [] }
+    ∷ record { name = codes "levels"; options = required_option (codes "depth") 0 10 ∷ [] }
+    ∷ record { name = codes "gen"; options = required_option (codes "seed") 0 4294967295 ∷ required_option (codes "size") 1 256 ∷ required_option (codes "depth") 0 10 ∷ [] }
+    ∷ []
+
+-- decimal digits without a leading zero, but for `0` itself
+abbrev pub is_number_word : List ℕ → Bool
+is_number_word [] = false
+is_number_word (b ∷ rest) = list_all is_digit (b ∷ rest) && (not (nat_eq b 48) || nat_eq (length rest) 0)
+
+abbrev pub is_value : ValueKind → List ℕ → Bool
+is_value (Between least greatest) value =
+    is_number_word value && nat_le least (number_of_digits value) && nat_le (number_of_digits value) greatest
+is_value (OneOf names) value = list_any (bytes_eq value) names
 
 -- the byte `=`
 abbrev pub is_equals : ℕ → Bool
@@ -25,33 +72,55 @@ option_name word = before_first is_equals word
 abbrev pub option_value : List ℕ → List ℕ
 option_value word = after_first is_equals word
 
--- the word is `name=value`, and the command takes it
-abbrev pub is_option_of : List ℕ → List ℕ → Bool
-is_option_of command word = list_any is_equals word && takes command (option_name word) (option_value word)
+-- the command of this name
+abbrev pub rule_named : List CommandRule → List ℕ → Option CommandRule
+rule_named table name = find (λ rule. bytes_eq name rule.name) table
 
--- one of the options has this name
+-- the word is `name=value`, and one of the options has this name and may have this value
+abbrev pub is_option_of : List OptionRule → List ℕ → Bool
+is_option_of rules word =
+    list_any is_equals word && list_any (λ rule. bytes_eq (option_name word) rule.name && is_value rule.kind (option_value word)) rules
+
+-- one of the words has this name
 abbrev pub has_option : List (List ℕ) → List ℕ → Bool
 has_option options name = list_any (λ option. bytes_eq name (option_name option)) options
 
--- the option at place i, counted from 0 behind the command, is none of the command's or has the name of an earlier one
-abbrev pub is_bad_option : List ℕ → List (List ℕ) → ℕ → Bool
-is_bad_option command options i =
+-- the option at place i, counted from 0 after the command, is none of the command's or has the name of an earlier one
+abbrev pub is_bad_option : List OptionRule → List (List ℕ) → ℕ → Bool
+is_bad_option rules options i =
     let option = get_or options i [] in
-    not (is_option_of command option) || has_option (take i options) (option_name option)
+    not (is_option_of rules option) || has_option (take i options) (option_name option)
 
-abbrev pub first_bad_option : List ℕ → List (List ℕ) → Option ℕ
-first_bad_option command options = find (is_bad_option command options) (range_with_len 0 (length options))
+abbrev pub first_bad_option : List OptionRule → List (List ℕ) → Option ℕ
+first_bad_option rules options = find (is_bad_option rules options) (range_with_len 0 (length options))
 
-abbrev pub has_required : List ℕ → List (List ℕ) → Bool
-has_required command options = list_all (has_option options) (required_names command)
+-- each required option is there
+abbrev pub has_required : List OptionRule → List (List ℕ) → Bool
+has_required rules options = list_all (λ rule. not rule.required || has_option options rule.name) rules
 
--- the place of an option among the words, from its place behind the command, or else the place behind all words where a required option is missing
-abbrev pub usage_of_options : List ℕ → List (List ℕ) → Option ℕ → Option ℕ
-usage_of_options command options (Some i) = Some (i + 1)
-usage_of_options command options None = if has_required command options then None else Some (length options + 1)
+-- the place of an option among the words, from its place after the command, or else the number of words where a
+-- required option is missing
+abbrev pub usage_of_options : List OptionRule → List (List ℕ) → Option ℕ → Option ℕ
+usage_of_options rules options (Some i) = Some (i + 1)
+usage_of_options rules options None = if has_required rules options then None else Some (length options + 1)
 
--- the place, from 0, of the first word that makes the words no command, or the number of words where a required option is missing; none where the words are a command
-abbrev pub usage_of : List (List ℕ) → Option ℕ
-usage_of [] = Some 0
-usage_of (command ∷ options) =
-    if is_command command then usage_of_options command options (first_bad_option command options) else Some 0
+abbrev pub usage_of_rule : Option CommandRule → List (List ℕ) → Option ℕ
+usage_of_rule None options = Some 0
+usage_of_rule (Some rule) options = usage_of_options rule.options options (first_bad_option rule.options options)
+
+-- the place, from 0, of the first word that makes the words no command of the table, or the number of words where a
+-- required option is missing; none where the words are a command
+abbrev pub usage_of : List CommandRule → List (List ℕ) → Option ℕ
+usage_of table [] = Some 0
+usage_of table (command ∷ options) = usage_of_rule (rule_named table command) options
+
+-- the value of the option with this name
+abbrev pub value_of : List (List ℕ) → List ℕ → Option (List ℕ)
+value_of options name = option_map option_value (find (λ option. bytes_eq name (option_name option)) options)
+
+-- the number of an option, where it is there, and 0 where one is missing
+abbrev pub number_of : List (List ℕ) → List ℕ → Option ℕ
+number_of options name = option_map number_of_digits (value_of options name)
+
+abbrev pub required_number : List (List ℕ) → List ℕ → ℕ
+required_number options name = unwrap_or (number_of options name) 0

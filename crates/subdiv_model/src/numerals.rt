@@ -1,11 +1,10 @@
 //! Examples of the words, numerals and indices of OBJ text, and laws of them, each proved: a function
 //! here does nothing, and its clause is the law.
 
-ghost use Rattle.std.specs.Prelude.{◌≡◌, ◌-◌, ◌≤◌, ◌^◌, ℕ, ℤ, pos, negsuc, true, false, List, [], ◌∷◌, codes};
+ghost use Rattle.std.specs.Prelude.{◌≡◌, ◌-◌, ◌≤◌, ◌^◌, pos, negsuc, true, false, [], ◌∷◌, codes};
 ghost use Rattle.subdiv_model.specs.ObjLine.{line_end_of, line_words};
-ghost use Rattle.subdiv_model.specs.Numeral.{is_numeral, numeral_value, normal_form, is_in_range, form_value, form_text};
+ghost use Rattle.subdiv_model.specs.Numeral.{is_numeral, normal_form, is_in_range, form_text};
 ghost use Rattle.subdiv_model.specs.Index.{is_index, index_of, nearest_index};
-ghost use Rattle.subdiv_model.specs.Value.{IsSameValue};
 
 /// Where lines end.
 pub fn line_ends()
@@ -30,7 +29,7 @@ pub fn words_that_are_numerals()
     ensures digits { is_numeral (codes "007") ≡ true }
     ensures plus { is_numeral (codes "+1") ≡ true }
     ensures before { is_numeral (codes "-1.") ≡ true }
-    ensures behind { is_numeral (codes ".5") ≡ true }
+    ensures after_digits { is_numeral (codes ".5") ≡ true }
     ensures exponent { is_numeral (codes "1.e5") ≡ true }
     ensures large { is_numeral (codes "0E+00") ≡ true }
 {}
@@ -89,27 +88,4 @@ pub fn indices_and_their_ends()
     ensures zero { index_of (codes "-0") ≡ pos 0 }
     ensures greatest { nearest_index (codes "9223372036854775808") ≡ pos (2 ^ 63 - 1) }
     ensures least { nearest_index (codes "-9223372036854775809") ≡ negsuc (2 ^ 63 - 1) }
-{}
-
-/// A numeral's normal form has its value.
-pub fn normal_forms_keep_the_value()
-    ensures { (word : List ℕ) → IsSameValue (form_value (normal_form word)) (numeral_value word) }
-{}
-
-/// No whole number over a power of ten has a numeral's value with fewer decimals than its normal form.
-pub fn normal_forms_have_the_least_decimals()
-    ensures { (word : List ℕ) (mantissa : ℤ) (decimals : ℕ) → IsSameValue (form_value (mantissa, decimals)) (numeral_value word)
-        → (normal_form word).1 ≤ decimals }
-{}
-
-/// Two words have the same normal form exactly where they have the same value.
-pub fn normal_forms_tell_values_apart()
-    ensures value { (v w : List ℕ) → normal_form v ≡ normal_form w → IsSameValue (numeral_value v) (numeral_value w) }
-    ensures form { (v w : List ℕ) → IsSameValue (numeral_value v) (numeral_value w) → normal_form v ≡ normal_form w }
-{}
-
-/// A normal form that is written as a numeral and read again is the same.
-pub fn normal_forms_are_read_back()
-    ensures numeral { (word : List ℕ) → is_numeral (form_text (normal_form word)) ≡ true }
-    ensures form { (word : List ℕ) → normal_form (form_text (normal_form word)) ≡ normal_form word }
 {}

@@ -1,15 +1,12 @@
 //! Examples of OBJ texts, their faults and their meshes, and laws of them, each proved: a function here
 //! does nothing, and its clause is the law.
 
-ghost use Rattle.std.specs.Prelude.{◌≡◌, ◌+◌, ◌*◌, ◌≤◌, ℕ, length, sum_by, IsTrue, IfSome, pos, negsuc, false, true, None, Some, List, [], ◌∷◌, ◌++◌, codes};
+ghost use Rattle.std.specs.Prelude.{◌≡◌, ◌+◌, ◌*◌, ◌≤◌, pos, negsuc, false, true, None, Some, [], ◌∷◌, ◌++◌, codes};
 ghost use Rattle.subdiv_model.specs.Examples.{cube};
 ghost use Rattle.subdiv_model.specs.ExampleTexts.{cube_text, other_cube_text};
-ghost use Rattle.subdiv_model.specs.Numeral.{is_numeral, is_in_range};
 ghost use Rattle.subdiv_model.specs.Sharpness.{Smooth, Semi, Infinite, Chaikin};
-ghost use Rattle.subdiv_model.specs.Base.{EdgeAndCorner};
-ghost use Rattle.subdiv_model.specs.ObjFault.{BadNumeral, NumberRange, UnknownKeyword, Continuation, ShortLine, BadCorner, IndexRange, BadTag, TagIndex, SharpnessRange, is_of_reading};
-ghost use Rattle.subdiv_model.specs.ObjMesh.{has_faces_over_points, has_corners_over_texture, has_creases_over_points, has_corners_over_points, has_holes_over_faces};
-ghost use Rattle.subdiv_model.specs.ObjWord.{is_kept};
+ghost use Rattle.subdiv_model.specs.Boundary.{EdgeAndCorner};
+ghost use Rattle.subdiv_model.specs.ObjFault.{BadNumeral, NumberRange, UnknownKeyword, Continuation, ShortLine, BadCorner, IndexRange, BadTag, TagIndex, SharpnessRange};
 ghost use Rattle.subdiv_model.specs.ReadObj.{read_obj_fault, read_obj_mesh};
 
 /// Each cause that reading gives, with its line.
@@ -52,7 +49,7 @@ pub fn texts_without_fault()
 pub fn cube_written_otherwise()
     ensures good { read_obj_fault other_cube_text 0 ≡ None }
     ensures points { (read_obj_mesh other_cube_text 0).points ≡ (read_obj_mesh cube_text 0).points }
-    ensures scale { (read_obj_mesh other_cube_text 0).scale ≡ 0 }
+    ensures scale { (read_obj_mesh other_cube_text 0).common ≡ 1 }
     ensures faces { (read_obj_mesh other_cube_text 0).faces ≡ cube }
 {}
 
@@ -70,33 +67,8 @@ pub fn channels_and_scales()
 pub fn tags_in_file_order()
     ensures chain { (read_obj_mesh (codes "t crease 3/1/0 0 2 1 1.50\nt crease 2/1/0 2 0 1e1") 0).creases ≡ ((0, 2), Semi 3 2) ∷ ((2, 1), Semi 3 2) ∷ ((2, 0), Infinite) ∷ [] }
     ensures pairs { (read_obj_mesh (codes "t crease 3/2/0 0 2 1 0.2 -0") 0).creases ≡ ((0, 2), Semi 1 5) ∷ ((2, 1), Smooth) ∷ [] }
-    ensures corners { (read_obj_mesh (codes "t corner 2/2/0 1 0 1 3\nt corner 1/1/0 1 2") 0).corners ≡ (1, Semi 1 1) ∷ (0, Semi 3 1) ∷ (1, Semi 2 1) ∷ [] }
+    ensures corners { (read_obj_mesh (codes "t corner 2/2/0 1 0 1 3\nt corner 1/1/0 1 2") 0).corner_tags ≡ (1, Semi 1 1) ∷ (0, Semi 3 1) ∷ (1, Semi 2 1) ∷ [] }
     ensures holes { (read_obj_mesh (codes "t hole 2/0/0 4 2\nt hole 1/0/0 2") 0).holes ≡ 4 ∷ 2 ∷ 2 ∷ [] }
     ensures mode { (read_obj_mesh (codes "t interpolateboundary 1/0/0 0\nt interpolateboundary 1/0/0 01") 0).boundary ≡ EdgeAndCorner }
     ensures method { (read_obj_mesh (codes "t creasemethod 0/0/1 normal\nt creasemethod 0/0/1 chaikin") 0).method ≡ Chaikin }
-{}
-
-/// A numeral is kept exactly where its normal form is in range.
-pub fn kept_numerals_are_in_range()
-    ensures { (word : List ℕ) → IsTrue (is_numeral word) → is_kept word ≡ is_in_range word }
-{}
-
-/// Reading gives ten causes, and never one of those of moves.
-pub fn reading_gives_ten_causes()
-    ensures { (text : List ℕ) (least : ℕ) → IfSome (read_obj_fault text least) (λ fault. IsTrue (is_of_reading fault.cause)) }
-{}
-
-/// In a mesh that is read without fault each corner of a face, and each vertex of a crease or a corner,
-/// is a point; each texture corner is a texture value; and each hole is a face.
-pub fn read_numbers_name_what_they_count()
-    ensures faces { (text : List ℕ) (least : ℕ) → read_obj_fault text least ≡ None → IsTrue (has_faces_over_points (read_obj_mesh text least)) }
-    ensures texture { (text : List ℕ) (least : ℕ) → read_obj_fault text least ≡ None → IsTrue (has_corners_over_texture (read_obj_mesh text least)) }
-    ensures creases { (text : List ℕ) (least : ℕ) → read_obj_fault text least ≡ None → IsTrue (has_creases_over_points (read_obj_mesh text least)) }
-    ensures corners { (text : List ℕ) (least : ℕ) → read_obj_fault text least ≡ None → IsTrue (has_corners_over_points (read_obj_mesh text least)) }
-    ensures holes { (text : List ℕ) (least : ℕ) → read_obj_fault text least ≡ None → IsTrue (has_holes_over_faces (read_obj_mesh text least)) }
-{}
-
-/// Each corner of a face takes at least two bytes of the text, and each face one more.
-pub fn corners_take_two_bytes()
-    ensures { (text : List ℕ) (least : ℕ) → 2 * sum_by length (read_obj_mesh text least).faces + length (read_obj_mesh text least).faces ≤ length text }
 {}

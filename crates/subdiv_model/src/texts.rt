@@ -1,30 +1,19 @@
-//! Examples of words and texts, and laws of them, each proved: a function here does nothing,
-//! and its clause is the law.
+//! Examples of texts of numbers and of refined meshes, each proved by computing.
 
-ghost use Rattle.std.specs.Prelude.{◌≡◌, ◌<◌, ◌*◌, ℕ, ◌^◌, pos, negsuc, Some, None, List, [], ◌∷◌, codes};
-ghost use Rattle.std.specs.Int.{IsGcd};
-ghost use Rattle.subdiv_model.specs.Fractions.{lowest};
-ghost use Rattle.subdiv_model.specs.Value.{Value, IsSameValue};
-ghost use Rattle.subdiv_model.specs.Words.{usage_of};
+ghost use Rattle.std.specs.Prelude.{◌≡◌, ◌+◌, ◌^◌, true, false, [], ◌∷◌, pos, negsuc, None, codes};
+ghost use Rattle.subdiv_model.specs.Boundary.{EdgeAndCorner, Hidden};
+ghost use Rattle.subdiv_model.specs.Child.{child_level};
+ghost use Rattle.subdiv_model.specs.ExampleControls.{refined_text_of};
 ghost use Rattle.subdiv_model.specs.ExampleTexts.{cube_text, other_cube_text, refined_cube_text};
+ghost use Rattle.subdiv_model.specs.Examples.{chaikin_cube, creased_cube, cube, level_in, square, tagged_level, two_triangles};
+ghost use Rattle.subdiv_model.specs.Level.{plain_level};
+ghost use Rattle.subdiv_model.specs.LevelText.{level_line, levels_text, whole_text};
+ghost use Rattle.subdiv_model.specs.Mask.{CatmullClark};
+ghost use Rattle.subdiv_model.specs.NumberText.{fraction_text, number_text, rounded_text};
 ghost use Rattle.subdiv_model.specs.ReadObj.{read_obj_fault, read_obj_mesh};
-ghost use Rattle.subdiv_model.specs.Text.{fraction_text, value_text, face_line, refined_mesh_text};
-
-/// Command lines and the place of their first bad word.
-pub fn command_words()
-    ensures none { usage_of [] ≡ Some 0 }
-    ensures no_depth { usage_of (codes "refine" ∷ []) ≡ Some 1 }
-    ensures other_depth { usage_of (codes "refine" ∷ codes "depth=2" ∷ []) ≡ Some 1 }
-    ensures extra { usage_of (codes "refine" ∷ codes "depth=1" ∷ codes "x" ∷ []) ≡ Some 2 }
-    ensures twice { usage_of (codes "refine" ∷ codes "depth=1" ∷ codes "depth=1" ∷ []) ≡ Some 2 }
-    ensures unknown { usage_of (codes "x" ∷ codes "depth=1" ∷ []) ≡ Some 0 }
-    ensures good { usage_of (codes "refine" ∷ codes "depth=1" ∷ []) ≡ None }
-{}
-
-/// So far one command exists: `refine depth=1`.
-pub fn only_one_command()
-    ensures { (words : List (List ℕ)) → usage_of words ≡ None → words ≡ codes "refine" ∷ codes "depth=1" ∷ [] }
-{}
+ghost use Rattle.subdiv_model.specs.Sharpness.{Semi};
+ghost use Rattle.subdiv_model.specs.TableText.{table_text};
+ghost use Rattle.subdiv_model.specs.Text.{face_line, refined_text, tags_text};
 
 /// Fractions in lowest terms.
 pub fn fraction_texts()
@@ -40,25 +29,74 @@ pub fn corners_are_written_from_one()
     ensures { face_line (0 ∷ 5 ∷ 3 ∷ 7 ∷ []) ≡ codes "f 1 6 4 8\n" }
 {}
 
+/// An empty text is a mesh without points, and its refined text is empty.
+pub fn empty_text()
+    ensures { refined_text_of (read_obj_mesh [] 0) 1 ≡ [] }
+{}
+
 /// The cube, refined once, from text to text, however it is written.
 pub fn cube_from_text_to_text()
     ensures good { read_obj_fault cube_text 0 ≡ None }
-    ensures refined { refined_mesh_text (read_obj_mesh cube_text 0) 1 ≡ refined_cube_text }
-    ensures otherwise { refined_mesh_text (read_obj_mesh other_cube_text 0) 1 ≡ refined_cube_text }
+    ensures refined { refined_text_of (read_obj_mesh cube_text 0) 1 ≡ refined_cube_text }
+    ensures otherwise { refined_text_of (read_obj_mesh other_cube_text 0) 1 ≡ refined_cube_text }
 {}
 
-/// An empty text is a mesh without points, and its refined text is empty.
-pub fn empty_text()
-    ensures { refined_mesh_text (read_obj_mesh [] 0) 1 ≡ [] }
+/// Two triangles back to back, refined once.
+pub fn two_triangles_refined_once()
+    ensures { refined_text (plain_level 3 two_triangles) CatmullClark 1 ((pos 0, pos 0, pos 0) ∷ (pos 12, pos 0, pos 0) ∷ (pos 0, pos 12, pos 0) ∷ []) 1
+        ≡ codes "v 5 5 0\nv 2 5 0\nv 5 2 0\nv 4 4 0\nv 4 4 0\nv 5 2 0\nv 5 5 0\nv 2 5 0\nf 1 6 4 8\nf 2 7 4 6\nf 3 8 4 7\nf 1 8 5 6\nf 3 7 5 8\nf 2 6 5 7\n" }
 {}
 
-/// Fractions that cross-multiply have one text, whatever terms they stand in.
-pub fn equal_values_have_one_text()
-    ensures { (x y : Value) → 0 < x.den → 0 < y.den → IsSameValue x y → value_text x ≡ value_text y }
+/// Numerators stand over the common denominator of their channel, and a face that is a hole is not written.
+pub fn common_denominator_and_hole_in_a_text()
+    ensures { refined_text (record (plain_level 3 two_triangles) { holes = true ∷ false ∷ [] }) CatmullClark 100 ((pos 0, pos 50, negsuc 149) ∷ (pos 100, pos 0, pos 0) ∷ (pos 0, pos 1, pos 0) ∷ []) 0
+        ≡ codes "v 0 1/2 -3/2\nv 1 0 0\nv 0 1/100 0\nf 1 3 2\n" }
 {}
 
-/// Lowest terms are the same fraction, and have no common factor but 1.
-pub fn lowest_terms()
-    ensures same { (a b : ℕ) → 0 < b → a * (lowest (a, b)).1 ≡ (lowest (a, b)).0 * b }
-    ensures coprime { (a b : ℕ) → 0 < b → IsGcd (lowest (a, b)).0 (lowest (a, b)).1 1 }
+/// Whole numbers of any length have all their digits.
+pub fn whole_numbers_as_texts()
+    ensures zero { number_text 0 ≡ codes "0" }
+    ensures digit { number_text 7 ≡ codes "7" }
+    ensures tens { number_text 100200 ≡ codes "100200" }
+    ensures long { number_text (10 ^ 70 + 5) ≡ codes "10000000000000000000000000000000000000000000000000000000000000000000005" }
+{}
+
+/// Decimals are rounded half to even, and what rounds to zero has no sign.
+pub fn decimals_half_to_even()
+    ensures half_down { rounded_text 0 (pos 1) 2 ≡ codes "0" }
+    ensures half_up { rounded_text 0 (pos 3) 2 ≡ codes "2" }
+    ensures half_below { rounded_text 0 (negsuc 0) 2 ≡ codes "0" }
+    ensures negative { rounded_text 2 (negsuc 0) 8 ≡ codes "-0.12" }
+    ensures odd { rounded_text 2 (pos 3) 8 ≡ codes "0.38" }
+    ensures nothing { rounded_text 2 (negsuc 0) 1000 ≡ codes "0.00" }
+    ensures over_half { rounded_text 1 (pos 251) 1000 ≡ codes "0.3" }
+    ensures carried { rounded_text 2 (pos 9995) 1000 ≡ codes "10.00" }
+    ensures zeros { rounded_text 3 (pos 2005) 1000 ≡ codes "2.005" }
+    ensures unreduced { rounded_text 2 (pos 6) 48 ≡ codes "0.12" }
+{}
+
+/// The tags of a level: its mode, its method, its inner edges that are sharp, its sharp vertices and its holes.
+pub fn tags_of_a_level()
+    ensures none { tags_text (plain_level 8 cube) ≡ codes "t interpolateboundary 1/0/0 2\n" }
+    ensures chaikin { tags_text chaikin_cube ≡ codes "t interpolateboundary 1/0/0 2\nt creasemethod 0/0/1 chaikin\nt crease 2/1/0 0 1 1\nt crease 2/1/0 1 3 3\n" }
+    ensures hole { tags_text creased_cube ≡ codes "t interpolateboundary 1/0/0 2\nt crease 2/1/0 1 3 3/2\nt hole 1/0/0 0\n" }
+    ensures corners { tags_text (level_in EdgeAndCorner 4 square)
+        ≡ codes "t interpolateboundary 1/0/0 2\nt corner 1/1/0 0 10\nt corner 1/1/0 1 10\nt corner 1/1/0 2 10\nt corner 1/1/0 3 10\n" }
+{}
+
+/// The lines of the levels of a cube with two creases, by each method, and of a square that is hidden.
+pub fn lines_of_levels()
+    ensures chaikin { levels_text chaikin_cube 1
+        ≡ codes "level 0 points 8 edges 12 faces 6 euler 2 boundary 0 holes 0 sharp 2 extraordinary 8\nlevel 1 points 26 edges 48 faces 24 euler 2 boundary 0 holes 0 sharp 3 extraordinary 8\n" }
+    ensures normal { level_line 1 (child_level (tagged_level 8 cube (((0, 1), Semi 1 1) ∷ ((1, 3), Semi 3 1) ∷ []) []))
+        ≡ codes "level 1 points 26 edges 48 faces 24 euler 2 boundary 0 holes 0 sharp 2 extraordinary 8\n" }
+    ensures hidden { level_line 0 (level_in Hidden 5 square) ≡ codes "level 0 points 5 edges 4 faces 1 euler 1 boundary 4 holes 1 sharp 0 extraordinary 0\n" }
+    ensures negative { whole_text (negsuc 0) ≡ codes "-1" }
+{}
+
+/// The table of a square after no step and after one.
+pub fn tables_of_a_square()
+    ensures base { table_text (tagged_level 4 square [] []) CatmullClark 0 ≡ codes "table controls 4 rows 4 entries 4\ns 1 0 1\ns 1 1 1\ns 1 2 1\ns 1 3 1\n" }
+    ensures refined { table_text (tagged_level 4 square [] []) CatmullClark 1
+        ≡ codes "table controls 4 rows 9 entries 24\ns 8 0 6 1 1 3 1\ns 8 0 1 1 6 2 1\ns 8 1 1 2 6 3 1\ns 8 0 1 2 1 3 6\ns 4 0 1 1 1 2 1 3 1\ns 2 0 1 1 1\ns 2 1 1 2 1\ns 2 2 1 3 1\ns 2 0 1 3 1\n" }
 {}

@@ -1,0 +1,13 @@
+pub mod ListLemmas
+pub mod SumLemmas
+pub mod JoinedLemmas
+pub mod MaskLemmas
+pub mod BlendLemmas
+pub mod VertexLemmas
+pub mod SourceLemmas
+pub mod DistinctLemmas
+pub mod ValueLemmas
+pub mod DenominatorLemmas
+pub mod BoundaryLemmas
+pub mod BoundaryRuleLemmas
+pub mod MeanLemmas

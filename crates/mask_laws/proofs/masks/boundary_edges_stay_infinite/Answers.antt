@@ -1,0 +1,15 @@
+use Rattle.mask_laws.proofs.BoundaryLemmas.{boundary-base, closed-sharp}
+use Rattle.mask_laws.proofs.MeanLemmas.{child-sharp, boundary-meshes}
+use Rattle.mask_laws.proofs.masks.boundary_edges_stay_infinite.Goals as goal
+
+pub returns-clause-mesh : goal.returns-clause-mesh
+returns-clause-mesh c = boundary-base
+
+pub returns-clause-closed : goal.returns-clause-closed
+returns-clause-closed c = closed-sharp
+
+pub returns-clause-child : goal.returns-clause-child
+returns-clause-child c = child-sharp
+
+pub returns-clause-edges : goal.returns-clause-edges
+returns-clause-edges c = boundary-meshes

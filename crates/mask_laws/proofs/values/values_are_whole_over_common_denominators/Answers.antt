@@ -1,0 +1,5 @@
+use Rattle.mask_laws.proofs.DenominatorLemmas.{refined-over}
+use Rattle.mask_laws.proofs.values.values_are_whole_over_common_denominators.Goals as goal
+
+pub returns : goal.returns
+returns c = refined-over

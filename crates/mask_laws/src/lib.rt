@@ -1,0 +1,7 @@
+//! Laws of masks and of refined values, and the lemmas on them that other crates cite.
+//!
+//! Each public function here takes nothing, does nothing and returns nothing: its clauses are the laws.
+#![tactic(auto)]
+
+pub mod masks;
+pub mod values;

@@ -1,0 +1,117 @@
+//! Laws of masks: their weights and sources, the weights between two rules, and what holds at the boundary.
+
+ghost use Rattle.std.specs.Prelude.{◌≡◌, ◌+◌, ◌*◌, ◌<◌, ◌≤◌, IsTrue, ℕ, length, List, [], map, get_or, false};
+ghost use Rattle.std.specs.List.{list_all, sum_by};
+ghost use Rattle.subdiv_model.specs.Edges.{faces_of_edge, is_boundary, is_closed};
+ghost use Rattle.subdiv_model.specs.Polygons.{is_over};
+ghost use Rattle.subdiv_model.specs.ObjMesh.{ObjMesh, has_faces_over_points};
+ghost use Rattle.subdiv_model.specs.Base.{base_level, is_at_boundary};
+ghost use Rattle.subdiv_model.specs.Manifold.{IsManifold};
+ghost use Rattle.subdiv_model.specs.Sharpness.{Sharpness, Semi, Infinite, Method, uniform_child, is_proper_sharpness};
+ghost use Rattle.subdiv_model.specs.Level.{Level, is_well_formed, edge_sharpness_of, edges_at};
+ghost use Rattle.subdiv_model.specs.Child.{child_level, refined_level};
+ghost use Rattle.subdiv_model.specs.Rule.{is_smooth_or_dart, vertex_rule, same_mask, child_ring, transition_weight};
+ghost use Rattle.subdiv_model.specs.Mask.{Mask, Scheme, SourcePoint, Term, CatmullClark, Linear, mask_of, total_weight, weight_in, face_mask, edge_mask, vertex_mask, mask_of_edge, blend, is_mean, is_interior, is_proper_at, rule_at, child_rule_at, has_means, has_distinct_sources, has_distinct_masks};
+ghost use Rattle.subdiv_model.specs.Value.{Value, IsSameValue, weighted, sum_of_values};
+ghost use Rattle.subdiv_model.specs.Refined.{mask_value};
+ghost use Rattle.mask_laws.specs.SharpBoundary.{has_sharp_boundary};
+
+/// The mask of a face with a corner is a mean: its weights are above 0 and sum to the denominator.
+pub fn face_masks_are_means()
+    ensures { (level : Level) (f : ℕ) → 0 < length (get_or level.polygons f []) → IsTrue (is_mean (face_mask level f)) }
+{}
+
+/// The mask of an edge of two faces, or of a sharpness of at least 1, is a mean.
+pub fn edge_masks_are_means()
+    ensures two_faces { (level : Level) (scheme : Scheme) (edge : ℕ × ℕ) → length (faces_of_edge level.polygons edge) ≡ 2
+        → IsTrue (is_mean (edge_mask level scheme edge)) }
+    ensures semi_sharp { (num den : ℕ) (edge : ℕ × ℕ) (faces : List ℕ) → den ≤ num
+        → IsTrue (is_mean (mask_of_edge (Semi num den) edge faces)) }
+    ensures infinite { (edge : ℕ × ℕ) (faces : List ℕ) → IsTrue (is_mean (mask_of_edge Infinite edge faces)) }
+{}
+
+/// The mask of a vertex is a mean: smooth, dart, crease, corner, and in a transition between two of
+/// them. Where its rule is smooth or a dart, now or in the next level, it has as many faces as edges.
+pub fn vertex_masks_are_means()
+    ensures catmull_clark { (level : Level) (v : ℕ) → IsTrue (is_proper_at level v)
+        → (IsTrue (is_smooth_or_dart (rule_at level v)) → IsTrue (is_interior level v))
+        → (IsTrue (is_smooth_or_dart (child_rule_at level v)) → IsTrue (is_interior level v))
+        → IsTrue (is_mean (vertex_mask level CatmullClark v)) }
+    ensures linear { (level : Level) (v : ℕ) → IsTrue (is_mean (vertex_mask level Linear v)) }
+{}
+
+/// Between two means each weight above 0 and at most 1 makes a mean.
+pub fn blends_are_means()
+    ensures { (w : ℕ × ℕ) (parent child : Mask) → 0 < w.0 → w.0 ≤ w.1 → IsTrue (is_mean parent) → IsTrue (is_mean child)
+        → IsTrue (is_mean (blend w parent child)) }
+{}
+
+/// Where the masks of two levels differ at a vertex, the weight is above 0 and at most 1.
+pub fn transition_weights_are_above_zero()
+    ensures { (method : Method) (vertex : Sharpness) (ring : List Sharpness) → IsTrue (is_proper_sharpness vertex)
+        → IsTrue (list_all is_proper_sharpness ring)
+        → same_mask (vertex_rule vertex ring) (vertex_rule (uniform_child vertex) (child_ring method ring)) ≡ false
+        → (0 < (transition_weight vertex (uniform_child vertex) ring (child_ring method ring)).0)
+        × ((transition_weight vertex (uniform_child vertex) ring (child_ring method ring)).0 ≤ (transition_weight vertex (uniform_child vertex) ring (child_ring method ring)).1) }
+{}
+
+/// Boundary edges, which are the edges of one face, stay infinitely sharp. At level 0 of every mesh they are, whatever
+/// its tags and its boundary mode; a closed level has none; where they are at a level, they are at the next; and so
+/// they are at every level of a mesh, named in either direction.
+pub fn boundary_edges_stay_infinite()
+    ensures mesh { (mesh : ObjMesh) → IsManifold (length mesh.points) mesh.faces → IsTrue (has_sharp_boundary (base_level mesh)) }
+    ensures closed { (level : Level) → IsTrue (is_closed level.polygons) → IsTrue (has_sharp_boundary level) }
+    ensures child { (level : Level) → IsTrue (is_over level.point_count level.polygons) → IsManifold level.point_count level.polygons
+        → IsTrue (has_sharp_boundary level) → IsTrue (has_sharp_boundary (child_level level)) }
+    ensures edges { (mesh : ObjMesh) (k : ℕ) (edge : ℕ × ℕ) → IsManifold (length mesh.points) mesh.faces
+        → IsTrue (has_faces_over_points mesh)
+        → IsTrue (is_boundary (refined_level (base_level mesh) k).polygons edge)
+        → edge_sharpness_of (refined_level (base_level mesh) k) edge ≡ Infinite }
+{}
+
+/// In a manifold a point away from the boundary, if an edge ends there, is interior: it has as many faces as edges,
+/// and at least two. One at a sharp boundary is a crease or a corner, in its level and in the next.
+pub fn points_are_interior_or_at_the_boundary()
+    ensures interior { (level : Level) (v : ℕ) → IsManifold level.point_count level.polygons
+        → is_at_boundary level.polygons v ≡ false → 1 ≤ length (edges_at level v) → IsTrue (is_interior level v) }
+    ensures boundary { (level : Level) (v : ℕ) → IsManifold level.point_count level.polygons → IsTrue (has_sharp_boundary level)
+        → IsTrue (is_at_boundary level.polygons v) → is_smooth_or_dart (rule_at level v) ≡ false }
+    ensures boundary_next { (level : Level) (v : ℕ) → IsManifold level.point_count level.polygons → IsTrue (has_sharp_boundary level)
+        → IsTrue (is_at_boundary level.polygons v) → is_smooth_or_dart (child_rule_at level v) ≡ false }
+{}
+
+/// Each mask of a manifold, at every level and under both schemes, is a mean of points and faces of its level: its
+/// weights are above 0 and sum to its denominator. So it is from every well formed level whose boundary is infinitely
+/// sharp, as that of a closed one is, and from level 0 of every mesh, open or closed, whatever its tags, where each
+/// sharpness in them is well formed.
+pub fn masks_of_manifolds_are_means()
+    ensures level { (level : Level) (scheme : Scheme) (k : ℕ) → IsTrue (is_well_formed level) → IsManifold level.point_count level.polygons
+        → IsTrue (has_sharp_boundary level) → IsTrue (has_means (refined_level level k) scheme) }
+    ensures mesh { (mesh : ObjMesh) (scheme : Scheme) (k : ℕ) → IsManifold (length mesh.points) mesh.faces
+        → IsTrue (has_faces_over_points mesh)
+        → IsTrue (list_all (λ crease. is_proper_sharpness crease.1) mesh.creases)
+        → IsTrue (list_all (λ tag. is_proper_sharpness tag.1) mesh.corner_tags)
+        → IsTrue (has_means (refined_level (base_level mesh) k) scheme) }
+{}
+
+/// A mask lists each of its sources once, whatever terms it is made of; so do all masks of a level, those between two
+/// rules too.
+pub fn masks_list_their_sources_once()
+    ensures level { (level : Level) (scheme : Scheme) → IsTrue (has_distinct_masks level scheme) }
+    ensures terms { (terms : List Term) (q : ℕ) → IsTrue (has_distinct_sources (mask_of terms q).terms) }
+{}
+
+/// A mask sums as the terms that it was made of, which may name a source more than once: it has their weights
+/// in all, the same sum of weighted numbers, and the same value. Nor does the order of terms tell: terms that
+/// give each source the same weight have the same value.
+pub fn sums_do_not_see_how_terms_are_joined()
+    ensures weights { (terms : List Term) (q : ℕ) → total_weight (mask_of terms q).terms ≡ total_weight terms }
+    ensures numbers { (number : SourcePoint → ℕ) (terms : List Term) (q : ℕ)
+        → sum_by (λ t. t.weight * number t.source) (mask_of terms q).terms ≡ sum_by (λ t. t.weight * number t.source) terms }
+    ensures value { (value : SourcePoint → Value) (terms : List Term) (q : ℕ) → ((source : SourcePoint) → 0 < (value source).den) → 0 < q
+        → IsSameValue (mask_value value (mask_of terms q)) (sum_of_values (map (λ t. weighted t.weight q (value t.source)) terms)) }
+    ensures order { (value : SourcePoint → Value) (first second : List Term) (q : ℕ) → ((source : SourcePoint) → 0 < (value source).den)
+        → 0 < q
+        → ((source : SourcePoint) → weight_in first source ≡ weight_in second source)
+        → IsSameValue (sum_of_values (map (λ t. weighted t.weight q (value t.source)) first)) (sum_of_values (map (λ t. weighted t.weight q (value t.source)) second)) }
+{}

@@ -1,0 +1,6 @@
+//! Laws of polygons, manifolds and the levels after them, and the lemmas on them that other crates cite.
+//!
+//! Each public function here takes nothing, does nothing and returns nothing: its clauses are the laws.
+#![tactic(auto)]
+
+pub mod manifolds;

@@ -1,0 +1,68 @@
+//! Laws of edges, manifolds and the topology of the levels after them.
+
+ghost use Rattle.std.specs.Prelude.{◌≡◌, ℕ, ◌<◌, ◌≤◌, List, length, None, IsTrue, ◌↔◌};
+ghost use Rattle.std.specs.List.{All, count_by, list_any};
+ghost use Rattle.subdiv_model.specs.Polygons.{Polygon, same_side, same_edge, is_distinct, is_over};
+ghost use Rattle.subdiv_model.specs.Edges.{all_sides, edges_of, faces_of_edge, is_closed, goes_both_ways};
+ghost use Rattle.subdiv_model.specs.Manifold.{IsManifold, is_manifold};
+ghost use Rattle.subdiv_model.specs.MeshFault.{first_mesh_fault};
+ghost use Rattle.subdiv_model.specs.Level.{Level};
+ghost use Rattle.subdiv_model.specs.Child.{child_polygons, child_points, refined_level};
+
+/// The test for a manifold decides whether the polygons are one: the walk about each point meets all its
+/// faces exactly where they can be listed as a fan.
+pub fn manifold_test_decides()
+    ensures { (points : ℕ) (polygons : List Polygon) → IsTrue (is_manifold points polygons) ↔ IsManifold points polygons }
+{}
+
+/// A mesh has no fault exactly where it is a manifold.
+pub fn no_fault_exactly_at_a_manifold()
+    ensures { (points : ℕ) (polygons : List Polygon) → (first_mesh_fault points polygons ≡ None) ↔ IsTrue (is_manifold points polygons) }
+{}
+
+/// In a manifold each edge has one or two faces.
+pub fn edges_have_one_or_two_faces()
+    ensures { (points : ℕ) (polygons : List Polygon) → IsManifold points polygons → All (λ edge. (1 ≤ length (faces_of_edge polygons edge)) × (length (faces_of_edge polygons edge) ≤ 2)) (edges_of polygons) }
+{}
+
+/// Each directed edge has its edge once in the list of edges, and each edge is listed as a directed edge goes.
+pub fn edges_are_listed_once()
+    ensures once { (polygons : List Polygon) → All (λ side. count_by (same_edge side) (edges_of polygons) ≡ 1) (all_sides polygons) }
+    ensures as_it_goes { (polygons : List Polygon) → All (λ edge. IsTrue (list_any (same_side edge) (all_sides polygons))) (edges_of polygons) }
+{}
+
+/// In a closed manifold each directed edge occurs once, and once the other way.
+pub fn closed_manifold_goes_both_ways()
+    ensures { (points : ℕ) (polygons : List Polygon) → IsManifold points polygons → IsTrue (is_closed polygons) → IsTrue (goes_both_ways polygons) }
+{}
+
+/// Each child face of a manifold has four corners, all distinct, and each a point of the child level.
+pub fn child_faces_are_quads()
+    ensures { (points : ℕ) (polygons : List Polygon) → IsTrue (is_over points polygons) → IsManifold points polygons → All (λ quad. (length quad ≡ 4) × IsTrue (is_distinct quad) × All (λ v. v < child_points points polygons) quad) (child_polygons points polygons) }
+{}
+
+/// The next level of a manifold is a manifold, at its boundary too: its faces are simple, each directed edge
+/// occurs once at most, and the faces at each point form one fan.
+pub fn child_of_a_manifold()
+    ensures { (points : ℕ) (polygons : List Polygon) → IsTrue (is_over points polygons) → IsManifold points polygons → IsManifold (child_points points polygons) (child_polygons points polygons) }
+{}
+
+/// Where the corners of a level are points, those of each level after it are; and each level of a manifold is a
+/// manifold.
+pub fn levels_of_a_manifold()
+    ensures over { (level : Level) (k : ℕ) → IsTrue (is_over level.point_count level.polygons) → IsTrue (is_over (refined_level level k).point_count (refined_level level k).polygons) }
+    ensures manifold { (level : Level) (k : ℕ) → IsTrue (is_over level.point_count level.polygons) → IsManifold level.point_count level.polygons → IsManifold (refined_level level k).point_count (refined_level level k).polygons }
+{}
+
+/// The child of a closed manifold is closed: each of its edges is in exactly two faces, and each directed edge
+/// occurs once, and once the other way.
+pub fn child_of_a_closed_manifold()
+    ensures closed { (points : ℕ) (polygons : List Polygon) → IsTrue (is_over points polygons) → IsManifold points polygons → IsTrue (is_closed polygons) → IsTrue (is_closed (child_polygons points polygons)) }
+    ensures both_ways { (points : ℕ) (polygons : List Polygon) → IsTrue (is_over points polygons) → IsManifold points polygons → IsTrue (is_closed polygons) → IsTrue (goes_both_ways (child_polygons points polygons)) }
+{}
+
+/// Each level of a closed manifold is closed, has its corners among its points, and goes both ways at each
+/// edge.
+pub fn levels_of_a_closed_manifold()
+    ensures { (level : Level) (k : ℕ) → IsTrue (is_over level.point_count level.polygons) → IsManifold level.point_count level.polygons → IsTrue (is_closed level.polygons) → IsTrue (is_over (refined_level level k).point_count (refined_level level k).polygons) × IsTrue (is_closed (refined_level level k).polygons) × IsTrue (goes_both_ways (refined_level level k).polygons) }
+{}

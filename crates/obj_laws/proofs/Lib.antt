@@ -1,0 +1,14 @@
+pub mod DigitLemmas
+pub mod NumeralLemmas
+pub mod NumeralValueLemmas
+pub mod NumeralTextLemmas
+pub mod RangeLemmas
+pub mod FirstFaultLemmas
+pub mod ObjLineLemmas
+pub mod ObjGoodLemmas
+pub mod ObjMeshLemmas
+pub mod ObjSizeLemmas
+pub mod ObjStepLemmas
+pub mod ReadingCauseLemmas
+pub mod ObjChannelLemmas
+pub mod ObjLateLemmas

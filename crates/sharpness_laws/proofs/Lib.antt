@@ -1,0 +1,10 @@
+pub mod PermutationLemmas
+pub mod ProperLemmas
+pub mod SameFractionLemmas
+pub mod OrderLemmas
+pub mod JoinedWeightLemmas
+pub mod MaskOrderLemmas
+pub mod RuleOrderLemmas
+pub mod SameWeightLemmas
+pub mod TermOrderLemmas
+pub mod MaskValueLemmas

@@ -1,0 +1,2 @@
+pub mod SameFraction
+pub mod SameWeights

@@ -1,0 +1,47 @@
+//! Laws of the ring of edges at a vertex: its order does not matter.
+
+ghost use Rattle.std.specs.Prelude.{◌≡◌, ◌<◌, ℕ, List, map};
+ghost use Rattle.std.specs.List.Sorted.{IsPermutation};
+ghost use Rattle.subdiv_model.specs.Fractions.{sum_of_fractions};
+ghost use Rattle.subdiv_model.specs.Multiples.{common_denominator};
+ghost use Rattle.subdiv_model.specs.Sharpness.{Sharpness, Method, sharpness_of_fraction, chaikin_value, chaikin_child_of, chaikin_overflows, half_child};
+ghost use Rattle.subdiv_model.specs.Rule.{child_ring, at_most_one, transition_weight, transition_overflows};
+ghost use Rattle.sharpness_laws.specs.SameFraction.{IsSameFraction};
+
+/// The sum of fractions and their common denominator are the same in any order.
+pub fn sums_do_not_see_the_order()
+    ensures sum { (values other : List (ℕ × ℕ)) → IsPermutation values other → sum_of_fractions values ≡ sum_of_fractions other }
+    ensures denominator { (values other : List (ℕ × ℕ)) → IsPermutation values other
+        → common_denominator values ≡ common_denominator other }
+{}
+
+/// The half of an edge has one sharpness, and is refused or not, in whatever order the edges at the vertex stand.
+pub fn chaikin_children_do_not_see_the_order()
+    ensures child { (ring other : List Sharpness) (s : Sharpness) → IsPermutation ring other
+        → chaikin_child_of ring s ≡ chaikin_child_of other s }
+    ensures overflow { (ring other : List Sharpness) → IsPermutation ring other → chaikin_overflows ring ≡ chaikin_overflows other }
+    ensures half { (method : Method) (ring other : List Sharpness) (s : Sharpness) → IsPermutation ring other
+        → half_child method ring s ≡ half_child method other s }
+    ensures ring { (method : Method) (ring other : List Sharpness) → IsPermutation ring other
+        → IsPermutation (child_ring method ring) (child_ring method other) }
+{}
+
+/// The weight of a transition is one, and is refused or not, in whatever order the edges at the vertex stand: each
+/// with its sharpness in this level and in the next.
+pub fn transition_weights_do_not_see_the_order()
+    ensures weight { (vertex vertex_child : Sharpness) (pairs other : List (Sharpness × Sharpness)) → IsPermutation pairs other
+        → transition_weight vertex vertex_child (map (λ p. p.0) pairs) (map (λ p. p.1) pairs)
+        ≡ transition_weight vertex vertex_child (map (λ p. p.0) other) (map (λ p. p.1) other) }
+    ensures overflow { (vertex vertex_child : Sharpness) (pairs other : List (Sharpness × Sharpness)) → IsPermutation pairs other
+        → transition_overflows vertex vertex_child (map (λ p. p.0) pairs) (map (λ p. p.1) pairs)
+        ≡ transition_overflows vertex vertex_child (map (λ p. p.0) other) (map (λ p. p.1) other) }
+{}
+
+/// Equal fractions name one sharpness and one weight, and a sum of equal value gives an equal child, whatever terms
+/// they stand in.
+pub fn equal_fractions_are_one_sharpness()
+    ensures sharpness { (x y : ℕ × ℕ) → 0 < x.1 → 0 < y.1 → IsSameFraction x y → sharpness_of_fraction x ≡ sharpness_of_fraction y }
+    ensures weight { (x y : ℕ × ℕ) → 0 < x.1 → 0 < y.1 → IsSameFraction x y → at_most_one x ≡ at_most_one y }
+    ensures child { (s total other : ℕ × ℕ) (count : ℕ) → IsSameFraction total other
+        → IsSameFraction (chaikin_value s total count) (chaikin_value s other count) }
+{}

@@ -1,5 +1,0 @@
-use Rattle.subdiv_model.proofs.NumeralValueLemmas.{form-least}
-use Rattle.subdiv_model.proofs.numerals.normal_forms_have_the_least_decimals.Goals as goal
-
-pub returns : goal.returns
-returns c = form-least

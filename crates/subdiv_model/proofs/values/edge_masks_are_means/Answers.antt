@@ -1,8 +1,0 @@
-use Rattle.subdiv_model.proofs.MaskLemmas.{mean-edge_mask, mean-at_least_one}
-use Rattle.subdiv_model.proofs.values.edge_masks_are_means.Goals as goal
-
-pub returns-clause-two_faces : goal.returns-clause-two_faces
-returns-clause-two_faces c = mean-edge_mask
-
-pub returns-clause-semi_sharp : goal.returns-clause-semi_sharp
-returns-clause-semi_sharp c = mean-at_least_one

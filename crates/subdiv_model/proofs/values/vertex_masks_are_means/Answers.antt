@@ -1,5 +1,0 @@
-use Rattle.subdiv_model.proofs.VertexLemmas.{mean-vertex_mask}
-use Rattle.subdiv_model.proofs.values.vertex_masks_are_means.Goals as goal
-
-pub returns-clause-catmull_clark : goal.returns-clause-catmull_clark
-returns-clause-catmull_clark c = mean-vertex_mask

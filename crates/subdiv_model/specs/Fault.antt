@@ -1,0 +1,128 @@
+-- What a run may be refused for: each fault in words, as a line on standard error, and as a status.
+-- Source: this profile.
+use Rattle.std.specs.Prelude.{ℕ, List, ◌++◌, codes, Option, Some, None}
+use Rattle.subdiv_model.specs.ObjFault.{ObjCause, BadNumeral, NumberRange, UnknownKeyword, Continuation, ShortLine, BadCorner, IndexRange, BadTag, TagIndex, SharpnessRange, MoveIndex, TooFine, LongLine, ObjFault}
+use Rattle.subdiv_model.specs.MeshFault.{MeshFault, FaceTooSmall, RepeatedVertex, NonManifoldEdge, WindingClash, SplitVertex}
+use Rattle.subdiv_model.specs.NumberText.{number_text}
+
+-- what there is too much of, with how much
+pub data Counted : Type 0 where
+  Points : ℕ → Counted
+  Faces : ℕ → Counted
+  -- a face, and its corners
+  FaceSize : ℕ → ℕ → Counted
+  -- a vertex, and its edges
+  Valence : ℕ → ℕ → Counted
+  -- a level, and its faces
+  LevelFaces : ℕ → ℕ → Counted
+  -- a level whose table has too many entries
+  Entries : ℕ → Counted
+
+-- the values that overflow
+pub data Track : Type 0 where
+  Positions : Track
+  Texture : Track
+
+-- what passes its bound
+pub data OverflowKind : Type 0 where
+  -- the denominator of the half of an edge
+  ChaikinOverflow : OverflowKind
+  -- the denominator of the weight between two rules
+  TransitionOverflow : OverflowKind
+  -- the common denominator of a point
+  DenominatorOverflow : OverflowKind
+  -- a numerator over the greatest common denominator
+  ValueOverflow : OverflowKind
+
+pub data Fault : Type 0 where
+  -- the words are no command; the place of the first bad one, from 0, or the number of words
+  Usage : ℕ → Fault
+  Read : Fault
+  Long : Fault
+  Obj : ObjFault → Fault
+  Mesh : MeshFault → Fault
+  TooLarge : Counted → Fault
+  -- the track, the level and the kind
+  Overflow : Track → ℕ → OverflowKind → Fault
+  Write : Fault
+  Memory : Fault
+  -- a line, or 0 for the mesh as a whole
+  NotBuilt : ℕ → Fault
+
+abbrev pub cause_text : ObjCause → List ℕ
+cause_text BadNumeral = codes "bad numeral"
+cause_text NumberRange = codes "number out of range"
+cause_text UnknownKeyword = codes "unknown keyword"
+cause_text Continuation = codes "line continuation"
+cause_text ShortLine = codes "line too short"
+cause_text BadCorner = codes "bad face corner"
+cause_text IndexRange = codes "index out of range"
+cause_text BadTag = codes "bad tag"
+cause_text TagIndex = codes "tag index out of range"
+cause_text SharpnessRange = codes "sharpness out of range"
+cause_text MoveIndex = codes "move index out of range"
+cause_text TooFine = codes "move finer than the scale"
+cause_text LongLine = codes "line too long"
+
+abbrev pub obj_fault_text : ObjFault → List ℕ
+obj_fault_text fault = codes "line " ++ (number_text fault.line ++ (codes ": " ++ cause_text fault.cause))
+
+abbrev pub mesh_fault_text : MeshFault → List ℕ
+mesh_fault_text (FaceTooSmall face) = codes "face " ++ (number_text face ++ codes " has fewer than three corners")
+mesh_fault_text (RepeatedVertex face) = codes "face " ++ (number_text face ++ codes " repeats a vertex")
+mesh_fault_text (NonManifoldEdge a b) = codes "edge " ++ (number_text a ++ (codes " " ++ (number_text b ++ codes " has more than two faces")))
+mesh_fault_text (WindingClash a b) = codes "edge " ++ (number_text a ++ (codes " " ++ (number_text b ++ codes " is used twice in one direction")))
+mesh_fault_text (SplitVertex v) = codes "vertex " ++ (number_text v ++ codes " joins more than one fan")
+
+abbrev pub counted_text : Counted → List ℕ
+counted_text (Points count) = codes "too many points: " ++ number_text count
+counted_text (Faces count) = codes "too many faces: " ++ number_text count
+counted_text (FaceSize face size) = codes "face " ++ (number_text face ++ (codes " has " ++ (number_text size ++ codes " corners")))
+counted_text (Valence v count) = codes "vertex " ++ (number_text v ++ (codes " has " ++ (number_text count ++ codes " edges")))
+counted_text (LevelFaces level count) = codes "level " ++ (number_text level ++ (codes " has " ++ (number_text count ++ codes " faces")))
+counted_text (Entries level) = codes "level " ++ (number_text level ++ codes " has too many entries")
+
+abbrev pub track_text : Track → List ℕ
+track_text Positions = codes "positions"
+track_text Texture = codes "texture"
+
+abbrev pub kind_text : OverflowKind → List ℕ
+kind_text ChaikinOverflow = codes "chaikin"
+kind_text TransitionOverflow = codes "transition"
+kind_text DenominatorOverflow = codes "denominator"
+kind_text ValueOverflow = codes "value"
+
+-- a fault in words
+abbrev pub fault_text : Fault → List ℕ
+fault_text (Usage word) = codes "word " ++ (number_text word ++ codes " is not understood")
+fault_text Read = codes "reading failed"
+fault_text Long = codes "input is longer than 268435456 bytes"
+fault_text (Obj fault) = obj_fault_text fault
+fault_text (Mesh fault) = mesh_fault_text fault
+fault_text (TooLarge counted) = counted_text counted
+fault_text (Overflow track level kind) =
+    track_text track ++ (codes " level " ++ (number_text level ++ (codes ": " ++ (kind_text kind ++ codes " overflow"))))
+fault_text Write = codes "writing failed"
+fault_text Memory = codes "out of memory"
+fault_text (NotBuilt line) = codes "line " ++ (number_text line ++ codes " is not built yet")
+
+-- its line on standard error
+abbrev pub fault_line : Fault → List ℕ
+fault_line fault = codes "far: " ++ (fault_text fault ++ codes "\n")
+
+abbrev pub fault_status : Fault → ℕ
+fault_status (Usage word) = 2
+fault_status Read = 3
+fault_status Long = 4
+fault_status (Obj fault) = 5
+fault_status (Mesh fault) = 6
+fault_status (TooLarge counted) = 7
+fault_status (Overflow track level kind) = 8
+fault_status Write = 10
+fault_status Memory = 11
+fault_status (NotBuilt line) = 12
+
+-- the status of a whole run
+abbrev pub outcome_status : Option Fault → ℕ
+outcome_status None = 0
+outcome_status (Some fault) = fault_status fault

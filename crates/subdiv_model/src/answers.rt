@@ -1,0 +1,98 @@
+//! Examples of whole answers: the text or the refusal for words and bytes, each proved by computing.
+//@ Points=Fault
+//@ Faces=Fault
+//@ Valence=Fault
+
+ghost use Rattle.std.specs.Prelude.{◌≡◌, [], ◌∷◌, ◌++◌, map, take, pos, Some, None, codes};
+ghost use Rattle.subdiv_model.specs.Answer.{answer, level_count_faults};
+ghost use Rattle.subdiv_model.specs.Base.{base_level};
+ghost use Rattle.subdiv_model.specs.ExampleControls.{first_texture};
+ghost use Rattle.subdiv_model.specs.ExampleTexts.{corner_cube_refined_text, cube_text, seamed_text, square_text};
+ghost use Rattle.subdiv_model.specs.Examples.{cube};
+ghost use Rattle.subdiv_model.specs.Fault.{ChaikinOverflow, Entries, FaceSize, LevelFaces, Long, Memory, Mesh, NotBuilt, Obj, Overflow, Positions, Read, Texture, TooLarge, TransitionOverflow, Usage, Valence, ValueOverflow, Write, fault_line, fault_status, outcome_status};
+ghost use Rattle.subdiv_model.specs.Generator.{draws_from, generated_mesh, sheet_faces};
+ghost use Rattle.subdiv_model.specs.MeshFault.{NonManifoldEdge, RepeatedVertex, SplitVertex};
+ghost use Rattle.subdiv_model.specs.ObjFault.{BadTag, UnknownKeyword};
+ghost use Rattle.subdiv_model.specs.ReadObj.{read_obj_mesh};
+
+/// The words of `refine`, by the table and level by level, on small meshes.
+pub fn refined_meshes()
+    ensures square { answer (codes "refine" ∷ codes "depth=1" ∷ []) square_text
+        ≡ record { text = codes "v 1/2 1/2 0\nv 7/2 1/2 0\nv 7/2 7/2 0\nv 1/2 7/2 0\nv 2 2 0\nv 2 0 0\nv 4 2 0\nv 2 4 0\nv 0 2 0\nf 1 6 5 9\nf 2 7 5 6\nf 3 8 5 7\nf 4 9 5 8\n"; refusal = None } }
+    ensures by_level { answer (codes "refine" ∷ codes "by=level" ∷ codes "depth=1" ∷ []) square_text ≡ answer (codes "refine" ∷ codes "depth=1" ∷ []) square_text }
+    ensures sharp_corners { (answer (codes "refine" ∷ codes "depth=1" ∷ []) (square_text ++ codes "t interpolateboundary 1/0/0 1\n")).text
+        ≡ codes "v 0 0 0\nv 4 0 0\nv 4 4 0\nv 0 4 0\nv 2 2 0\nv 2 0 0\nv 4 2 0\nv 2 4 0\nv 0 2 0\nf 1 6 5 9\nf 2 7 5 6\nf 3 8 5 7\nf 4 9 5 8\n" }
+    ensures decimals { (answer (codes "refine" ∷ codes "depth=0" ∷ codes "decimals=1" ∷ []) (codes "v 0.25 -0.75 7\n")).text ≡ codes "v 0.2 -0.8 7.0\n" }
+    ensures empty { answer (codes "refine" ∷ codes "depth=3" ∷ []) [] ≡ record { text = []; refusal = None } }
+    ensures point { (answer (codes "refine" ∷ codes "depth=3" ∷ []) (codes "v 7 8 9")).text ≡ codes "v 7 8 9\n" }
+{}
+
+/// With tags the level is written with its holes, and reads as the same level.
+pub fn levels_with_their_tags()
+    ensures hidden { (answer (codes "refine" ∷ codes "depth=1" ∷ codes "tags=yes" ∷ []) (square_text ++ codes "t interpolateboundary 1/0/0 0\n")).text
+        ≡ codes "v 1/2 1/2 0\nv 7/2 1/2 0\nv 7/2 7/2 0\nv 1/2 7/2 0\nv 2 2 0\nv 2 0 0\nv 4 2 0\nv 2 4 0\nv 0 2 0\nf 1 6 5 9\nf 2 7 5 6\nf 3 8 5 7\nf 4 9 5 8\nt interpolateboundary 1/0/0 2\nt hole 1/0/0 0\nt hole 1/0/0 1\nt hole 1/0/0 2\nt hole 1/0/0 3\n" }
+    ensures untagged { (answer (codes "refine" ∷ codes "depth=1" ∷ []) (square_text ++ codes "t interpolateboundary 1/0/0 0\n")).text
+        ≡ codes "v 1/2 1/2 0\nv 7/2 1/2 0\nv 7/2 7/2 0\nv 1/2 7/2 0\nv 2 2 0\nv 2 0 0\nv 4 2 0\nv 2 4 0\nv 0 2 0\n" }
+    ensures written { (answer (codes "refine" ∷ codes "depth=1" ∷ codes "tags=yes" ∷ []) (cube_text ++ codes "t corner 1/1/0 3 1.5\n")).text ≡ corner_cube_refined_text }
+    ensures read_again { base_level (read_obj_mesh (cube_text ++ codes "t corner 1/1/0 3 3\nt creasemethod 0/0/1 chaikin\nt crease 2/1/0 0 1 2\n") 0)
+        ≡ base_level (read_obj_mesh (answer (codes "refine" ∷ codes "depth=0" ∷ codes "tags=yes" ∷ codes "decimals=3" ∷ []) (cube_text ++ codes "t corner 1/1/0 3 3\nt creasemethod 0/0/1 chaikin\nt crease 2/1/0 0 1 2\n")).text 0) }
+{}
+
+/// Texture: channel points and their values in each mode.
+pub fn refined_texture_of_two_quads()
+    ensures smooth { (answer (codes "refine" ∷ codes "depth=0" ∷ []) seamed_text).text
+        ≡ codes "v 0 0 0\nv 1 0 0\nv 1 1 0\nv 0 1 0\nv 2 0 0\nv 2 1 0\nvt 0 0\nvt 1 0\nvt 1 1\nvt 0 1\nvt 4 0\nvt 5 0\nvt 5 1\nvt 4 1\nf 1/1 2/2 3/3 4/4\nf 2/5 5/6 6/7 3/8\n" }
+    ensures smooth_values { first_texture (codes "uv=smooth") ≡ codes "vt 1/8 1/8\n" }
+    ensures corner_values { first_texture (codes "uv=corners") ≡ codes "vt 0 0\n" }
+    ensures boundary_values { first_texture (codes "uv=boundaries") ≡ codes "vt 0 0\n" }
+    ensures linear_values { first_texture (codes "uv=linear") ≡ codes "vt 0 0\n" }
+{}
+
+/// The other commands on small meshes.
+pub fn levels_tables_and_sheets()
+    ensures levels { answer (codes "levels" ∷ codes "depth=0" ∷ []) square_text ≡ record { text = codes "level 0 points 4 edges 4 faces 1 euler 1 boundary 4 holes 0 sharp 0 extraordinary 0\n"; refusal = None } }
+    ensures stencils { (answer (codes "stencils" ∷ codes "depth=0" ∷ []) (codes "v 1 2 3\n")).text ≡ codes "table controls 1 rows 1 entries 1\ns 1 0 1\n" }
+    ensures sheet { answer (codes "gen" ∷ codes "seed=0" ∷ codes "size=1" ∷ codes "depth=1" ∷ []) (codes "x")
+        ≡ record { text = codes "gen points 4 faces 1\nlevel 1 points 9 faces 4 entries 24 den 8\nlast 0 5 3\n"; refusal = None } }
+{}
+
+/// The first refusal that applies.
+pub fn refusals_in_their_order()
+    ensures words { answer (codes "refine" ∷ []) (codes "x") ≡ record { text = []; refusal = Some (Usage 1) } }
+    ensures text { answer (codes "levels" ∷ codes "depth=0" ∷ []) (codes "v 0 0 0\nf 1 1 1\nx\n") ≡ record { text = []; refusal = Some (Obj (record { line = 3; cause = UnknownKeyword })) } }
+    ensures mesh { answer (codes "levels" ∷ codes "depth=0" ∷ []) (codes "v 0 0 0\nv 0 0 0\nf 1 2 1\n") ≡ record { text = []; refusal = Some (Mesh (RepeatedVertex 0)) } }
+    ensures value { (answer (codes "refine" ∷ codes "depth=1" ∷ []) (square_text ++ codes "v 1e36 0 0\nv 0 0 9e36\n")).refusal ≡ None }
+    ensures overflow { (answer (codes "refine" ∷ codes "depth=2" ∷ []) (square_text ++ codes "v 0 0 9e36\n")).refusal ≡ Some (Overflow Positions 2 ValueOverflow) }
+    ensures level_alone { (answer (codes "levels" ∷ codes "depth=2" ∷ []) (square_text ++ codes "v 0 0 9e36\n")).refusal ≡ None }
+{}
+
+/// The counts of a mesh and of its levels.
+pub fn counts_past_their_limits()
+    ensures faces { level_count_faults cube 10 ≡ TooLarge (LevelFaces 10 6291456) ∷ [] }
+    ensures two { map fault_line (level_count_faults cube 10) ≡ codes "far: level 10 has 6291456 faces\n" ∷ [] }
+    ensures none { level_count_faults cube 9 ≡ [] }
+{}
+
+/// Each fault as a line on standard error, and its status.
+pub fn lines_of_faults()
+    ensures usage { fault_line (Usage 1) ≡ codes "far: word 1 is not understood\n" }
+    ensures read { fault_line Read ≡ codes "far: reading failed\n" }
+    ensures long { fault_line Long ≡ codes "far: input is longer than 268435456 bytes\n" }
+    ensures obj { fault_line (Obj (record { line = 12; cause = BadTag })) ≡ codes "far: line 12: bad tag\n" }
+    ensures mesh { fault_line (Mesh (NonManifoldEdge 0 1)) ≡ codes "far: edge 0 1 has more than two faces\n" }
+    ensures size { fault_line (TooLarge (FaceSize 0 65537)) ≡ codes "far: face 0 has 65537 corners\n" }
+    ensures valence { fault_line (TooLarge (Valence 3 65537)) ≡ codes "far: vertex 3 has 65537 edges\n" }
+    ensures overflow { fault_line (Overflow Texture 2 TransitionOverflow) ≡ codes "far: texture level 2: transition overflow\n" }
+    ensures statuses { map fault_status (Usage 0 ∷ Read ∷ Long ∷ Mesh (SplitVertex 0) ∷ TooLarge (Entries 2) ∷ Overflow Positions 1 ChaikinOverflow ∷ Write ∷ Memory ∷ NotBuilt 0 ∷ [])
+        ≡ 2 ∷ 3 ∷ 4 ∷ 6 ∷ 7 ∷ 8 ∷ 10 ∷ 11 ∷ 12 ∷ [] }
+    ensures good { outcome_status None ≡ 0 }
+{}
+
+/// The first draws of seed 0, and the sheet of seed 3 with a crease of its own.
+pub fn draws_and_sheets()
+    ensures draws { draws_from 4 0 ≡ 0 ∷ 6 ∷ 6 ∷ 4 ∷ [] }
+    ensures faces { sheet_faces 1 ≡ (0 ∷ 1 ∷ 3 ∷ 2 ∷ []) ∷ [] }
+    ensures points { map (λ p. p.2) (generated_mesh 0 1).points ≡ pos 0 ∷ pos 6 ∷ pos 6 ∷ pos 4 ∷ [] }
+    ensures places { take 4 (map (λ p. p.0) (generated_mesh 0 2).points) ≡ pos 0 ∷ pos 10 ∷ pos 20 ∷ pos 0 ∷ [] }
+    ensures creases { map (λ c. c.0) (generated_mesh 3 2).creases ≡ (3, 4) ∷ (4, 5) ∷ [] }
+{}

@@ -1,0 +1,29 @@
+//! Examples of command lines, each proved by computing.
+
+ghost use Rattle.std.specs.Prelude.{◌≡◌, [], ◌∷◌, Some, None, Ok, Err, codes};
+ghost use Rattle.subdiv_model.specs.Command.{ByLevel, ByTable, CornersUv, Gen, Levels, NoTags, Refine, SmoothUv, YesTags, read_words};
+ghost use Rattle.subdiv_model.specs.Words.{command_table, usage_of};
+
+/// Command lines and the place of their first bad word.
+pub fn places_of_bad_words()
+    ensures none { usage_of command_table [] ≡ Some 0 }
+    ensures unknown { usage_of command_table (codes "x" ∷ codes "depth=1" ∷ []) ≡ Some 0 }
+    ensures no_depth { usage_of command_table (codes "refine" ∷ []) ≡ Some 1 }
+    ensures no_size { usage_of command_table (codes "gen" ∷ codes "depth=1" ∷ codes "seed=0" ∷ []) ≡ Some 3 }
+    ensures deep { usage_of command_table (codes "levels" ∷ codes "depth=11" ∷ []) ≡ Some 1 }
+    ensures leading_zero { usage_of command_table (codes "levels" ∷ codes "depth=01" ∷ []) ≡ Some 1 }
+    ensures no_value { usage_of command_table (codes "levels" ∷ codes "depth=" ∷ []) ≡ Some 1 }
+    ensures twice { usage_of command_table (codes "refine" ∷ codes "depth=1" ∷ codes "uv=linear" ∷ codes "depth=1" ∷ []) ≡ Some 3 }
+    ensures other_name { usage_of command_table (codes "stencils" ∷ codes "depth=1" ∷ codes "uv=linear" ∷ []) ≡ Some 2 }
+    ensures small { usage_of command_table (codes "gen" ∷ codes "size=0" ∷ []) ≡ Some 1 }
+{}
+
+/// What words say: options in any order, and the defaults where they are missing.
+pub fn commands_of_words()
+    ensures refine { read_words (codes "refine" ∷ codes "depth=0" ∷ []) ≡ Ok (Refine 0 None SmoothUv ByTable NoTags) }
+    ensures all { read_words (codes "refine" ∷ codes "tags=yes" ∷ codes "by=level" ∷ codes "uv=corners" ∷ codes "decimals=18" ∷ codes "depth=10" ∷ [])
+        ≡ Ok (Refine 10 (Some 18) CornersUv ByLevel YesTags) }
+    ensures sheet { read_words (codes "gen" ∷ codes "size=256" ∷ codes "seed=4294967295" ∷ codes "depth=3" ∷ []) ≡ Ok (Gen 4294967295 256 3) }
+    ensures levels { read_words (codes "levels" ∷ codes "depth=1" ∷ []) ≡ Ok (Levels 1) }
+    ensures bad { read_words (codes "levels" ∷ codes "depth=x" ∷ []) ≡ Err 1 }
+{}

@@ -1,0 +1,3 @@
+pub mod MeshTagLemmas
+pub mod TextTagLemmas
+pub mod LevelTagLemmas

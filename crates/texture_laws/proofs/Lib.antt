@@ -1,0 +1,9 @@
+pub mod OnceLemmas
+pub mod ChannelLemmas
+pub mod ReachLemmas
+pub mod JoinLemmas
+pub mod SeamlessLemmas
+pub mod RenamedLemmas
+pub mod CutLevelLemmas
+pub mod ChainLemmas
+pub mod CutFanLemmas

@@ -1,0 +1,26 @@
+use Rattle.texture_laws.proofs.JoinLemmas.{joins-itself, joins-within, joins-edge, joins-only, joins-alike, joins-same, joins-first, joins-number}
+use Rattle.texture_laws.proofs.cuts.joined_faces_are_joined_through_edges.Goals as goal
+
+pub returns-clause-within : goal.returns-clause-within
+returns-clause-within c = joins-within
+
+pub returns-clause-itself : goal.returns-clause-itself
+returns-clause-itself c = joins-itself
+
+pub returns-clause-through_edges : goal.returns-clause-through_edges
+returns-clause-through_edges c = joins-edge
+
+pub returns-clause-through_no_more : goal.returns-clause-through_no_more
+returns-clause-through_no_more c = joins-only
+
+pub returns-clause-both_ways : goal.returns-clause-both_ways
+returns-clause-both_ways c = joins-alike
+
+pub returns-clause-one_list : goal.returns-clause-one_list
+returns-clause-one_list c = joins-same
+
+pub returns-clause-least_first : goal.returns-clause-least_first
+returns-clause-least_first c = joins-first
+
+pub returns-clause-one_point : goal.returns-clause-one_point
+returns-clause-one_point c = joins-number

@@ -1,0 +1,25 @@
+-- The parts of the cut mesh by the mesh alone.
+use Rattle.std.specs.Prelude.{ℕ, List, length}
+use Rattle.subdiv_model.specs.Polygons.{Polygon}
+use Rattle.subdiv_model.specs.ObjMesh.{ObjMesh}
+use Rattle.subdiv_model.specs.Cut.{channel_points, channel_number, channel_vertex, cut_polygons}
+
+-- the faces of the cut mesh, over the numbers of its points
+abbrev pub cut_faces : ObjMesh → List Polygon
+cut_faces mesh = cut_polygons mesh (channel_points mesh)
+
+-- how many points it has
+abbrev pub cut_point_count : ObjMesh → ℕ
+cut_point_count mesh = length (channel_points mesh)
+
+-- the point of a face at a vertex
+abbrev pub point_of : ObjMesh → ℕ → ℕ → ℕ
+point_of mesh = channel_number mesh (channel_points mesh)
+
+-- the vertex of a point
+abbrev pub vertex_of : ObjMesh → ℕ → ℕ
+vertex_of mesh = channel_vertex (channel_points mesh)
+
+-- the vertices of two points
+abbrev pub vertices_of : ObjMesh → ℕ × ℕ → ℕ × ℕ
+vertices_of mesh edge = (vertex_of mesh edge.0, vertex_of mesh edge.1)

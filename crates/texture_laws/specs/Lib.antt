@@ -1,0 +1,2 @@
+pub mod CutMesh
+pub mod Seamless
