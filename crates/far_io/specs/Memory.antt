@@ -1,5 +1,5 @@
 -- What contracts see of the sources and sinks that stand in memory.
-use Rattle.std.specs.Prelude.{ℕ, ◌+◌, ◌-◌, ◌^◌, min, nat_lt, List, length, if◌then◌else◌}
+use Rattle.std.specs.Prelude.{ℕ, ◌≡◌, ◌+◌, ◌-◌, ◌^◌, ◌<◌, min, nat_lt, List, length, if◌then◌else◌}
 
 -- one call more, up to the end of 64 bits
 abbrev pub one_more : ℕ → ℕ
@@ -21,6 +21,10 @@ pub record Store : Type 0 where
 -- how much of a piece there is room for
 abbrev pub fitting : Store → List ℕ → ℕ
 fitting store piece = min (length piece) (store.room - length store.held)
+
+-- there is no room for any of the piece, which is not empty
+abbrev pub IsFull : Store → List ℕ → Type 0
+IsFull store piece = (0 < length piece) × (length store.held ≡ store.room)
 
 -- a sink that holds so many bytes and no more, and the failures that it has counted
 pub record SureOutput : Type 0 where

@@ -12,8 +12,6 @@ mod source;
 mod standard;
 mod store;
 mod sure;
-#[cfg(test)]
-mod tests;
 
 pub use memory::{MemSink, MemSource};
 pub use sink::{Sink, WriteFailed, write_all_of};

@@ -1,5 +1,5 @@
 ghost use Rattle.std.specs.Prelude.{◌≡◌, ℕ, ◌<◌, ◌≤◌, ◌↔◌, ◌⊎◌, [], ◌++◌, length, take, drop, min, Contains, IsTrue, IsErr, IfOk, OnOk, OnErr, Some};
-ghost use Rattle.far_io.specs.Memory.{one_more, fitting};
+ghost use Rattle.far_io.specs.Memory.{one_more, fitting, IsFull};
 
 use crate::plan::is_planned;
 use crate::{ReadFailed, Sink, Source, SureSink, SureSource, WriteFailed};
@@ -54,7 +54,9 @@ impl Source for MemSource {
         ensures count { IfOk result (λ n. n ≡ min (length self.old.left) (length buf.old)) }
         ensures taken { IfOk result (λ n. self.old.left ≡ take n buf.new ++ self.new.left) }
         ensures rest { IfOk result (λ n. drop n buf.new ≡ drop n buf.old) }
-        ensures failed { OnErr result ((self.new.left ≡ self.old.left) × (buf.new ≡ buf.old) × (self.new.faults ≡ one_more self.old.faults)) }
+        ensures failed { OnErr result (self.new.left ≡ self.old.left) }
+        ensures buffer { OnErr result (buf.new ≡ buf.old) }
+        ensures counted { OnErr result (self.new.faults ≡ one_more self.old.faults) }
         ensures faults { OnOk result (self.new.faults ≡ self.old.faults) }
         ensures later { self.old.faults ≤ self.new.faults }
         ensures plan { (self.new.fails ≡ self.old.fails) × (self.new.calls ≡ one_more self.old.calls) }
@@ -135,11 +137,12 @@ impl Sink for MemSink {
     /// It also fails where the piece is not empty and there is no room. A failed call adds nothing
     /// and counts one fault.
     fn write(&mut self, piece: &[u8]) -> Result<usize, WriteFailed>
-        ensures cause { IsErr result ↔ (Contains self.old.fails self.old.calls ⊎ ((0 < length piece.now) × (length self.old.store.held ≡ self.old.store.room))) }
+        ensures fails { IsErr result ↔ (Contains self.old.fails self.old.calls ⊎ IsFull self.old.store piece.now) }
         ensures count { IfOk result (λ n. n ≡ fitting self.old.store piece.now) }
         ensures some { IfOk result (λ n. 0 < length piece.now → 0 < n) }
         ensures added { IfOk result (λ n. self.new.store.held ≡ self.old.store.held ++ take n piece.now) }
-        ensures failed { OnErr result ((self.new.store.held ≡ self.old.store.held) × (self.new.faults ≡ one_more self.old.faults)) }
+        ensures failed { OnErr result (self.new.store.held ≡ self.old.store.held) }
+        ensures counted { OnErr result (self.new.faults ≡ one_more self.old.faults) }
         ensures faults { OnOk result (self.new.faults ≡ self.old.faults) }
         ensures later { self.old.faults ≤ self.new.faults }
         ensures room { self.new.store.room ≡ self.old.store.room }
@@ -160,9 +163,9 @@ impl Sink for MemSink {
 
     /// Changes nothing that is held, and fails where this call is one of those that fail.
     fn flush(&mut self) -> Result<(), WriteFailed>
-        ensures cause { IsErr result ↔ Contains self.old.fails self.old.calls }
+        ensures planned { IsErr result ↔ Contains self.old.fails self.old.calls }
         ensures same { self.new.store ≡ self.old.store }
-        ensures failed { OnErr result (self.new.faults ≡ one_more self.old.faults) }
+        ensures counted { OnErr result (self.new.faults ≡ one_more self.old.faults) }
         ensures faults { OnOk result (self.new.faults ≡ self.old.faults) }
         ensures later { self.old.faults ≤ self.new.faults }
         ensures plan { (self.new.fails ≡ self.old.fails) × (self.new.calls ≡ one_more self.old.calls) }

@@ -1,5 +1,5 @@
 ghost use Rattle.std.specs.Prelude.{◌≡◌, ℕ, ◌-◌, ◌<◌, ◌≤◌, List, length, take, drop, Option, IfOk, OnOk, OnErr};
-ghost use Rattle.far_io.specs.Bytes.{Rose, Added};
+ghost use Rattle.far_io.specs.Bytes.{Rose, Added, AddedProperPrefix};
 
 use std::fmt;
 
@@ -31,7 +31,7 @@ pub trait Sink {
     /// of that kind.
     ghost fixed: { Self → ℕ };
 
-    /// Adds the first bytes of the piece behind what is held, and answers how many: at least one,
+    /// Adds the first bytes of the piece after what is held, and answers how many: at least one,
     /// unless the piece is empty.
     ///
     /// `WriteFailed` is answered only where the count of faults rose, and then nothing was added.
@@ -54,13 +54,13 @@ pub trait Sink {
         ensures fixed { fixed self.new ≡ fixed self.old };
 }
 
-/// Adds the whole text, or a part of its front where the sink fails.
+/// Adds the whole text, or a prefix of it where the sink fails.
 ///
-/// `WriteFailed` is answered only where the sink's count of faults rose; the part that was added is
+/// `WriteFailed` is answered only where the sink's count of faults rose; the prefix that was added is
 /// then shorter than the text, and stays. The call takes no memory and does not flush.
 pub fn write_all_of<K: Sink>(sink: &mut K, text: &[u8]) -> Result<(), WriteFailed>
     ensures ok { OnOk result (Added (K.held sink.old) (K.held sink.new) text.now) }
-    ensures prefix { OnErr result ((n : ℕ) × (n < length text.now) × Added (K.held sink.old) (K.held sink.new) (take n text.now)) }
+    ensures prefix { OnErr result (AddedProperPrefix (K.held sink.old) (K.held sink.new) text.now) }
     ensures cause { OnErr result (Rose (K.faults sink.old) (K.faults sink.new)) }
     ensures later { K.faults sink.old ≤ K.faults sink.new }
     ensures fixed { K.fixed sink.new ≡ K.fixed sink.old }
@@ -72,7 +72,7 @@ pub fn write_all_of<K: Sink>(sink: &mut K, text: &[u8]) -> Result<(), WriteFaile
     Ok(())
 }
 
-// Writes once from this place of the text on, and answers the place behind what was added.
+// Writes once from this place of the text on, and answers the place after what was added.
 fn write_from<K: Sink>(sink: &mut K, text: &[u8], at: usize) -> Result<usize, WriteFailed>
     requires { at < length text.now }
     ensures next { IfOk result (λ next. (at < next) × (next ≤ length text.now)) }

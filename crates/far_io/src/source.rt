@@ -1,6 +1,6 @@
-ghost use Rattle.std.specs.Prelude.{◌≡◌, ℕ, ◌+◌, ◌^◌, ◌<◌, ◌≤◌, List, length, take, Option, IfOk, OnErr, Err};
+ghost use Rattle.std.specs.Prelude.{◌≡◌, ℕ, ◌+◌, ◌^◌, ◌<◌, ◌≤◌, List, length, take, Option, IfOk, OnOk, OnErr, Err};
 ghost use Rattle.far_io.specs.declared.source.InputFault.TheVariants.{Read, Long};
-ghost use Rattle.far_io.specs.Bytes.{Rose, Took, IsDry};
+ghost use Rattle.far_io.specs.Bytes.{Rose, Took, TookPrefix, TookMore, TookAtMost, IsDry};
 
 use std::alloc::{AllocError, Global};
 use std::fmt;
@@ -29,7 +29,7 @@ pub trait Source {
     /// How many calls have failed. It never falls, and it stays at 2^64 - 1 once it is there.
     ghost faults: { Self → ℕ };
 
-    /// Moves the first bytes that are left into the front of the buffer, and answers how many.
+    /// Moves the first bytes that are left to the start of the buffer, and answers how many.
     ///
     /// For a buffer that is not empty, 0 is the end of input. `ReadFailed` is answered only where
     /// the count of faults rose, and leaves the bytes as they were. What stands in the rest of the
@@ -86,19 +86,20 @@ impl From<AllocError> for InputFault {
 ///
 /// `bound` is below 2^32. `Long` is answered exactly where more than `bound` bytes came, `Read` only
 /// where the source's count of faults rose, and `Memory` where memory ran out. Whatever is answered,
-/// what went from the source is a front of the bytes that it had left; an error drops them.
+/// what went from the source is a prefix of the bytes that it had left; an error drops them.
 pub fn read_all<S: Source>(
     alloc: Global,
     source: &mut S,
     bound: usize,
 ) -> Result<Vec<u8>, InputFault>
     requires { bound < 2 ^ 32 }
-    ensures all { IfOk result (λ bytes. Took (S.left source.old) (S.left source.new) bytes.items × IsDry (S.left source.new)) }
+    ensures all { IfOk result (λ bytes. Took (S.left source.old) (S.left source.new) bytes.items) }
+    ensures dry { OnOk result (IsDry (S.left source.new)) }
     ensures short { IfOk result (λ bytes. length bytes.items ≤ bound) }
-    ensures long { result ≡ Err Long → (taken : List ℕ) × Took (S.left source.old) (S.left source.new) taken × (bound < length taken) }
-    ensures front { OnErr result ((taken : List ℕ) × Took (S.left source.old) (S.left source.new) taken) }
+    ensures long { result ≡ Err Long → TookMore bound (S.left source.old) (S.left source.new) }
+    ensures prefix { OnErr result (TookPrefix (S.left source.old) (S.left source.new)) }
     ensures failed { result ≡ Err Read → Rose (S.faults source.old) (S.faults source.new) }
-    ensures within { result ≡ Err Read → (taken : List ℕ) × Took (S.left source.old) (S.left source.new) taken × (length taken ≤ bound) }
+    ensures within { result ≡ Err Read → TookAtMost bound (S.left source.old) (S.left source.new) }
     ensures later { S.faults source.old ≤ S.faults source.new }
 {
     let mut bytes: Vec<u8> = Vec::new(alloc);

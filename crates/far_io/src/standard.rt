@@ -41,7 +41,7 @@ impl<R: Read + Drop> Source for StdSource<R> {
     fn read(&mut self, buf: &mut [u8]) -> Result<usize, ReadFailed>
         ensures count { IfOk result (λ n. n ≤ length buf.old) }
         ensures bytes { ReadConsumes self.old.known self.new.known result buf.new }
-        ensures failed { OnErr result (self.new.faults ≡ one_more self.old.faults) }
+        ensures counted { OnErr result (self.new.faults ≡ one_more self.old.faults) }
         ensures faults { OnOk result (self.new.faults ≡ self.old.faults) }
         ensures later { self.old.faults ≤ self.new.faults }
     {
@@ -94,7 +94,7 @@ impl<W: Write + Drop> Sink for StdSink<W> {
         ensures count { IfOk result (λ n. n ≤ length piece.now) }
         ensures some { IfOk result (λ n. 0 < length piece.now → 0 < n) }
         ensures bytes { WriteAppends self.old.known self.new.known result piece.now }
-        ensures failed { OnErr result (self.new.faults ≡ one_more self.old.faults) }
+        ensures counted { OnErr result (self.new.faults ≡ one_more self.old.faults) }
         ensures faults { OnOk result (self.new.faults ≡ self.old.faults) }
         ensures later { self.old.faults ≤ self.new.faults }
     {
@@ -114,7 +114,7 @@ impl<W: Write + Drop> Sink for StdSink<W> {
     /// Flushes the writer. It fails where that does, and counts that.
     fn flush(&mut self) -> Result<(), WriteFailed>
         ensures bytes { Keeps self.old.known self.new.known }
-        ensures failed { OnErr result (self.new.faults ≡ one_more self.old.faults) }
+        ensures counted { OnErr result (self.new.faults ≡ one_more self.old.faults) }
         ensures faults { OnOk result (self.new.faults ≡ self.old.faults) }
         ensures later { self.old.faults ≤ self.new.faults }
     {

@@ -52,8 +52,8 @@ impl Room {
     }
 }
 
-// Copies the front of the bytes into the front of the buffer, and says how many.
-pub(crate) fn copy_front(bytes: &[u8], buf: &mut [u8]) -> usize
+// Copies a prefix of the bytes to the start of the buffer, and says how many bytes it has.
+pub(crate) fn copy_prefix(bytes: &[u8], buf: &mut [u8]) -> usize
     ensures count { result ≡ min (length bytes.now) (length buf.old) }
     ensures copied { take result buf.new ≡ take result bytes.now }
     ensures rest { drop result buf.new ≡ drop result buf.old }

@@ -1,7 +1,7 @@
 ghost use Rattle.std.specs.Prelude.{◌≡◌, ℕ, ◌<◌, ◌≤◌, ◌↔◌, [], ◌++◌, length, take, drop, min, IsErr, IsOk, IfOk, OnOk, OnErr, Some};
-ghost use Rattle.far_io.specs.Memory.{one_more, fitting, sure_faults};
+ghost use Rattle.far_io.specs.Memory.{one_more, fitting, IsFull, sure_faults};
 
-use crate::store::{Room, copy_front};
+use crate::store::{Room, copy_prefix};
 use crate::{ReadFailed, Sink, Source, WriteFailed};
 use ratio128::Memory;
 use std::alloc::Global;
@@ -45,7 +45,7 @@ impl Source for SureSource {
         ensures taken { IfOk result (λ n. self.old ≡ take n buf.new ++ self.new) }
         ensures rest { IfOk result (λ n. drop n buf.new ≡ drop n buf.old) }
     {
-        let n = copy_front(&self.bytes[self.at..], buf);
+        let n = copy_prefix(&self.bytes[self.at..], buf);
         self.at += n;
         Ok(n)
     }
@@ -96,11 +96,12 @@ impl Sink for SureSink {
     /// Adds as much of the piece as there is room for. It fails exactly where the piece is not
     /// empty and there is no room; it then adds nothing and counts one fault.
     fn write(&mut self, piece: &[u8]) -> Result<usize, WriteFailed>
-        ensures full { IsErr result ↔ ((0 < length piece.now) × (length self.old.store.held ≡ self.old.store.room)) }
+        ensures full { IsErr result ↔ IsFull self.old.store piece.now }
         ensures count { IfOk result (λ n. n ≡ fitting self.old.store piece.now) }
         ensures some { IfOk result (λ n. 0 < length piece.now → 0 < n) }
         ensures added { IfOk result (λ n. self.new.store.held ≡ self.old.store.held ++ take n piece.now) }
-        ensures failed { OnErr result ((self.new.store.held ≡ self.old.store.held) × (self.new.failures ≡ one_more self.old.failures)) }
+        ensures failed { OnErr result (self.new.store.held ≡ self.old.store.held) }
+        ensures counted { OnErr result (self.new.failures ≡ one_more self.old.failures) }
         ensures failures { OnOk result (self.new.failures ≡ self.old.failures) }
         ensures later { sure_faults self.old ≤ sure_faults self.new }
         ensures room { self.new.store.room ≡ self.old.store.room }

@@ -7,8 +7,6 @@ mod memory;
 mod multiple;
 mod point;
 mod steps;
-#[cfg(test)]
-mod tests;
 
 pub use divisor::{Frac, gcd, lowest};
 pub use memory::Memory;

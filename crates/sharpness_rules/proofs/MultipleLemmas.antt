@@ -8,7 +8,7 @@ use Rattle.ratio128.specs.Ratio.{IsLcm}
 use Rattle.ratio128.proofs.LcmLemmas.{IsLcm-from_IsGcd, IsLcm-unique}
 use Rattle.subdiv_model.specs.Fractions.{gcd_of}
 use Rattle.subdiv_model.specs.Multiples.{lcm_of, lcm_of_all, common_denominator}
-use Rattle.subdiv_model.proofs.FractionLemmas.{gcd_of-is}
+use Rattle.number_laws.proofs.FractionLemmas.{gcd_of-is}
 
 IsLcm-of_zeros : (a b m : ℕ) → a ≡ 0 → IsLcm a b (a * m)
 IsLcm-of_zeros a b m e =
@@ -80,16 +80,16 @@ pub common_denominator-push : (values : List (ℕ × ℕ)) (x : ℕ × ℕ) → 
 common_denominator-push values x =
     ap lcm_of_all (map_push (λ y. y.1) values x) ∙ lcm_of_all-push (map (λ y. y.1) values) x.1
 
-pub common_denominator-front : (xs ys : List (ℕ × ℕ)) → common_denominator xs ∣ common_denominator (xs ++ ys)
-common_denominator-front [] ys = one-dvd _
-common_denominator-front (x ∷ xs) ys =
+pub common_denominator-prefix : (xs ys : List (ℕ × ℕ)) → common_denominator xs ∣ common_denominator (xs ++ ys)
+common_denominator-prefix [] ys = one-dvd _
+common_denominator-prefix (x ∷ xs) ys =
     let all = lcm_of-is x.1 (common_denominator (xs ++ ys)) in
-    (lcm_of-is x.1 (common_denominator xs)).least _ all.first (dvd_trans (common_denominator xs) (common_denominator-front xs ys) all.second)
+    (lcm_of-is x.1 (common_denominator xs)).least _ all.first (dvd_trans (common_denominator xs) (common_denominator-prefix xs ys) all.second)
 
 -- more values have no lesser denominator
 pub common_denominator-more : (xs ys : List (ℕ × ℕ)) (bound : ℕ) → AreProper (xs ++ ys) → bound < common_denominator xs → bound < common_denominator (xs ++ ys)
 common_denominator-more xs ys bound positive passed =
-    let less : common_denominator xs ≤ common_denominator (xs ++ ys) = le_of_dvd (common_denominator-positive (xs ++ ys) positive) (common_denominator-front xs ys) in
+    let less : common_denominator xs ≤ common_denominator (xs ++ ys) = le_of_dvd (common_denominator-positive (xs ++ ys) positive) (common_denominator-prefix xs ys) in
     omega arith
 
 -- one value alone has a denominator that is not too great

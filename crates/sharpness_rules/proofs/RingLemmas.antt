@@ -8,7 +8,7 @@ use Rattle.std.proofs.lemmas.List.Sums.{sum_by-append, sum_by_push}
 use Rattle.std.proofs.lemmas.Nat.Gcd.{dvd_trans}
 use Rattle.std.proofs.Math.Nat.{mul-le-mul_right}
 use Rattle.subdiv_model.specs.Multiples.{common_denominator}
-use Rattle.subdiv_model.specs.Polygons.{places_from}
+use Rattle.subdiv_model.specs.Lists.{places_from}
 use Rattle.subdiv_model.specs.Sharpness as model
 use Rattle.subdiv_model.specs.Sharpness.{is_sharp, semi_values}
 use Rattle.sharpness_rules.specs.declared.sharpness.Semi.{Semi}
@@ -16,7 +16,7 @@ use Rattle.sharpness_rules.specs.declared.sharpness.Sharpness.{Sharpness}
 use Rattle.sharpness_rules.specs.declared.sharpness.Sharpness.TheVariants as variant
 use Rattle.sharpness_rules.specs.Totals.{parts_over}
 use Rattle.sharpness_rules.specs.View.{sharpness_of}
-use Rattle.sharpness_rules.proofs.MultipleLemmas.{IsProper, AreProper, AreProper-append, common_denominator-front, common_denominator-more, common_denominator-push, lcm_of-is, too_fine-several}
+use Rattle.sharpness_rules.proofs.MultipleLemmas.{IsProper, AreProper, AreProper-append, common_denominator-prefix, common_denominator-more, common_denominator-push, lcm_of-is, too_fine-several}
 
 -- an edge at a place is sharp or not
 pub places-at : (ring : List Sharpness) (place : ℕ) (s : Sharpness) → place < length ring → s ≡ get_or ring place s → is_sharp (sharpness_of s) ≡ true → places_from place is_sharp (drop place (map sharpness_of ring)) ≡ place ∷ places_from (place + 1) is_sharp (drop (place + 1) (map sharpness_of ring))
@@ -37,7 +37,7 @@ places-after ring place s within read soft =
     ∙ ap (λ x. cond (is_sharp x) (place ∷ rest) rest) here
     ∙ cond-false (is_sharp (sharpness_of s)) (place ∷ rest) rest soft
 
--- the values before a place, at it and behind it
+-- the values before a place, at it and after it
 flat_map-split : {X : Type 0} (f : X → List (ℕ × ℕ)) (xs : List X) (i : ℕ) (d : X) → i < length xs → flat_map f xs ≡ (flat_map f (take i xs) ++ f (get_or xs i d)) ++ flat_map f (drop (suc i) xs)
 flat_map-split f [] i d h = absurd (omega arith)
 flat_map-split f (x ∷ xs) zero d h = refl
@@ -47,20 +47,20 @@ flat_map-split f (x ∷ xs) (suc i) d h =
     ∙ ap (λ r. r ++ flat_map f (drop (suc i) xs)) (sym (append_assoc (f x) (flat_map f (take i xs)) (f (get_or xs i d))))
 
 -- what is too fine already stays so
-pub too_fine-split : {X : Type 0} (f : X → List (ℕ × ℕ)) (front : List (ℕ × ℕ)) (xs : List X) (i : ℕ) (d : X) → i < length xs → AreProper (front ++ flat_map f xs) → 2 ^ 60 < common_denominator ((front ++ flat_map f (take i xs)) ++ f (get_or xs i d)) → 2 ^ 60 < common_denominator (front ++ flat_map f xs)
-too_fine-split f front xs i d h proper passed =
+pub too_fine-split : {X : Type 0} (f : X → List (ℕ × ℕ)) (prefix : List (ℕ × ℕ)) (xs : List X) (i : ℕ) (d : X) → i < length xs → AreProper (prefix ++ flat_map f xs) → 2 ^ 60 < common_denominator ((prefix ++ flat_map f (take i xs)) ++ f (get_or xs i d)) → 2 ^ 60 < common_denominator (prefix ++ flat_map f xs)
+too_fine-split f prefix xs i d h proper passed =
     let here = f (get_or xs i d) in
-    let back = flat_map f (drop (suc i) xs) in
-    let split : front ++ flat_map f xs ≡ ((front ++ flat_map f (take i xs)) ++ here) ++ back = ap (λ r. front ++ r) (flat_map-split f xs i d h)
-    ∙ sym (append_assoc front (flat_map f (take i xs) ++ here) back)
-    ∙ ap (λ r. r ++ back) (sym (append_assoc front (flat_map f (take i xs)) here)) in
+    let after = flat_map f (drop (suc i) xs) in
+    let split : prefix ++ flat_map f xs ≡ ((prefix ++ flat_map f (take i xs)) ++ here) ++ after = ap (λ r. prefix ++ r) (flat_map-split f xs i d h)
+    ∙ sym (append_assoc prefix (flat_map f (take i xs) ++ here) after)
+    ∙ ap (λ r. r ++ after) (sym (append_assoc prefix (flat_map f (take i xs)) here)) in
     let Q : List (ℕ × ℕ) → Type 0 = λ values. 2 ^ 60 < common_denominator values in
-    subst Q (sym split) (common_denominator-more ((front ++ flat_map f (take i xs)) ++ here) back (2 ^ 60) (subst AreProper split proper) passed)
+    subst Q (sym split) (common_denominator-more ((prefix ++ flat_map f (take i xs)) ++ here) after (2 ^ 60) (subst AreProper split proper) passed)
 
 -- one item more
-pub flat_map-next : {X : Type 0} (f : X → List (ℕ × ℕ)) (front : List (ℕ × ℕ)) (xs : List X) (i : ℕ) (d : X) → i < length xs → (front ++ flat_map f (take i xs)) ++ f (get_or xs i d) ≡ front ++ flat_map f (take (i + 1) xs)
-flat_map-next f front xs i d h =
-    flat_map_more f front (take i xs) (get_or xs i d) ∙ ap (λ r. front ++ flat_map f r) (sym (take_more xs i d h))
+pub flat_map-next : {X : Type 0} (f : X → List (ℕ × ℕ)) (prefix : List (ℕ × ℕ)) (xs : List X) (i : ℕ) (d : X) → i < length xs → (prefix ++ flat_map f (take i xs)) ++ f (get_or xs i d) ≡ prefix ++ flat_map f (take (i + 1) xs)
+flat_map-next f prefix xs i d h =
+    flat_map_more f prefix (take i xs) (get_or xs i d) ∙ ap (λ r. prefix ++ flat_map f r) (sym (take_more xs i d h))
 
 pub length-flat_map : {X : Type 0} (f : X → List (ℕ × ℕ)) → ((x : X) → length (f x) ≤ 1) → (xs : List X) → length (flat_map f xs) ≤ length xs
 length-flat_map f short [] = omega arith
@@ -102,7 +102,7 @@ pub ring-too_fine : (ring : List Sharpness) (i : ℕ) (s : Sharpness) → i < le
 ring-too_fine ring i s within read passed =
     let inside : i < length (map sharpness_of ring) = rw length-map within in
     let here : sharpness_of s ≡ get_or (map sharpness_of ring) i model.Smooth = ap sharpness_of read ∙ sym (get_or-map sharpness_of ring i s model.Smooth within) in
-    let P : List model.Sharpness → Type 0 = λ front. 2 ^ 60 < common_denominator (flat_map semi_values front ++ semi_values (sharpness_of s)) in
+    let P : List model.Sharpness → Type 0 = λ prefix. 2 ^ 60 < common_denominator (flat_map semi_values prefix ++ semi_values (sharpness_of s)) in
     let Q : model.Sharpness → Type 0 = λ x. 2 ^ 60 < common_denominator (flat_map semi_values (take i (map sharpness_of ring)) ++ semi_values x) in
     too_fine-split semi_values [] (map sharpness_of ring) i model.Smooth inside (ring-proper ring) (subst Q here (subst P (sym (take-map sharpness_of i ring)) passed))
 
@@ -116,13 +116,13 @@ edge-split ring at d value within read =
     flat_map-split semi_values (map sharpness_of ring) at model.Smooth inside
     ∙ ap (λ x. (flat_map semi_values (take at (map sharpness_of ring)) ++ semi_values x) ++ flat_map semi_values (drop (suc at) (map sharpness_of ring))) (edge-at ring at d value within read)
 
-middle-divides : (front back : List (ℕ × ℕ)) (x : ℕ × ℕ) → x.1 ∣ common_denominator ((front ++ x ∷ []) ++ back)
-middle-divides front back x =
+middle-divides : (prefix after : List (ℕ × ℕ)) (x : ℕ × ℕ) → x.1 ∣ common_denominator ((prefix ++ x ∷ []) ++ after)
+middle-divides prefix after x =
     let P : ℕ → Type 0 = λ m. x.1 ∣ m in
-    dvd_trans x.1 (subst P (sym (common_denominator-push front x)) (lcm_of-is (common_denominator front) x.1).second) (common_denominator-front (front ++ x ∷ []) back)
+    dvd_trans x.1 (subst P (sym (common_denominator-push prefix x)) (lcm_of-is (common_denominator prefix) x.1).second) (common_denominator-prefix (prefix ++ x ∷ []) after)
 
-middle-parts : (front back : List (ℕ × ℕ)) (x : ℕ × ℕ) (den : ℕ) → parts_over den x ≤ sum_by (parts_over den) ((front ++ x ∷ []) ++ back)
-middle-parts front back x den = omega (arith, sum_by-append (parts_over den) (front ++ x ∷ []) back, sum_by_push (parts_over den) front x)
+middle-parts : (prefix after : List (ℕ × ℕ)) (x : ℕ × ℕ) (den : ℕ) → parts_over den x ≤ sum_by (parts_over den) ((prefix ++ x ∷ []) ++ after)
+middle-parts prefix after x den = omega (arith, sum_by-append (parts_over den) (prefix ++ x ∷ []) after, sum_by_push (parts_over den) prefix x)
 
 pub edge-divides : (ring : List Sharpness) (at : ℕ) (d : Sharpness) (value : Semi) → at < length ring → get_or ring at d ≡ variant.Semi value → value.den ∣ common_denominator (ring_values ring)
 edge-divides ring at d value within read =

@@ -8,8 +8,8 @@ use Rattle.ratio128.proofs.RatioLemmas.{IsGcd-positive, IsGcd-quotients, quotien
 use Rattle.subdiv_model.specs.Fractions.{gcd_of, lowest}
 use Rattle.subdiv_model.specs.Rule.{at_most_one}
 use Rattle.subdiv_model.specs.Sharpness.{Infinite, semi_of, sharpness_of}
-use Rattle.subdiv_model.proofs.FractionLemmas.{gcd_of-is}
-use Rattle.subdiv_model.proofs.DivisorLemmas.{lowest-same}
+use Rattle.number_laws.proofs.FractionLemmas.{gcd_of-is}
+use Rattle.number_laws.proofs.DivisorLemmas.{lowest-same}
 
 -- a fraction, its greatest common divisor taken out
 pub record AreParts (num den g : ℕ) : Type 0 where

@@ -66,7 +66,8 @@ fn half_of(edge: Semi, total: Total) -> Result<Sharpness, SharpOverflow>
     ensures overflow { IsErr result ↔ (2 ^ 60 < 4 * (total.count - 1) * total.den) }
     ensures half { let own = parts_over total.den (edge.num, edge.den) in
         let whole = 4 * (total.count - 1) * total.den in
-        IfOk result (λ s. sharpness_of s ≡ sharpness_of_fraction (3 * (total.count - 1) * own + (total.num - own) - whole, whole)) }
+        IfOk result (λ s. sharpness_of s
+        ≡ sharpness_of_fraction (3 * (total.count - 1) * own + (total.num - own) - whole, whole)) }
 {
     let others = (total.count - 1) as u128;
     let Some(den) = times_within(4 * others, total.den, GREATEST_DENOMINATOR) else {

@@ -11,8 +11,6 @@ mod overflow;
 mod rule;
 mod sharpness;
 mod sums;
-#[cfg(test)]
-mod tests;
 mod total;
 mod weight;
 

@@ -25,7 +25,8 @@ pub fn parts_of(value: Semi, den: u128) -> u128
 // exactly where the common denominator passes 2^60.
 fn plus(total: Total, s: Sharpness) -> Result<Total, SharpOverflow>
     requires room { total.count < 2 ^ 32 }
-    ensures { (values : List (ℕ × ℕ)) → IsTotal values total → Sums (values ++ semi_values (sharpness_of s)) result }
+    ensures { (values : List (ℕ × ℕ)) → IsTotal values total
+        → Sums (values ++ semi_values (sharpness_of s)) result }
 {
     let Sharpness::Semi(value) = s else {
         return Ok(total);
@@ -74,7 +75,8 @@ pub fn total_of_ended(
 ) -> Result<Total, SharpOverflow>
     requires short { length ring.now < 2 ^ 32 }
     requires same_length { length ring.now ≡ length ring_child.now }
-    ensures { Sums (ended_values (sharpness_of vertex) (sharpness_of vertex_child) (map sharpness_of ring.now) (map sharpness_of ring_child.now)) result }
+    ensures { Sums (ended_values (sharpness_of vertex) (sharpness_of vertex_child)
+        (map sharpness_of ring.now) (map sharpness_of ring_child.now)) result }
 {
     let mut total = plus(Total::none(), ended(vertex, vertex_child))?;
     for (i, s) in ring.iter().enumerate() {

@@ -8,7 +8,7 @@ use crate::total::Total;
 use crate::{SharpOverflow, Sharpness};
 use ratio128::{gcd, times_within};
 
-/// A fraction in lowest terms, above 0 and at most 1: the part that the mask of this level has.
+/// A fraction in lowest terms, above 0 and at most 1: how much the mask of this level counts.
 #[derive(Clone, Copy, Debug, PartialEq, Eq)]
 pub struct Weight {
     pub num: u64,
@@ -31,8 +31,10 @@ pub fn transition_weight(
 ) -> Result<Weight, SharpOverflow>
     requires short { length ring.now < 2 ^ 32 }
     requires same_length { length ring.now ≡ length ring_child.now }
-    ensures overflow { IsErr result ↔ IsTrue (transition_overflows (sharpness_of vertex) (sharpness_of vertex_child) (map sharpness_of ring.now) (map sharpness_of ring_child.now)) }
-    ensures weight { IfOk result (λ w. (w.num, w.den) ≡ transition_weight (sharpness_of vertex) (sharpness_of vertex_child) (map sharpness_of ring.now) (map sharpness_of ring_child.now)) }
+    ensures overflow { IsErr result ↔ IsTrue (transition_overflows (sharpness_of vertex) (sharpness_of vertex_child)
+        (map sharpness_of ring.now) (map sharpness_of ring_child.now)) }
+    ensures weight { IfOk result (λ w. (w.num, w.den) ≡ transition_weight (sharpness_of vertex) (sharpness_of vertex_child)
+        (map sharpness_of ring.now) (map sharpness_of ring_child.now)) }
     ensures range { IfOk result (λ w. (0 < w.num) × (w.num ≤ w.den) × (w.den ≤ 2 ^ 60)) }
 {
     let total = total_of_ended(vertex, vertex_child, ring, ring_child)?;

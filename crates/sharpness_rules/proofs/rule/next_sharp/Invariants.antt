@@ -1,5 +1,5 @@
 use Rattle.std.proofs.Common.{◌≡◌, drop, map}
-use Rattle.subdiv_model.specs.Polygons.{places_from}
+use Rattle.subdiv_model.specs.Lists.{places_from}
 use Rattle.subdiv_model.specs.Sharpness.{is_sharp}
 use Rattle.sharpness_rules.specs.View.{sharpness_of}
 use Rattle.sharpness_rules.proofs.rule.next_sharp.Given as goal

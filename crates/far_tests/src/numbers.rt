@@ -1,9 +1,10 @@
+// Whole numbers, fractions, and the counter of steps.
+
 ghost use Rattle.std.specs.Prelude.{◌≡◌, ◌+◌, ◌<◌};
 
-use crate::*;
+use ratio128::{Frac, Steps, gcd, lcm_within, lowest, times_within};
 use std::marker::Brand;
 use std::sync::ledger::{Blank, Ledger};
-use std::test::Fail;
 
 #[test]
 fn divides(rt: HostRuntime) {
@@ -20,15 +21,17 @@ fn divides(rt: HostRuntime) {
 
 #[test]
 fn reduces(rt: HostRuntime) {
-    assert_eq!(rt; lowest(-10, 18), Frac { num: -5, den: 9 });
-    assert_eq!(rt; lowest(0, 12), Frac { num: 0, den: 1 });
-    assert_eq!(rt;
-        lowest(i128::MAX, 1),
-        Frac {
-            num: i128::MAX,
-            den: 1
-        }
-    );
+    for (num, den, want) in [
+        (-10, 18, (-5, 9)),
+        (0, 12, (0, 1)),
+        (i128::MAX, 1, (i128::MAX, 1)),
+    ] {
+        let Frac {
+            num: top,
+            den: bottom,
+        } = lowest(num, den);
+        assert_eq!(rt; (top, bottom), want, "{num} over {den}");
+    }
 }
 
 #[test]
@@ -43,14 +46,9 @@ fn keeps_within_a_bound(rt: HostRuntime) {
         (1 << 64, 1 << 63, 1 << 127, Some(1 << 64), Some(1 << 127)),
     ] {
         assert_eq!(rt;
-            lcm_within(a, b, bound),
-            multiple,
-            "lcm of {a} and {b} within {bound}"
-        );
-        assert_eq!(rt;
-            times_within(a, b, bound),
-            product,
-            "{a} times {b} within {bound}"
+            (lcm_within(a, b, bound), times_within(a, b, bound)),
+            (multiple, product),
+            "{a} and {b} within {bound}"
         );
     }
     assert_eq!(rt; times_within(0, top, 0), Some(0));
@@ -75,11 +73,4 @@ fn count_from<L: Ledger>(blank: Blank)
 #[test]
 fn counts() {
     count_from::<Brand>(Blank::new(1));
-}
-
-#[test]
-fn names_its_fault(rt: HostRuntime) -> Result<(), Fail> {
-    let text = format!(in rt.alloc(); "{Memory}")?;
-    assert_eq!(rt; text.as_str(), "out of memory");
-    Ok(())
 }

@@ -1,4 +1,4 @@
-use Rattle.ratio128.proofs.tests.counts.Given as goal
+use Rattle.far_tests.proofs.numbers.counts.Given as goal
 
 -- the ledger of this one counter
 abbrev pub ghosts-count_from : goal.ghosts-count_from

@@ -1,8 +1,13 @@
-use crate::*;
+// Sharpness of edges and vertices, its fall from level to level, rules and weights.
+
+use sharpness_rules::{
+    Rule, SharpOverflow, Sharpness, Weight, chaikin_child, transition_weight, uniform_child,
+    vertex_rule,
+};
 use std::test::Fail;
 
 #[test]
-fn makes_sharpness(rt: HostRuntime) {
+fn makes_semi_sharp_fractions(rt: HostRuntime) {
     let top = 1 << 60;
     for (made, num, den) in [
         (Sharpness::new(6, 4), 3, 2),
@@ -15,14 +20,16 @@ fn makes_sharpness(rt: HostRuntime) {
             assert!(rt; false, "{num}/{den} is semi-sharp");
         }
     }
-    assert_eq!(rt; Sharpness::new(0, 7), Sharpness::Smooth);
-    assert_eq!(rt; Sharpness::new(20, 2), Sharpness::Infinite);
-    assert_eq!(rt; Sharpness::new(10 * top, top), Sharpness::Infinite);
 }
 
+// Smooth and infinite ones, also where they are made of a fraction, stay.
 #[test]
 fn makes_uniform_children(rt: HostRuntime) {
+    let top = 1 << 60;
     for (s, want) in [
+        (Sharpness::new(0, 7), Sharpness::Smooth),
+        (Sharpness::new(20, 2), Sharpness::Infinite),
+        (Sharpness::new(10 * top, top), Sharpness::Infinite),
         (Sharpness::Smooth, Sharpness::Smooth),
         (Sharpness::Infinite, Sharpness::Infinite),
         (Sharpness::new(5, 2), Sharpness::new(3, 2)),
@@ -176,11 +183,4 @@ fn takes_many_denominators(rt: HostRuntime) {
         Err(SharpOverflow)
     );
     assert_eq!(rt; vertex_rule(Sharpness::Smooth, &ring), Rule::Corner);
-}
-
-#[test]
-fn names_its_fault(rt: HostRuntime) -> Result<(), Fail> {
-    let text = format!(in rt.alloc(); "{SharpOverflow}")?;
-    assert_eq!(rt; text.as_str(), "a denominator passes 2^60");
-    Ok(())
 }

@@ -1,0 +1,400 @@
+// Whole runs, and the lines of their faults.
+
+ghost use Rattle.std.specs.Prelude.{◌≡◌, ◌+◌, ◌<◌, length, map, string_bytes, Err};
+ghost use Rattle.far_engine.specs.declared.fault.FarFault.TheVariants.{Read, Write};
+ghost use Rattle.far_engine.specs.Outcome.{text_of};
+
+use far_engine::{FarFault, program, report, run, status};
+use far_io::{MemSink, MemSource, SureSink, SureSource, WriteFailed};
+use obj_tags::ObjCause;
+use ratio128::Steps;
+use std::alloc::{AllocError, Global};
+use std::marker::Brand;
+use std::sync::ledger::{Blank, Ledger};
+use std::test::Fail;
+
+// Over memory with room for the text and one byte more, no read and no write is answered as failed:
+// this follows from the clauses of `run` alone.
+fn run_surely<L: Ledger>(
+    alloc: Global,
+    words: &Vec<String>,
+    source: &mut SureSource,
+    sink: &mut SureSink,
+    steps: &mut Steps<L>,
+) -> Result<(), FarFault>
+    ensures no_read { result ≡ Err Read → ⊥ }
+    ensures no_write { length sink.old.store.held + length (text_of (map string_bytes words.now.items) source.old) < sink.old.store.room → result ≡ Err Write → ⊥ }
+{
+    run(alloc, words, source, sink, steps)
+}
+
+fn surely_counted<L: Ledger>(
+    alloc: Global,
+    blank: Blank,
+    words: &Vec<String>,
+    source: &mut SureSource,
+    sink: &mut SureSink,
+) -> Result<(), FarFault>
+    requires name { blank.name ≡ L.name }
+    requires parts { blank.parts ≡ L.parts }
+    requires some { 0 < blank.parts }
+{
+    run_surely(
+        alloc,
+        words,
+        source,
+        sink,
+        &mut Steps::start(blank.open::<L>()),
+    )
+}
+
+fn program_counted<L: Ledger>(
+    alloc: Global,
+    blank: Blank,
+    words: &Vec<String>,
+    source: &mut MemSource,
+    sink: &mut MemSink,
+    errors: &mut MemSink,
+) -> u8
+    requires name { blank.name ≡ L.name }
+    requires parts { blank.parts ≡ L.parts }
+    requires some { 0 < blank.parts }
+{
+    program(
+        alloc,
+        words,
+        source,
+        sink,
+        errors,
+        &mut Steps::start(blank.open::<L>()),
+    )
+}
+
+fn words_of(alloc: Global, text: &str) -> Result<Vec<String>, AllocError> {
+    let mut words = Vec::new(alloc);
+    for word in text.split_whitespace() {
+        words.push(String::from_str(alloc, word)?)?;
+    }
+    Ok(words)
+}
+
+const TRIANGLES: &str = "v 0 0 0\nv 12 0 0\nv 0 12 0\nf 1 2 3\nf 1 3 2\n";
+
+const TRIANGLES_REFINED: &str =
+    "v 5 5 0\nv 2 5 0\nv 5 2 0\nv 4 4 0\nv 4 4 0\nv 5 2 0\nv 5 5 0\nv 2 5 0\nf 1 6 4 8\nf 2 7 4 6\nf 3 8 4 7\nf 1 8 5 6\nf 3 7 5 8\nf 2 6 5 7\n";
+
+const CUBE: &str =
+    "v -1 -1 1\nv 1 -1 1\nv -1 1 1\nv 1 1 1\nv -1 1 -1\nv 1 1 -1\nv -1 -1 -1\nv 1 -1 -1\nf 1 2 4 3\nf 3 4 6 5\nf 5 6 8 7\nf 7 8 2 1\nf 2 8 6 4\nf 7 1 3 5\n";
+
+// The cube in lines that end in CR LF, with a comment, decimals, and one face by negative indices.
+const OTHER_CUBE: &str =
+    "# a cube\r\nv -1.0 -1.0 1.0\r\nv 1.0 -1.0 1.0\r\nv -1.0 1.0 1.0\r\nv 1.0 1.0 1.0\r\nv -1.0 1.0 -1.0\r\nv 1.0 1.0 -1.0\r\nv -1.0 -1.0 -1.0\r\nv 1.0 -1.0 -1.0\r\nf 1 2 4 3\r\nf 3 4 6 5\r\nf 5 6 8 7\r\nf 7 8 2 1\r\nf 2 8 6 4\r\nf -2 -8 -6 -4\r\n";
+
+const CUBE_REFINED: &str =
+    "v -5/9 -5/9 5/9\nv 5/9 -5/9 5/9\nv -5/9 5/9 5/9\nv 5/9 5/9 5/9\nv -5/9 5/9 -5/9\nv 5/9 5/9 -5/9\nv -5/9 -5/9 -5/9\nv 5/9 -5/9 -5/9\n\
+    v 0 0 1\nv 0 1 0\nv 0 0 -1\nv 0 -1 0\nv 1 0 0\nv -1 0 0\n\
+    v 0 -3/4 3/4\nv 3/4 0 3/4\nv 0 3/4 3/4\nv -3/4 0 3/4\nv 3/4 3/4 0\nv 0 3/4 -3/4\nv -3/4 3/4 0\nv 3/4 0 -3/4\nv 0 -3/4 -3/4\nv -3/4 0 -3/4\nv 3/4 -3/4 0\nv -3/4 -3/4 0\n\
+    f 1 15 9 18\nf 2 16 9 15\nf 4 17 9 16\nf 3 18 9 17\nf 3 17 10 21\nf 4 19 10 17\nf 6 20 10 19\nf 5 21 10 20\n\
+    f 5 20 11 24\nf 6 22 11 20\nf 8 23 11 22\nf 7 24 11 23\nf 7 23 12 26\nf 8 25 12 23\nf 2 15 12 25\nf 1 26 12 15\n\
+    f 2 25 13 16\nf 8 22 13 25\nf 6 19 13 22\nf 4 16 13 19\nf 7 26 14 24\nf 1 18 14 26\nf 3 21 14 18\nf 5 24 14 21\n";
+
+const SQUARE: &str = "v 0 0 0\nv 4 0 0\nv 4 4 0\nv 0 4 0\nf 1 2 3 4\n";
+
+const REFINE: &str = "refine depth=1";
+
+const NOT_BUILT: FarFault = FarFault::NotBuilt { line: 0 };
+
+#[test]
+fn answers_words_and_texts(rt: HostRuntime) -> Result<(), Fail> {
+    let alloc = rt.alloc();
+    for (text, mesh, line, answer, written) in [
+        ("", "", "", Err(FarFault::Usage { word: 0 }), ""),
+        ("refine", "", "", Err(FarFault::Usage { word: 1 }), ""),
+        (
+            "refine depth=2",
+            "",
+            "",
+            Err(FarFault::Usage { word: 1 }),
+            "",
+        ),
+        (
+            "refine depth=1 x",
+            "",
+            "",
+            Err(FarFault::Usage { word: 2 }),
+            "",
+        ),
+        (REFINE, "", "", Ok(()), ""),
+        (REFINE, "", "v 7 8 9", Ok(()), "v 7 8 9\n"),
+        (REFINE, "", "v 0.50 -1e-1 .02", Ok(()), "v 1/2 -1/10 1/50\n"),
+        (REFINE, CUBE, "", Ok(()), CUBE_REFINED),
+        (REFINE, OTHER_CUBE, "", Ok(()), CUBE_REFINED),
+        (REFINE, TRIANGLES, "", Ok(()), TRIANGLES_REFINED),
+        (REFINE, TRIANGLES, "vt 0 0", Ok(()), TRIANGLES_REFINED),
+        (
+            REFINE,
+            TRIANGLES,
+            "t interpolateboundary 1/0/0 2",
+            Ok(()),
+            TRIANGLES_REFINED,
+        ),
+        (
+            REFINE,
+            TRIANGLES,
+            "t creasemethod 0/0/1 normal",
+            Ok(()),
+            TRIANGLES_REFINED,
+        ),
+        (
+            REFINE,
+            TRIANGLES,
+            "t interpolateboundary 1/0/0 1",
+            Err(NOT_BUILT),
+            "",
+        ),
+        (
+            REFINE,
+            TRIANGLES,
+            "t creasemethod 0/0/1 chaikin",
+            Err(NOT_BUILT),
+            "",
+        ),
+        (
+            REFINE,
+            TRIANGLES,
+            "t crease 2/1/0 0 1 0",
+            Err(NOT_BUILT),
+            "",
+        ),
+        (REFINE, TRIANGLES, "t corner 1/1/0 0 2", Err(NOT_BUILT), ""),
+        (REFINE, TRIANGLES, "t hole 1/0/0 0", Err(NOT_BUILT), ""),
+        (REFINE, TRIANGLES, "v 0 0 1e-18", Err(NOT_BUILT), ""),
+        (REFINE, TRIANGLES, "v 0 0 1e-19", Err(NOT_BUILT), ""),
+        (
+            REFINE,
+            "v 1e18 0 0\n",
+            "v 1000000000000000001 0 0",
+            Err(NOT_BUILT),
+            "",
+        ),
+        (REFINE, SQUARE, "", Err(NOT_BUILT), ""),
+        (
+            REFINE,
+            "v 0 0 0.5\n\n",
+            "v 0 nan",
+            Err(FarFault::Obj {
+                line: 3,
+                cause: ObjCause::ShortLine,
+            }),
+            "",
+        ),
+        (
+            REFINE,
+            TRIANGLES,
+            "t corner 1/1/0 3 2",
+            Err(FarFault::Obj {
+                line: 6,
+                cause: ObjCause::TagIndex,
+            }),
+            "",
+        ),
+        (
+            REFINE,
+            TRIANGLES,
+            "f 1 2 4",
+            Err(FarFault::Obj {
+                line: 6,
+                cause: ObjCause::IndexRange,
+            }),
+            "",
+        ),
+    ] {
+        let words = words_of(alloc, text)?;
+        let mut input = mesh.as_bytes().to_vec(alloc)?;
+        input.extend_from_slice(line.as_bytes())?;
+        let mut source = SureSource::new(input);
+        let mut sink = SureSink::with_room(alloc, 4096)?;
+        let given = surely_counted::<Brand>(alloc, Blank::new(1), &words, &mut source, &mut sink);
+        assert_eq!(rt; given, answer, "{text} on {mesh}{line}");
+        assert_eq!(rt; sink.bytes(), written.as_bytes(), "{text} on {mesh}{line}");
+    }
+    Ok(())
+}
+
+#[test]
+fn answers_calls_that_fail(rt: HostRuntime) -> Result<(), Fail> {
+    let alloc = rt.alloc();
+    // The call of the source, of the sink and of the sink for errors that fails, and none from 9 on.
+    for (text, read, write, tell, room, status, line, written) in [
+        (REFINE, 9, 9, 9, 4096, 0, "", TRIANGLES_REFINED),
+        (REFINE, 0, 9, 9, 4096, 3, "far: reading failed\n", ""),
+        (REFINE, 1, 9, 9, 4096, 3, "far: reading failed\n", ""),
+        (REFINE, 0, 9, 0, 4096, 3, "", ""),
+        (REFINE, 9, 0, 9, 4096, 10, "far: writing failed\n", ""),
+        // The flush.
+        (
+            REFINE,
+            9,
+            1,
+            9,
+            4096,
+            10,
+            "far: writing failed\n",
+            TRIANGLES_REFINED,
+        ),
+        (REFINE, 9, 9, 9, 8, 10, "far: writing failed\n", "v 5 5 0\n"),
+        (
+            "refine",
+            0,
+            0,
+            9,
+            4096,
+            2,
+            "far: word 1 is not understood\n",
+            "",
+        ),
+        ("refine", 0, 0, 1, 4096, 2, "far: ", ""),
+    ] {
+        let words = words_of(alloc, text)?;
+        let mut source = MemSource::new(TRIANGLES.as_bytes().to_vec(alloc)?, vec![in alloc; read]?);
+        let mut sink = MemSink::with_room(alloc, room, vec![in alloc; write]?)?;
+        let mut errors = MemSink::with_room(alloc, 64, vec![in alloc; tell]?)?;
+        let given = program_counted::<Brand>(
+            alloc,
+            Blank::new(1),
+            &words,
+            &mut source,
+            &mut sink,
+            &mut errors,
+        );
+        assert_eq!(rt;
+            given,
+            status,
+            "{text} with read {read}, write {write} and line {tell} failing"
+        );
+        assert_eq!(rt; errors.bytes(), line.as_bytes());
+        assert_eq!(rt; sink.bytes(), written.as_bytes());
+    }
+    Ok(())
+}
+
+fn obj(line: u32, cause: ObjCause) -> FarFault {
+    FarFault::Obj { line, cause }
+}
+
+#[test]
+fn names_faults_of_runs(rt: HostRuntime) -> Result<(), Fail> {
+    let alloc = rt.alloc();
+    for (fault, number, text) in [
+        (
+            FarFault::Usage { word: 0 },
+            2,
+            "far: word 0 is not understood\n",
+        ),
+        (FarFault::Read, 3, "far: reading failed\n"),
+        (
+            FarFault::Long,
+            4,
+            "far: input is longer than 268435456 bytes\n",
+        ),
+        (
+            obj(10, ObjCause::BadNumeral),
+            5,
+            "far: line 10: bad numeral\n",
+        ),
+        (
+            obj(1, ObjCause::NumberRange),
+            5,
+            "far: line 1: number out of range\n",
+        ),
+        (
+            obj(1, ObjCause::UnknownKeyword),
+            5,
+            "far: line 1: unknown keyword\n",
+        ),
+        (
+            obj(1, ObjCause::Continuation),
+            5,
+            "far: line 1: line continuation\n",
+        ),
+        (
+            obj(1, ObjCause::ShortLine),
+            5,
+            "far: line 1: line too short\n",
+        ),
+        (
+            obj(1, ObjCause::BadCorner),
+            5,
+            "far: line 1: bad face corner\n",
+        ),
+        (
+            obj(1, ObjCause::IndexRange),
+            5,
+            "far: line 1: index out of range\n",
+        ),
+        (obj(1, ObjCause::BadTag), 5, "far: line 1: bad tag\n"),
+        (
+            obj(1, ObjCause::TagIndex),
+            5,
+            "far: line 1: tag index out of range\n",
+        ),
+        (
+            obj(u32::MAX, ObjCause::SharpnessRange),
+            5,
+            "far: line 4294967295: sharpness out of range\n",
+        ),
+        (NOT_BUILT, 12, "far: line 0 is not built yet\n"),
+        (FarFault::Write, 10, "far: writing failed\n"),
+        (FarFault::Memory, 11, "far: out of memory\n"),
+    ] {
+        let mut errors = SureSink::with_room(alloc, 64)?;
+        assert_eq!(rt; report(&fault, &mut errors), Ok(()), "{fault}");
+        assert_eq!(rt; errors.bytes(), text.as_bytes());
+        assert_eq!(rt; status(&fault), number, "{fault}");
+        let line = format!(in alloc; "far: {fault}\n")?;
+        assert_eq!(rt; line.as_str(), text);
+    }
+    Ok(())
+}
+
+#[test]
+fn reports_what_fails(rt: HostRuntime) -> Result<(), Fail> {
+    let alloc = rt.alloc();
+    // The call that fails. The last call is the flush, and the line stands whole before it.
+    for (fault, call, answer, held) in [
+        (FarFault::Read, 1, Err(WriteFailed), "far: "),
+        (FarFault::Read, 3, Err(WriteFailed), "far: reading failed\n"),
+        (FarFault::Read, 4, Ok(()), "far: reading failed\n"),
+        (
+            FarFault::Usage { word: 1 },
+            2,
+            Err(WriteFailed),
+            "far: word ",
+        ),
+        (
+            FarFault::Usage { word: 1 },
+            5,
+            Err(WriteFailed),
+            "far: word 1 is not understood\n",
+        ),
+        (
+            FarFault::Usage { word: 1 },
+            6,
+            Ok(()),
+            "far: word 1 is not understood\n",
+        ),
+    ] {
+        let mut errors = MemSink::with_room(alloc, 64, vec![in alloc; call]?)?;
+        assert_eq!(rt;
+            report(&fault, &mut errors),
+            answer,
+            "{fault}, call {call} fails"
+        );
+        assert_eq!(rt;
+            errors.bytes(),
+            held.as_bytes(),
+            "{fault}, call {call} fails"
+        );
+    }
+    Ok(())
+}

@@ -1,0 +1,17 @@
+//! Tests of the crates' public calls: values from outside, calls that succeed, and texts that are printed.
+#![tactic(auto)]
+
+#[cfg(test)]
+mod engine;
+#[cfg(test)]
+mod io;
+#[cfg(test)]
+mod lines;
+#[cfg(test)]
+mod meshes;
+#[cfg(test)]
+mod numbers;
+#[cfg(test)]
+mod numerals;
+#[cfg(test)]
+mod sharpness;
