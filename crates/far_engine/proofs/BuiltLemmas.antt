@@ -1,5 +1,5 @@
 -- What the tests of a mesh say.
-use Rattle.std.proofs.Common.{◌≡◌, ℕ, ◌+◌, ◌<◌, ℤ, Bool, true, false, cond, not, ◌&&◌, nat_le, List, [], ◌∷◌, ◌++◌, length, take, get_or, slice_get, Option, Some, None, Vec, arith, refl, ap, sym, ◌∙◌, map, subst}
+use Rattle.std.proofs.Common.{◌≡◌, ℕ, suc, ◌+◌, ◌^◌, ◌<◌, ◌≤◌, ℤ, Bool, true, false, cond, not, ◌&&◌, nat_eq, nat_le, List, [], ◌∷◌, ◌++◌, length, take, get_or, slice_get, Option, Some, None, Vec, arith, lit≤, refl, ap, sym, ◌∙◌, map, subst, append-nil}
 use Rattle.std.specs.Global.{Global}
 use Rattle.std.specs.List.{All, list_all}
 use Rattle.std.proofs.lemmas.Bool.{and_parts}
@@ -8,30 +8,34 @@ use Rattle.std.proofs.lemmas.List.{length-map, take_more, map_push}
 use Rattle.std.proofs.lemmas.List.Folds.{list_all_at, list_all_more}
 use Rattle.std.proofs.lemmas.List.Elements.{All-nil, All-cons}
 use Rattle.std.proofs.lemmas.Option.{get_or_from_slice_get, slice_get_within}
+use Rattle.std.proofs.Math.Nat.{pow-le-pow_right, pow-suc}
 use Rattle.ratio128.specs.declared.point.Point3.{Point3}
 use Rattle.subdiv_model.specs.Polygons.{Polygon}
 use Rattle.subdiv_model.specs.Edges.{is_closed}
 use Rattle.subdiv_model.specs.Manifold.{IsManifold, is_manifold}
-use Rattle.subdiv_model.specs.Level.{plain_level}
-use Rattle.subdiv_model.specs.Mask.{CatmullClark}
-use Rattle.subdiv_model.specs.Text.{refined_text}
+use Rattle.subdiv_model.specs.Sharpness.{Method, Normal, Chaikin}
+use Rattle.subdiv_model.specs.Boundary.{Boundary, Hidden, EdgeOnly, EdgeAndCorner}
 use Rattle.subdiv_model.specs.ObjFault as model
 use Rattle.subdiv_model.specs.ObjMesh.{ObjMesh}
 use Rattle.subdiv_model.specs.ReadObj.{read_obj_fault, read_obj_mesh}
-use Rattle.subdiv_model.proofs.Laws.{manifold-levels}
-use Rattle.subdiv_model.proofs.ObjMeshLemmas.{faces-over}
-use Rattle.subdiv_model.proofs.WalkLemmas.{manifold-decides}
+use Rattle.subdiv_model.specs.Level.{Level, plain_level}
+use Rattle.subdiv_model.specs.Base.{base_level}
+use Rattle.subdiv_model.specs.Mask.{CatmullClark}
+use Rattle.subdiv_model.specs.Text.{refined_text}
+use Rattle.subdiv_model.specs.Fault.{Obj, NotBuilt}
+use Rattle.mesh_laws.proofs.Laws.{manifold-levels}
+use Rattle.mesh_laws.proofs.WalkLemmas.{manifold-decides}
+use Rattle.level_laws.proofs.PlainLemmas.{plain-base}
+use Rattle.obj_laws.proofs.ObjMeshLemmas.{faces-over}
 use Rattle.plain_refine.specs.Mesh.{IsShort, corners_of}
-use Rattle.obj_tags.specs.declared.fault.ObjCause.{ObjCause}
-use Rattle.obj_tags.specs.declared.fault.ObjCause.TheVariants.{BadNumeral, NumberRange, UnknownKeyword, Continuation, ShortLine, BadCorner, IndexRange, BadTag, TagIndex, SharpnessRange, MoveIndex, TooFine, LongLine}
 use Rattle.obj_tags.specs.declared.fault.ObjFault.{ObjFault}
 use Rattle.obj_tags.specs.declared.fault.ReadFault.{ReadFault}
 use Rattle.obj_tags.specs.declared.fault.ReadFault.TheVariants as ReadFaults
 use Rattle.obj_tags.specs.Kept.{IsReadFault}
-use Rattle.obj_tags.specs.View.{point_of, cause_of, fault_of}
-use Rattle.far_engine.specs.Built.{is_built, has_built_form, is_closed_manifold, is_small, is_small_face, has_no_tags, has_default_modes, has_short_numbers, is_short, is_short_point}
-use Rattle.subdiv_model.specs.Text.{refined_mesh_text}
-use Rattle.far_engine.specs.Outcome.{named_cause, refusal_of_obj, refusal_of_text, refusal_of_mesh, text_of, level_of, obj_fault, not_built}
+use Rattle.obj_tags.specs.View.{point_of, fault_of}
+use Rattle.far_engine.specs.Built.{is_built, has_built_form, is_closed_manifold, is_small, is_small_face, has_no_tags, has_default_modes, has_short_numbers, is_short, is_short_point, is_edge_only, is_normal}
+use Rattle.far_engine.specs.BuiltWords.{built_text}
+use Rattle.far_engine.specs.Outcome.{refusal_of_obj, refusal_of_text, refusal_of_mesh, level_of}
 
 both : (a b : Bool) → a ≡ true → b ≡ true → (a && b) ≡ true
 both true b h k = k
@@ -79,82 +83,127 @@ all-short (p ∷ points) h =
     let s = and_parts (is_short_point (p.x, p.y, p.z)) (list_all is_short_point (map point_of points)) h in
     All-cons ShortPoint p points (short-point p s.0) (all-short points s.1)
 
--- a mesh of a built form has short points
+pub within : (n m : ℕ) → n ≤ m → nat_le n m ≡ true
+within n m h = grind (arith, nat_tests)
+
+pub beyond : (n m : ℕ) → m < n → nat_le n m ≡ false
+beyond n m h = grind (arith, nat_tests)
+
+-- powers of ten are in the order of their exponents
+power-grows : (n m : ℕ) → n < m → 10 ^ n < 10 ^ m
+power-grows n m h =
+    let some : 1 ≤ 10 ^ n = pow-le-pow_right (lit≤ tt) {i = 0} {j = n} (omega arith) in
+    let next : 10 ^ suc n ≤ 10 ^ m = pow-le-pow_right (lit≤ tt) {i = suc n} {j = m} (omega arith) in
+    omega (arith, pow-suc 10 n)
+
+pub power-order : (n m : ℕ) → nat_le n m ≡ nat_le (10 ^ n) (10 ^ m)
+power-order n m = by_test (nat_le n m) refl
+  where
+    by_test : (b : Bool) → nat_le n m ≡ b → nat_le n m ≡ nat_le (10 ^ n) (10 ^ m)
+    by_test true e = e ∙ sym (within (10 ^ n) (10 ^ m) (pow-le-pow_right (lit≤ tt) {i = n} {j = m} (grind (arith, nat_tests))))
+    by_test false e = e ∙ sym (beyond (10 ^ n) (10 ^ m) (power-grows m n (grind (arith, nat_tests))))
+
+-- what a mesh of a built form shows
+pub record HasForm (mesh : ObjMesh) : Type 0 where
+  pub small : is_small mesh ≡ true
+  pub small_faces : list_all is_small_face mesh.faces ≡ true
+  pub untagged : has_no_tags mesh ≡ true
+  pub default : has_default_modes mesh ≡ true
+  pub bare : not mesh.has_texture ≡ true
+  pub short : has_short_numbers mesh ≡ true
+
+pub form-parts : (mesh : ObjMesh) → has_built_form mesh ≡ true → HasForm mesh
+form-parts mesh form =
+    let five = and_parts (is_small mesh && list_all is_small_face mesh.faces && has_no_tags mesh && has_default_modes mesh && not mesh.has_texture) (has_short_numbers mesh) form in
+    let four = and_parts (is_small mesh && list_all is_small_face mesh.faces && has_no_tags mesh && has_default_modes mesh) (not mesh.has_texture) five.0 in
+    let three = and_parts (is_small mesh && list_all is_small_face mesh.faces && has_no_tags mesh) (has_default_modes mesh) four.0 in
+    let two = and_parts (is_small mesh && list_all is_small_face mesh.faces) (has_no_tags mesh) three.0 in
+    let one = and_parts (is_small mesh) (list_all is_small_face mesh.faces) two.0 in
+    record { small = one.0; small_faces = one.1; untagged = two.1; default = three.1; bare = four.1; short = five.1 }
+
+-- a mesh of a built form has short points, and a small scale
 pub short-points : (mesh : ObjMesh) (points : List Point3) → map point_of points ≡ mesh.points → true ≡ has_built_form mesh → All (λ p. IsShort p.x × IsShort p.y × IsShort p.z) points
 short-points mesh points same form =
-    let others = is_small mesh && list_all is_small_face mesh.faces && has_no_tags mesh && has_default_modes mesh && not mesh.has_texture in
-    let numbers = (and_parts others (has_short_numbers mesh) (sym form)).1 in
-    let shorts = and_parts (nat_le mesh.scale 18) (list_all is_short_point mesh.points) numbers in
+    let numbers = (form-parts mesh (sym form)).short in
+    let shorts = and_parts (nat_le mesh.common (10 ^ 18)) (list_all is_short_point mesh.points) numbers in
     all-short points (ap (list_all is_short_point) same ∙ shorts.1)
 
--- a mesh of a built form, found closed, is built, and its text is what was written
-pub refined-mesh : (mesh : ObjMesh) (points : List Point3) (polygons : List Polygon) (count scale : ℕ) (closed : Bool) (text : List ℕ) → map point_of points ≡ mesh.points → polygons ≡ mesh.faces → count ≡ length points → scale ≡ mesh.scale → true ≡ has_built_form mesh → closed ≡ (is_manifold count polygons && is_closed polygons) → closed ≡ true → text ≡ refined_text (plain_level (length points) polygons) CatmullClark scale (map point_of points) 1 → (is_built mesh ≡ true) × (text ≡ refined_mesh_text mesh 1)
-refined-mesh mesh points polygons count scale closed text same_points same_faces counted same_scale form tested true_here refined =
+pub built-scale : (mesh : ObjMesh) (scale : ℕ) → 10 ^ scale ≡ mesh.common → true ≡ has_built_form mesh → scale ≤ 18
+built-scale mesh scale same form =
+    let numbers = (form-parts mesh (sym form)).short in
+    let shorts = and_parts (nat_le mesh.common (10 ^ 18)) (list_all is_short_point mesh.points) numbers in
+    let small : nat_le scale 18 ≡ true = power-order scale 18 ∙ ap (λ n. nat_le n (10 ^ 18)) same ∙ shorts.0 in
+    grind (arith, nat_tests)
+
+none-of : {X : Type 0} (xs : List X) → nat_eq (length xs) 0 ≡ true → xs ≡ []
+none-of [] h = refl
+none-of (x ∷ xs) h = absurd (grind (arith, nat_tests))
+
+edge-only : (boundary : Boundary) → is_edge_only boundary ≡ true → boundary ≡ EdgeOnly
+edge-only Hidden h = absurd (cc)
+edge-only EdgeOnly h = refl
+edge-only EdgeAndCorner h = absurd (cc)
+
+normal : (method : Method) → is_normal method ≡ true → method ≡ Normal
+normal Normal h = refl
+normal Chaikin h = absurd (cc)
+
+-- level 0 of a mesh that is built has no mark and no sharpness
+plain-built : (mesh : ObjMesh) → is_built mesh ≡ true → base_level mesh ≡ plain_level (length mesh.points) mesh.faces
+plain-built mesh built =
+    let parts = and_parts (has_built_form mesh) (is_closed_manifold mesh) built in
+    let form = form-parts mesh parts.0 in
+    let holes = and_parts (nat_eq (length mesh.creases) 0 && nat_eq (length mesh.corner_tags) 0) (nat_eq (length mesh.holes) 0) form.untagged in
+    let tags = and_parts (nat_eq (length mesh.creases) 0) (nat_eq (length mesh.corner_tags) 0) holes.0 in
+    let modes = and_parts (is_edge_only mesh.boundary) (is_normal mesh.method) form.default in
+    let closed = (and_parts (is_manifold (length mesh.points) mesh.faces) (is_closed mesh.faces) parts.1).1 in
+    plain-base mesh (none-of mesh.creases tags.0) (none-of mesh.corner_tags tags.1) (none-of mesh.holes holes.1) (edge-only mesh.boundary modes.0) (normal mesh.method modes.1) closed
+
+without-texture : (has_texture : Bool) (textured text : List ℕ) → not has_texture ≡ true → cond has_texture textured text ++ [] ≡ text
+without-texture true textured text h = absurd (cc)
+without-texture false textured text h = append-nil text
+
+-- what the command writes of a mesh that is built
+text-built : (mesh : ObjMesh) → is_built mesh ≡ true → built_text mesh ≡ refined_text (plain_level (length mesh.points) mesh.faces) CatmullClark mesh.common mesh.points 1
+unfolding built_text
+text-built mesh built =
+    let form = form-parts mesh (and_parts (has_built_form mesh) (is_closed_manifold mesh) built).0 in
+    without-texture mesh.has_texture _ (refined_text (base_level mesh) CatmullClark mesh.common mesh.points 1) form.bare
+    ∙ ap (λ level. refined_text level CatmullClark mesh.common mesh.points 1) (plain-built mesh built)
+
+-- a mesh of a built form, found closed, is built
+pub closed-built : (mesh : ObjMesh) (points : List Point3) (polygons : List Polygon) (count : ℕ) (closed : Bool) → map point_of points ≡ mesh.points → polygons ≡ mesh.faces → count ≡ length points → true ≡ has_built_form mesh → closed ≡ (is_manifold count polygons && is_closed polygons) → is_built mesh ≡ closed
+closed-built mesh points polygons count closed same_points same_faces counted form tested =
     let many : length points ≡ length mesh.points = sym (length-map points _) ∙ ap length same_points in
     let by_count : ℕ → Bool = λ n. is_manifold n polygons && is_closed polygons in
     let by_faces : List Polygon → Bool = λ fs. is_manifold (length mesh.points) fs && is_closed fs in
-    let text_by_count : ℕ → List ℕ = λ n. refined_text (plain_level n polygons) CatmullClark scale (map point_of points) 1 in
-    let text_by_faces : List Polygon → List ℕ = λ fs. refined_text (plain_level (length mesh.points) fs) CatmullClark scale (map point_of points) 1 in
-    let text_by_scale : ℕ → List ℕ = λ n. refined_text (plain_level (length mesh.points) mesh.faces) CatmullClark n (map point_of points) 1 in
-    let text_by_points : List (ℤ × ℤ × ℤ) → List ℕ = λ cs. refined_text (plain_level (length mesh.points) mesh.faces) CatmullClark mesh.scale cs 1 in (
-      both (has_built_form mesh) (is_closed_manifold mesh) (sym form) (sym (ap by_count (counted ∙ many) ∙ ap by_faces same_faces) ∙ sym tested ∙ true_here),
-      refined ∙ ap text_by_count many ∙ ap text_by_faces same_faces ∙ ap text_by_scale same_scale ∙ ap text_by_points same_points,
-    )
+    ap (λ b. b && is_closed_manifold mesh) (sym form) ∙ sym (tested ∙ ap by_count (counted ∙ many) ∙ ap by_faces same_faces)
 
-by_fault : (bytes : List ℕ) (fault : Option model.ObjFault) → read_obj_fault bytes 0 ≡ fault → refusal_of_obj bytes ≡ refusal_of_text fault (read_obj_mesh bytes 0)
-by_fault bytes fault e = ap (λ f. refusal_of_text f (read_obj_mesh bytes 0)) e
+-- and its text is what was written
+pub refined-mesh : (mesh : ObjMesh) (points : List Point3) (polygons : List Polygon) (scale : ℕ) (text : List ℕ) → map point_of points ≡ mesh.points → polygons ≡ mesh.faces → 10 ^ scale ≡ mesh.common → is_built mesh ≡ true → text ≡ refined_text (plain_level (length points) polygons) CatmullClark (10 ^ scale) (map point_of points) 1 → text ≡ built_text mesh
+refined-mesh mesh points polygons scale text same_points same_faces same_scale built refined =
+    let many : length points ≡ length mesh.points = sym (length-map points _) ∙ ap length same_points in
+    let level : plain_level (length points) polygons ≡ plain_level (length mesh.points) mesh.faces = ap (λ n. plain_level n polygons) many ∙ ap (plain_level (length mesh.points)) same_faces in
+    refined
+    ∙ ap (λ l. refined_text l CatmullClark (10 ^ scale) (map point_of points) 1) level
+    ∙ ap (λ n. refined_text (plain_level (length mesh.points) mesh.faces) CatmullClark n (map point_of points) 1) same_scale
+    ∙ ap (λ cs. refined_text (plain_level (length mesh.points) mesh.faces) CatmullClark mesh.common cs 1) same_points
+    ∙ sym (text-built mesh built)
 
-by_test : (bytes : List ℕ) (mesh : ObjMesh) (built : Bool) → read_obj_fault bytes 0 ≡ None → mesh ≡ read_obj_mesh bytes 0 → is_built mesh ≡ built → refusal_of_obj bytes ≡ cond built None (Some (not_built 0))
-by_test bytes mesh built good same test =
-    by_fault bytes None good ∙ ap refusal_of_mesh (sym same) ∙ ap (λ b. cond b None (Some (not_built 0))) test
-
--- a mesh that was read and refined is that of the text
-pub text-refined : (bytes : List ℕ) (mesh : ObjMesh) (text : List ℕ) → read_obj_fault bytes 0 ≡ None → mesh ≡ read_obj_mesh bytes 0 → (is_built mesh ≡ true) × (text ≡ refined_mesh_text mesh 1) → (refusal_of_obj bytes ≡ None) × (text ≡ text_of bytes)
-text-refined bytes mesh text good same refined =
-    (by_test bytes mesh true good same refined.0, refined.1 ∙ ap (λ m. refined_mesh_text m 1) same)
-
--- a mesh that was read and is not built
-pub text-not_built : (bytes : List ℕ) (mesh : ObjMesh) → read_obj_fault bytes 0 ≡ None → mesh ≡ read_obj_mesh bytes 0 → is_built mesh ≡ false → refusal_of_obj bytes ≡ Some (not_built 0)
-text-not_built bytes mesh good same test = by_test bytes mesh false good same test
-
-built-of : (mesh : ObjMesh) (built : Bool) → is_built mesh ≡ built → cond built None (Some (not_built 0)) ≡ None → is_built mesh ≡ true
+built-of : (mesh : ObjMesh) (built : Bool) → is_built mesh ≡ built → cond built None (Some (NotBuilt 0)) ≡ None → is_built mesh ≡ true
 built-of mesh true e h = e
 built-of mesh false e h = cc
 
 -- a text that is not refused has no fault, and a mesh that is built
-not-refused : (bytes : List ℕ) (fault : Option model.ObjFault) → read_obj_fault bytes 0 ≡ fault → refusal_of_text fault (read_obj_mesh bytes 0) ≡ None → (read_obj_fault bytes 0 ≡ None) × (is_built (read_obj_mesh bytes 0) ≡ true)
-not-refused bytes None e h = (e, built-of (read_obj_mesh bytes 0) (is_built (read_obj_mesh bytes 0)) refl h)
-not-refused bytes (Some fault) e h = cc
+fine-text : (bytes : List ℕ) (fault : Option model.ObjFault) → read_obj_fault bytes 0 ≡ fault → refusal_of_text fault (read_obj_mesh bytes 0) ≡ None → (read_obj_fault bytes 0 ≡ None) × (is_built (read_obj_mesh bytes 0) ≡ true)
+fine-text bytes None e h = (e, built-of (read_obj_mesh bytes 0) (is_built (read_obj_mesh bytes 0)) refl h)
+fine-text bytes (Some fault) e h = cc
 
 -- so all of its levels are manifolds
-pub levels-manifold : (bytes : List ℕ) → refusal_of_obj bytes ≡ None → (k : ℕ) → IsManifold (level_of bytes k).points (level_of bytes k).polygons
-levels-manifold bytes h k =
+pub levels-manifold : (bytes : List ℕ) → refusal_of_obj bytes ≡ None → (n : ℕ) → IsManifold (level_of bytes n).point_count (level_of bytes n).polygons
+levels-manifold bytes h n =
     let mesh = read_obj_mesh bytes 0 in
-    let good = not-refused bytes (read_obj_fault bytes 0) refl h in
+    let good = fine-text bytes (read_obj_fault bytes 0) refl h in
     let closed = (and_parts (has_built_form mesh) (is_closed_manifold mesh) good.1).1 in
     let manifold = (and_parts (is_manifold (length mesh.points) mesh.faces) (is_closed mesh.faces) closed).0 in
-    (manifold-levels (plain_level (length mesh.points) mesh.faces) k (faces-over bytes 0 good.0) ((manifold-decides (length mesh.points) mesh.faces).0 manifold)).1
-
--- a cause goes to the definitions and back
-named : (cause : ObjCause) → named_cause (cause_of cause) ≡ cause
-named BadNumeral = refl
-named NumberRange = refl
-named UnknownKeyword = refl
-named Continuation = refl
-named ShortLine = refl
-named BadCorner = refl
-named IndexRange = refl
-named BadTag = refl
-named TagIndex = refl
-named SharpnessRange = refl
-named MoveIndex = refl
-named TooFine = refl
-named LongLine = refl
-
--- a fault that was read is that of the text
-pub text-faulty : (bytes : List ℕ) (fault : ObjFault) → read_obj_fault bytes 0 ≡ Some (fault_of fault) → refusal_of_obj bytes ≡ Some (obj_fault fault.line fault.cause)
-text-faulty bytes fault e = by_fault bytes (Some (fault_of fault)) e ∙ ap (λ cause. Some (obj_fault fault.line cause)) (named fault.cause)
-
--- the fault that a reader answered
-pub read-fault : (answer : ReadFault) (fault : ObjFault) (found : Option model.ObjFault) → IsReadFault answer found → answer ≡ ReadFaults.Obj fault → found ≡ Some (fault_of fault)
-read-fault answer fault found is e = let P : ReadFault → Type 0 = λ a. IsReadFault a found in subst P e is
+    (manifold-levels (base_level mesh) n (faces-over bytes 0 good.0) ((manifold-decides (length mesh.points) mesh.faces).0 manifold)).1

@@ -1,5 +1,4 @@
 mod OutputLemmas
 mod BuiltLemmas
-mod RunLemmas
 mod WordsLemmas
-mod SureLemmas
+mod RunLemmas

@@ -1,13 +1,15 @@
--- What a run owes once the text of its answer stands.
-use Rattle.std.proofs.Common.{◌≡◌, ◌≢◌, ℕ, ◌^◌, ◌<◌, ◌≤◌, nat_le, true, false, cond, List, [], ◌++◌, length, take, Option, Some, None, Ok, Err, arith, append-nil, length-append, refl, ap, sym, ◌∙◌}
-use Rattle.std.proofs.lemmas.Bool.Decides.{nat_tests}
-use Rattle.far_io.specs.Bytes.{Rose, Took, Added, IsDry}
+-- What a run owes at each of its ends.
+use Rattle.std.proofs.Common.{◌≡◌, ◌≢◌, ℕ, ◌<◌, ◌≤◌, true, false, cond, List, [], ◌++◌, length, take, Option, Some, None, arith, append-nil, length-append, refl, ap, sym, ◌∙◌}
+use Rattle.far_io.specs.Bytes.{Rose, Took, Added, AddedPrefix, IsDry}
 use Rattle.subdiv_model.specs.Words.{usage_of}
-use Rattle.far_engine.specs.declared.fault.FarFault.{FarFault}
-use Rattle.far_engine.specs.declared.fault.FarFault.TheVariants.{Usage, Read, Write, Long}
-use Rattle.far_engine.specs.Outcome.{refusal_of, refusal_of_words, refusal_of_obj, text_of, IsAnswered}
-use Rattle.far_engine.specs.Runs.{Runs, AddedPart}
-use Rattle.far_engine.proofs.BuiltLemmas.{levels-manifold}
+use Rattle.subdiv_model.specs.ReadObj.{read_obj_mesh}
+use Rattle.subdiv_model.specs.Fault.{Fault, Usage, Read, Long, Write, Memory}
+use Rattle.subdiv_model.specs.Answer.{byte_limit, command_text}
+use Rattle.far_engine.specs.BuiltWords.{built_table, built_text}
+use Rattle.far_engine.specs.Outcome.{refusal_of, refusal_of_words, refusal_of_obj, text_of, IsAnswered, is_after_reading}
+use Rattle.far_engine.specs.Runs.{Runs}
+use Rattle.far_engine.proofs.BuiltLemmas.{within, beyond, levels-manifold}
+use Rattle.far_engine.proofs.WordsLemmas.{says-built}
 
 -- what was taken to the end is what there was
 all_taken : (old new : Option (List ℕ)) (taken bytes : List ℕ) → Took old new taken → IsDry new → old ≡ Some bytes → taken ≡ bytes
@@ -23,103 +25,132 @@ taken_within (Some old) (Some new) taken told took e =
 taken_within (Some old) None taken told took e = absurd took
 taken_within None new taken told took e = absurd (cc)
 
-within : (n m : ℕ) → n ≤ m → nat_le n m ≡ true
-within n m h = grind (arith, nat_tests)
-
-beyond : (n m : ℕ) → m < n → nat_le n m ≡ false
-beyond n m h = grind (arith, nat_tests)
-
 -- a command over an input that is not too long is refused where its text is
-pub by_text : (words : List (List ℕ)) (bytes : List ℕ) → usage_of words ≡ None → length bytes ≤ 2 ^ 28 → refusal_of words bytes ≡ refusal_of_obj bytes
+by_text : (words : List (List ℕ)) (bytes : List ℕ) → usage_of built_table words ≡ None → length bytes ≤ byte_limit → refusal_of words bytes ≡ refusal_of_obj bytes
 by_text words bytes command short =
-    ap (λ place. refusal_of_words place bytes) command ∙ ap (λ b. cond b (refusal_of_obj bytes) (Some Long)) (within (length bytes) (2 ^ 28) short)
+    ap (λ place. refusal_of_words place bytes) command
+    ∙ ap (λ b. cond b (refusal_of_obj bytes) (Some Long)) (within (length bytes) byte_limit short)
 
 -- a command over an input that is too long
-pub by_length : (words : List (List ℕ)) (bytes : List ℕ) → usage_of words ≡ None → 2 ^ 28 < length bytes → refusal_of words bytes ≡ Some Long
+by_length : (words : List (List ℕ)) (bytes : List ℕ) → usage_of built_table words ≡ None → byte_limit < length bytes → refusal_of words bytes ≡ Some Long
 by_length words bytes command long =
-    ap (λ place. refusal_of_words place bytes) command ∙ ap (λ b. cond b (refusal_of_obj bytes) (Some Long)) (beyond (length bytes) (2 ^ 28) long)
-
--- a command over an input that is not too long, and is not refused itself, is not refused
-not_refused : (words : List (List ℕ)) (bytes : List ℕ) → usage_of words ≡ None → length bytes ≤ 2 ^ 28 → refusal_of_obj bytes ≡ None → refusal_of words bytes ≡ None
-not_refused words bytes command short fine = by_text words bytes command short ∙ fine
+    ap (λ place. refusal_of_words place bytes) command
+    ∙ ap (λ b. cond b (refusal_of_obj bytes) (Some Long)) (beyond (length bytes) byte_limit long)
 
 added_nothing : (o : Option (List ℕ)) → Added o o []
 added_nothing (Some old) = sym (append-nil old)
 added_nothing None = tt
 
--- a fault that came before anything was written, and is neither of the words nor of a call
-pub runs_refused : {S K : Type 0} (left : S → Option (List ℕ)) (source_faults : S → ℕ) (held : K → Option (List ℕ)) (sink_faults fixed : K → ℕ) (words : List (List ℕ)) (s s' : S) (k : K) (fault : FarFault) (taken : List ℕ) → usage_of words ≡ None → ((bytes : List ℕ) → left s ≡ Some bytes → IsAnswered (Err fault) (refusal_of words bytes)) → ((word : ℕ) → fault ≢ Usage word) → fault ≢ Read → fault ≢ Write → (fault ≡ Long → 2 ^ 28 < length taken) → Took (left s) (left s') taken → source_faults s ≤ source_faults s' → Runs left source_faults held sink_faults fixed words s s' k k (Err fault)
-runs_refused left source_faults held sink_faults fixed words s s' k fault taken command answer not_usage not_read not_write long took source_later = record {
-  usage = λ word. (λ e. absurd (not_usage word (cc)), λ e. absurd (cc));
-  uncalled = λ word e. absurd (not_usage word (cc));
-  answer = answer;
-  whole = tt;
-  text = λ told e. tt;
-  manifold = λ told e. tt;
-  part = λ told e f. absurd (not_write (cc));
-  kept = λ other e f. refl;
-  read = λ e. absurd (not_read (cc));
-  write = λ e. absurd (not_write (cc));
-  long = λ e. (taken, took, long (cc));
-  taken = (taken, took);
-  added = ([], added_nothing (held k));
-  source_later = source_later;
-  sink_later = omega arith;
-  sink_fixed = refl;
-}
+-- a fault that is the refusal
+answered : (fault : Fault) (refusal : Option Fault) → fault ≢ Write → refusal ≡ Some fault → IsAnswered (Some fault) refusal
+answered Read refusal other is = tt
+answered Memory refusal other is = tt
+answered Write refusal other is = absurd (other refl)
+answered fault refusal other is = is
 
--- the text is refused
-pub runs_text_refused : {S K : Type 0} (left : S → Option (List ℕ)) (source_faults : S → ℕ) (held : K → Option (List ℕ)) (sink_faults fixed : K → ℕ) (words : List (List ℕ)) (s s' : S) (k : K) (fault : FarFault) (bytes : List ℕ) → usage_of words ≡ None → Took (left s) (left s') bytes → IsDry (left s') → length bytes ≤ 2 ^ 28 → (refusal_of_obj bytes ≡ Some fault) → ((refusal : Option FarFault) → refusal ≡ Some fault → IsAnswered (Err fault) refusal) → ((word : ℕ) → fault ≢ Usage word) → fault ≢ Read → fault ≢ Write → fault ≢ Long → source_faults s ≤ source_faults s' → Runs left source_faults held sink_faults fixed words s s' k k (Err fault)
-runs_text_refused left source_faults held sink_faults fixed words s s' k fault bytes command took dry short refused answered not_usage not_read not_write not_long source_later =
-    runs_refused left source_faults held sink_faults fixed words s s' k fault bytes command
-    (λ told e. answered (refusal_of words told) (ap (refusal_of words) (sym (all_taken _ _ bytes told took dry e)) ∙ by_text words bytes command short ∙ refused))
-    not_usage not_read not_write (λ e. absurd (not_long e)) took source_later
+-- a fault that comes after reading is none of those that come before
+other_fault : (fault other : Fault) → is_after_reading (Some fault) ≡ true → is_after_reading (Some other) ≡ false → fault ≢ other
+other_fault fault other after before e = let same = ap (λ f. is_after_reading (Some f)) e in absurd (cc)
 
--- too much came
-pub runs_long : {S K : Type 0} (left : S → Option (List ℕ)) (source_faults : S → ℕ) (held : K → Option (List ℕ)) (sink_faults fixed : K → ℕ) (words : List (List ℕ)) (s s' : S) (k : K) (taken : List ℕ) → usage_of words ≡ None → Took (left s) (left s') taken → 2 ^ 28 < length taken → source_faults s ≤ source_faults s' → Runs left source_faults held sink_faults fixed words s s' k k (Err Long)
-runs_long left source_faults held sink_faults fixed words s s' k taken command took long source_later =
-    runs_refused left source_faults held sink_faults fixed words s s' k Long taken command
-    (λ told e. by_length words told command (omega (arith, long, taken_within _ _ taken told took e)))
-    (λ word e. absurd (cc)) (λ e. absurd (cc)) (λ e. absurd (cc)) (λ e. long) took source_later
+-- the words are a command, and the input was read to its end
+pub record WasRead {S : Type 0} (left : S → Option (List ℕ)) (source_faults : S → ℕ) (words : List (List ℕ)) (s s' : S) (bytes : List ℕ) : Type 0 where
+  pub command : usage_of built_table words ≡ None
+  pub took : Took (left s) (left s') bytes
+  pub dry : IsDry (left s')
+  pub short : length bytes ≤ byte_limit
+  pub later : source_faults s ≤ source_faults s'
 
--- the text stands in the sink
-pub runs_ok : {S K : Type 0} (left : S → Option (List ℕ)) (source_faults : S → ℕ) (held : K → Option (List ℕ)) (sink_faults fixed : K → ℕ) (words : List (List ℕ)) (s s' : S) (k k' : K) (bytes text : List ℕ) → usage_of words ≡ None → Took (left s) (left s') bytes → IsDry (left s') → length bytes ≤ 2 ^ 28 → refusal_of_obj bytes ≡ None → text ≡ text_of bytes → Added (held k) (held k') text → source_faults s ≤ source_faults s' → sink_faults k ≤ sink_faults k' → fixed k' ≡ fixed k → Runs left source_faults held sink_faults fixed words s s' k k' (Ok tt)
-runs_ok left source_faults held sink_faults fixed words s s' k k' bytes text command took dry short fine defined added source_later sink_later same = record {
-  usage = λ word. (λ e. absurd (cc), λ e. absurd (cc));
-  uncalled = λ word e. absurd (cc);
-  answer = λ told e. rw (← (all_taken _ _ bytes told took dry e)) (not_refused words bytes command short fine);
-  whole = dry;
-  text = λ told e. rw (← (all_taken _ _ bytes told took dry e), ← defined) added;
-  manifold = λ told e. rw (← (all_taken _ _ bytes told took dry e)) (levels-manifold bytes fine);
-  part = λ told e f. absurd (cc);
-  kept = λ fault e f. absurd (cc);
-  read = λ e. absurd (cc);
-  write = λ e. absurd (cc);
-  long = λ e. absurd (cc);
-  taken = (bytes, took);
-  added = (text, added);
-  source_later = source_later;
-  sink_later = sink_later;
-  sink_fixed = same;
-}
+-- what was read is what the source told
+pub told : {S : Type 0} (left : S → Option (List ℕ)) (source_faults : S → ℕ) (words : List (List ℕ)) (s s' : S) (bytes other : List ℕ) → WasRead left source_faults words s s' bytes → left s ≡ Some other → bytes ≡ other
+told left source_faults words s s' bytes other read e = all_taken (left s) (left s') bytes other read.took read.dry e
 
--- a part of the text stands in the sink, whose count rose
-pub runs_cut : {S K : Type 0} (left : S → Option (List ℕ)) (source_faults : S → ℕ) (held : K → Option (List ℕ)) (sink_faults fixed : K → ℕ) (words : List (List ℕ)) (s s' : S) (k k' : K) (bytes text : List ℕ) → usage_of words ≡ None → Took (left s) (left s') bytes → IsDry (left s') → length bytes ≤ 2 ^ 28 → refusal_of_obj bytes ≡ None → text ≡ text_of bytes → AddedPart (held k) (held k') text → Rose (sink_faults k) (sink_faults k') → source_faults s ≤ source_faults s' → sink_faults k ≤ sink_faults k' → fixed k' ≡ fixed k → Runs left source_faults held sink_faults fixed words s s' k k' (Err Write)
-runs_cut left source_faults held sink_faults fixed words s s' k k' bytes text command took dry short fine defined part rose source_later sink_later same = record {
-  usage = λ word. (λ e. absurd (cc), λ e. absurd (cc));
-  uncalled = λ word e. absurd (cc);
-  answer = λ told e. rw (← (all_taken _ _ bytes told took dry e)) (not_refused words bytes command short fine);
-  whole = tt;
-  text = λ told e. tt;
-  manifold = λ told e. tt;
-  part = λ told e f. rw (← (all_taken _ _ bytes told took dry e), ← defined) part;
-  kept = λ fault e f. absurd (f (cc));
-  read = λ e. absurd (cc);
-  write = λ e. rose;
-  long = λ e. absurd (cc);
-  taken = (bytes, took);
-  added = (take part.0 text, part.2);
-  source_later = source_later;
-  sink_later = sink_later;
-  sink_fixed = same;
-}
+module _ {S K : Type 0} (left : S → Option (List ℕ)) (source_faults : S → ℕ) (held : K → Option (List ℕ)) (sink_faults fixed : K → ℕ) (words : List (List ℕ)) (s s' : S) where
+  -- a fault that came before anything was written, and is neither of the words nor of a call
+  pub runs_refused : (k : K) (fault : Fault) (taken : List ℕ) → usage_of built_table words ≡ None → ((bytes : List ℕ) → left s ≡ Some bytes → IsAnswered (Some fault) (refusal_of words bytes)) → ((word : ℕ) → fault ≢ Usage word) → fault ≢ Read → fault ≢ Write → (fault ≡ Long → byte_limit < length taken) → (is_after_reading (Some fault) ≡ true → IsDry (left s')) → Took (left s) (left s') taken → source_faults s ≤ source_faults s' → Runs left source_faults held sink_faults fixed words s s' k k (Some fault)
+  runs_refused k fault taken command answer not_usage not_read not_write long dry took source_later = record {
+    usage = λ word. (λ e. absurd (not_usage word (cc)), λ e. absurd (cc));
+    uncalled = λ word e. absurd (not_usage word (cc));
+    answer = answer;
+    whole = dry;
+    text = λ bytes e f. absurd (cc);
+    manifold = λ bytes e f. absurd (cc);
+    prefix = λ bytes e f. absurd (not_write (cc));
+    kept = λ other e f. refl;
+    read = λ e. absurd (not_read (cc));
+    write = λ e. absurd (not_write (cc));
+    long = λ e. (taken, took, long (cc));
+    taken = (taken, took);
+    added = ([], added_nothing (held k));
+    source_later = source_later;
+    sink_later = omega arith;
+    sink_fixed = refl;
+  }
+
+  -- too much came
+  pub runs_long : (k : K) (taken : List ℕ) → usage_of built_table words ≡ None → Took (left s) (left s') taken → byte_limit < length taken → source_faults s ≤ source_faults s' → Runs left source_faults held sink_faults fixed words s s' k k (Some Long)
+  runs_long k taken command took long source_later =
+      runs_refused k Long taken command
+      (λ bytes e. by_length words bytes command (omega (arith, long, taken_within _ _ taken bytes took e)))
+      (λ word e. absurd (cc)) (λ e. absurd (cc)) (λ e. absurd (cc)) (λ e. long) (λ e. absurd (cc)) took source_later
+
+  module _ (bytes : List ℕ) (was : WasRead left source_faults words s s' bytes) where
+    refused_as : (other : List ℕ) (refusal : Option Fault) → left s ≡ Some other → refusal_of_obj bytes ≡ refusal → refusal_of words other ≡ refusal
+    refused_as other refusal e is =
+        ap (refusal_of words) (sym (told left source_faults words s s' bytes other was e)) ∙ by_text words bytes was.command was.short ∙ is
+
+    -- the text is refused
+    pub runs_text_refused : (k : K) (fault : Fault) → refusal_of_obj bytes ≡ Some fault → is_after_reading (Some fault) ≡ true → fault ≢ Write → Runs left source_faults held sink_faults fixed words s s' k k (Some fault)
+    runs_text_refused k fault refused after not_write =
+        runs_refused k fault bytes was.command
+        (λ other e. answered fault (refusal_of words other) not_write (refused_as other (Some fault) e refused))
+        (λ word. other_fault fault (Usage word) after refl) (other_fault fault Read after refl) not_write
+        (λ e. absurd (other_fault fault Long after refl e)) (λ e. was.dry) was.took was.later
+
+    text_as : (other text : List ℕ) → left s ≡ Some other → text ≡ built_text (read_obj_mesh bytes 0) → text ≡ text_of words other
+    unfolding built_text
+    text_as other text e is =
+        is
+        ∙ ap (λ command. command_text command (read_obj_mesh bytes 0)) (sym (says-built words was.command))
+        ∙ ap (text_of words) (told left source_faults words s s' bytes other was e)
+
+    -- the text stands in the sink
+    pub runs_ok : (k k' : K) (text : List ℕ) → refusal_of_obj bytes ≡ None → text ≡ built_text (read_obj_mesh bytes 0) → Added (held k) (held k') text → sink_faults k ≤ sink_faults k' → fixed k' ≡ fixed k → Runs left source_faults held sink_faults fixed words s s' k k' None
+    runs_ok k k' text good defined added sink_later same = record {
+      usage = λ word. (λ e. absurd (cc), λ e. absurd (cc));
+      uncalled = λ word e. absurd (cc);
+      answer = λ other e. refused_as other None e good;
+      whole = λ e. was.dry;
+      text = λ other e f. rw (← (text_as other text e defined)) added;
+      manifold = λ other e f. rw (← (told left source_faults words s s' bytes other was e)) (levels-manifold bytes good);
+      prefix = λ other e f. absurd (cc);
+      kept = λ fault e f. absurd (cc);
+      read = λ e. absurd (cc);
+      write = λ e. absurd (cc);
+      long = λ e. absurd (cc);
+      taken = (bytes, was.took);
+      added = (text, added);
+      source_later = was.later;
+      sink_later = sink_later;
+      sink_fixed = same;
+    }
+
+    -- a prefix of the text stands in the sink, whose count rose
+    pub runs_cut : (k k' : K) (text : List ℕ) → refusal_of_obj bytes ≡ None → text ≡ built_text (read_obj_mesh bytes 0) → AddedPrefix (held k) (held k') text → Rose (sink_faults k) (sink_faults k') → sink_faults k ≤ sink_faults k' → fixed k' ≡ fixed k → Runs left source_faults held sink_faults fixed words s s' k k' (Some Write)
+    runs_cut k k' text good defined prefix rose sink_later same = record {
+      usage = λ word. (λ e. absurd (cc), λ e. absurd (cc));
+      uncalled = λ word e. absurd (cc);
+      answer = λ other e. refused_as other None e good;
+      whole = λ e. was.dry;
+      text = λ other e f. absurd (cc);
+      manifold = λ other e f. absurd (cc);
+      prefix = λ other e f. rw (← (text_as other text e defined)) prefix;
+      kept = λ fault e f. absurd (f (cc));
+      read = λ e. absurd (cc);
+      write = λ e. rose;
+      long = λ e. absurd (cc);
+      taken = (bytes, was.took);
+      added = (take prefix.0 text, prefix.2);
+      source_later = was.later;
+      sink_later = sink_later;
+      sink_fixed = same;
+    }

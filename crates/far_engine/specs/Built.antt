@@ -6,7 +6,7 @@ use Rattle.subdiv_model.specs.Polygons.{Polygon}
 use Rattle.subdiv_model.specs.Edges.{is_closed}
 use Rattle.subdiv_model.specs.Manifold.{is_manifold}
 use Rattle.subdiv_model.specs.Sharpness.{Method, Normal, Chaikin}
-use Rattle.subdiv_model.specs.Base.{Boundary, Hidden, EdgeOnly, EdgeAndCorner}
+use Rattle.subdiv_model.specs.Boundary.{Boundary, Hidden, EdgeOnly, EdgeAndCorner}
 use Rattle.subdiv_model.specs.ObjMesh.{ObjMesh}
 
 -- at most 1,024 points and at most 1,024 faces
@@ -23,7 +23,7 @@ is_closed_manifold mesh = is_manifold (length mesh.points) mesh.faces && is_clos
 
 -- no crease, no corner tag and no hole, whatever its sharpness
 abbrev pub has_no_tags : ObjMesh → Bool
-has_no_tags mesh = nat_eq (length mesh.creases) 0 && nat_eq (length mesh.corners) 0 && nat_eq (length mesh.holes) 0
+has_no_tags mesh = nat_eq (length mesh.creases) 0 && nat_eq (length mesh.corner_tags) 0 && nat_eq (length mesh.holes) 0
 
 abbrev pub is_edge_only : Boundary → Bool
 is_edge_only Hidden = false
@@ -44,9 +44,9 @@ is_short number = nat_le (unsigned_abs number) (10 ^ 18)
 abbrev pub is_short_point : ℤ × ℤ × ℤ → Bool
 is_short_point point = is_short point.0 && is_short point.1 && is_short point.2
 
--- a scale of at most 18, and numerators of at most 10^18 in amount
+-- a common denominator of at most 10^18, and numerators of at most 10^18 in amount
 abbrev pub has_short_numbers : ObjMesh → Bool
-has_short_numbers mesh = nat_le mesh.scale 18 && list_all is_short_point mesh.points
+has_short_numbers mesh = nat_le mesh.common (10 ^ 18) && list_all is_short_point mesh.points
 
 -- what can be seen without looking at how the faces join
 abbrev pub has_built_form : ObjMesh → Bool

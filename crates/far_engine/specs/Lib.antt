@@ -1,5 +1,7 @@
+pub mod View
+pub mod Pieces
 pub mod Built
-pub mod Faults
+pub mod BuiltWords
 pub mod Outcome
 pub mod Runs
 pub use Rattle.subdiv_model.specs.Words

@@ -1,6 +1,6 @@
 //! Which meshes a step is built for today.
 
-ghost use Rattle.std.specs.Prelude.{◌≡◌, ℕ, ◌<◌, length, map, IfOk};
+ghost use Rattle.std.specs.Prelude.{◌≡◌, ◌^◌, nat_le, map, IfOk};
 ghost use Rattle.std.specs.List.{list_all};
 ghost use Rattle.plain_refine.specs.Mesh.{corners_of};
 ghost use Rattle.obj_tags.specs.View.{point_of};
@@ -86,11 +86,18 @@ fn are_short(points: &[Point3]) -> bool
     true
 }
 
+// Whether the coordinates have so few decimals.
+fn has_short_decimals(mesh: &RawMesh) -> bool
+    ensures { result ≡ nat_le mesh.now.common (10 ^ 18) }
+{
+    mesh.scale() <= DECIMALS
+}
+
 // Whether a step can be computed with the mesh's numbers.
 fn has_short_numbers(mesh: &RawMesh) -> bool
     ensures { result ≡ has_short_numbers mesh.now }
 {
-    mesh.scale() <= DECIMALS && are_short(mesh.points())
+    has_short_decimals(mesh) && are_short(mesh.points())
 }
 
 /// Whether the mesh is of a form that is built, however its faces join.

@@ -1,13 +1,16 @@
-ghost use Rattle.std.specs.Prelude.{◌≡◌, ◌≢◌, ℕ, ◌^◌, ◌≤◌, List, length, map, true, false, Option, None, Some, Result, Err, IfOk, string_bytes};
+ghost use Rattle.std.specs.Prelude.{◌≡◌, ◌≢◌, ◌^◌, ◌≤◌, length, map, true, false, Option, None, Some, Err, OnOk, IfOk, string_bytes};
 ghost use Rattle.obj_tags.specs.declared.fault.ObjFault.{ObjFault};
 ghost use Rattle.obj_tags.specs.Laws.{IsWithin};
+ghost use Rattle.obj_tags.specs.View as view;
+ghost use Rattle.subdiv_model.specs.ReadObj.{read_obj_mesh};
+ghost use Rattle.subdiv_model.specs.Fault as model;
+ghost use Rattle.subdiv_model.specs.Fault.{Fault, outcome_status};
 ghost use Rattle.far_engine.specs.declared.engine.RefineFault.TheVariants.{Obj, NotBuilt};
-ghost use Rattle.far_engine.specs.declared.fault.FarFault.{FarFault};
 ghost use Rattle.far_engine.specs.Built.{is_built};
-ghost use Rattle.far_engine.specs.Faults.{status_of_outcome};
-ghost use Rattle.far_engine.specs.Outcome.{refusal_of_obj, text_of, obj_fault, not_built};
+ghost use Rattle.far_engine.specs.BuiltWords.{built_text};
+ghost use Rattle.far_engine.specs.Outcome.{refusal_of_obj};
 ghost use Rattle.far_engine.specs.Runs.{Runs, Reports};
-ghost use Rattle.subdiv_model.specs.Text.{refined_mesh_text};
+ghost use Rattle.far_engine.specs.View.{outcome_of};
 
 use crate::built::{has_built_form, polygons_of};
 use crate::command::usage;
@@ -43,7 +46,8 @@ impl From<Memory> for RefineFault {
 // The text of a mesh that was read after one step.
 fn refine_mesh(alloc: Global, mesh: &RawMesh) -> Result<Vec<u8>, RefineFault>
     requires { IsWithin mesh.now }
-    ensures refined { IfOk result (λ text. (is_built mesh.now ≡ true) × (text.items ≡ refined_mesh_text mesh.now 1)) }
+    ensures built { OnOk result (is_built mesh.now ≡ true) }
+    ensures refined { IfOk result (λ text. text.items ≡ built_text mesh.now) }
     ensures not_built { result ≡ Err NotBuilt → is_built mesh.now ≡ false }
     ensures no_fault { (fault : ObjFault) → result ≢ Err (Obj fault) }
 {
@@ -62,9 +66,10 @@ fn refine_mesh(alloc: Global, mesh: &RawMesh) -> Result<Vec<u8>, RefineFault>
 // The text of the mesh after one step.
 fn refine_bytes(alloc: Global, bytes: &[u8]) -> Result<Vec<u8>, RefineFault>
     requires { length bytes.now ≤ 2 ^ 28 }
-    ensures refined { IfOk result (λ text. (refusal_of_obj bytes.now ≡ None) × (text.items ≡ text_of bytes.now)) }
-    ensures faulty { (fault : ObjFault) → result ≡ Err (Obj fault) → refusal_of_obj bytes.now ≡ Some (obj_fault fault.line fault.cause) }
-    ensures not_built { result ≡ Err NotBuilt → refusal_of_obj bytes.now ≡ Some (not_built 0) }
+    ensures good { OnOk result (refusal_of_obj bytes.now ≡ None) }
+    ensures refined { IfOk result (λ text. text.items ≡ built_text (read_obj_mesh bytes.now 0)) }
+    ensures faulty { (fault : ObjFault) → result ≡ Err (Obj fault) → refusal_of_obj bytes.now ≡ Some (model.Obj (view.fault_of fault)) }
+    ensures not_built { result ≡ Err NotBuilt → refusal_of_obj bytes.now ≡ Some (model.NotBuilt 0) }
 {
     match read_obj(alloc, bytes, 0) {
         Ok(mesh) => refine_mesh(alloc, &mesh),
@@ -87,8 +92,8 @@ fn refine_bytes(alloc: Global, bytes: &[u8]) -> Result<Vec<u8>, RefineFault>
 /// of at most 10^18 in amount over at most 10^18, and without creases, corner tags, holes, texture or
 /// other modes than the usual. Such words and bytes are answered so, unless `Read` or `Memory` comes
 /// first. `Read` and `Write` come only where the count of faults of the source or the sink rose, and
-/// `Memory` may come at any time after good words. After `Write` the sink holds what it held and a part
-/// of the answer's front. It takes no step.
+/// `Memory` may come at any time after good words. After `Write` the sink holds what it held and a
+/// prefix of the answer. It takes no step.
 pub fn run<S: Source, K: Sink, L: Ledger>(
     alloc: Global,
     words: &Vec<String>,
@@ -96,7 +101,7 @@ pub fn run<S: Source, K: Sink, L: Ledger>(
     sink: &mut K,
     steps: &mut Steps<L>,
 ) -> Result<(), FarFault>
-    ensures run { Runs S.left S.faults K.held K.faults K.fixed (map string_bytes words.now.items) source.old source.new sink.old sink.new result }
+    ensures run { Runs S.left S.faults K.held K.faults K.fixed (map string_bytes words.now.items) source.old source.new sink.old sink.new (outcome_of result) }
     ensures steps { steps.new ≡ steps.old }
 {
     match usage(words) {
@@ -127,8 +132,8 @@ pub fn run<S: Source, K: Sink, L: Ledger>(
 // The status of an outcome: 0 where it is `Ok`, and then `errors` is not called; otherwise that of the
 // fault, whose line goes to `errors`. What `errors` does with it changes nothing of the answer.
 fn conclude<E: Sink>(outcome: Result<(), FarFault>, errors: &mut E) -> u8
-    ensures status { result ≡ status_of_outcome outcome }
-    ensures reports { Reports E.held E.faults errors.old errors.new outcome }
+    ensures status { result ≡ outcome_status (outcome_of outcome) }
+    ensures reports { Reports E.held E.faults errors.old errors.new (outcome_of outcome) }
     ensures later { E.faults errors.old ≤ E.faults errors.new }
     ensures fixed { E.fixed errors.new ≡ E.fixed errors.old }
 {
@@ -145,8 +150,8 @@ fn conclude<E: Sink>(outcome: Result<(), FarFault>, errors: &mut E) -> u8
 /// Does all that the program does, and answers its exit status: 0 where the run is `Ok`, and then
 /// `errors` is not called; otherwise the status of the fault, whose line goes to `errors`.
 ///
-/// `errors` holds what it held and the whole line, or, only where its own count of faults rose, a part
-/// of the line's front.
+/// `errors` holds what it held and the whole line, or, only where its own count of faults rose, a
+/// prefix of the line.
 pub fn program<S: Source, K: Sink, E: Sink, L: Ledger>(
     alloc: Global,
     words: &Vec<String>,
@@ -155,9 +160,9 @@ pub fn program<S: Source, K: Sink, E: Sink, L: Ledger>(
     errors: &mut E,
     steps: &mut Steps<L>,
 ) -> u8
-    ensures outcome { (outcome : Result (Unit {0}) FarFault)
+    ensures outcome { (outcome : Option Fault)
         × Runs S.left S.faults K.held K.faults K.fixed (map string_bytes words.now.items) source.old source.new sink.old sink.new outcome
-        × (result ≡ status_of_outcome outcome)
+        × (result ≡ outcome_status outcome)
         × Reports E.held E.faults errors.old errors.new outcome }
     ensures later { E.faults errors.old ≤ E.faults errors.new }
     ensures fixed { E.fixed errors.new ≡ E.fixed errors.old }

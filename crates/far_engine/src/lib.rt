@@ -6,8 +6,7 @@ mod command;
 mod engine;
 mod fault;
 mod output;
-#[cfg(test)]
-mod tests;
+mod piece;
 
 pub use engine::{program, run};
 pub use fault::{FarFault, report, status};

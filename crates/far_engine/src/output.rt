@@ -1,14 +1,15 @@
-ghost use Rattle.std.specs.Prelude.{◌≡◌, ◌≤◌, ◌++◌, decimal, OnOk, OnErr};
-ghost use Rattle.far_io.specs.Bytes.{Rose, Added};
-ghost use Rattle.far_engine.specs.Runs.{AddedPart};
+ghost use Rattle.std.specs.Prelude.{◌≡◌, ◌≤◌, OnOk, OnErr};
+ghost use Rattle.far_io.specs.Bytes.{Rose, Added, AddedPrefix};
+ghost use Rattle.far_engine.specs.Pieces.{pieces_text};
 
+use crate::piece::Piece;
 use far_io::{Sink, WriteFailed, write_all_of};
 use itoa::Buffer;
 
-// Adds the text and hands it on, or adds a part of its front where the sink fails.
+// Adds the text and hands it on, or adds a prefix of it where the sink fails.
 pub(crate) fn put_text<K: Sink>(sink: &mut K, text: &[u8]) -> Result<(), WriteFailed>
     ensures ok { OnOk result (Added (K.held sink.old) (K.held sink.new) text.now) }
-    ensures part { OnErr result (AddedPart (K.held sink.old) (K.held sink.new) text.now) }
+    ensures prefix { OnErr result (AddedPrefix (K.held sink.old) (K.held sink.new) text.now) }
     ensures cause { OnErr result (Rose (K.faults sink.old) (K.faults sink.new)) }
     ensures later { K.faults sink.old ≤ K.faults sink.new }
     ensures fixed { K.fixed sink.new ≡ K.fixed sink.old }
@@ -17,21 +18,17 @@ pub(crate) fn put_text<K: Sink>(sink: &mut K, text: &[u8]) -> Result<(), WriteFa
     sink.flush()
 }
 
-// The same for a number between two texts.
-pub(crate) fn put_numbered<K: Sink>(
-    sink: &mut K,
-    before: &[u8],
-    number: u32,
-    after: &[u8],
-) -> Result<(), WriteFailed>
-    ensures ok { OnOk result (Added (K.held sink.old) (K.held sink.new) (before.now ++ (decimal number ++ after.now))) }
-    ensures part { OnErr result (AddedPart (K.held sink.old) (K.held sink.new) (before.now ++ (decimal number ++ after.now))) }
+// Adds the pieces and hands them on, or adds a prefix of their text where the sink fails.
+pub(crate) fn put_pieces<K: Sink>(sink: &mut K, pieces: &[Piece]) -> Result<(), WriteFailed>
+    ensures ok { OnOk result (Added (K.held sink.old) (K.held sink.new) (pieces_text pieces.now)) }
+    ensures prefix { OnErr result (AddedPrefix (K.held sink.old) (K.held sink.new) (pieces_text pieces.now)) }
     ensures cause { OnErr result (Rose (K.faults sink.old) (K.faults sink.new)) }
     ensures later { K.faults sink.old ≤ K.faults sink.new }
     ensures fixed { K.fixed sink.new ≡ K.fixed sink.old }
 {
-    let mut digits = Buffer::new();
-    write_all_of(sink, before)?;
-    write_all_of(sink, digits.format(number).as_bytes())?;
-    put_text(sink, after)
+    let mut buffer = Buffer::new();
+    for piece in pieces {
+        write_all_of(sink, piece.text(&mut buffer).as_bytes())?;
+    }
+    sink.flush()
 }

@@ -6,7 +6,7 @@ use Rattle.subdiv_model.specs.Numeral.{normal_form}
 use Rattle.subdiv_model.specs.ObjLine.{is_vertex_line}
 use Rattle.subdiv_model.specs.ReadObj.{kept_coordinates, is_texture_line, point_at, texture_at}
 use Rattle.obj_tags.specs.View.{form_of}
-use Rattle.subdiv_model.proofs.ObjLineLemmas.{keyword-front}
+use Rattle.obj_laws.proofs.ObjLineLemmas.{keyword-first}
 use Rattle.obj_tags.specs.declared.channel.Position.{Position}
 use Rattle.obj_tags.specs.declared.channel.TextureValue.{TextureValue}
 use Rattle.obj_tags.specs.Channel.{position_forms, texture_forms, with_second, position_line_forms, texture_line_forms, kept_from, ArePositions, AreTextureValues, form_at, position_at, texture_value_at}
@@ -49,8 +49,8 @@ point-same scale words p kind e = values scale words p (e ∙ ap (map normal_for
 -- a line of a texture value is none of a position
 pub texture-kept : (words : Words) → is_texture_line words ≡ true → kept_coordinates words ≡ take 2 (drop 1 words)
 texture-kept words kind =
-    let front = keyword-front (codes "vt") words kind in
-    let other : is_vertex_line words ≡ false = ap is_vertex_line front in
+    let split = keyword-first (codes "vt") words kind in
+    let other : is_vertex_line words ≡ false = ap is_vertex_line split in
     rw (other, kind) refl
 
 texture-same : (scale : ℕ) (words : Words) (t : TextureValue) → is_texture_line words ≡ true → texture_forms t ≡ texture_line_forms words → texture_value_at scale t ≡ texture_at scale words

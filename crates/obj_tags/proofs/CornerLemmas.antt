@@ -10,7 +10,7 @@ use Rattle.subdiv_model.specs.Numeral.{are_digits}
 use Rattle.subdiv_model.specs.Index.{is_index, nearest_index}
 use Rattle.subdiv_model.specs.ObjWord.{is_slash, are_corner_parts}
 use Rattle.std.specs.Int.{w64, saturate_to_bits}
-use Rattle.obj_tags.proofs.PartLemmas.{one-part}
+use Rattle.obj_tags.proofs.SplitLemmas.{one-part}
 use Rattle.obj_tags.specs.Corner.{IsReadAs}
 
 and-split : (p q : Bool) → p && q ≡ true → (p ≡ true) × (q ≡ true)

@@ -4,16 +4,16 @@ use Rattle.std.specs.List.{flat_map}
 use Rattle.std.proofs.lemmas.Bool.{cases_Bool}
 use Rattle.std.proofs.lemmas.List.{length-map}
 use Rattle.std.proofs.lemmas.Grind.{flat_map-append}
-use Rattle.subdiv_model.specs.Polygons.{places}
+use Rattle.subdiv_model.specs.Lists.{places}
 use Rattle.subdiv_model.specs.ObjLine.{is_face_line}
 use Rattle.subdiv_model.specs.Sharpness.{Normal}
-use Rattle.subdiv_model.specs.Base.{EdgeOnly}
+use Rattle.subdiv_model.specs.Boundary.{EdgeOnly}
 use Rattle.subdiv_model.specs.ObjWord.{corner_point}
 use Rattle.subdiv_model.specs.ObjTag.{is_tag, tag_creases, tag_corners, tag_indices, tag_mode, tag_method}
 use Rattle.subdiv_model.specs.ReadObj.{counts_of, values_of, corner_numbers, is_tag_line}
-use Rattle.subdiv_model.proofs.ObjStepLemmas.{flat-take, last-take, places-take}
+use Rattle.obj_laws.proofs.ObjStepLemmas.{flat-take, last-take, places-take}
 use Rattle.obj_tags.specs.Draft.{AreFaces, AreTags, textures_at}
-use Rattle.obj_tags.specs.Kept.{point_of}
+use Rattle.obj_tags.specs.Face.{named_point}
 use Rattle.obj_tags.specs.TagAdded.{AddsTag}
 use Rattle.obj_tags.specs.declared.mesh.Faces.{Faces}
 use Rattle.obj_tags.specs.declared.mesh.Tags.{Tags}
@@ -102,7 +102,7 @@ corners-step old new lines n h are next =
     let all : new.corners.items ≡ old.corners.items ++ named n =
     next.corners ∙ ap (flat_map named) (places-face lines n h face) ∙ flat-last named (places is_face_line (take n lines)) n ∙ ap (λ xs. xs ++ named n) (sym are.corners) in
     let size : length new.corners.items ≡ length old.corners.items + length (named n) = ap length all ∙ length-append old.corners.items (named n) in
-    let values : length (named n) ≡ length (values_of line) = length-map (values_of line) (point_of (counts_of (take n lines)) (counts_of lines)) in
+    let values : length (named n) ≡ length (values_of line) = length-map (values_of line) (named_point (counts_of (take n lines)) (counts_of lines)) in
     let less : length (values_of line) ≡ length line - 1 = length-drop 1 line in
     omega (arith, size, values, less))
     (λ (other : is_face_line line ≡ false).

@@ -1,22 +1,23 @@
--- A line is kept behind the lines before it, by its keyword.
+-- A line is kept after the lines before it, by its keyword.
 use Rattle.std.proofs.Common.{◌≡◌, ℕ, suc, ◌+◌, ◌-◌, ◌^◌, ◌<◌, ◌≤◌, Bool, true, false, cond, List, [], ◌∷◌, ◌++◌, length, map, take, drop, get_or, arith, refl, ap, sym, subst, ◌∙◌, codes, Result, Ok, Err, MatchResult, None, Some, nat_lt}
 use Rattle.std.proofs.lemmas.Bool.Decides.{nat_tests}
 use Rattle.std.specs.List.{count_by, flat_map}
 use Rattle.std.proofs.lemmas.Bool.{cond_both}
 use Rattle.std.proofs.lemmas.List.{take_more, length-take, length-map}
 use Rattle.std.proofs.lemmas.List.Sums.{sum_by-cons}
-use Rattle.subdiv_model.specs.Polygons.{places}
+use Rattle.subdiv_model.specs.Lists.{places}
 use Rattle.subdiv_model.specs.ObjLine.{is_vertex_line, is_face_line}
 use Rattle.subdiv_model.specs.ObjFault as fault
 use Rattle.subdiv_model.specs.ObjWord.{Counts, numeral_fault, corner_fault, corner_point}
 use Rattle.subdiv_model.specs.ObjTag.{tag_fault}
 use Rattle.subdiv_model.specs.ReadObj.{counts_of, is_texture_line, is_tag_line, words_fault, values_of, corner_numbers, is_continued, has_known_keyword, least_values, line_fault, fault_at}
-use Rattle.subdiv_model.proofs.ObjLineLemmas.{keyword-front, places-length, count-before}
-use Rattle.obj_tags.specs.Channel.{ArePositions, AreTextureValues, kept_from, position_forms, texture_forms, position_line_forms, texture_line_forms}
+use Rattle.obj_laws.proofs.ObjLineLemmas.{keyword-first, places-length, count-before}
+use Rattle.obj_tags.specs.Channel.{ArePositions, AreTextureValues, AddsPosition, AddsTextureValue, kept_from, position_forms, texture_forms, position_line_forms, texture_line_forms}
 use Rattle.obj_tags.specs.Draft.{IsDraftOf, IsLineAt, HasRoom, textures_at}
 use Rattle.obj_tags.specs.Mesh.{pieces, Ascend}
 use Rattle.obj_tags.specs.View as view
-use Rattle.obj_tags.specs.Kept.{IsLineFault, point_of, textures_of}
+use Rattle.obj_tags.specs.Face.{named_point, named_textures, corners_fault, AddsFace}
+use Rattle.obj_tags.specs.Kept.{IsLineFault, KeptUnless}
 use Rattle.obj_tags.specs.declared.draft.Draft.{Draft}
 use Rattle.obj_tags.specs.declared.face.Counts as face
 use Rattle.obj_tags.specs.declared.channel.Position.{Position}
@@ -27,14 +28,14 @@ use Rattle.obj_tags.proofs.ChannelLemmas.{positions-other, textures-other}
 use Rattle.obj_tags.proofs.DraftLemmas.{tags-more, tags-other, faces-more, faces-other}
 use Rattle.obj_tags.proofs.ScaleLemmas.{Words, Forms}
 use Rattle.obj_tags.proofs.PiecesLemmas.{length-pieces}
-use Rattle.subdiv_model.proofs.CountLemmas.{one_if, one-yes, one-no}
+use Rattle.number_laws.proofs.CountLemmas.{one_if, one-yes, one-no}
 
 -- a line begins with one keyword
 vertex-only : (line : Words) → is_vertex_line line ≡ true → (is_texture_line line ≡ false) × (is_face_line line ≡ false) × (is_tag_line line ≡ false)
-vertex-only line kind = rw (keyword-front (codes "v") line kind) (refl, refl, refl)
+vertex-only line kind = rw (keyword-first (codes "v") line kind) (refl, refl, refl)
 
 texture-only : (line : Words) → is_texture_line line ≡ true → (is_face_line line ≡ false) × (is_tag_line line ≡ false)
-texture-only line kind = rw (keyword-front (codes "vt") line kind) (refl, refl)
+texture-only line kind = rw (keyword-first (codes "vt") line kind) (refl, refl)
 
 -- the lines up to this one
 taken : (all : face.Counts) (number : ℕ) (lines : List Words) (n : ℕ) (line : Words) → IsLineAt all number lines n line → take (n + 1) lines ≡ take n lines ++ line ∷ []
@@ -74,7 +75,7 @@ no-words-fault : (b w : Counts) (line : Words) → is_vertex_line line ≡ false
 no-words-fault b w line a c d e = rw (a, c, d, e) refl
 
 -- a line whose position was kept
-pub kept-position : (r : Result (Unit {0}) LineFault) (draft : Draft) (ps : List Position) (next : Draft) (all : face.Counts) (number : ℕ) (lines : List Words) (n : ℕ) (line values : Words) → next.positions.items ≡ ps → next.texture ≡ draft.texture → next.faces ≡ draft.faces → next.tags ≡ draft.tags → IsLineAt all number lines n line → is_vertex_line line ≡ true → drop 1 line ≡ values → IsDraftOf draft lines n → MatchResult r (λ _. (fault.first_cause numeral_fault values ≡ None) × ((earlier : List Words) (here : Words) → ArePositions draft.positions.items earlier → is_vertex_line here ≡ true → drop 1 here ≡ values → number ≡ suc (length earlier) → ArePositions ps (earlier ++ here ∷ []))) (λ f. IsLineFault f (fault.first_cause numeral_fault values)) → MatchResult r (λ _. (words_fault (counts_of (take n lines)) (counts_of lines) line ≡ None) × IsDraftOf next lines (n + 1)) (λ f. IsLineFault f (words_fault (counts_of (take n lines)) (counts_of lines) line))
+pub kept-position : (r : Result (Unit {0}) LineFault) (draft : Draft) (ps : List Position) (next : Draft) (all : face.Counts) (number : ℕ) (lines : List Words) (n : ℕ) (line values : Words) → next.positions.items ≡ ps → next.texture ≡ draft.texture → next.faces ≡ draft.faces → next.tags ≡ draft.tags → IsLineAt all number lines n line → is_vertex_line line ≡ true → drop 1 line ≡ values → IsDraftOf draft lines n → KeptUnless r (fault.first_cause numeral_fault values) (λ _. AddsPosition number values draft.positions.items ps) → KeptUnless r (words_fault (counts_of (take n lines)) (counts_of lines) line) (λ _. IsDraftOf next lines (n + 1))
 kept-position r draft ps next all number lines n line values e texture faces tags at kind v is said =
     let b = counts_of (take n lines) in
     let w = counts_of lines in
@@ -94,7 +95,7 @@ kept-position r draft ps next all number lines n line values e texture faces tag
     said
 
 -- a line whose texture value was kept
-pub kept-texture : (r : Result (Unit {0}) LineFault) (draft : Draft) (ts : List TextureValue) (next : Draft) (all : face.Counts) (number : ℕ) (lines : List Words) (n : ℕ) (line values : Words) → next.texture.items ≡ ts → next.positions ≡ draft.positions → next.faces ≡ draft.faces → next.tags ≡ draft.tags → IsLineAt all number lines n line → is_vertex_line line ≡ false → is_texture_line line ≡ true → drop 1 line ≡ values → IsDraftOf draft lines n → MatchResult r (λ _. (fault.first_cause numeral_fault values ≡ None) × ((earlier : List Words) (here : Words) → AreTextureValues draft.texture.items earlier → is_texture_line here ≡ true → drop 1 here ≡ values → number ≡ suc (length earlier) → AreTextureValues ts (earlier ++ here ∷ []))) (λ f. IsLineFault f (fault.first_cause numeral_fault values)) → MatchResult r (λ _. (words_fault (counts_of (take n lines)) (counts_of lines) line ≡ None) × IsDraftOf next lines (n + 1)) (λ f. IsLineFault f (words_fault (counts_of (take n lines)) (counts_of lines) line))
+pub kept-texture : (r : Result (Unit {0}) LineFault) (draft : Draft) (ts : List TextureValue) (next : Draft) (all : face.Counts) (number : ℕ) (lines : List Words) (n : ℕ) (line values : Words) → next.texture.items ≡ ts → next.positions ≡ draft.positions → next.faces ≡ draft.faces → next.tags ≡ draft.tags → IsLineAt all number lines n line → is_vertex_line line ≡ false → is_texture_line line ≡ true → drop 1 line ≡ values → IsDraftOf draft lines n → KeptUnless r (fault.first_cause numeral_fault values) (λ _. AddsTextureValue number values draft.texture.items ts) → KeptUnless r (words_fault (counts_of (take n lines)) (counts_of lines) line) (λ _. IsDraftOf next lines (n + 1))
 kept-texture r draft ts next all number lines n line values e positions faces tags at other kind v is said =
     let b = counts_of (take n lines) in
     let w = counts_of lines in
@@ -114,11 +115,11 @@ kept-texture r draft ts next all number lines n line values e positions faces ta
     said
 
 -- a line whose tag was kept
-pub kept-tag : (r : Result (Unit {0}) LineFault) (draft next : Draft) (all : face.Counts) (w : Counts) (number : ℕ) (lines : List Words) (n : ℕ) (line values : Words) → next.positions ≡ draft.positions → next.texture ≡ draft.texture → next.faces ≡ draft.faces → IsLineAt all number lines n line → w ≡ counts_of lines → is_vertex_line line ≡ false → is_texture_line line ≡ false → is_face_line line ≡ false → is_tag_line line ≡ true → drop 1 line ≡ values → IsDraftOf draft lines n → MatchResult r (λ _. (tag_fault w (codes "t" ∷ values) ≡ None) × AddsTag (codes "t" ∷ values) draft.tags next.tags) (λ f. IsLineFault f (tag_fault w (codes "t" ∷ values))) → MatchResult r (λ _. (words_fault (counts_of (take n lines)) (counts_of lines) line ≡ None) × IsDraftOf next lines (n + 1)) (λ f. IsLineFault f (words_fault (counts_of (take n lines)) (counts_of lines) line))
+pub kept-tag : (r : Result (Unit {0}) LineFault) (draft next : Draft) (all : face.Counts) (w : Counts) (number : ℕ) (lines : List Words) (n : ℕ) (line values : Words) → next.positions ≡ draft.positions → next.texture ≡ draft.texture → next.faces ≡ draft.faces → IsLineAt all number lines n line → w ≡ counts_of lines → is_vertex_line line ≡ false → is_texture_line line ≡ false → is_face_line line ≡ false → is_tag_line line ≡ true → drop 1 line ≡ values → IsDraftOf draft lines n → KeptUnless r (tag_fault w (codes "t" ∷ values)) (λ _. AddsTag (codes "t" ∷ values) draft.tags next.tags) → KeptUnless r (words_fault (counts_of (take n lines)) (counts_of lines) line) (λ _. IsDraftOf next lines (n + 1))
 kept-tag r draft next all w number lines n line values positions texture faces at whole no-v no-vt no-f kind v is said =
-    let front : line ≡ codes "t" ∷ values = keyword-front (codes "t") line kind ∙ ap (λ vs. codes "t" ∷ vs) v in
+    let split : line ≡ codes "t" ∷ values = keyword-first (codes "t") line kind ∙ ap (λ vs. codes "t" ∷ vs) v in
     let same : words_fault (counts_of (take n lines)) (counts_of lines) line ≡ tag_fault w (codes "t" ∷ values) =
-    tag-line-fault (counts_of (take n lines)) (counts_of lines) line no-v no-vt no-f kind ∙ ap (λ c. tag_fault c line) (sym whole) ∙ ap (tag_fault w) front in
+    tag-line-fault (counts_of (take n lines)) (counts_of lines) line no-v no-vt no-f kind ∙ ap (λ c. tag_fault c line) (sym whole) ∙ ap (tag_fault w) split in
     match-map r
     (λ _ good. (
       same ∙ good.0,
@@ -126,7 +127,7 @@ kept-tag r draft next all w number lines n line values positions texture faces a
         positions = rw positions (same-positions draft.positions.items all number lines n line at is.positions no-v);
         texture = rw texture (same-textures draft.texture.items all number lines n line at is.texture no-vt);
         faces = rw faces (faces-other draft.faces lines n at.inside is.faces (ap is_face_line at.here ∙ no-f));
-        tags = tags-more draft.tags next.tags lines n at.inside is.tags (subst (λ l. AddsTag l draft.tags next.tags) (sym (at.here ∙ front)) good.1);
+        tags = tags-more draft.tags next.tags lines n at.inside is.tags (subst (λ l. AddsTag l draft.tags next.tags) (sym (at.here ∙ split)) good.1);
       },
     ))
     (λ f bad. subst (λ o. IsLineFault f o) (sym same) bad)
@@ -154,38 +155,38 @@ kept-count place kind forms (line ∷ lines) =
     (λ no. let none : one_if (kind line) ≡ 0 = one-no (kind line) no in omega (arith, rest, sum, none))
 
 -- what was kept of the lines counts them
-pub counts-kept : (draft : Draft) (b : face.Counts) (lines : List Words) (n : ℕ) → b.points ≡ length draft.positions.items → b.textures ≡ length draft.texture.items → b.faces + 1 ≡ length draft.faces.starts.items → IsDraftOf draft lines n → view.counts_of b ≡ counts_of (take n lines)
+pub counts-kept : (draft : Draft) (b : face.Counts) (lines : List Words) (n : ℕ) → b.point_count ≡ length draft.positions.items → b.texture_count ≡ length draft.texture.items → b.face_count + 1 ≡ length draft.faces.starts.items → IsDraftOf draft lines n → view.counts_of b ≡ counts_of (take n lines)
 counts-kept draft b lines n points textures faces is =
-    let ps : b.points ≡ count_by is_vertex_line (take n lines) =
+    let ps : b.point_count ≡ count_by is_vertex_line (take n lines) =
     points ∙ sym (length-map draft.positions.items (λ (p : Position). (p.line, position_forms p))) ∙ ap length is.positions.read ∙ kept-count 1 is_vertex_line position_line_forms (take n lines) in
-    let ts : b.textures ≡ count_by is_texture_line (take n lines) =
+    let ts : b.texture_count ≡ count_by is_texture_line (take n lines) =
     textures ∙ sym (length-map draft.texture.items (λ (t : TextureValue). (t.line, texture_forms t))) ∙ ap length is.texture.read ∙ kept-count 1 is_texture_line texture_line_forms (take n lines) in
     let pieced : length (pieces draft.faces.starts.items draft.faces.corners.items) ≡ length draft.faces.starts.items - 1 = length-pieces draft.faces.starts.items draft.faces.corners.items in
     let counted : length (pieces draft.faces.starts.items draft.faces.corners.items) ≡ count_by is_face_line (take n lines) =
     ap length is.faces.read ∙ length-map (places is_face_line (take n lines)) (corner_numbers corner_point lines) ∙ places-length is_face_line (take n lines) in
-    let fs : b.faces ≡ count_by is_face_line (take n lines) = omega (arith, faces, pieced, counted) in
+    let fs : b.face_count ≡ count_by is_face_line (take n lines) = omega (arith, faces, pieced, counted) in
     rw (ps, ts, fs) refl
 
-face-line-fault : (b w : Counts) (line values : Words) → is_vertex_line line ≡ false → is_texture_line line ≡ false → is_face_line line ≡ true → line ≡ codes "f" ∷ values → words_fault b w line ≡ fault.first_cause (corner_fault b w (get_or values 0 [])) values
-face-line-fault b w line values a c kind front = rw (a, c, kind) (ap (λ l. fault.first_cause (corner_fault b w (get_or l 1 [])) (values_of l)) front)
+face-line-fault : (b w : Counts) (line values : Words) → is_vertex_line line ≡ false → is_texture_line line ≡ false → is_face_line line ≡ true → line ≡ codes "f" ∷ values → words_fault b w line ≡ corners_fault b w values
+face-line-fault b w line values a c kind split = rw (a, c, kind) (ap (λ l. fault.first_cause (corner_fault b w (get_or l 1 [])) (values_of l)) split)
 
 face-only : (line : Words) → is_face_line line ≡ true → is_tag_line line ≡ false
-face-only line kind = rw (keyword-front (codes "f") line kind) refl
+face-only line kind = rw (keyword-first (codes "f") line kind) refl
 
 -- a line whose face was kept
-pub kept-face : (r : Result (Unit {0}) LineFault) (draft next : Draft) (all : face.Counts) (b w : Counts) (number : ℕ) (lines : List Words) (n : ℕ) (line values : Words) → next.positions ≡ draft.positions → next.texture ≡ draft.texture → next.tags ≡ draft.tags → IsLineAt all number lines n line → b ≡ counts_of (take n lines) → w ≡ counts_of lines → is_vertex_line line ≡ false → is_texture_line line ≡ false → is_face_line line ≡ true → drop 1 line ≡ values → IsDraftOf draft lines n → MatchResult r (λ _. (fault.first_cause (corner_fault b w (get_or values 0 [])) values ≡ None) × (next.faces.corners.items ≡ draft.faces.corners.items ++ map (point_of b w) values) × (next.faces.texture_corners.items ≡ draft.faces.texture_corners.items ++ flat_map (textures_of b w) values) × (next.faces.starts.items ≡ draft.faces.starts.items ++ (length draft.faces.corners.items + length values) ∷ [])) (λ f. IsLineFault f (fault.first_cause (corner_fault b w (get_or values 0 [])) values)) → MatchResult r (λ _. (words_fault (counts_of (take n lines)) (counts_of lines) line ≡ None) × IsDraftOf next lines (n + 1)) (λ f. IsLineFault f (words_fault (counts_of (take n lines)) (counts_of lines) line))
+pub kept-face : (r : Result (Unit {0}) LineFault) (draft next : Draft) (all : face.Counts) (b w : Counts) (number : ℕ) (lines : List Words) (n : ℕ) (line values : Words) → next.positions ≡ draft.positions → next.texture ≡ draft.texture → next.tags ≡ draft.tags → IsLineAt all number lines n line → b ≡ counts_of (take n lines) → w ≡ counts_of lines → is_vertex_line line ≡ false → is_texture_line line ≡ false → is_face_line line ≡ true → drop 1 line ≡ values → IsDraftOf draft lines n → KeptUnless r (corners_fault b w values) (λ _. AddsFace b w values draft.faces next.faces) → KeptUnless r (words_fault (counts_of (take n lines)) (counts_of lines) line) (λ _. IsDraftOf next lines (n + 1))
 kept-face r draft next all b w number lines n line values positions texture tags at eb ew no-v no-vt kind v is said =
     let bn = counts_of (take n lines) in
     let wn = counts_of lines in
-    let front : line ≡ codes "f" ∷ values = keyword-front (codes "f") line kind ∙ ap (λ vs. codes "f" ∷ vs) v in
+    let split : line ≡ codes "f" ∷ values = keyword-first (codes "f") line kind ∙ ap (λ vs. codes "f" ∷ vs) v in
     let vals : values ≡ values_of (get_or lines n []) = sym (ap values_of at.here ∙ v) in
-    let same : words_fault bn wn line ≡ fault.first_cause (corner_fault b w (get_or values 0 [])) values =
-    ap (λ c. words_fault c wn line) (sym eb) ∙ ap (λ c. words_fault b c line) (sym ew) ∙ face-line-fault b w line values no-v no-vt kind front in
-    let points : map (point_of b w) values ≡ corner_numbers corner_point lines n =
-    ap (λ c. map (point_of c w) values) eb ∙ ap (λ c. map (point_of bn c) values) ew ∙ ap (map (point_of bn wn)) vals in
-    let named : flat_map (textures_of b w) values ≡ textures_at lines n =
-    ap (λ c. flat_map (textures_of c w) values) eb ∙ ap (λ c. flat_map (textures_of bn c) values) ew ∙ ap (flat_map (textures_of bn wn)) vals in
-    let size : length values ≡ length (corner_numbers corner_point lines n) = sym (length-map values (point_of b w)) ∙ ap length points in
+    let same : words_fault bn wn line ≡ corners_fault b w values =
+    ap (λ c. words_fault c wn line) (sym eb) ∙ ap (λ c. words_fault b c line) (sym ew) ∙ face-line-fault b w line values no-v no-vt kind split in
+    let points : map (named_point b w) values ≡ corner_numbers corner_point lines n =
+    ap (λ c. map (named_point c w) values) eb ∙ ap (λ c. map (named_point bn c) values) ew ∙ ap (map (named_point bn wn)) vals in
+    let named : flat_map (named_textures b w) values ≡ textures_at lines n =
+    ap (λ c. flat_map (named_textures c w) values) eb ∙ ap (λ c. flat_map (named_textures bn c) values) ew ∙ ap (flat_map (named_textures bn wn)) vals in
+    let size : length values ≡ length (corner_numbers corner_point lines n) = sym (length-map values (named_point b w)) ∙ ap length points in
     match-map r
     (λ _ good. (
       same ∙ good.0,
@@ -193,9 +194,9 @@ kept-face r draft next all b w number lines n line values positions texture tags
         positions = rw positions (same-positions draft.positions.items all number lines n line at is.positions no-v);
         texture = rw texture (same-textures draft.texture.items all number lines n line at is.texture no-vt);
         faces = faces-more draft.faces next.faces lines n at.inside is.faces (ap is_face_line at.here ∙ kind)
-            (good.1 ∙ ap (λ xs. draft.faces.corners.items ++ xs) points)
-            (good.2 ∙ ap (λ xs. draft.faces.texture_corners.items ++ xs) named)
-            (good.3 ∙ ap (λ k. draft.faces.starts.items ++ (length draft.faces.corners.items + k) ∷ []) size);
+            (good.1.corners ∙ ap (λ xs. draft.faces.corners.items ++ xs) points)
+            (good.1.textures ∙ ap (λ xs. draft.faces.texture_corners.items ++ xs) named)
+            (good.1.starts ∙ ap (λ k. draft.faces.starts.items ++ (length draft.faces.corners.items + k) ∷ []) size);
         tags = rw tags (tags-other draft.tags lines n at.inside is.tags (ap is_tag_line at.here ∙ face-only line kind));
       },
     ))
@@ -224,7 +225,7 @@ empty-kept draft all number lines n line e at is =
     (ap (line_fault (counts_of (take n lines)) (counts_of lines)) (at.here ∙ e), kept.1)
 
 -- a line whose words were read
-pub read-kept : (r : Result (Unit {0}) LineFault) (next : Draft) (all : face.Counts) (number : ℕ) (lines : List Words) (n : ℕ) (line : Words) (word : List ℕ) (values : Words) → line ≡ word ∷ values → IsLineAt all number lines n line → is_continued (word ∷ values) ≡ false → has_known_keyword (word ∷ values) ≡ true → least_values (word ∷ values) ≤ length values → MatchResult r (λ _. (words_fault (counts_of (take n lines)) (counts_of lines) line ≡ None) × IsDraftOf next lines (n + 1)) (λ f. IsLineFault f (words_fault (counts_of (take n lines)) (counts_of lines) line)) → MatchResult r (λ _. (fault_at lines n ≡ None) × IsDraftOf next lines (n + 1)) (λ f. IsLineFault f (fault_at lines n))
+pub read-kept : (r : Result (Unit {0}) LineFault) (next : Draft) (all : face.Counts) (number : ℕ) (lines : List Words) (n : ℕ) (line : Words) (word : List ℕ) (values : Words) → line ≡ word ∷ values → IsLineAt all number lines n line → is_continued (word ∷ values) ≡ false → has_known_keyword (word ∷ values) ≡ true → least_values (word ∷ values) ≤ length values → KeptUnless r (words_fault (counts_of (take n lines)) (counts_of lines) line) (λ _. IsDraftOf next lines (n + 1)) → KeptUnless r (fault_at lines n) (λ _. IsDraftOf next lines (n + 1))
 read-kept r next all number lines n line word values e at last known enough said =
     let bn = counts_of (take n lines) in
     let wn = counts_of lines in
@@ -240,19 +241,19 @@ some-starts [] end ascend = absurd ascend
 some-starts (a ∷ starts) end ascend = omega arith
 
 -- what was kept of the first lines is no more than what all lines have
-pub kept-room : (draft : Draft) (all : face.Counts) (lines : List Words) (n more : ℕ) → view.counts_of all ≡ counts_of lines → all.faces < 2 ^ 32 → IsDraftOf draft lines n → length draft.faces.corners.items + more < 2 ^ 32 → HasRoom draft all more
+pub kept-room : (draft : Draft) (all : face.Counts) (lines : List Words) (n more : ℕ) → view.counts_of all ≡ counts_of lines → all.face_count < 2 ^ 32 → IsDraftOf draft lines n → length draft.faces.corners.items + more < 2 ^ 32 → HasRoom draft all more
 kept-room draft all lines n more counted few is corners =
     let starts = draft.faces.starts.items in
     let some = some-starts starts (length draft.faces.corners.items) is.faces.ascend in
-    let b : face.Counts = record { points = length draft.positions.items; textures = length draft.texture.items; faces = length starts - 1 } in
+    let b : face.Counts = record { point_count = length draft.positions.items; texture_count = length draft.texture.items; face_count = length starts - 1 } in
     let whole : (length starts - 1) + 1 ≡ length starts = omega (arith, some) in
     let before = counts-kept draft b lines n refl refl whole is in
-    let ps : length draft.positions.items ≡ count_by is_vertex_line (take n lines) = ap (λ (k : Counts). k.points) before in
-    let ts : length draft.texture.items ≡ count_by is_texture_line (take n lines) = ap (λ (k : Counts). k.textures) before in
-    let fs : length starts - 1 ≡ count_by is_face_line (take n lines) = ap (λ (k : Counts). k.faces) before in
-    let all-ps : all.points ≡ count_by is_vertex_line lines = ap (λ (k : Counts). k.points) counted in
-    let all-ts : all.textures ≡ count_by is_texture_line lines = ap (λ (k : Counts). k.textures) counted in
-    let all-fs : all.faces ≡ count_by is_face_line lines = ap (λ (k : Counts). k.faces) counted in
+    let ps : length draft.positions.items ≡ count_by is_vertex_line (take n lines) = ap (λ (k : Counts). k.point_count) before in
+    let ts : length draft.texture.items ≡ count_by is_texture_line (take n lines) = ap (λ (k : Counts). k.texture_count) before in
+    let fs : length starts - 1 ≡ count_by is_face_line (take n lines) = ap (λ (k : Counts). k.face_count) before in
+    let all-ps : all.point_count ≡ count_by is_vertex_line lines = ap (λ (k : Counts). k.point_count) counted in
+    let all-ts : all.texture_count ≡ count_by is_texture_line lines = ap (λ (k : Counts). k.texture_count) counted in
+    let all-fs : all.face_count ≡ count_by is_face_line lines = ap (λ (k : Counts). k.face_count) counted in
     record {
       points = omega (arith, ps, all-ps, count-before is_vertex_line lines n);
       textures = omega (arith, ts, all-ts, count-before is_texture_line lines n);

@@ -1,9 +1,9 @@
 -- A mesh that is kept in whole lists has its numbers within the lists that they count.
-use Rattle.std.proofs.Common.{◌≡◌, ℕ, ◌+◌, ◌-◌, ◌<◌, ◌≤◌, Bool, true, false, if◌then◌else◌, List, [], ◌∷◌, length, map, arith, slice_range, drop}
+use Rattle.std.proofs.Common.{◌≡◌, ℕ, ◌+◌, ◌-◌, ◌^◌, ◌<◌, ◌≤◌, Bool, true, false, if◌then◌else◌, List, [], ◌∷◌, length, map, arith, slice_range, drop}
 use Rattle.std.specs.List.{All, sum_by}
 use Rattle.std.proofs.lemmas.List.{length-map}
 use Rattle.std.proofs.lemmas.List.Elements.{All-nil, All-cons, All-map, All-weaker, All-take, All-drop}
-use Rattle.obj_tags.specs.Mesh.{pieces, Ascend, IsWhole}
+use Rattle.obj_tags.specs.Mesh.{pieces, Ascend, IsWhole, mesh_of}
 use Rattle.obj_tags.specs.Laws.{IsWithin}
 use Rattle.obj_tags.specs.View.{point_of, texture_of, crease_of, corner_tag_of, boundary_of}
 use Rattle.sharpness_rules.specs.View.{method_of}
@@ -33,7 +33,7 @@ texture-all true P starts xs h = pieces-all P starts xs h
 texture-all false P starts xs h = All-nil (λ piece. All P piece)
 
 -- the laws of a mesh, from what is kept
-pub within : (points : List Point3) (scale : ℕ) (texture : List Point2) (texture_scale : ℕ) (faces : Faces) (has_texture : Bool) (tags : Tags) → IsWhole (length points) (length texture) has_texture faces tags → IsWithin (record { points = map point_of points; scale = scale; texture = map texture_of texture; texture_scale = texture_scale; faces = pieces faces.starts.items faces.corners.items; has_texture = has_texture; texture_corners = if has_texture then pieces faces.starts.items faces.texture_corners.items else []; creases = map crease_of tags.creases.items; corners = map corner_tag_of tags.corners.items; holes = tags.holes.items; boundary = boundary_of tags.boundary; method = method_of tags.method })
+pub within : (points : List Point3) (scale : ℕ) (texture : List Point2) (texture_scale : ℕ) (faces : Faces) (has_texture : Bool) (tags : Tags) → IsWhole (length points) (length texture) has_texture faces tags → IsWithin (mesh_of points scale texture texture_scale faces has_texture tags)
 within points scale texture texture_scale faces has_texture tags whole =
     let as_points : length (map point_of points) ≡ length points = length-map points point_of in
     let as_values : length (map texture_of texture) ≡ length texture = length-map texture texture_of in
@@ -43,7 +43,7 @@ within points scale texture texture_scale faces has_texture tags whole =
       faces = pieces-all (λ v. v < length (map point_of points)) faces.starts.items faces.corners.items (All-weaker (λ v. v < length points) (λ v. v < length (map point_of points)) (λ v h. omega (arith, h, as_points)) faces.corners.items whole.vertices);
       texture_corners = texture-all has_texture (λ t. t < length (map texture_of texture)) faces.starts.items faces.texture_corners.items (All-weaker (λ t. t < length texture) (λ t. t < length (map texture_of texture)) (λ t h. omega (arith, h, as_values)) faces.texture_corners.items whole.texture);
       creases = All-map (λ c. (c.0.0 < length (map point_of points)) × (c.0.1 < length (map point_of points))) crease_of tags.creases.items (All-weaker (λ c. (c.a < length points) × (c.b < length points)) (λ c. (c.a < length (map point_of points)) × (c.b < length (map point_of points))) (λ c h. (omega (arith, h.0, as_points), omega (arith, h.1, as_points))) tags.creases.items whole.crease_ends);
-      corners = All-map (λ c. c.0 < length (map point_of points)) corner_tag_of tags.corners.items (All-weaker (λ c. c.vertex < length points) (λ c. c.vertex < length (map point_of points)) (λ c h. omega (arith, h, as_points)) tags.corners.items whole.corner_vertices);
+      corner_tags = All-map (λ c. c.0 < length (map point_of points)) corner_tag_of tags.corners.items (All-weaker (λ c. c.vertex < length points) (λ c. c.vertex < length (map point_of points)) (λ c h. omega (arith, h, as_points)) tags.corners.items whole.corner_vertices);
       holes = All-weaker (λ f. f + 1 < length faces.starts.items) (λ f. f < length polygons) (λ f h. omega (arith, h, as_faces)) tags.holes.items whole.hole_faces;
       few_corners = omega (arith, whole.short, pieces-short faces.starts.items faces.corners.items whole.ascend);
     }

@@ -1,4 +1,4 @@
-pub mod PartLemmas
+pub mod SplitLemmas
 pub mod NumberLemmas
 pub mod CornerLemmas
 pub mod WalkLemmas

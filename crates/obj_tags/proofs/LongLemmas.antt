@@ -1,4 +1,5 @@
 -- The first line with a coordinate of too many digits at its scale.
+use Rattle.std.specs.Option.{option_or}
 use Rattle.std.proofs.Common.{◌≡◌, ℕ, zero, suc, ◌+◌, ◌-◌, ◌^◌, ◌<◌, ◌≤◌, pos, unsigned_abs, nat_le, Bool, true, false, ◌||◌, List, [], ◌∷◌, length, map, drop, get_or, Option, Some, None, option_map, arith, refl, ap, sym, ◌∙◌, if◌then◌else◌, ⊎_elim, inl, inr, ◌⊎◌, min, codes}
 use Rattle.std.specs.List.{All, list_any}
 use Rattle.std.proofs.lemmas.Bool.{cases_Bool, leb-false}
@@ -9,15 +10,15 @@ use Rattle.std.proofs.lemmas.List.Elements.{All-nil, All-cons}
 use Rattle.subdiv_model.specs.Numeral.{normal_form}
 use Rattle.subdiv_model.specs.ObjLine.{is_vertex_line}
 use Rattle.subdiv_model.specs.ReadObj.{kept_coordinates, is_texture_line, position_scale, texture_scale_of, is_long_at, long_fault, first_long_line}
-use Rattle.subdiv_model.specs.ObjFault.{ObjCause, ObjFault, NumberRange, or_else}
+use Rattle.subdiv_model.specs.ObjFault.{ObjCause, ObjFault, NumberRange}
 use Rattle.obj_text.specs.declared.numeral.Numeral.{Numeral}
 use Rattle.obj_tags.specs.View.{form_of}
-use Rattle.subdiv_model.proofs.ObjLineLemmas.{keyword-front}
+use Rattle.obj_laws.proofs.ObjLineLemmas.{keyword-first}
 use Rattle.obj_tags.specs.declared.channel.Position.{Position}
 use Rattle.obj_tags.specs.declared.channel.TextureValue.{TextureValue}
-use Rattle.obj_tags.specs.Channel.{position_forms, texture_forms, with_second, position_line_forms, texture_line_forms, kept_from, ArePositions, AreTextureValues, is_long_form, long_of_kind, first_long_of_kind, lesser_line, IsShortAt, IsShortPosition, IsShortTexture}
+use Rattle.obj_tags.specs.Channel.{position_forms, texture_forms, with_second, position_line_forms, texture_line_forms, kept_from, ArePositions, AreTextureValues, is_long_form, long_of_kind, first_long_of_kind, long_fault_at, lesser_line, IsShortAt, IsShortPosition, IsShortTexture}
 use Rattle.obj_tags.proofs.ScaleLemmas.{Words, Forms}
-use Rattle.subdiv_model.proofs.FirstFaultLemmas.{first_from, good-first, bad-first}
+use Rattle.obj_laws.proofs.FirstFaultLemmas.{first_from, good-first, bad-first}
 
 none-parts : (t : Bool) (line : ℕ) (rest : Option ℕ) → (if t then Some line else rest) ≡ None → (t ≡ false) × (rest ≡ None)
 none-parts true line rest e = cc
@@ -45,9 +46,6 @@ second-long scale (u ∷ []) = ap (λ t. is_long_form scale (normal_form u) || (
 second-long scale (u ∷ (v ∷ rest)) = same-long scale (u ∷ v ∷ rest)
 
 -- the fault of a line, counted from 1
-abbrev pub long_fault_at : ℕ → ObjFault
-long_fault_at line = record { line = line; cause = NumberRange }
-
 from-bad : (cause_at : ℕ → Option ObjCause) (start count : ℕ) → cause_at start ≡ Some NumberRange → Some (long_fault_at (start + 1)) ≡ first_from cause_at start (suc count)
 from-bad cause_at start count e = let next : start + 1 ≡ suc start = omega arith in rw e (ap (λ n. Some (long_fault_at n)) next)
 
@@ -171,14 +169,14 @@ least-second (Some k) (Some m) n cause e later =
     ap (λ l. Some (long_fault_at l)) less ∙ e
 
 -- the first fault of two kinds of lines
-least-from : (f g h : ℕ → Option ObjCause) → ((i : ℕ) → h i ≡ or_else (f i) (g i)) → (a b : Option ℕ) (start count : ℕ) → option_map long_fault_at a ≡ first_from f start count → option_map long_fault_at b ≡ first_from g start count → option_map long_fault_at (lesser_line a b) ≡ first_from h start count
+least-from : (f g h : ℕ → Option ObjCause) → ((i : ℕ) → h i ≡ option_or (f i) (g i)) → (a b : Option ℕ) (start count : ℕ) → option_map long_fault_at a ≡ first_from f start count → option_map long_fault_at b ≡ first_from g start count → option_map long_fault_at (lesser_line a b) ≡ first_from h start count
 least-from f g h each None None start zero ea eb = refl
 least-from f g h each None (Some m) start zero ea eb = cc
 least-from f g h each (Some k) b start zero ea eb = cc
 least-from f g h each a b start (suc count) ea eb =
     ⊎_elim
     (λ (first : f start ≡ None).
-    let joined : h start ≡ g start = each start ∙ ap (λ x. or_else x (g start)) first in
+    let joined : h start ≡ g start = each start ∙ ap (λ x. option_or x (g start)) first in
     ⊎_elim
     (λ (second : g start ≡ None).
     least-from f g h each a b (start + 1) count (ea ∙ good-first f start count first) (eb ∙ good-first g start count second)
@@ -189,11 +187,11 @@ least-from f g h each a b start (suc count) ea eb =
     (option-cases (g start)))
     (λ (first : (cause : ObjCause) × (f start ≡ Some cause)).
     least-first a b (suc start) first.0 (ea ∙ bad-first f start count first.0 first.1) (λ m e. from-later g start (suc count) m (ap (option_map long_fault_at) (sym e) ∙ eb))
-    ∙ sym (bad-first h start count first.0 (each start ∙ ap (λ x. or_else x (g start)) first.1)))
+    ∙ sym (bad-first h start count first.0 (each start ∙ ap (λ x. option_or x (g start)) first.1)))
     (option-cases (f start))
 
 -- a line is of a position, of a texture value, or of none
-or-none : (fault : Option ObjCause) → fault ≡ or_else fault None
+or-none : (fault : Option ObjCause) → fault ≡ option_or fault None
 or-none None = refl
 or-none (Some cause) = refl
 
@@ -201,21 +199,21 @@ or-none (Some cause) = refl
 abbrev fault_at_scales : ℕ → ℕ → Words → Option ObjCause
 fault_at_scales ps ts words = if list_any (is_long_at (if is_vertex_line words then ps else ts)) (kept_coordinates words) then Some NumberRange else None
 
-by-vertex : (ps ts : ℕ) (words : Words) → is_vertex_line words ≡ true → is_texture_line words ≡ false → fault_at_scales ps ts words ≡ or_else (long_of_kind is_vertex_line ps words) (long_of_kind is_texture_line ts words)
+by-vertex : (ps ts : ℕ) (words : Words) → is_vertex_line words ≡ true → is_texture_line words ≡ false → fault_at_scales ps ts words ≡ option_or (long_of_kind is_vertex_line ps words) (long_of_kind is_texture_line ts words)
 by-vertex ps ts words vertex other = rw (vertex, other) (or-none _)
 
-by-texture : (ps ts : ℕ) (words : Words) → is_vertex_line words ≡ false → is_texture_line words ≡ true → fault_at_scales ps ts words ≡ or_else (long_of_kind is_vertex_line ps words) (long_of_kind is_texture_line ts words)
+by-texture : (ps ts : ℕ) (words : Words) → is_vertex_line words ≡ false → is_texture_line words ≡ true → fault_at_scales ps ts words ≡ option_or (long_of_kind is_vertex_line ps words) (long_of_kind is_texture_line ts words)
 by-texture ps ts words other texture = rw (other, texture) refl
 
-by-none : (ps ts : ℕ) (words : Words) → is_vertex_line words ≡ false → is_texture_line words ≡ false → fault_at_scales ps ts words ≡ or_else (long_of_kind is_vertex_line ps words) (long_of_kind is_texture_line ts words)
+by-none : (ps ts : ℕ) (words : Words) → is_vertex_line words ≡ false → is_texture_line words ≡ false → fault_at_scales ps ts words ≡ option_or (long_of_kind is_vertex_line ps words) (long_of_kind is_texture_line ts words)
 by-none ps ts words other none = rw (other, none) refl
 
-either-kind : (least : ℕ) (lines : List Words) (words : Words) → long_fault least lines words ≡ or_else (long_of_kind is_vertex_line (position_scale least lines) words) (long_of_kind is_texture_line (texture_scale_of lines) words)
+either-kind : (least : ℕ) (lines : List Words) (words : Words) → long_fault least lines words ≡ option_or (long_of_kind is_vertex_line (position_scale least lines) words) (long_of_kind is_texture_line (texture_scale_of lines) words)
 either-kind least lines words =
     ⊎_elim
     (λ (vertex : is_vertex_line words ≡ true).
-    let front = keyword-front (codes "v") words vertex in
-    let other : is_texture_line words ≡ false = ap is_texture_line front in
+    let split = keyword-first (codes "v") words vertex in
+    let other : is_texture_line words ≡ false = ap is_texture_line split in
     by-vertex (position_scale least lines) (texture_scale_of lines) words vertex other)
     (λ (other : is_vertex_line words ≡ false).
     ⊎_elim (λ (texture : is_texture_line words ≡ true). by-texture (position_scale least lines) (texture_scale_of lines) words other texture)

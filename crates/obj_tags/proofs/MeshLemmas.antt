@@ -1,5 +1,5 @@
 -- The mesh of a draft of all lines is that of the lines.
-use Rattle.std.proofs.Common.{◌≡◌, ℕ, ◌+◌, ℤ, Bool, true, false, ◌&&◌, nat_eq, nat_lt, List, [], ◌∷◌, ◌++◌, length, map, take, get_or, arith, refl, ap, sym, subst, ◌∙◌, Option, option_map, ⊎_elim, if◌then◌else◌}
+use Rattle.std.proofs.Common.{◌≡◌, ℕ, ◌+◌, ◌^◌, ℤ, Bool, true, false, ◌&&◌, nat_eq, nat_lt, List, [], ◌∷◌, ◌++◌, length, map, take, get_or, arith, refl, ap, sym, subst, ◌∙◌, Option, option_map, ⊎_elim, if◌then◌else◌}
 use Rattle.std.specs.Prelude.{unwrap_or}
 use Rattle.std.specs.List.{list_all, list_any, count_by, filter, flat_map}
 use Rattle.std.proofs.Math.Seq.{take-length}
@@ -8,20 +8,21 @@ use Rattle.std.proofs.lemmas.Bool.Decides.{nat_tests}
 use Rattle.std.proofs.lemmas.List.{length-map, length-append}
 use Rattle.std.proofs.lemmas.List.Folds.{list_all-map, flat_map-map}
 use Rattle.std.proofs.lemmas.List.Sums.{sum_by-append}
-use Rattle.sharpness_rules.specs.View.{method_of}
 use Rattle.subdiv_model.specs.ObjLine.{is_vertex_line, is_face_line}
 use Rattle.subdiv_model.specs.ObjWord.{corner_point, corner_texture, has_texture_part}
 use Rattle.subdiv_model.specs.ReadObj.{counts_of, values_of, corner_numbers, has_texture_channel, texture_corners_of, is_texture_line, position_scale, texture_scale_of, point_at, texture_at, mesh_of_lines, first_long_line}
-use Rattle.subdiv_model.proofs.CountLemmas.{any-count}
-use Rattle.subdiv_model.proofs.ObjChannelLemmas.{passing-all, passing-count, corner-words, channel-counted}
-use Rattle.subdiv_model.proofs.ObjLateLemmas.{filter-places}
+use Rattle.number_laws.proofs.CountLemmas.{any-count}
+use Rattle.obj_laws.proofs.ObjChannelLemmas.{passing-all, passing-count, corner-words, channel-counted}
+use Rattle.obj_laws.proofs.ObjLateLemmas.{filter-places}
 use Rattle.obj_tags.specs.declared.channel.Position.{Position}
 use Rattle.obj_tags.specs.declared.channel.TextureValue.{TextureValue}
-use Rattle.obj_tags.specs.Channel.{ArePositions, AreTextureValues, first_long_of_kind, lesser_line}
-use Rattle.obj_tags.proofs.LongLemmas.{long_fault_at, first-long}
+use Rattle.obj_tags.specs.Channel.{ArePositions, AreTextureValues, first_long_of_kind, lesser_line, long_fault_at}
+use Rattle.obj_tags.proofs.LongLemmas.{first-long}
 use Rattle.obj_tags.specs.Draft.{IsDraftOf, textures_at}
-use Rattle.obj_tags.specs.Mesh.{pieces, Ascend}
-use Rattle.obj_tags.specs.View.{boundary_of, crease_of, corner_tag_of}
+use Rattle.obj_tags.specs.Mesh.{pieces, Ascend, names_all_texture, mesh_of}
+use Rattle.obj_tags.specs.View.{point_of, texture_of}
+use Rattle.ratio128.specs.declared.point.Point2.{Point2}
+use Rattle.ratio128.specs.declared.point.Point3.{Point3}
 use Rattle.obj_tags.specs.declared.draft.Draft.{Draft}
 use Rattle.obj_tags.proofs.PiecesLemmas.{pieces-same}
 use Rattle.obj_tags.proofs.ScaleLemmas.{Words}
@@ -57,7 +58,7 @@ some-counted : {X : Type 0} (test : X → Bool) (xs : List X) (n : ℕ) → n �
 some-counted test xs n e = grind (arith, nat_tests, any-count test xs)
 
 -- whether all corners have a texture value
-pub has-texture : (draft : Draft) (lines : List Words) → OfAll draft lines → (nat_lt 1 (length draft.faces.starts.items) && nat_eq (length draft.faces.texture_corners.items) (length draft.faces.corners.items)) ≡ has_texture_channel lines
+pub has-texture : (draft : Draft) (lines : List Words) → OfAll draft lines → names_all_texture draft.faces ≡ has_texture_channel lines
 has-texture draft lines all =
     let words = words-of-faces lines in
     let some : nat_lt 1 (length draft.faces.starts.items) ≡ list_any is_face_line lines = some-counted is_face_line lines (length draft.faces.starts.items) all.faces in
@@ -102,7 +103,7 @@ pub all-values : (draft : Draft) (lines : List Words) (ts : List TextureValue) �
 all-values draft lines ts e is = rw e (subst (AreTextureValues draft.texture.items) (take-length lines) is.texture)
 
 -- what was kept, at its scales, is the mesh of the lines
-pub mesh-draft : (draft : Draft) (lines : List Words) (least scale texture_scale : ℕ) (has : Bool) (points : List (ℤ × ℤ × ℤ)) (values : List (ℤ × ℤ)) → IsDraftOf draft lines (length lines) → scale ≡ position_scale least lines → texture_scale ≡ texture_scale_of lines → has ≡ (nat_lt 1 (length draft.faces.starts.items) && nat_eq (length draft.faces.texture_corners.items) (length draft.faces.corners.items)) → points ≡ map (point_at scale) (filter is_vertex_line lines) → values ≡ map (texture_at texture_scale) (filter is_texture_line lines) → (record { points = points; scale = scale; texture = values; texture_scale = texture_scale; faces = pieces draft.faces.starts.items draft.faces.corners.items; has_texture = has; texture_corners = if has then pieces draft.faces.starts.items draft.faces.texture_corners.items else []; creases = map crease_of draft.tags.creases.items; corners = map corner_tag_of draft.tags.corners.items; holes = draft.tags.holes.items; boundary = boundary_of draft.tags.boundary; method = method_of draft.tags.method }) ≡ mesh_of_lines lines least
+pub mesh-draft : (draft : Draft) (lines : List Words) (least scale texture_scale : ℕ) (has : Bool) (points : List Point3) (values : List Point2) → IsDraftOf draft lines (length lines) → scale ≡ position_scale least lines → texture_scale ≡ texture_scale_of lines → has ≡ names_all_texture draft.faces → map point_of points ≡ map (point_at scale) (filter is_vertex_line lines) → map texture_of values ≡ map (texture_at texture_scale) (filter is_texture_line lines) → mesh_of points scale values texture_scale draft.faces has draft.tags ≡ mesh_of_lines lines least
 mesh-draft draft lines least scale texture_scale has points values is e_scale e_texture_scale e_has e_points e_values =
     let all = of-all draft lines is in
     let same : has ≡ has_texture_channel lines = e_has ∙ has-texture draft lines all in

@@ -6,13 +6,13 @@ use Rattle.std.proofs.lemmas.Grind.{pow_more}
 use Rattle.std.specs.Int.Signed.{lt_z}
 use Rattle.std.proofs.lemmas.Int.{fits_signed_from_abs, unsigned_abs-mul}
 use Rattle.obj_text.proofs.DecimalLemmas.{times-tens}
-use Rattle.subdiv_model.proofs.RangeLemmas.{kept-range, grows}
+use Rattle.obj_laws.proofs.RangeLemmas.{kept-range, grows}
 use Rattle.subdiv_model.specs.Numeral.{is_numeral, normal_amount, normal_form, is_in_range, signed}
 use Rattle.subdiv_model.specs.Digits.{has_minus}
 use Rattle.subdiv_model.specs.ObjWord.{numeral_fault}
 use Rattle.subdiv_model.specs.Sharpness.{Infinite, sharpness_of_fraction, sharpness_of}
 use Rattle.subdiv_model.specs.ObjTag.{tag_numeral_fault, amount_fraction}
-use Rattle.subdiv_model.proofs.NumeralValueLemmas.{signed-amount}
+use Rattle.obj_laws.proofs.NumeralValueLemmas.{signed-amount}
 
 pub tens-fit : (z : ℕ) → z ≤ 38 → 10 ^ z < 2 ^ 127
 tens-fit z h = let most : 10 ^ z ≤ 10 ^ 38 = grows z 38 h in omega arith

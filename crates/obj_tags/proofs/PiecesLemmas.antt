@@ -35,7 +35,7 @@ Ascend-push [] end more a = absurd a
 Ascend-push (x ∷ []) end more a = (omega (arith, a), refl)
 Ascend-push (x ∷ (y ∷ places)) end more a = (a.0, Ascend-push (y ∷ places) end more a.1)
 
--- a part of the front stays when more comes behind
+-- a range of a prefix stays when more comes after it
 range-append : (xs ys : List ℕ) (a b : ℕ) → b ≤ length xs → slice_range (xs ++ ys) a b ≡ slice_range xs a b
 range-append xs ys a b h = grind (arith, common_steps)
 
@@ -62,30 +62,30 @@ sum_by-pieces s (t ∷ starts) xs a =
 join-cons : {p q : List ℕ} {ps qs : List (List ℕ)} → p ≡ q → ps ≡ qs → (p ∷ ps) ≡ (q ∷ qs)
 join-cons e f = cc
 
-range-middle : (front ys zs : List ℕ) (s t : ℕ) → s ≡ length front → t ≡ length front + length ys → slice_range ((front ++ ys) ++ zs) s t ≡ ys
-range-middle front ys zs s t e h =
-    let within : t ≤ length (front ++ ys) = omega (arith, h, length-append front ys) in
-    range-append (front ++ ys) zs s t within ∙ ap (λ a. slice_range (front ++ ys) a t) e ∙ ap (slice_range (front ++ ys) (length front)) h ∙ range-rest front ys
+range-middle : (prefix ys zs : List ℕ) (s t : ℕ) → s ≡ length prefix → t ≡ length prefix + length ys → slice_range ((prefix ++ ys) ++ zs) s t ≡ ys
+range-middle prefix ys zs s t e h =
+    let within : t ≤ length (prefix ++ ys) = omega (arith, h, length-append prefix ys) in
+    range-append (prefix ++ ys) zs s t within ∙ ap (λ a. slice_range (prefix ++ ys) a t) e ∙ ap (slice_range (prefix ++ ys) (length prefix)) h ∙ range-rest prefix ys
 
 -- lists whose parts are as long as these pieces have the same places
-pieces-alike : (f g : ℕ → List ℕ) → ((i : ℕ) → length (g i) ≡ length (f i)) → (starts xs front is : List ℕ) → Ascend starts (length xs) → pieces starts xs ≡ map f is → get_or starts 0 0 ≡ length front → pieces starts (front ++ flat_map g is) ≡ map g is
-pieces-alike f g same [] xs front is a e h = absurd a
-pieces-alike f g same (s ∷ []) xs front [] a e h = refl
-pieces-alike f g same (s ∷ []) xs front (i ∷ is) a e h = cc
-pieces-alike f g same (s ∷ (t ∷ starts)) xs front [] a e h = cc
-pieces-alike f g same (s ∷ (t ∷ starts)) xs front (i ∷ is) a e h =
+pieces-alike : (f g : ℕ → List ℕ) → ((i : ℕ) → length (g i) ≡ length (f i)) → (starts xs prefix is : List ℕ) → Ascend starts (length xs) → pieces starts xs ≡ map f is → get_or starts 0 0 ≡ length prefix → pieces starts (prefix ++ flat_map g is) ≡ map g is
+pieces-alike f g same [] xs prefix is a e h = absurd a
+pieces-alike f g same (s ∷ []) xs prefix [] a e h = refl
+pieces-alike f g same (s ∷ []) xs prefix (i ∷ is) a e h = cc
+pieces-alike f g same (s ∷ (t ∷ starts)) xs prefix [] a e h = cc
+pieces-alike f g same (s ∷ (t ∷ starts)) xs prefix (i ∷ is) a e h =
     let parts : (slice_range xs s t ≡ f i) × (pieces (t ∷ starts) xs ≡ map f is) = cons-parts _ _ _ _ e in
     let size = length-range xs s t a.0 (head_below t starts (length xs) a.1) in
     let long : length (slice_range xs s t) ≡ length (f i) = ap length parts.0 in
     let alike : length (g i) ≡ length (f i) = same i in
-    let place : s ≡ length front = h in
-    let next : t ≡ length front + length (g i) = omega (arith, size, long, alike, place) in
-    let seam : front ++ (g i ++ flat_map g is) ≡ (front ++ g i) ++ flat_map g is = sym (append_assoc front (g i) (flat_map g is)) in
+    let place : s ≡ length prefix = h in
+    let next : t ≡ length prefix + length (g i) = omega (arith, size, long, alike, place) in
+    let seam : prefix ++ (g i ++ flat_map g is) ≡ (prefix ++ g i) ++ flat_map g is = sym (append_assoc prefix (g i) (flat_map g is)) in
     ap (pieces (s ∷ (t ∷ starts))) seam
-    ∙ join-cons (range-middle front (g i) (flat_map g is) s t place next)
-    (pieces-alike f g same (t ∷ starts) xs (front ++ g i) is a.1 parts.1 (next ∙ sym (length-append front (g i))))
+    ∙ join-cons (range-middle prefix (g i) (flat_map g is) s t place next)
+    (pieces-alike f g same (t ∷ starts) xs (prefix ++ g i) is a.1 parts.1 (next ∙ sym (length-append prefix (g i))))
 
--- the places of lists that lie one behind the other from the first on
+-- the places of lists that lie one after the other
 pub pieces-same : (f g : ℕ → List ℕ) → ((i : ℕ) → length (g i) ≡ length (f i)) → (starts xs is : List ℕ) → Ascend starts (length xs) → pieces starts xs ≡ map f is → xs ≡ flat_map f is → pieces starts (flat_map g is) ≡ map g is
 pieces-same f g same [] xs is a e all = absurd a
 pieces-same f g same (s ∷ starts) xs is a e all =

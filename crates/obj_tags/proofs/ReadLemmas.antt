@@ -1,7 +1,14 @@
 -- The next line of a text, among the lines that a reader walks.
-use Rattle.std.proofs.Common.{◌≡◌, ℕ, ◌+◌, ◌-◌, ◌<◌, ◌≤◌, List, [], ◌∷◌, length, map, drop, get_or, arith, ap, sym, ◌∙◌, length-drop}
+use Rattle.std.proofs.Common.{◌≡◌, ℕ, ◌+◌, ◌-◌, ◌<◌, ◌≤◌, List, [], ◌∷◌, length, map, drop, get_or, Option, None, Result, Ok, Err, MatchResult, arith, ap, sym, subst, ◌∙◌, length-drop}
+use Rattle.std.specs.Option.{option_or}
 use Rattle.std.proofs.lemmas.List.{drop_more}
 use Rattle.subdiv_model.specs.ObjLine.{lines_of, line_words}
+use Rattle.subdiv_model.specs.ObjFault.{ObjFault}
+use Rattle.subdiv_model.specs.ReadObj.{without_mark, obj_lines, first_bad_line}
+use Rattle.obj_tags.specs.Draft.{IsDraftOf}
+use Rattle.obj_tags.specs.Kept.{IsReadFault, TextKeptUnless}
+use Rattle.obj_tags.specs.declared.draft.Draft.{Draft}
+use Rattle.obj_tags.specs.declared.fault.ReadFault.{ReadFault}
 use Rattle.obj_tags.proofs.ScaleLemmas.{Words}
 
 -- a line stands at place n, and others follow it
@@ -26,3 +33,16 @@ pub at-end : (rest : List ℕ) (lines : List Words) (n : ℕ) → lines_of rest 
 at-end rest lines n e left =
     let none : length (drop n lines) ≡ 0 = ap length (sym left) ∙ ap (λ ls. length (map line_words ls)) e in
     omega (arith, length-drop n lines)
+
+-- none of the lines is bad, and all were kept
+abbrev AreKept : Draft → List Words → Type 0
+AreKept draft lines = (first_bad_line lines ≡ None) × IsDraftOf draft lines (length lines)
+
+-- the lines of what follows a byte order mark are those of the text
+pub kept-text : (draft : Draft) (text rest : List ℕ) → rest ≡ without_mark text → AreKept draft (map line_words (lines_of rest)) → AreKept draft (obj_lines text)
+kept-text draft text rest e kept = subst (λ t. AreKept draft (map line_words (lines_of t))) e kept
+
+-- a text without a bad line is refused for its first long one
+pub refused-late : {X : Type 0} (Says : X → Type 0) (r : Result X ReadFault) (bad long : Option ObjFault) → bad ≡ None → TextKeptUnless r long Says → MatchResult r (λ _. Unit {0}) (λ f. IsReadFault f (option_or bad long))
+refused-late Says (Ok x) bad long none said = tt
+refused-late Says (Err f) bad long none said = rw none said

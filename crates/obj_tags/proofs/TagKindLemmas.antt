@@ -6,7 +6,7 @@ use Rattle.std.proofs.lemmas.Bool.{eqb-true}
 use Rattle.std.proofs.lemmas.Bool.Decides.{nat_tests}
 use Rattle.std.proofs.lemmas.Slice.Eq.{bytes_eq-Decides}
 use Rattle.subdiv_model.specs.ObjWord.{Counts}
-use Rattle.subdiv_model.specs.Base.{Boundary}
+use Rattle.subdiv_model.specs.Boundary.{Boundary}
 use Rattle.subdiv_model.specs.Sharpness.{Method}
 use Rattle.sharpness_rules.specs.View.{method_of}
 use Rattle.sharpness_rules.specs.declared.child.Method as sharp

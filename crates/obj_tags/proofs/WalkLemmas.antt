@@ -26,30 +26,30 @@ place_nearest before whole word hb hw = same (index_of word)
     same (negsuc n) = grind (arith, nat_tests)
 
 -- the first of so many words
-pub take_front : (n : ℕ) (word : List ℕ) (words : List (List ℕ)) → 0 < n → take n (word ∷ words) ≡ word ∷ take (n - 1) words
-take_front zero word words h = absurd (omega arith)
-take_front (suc n) word words h = let same : suc n - 1 ≡ n = omega arith in ap (λ k. word ∷ take k words) (sym same)
+pub take-first : (n : ℕ) (word : List ℕ) (words : List (List ℕ)) → 0 < n → take n (word ∷ words) ≡ word ∷ take (n - 1) words
+take-first zero word words h = absurd (omega arith)
+take-first (suc n) word words h = let same : suc n - 1 ≡ n = omega arith in ap (λ k. word ∷ take k words) (sym same)
 
-pub drop_front : (n : ℕ) (word : List ℕ) (words : List (List ℕ)) → 0 < n → drop n (word ∷ words) ≡ drop (n - 1) words
-drop_front zero word words h = absurd (omega arith)
-drop_front (suc n) word words h = let same : suc n - 1 ≡ n = omega arith in ap (λ k. drop k words) (sym same)
+pub drop-first : (n : ℕ) (word : List ℕ) (words : List (List ℕ)) → 0 < n → drop n (word ∷ words) ≡ drop (n - 1) words
+drop-first zero word words h = absurd (omega arith)
+drop-first (suc n) word words h = let same : suc n - 1 ≡ n = omega arith in ap (λ k. drop k words) (sym same)
 
 -- one of so many words was read
 pub taken-cause : (f : List ℕ → Option ObjCause) (n : ℕ) (word : List ℕ) (left next : List (List ℕ)) → 0 < n → left ≡ word ∷ next → f word ≡ None → first_cause f (take (n - 1) next) ≡ first_cause f (take n left)
-taken-cause f n word left next h e none = sym (ap (λ ws. first_cause f (take n ws)) e ∙ ap (first_cause f) (take_front n word next h) ∙ cause-none f word (take (n - 1) next) none)
+taken-cause f n word left next h e none = sym (ap (λ ws. first_cause f (take n ws)) e ∙ ap (first_cause f) (take-first n word next h) ∙ cause-none f word (take (n - 1) next) none)
 
 pub taken-some : (f : List ℕ → Option ObjCause) (n : ℕ) (word : List ℕ) (left next : List (List ℕ)) (cause : ObjCause) → 0 < n → left ≡ word ∷ next → f word ≡ Some cause → first_cause f (take n left) ≡ Some cause
-taken-some f n word left next cause h e some = ap (λ ws. first_cause f (take n ws)) e ∙ ap (first_cause f) (take_front n word next h) ∙ cause-some f word (take (n - 1) next) cause some
+taken-some f n word left next cause h e some = ap (λ ws. first_cause f (take n ws)) e ∙ ap (first_cause f) (take-first n word next h) ∙ cause-some f word (take (n - 1) next) cause some
 
 pub taken-found : {A : Type 0} (g : List ℕ → A) (n : ℕ) (word : List ℕ) (left next : List (List ℕ)) (xs : List A) (x : A) → 0 < n → left ≡ word ∷ next → x ≡ g word → (xs ++ x ∷ []) ++ map g (take (n - 1) next) ≡ xs ++ map g (take n left)
 taken-found g n word left next xs x h e f =
     append_assoc xs (x ∷ []) (map g (take (n - 1) next))
     ∙ ap (λ y. xs ++ (y ∷ map g (take (n - 1) next))) f
-    ∙ ap (λ ws. xs ++ map g ws) (sym (take_front n word next h))
+    ∙ ap (λ ws. xs ++ map g ws) (sym (take-first n word next h))
     ∙ ap (λ ws. xs ++ map g (take n ws)) (sym e)
 
 pub taken-rest : (n : ℕ) (word : List ℕ) (left next : List (List ℕ)) → 0 < n → left ≡ word ∷ next → drop (n - 1) next ≡ drop n left
-taken-rest n word left next h e = sym (ap (drop n) e ∙ drop_front n word next h)
+taken-rest n word left next h e = sym (ap (drop n) e ∙ drop-first n word next h)
 
 pub taken-inside : (n : ℕ) (word : List ℕ) (left next : List (List ℕ)) → n ≤ length left → left ≡ word ∷ next → n - 1 ≤ length next
 taken-inside n word left next h e = omega (arith, ap length e)

@@ -1,8 +1,12 @@
 -- The counts of a tag, as a reader keeps them.
 use Rattle.std.specs.Prelude.{ℕ, ◌≡◌, ◌^◌, ◌<◌, List, [], get_or, Option, true, false, MatchOption}
-use Rattle.subdiv_model.specs.Digits.{number_of_digits}
+use Rattle.subdiv_model.specs.Digits.{is_digits, number_of_digits}
 use Rattle.subdiv_model.specs.ObjTag.{are_counts}
 use Rattle.obj_tags.specs.declared.tag_counts.TagCounts.{TagCounts}
+
+-- the number that one to nine digits say
+abbrev pub IsCount : Option ℕ → List ℕ → Type 0
+IsCount read word = MatchOption read (is_digits 9 word ≡ false) (λ n. (is_digits 9 word ≡ true) × (n ≡ number_of_digits word))
 
 -- the numbers that the parts say
 pub record AreCountsOf (counts : TagCounts) (parts : List (List ℕ)) : Type 0 where
@@ -18,4 +22,5 @@ pub record AreShort (counts : TagCounts) : Type 0 where
 
 -- the counts of these parts, where they are such
 abbrev pub IsReadAs : Option TagCounts → List (List ℕ) → Type 0
-IsReadAs read parts = MatchOption read (are_counts parts ≡ false) (λ counts. (are_counts parts ≡ true) × AreCountsOf counts parts × AreShort counts)
+IsReadAs read parts =
+    MatchOption read (are_counts parts ≡ false) (λ counts. (are_counts parts ≡ true) × AreCountsOf counts parts × AreShort counts)

@@ -2,14 +2,15 @@
 use Rattle.std.specs.Prelude.{ℕ, suc, ◌≡◌, ◌+◌, ◌<◌, ◌≤◌, ◌^◌, List, [], length, map, take, get_or, codes}
 use Rattle.std.specs.List.{flat_map}
 use Rattle.sharpness_rules.specs.View.{method_of}
-use Rattle.subdiv_model.specs.Polygons.{places}
+use Rattle.subdiv_model.specs.Lists.{places}
 use Rattle.subdiv_model.specs.ObjLine.{is_face_line}
 use Rattle.subdiv_model.specs.ObjWord.{corner_point}
 use Rattle.subdiv_model.specs.ObjTag.{tag_creases, tag_corners, tag_indices}
 use Rattle.subdiv_model.specs.ReadObj as model
 use Rattle.subdiv_model.specs.ReadObj.{counts_of, values_of, corner_numbers, tags_named}
 use Rattle.obj_tags.specs.Channel.{ArePositions, AreTextureValues}
-use Rattle.obj_tags.specs.Kept.{textures_of}
+use Rattle.obj_tags.specs.Face.{named_textures}
+use Rattle.obj_tags.specs.Line.{Line}
 use Rattle.obj_tags.specs.Mesh.{Ascend, pieces}
 use Rattle.obj_tags.specs.View.{boundary_of, crease_of, corner_tag_of}
 use Rattle.obj_tags.specs.View as view
@@ -19,18 +20,18 @@ use Rattle.obj_tags.specs.declared.mesh.Faces.{Faces}
 use Rattle.obj_tags.specs.declared.mesh.Tags.{Tags}
 
 -- the texture values that the corners of the line at place i name, where they have one
-abbrev pub textures_at : List (List (List ℕ)) → ℕ → List ℕ
-textures_at lines i = flat_map (textures_of (counts_of (take i lines)) (counts_of lines)) (values_of (get_or lines i []))
+abbrev pub textures_at : List Line → ℕ → List ℕ
+textures_at lines i = flat_map (named_textures (counts_of (take i lines)) (counts_of lines)) (values_of (get_or lines i []))
 
 -- the faces are those of the first n lines, by the counts of all of them
-pub record AreFaces (faces : Faces) (lines : List (List (List ℕ))) (n : ℕ) : Type 0 where
+pub record AreFaces (faces : Faces) (lines : List Line) (n : ℕ) : Type 0 where
   pub ascend : Ascend faces.starts.items (length faces.corners.items)
   pub read : pieces faces.starts.items faces.corners.items ≡ map (corner_numbers corner_point lines) (places is_face_line (take n lines))
   pub corners : faces.corners.items ≡ flat_map (corner_numbers corner_point lines) (places is_face_line (take n lines))
   pub texture : faces.texture_corners.items ≡ flat_map (textures_at lines) (places is_face_line (take n lines))
 
 -- the tags are those of the lines
-pub record AreTags (tags : Tags) (lines : List (List (List ℕ))) : Type 0 where
+pub record AreTags (tags : Tags) (lines : List Line) : Type 0 where
   pub creases : map crease_of tags.creases.items ≡ flat_map tag_creases (tags_named (codes "crease") lines)
   pub corners : map corner_tag_of tags.corners.items ≡ flat_map tag_corners (tags_named (codes "corner") lines)
   pub holes : tags.holes.items ≡ flat_map tag_indices (tags_named (codes "hole") lines)
@@ -38,7 +39,7 @@ pub record AreTags (tags : Tags) (lines : List (List (List ℕ))) : Type 0 where
   pub method : method_of tags.method ≡ model.method_of lines
 
 -- the draft is what the first n lines of these lines say, by the counts of all of them
-pub record IsDraftOf (draft : Draft) (lines : List (List (List ℕ))) (n : ℕ) : Type 0 where
+pub record IsDraftOf (draft : Draft) (lines : List Line) (n : ℕ) : Type 0 where
   pub positions : ArePositions draft.positions.items (take n lines)
   pub texture : AreTextureValues draft.texture.items (take n lines)
   pub faces : AreFaces draft.faces lines n
@@ -46,14 +47,14 @@ pub record IsDraftOf (draft : Draft) (lines : List (List (List ℕ))) (n : ℕ) 
 
 -- no more was kept than all lines have, and so many corners more can be numbered
 pub record HasRoom (draft : Draft) (all : face.Counts) (more : ℕ) : Type 0 where
-  pub points : length draft.positions.items ≤ all.points
-  pub textures : length draft.texture.items ≤ all.textures
+  pub points : length draft.positions.items ≤ all.point_count
+  pub textures : length draft.texture.items ≤ all.texture_count
   pub some : 1 ≤ length draft.faces.starts.items
   pub faces : length draft.faces.starts.items ≤ 2 ^ 32
   pub corners : length draft.faces.corners.items + more < 2 ^ 32
 
 -- the line has this number, counted from 1, and the place n among these lines, which are counted
-pub record IsLineAt (all : face.Counts) (number : ℕ) (lines : List (List (List ℕ))) (n : ℕ) (line : List (List ℕ)) : Type 0 where
+pub record IsLineAt (all : face.Counts) (number : ℕ) (lines : List Line) (n : ℕ) (line : Line) : Type 0 where
   pub inside : n < length lines
   pub here : get_or lines n [] ≡ line
   pub place : number ≡ suc n

@@ -9,7 +9,7 @@ pub record IsWithin (mesh : ObjMesh) : Type 0 where
   pub faces : All (λ face. All (λ v. v < length mesh.points) face) mesh.faces
   pub texture_corners : All (λ face. All (λ t. t < length mesh.texture) face) mesh.texture_corners
   pub creases : All (λ crease. (crease.0.0 < length mesh.points) × (crease.0.1 < length mesh.points)) mesh.creases
-  pub corners : All (λ corner. corner.0 < length mesh.points) mesh.corners
+  pub corner_tags : All (λ tag. tag.0 < length mesh.points) mesh.corner_tags
   pub holes : All (λ face. face < length mesh.faces) mesh.holes
   -- each corner takes at least two of the bytes
   pub few_corners : sum_by length mesh.faces < 2 ^ 27

@@ -1,7 +1,9 @@
 pub mod View
+pub mod Line
 pub mod Walk
 pub mod Corner
 pub mod Kept
+pub mod Face
 pub mod Counts
 pub mod Channel
 pub mod Mesh
@@ -10,4 +12,3 @@ pub mod TagAdded
 pub mod Keyword
 pub mod Laws
 pub mod Draft
-pub mod Text

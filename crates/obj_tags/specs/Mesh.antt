@@ -1,6 +1,11 @@
 -- A mesh that was read, seen as that of the definitions.
-use Rattle.std.specs.Prelude.{ℕ, ◌≡◌, ◌+◌, Bool, ◌≤◌, ◌<◌, ◌^◌, true, List, [], ◌∷◌, length, slice_range}
+use Rattle.std.specs.Prelude.{ℕ, ◌≡◌, ◌+◌, Bool, ◌&&◌, nat_eq, nat_lt, ◌≤◌, ◌<◌, ◌^◌, true, List, [], ◌∷◌, length, map, slice_range, if◌then◌else◌}
 use Rattle.std.specs.List.{All}
+use Rattle.ratio128.specs.declared.point.Point2.{Point2}
+use Rattle.ratio128.specs.declared.point.Point3.{Point3}
+use Rattle.sharpness_rules.specs.View.{method_of}
+use Rattle.subdiv_model.specs.ObjMesh.{ObjMesh}
+use Rattle.obj_tags.specs.View.{boundary_of, crease_of, corner_tag_of, point_of, texture_of}
 use Rattle.obj_tags.specs.declared.mesh.Faces.{Faces}
 use Rattle.obj_tags.specs.declared.mesh.Tags.{Tags}
 
@@ -15,6 +20,27 @@ abbrev pub Ascend : List ℕ → ℕ → Type 0
 Ascend [] end = ⊥
 Ascend (a ∷ []) end = a ≡ end
 Ascend (a ∷ (b ∷ places)) end = (a ≤ b) × Ascend (b ∷ places) end
+
+-- there is a face, and as many texture values are named as there are corners
+abbrev pub names_all_texture : Faces → Bool
+names_all_texture faces = nat_lt 1 (length faces.starts.items) && nat_eq (length faces.texture_corners.items) (length faces.corners.items)
+
+-- the points and the texture values over ten to their scales, with the faces and the tags
+abbrev pub mesh_of : List Point3 → ℕ → List Point2 → ℕ → Faces → Bool → Tags → ObjMesh
+mesh_of points scale texture texture_scale faces has_texture tags = record {
+  points = map point_of points;
+  common = 10 ^ scale;
+  texture = map texture_of texture;
+  texture_common = 10 ^ texture_scale;
+  faces = pieces faces.starts.items faces.corners.items;
+  has_texture = has_texture;
+  texture_corners = if has_texture then pieces faces.starts.items faces.texture_corners.items else [];
+  creases = map crease_of tags.creases.items;
+  corner_tags = map corner_tag_of tags.corners.items;
+  holes = tags.holes.items;
+  boundary = boundary_of tags.boundary;
+  method = method_of tags.method;
+}
 
 -- the places of the faces end at the corners, and numbers are in range
 pub record IsWhole (points values : ℕ) (has_texture : Bool) (faces : Faces) (tags : Tags) : Type 0 where

@@ -2,11 +2,12 @@
 use Rattle.std.specs.Prelude.{ℕ, ◌≡◌, List, [], ◌++◌, map, codes, if◌then◌else◌}
 use Rattle.sharpness_rules.specs.View.{method_of}
 use Rattle.subdiv_model.specs.ObjTag.{is_tag, tag_creases, tag_corners, tag_indices, tag_mode, tag_method}
+use Rattle.obj_tags.specs.Line.{Line}
 use Rattle.obj_tags.specs.View.{boundary_of, crease_of, corner_tag_of}
 use Rattle.obj_tags.specs.declared.mesh.Tags.{Tags}
 
--- a tag without fault stands behind the tags before it, or sets the mode or the method
-pub record AddsTag (line : List (List ℕ)) (before after : Tags) : Type 0 where
+-- a tag without fault stands after the tags before it, or sets the mode or the method
+pub record AddsTag (line : Line) (before after : Tags) : Type 0 where
   pub creases : map crease_of after.creases.items ≡ map crease_of before.creases.items ++ (if is_tag (codes "crease") line then tag_creases line else [])
   pub corners : map corner_tag_of after.corners.items ≡ map corner_tag_of before.corners.items ++ (if is_tag (codes "corner") line then tag_corners line else [])
   pub holes : after.holes.items ≡ before.holes.items ++ (if is_tag (codes "hole") line then tag_indices line else [])

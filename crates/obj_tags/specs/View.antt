@@ -1,7 +1,8 @@
 -- The types of this crate, seen as those of the definitions.
 use Rattle.std.specs.Prelude.{ℕ, ℤ}
+use Rattle.subdiv_model.specs.Fault as run
 use Rattle.subdiv_model.specs.ObjFault as fault
-use Rattle.subdiv_model.specs.Base as base
+use Rattle.subdiv_model.specs.Boundary as base
 use Rattle.subdiv_model.specs.ObjWord as words
 use Rattle.subdiv_model.specs.ObjTag as tags
 use Rattle.subdiv_model.specs.Sharpness as sharp
@@ -14,6 +15,8 @@ use Rattle.obj_text.specs.declared.numeral.Numeral.{Numeral}
 use Rattle.obj_tags.specs.declared.fault.ObjCause.{ObjCause}
 use Rattle.obj_tags.specs.declared.fault.ObjCause.TheVariants.{BadNumeral, NumberRange, UnknownKeyword, Continuation, ShortLine, BadCorner, IndexRange, BadTag, TagIndex, SharpnessRange, MoveIndex, TooFine, LongLine}
 use Rattle.obj_tags.specs.declared.fault.ObjFault.{ObjFault}
+use Rattle.obj_tags.specs.declared.fault.ReadFault.{ReadFault}
+use Rattle.obj_tags.specs.declared.fault.ReadFault.TheVariants as read
 use Rattle.obj_tags.specs.declared.mesh.Boundary.{Boundary}
 use Rattle.obj_tags.specs.declared.mesh.Boundary.TheVariants.{Hidden, EdgeAndCorner, EdgeOnly}
 use Rattle.obj_tags.specs.declared.face.Counts.{Counts}
@@ -38,13 +41,17 @@ cause_of LongLine = fault.LongLine
 abbrev pub fault_of : ObjFault → fault.ObjFault
 fault_of f = record { line = f.line; cause = cause_of f.cause }
 
+abbrev pub read_fault_of : ReadFault → run.Fault
+read_fault_of (read.Obj f) = run.Obj (fault_of f)
+read_fault_of read.Memory = run.Memory
+
 abbrev pub boundary_of : Boundary → base.Boundary
 boundary_of Hidden = base.Hidden
 boundary_of EdgeAndCorner = base.EdgeAndCorner
 boundary_of EdgeOnly = base.EdgeOnly
 
 abbrev pub counts_of : Counts → words.Counts
-counts_of c = record { points = c.points; textures = c.textures; faces = c.faces }
+counts_of c = record { point_count = c.point_count; texture_count = c.texture_count; face_count = c.face_count }
 
 abbrev pub kind_of : TagKind → tags.TagKind
 kind_of kind.Crease = tags.CreaseTag

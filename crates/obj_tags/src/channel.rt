@@ -1,12 +1,13 @@
-ghost use Rattle.std.specs.Prelude.{◌≡◌, ℕ, ◌<◌, ◌≤◌, List, [], length, map, drop, get_or, codes, not, Some, None, MatchResult, IfOk, OnOk, option_map};
+ghost use Rattle.std.specs.Prelude.{◌≡◌, ℕ, ◌<◌, ◌≤◌, List, [], length, map, drop, get_or, not, None, IfOk, OnOk, option_map};
 ghost use Rattle.std.specs.List.{All, filter, list_any};
 ghost use Rattle.subdiv_model.specs.ObjLine.{is_vertex_line};
-ghost use Rattle.subdiv_model.specs.ObjFault.{NumberRange, first_cause};
+ghost use Rattle.subdiv_model.specs.ObjFault.{first_cause};
 ghost use Rattle.subdiv_model.specs.ObjWord.{numeral_fault};
 ghost use Rattle.subdiv_model.specs.ReadObj.{is_texture_line, position_scale, texture_scale_of, point_at, texture_at};
-ghost use Rattle.obj_tags.specs.Channel.{position_forms, texture_forms, IsPositionAt, IsTextureAt, ArePositions, AreTextureValues, is_long_form, first_long_of_kind, IsShortPosition, IsShortTexture, position_at, texture_value_at, IsShortPoint, IsShortTexturePoint};
-ghost use Rattle.obj_tags.specs.Kept.{IsNumeralOf};
-ghost use Rattle.obj_tags.specs.View.{cause_of, point_of, texture_of};
+ghost use Rattle.obj_tags.specs.Channel.{position_forms, texture_forms, IsPositionOf, IsTextureValueOf, IsPositionAt, IsTextureAt, ArePositions, AreTextureValues, is_long_form, first_long_of_kind, long_fault_at, IsShortPosition, IsShortTexture, position_at, texture_value_at, IsShortPoint, IsShortTexturePoint};
+ghost use Rattle.obj_tags.specs.Kept.{ReadUnless, IsNumeralOf};
+ghost use Rattle.obj_tags.specs.Line.{Line};
+ghost use Rattle.obj_tags.specs.View.{point_of, texture_of};
 ghost use Rattle.obj_tags.specs.Walk.{words_left};
 
 use crate::ObjCause;
@@ -37,14 +38,15 @@ pub(crate) struct TextureValue {
 fn next_numeral(words: &mut Words<'_>) -> Result<Numeral, ObjCause>
     requires { 0 < length (words_left words.old) }
     ensures rest { OnOk result (words_left words.new ≡ drop 1 (words_left words.old)) }
-    ensures read { MatchResult result (λ n. (numeral_fault (get_or (words_left words.old) 0 []) ≡ None) × IsNumeralOf n (get_or (words_left words.old) 0 [])) (λ cause. numeral_fault (get_or (words_left words.old) 0 []) ≡ Some (cause_of cause)) }
+    ensures read { let word = get_or (words_left words.old) 0 [] in
+        ReadUnless result (numeral_fault word) (λ n. IsNumeralOf n word) }
 {
     numeral(next_word(words).ok_or(ObjCause::ShortLine)?)
 }
 
 // Reads the numerals that are left and drops them.
 fn drop_numerals(words: &mut Words<'_>) -> Result<(), ObjCause>
-    ensures { MatchResult result (λ _. first_cause numeral_fault (words_left words.old) ≡ None) (λ cause. first_cause numeral_fault (words_left words.old) ≡ Some (cause_of cause)) }
+    ensures { ReadUnless result (first_cause numeral_fault (words_left words.old)) (λ _. Unit {0}) }
 {
     while let Some(word) = next_word(words) {
         numeral(word)?;
@@ -52,10 +54,11 @@ fn drop_numerals(words: &mut Words<'_>) -> Result<(), ObjCause>
     Ok(())
 }
 
-/// The position of a `v` line, from the words behind its keyword.
+/// The position of a `v` line, from the words after its keyword.
 pub(crate) fn read_position(line: u32, words: &mut Words<'_>) -> Result<Position, ObjCause>
     requires { 3 ≤ length (words_left words.old) }
-    ensures { MatchResult result (λ p. (first_cause numeral_fault (words_left words.old) ≡ None) × (p.line ≡ line) × IsNumeralOf p.x (get_or (words_left words.old) 0 []) × IsNumeralOf p.y (get_or (words_left words.old) 1 []) × IsNumeralOf p.z (get_or (words_left words.old) 2 [])) (λ cause. first_cause numeral_fault (words_left words.old) ≡ Some (cause_of cause)) }
+    ensures { let read = words_left words.old in
+        ReadUnless result (first_cause numeral_fault read) (λ p. IsPositionOf p line read) }
 {
     let x = next_numeral(words)?;
     let y = next_numeral(words)?;
@@ -64,10 +67,11 @@ pub(crate) fn read_position(line: u32, words: &mut Words<'_>) -> Result<Position
     Ok(Position { line, x, y, z })
 }
 
-/// The texture value of a `vt` line, from the words behind its keyword. A missing second is 0.
+/// The texture value of a `vt` line, from the words after its keyword. A missing second is 0.
 pub(crate) fn read_texture_value(line: u32, words: &mut Words<'_>) -> Result<TextureValue, ObjCause>
     requires { 1 ≤ length (words_left words.old) }
-    ensures { MatchResult result (λ p. (first_cause numeral_fault (words_left words.old) ≡ None) × (p.line ≡ line) × IsNumeralOf p.u (get_or (words_left words.old) 0 []) × IsNumeralOf p.v (get_or (words_left words.old) 1 (codes "0"))) (λ cause. first_cause numeral_fault (words_left words.old) ≡ Some (cause_of cause)) }
+    ensures { let read = words_left words.old in
+        ReadUnless result (first_cause numeral_fault read) (λ t. IsTextureValueOf t line read) }
 {
     let u = next_numeral(words)?;
     let v = match next_word(words) {
@@ -83,7 +87,7 @@ pub(crate) fn read_texture_value(line: u32, words: &mut Words<'_>) -> Result<Tex
 
 /// The least scale, from `least` on, at which all positions are whole.
 pub(crate) fn scale_of_positions(positions: &[Position], least: u32) -> u32
-    ensures read { (lines : List (List (List ℕ))) → ArePositions positions.now lines → result ≡ position_scale least lines }
+    ensures read { (lines : List Line) → ArePositions positions.now lines → result ≡ position_scale least lines }
     ensures finer { All (IsPositionAt result) positions.now }
     ensures most { (most : ℕ) → least ≤ most → All (IsPositionAt most) positions.now → result ≤ most }
 {
@@ -96,7 +100,7 @@ pub(crate) fn scale_of_positions(positions: &[Position], least: u32) -> u32
 
 /// The least scale at which all texture values are whole.
 pub(crate) fn scale_of_texture(values: &[TextureValue]) -> u32
-    ensures read { (lines : List (List (List ℕ))) → AreTextureValues values.now lines → result ≡ texture_scale_of lines }
+    ensures read { (lines : List Line) → AreTextureValues values.now lines → result ≡ texture_scale_of lines }
     ensures finer { All (IsTextureAt result) values.now }
     ensures most { (most : ℕ) → All (IsTextureAt most) values.now → result ≤ most }
 {
@@ -120,7 +124,8 @@ fn position_fits(p: Position, scale: u32) -> bool
 pub(crate) fn first_long_position(positions: &[Position], scale: u32) -> Option<u32>
     requires finer { All (IsPositionAt scale) positions.now }
     requires scale { scale ≤ 37 }
-    ensures first { (lines : List (List (List ℕ))) → ArePositions positions.now lines → option_map (λ line. record { line = line; cause = NumberRange }) result ≡ first_long_of_kind is_vertex_line scale lines }
+    ensures first { (lines : List Line) → ArePositions positions.now lines
+        → option_map long_fault_at result ≡ first_long_of_kind is_vertex_line scale lines }
     ensures none { result ≡ None → All (IsShortPosition scale) positions.now }
 {
     for p in positions {
@@ -144,7 +149,8 @@ fn texture_fits(value: TextureValue, scale: u32) -> bool
 pub(crate) fn first_long_texture(values: &[TextureValue], scale: u32) -> Option<u32>
     requires finer { All (IsTextureAt scale) values.now }
     requires scale { scale ≤ 37 }
-    ensures first { (lines : List (List (List ℕ))) → AreTextureValues values.now lines → option_map (λ line. record { line = line; cause = NumberRange }) result ≡ first_long_of_kind is_texture_line scale lines }
+    ensures first { (lines : List Line) → AreTextureValues values.now lines
+        → option_map long_fault_at result ≡ first_long_of_kind is_texture_line scale lines }
     ensures none { result ≡ None → All (IsShortTexture scale) values.now }
 {
     for value in values {
@@ -179,7 +185,8 @@ pub(crate) fn points_at_scale(
     requires finer { All (IsPositionAt scale) positions.now }
     requires scale { scale ≤ 37 }
     requires short { All (IsShortPosition scale) positions.now }
-    ensures read { IfOk result (λ points. (lines : List (List (List ℕ))) → ArePositions positions.now lines → map point_of points.items ≡ map (point_at scale) (filter is_vertex_line lines)) }
+    ensures read { IfOk result (λ points. (lines : List Line) → ArePositions positions.now lines
+        → map point_of points.items ≡ map (point_at scale) (filter is_vertex_line lines)) }
     ensures short { IfOk result (λ points. All IsShortPoint points.items) }
     ensures count { IfOk result (λ points. length points.items ≡ length positions.now) }
 {
@@ -213,7 +220,8 @@ pub(crate) fn texture_at_scale(
     requires finer { All (IsTextureAt scale) values.now }
     requires scale { scale ≤ 37 }
     requires short { All (IsShortTexture scale) values.now }
-    ensures read { IfOk result (λ texture. (lines : List (List (List ℕ))) → AreTextureValues values.now lines → map texture_of texture.items ≡ map (texture_at scale) (filter is_texture_line lines)) }
+    ensures read { IfOk result (λ texture. (lines : List Line) → AreTextureValues values.now lines
+        → map texture_of texture.items ≡ map (texture_at scale) (filter is_texture_line lines)) }
     ensures short { IfOk result (λ texture. All IsShortTexturePoint texture.items) }
     ensures count { IfOk result (λ texture. length texture.items ≡ length values.now) }
 {

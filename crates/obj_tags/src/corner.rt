@@ -1,8 +1,7 @@
-ghost use Rattle.std.specs.Prelude.{◌≡◌, ℕ, List, ◌∷◌, true};
+ghost use Rattle.std.specs.Prelude.{◌≡◌, ℕ, List, ◌∷◌};
 ghost use Rattle.std.specs.List.{slice_split};
-ghost use Rattle.subdiv_model.specs.Index.{is_index, nearest_index};
-ghost use Rattle.subdiv_model.specs.ObjWord.{is_slash, is_corner, corner_parts, same_form};
-ghost use Rattle.obj_tags.specs.Corner.{HasParts, IsReadAs};
+ghost use Rattle.subdiv_model.specs.ObjWord.{is_slash, corner_parts, same_form};
+ghost use Rattle.obj_tags.specs.Corner.{IsIndexOf, IsCornerOf, IsReadAs};
 
 use crate::words::split_slash;
 use obj_text::read_index;
@@ -18,7 +17,8 @@ pub(crate) struct Corner {
 impl Corner {
     /// Whether both corners have the same parts.
     pub(crate) fn has_form_of(&self, other: &Corner) -> bool
-        ensures { (word first : List ℕ) → is_corner word ≡ true → is_corner first ≡ true → HasParts self.now (corner_parts word) → HasParts other.now (corner_parts first) → result ≡ same_form first word }
+        ensures { (word first : List ℕ) → IsCornerOf self.now word → IsCornerOf other.now first
+            → result ≡ same_form first word }
     {
         self.texture.is_some() == other.texture.is_some() && self.has_normal == other.has_normal
     }
@@ -26,7 +26,8 @@ impl Corner {
 
 // A corner with these indices, where they are such.
 fn corner_with_normal(vertex: i64, texture: &[u8], normal: &[u8]) -> Option<Corner>
-    ensures { (a : List ℕ) → is_index a ≡ true → vertex ≡ nearest_index a → IsReadAs result (a ∷ texture.now ∷ slice_split is_slash normal.now) }
+    ensures { (a : List ℕ) → IsIndexOf vertex a
+        → IsReadAs result (a ∷ texture.now ∷ slice_split is_slash normal.now) }
 {
     read_index(normal)?;
     let texture = if texture.is_empty() {
@@ -41,9 +42,9 @@ fn corner_with_normal(vertex: i64, texture: &[u8], normal: &[u8]) -> Option<Corn
     })
 }
 
-// A corner with a vertex index and what follows the slash behind it.
+// A corner with a vertex index and what follows the slash after it.
 fn corner_with_texture(vertex: i64, rest: &[u8]) -> Option<Corner>
-    ensures { (a : List ℕ) → is_index a ≡ true → vertex ≡ nearest_index a → IsReadAs result (a ∷ slice_split is_slash rest.now) }
+    ensures { (a : List ℕ) → IsIndexOf vertex a → IsReadAs result (a ∷ slice_split is_slash rest.now) }
 {
     let (texture, rest) = split_slash(rest);
     match rest {

@@ -47,14 +47,14 @@ impl Draft {
         requires textures { length self.now.texture.items < 2 ^ 32 }
         requires some { 1 ≤ length self.now.faces.starts.items }
         requires faces { length self.now.faces.starts.items ≤ 2 ^ 32 }
-        ensures points { result.points ≡ length self.now.positions.items }
-        ensures textures { result.textures ≡ length self.now.texture.items }
-        ensures faces { result.faces + 1 ≡ length self.now.faces.starts.items }
+        ensures points { result.point_count ≡ length self.now.positions.items }
+        ensures textures { result.texture_count ≡ length self.now.texture.items }
+        ensures faces { result.face_count + 1 ≡ length self.now.faces.starts.items }
     {
         Counts {
-            points: self.positions.len() as u32,
-            textures: self.texture.len() as u32,
-            faces: (self.faces.starts.len() - 1) as u32,
+            point_count: self.positions.len() as u32,
+            texture_count: self.texture.len() as u32,
+            face_count: (self.faces.starts.len() - 1) as u32,
         }
     }
 }

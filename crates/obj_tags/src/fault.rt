@@ -1,5 +1,6 @@
 ghost use Rattle.std.specs.Prelude.{◌≡◌, Some};
-ghost use Rattle.obj_tags.specs.Text.{cause_text, fault_text, read_fault_text};
+ghost use Rattle.subdiv_model.specs.Fault.{cause_text, obj_fault_text, fault_text};
+ghost use Rattle.obj_tags.specs.View.{cause_of, fault_of, read_fault_of};
 
 use std::alloc::{AllocError, AllocFailed};
 use std::fmt;
@@ -39,7 +40,7 @@ pub enum ObjCause {
 impl ObjCause {
     /// The cause in a few words, as in the line that `far` prints.
     pub fn text(&self) -> &'static str
-        ensures { result.now ≡ cause_text self.now }
+        ensures { result.now ≡ cause_text (cause_of self.now) }
     {
         match self {
             ObjCause::BadNumeral => "bad numeral",
@@ -60,7 +61,7 @@ impl ObjCause {
 }
 
 impl fmt::Display for ObjCause {
-    ghost output = { λ cause. Some (cause_text cause) };
+    ghost output = { λ cause. Some (cause_text (cause_of cause)) };
 
     fn fmt<W: fmt::Write>(&self, f: &mut fmt::Formatter<W>) -> fmt::Result {
         f.write_str(self.text())
@@ -77,10 +78,11 @@ pub struct ObjFault {
 }
 
 impl fmt::Display for ObjFault {
-    ghost output = { λ fault. Some (fault_text fault) };
+    ghost output = { λ fault. Some (obj_fault_text (fault_of fault)) };
 
     fn fmt<W: fmt::Write>(&self, f: &mut fmt::Formatter<W>) -> fmt::Result {
-        write!(f, "line {}: {}", self.line, self.cause)
+        let line = self.line;
+        write!(f, "line {line}: {}", self.cause)
     }
 }
 
@@ -96,7 +98,7 @@ pub enum ReadFault {
 }
 
 impl fmt::Display for ReadFault {
-    ghost output = { λ fault. Some (read_fault_text fault) };
+    ghost output = { λ fault. Some (fault_text (read_fault_of fault)) };
 
     fn fmt<W: fmt::Write>(&self, f: &mut fmt::Formatter<W>) -> fmt::Result {
         match self {

@@ -14,8 +14,6 @@ mod read;
 mod tag;
 mod tag_counts;
 mod tag_values;
-#[cfg(test)]
-mod tests;
 mod words;
 
 pub use fault::{ObjCause, ObjFault, ReadFault};

@@ -1,12 +1,13 @@
-ghost use Rattle.std.specs.Prelude.{◌≡◌, ◌+◌, ◌^◌, ◌≤◌, ℕ, suc, List, [], ◌∷◌, ◌++◌, length, take, drop, true, false, None, MatchOption, MatchResult};
-ghost use Rattle.subdiv_model.specs.ObjLine.{is_vertex_line, line_words};
+ghost use Rattle.std.specs.Prelude.{◌≡◌, ◌+◌, ◌^◌, ◌≤◌, ℕ, List, ◌∷◌, length, take, drop};
+ghost use Rattle.subdiv_model.specs.ObjLine.{line_words};
 ghost use Rattle.subdiv_model.specs.ObjFault.{first_cause};
 ghost use Rattle.subdiv_model.specs.ObjWord.{numeral_fault};
-ghost use Rattle.subdiv_model.specs.ReadObj.{is_dropped_line, is_texture_line, has_known_keyword, least_values, counts_of, words_fault, fault_at};
-ghost use Rattle.obj_tags.specs.Channel.{ArePositions, AreTextureValues};
-ghost use Rattle.obj_tags.specs.Kept.{IsLineFault};
-ghost use Rattle.obj_tags.specs.Keyword.{IsKeywordOf, least_of};
+ghost use Rattle.subdiv_model.specs.ReadObj.{is_dropped_line, least_values, counts_of, words_fault, fault_at};
+ghost use Rattle.obj_tags.specs.Channel.{AddsPosition, AddsTextureValue};
 ghost use Rattle.obj_tags.specs.Draft.{IsDraftOf, HasRoom, IsLineAt};
+ghost use Rattle.obj_tags.specs.Kept.{KeptUnless};
+ghost use Rattle.obj_tags.specs.Keyword.{IsKeywordOf, IsReadAs, least_of};
+ghost use Rattle.obj_tags.specs.Line.{Line};
 ghost use Rattle.obj_tags.specs.Walk.{words_left};
 
 use crate::ObjCause;
@@ -46,7 +47,7 @@ fn is_ignored(word: &[u8]) -> bool
 
 /// The keyword that a word is; `None` where it is none.
 pub(crate) fn keyword_of(word: &[u8]) -> Option<Keyword>
-    ensures { (rest : List (List ℕ)) → MatchOption result (has_known_keyword (word.now ∷ rest) ≡ false) (λ keyword. (has_known_keyword (word.now ∷ rest) ≡ true) × IsKeywordOf keyword (word.now ∷ rest)) }
+    ensures { (rest : List (List ℕ)) → IsReadAs result (word.now ∷ rest) }
 {
     if is_word(word, b"v") {
         Some(Keyword::Position)
@@ -65,7 +66,7 @@ pub(crate) fn keyword_of(word: &[u8]) -> Option<Keyword>
 
 // How many words must follow a keyword.
 fn least_words(keyword: Keyword) -> usize
-    ensures least { (words : List (List ℕ)) → IsKeywordOf keyword words → result ≡ least_values words }
+    ensures least { (line : Line) → IsKeywordOf keyword line → result ≡ least_values line }
     ensures value { result ≡ least_of keyword }
 {
     match keyword {
@@ -77,35 +78,37 @@ fn least_words(keyword: Keyword) -> usize
     }
 }
 
-// Keeps the position of a `v` line, from the words behind its keyword.
+// Keeps the position of a `v` line, from the words after its keyword.
 fn keep_position(
     positions: &mut Vec<Position>,
     number: u32,
     words: &mut Words<'_>,
 ) -> Result<(), LineFault>
     requires { 3 ≤ length (words_left words.old) }
-    ensures { MatchResult result (λ _. (first_cause numeral_fault (words_left words.old) ≡ None) × ((before : List (List (List ℕ))) (line : List (List ℕ)) → ArePositions positions.old.items before → is_vertex_line line ≡ true → drop 1 line ≡ words_left words.old → number ≡ suc (length before) → ArePositions positions.new.items (before ++ line ∷ []))) (λ fault. IsLineFault fault (first_cause numeral_fault (words_left words.old))) }
+    ensures { let read = words_left words.old in
+        KeptUnless result (first_cause numeral_fault read) (λ _. AddsPosition number read positions.old.items positions.new.items) }
 {
     let position = read_position(number, words)?;
     positions.push(position)?;
     Ok(())
 }
 
-// Keeps the texture value of a `vt` line, from the words behind its keyword.
+// Keeps the texture value of a `vt` line, from the words after its keyword.
 fn keep_texture_value(
     values: &mut Vec<TextureValue>,
     number: u32,
     words: &mut Words<'_>,
 ) -> Result<(), LineFault>
     requires { 1 ≤ length (words_left words.old) }
-    ensures { MatchResult result (λ _. (first_cause numeral_fault (words_left words.old) ≡ None) × ((before : List (List (List ℕ))) (line : List (List ℕ)) → AreTextureValues values.old.items before → is_texture_line line ≡ true → drop 1 line ≡ words_left words.old → number ≡ suc (length before) → AreTextureValues values.new.items (before ++ line ∷ []))) (λ fault. IsLineFault fault (first_cause numeral_fault (words_left words.old))) }
+    ensures { let read = words_left words.old in
+        KeptUnless result (first_cause numeral_fault read) (λ _. AddsTextureValue number read values.old.items values.new.items) }
 {
     let value = read_texture_value(number, words)?;
     values.push(value)?;
     Ok(())
 }
 
-// Keeps what the words behind a keyword say; there are `len` of them, and enough for the keyword.
+// Keeps what the words after a keyword say; there are `len` of them, and enough for the keyword.
 fn keep_values(
     alloc: Global,
     draft: &mut Draft,
@@ -118,7 +121,9 @@ fn keep_values(
     requires room { HasRoom draft.old all (length (words_left words.old)) }
     requires count { len ≡ length (words_left words.old) }
     requires enough { least_of keyword ≤ len }
-    ensures { (lines : List (List (List ℕ))) (n : ℕ) (line : List (List ℕ)) → IsLineAt all number lines n line → IsKeywordOf keyword line → drop 1 line ≡ words_left words.old → IsDraftOf draft.old lines n → MatchResult result (λ _. (words_fault (counts_of (take n lines)) (counts_of lines) line ≡ None) × IsDraftOf draft.new lines (n + 1)) (λ fault. IsLineFault fault (words_fault (counts_of (take n lines)) (counts_of lines) line)) }
+    ensures { (lines : List Line) (n : ℕ) (line : Line) → IsLineAt all number lines n line → IsKeywordOf keyword line
+        → drop 1 line ≡ words_left words.old → IsDraftOf draft.old lines n
+        → KeptUnless result (words_fault (counts_of (take n lines)) (counts_of lines) line) (λ _. IsDraftOf draft.new lines (n + 1)) }
 {
     match keyword {
         Keyword::Position => keep_position(&mut draft.positions, number, words),
@@ -132,7 +137,7 @@ fn keep_values(
     }
 }
 
-/// Keeps what a line says behind what the lines before it said: `number` is its place in the text,
+/// Keeps what a line says after what the lines before it said: `number` is its place in the text,
 /// counted from 1, and `all` counts the lines of the whole text.
 pub(crate) fn keep_line(
     alloc: Global,
@@ -143,7 +148,8 @@ pub(crate) fn keep_line(
 ) -> Result<(), LineFault>
     requires short { length line.now ≤ 2 ^ 28 }
     requires room { HasRoom draft.old all (length line.now) }
-    ensures { (lines : List (List (List ℕ))) (n : ℕ) → IsLineAt all number lines n (line_words line.now) → IsDraftOf draft.old lines n → MatchResult result (λ _. (fault_at lines n ≡ None) × IsDraftOf draft.new lines (n + 1)) (λ fault. IsLineFault fault (fault_at lines n)) }
+    ensures { (lines : List Line) (n : ℕ) → IsLineAt all number lines n (line_words line.now) → IsDraftOf draft.old lines n
+        → KeptUnless result (fault_at lines n) (λ _. IsDraftOf draft.new lines (n + 1)) }
 {
     let mut words = words_of(line);
     let Some(first) = next_word(&mut words) else {

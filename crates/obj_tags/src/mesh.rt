@@ -1,7 +1,7 @@
 ghost use Rattle.std.specs.Prelude.{◌≡◌, ◌+◌, ◌-◌, ◌<◌, ◌≤◌, ◌^◌, true, length, map, Some, slice_get, [], if◌then◌else◌};
 ghost use Rattle.sharpness_rules.specs.View.{method_of};
 ghost use Rattle.subdiv_model.specs.ObjMesh.{ObjMesh};
-ghost use Rattle.obj_tags.specs.Mesh.{Ascend, pieces, IsWhole};
+ghost use Rattle.obj_tags.specs.Mesh.{Ascend, pieces, mesh_of, IsWhole};
 ghost use Rattle.obj_tags.specs.View.{boundary_of, crease_of, corner_tag_of, point_of, texture_of};
 
 use ratio128::{Point2, Point3};
@@ -48,7 +48,7 @@ pub struct RawMesh {
     pub(crate) tags: Tags,
 }
 
-/// The corners of all faces, one face behind the other: face f has those from `starts[f]` up to
+/// The corners of all faces, one face after the other: face f has those from `starts[f]` up to
 /// `starts[f + 1]`. `texture_corners` has those of the faces that have texture numbers.
 #[derive(Drop)]
 pub(crate) struct Faces {
@@ -70,12 +70,12 @@ pub(crate) struct Tags {
 impl Model for RawMesh {
     ghost Value = { ObjMesh };
 
-    ghost view = { λ m. record { points = map point_of m.points.items; scale = m.scale; texture = map texture_of m.texture.items; texture_scale = m.texture_scale; faces = pieces m.faces.starts.items m.faces.corners.items; has_texture = m.has_texture; texture_corners = if m.has_texture then pieces m.faces.starts.items m.faces.texture_corners.items else []; creases = map crease_of m.tags.creases.items; corners = map corner_tag_of m.tags.corners.items; holes = m.tags.holes.items; boundary = boundary_of m.tags.boundary; method = method_of m.tags.method } };
+    ghost view = { λ m. mesh_of m.points.items m.scale m.texture.items m.texture_scale m.faces m.has_texture m.tags };
 
     ghost invariant = { λ m. IsWhole (length m.points.items) (length m.texture.items) m.has_texture m.faces m.tags };
 }
 
-// The part of a list between a place and the next.
+// The piece of a list from a place up to the next.
 fn piece<'a>(starts: &[u32], corners: &'a [u32], f: usize) -> &'a [u32]
     requires ascend { Ascend starts.now (length corners.now) }
     requires inside { f + 1 < length starts.now }
@@ -96,7 +96,7 @@ impl RawMesh {
 
     /// The number of decimals of the points.
     pub fn scale(&self) -> u32
-        ensures { result ≡ self.now.scale }
+        ensures { 10 ^ result ≡ self.now.common }
     {
         self.scale
     }
@@ -110,7 +110,7 @@ impl RawMesh {
 
     /// The number of decimals of the texture values.
     pub fn texture_scale(&self) -> u32
-        ensures { result ≡ self.now.texture_scale }
+        ensures { 10 ^ result ≡ self.now.texture_common }
     {
         self.texture_scale
     }
@@ -171,7 +171,7 @@ impl RawMesh {
 
     /// The corner tags in the order of the text. The last for a vertex counts.
     pub fn corner_tags(&self) -> &[CornerTag]
-        ensures { map corner_tag_of result.now ≡ self.now.corners }
+        ensures { map corner_tag_of result.now ≡ self.now.corner_tags }
     {
         self.tags.corners.as_slice()
     }

@@ -1,12 +1,11 @@
-ghost use Rattle.std.specs.Prelude.{◌≡◌, ℕ, List, ◌+◌, ◌-◌, ◌*◌, ◌^◌, ◌<◌, ◌≤◌, nat_lt, ℤ, pos, ◌*ℤ◌, unsigned_abs, Some, None, MatchResult, MatchOption};
-ghost use Rattle.subdiv_model.specs.Numeral.{normal_form};
-ghost use Rattle.subdiv_model.specs.Index.{index_of, nearest_index};
-ghost use Rattle.subdiv_model.specs.Sharpness.{sharpness_of_fraction};
+ghost use Rattle.std.specs.Prelude.{◌≡◌, ℕ, List, ◌+◌, ◌-◌, ◌*◌, ◌^◌, ◌<◌, ◌≤◌, nat_lt, ℤ, pos, ◌*ℤ◌, unsigned_abs, IfOk};
+ghost use Rattle.subdiv_model.specs.Index.{nearest_index};
 ghost use Rattle.subdiv_model.specs.ObjFault as model;
 ghost use Rattle.subdiv_model.specs.ObjWord.{numeral_fault, place_of_index, place_of_word};
-ghost use Rattle.subdiv_model.specs.ObjTag.{tag_index_fault, tag_numeral_fault, amount_fraction};
+ghost use Rattle.subdiv_model.specs.ObjTag.{tag_index_fault, tag_numeral_fault};
 ghost use Rattle.sharpness_rules.specs.View.{sharpness_of};
-ghost use Rattle.obj_tags.specs.View.{cause_of, form_of};
+ghost use Rattle.obj_tags.specs.Kept.{ReadUnless, ReadOr, IsNumeralOf};
+ghost use Rattle.obj_tags.specs.TagView.{index_said, sharpness_said};
 
 use crate::ObjCause;
 use obj_text::{Numeral, NumeralFault, read_index, read_numeral};
@@ -17,7 +16,7 @@ const BOUND: u128 = 10_000_000_000_000_000_000_000_000_000_000_000_000;
 
 /// A numeral, or the cause that its word is refused for.
 pub(crate) fn numeral(word: &[u8]) -> Result<Numeral, ObjCause>
-    ensures { MatchResult result (λ n. (numeral_fault word.now ≡ None) × (form_of n ≡ normal_form word.now) × (unsigned_abs n.mantissa < 10 ^ 37) × (n.decimals ≤ 37)) (λ cause. numeral_fault word.now ≡ Some (cause_of cause)) }
+    ensures { ReadUnless result (numeral_fault word.now) (λ n. IsNumeralOf n word.now) }
 {
     match read_numeral(word) {
         Ok(number) => Ok(number),
@@ -57,8 +56,10 @@ pub(crate) fn at_scale(number: Numeral, scale: u32) -> i128
 #[tactic(auto, using(crate::proofs::WalkLemmas::place_nearest))]
 pub(crate) fn place(index: i64, all: u32, before: u32) -> Result<u32, ObjCause>
     requires { before ≤ all }
-    ensures index { MatchResult result (λ p. (place_of_index before all index ≡ Some p) × (p < all)) (λ cause. (place_of_index before all index ≡ None) × (cause_of cause ≡ model.IndexRange)) }
-    ensures word { (word : List ℕ) → index ≡ nearest_index word → MatchResult result (λ p. place_of_word before all word ≡ Some p) (λ _. place_of_word before all word ≡ None) }
+    ensures index { ReadOr result (λ p. p) (place_of_index before all index) model.IndexRange }
+    ensures below { IfOk result (λ p. p < all) }
+    ensures word { (word : List ℕ) → index ≡ nearest_index word
+        → ReadOr result (λ p. p) (place_of_word before all word) model.IndexRange }
 {
     if 0 < index && index <= i64::from(all) {
         return Ok((index - 1) as u32);
@@ -71,7 +72,8 @@ pub(crate) fn place(index: i64, all: u32, before: u32) -> Result<u32, ObjCause>
 
 /// The vertex or face that a word of a tag names, counted from 0.
 pub(crate) fn tag_index(word: &[u8], all: u32) -> Result<u32, ObjCause>
-    ensures { MatchResult result (λ i. (tag_index_fault all word.now ≡ None) × (i ≡ unsigned_abs (index_of word.now)) × (i < all)) (λ cause. tag_index_fault all word.now ≡ Some (cause_of cause)) }
+    ensures index { ReadUnless result (tag_index_fault all word.now) (λ i. i ≡ index_said word.now) }
+    ensures below { IfOk result (λ i. i < all) }
 {
     let index = read_index(word).ok_or(ObjCause::BadTag)?;
     if 0 <= index && index < i64::from(all) {
@@ -83,7 +85,7 @@ pub(crate) fn tag_index(word: &[u8], all: u32) -> Result<u32, ObjCause>
 
 /// The sharpness that a word of a tag gives.
 pub(crate) fn sharpness(word: &[u8]) -> Result<Sharpness, ObjCause>
-    ensures { MatchResult result (λ s. (tag_numeral_fault word.now ≡ None) × (sharpness_of s ≡ sharpness_of_fraction (amount_fraction word.now))) (λ cause. tag_numeral_fault word.now ≡ Some (cause_of cause)) }
+    ensures { ReadUnless result (tag_numeral_fault word.now) (λ s. sharpness_of s ≡ sharpness_said word.now) }
 {
     let number = numeral(word)?;
     if number.mantissa < 0 {

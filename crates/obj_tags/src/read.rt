@@ -1,13 +1,14 @@
-ghost use Rattle.std.specs.Prelude.{◌≡◌, ℕ, ◌+◌, ◌<◌, ◌^◌, ◌≤◌, List, ◌∷◌, length, map, None, Some, MatchResult, OnOk, IfOk, false, ◌&&◌, nat_lt, nat_eq, if◌then◌else◌};
+ghost use Rattle.std.specs.Prelude.{◌≡◌, ◌+◌, ◌<◌, ◌^◌, ◌≤◌, ℕ, List, ◌∷◌, length, map, None, MatchResult, OnOk, IfOk, false, if◌then◌else◌};
 ghost use Rattle.std.specs.List.{All};
 ghost use Rattle.subdiv_model.specs.ObjLine.{begins_with, lines_of, is_vertex_line, is_face_line, line_words};
 ghost use Rattle.subdiv_model.specs.ReadObj as model;
 ghost use Rattle.subdiv_model.specs.ReadObj.{is_texture_line, read_obj_fault, read_obj_mesh};
 ghost use Rattle.obj_tags.specs.Channel.{lesser_line, IsPositionAt, IsTextureAt};
 ghost use Rattle.obj_tags.specs.Draft.{IsDraftOf};
-ghost use Rattle.obj_tags.specs.Kept.{IsReadFault};
+ghost use Rattle.obj_tags.specs.Kept.{IsReadFault, TextKeptUnless};
 ghost use Rattle.obj_tags.specs.Laws.{IsWithin};
-ghost use Rattle.obj_tags.specs.Mesh.{IsWhole};
+ghost use Rattle.obj_tags.specs.Line.{Line};
+ghost use Rattle.obj_tags.specs.Mesh.{names_all_texture, IsWhole};
 ghost use Rattle.obj_tags.specs.View.{counts_of};
 
 use crate::channel::{
@@ -27,7 +28,8 @@ use std::alloc::Global;
 // One more of a count where a line with this first word has the keyword.
 fn with_word(count: u32, word: &[u8], keyword: &[u8]) -> u32
     requires { count < 2 ^ 31 }
-    ensures { (rest : List (List ℕ)) → result ≡ count + (if begins_with keyword.now (word.now ∷ rest) then 1 else 0) }
+    ensures { (rest : List (List ℕ))
+        → result ≡ count + (if begins_with keyword.now (word.now ∷ rest) then 1 else 0) }
 {
     if is_word(word, keyword) {
         count + 1
@@ -38,19 +40,22 @@ fn with_word(count: u32, word: &[u8], keyword: &[u8]) -> u32
 
 // One more line, in the count of its keyword.
 fn with_line(counts: Counts, line: &[u8]) -> Counts
-    requires points { counts.points < 2 ^ 31 }
-    requires textures { counts.textures < 2 ^ 31 }
-    requires faces { counts.faces < 2 ^ 31 }
-    ensures points { result.points ≡ counts.points + (if is_vertex_line (line_words line.now) then 1 else 0) }
-    ensures textures { result.textures ≡ counts.textures + (if is_texture_line (line_words line.now) then 1 else 0) }
-    ensures faces { result.faces ≡ counts.faces + (if is_face_line (line_words line.now) then 1 else 0) }
+    requires points { counts.point_count < 2 ^ 31 }
+    requires textures { counts.texture_count < 2 ^ 31 }
+    requires faces { counts.face_count < 2 ^ 31 }
+    ensures points { result.point_count
+        ≡ counts.point_count + (if is_vertex_line (line_words line.now) then 1 else 0) }
+    ensures textures { result.texture_count
+        ≡ counts.texture_count + (if is_texture_line (line_words line.now) then 1 else 0) }
+    ensures faces { result.face_count
+        ≡ counts.face_count + (if is_face_line (line_words line.now) then 1 else 0) }
 {
     match next_word(&mut words_of(line)) {
         None => counts,
         Some(word) => Counts {
-            points: with_word(counts.points, word, b"v"),
-            textures: with_word(counts.textures, word, b"vt"),
-            faces: with_word(counts.faces, word, b"f"),
+            point_count: with_word(counts.point_count, word, b"v"),
+            texture_count: with_word(counts.texture_count, word, b"vt"),
+            face_count: with_word(counts.face_count, word, b"f"),
         },
     }
 }
@@ -61,9 +66,9 @@ fn count_lines(text: &[u8]) -> Counts
     ensures { counts_of result ≡ model.counts_of (map line_words (lines_of text.now)) }
 {
     let mut counts = Counts {
-        points: 0,
-        textures: 0,
-        faces: 0,
+        point_count: 0,
+        texture_count: 0,
+        face_count: 0,
     };
     let mut rest = text;
     while let Some((line, others)) = first_line(rest) {
@@ -76,7 +81,8 @@ fn count_lines(text: &[u8]) -> Counts
 // Keeps what all lines say; the error is that of the first bad line.
 fn keep_lines(alloc: Global, text: &[u8]) -> Result<Draft, ReadFault>
     requires { length text.now ≤ 2 ^ 28 }
-    ensures { let lines = map line_words (lines_of text.now) in MatchResult result (λ draft. (model.first_bad_line lines ≡ None) × IsDraftOf draft lines (length lines)) (λ fault. IsReadFault fault (model.first_bad_line lines)) }
+    ensures { let lines = map line_words (lines_of text.now) in
+        TextKeptUnless result (model.first_bad_line lines) (λ draft. IsDraftOf draft lines (length lines)) }
 {
     let all = count_lines(text);
     let mut draft = Draft::new(alloc)?;
@@ -112,7 +118,7 @@ fn least_line(a: Option<u32>, b: Option<u32>) -> Option<u32>
 
 // Whether there is a face, and as many texture values are named as there are corners.
 fn has_texture(faces: &Faces) -> bool
-    ensures { result ≡ (nat_lt 1 (length faces.now.starts.items) && nat_eq (length faces.now.texture_corners.items) (length faces.now.corners.items)) }
+    ensures { result ≡ names_all_texture faces.now }
 {
     faces.starts.len() > 1 && faces.texture_corners.len() == faces.corners.len()
 }
@@ -123,7 +129,8 @@ fn finish(alloc: Global, draft: Draft, least_scale: u32) -> Result<RawMesh, Read
     requires positions { All (IsPositionAt 37) draft.positions.items }
     requires texture { All (IsTextureAt 37) draft.texture.items }
     requires whole { IsWhole (length draft.positions.items) (length draft.texture.items) false draft.faces draft.tags }
-    ensures read { (lines : List (List (List ℕ))) → IsDraftOf draft lines (length lines) → MatchResult result (λ mesh. (model.first_long_line least_scale lines ≡ None) × (mesh ≡ model.mesh_of_lines lines least_scale)) (λ fault. IsReadFault fault (model.first_long_line least_scale lines)) }
+    ensures read { (lines : List Line) → IsDraftOf draft lines (length lines)
+        → TextKeptUnless result (model.first_long_line least_scale lines) (λ mesh. mesh ≡ model.mesh_of_lines lines least_scale) }
     ensures laws { IfOk result (λ mesh. IsWithin mesh) }
 {
     let Draft {
@@ -163,7 +170,8 @@ fn finish(alloc: Global, draft: Draft, least_scale: u32) -> Result<RawMesh, Read
 pub fn read_obj(alloc: Global, bytes: &[u8], least_scale: u32) -> Result<RawMesh, ReadFault>
     requires short { length bytes.now ≤ 2 ^ 28 }
     requires scale { least_scale ≤ 18 }
-    ensures refused { MatchResult result (λ _. Unit {0}) (λ fault. IsReadFault fault (read_obj_fault bytes.now least_scale)) }
+    ensures refused { MatchResult result (λ _. Unit {0})
+        (λ fault. IsReadFault fault (read_obj_fault bytes.now least_scale)) }
     ensures good { OnOk result (read_obj_fault bytes.now least_scale ≡ None) }
     ensures mesh { IfOk result (λ mesh. mesh ≡ read_obj_mesh bytes.now least_scale) }
     ensures laws { IfOk result (λ mesh. IsWithin mesh) }

@@ -1,15 +1,12 @@
-ghost use Rattle.std.specs.Prelude.{◌≡◌, ◌⊎◌, ℕ, ◌+◌, ◌≤◌, length, map, take, true, List, ◌∷◌, ◌++◌, codes, Some, None, MatchOption, MatchResult};
-ghost use Rattle.std.specs.List.{zip};
+ghost use Rattle.std.specs.Prelude.{◌≡◌, ◌⊎◌, ◌+◌, ◌≤◌, length, map, take, ◌∷◌, ◌++◌, codes, MatchOption};
 ghost use Rattle.subdiv_model.specs.ObjFault as model;
-ghost use Rattle.subdiv_model.specs.ObjWord as obj_word;
-ghost use Rattle.subdiv_model.specs.ObjTag.{tag_name, tag_counts, tag_values, kind_of_name, fits_counts, tag_fault, tag_index_fault, chain_pairs, for_each, mode_of_word, method_of_word};
-ghost use Rattle.obj_tags.specs.View.{boundary_of, cause_of, counts_of, kind_of, crease_of, corner_tag_of};
-ghost use Rattle.obj_tags.specs.Counts.{AreCountsOf};
-ghost use Rattle.obj_tags.specs.Kept.{IsLineFault};
-ghost use Rattle.obj_tags.specs.TagView.{value_fault, indices_said, sharpnesses_said};
+ghost use Rattle.subdiv_model.specs.ObjTag.{tag_fault, tag_index_fault, mode_of_word, method_of_word};
+ghost use Rattle.obj_tags.specs.View.{boundary_of, counts_of, crease_of, corner_tag_of};
+ghost use Rattle.obj_tags.specs.Kept.{KeptUnless, ReadOr};
+ghost use Rattle.obj_tags.specs.TagView.{value_fault, indices_said, sharpnesses_said, AreSaid, chain_creases, vertex_tags, IsBadTag, IsHeadOf};
 ghost use Rattle.obj_tags.specs.TagAdded.{AddsTag};
 ghost use Rattle.obj_tags.specs.Walk.{words_left};
-ghost use Rattle.sharpness_rules.specs.View.{method_of, sharpness_of};
+ghost use Rattle.sharpness_rules.specs.View.{method_of};
 
 use crate::ObjCause;
 use crate::face::Counts;
@@ -30,7 +27,8 @@ fn vertices_and_values(
     words: &mut Words<'_>,
 ) -> Result<(Vec<u32>, Vec<Sharpness>), LineFault>
     requires { counts.integers + counts.numerals ≤ length (words_left words.old) }
-    ensures { MatchResult result (λ r. (value_fault points counts (words_left words.old) ≡ None) × (r.0.items ≡ indices_said counts (words_left words.old)) × (map sharpness_of r.1.items ≡ sharpnesses_said counts (words_left words.old))) (λ fault. IsLineFault fault (value_fault points counts (words_left words.old))) }
+    ensures { let read = words_left words.old in
+        KeptUnless result (value_fault points counts read) (λ r. AreSaid r.0.items r.1.items counts read) }
 {
     let vertices = indices(alloc, words, counts.integers, points)?;
     let values = values(alloc, words, counts.numerals)?;
@@ -48,7 +46,10 @@ fn keep_crease(
     requires enough { counts.integers + counts.numerals ≤ length (words_left words.old) }
     requires some { 1 ≤ counts.integers }
     requires fit { (counts.numerals ≡ 1) ⊎ (counts.numerals + 1 ≡ counts.integers) }
-    ensures { let vertices = indices_said counts (words_left words.old) in MatchResult result (λ _. (value_fault points counts (words_left words.old) ≡ None) × (map crease_of creases.new.items ≡ map crease_of creases.old.items ++ zip (chain_pairs vertices) (for_each (length (chain_pairs vertices)) (sharpnesses_said counts (words_left words.old))))) (λ fault. IsLineFault fault (value_fault points counts (words_left words.old))) }
+    ensures { let read = words_left words.old in
+        KeptUnless result (value_fault points counts read)
+        (λ _. map crease_of creases.new.items
+        ≡ map crease_of creases.old.items ++ chain_creases (indices_said counts read) (sharpnesses_said counts read)) }
 {
     let (vertices, values) = vertices_and_values(alloc, points, counts, words)?;
     add_chain(creases, vertices.as_slice(), values.as_slice())?;
@@ -65,7 +66,10 @@ fn keep_corners(
 ) -> Result<(), LineFault>
     requires enough { counts.integers + counts.numerals ≤ length (words_left words.old) }
     requires fit { (counts.numerals ≡ 1) ⊎ (counts.numerals ≡ counts.integers) }
-    ensures { let vertices = indices_said counts (words_left words.old) in MatchResult result (λ _. (value_fault points counts (words_left words.old) ≡ None) × (map corner_tag_of corners.new.items ≡ map corner_tag_of corners.old.items ++ zip vertices (for_each (length vertices) (sharpnesses_said counts (words_left words.old))))) (λ fault. IsLineFault fault (value_fault points counts (words_left words.old))) }
+    ensures { let read = words_left words.old in
+        KeptUnless result (value_fault points counts read)
+        (λ _. map corner_tag_of corners.new.items
+        ≡ map corner_tag_of corners.old.items ++ vertex_tags (indices_said counts read) (sharpnesses_said counts read)) }
 {
     let (vertices, values) = vertices_and_values(alloc, points, counts, words)?;
     add_corners(corners, vertices.as_slice(), values.as_slice())?;
@@ -81,7 +85,9 @@ fn keep_holes(
     words: &mut Words<'_>,
 ) -> Result<(), LineFault>
     requires { counts.integers ≤ length (words_left words.old) }
-    ensures { MatchResult result (λ _. (model.first_cause (tag_index_fault faces) (take counts.integers (words_left words.old)) ≡ None) × (holes.new.items ≡ holes.old.items ++ indices_said counts (words_left words.old))) (λ fault. IsLineFault fault (model.first_cause (tag_index_fault faces) (take counts.integers (words_left words.old)))) }
+    ensures { let read = words_left words.old in
+        KeptUnless result (model.first_cause (tag_index_fault faces) (take counts.integers read))
+        (λ _. holes.new.items ≡ holes.old.items ++ indices_said counts read) }
 {
     let found = indices(alloc, words, counts.integers, faces)?;
     holes.extend_from_slice(found.as_slice())?;
@@ -90,7 +96,7 @@ fn keep_holes(
 
 // Sets the boundary mode that a word names, in the place of the one before.
 fn keep_boundary(boundary: &mut Boundary, word: &[u8]) -> Result<(), ObjCause>
-    ensures { MatchResult result (λ _. mode_of_word word.now ≡ Some (boundary_of boundary.new)) (λ cause. (mode_of_word word.now ≡ None) × (cause_of cause ≡ model.BadTag)) }
+    ensures { ReadOr result (λ _. boundary_of boundary.new) (mode_of_word word.now) model.BadTag }
 {
     *boundary = read_boundary(word)?;
     Ok(())
@@ -98,17 +104,18 @@ fn keep_boundary(boundary: &mut Boundary, word: &[u8]) -> Result<(), ObjCause>
 
 // Sets the crease method that a word names, in the place of the one before.
 fn keep_method(method: &mut Method, word: &[u8]) -> Result<(), ObjCause>
-    ensures { MatchResult result (λ _. method_of_word word.now ≡ Some (method_of method.new)) (λ cause. (method_of_word word.now ≡ None) × (cause_of cause ≡ model.BadTag)) }
+    ensures { ReadOr result (λ _. method_of method.new) (method_of_word word.now) model.BadTag }
 {
     *method = read_method(word)?;
     Ok(())
 }
 
-// The name and the counts of a tag, where they fit each other and the number of words behind them.
+// The name and the counts of a tag, where they fit each other and the number of words after them.
 fn tag_head(words: &mut Words<'_>, len: usize) -> Option<(TagKind, TagCounts)>
     requires count { len ≡ length (words_left words.old) }
     requires some { 2 ≤ len }
-    ensures { let line = codes "t" ∷ words_left words.old in MatchOption result ((whole : obj_word.Counts) → tag_fault whole line ≡ Some model.BadTag) (λ r. (kind_of_name (tag_name line) ≡ Some (kind_of r.0)) × (fits_counts (kind_of r.0) line ≡ true) × AreCountsOf r.1 (tag_counts line) × (words_left words.new ≡ tag_values line)) }
+    ensures { let line = codes "t" ∷ words_left words.old in
+        MatchOption result (IsBadTag line) (λ head. IsHeadOf head.0 head.1 (words_left words.new) line) }
 {
     let kind = kind_named(next_word(words)?)?;
     let counts = read_counts(next_word(words)?)?;
@@ -119,7 +126,7 @@ fn tag_head(words: &mut Words<'_>, len: usize) -> Option<(TagKind, TagCounts)>
     }
 }
 
-/// Keeps a tag, from the `len` words behind the keyword `t`, which are two or more.
+/// Keeps a tag, from the `len` words after the keyword `t`, which are two or more.
 pub(crate) fn keep_tag(
     alloc: Global,
     tags: &mut Tags,
@@ -129,13 +136,14 @@ pub(crate) fn keep_tag(
 ) -> Result<(), LineFault>
     requires count { len ≡ length (words_left words.old) }
     requires some { 2 ≤ len }
-    ensures { let line = codes "t" ∷ words_left words.old in MatchResult result (λ _. (tag_fault (counts_of all) line ≡ None) × AddsTag line tags.old tags.new) (λ fault. IsLineFault fault (tag_fault (counts_of all) line)) }
+    ensures { let line = codes "t" ∷ words_left words.old in
+        KeptUnless result (tag_fault (counts_of all) line) (λ _. AddsTag line tags.old tags.new) }
 {
     let (kind, counts) = tag_head(words, len).ok_or(ObjCause::BadTag)?;
     match kind {
-        TagKind::Crease => keep_crease(alloc, &mut tags.creases, all.points, counts, words)?,
-        TagKind::Corner => keep_corners(alloc, &mut tags.corners, all.points, counts, words)?,
-        TagKind::Hole => keep_holes(alloc, &mut tags.holes, all.faces, counts, words)?,
+        TagKind::Crease => keep_crease(alloc, &mut tags.creases, all.point_count, counts, words)?,
+        TagKind::Corner => keep_corners(alloc, &mut tags.corners, all.point_count, counts, words)?,
+        TagKind::Hole => keep_holes(alloc, &mut tags.holes, all.face_count, counts, words)?,
         TagKind::Boundary => {
             keep_boundary(
                 &mut tags.boundary,

@@ -1,9 +1,8 @@
-ghost use Rattle.std.specs.Prelude.{◌≡◌, ◌+◌, ◌^◌, ◌<◌, true, false, ◌∷◌, None, Some, MatchOption};
+ghost use Rattle.std.specs.Prelude.{◌≡◌, ◌+◌, ◌^◌, ◌<◌, ◌∷◌, option_map, IfSome};
 ghost use Rattle.std.specs.List.{slice_split};
-ghost use Rattle.subdiv_model.specs.Digits.{is_digits, number_of_digits};
 ghost use Rattle.subdiv_model.specs.ObjWord.{is_slash};
 ghost use Rattle.subdiv_model.specs.ObjTag.{kind_of_name, may_have};
-ghost use Rattle.obj_tags.specs.Counts.{AreShort, IsReadAs};
+ghost use Rattle.obj_tags.specs.Counts.{IsCount, AreShort, IsReadAs};
 ghost use Rattle.obj_tags.specs.View.{kind_of};
 
 use crate::words::{is_word, split_slash};
@@ -30,7 +29,7 @@ pub(crate) struct TagCounts {
 
 /// The tag of this name; `None` where there is none.
 pub(crate) fn kind_named(word: &[u8]) -> Option<TagKind>
-    ensures { MatchOption result (kind_of_name word.now ≡ None) (λ kind. kind_of_name word.now ≡ Some (kind_of kind)) }
+    ensures { option_map kind_of result ≡ kind_of_name word.now }
 {
     if is_word(word, b"crease") {
         Some(TagKind::Crease)
@@ -53,8 +52,8 @@ pub(crate) fn kind_named(word: &[u8]) -> Option<TagKind>
 
 // The number that one to nine digits say; `None` for any other word.
 fn count(word: &[u8]) -> Option<u32>
-    ensures value { MatchOption result (is_digits 9 word.now ≡ false) (λ n. (is_digits 9 word.now ≡ true) × (n ≡ number_of_digits word.now)) }
-    ensures bound { MatchOption result (Unit {0}) (λ n. n < 10 ^ 9) }
+    ensures value { IsCount result word.now }
+    ensures bound { IfSome result (λ n. n < 10 ^ 9) }
 {
     if word.is_empty() || word.len() > 9 {
         return None;
@@ -101,7 +100,8 @@ impl TagCounts {
 
     /// Whether a tag of this kind may have these counts.
     pub(crate) fn fit(&self, kind: TagKind) -> bool
-        ensures { result ≡ may_have (kind_of kind) self.now.integers self.now.numerals self.now.strings }
+        ensures { result
+            ≡ may_have (kind_of kind) self.now.integers self.now.numerals self.now.strings }
     {
         let (i, f, s) = (self.integers, self.numerals, self.strings);
         match kind {

@@ -1,4 +1,5 @@
-ghost use Rattle.std.specs.Prelude.{◌≡◌, ◌+◌, ◌<◌, ◌≤◌, ◌^◌, length, Option, Some, None, [], ◌∷◌, MatchOption, IfSome, bytes_eq};
+ghost use Rattle.std.specs.Prelude.{◌≡◌, ◌+◌, ◌<◌, ◌≤◌, ◌^◌, length, [], ◌∷◌, MatchOption, IfSome, bytes_eq};
+ghost use Rattle.std.specs.Iterator.{YieldsFirstRef};
 ghost use Rattle.std.specs.List.{slice_split, position_or_len};
 ghost use Rattle.subdiv_model.specs.ObjLine.{lines_of, line_words};
 ghost use Rattle.subdiv_model.specs.ObjWord.{is_slash};
@@ -7,7 +8,7 @@ ghost use Rattle.obj_tags.specs.Walk.{words_left, parts_left};
 
 use obj_text::{Words, line_end, words_of};
 
-/// What follows a byte order mark at the front of a text, or the text where there is none.
+/// What follows the byte order mark that a text begins with, or the text where there is none.
 pub(crate) fn skip_mark(text: &[u8]) -> &[u8]
     ensures { result.now ≡ without_mark text.now }
 {
@@ -20,7 +21,8 @@ pub(crate) fn skip_mark(text: &[u8]) -> &[u8]
 /// The first line of a text without its line end, and the text of the other lines; `None` where
 /// there is no line. The last line may have no line end.
 pub(crate) fn first_line(text: &[u8]) -> Option<(&[u8], &[u8])>
-    ensures lines { MatchOption result (lines_of text.now ≡ []) (λ r. lines_of text.now ≡ r.0.now ∷ lines_of r.1.now) }
+    ensures lines { MatchOption result (lines_of text.now ≡ [])
+        (λ r. lines_of text.now ≡ r.0.now ∷ lines_of r.1.now) }
     ensures shorter { IfSome result (λ r. length r.1.now < length text.now) }
     ensures parts { IfSome result (λ r. length r.0.now + length r.1.now ≤ length text.now) }
 {
@@ -65,7 +67,7 @@ pub(crate) fn has_continuation(line: &[u8]) -> bool
 
 /// Takes the next word of a line; `None` where there is none.
 pub(crate) fn next_word<'a>(words: &mut Words<'a>) -> Option<&'a [u8]>
-    ensures { MatchOption result ((words_left words.old ≡ []) × (words_left words.new ≡ [])) (λ word. words_left words.old ≡ word.now ∷ words_left words.new) }
+    ensures { YieldsFirstRef words_left words.old result words.new }
 {
     words.next()
 }

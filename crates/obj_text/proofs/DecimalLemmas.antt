@@ -1,4 +1,4 @@
--- Digits behind a number, and numbers that are too long for a mantissa.
+-- Digits after a number, and numbers that are too long for a mantissa.
 use Rattle.std.proofs.Common.{◌≡◌, ◌≢◌, ℕ, zero, suc, ◌+◌, ◌-◌, ◌*◌, ◌%◌, ◌^◌, ◌<◌, ◌≤◌, true, nat_le, List, [], ◌∷◌, length, take, drop, get_or, arith, lit<, ap, sym, subst, ◌∙◌}
 use Rattle.std.specs.List.{fold, list_all}
 use Rattle.std.proofs.lemmas.Bool.{and_parts, leb-true}
@@ -11,7 +11,7 @@ use Rattle.std.proofs.Math.Nat.{pow-le-pow_right, mul-le-mul_left, mul-le-mul_ri
 use Rattle.obj_text.specs.Significant.{IsLong, with_next_digit}
 use Rattle.subdiv_model.specs.Digits.{is_digit}
 
--- 37 zeros behind a digit are too many
+-- 37 zeros after a digit are too many
 pub zeros-far : (a z : ℕ) → a ≢ 0 → 37 ≤ z → 10 ^ 37 ≤ a * 10 ^ z
 zeros-far a z some far =
     let grows : 10 ^ 37 ≤ 10 ^ z = pow-le-pow_right {n = 10} (lit< tt) {i = 37} {j = z} far in

@@ -35,9 +35,9 @@ runs-some : (b : ℕ) (run : List ℕ) (rest : List (List ℕ)) → filter has_b
 runs-some b run rest = grind (arith, nat_tests)
 
 -- the run is the first word
-pub words-front : (line run rest : List ℕ) → run ≡ before_first is_blank line → rest ≡ after_first is_blank line → 0 < length run → opens_comment run ≡ false → line_words line ≡ run ∷ line_words rest
-words-front line [] rest e f some other = absurd (omega arith)
-words-front line (b ∷ run) rest e f some other =
+pub words-first : (line run rest : List ℕ) → run ≡ before_first is_blank line → rest ≡ after_first is_blank line → 0 < length run → opens_comment run ≡ false → line_words line ≡ run ∷ line_words rest
+words-first line [] rest e f some other = absurd (omega arith)
+words-first line (b ∷ run) rest e f some other =
     ap (take_while is_word) (runs-named line (b ∷ run) rest e f ∙ runs-some b run (slice_split is_blank rest))
     ∙ take_while-cons is_word (b ∷ run) (runs_of rest)
     ∙ rw other refl

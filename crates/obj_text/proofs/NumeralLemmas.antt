@@ -1,4 +1,4 @@
--- The normal form of a numeral, from its digits up to the last that is not 0, the zeros behind them and its exponent.
+-- The normal form of a numeral, from its digits up to the last that is not 0, the zeros after them and its exponent.
 use Rattle.std.proofs.Common.{◌≡◌, ◌≢◌, ℕ, ◌+◌, ◌-◌, ◌*◌, ◌%◌, ◌^◌, ◌<◌, ◌≤◌, ◌⊎◌, true, false, ◌&&◌, nat_lt, nat_le, List, ◌++◌, length, Option, Some, None, MatchOption, min, arith, refl, ap, sym, ◌∙◌, inl, inr, ⊎_elim}
 use Rattle.std.specs.List.{fold}
 use Rattle.std.proofs.lemmas.Bool.{cases_lt}
@@ -8,7 +8,7 @@ use Rattle.obj_text.specs.Significant.{IsLong, with_next_digit}
 use Rattle.obj_text.proofs.DecimalLemmas.{zeros-far, times-tens}
 use Rattle.subdiv_model.specs.Digits.{number_of_digits}
 use Rattle.subdiv_model.specs.Numeral.{whole_digits, fraction_digits, all_digits, exponent_part, exponent_amount, exponent_has_minus, tens_above, tens_below, normal_amount, is_in_range}
-use Rattle.subdiv_model.proofs.NumeralLemmas.{normal-tens}
+use Rattle.obj_laws.proofs.NumeralLemmas.{normal-tens}
 
 abbrev BOUND : ℕ
 BOUND = 10 ^ 37

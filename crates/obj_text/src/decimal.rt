@@ -1,6 +1,6 @@
 ghost use Rattle.std.specs.Prelude.{◌≡◌, ◌+◌, ◌*◌, ◌^◌, ◌<◌, ◌≤◌, true, length, fold, MatchOption};
 ghost use Rattle.std.specs.List.{list_all};
-ghost use Rattle.obj_text.specs.Significant.{IsSignificant, IsLong, with_next_digit};
+ghost use Rattle.obj_text.specs.Significant.{IsSignificant, KeepsNumber, with_next_digit};
 ghost use Rattle.subdiv_model.specs.Digits.{is_digit};
 
 // A mantissa has at most 37 digits.
@@ -14,7 +14,7 @@ pub(crate) struct Significant {
     pub(crate) zeros: u128,
 }
 
-/// The amount with so many zeros behind it; `None` where that has more than 37 digits.
+/// The amount with so many zeros after it; `None` where that has more than 37 digits.
 pub(crate) fn with_zeros(amount: u128, zeros: u128) -> Option<u128>
     ensures { MatchOption result (10 ^ 37 ≤ amount * 10 ^ zeros) (λ n. (n ≡ amount * 10 ^ zeros) × (n < 10 ^ 37)) }
 {
@@ -28,12 +28,12 @@ pub(crate) fn with_zeros(amount: u128, zeros: u128) -> Option<u128>
     if number < BOUND { Some(number) } else { None }
 }
 
-// The number with one more digit behind it; `None` where it is too long to be a mantissa.
+// The number with one more digit after it; `None` where it is too long to be a mantissa.
 fn with_digit(number: Significant, digit: u8) -> Option<Significant>
     requires number { IsSignificant number.amount number.zeros }
     requires digit { digit < 10 }
     requires few { number.zeros < 2 ^ 100 }
-    ensures { MatchOption result (IsLong (number.amount * 10 ^ number.zeros * 10 + digit)) (λ n. IsSignificant n.amount n.zeros × (n.amount * 10 ^ n.zeros ≡ number.amount * 10 ^ number.zeros * 10 + digit) × (n.zeros ≤ number.zeros + 1)) }
+    ensures { KeepsNumber result (number.amount * 10 ^ number.zeros * 10 + digit) (number.zeros + 1) }
 {
     if digit == 0 {
         let zeros = if number.amount == 0 {
@@ -54,13 +54,14 @@ fn with_digit(number: Significant, digit: u8) -> Option<Significant>
     }
 }
 
-/// The number with more digits behind it; `None` where it is too long to be a mantissa, whatever its
+/// The number with more digits after it; `None` where it is too long to be a mantissa, whatever its
 /// decimals.
 pub(crate) fn with_digits(start: Significant, digits: &[u8]) -> Option<Significant>
     requires start { IsSignificant start.amount start.zeros }
     requires digits { list_all is_digit digits.now ≡ true }
     requires few { start.zeros ≤ 2 ^ 64 }
-    ensures { MatchOption result (IsLong (fold with_next_digit (start.amount * 10 ^ start.zeros) digits.now)) (λ n. IsSignificant n.amount n.zeros × (n.amount * 10 ^ n.zeros ≡ fold with_next_digit (start.amount * 10 ^ start.zeros) digits.now) × (n.zeros ≤ start.zeros + length digits.now)) }
+    ensures { KeepsNumber result (fold with_next_digit (start.amount * 10 ^ start.zeros) digits.now)
+        (start.zeros + length digits.now) }
 {
     let mut number = start;
     for byte in digits {

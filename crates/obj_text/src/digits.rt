@@ -1,7 +1,7 @@
-ghost use Rattle.std.specs.Prelude.{◌≡◌, ◌^◌, ◌<◌, true, false, min, MatchOption};
+ghost use Rattle.std.specs.Prelude.{◌≡◌, ◌^◌, ◌<◌};
 ghost use Rattle.std.specs.List.{list_all};
-ghost use Rattle.subdiv_model.specs.Digits.{is_digit, number_of_digits};
-ghost use Rattle.subdiv_model.specs.Numeral.{are_digits};
+ghost use Rattle.obj_text.specs.NumeralParts.{IsNumberUpTo};
+ghost use Rattle.subdiv_model.specs.Digits.{is_digit};
 
 /// Whether the bytes are digits, all of them.
 pub(crate) fn has_digits_alone(bytes: &[u8]) -> bool
@@ -19,7 +19,7 @@ pub(crate) fn has_digits_alone(bytes: &[u8]) -> bool
 /// digit, or another byte.
 pub(crate) fn digits_up_to(bytes: &[u8], most: u128) -> Option<u128>
     requires { most < 2 ^ 120 }
-    ensures { MatchOption result (are_digits bytes.now ≡ false) (λ n. (are_digits bytes.now ≡ true) × (n ≡ min (number_of_digits bytes.now) most)) }
+    ensures { IsNumberUpTo most result bytes.now }
 {
     if bytes.is_empty() {
         return None;

@@ -9,7 +9,8 @@ const MOST: u128 = 1 << 63;
 /// An index: an optional `-` and one or more decimal digits; `None` for any other word. An index
 /// that an `i64` cannot hold is answered as the end of `i64` that is nearest to it (this profile).
 pub fn read_index(word: &[u8]) -> Option<i64>
-    ensures { MatchOption result (is_index word.now ≡ false) (λ i. (is_index word.now ≡ true) × (i ≡ nearest_index word.now)) }
+    ensures { MatchOption result (is_index word.now ≡ false)
+        (λ i. (is_index word.now ≡ true) × (i ≡ nearest_index word.now)) }
 {
     match word {
         [b'-', amount @ ..] => Some(-(digits_up_to(amount, MOST)? as i128) as i64),

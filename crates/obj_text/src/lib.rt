@@ -6,8 +6,6 @@ mod digits;
 mod index;
 mod line;
 mod numeral;
-#[cfg(test)]
-mod tests;
 
 pub use index::read_index;
 pub use line::{Words, line_end, words_of};

@@ -1,9 +1,9 @@
-ghost use Rattle.std.specs.Prelude.{◌≡◌, ◌⊎◌, ℕ, ◌-◌, ◌*◌, ◌^◌, ◌<◌, ◌≤◌, true, false, min, unsigned_abs, List, MatchOption, MatchResult, IfOk};
+ghost use Rattle.std.specs.Prelude.{◌≡◌, ℕ, ◌^◌, ◌<◌, ◌≤◌, true, false, unsigned_abs, List, MatchOption, IfOk};
 ghost use Rattle.std.specs.List.{list_all, position_or_len, before_first, after_first};
-ghost use Rattle.obj_text.specs.NumeralFaults.{IsFaultOf};
-ghost use Rattle.obj_text.specs.NumeralParts.{ArePartsOf};
+ghost use Rattle.obj_text.specs.NumeralFaults.{IsReadAs};
+ghost use Rattle.obj_text.specs.NumeralParts.{ArePartsOf, IsExponentUpTo, IsOverTens, IsNormalAmount};
 ghost use Rattle.subdiv_model.specs.Digits.{is_digit, has_minus};
-ghost use Rattle.subdiv_model.specs.Numeral.{without_sign, is_exponent_mark, is_point, is_exponent, exponent_amount, exponent_has_minus, is_numeral, normal_amount, normal_form, is_in_range};
+ghost use Rattle.subdiv_model.specs.Numeral.{without_sign, is_exponent_mark, is_point, is_numeral};
 
 use crate::decimal::{Significant, with_digits, with_zeros};
 use crate::digits::{digits_up_to, has_digits_alone};
@@ -116,7 +116,7 @@ fn split_point(decimal: &[u8]) -> (&[u8], &[u8])
 
 // The exponent, from its mark on; `None` where the bytes are no exponent.
 fn read_exponent(part: &[u8]) -> Option<Exponent>
-    ensures { MatchOption result (is_exponent part.now ≡ false) (λ e. (is_exponent part.now ≡ true) × (e.negative ≡ exponent_has_minus part.now) × (e.amount ≡ min (exponent_amount part.now) MOST_EXPONENT)) }
+    ensures { IsExponentUpTo MOST_EXPONENT result part.now }
 {
     match part {
         [] => Some(Exponent {
@@ -133,7 +133,8 @@ fn read_exponent(part: &[u8]) -> Option<Exponent>
 
 // The parts of the word; `None` where it is no numeral.
 fn parts_of(word: &[u8]) -> Option<Parts<'_>>
-    ensures { MatchOption result (is_numeral word.now ≡ false) (λ p. (is_numeral word.now ≡ true) × ArePartsOf p word.now) }
+    ensures { MatchOption result (is_numeral word.now ≡ false)
+        (λ p. (is_numeral word.now ≡ true) × ArePartsOf p word.now) }
 {
     let (negative, unsigned) = split_sign(word);
     let (decimal, part) = unsigned.split_at(decimal_len(unsigned));
@@ -157,7 +158,7 @@ fn parts_of(word: &[u8]) -> Option<Parts<'_>>
 // last digit is not 0; `None` where it is out of range.
 fn over_tens(amount: u128, above: u128, below: u128) -> Option<(u128, u32)>
     requires { amount < 10 ^ 37 }
-    ensures { MatchOption result ((10 ^ 37 ≤ amount * 10 ^ (above - below)) ⊎ (37 < below - above)) (λ n. (n.0 ≡ amount * 10 ^ (above - below)) × (n.1 ≡ below - above) × (n.0 < 10 ^ 37) × (n.1 ≤ 37)) }
+    ensures { IsOverTens result amount above below }
 {
     if above >= below {
         return Some((with_zeros(amount, above - below)?, 0));
@@ -173,7 +174,7 @@ fn normal_form_of(parts: &Parts<'_>) -> Option<(u128, u32)>
     requires whole { list_all is_digit parts.now.whole.now ≡ true }
     requires fraction { list_all is_digit parts.now.fraction.now ≡ true }
     requires exponent { parts.now.exponent.amount ≤ MOST_EXPONENT }
-    ensures { (word : List ℕ) → ArePartsOf parts.now word → MatchOption result (is_in_range word ≡ false) (λ n. (is_in_range word ≡ true) × ((n.0, n.1) ≡ normal_amount word) × (n.0 < 10 ^ 37) × (n.1 ≤ 37)) }
+    ensures { (word : List ℕ) → ArePartsOf parts.now word → IsNormalAmount result word }
 {
     let none = Significant {
         amount: 0,
@@ -200,13 +201,13 @@ fn normal_form_of(parts: &Parts<'_>) -> Option<(u128, u32)>
 }
 
 /// A decimal numeral, read exactly: an optional sign; one or more digits, which may have a point
-/// before, behind or among them; and an optional exponent, which is `e` or `E`, an optional sign and
+/// before, after or among them; and an optional exponent, which is `e` or `E`, an optional sign and
 /// one or more digits. There may be any number of digits, in the exponent too.
 ///
 /// `BadNumeral` comes exactly where the word is no numeral, and `NumberRange` exactly where it is one
 /// that in normal form passes 37 digits in its mantissa or in its decimals (this profile).
 pub fn read_numeral(word: &[u8]) -> Result<Numeral, NumeralFault>
-    ensures cases { MatchResult result (λ n. (is_numeral word.now ≡ true) × (is_in_range word.now ≡ true) × ((n.mantissa, n.decimals) ≡ normal_form word.now)) (λ fault. IsFaultOf fault word.now) }
+    ensures cases { IsReadAs result word.now }
     ensures small { IfOk result (λ n. (unsigned_abs n.mantissa < 10 ^ 37) × (n.decimals ≤ 37)) }
 {
     let parts = parts_of(word).ok_or(NumeralFault::BadNumeral)?;

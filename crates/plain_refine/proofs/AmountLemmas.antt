@@ -62,7 +62,7 @@ pub amounts-twelfths : (values : List ℤ) (polygons : List Polygon) → All IsS
 amounts-twelfths values polygons short sizes =
     All-map (λ z. unsigned_abs z < 2 ^ 64) (twelfths values) polygons (All-weaker HasSize (λ p. unsigned_abs (twelfths values p) < 2 ^ 64) (λ p size. amount-twelfths values p short size) polygons sizes)
 
--- one more place behind the others
+-- one more place after the others
 sum_at-push : (numbers : List ℤ) (places : List ℕ) (p : ℕ) → sum_at numbers (places ++ p ∷ []) ≡ sum_at numbers places +ℤ get_or numbers p (pos 0)
 sum_at-push numbers [] p = +ℤ_idr (get_or numbers p (pos 0)) ∙ sym (+ℤ_idl (get_or numbers p (pos 0)))
 sum_at-push numbers (q ∷ places) p =

@@ -6,18 +6,19 @@ use Rattle.std.proofs.lemmas.List.{take_more, length-take, length-map, get_or-ma
 use Rattle.std.proofs.lemmas.Grind.{flat_map-append}
 use Rattle.subdiv_model.specs.Polygons.{Polygon}
 use Rattle.subdiv_model.specs.Edges.{all_sides, edges_of}
-use Rattle.subdiv_model.specs.Child.{child_faces, last_side}
+use Rattle.subdiv_model.specs.Child.{child_faces}
+use Rattle.subdiv_model.specs.Lists.{last_of}
 use Rattle.plain_refine.specs.Mesh.{corners_of}
 use Rattle.std.proofs.lemmas.List.Elements.{recursion_from_All}
 use Rattle.plain_refine.proofs.InsideLemmas.{length-first, length-all_sides}
 
 -- the last of a list that has a first
-last_at : (d e : ℕ × ℕ) (xs : List (ℕ × ℕ)) → unwrap_or (slice_get (d ∷ xs) (length xs)) e ≡ last_side d xs
+last_at : (d e : ℕ × ℕ) (xs : List (ℕ × ℕ)) → unwrap_or (slice_get (d ∷ xs) (length xs)) e ≡ last_of d xs
 last_at d e [] = refl
 last_at d e (x ∷ xs) = last_at x e xs
 
 -- the last side, as a slice gives it
-pub last_side-is : (d : ℕ × ℕ) (xs : List (ℕ × ℕ)) → unwrap_or (slice_get xs (length xs - 1)) d ≡ last_side d xs
+pub last_side-is : (d : ℕ × ℕ) (xs : List (ℕ × ℕ)) → unwrap_or (slice_get xs (length xs - 1)) d ≡ last_of d xs
 last_side-is d [] = refl
 last_side-is d (x ∷ xs) =
     let n : length (x ∷ xs) - 1 ≡ length xs = omega arith in

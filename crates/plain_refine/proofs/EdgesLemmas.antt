@@ -7,13 +7,14 @@ use Rattle.std.proofs.lemmas.Bool.Decides.{nat_tests}
 use Rattle.std.proofs.lemmas.List.{take_more, length-take, length-map, map-append, get_or-map}
 use Rattle.std.proofs.lemmas.List.Elements.{filter-append}
 use Rattle.std.proofs.lemmas.List.Folds.{list_all_at}
-use Rattle.subdiv_model.specs.Polygons.{Polygon, same_edge, places, places_from}
+use Rattle.subdiv_model.specs.Polygons.{Polygon, same_edge}
+use Rattle.subdiv_model.specs.Lists.{places, places_from}
 use Rattle.subdiv_model.specs.Edges.{first_named}
 use Rattle.plain_refine.specs.Mesh.{corners_of}
-use Rattle.subdiv_model.proofs.EdgeLemmas.{any-filter}
-use Rattle.subdiv_model.proofs.SideLemmas.{same_edge-sym}
+use Rattle.mesh_laws.proofs.EdgeLemmas.{any-filter}
+use Rattle.mesh_laws.proofs.SideLemmas.{same_edge-sym}
 
--- the edges with one more side: behind the others, where none of them is its edge
+-- the edges with one more side: after the others, where none of them is its edge
 abbrev pub with_side : List (ℕ × ℕ) → ℕ × ℕ → List (ℕ × ℕ)
 with_side edges s = if list_any (same_edge s) edges then edges else edges ++ s ∷ []
 
@@ -42,7 +43,7 @@ places-more test polygons i d h =
     ∙ places_from-push 0 test (corners_of (take i polygons)) (get_or polygons i d).items
     ∙ ap (λ k. places test (corners_of (take i polygons)) ++ cond (test (get_or polygons i d).items) (k ∷ []) []) n
 
--- one more polygon, whose number is put behind the others where it passes the test
+-- one more polygon, whose number is put after the others where it passes the test
 pub places-step : (test : Polygon → Bool) (polygons : List (Vec ℕ Global)) (i : ℕ) (p : Vec ℕ Global) (corners : Polygon) (b : Bool) (before after : List ℕ) → i < length polygons → p ≡ get_or polygons i p → corners ≡ p.items → b ≡ test corners → before ≡ places test (corners_of (take i polygons)) → after ≡ cond b (before ++ i ∷ []) before → after ≡ places test (corners_of (take (i + 1) polygons))
 places-step test polygons i p corners b before after h at is t e a =
     let here : b ≡ test (get_or polygons i p).items = t ∙ ap test is ∙ ap (λ (q : Vec ℕ Global). test q.items) at in

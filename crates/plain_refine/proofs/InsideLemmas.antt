@@ -4,7 +4,8 @@ use Rattle.std.specs.List.{filter, All, AllByRecursion}
 use Rattle.std.proofs.lemmas.List.{length-map}
 use Rattle.std.proofs.lemmas.List.Sums.{length-filter, count_by-le-length}
 use Rattle.std.proofs.lemmas.List.Elements.{recursion_from_All, All-nil, All-cons, All-head, All-tail, All-append, All-weaker, All-filter, All-map}
-use Rattle.subdiv_model.specs.Polygons.{Polygon, sides_back_to, sides_of, same_edge, places_from, places}
+use Rattle.subdiv_model.specs.Polygons.{Polygon, sides_back_to, sides_of, same_edge}
+use Rattle.subdiv_model.specs.Lists.{places_from, places}
 use Rattle.subdiv_model.specs.Edges.{all_sides, first_named, edges_of, has_end}
 use Rattle.subdiv_model.specs.Mask.{other_end}
 use Rattle.plain_refine.specs.Mesh.{IsSmall}

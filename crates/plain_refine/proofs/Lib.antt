@@ -1,10 +1,8 @@
 mod AmountLemmas
 pub mod ChildrenLemmas
 pub mod EdgesLemmas
-mod FractionLemmas
 mod InsideLemmas
 pub mod ManifoldLemmas
-pub mod TestLemmas
 mod MaskSumLemmas
 mod PlainMaskLemmas
 mod PointLemmas

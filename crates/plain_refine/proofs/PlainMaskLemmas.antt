@@ -1,13 +1,20 @@
 -- The masks of a level without sharpness.
-use Rattle.std.proofs.Common.{◌≡◌, ℕ, ◌+◌, ◌<◌, false, cond, ◌||◌, nat_eq, List, [], ◌∷◌, length, map, arith, refl, ap, sym, ◌∙◌}
+use Rattle.std.proofs.Common.{◌≡◌, ℕ, zero, suc, ◌+◌, ◌<◌, false, cond, ◌||◌, nat_eq, List, [], ◌∷◌, length, map, get_or, replicate, arith, refl, ap, sym, ◌∙◌}
 use Rattle.std.proofs.lemmas.Bool.Decides.{nat_tests}
 use Rattle.std.proofs.lemmas.List.{nil_from_length, length-map}
-use Rattle.subdiv_model.specs.Polygons.{Polygon, places, places_from}
-use Rattle.subdiv_model.specs.Edges.{edges_of_point, faces_of_point}
-use Rattle.subdiv_model.specs.Sharpness.{Sharpness, Smooth, Normal, is_sharp, half_child}
+use Rattle.subdiv_model.specs.Polygons.{Polygon}
+use Rattle.subdiv_model.specs.Lists.{places, places_from}
+use Rattle.subdiv_model.specs.Edges.{edges_of, edge_number, edges_of_point, faces_of_edge, faces_of_point}
+use Rattle.subdiv_model.specs.Sharpness.{Sharpness, Smooth, Normal, is_sharp, uniform_child, half_child}
 use Rattle.subdiv_model.specs.Rule.{Rule, SmoothRule, CornerRule, vertex_rule, rule_of_sharp_edges, same_mask, child_ring}
-use Rattle.subdiv_model.specs.Level.{plain_level}
-use Rattle.subdiv_model.specs.Mask.{Mask, CatmullClark, mask_of_rule, mask_of_vertex, transition_mask, smooth_vertex_mask, corner_mask, other_end, vertex_mask}
+use Rattle.subdiv_model.specs.Level.{plain_level, edge_sharpness_of, ring_at}
+use Rattle.subdiv_model.specs.Mask.{Mask, CatmullClark, mask_of_rule, mask_of_vertex, mask_of_edge, transition_mask, smooth_vertex_mask, smooth_edge_mask, corner_mask, other_end, vertex_mask, edge_mask}
+
+-- a list of one thing has it at each place, and past its end
+pub replicated : {X : Type 0} (n i : ℕ) (x : X) → get_or (replicate n x) i x ≡ x
+replicated zero i x = refl
+replicated (suc n) zero x = refl
+replicated (suc n) (suc i) x = replicated n i x
 
 -- a ring of so many smooth edges
 abbrev smooth_ring : List (ℕ × ℕ) → List Sharpness
@@ -47,14 +54,34 @@ smooth-mask v faces edges some =
     (smooth-rule (smooth_ring edges) (omega (arith, length-map edges (λ e. Smooth))) (none-sharp 0 edges))
     (smooth-rule (child_ring Normal (smooth_ring edges)) (omega (arith, length-map edges (λ e. Smooth), length-map (smooth_ring edges) (half_child Normal (smooth_ring edges)))) (none-sharp-child (smooth_ring edges) 0 edges))
 
--- a vertex with an edge is smooth
-pub plain-vertex : (points : ℕ) (polygons : List Polygon) (v : ℕ) (ends : List ℕ) → ends ≡ map (other_end v) (edges_of_point polygons v) → 0 < length ends → vertex_mask (plain_level points polygons) CatmullClark v ≡ smooth_vertex_mask v ends (faces_of_point polygons v)
-plain-vertex points polygons v ends e some =
-    let count : length ends ≡ length (edges_of_point polygons v) = ap length e ∙ length-map (edges_of_point polygons v) (other_end v) in
-    smooth-mask v (faces_of_point polygons v) (edges_of_point polygons v) (omega arith)
-    ∙ ap (λ xs. smooth_vertex_mask v xs (faces_of_point polygons v)) (sym e)
+module _ (points : ℕ) (polygons : List Polygon) where
+  -- the edges of a plain level are smooth
+  edge-smooth : (edge : ℕ × ℕ) → edge_sharpness_of (plain_level points polygons) edge ≡ Smooth
+  edge-smooth edge = replicated (length (edges_of polygons)) (edge_number polygons edge) Smooth
 
--- a vertex without edges is a corner
-pub plain-corner : (points : ℕ) (polygons : List Polygon) (v : ℕ) → length (map (other_end v) (edges_of_point polygons v)) ≡ 0 → vertex_mask (plain_level points polygons) CatmullClark v ≡ corner_mask v
-plain-corner points polygons v none =
-    ap (mask_at v (faces_of_point polygons v)) (nil_from_length (edges_of_point polygons v) (sym (length-map (edges_of_point polygons v) (other_end v)) ∙ none))
+  ring-smooth : (edges : List (ℕ × ℕ)) → map (edge_sharpness_of (plain_level points polygons)) edges ≡ smooth_ring edges
+  ring-smooth [] = refl
+  ring-smooth (e ∷ edges) = ap (λ s. s ∷ map (edge_sharpness_of (plain_level points polygons)) edges) (edge-smooth e) ∙ ap (λ ring. Smooth ∷ ring) (ring-smooth edges)
+
+  -- so are its vertices
+  vertex-smooth : (v : ℕ) → vertex_mask (plain_level points polygons) CatmullClark v ≡ mask_at v (faces_of_point polygons v) (edges_of_point polygons v)
+  vertex-smooth v =
+      let ring = ring_at (plain_level points polygons) v in
+      let mask : Sharpness → List Sharpness → Mask = λ s ring. mask_of_vertex s (uniform_child s) ring (child_ring Normal ring) v (map (other_end v) (edges_of_point polygons v)) (faces_of_point polygons v) in
+      ap (λ s. mask s ring) (replicated points v Smooth) ∙ ap (mask Smooth) (ring-smooth (edges_of_point polygons v))
+
+  pub plain-edge : (edge : ℕ × ℕ) → edge_mask (plain_level points polygons) CatmullClark edge ≡ smooth_edge_mask edge (faces_of_edge polygons edge)
+  plain-edge edge = ap (λ s. mask_of_edge s edge (faces_of_edge polygons edge)) (edge-smooth edge)
+
+  -- a vertex with an edge has the smooth mask
+  pub plain-vertex : (v : ℕ) (ends : List ℕ) → ends ≡ map (other_end v) (edges_of_point polygons v) → 0 < length ends → vertex_mask (plain_level points polygons) CatmullClark v ≡ smooth_vertex_mask v ends (faces_of_point polygons v)
+  plain-vertex v ends e some =
+      let count : length ends ≡ length (edges_of_point polygons v) = ap length e ∙ length-map (edges_of_point polygons v) (other_end v) in
+      vertex-smooth v
+      ∙ smooth-mask v (faces_of_point polygons v) (edges_of_point polygons v) (omega arith)
+      ∙ ap (λ xs. smooth_vertex_mask v xs (faces_of_point polygons v)) (sym e)
+
+  -- a vertex without edges is a corner
+  pub plain-corner : (v : ℕ) → length (map (other_end v) (edges_of_point polygons v)) ≡ 0 → vertex_mask (plain_level points polygons) CatmullClark v ≡ corner_mask v
+  plain-corner v none =
+      vertex-smooth v ∙ ap (mask_at v (faces_of_point polygons v)) (nil_from_length (edges_of_point polygons v) (sym (length-map (edges_of_point polygons v) (other_end v)) ∙ none))

@@ -9,9 +9,9 @@ use Rattle.subdiv_model.specs.Level.{plain_level}
 use Rattle.subdiv_model.specs.Mask.{Mask, CatmullClark, smooth_vertex_mask, smooth_edge_mask, corner_mask, other_end, vertex_mask, edge_mask, face_mask, child_masks}
 use Rattle.plain_refine.specs.Mesh.{IsSmall}
 use Rattle.plain_refine.specs.Values.{sum_at, all_twelfths, value_of, plain_value, AreSameValues, IsPointOf}
-use Rattle.plain_refine.proofs.FractionLemmas.{IsOver, same-over}
-use Rattle.plain_refine.proofs.MaskSumLemmas.{HasSize, face-point-over, corner-point-over, edge-point-over, vertex-point-over}
-use Rattle.plain_refine.proofs.PlainMaskLemmas.{plain-vertex, plain-corner}
+use Rattle.mask_laws.proofs.SumLemmas.{IsOver}
+use Rattle.plain_refine.proofs.MaskSumLemmas.{HasSize, same-over, face-point-over, corner-point-over, edge-point-over, vertex-point-over}
+use Rattle.plain_refine.proofs.PlainMaskLemmas.{plain-vertex, plain-edge, plain-corner}
 
 -- a fraction that is the value of a mask is its point
 point-of : (polygons : List Polygon) (values : List ℤ) (mask : Mask) (m : ℕ) (a : ℤ) (point : Frac) → IsOver m (plain_value polygons values mask) a → point.num ≡ a → point.den ≡ m → 0 < m → m ≤ 2 ^ 28 → unsigned_abs point.num < 2 ^ 127 → IsPointOf polygons values point mask
@@ -57,7 +57,7 @@ vertex-point polygons values faces v ends around count own of_ends of_faces poin
     let counted : 0 < length ends = omega arith in
     subst P (sym (plain-vertex (length values) polygons v ends e counted))
     (point-of polygons values (smooth_vertex_mask v ends (faces_of_point polygons v)) (length ends * length ends * 12) _ point
-    (vertex-point-over values polygons v ends (faces_of_point polygons v) (sizes-of (length values) polygons small))
+    (vertex-point-over values polygons (sizes-of (length values) polygons small) v ends (faces_of_point polygons v))
     (num
     ∙ ap (λ m. pos (m * (m - 2)) *ℤ (pos 12 *ℤ own) +ℤ (pos 12 *ℤ of_ends +ℤ of_faces)) n
     ∙ ap (λ z. pos (length ends * (length ends - 2)) *ℤ (pos 12 *ℤ z) +ℤ (pos 12 *ℤ of_ends +ℤ of_faces)) o
@@ -67,30 +67,32 @@ vertex-point polygons values faces v ends around count own of_ends of_faces poin
 -- from the sums of its ends and faces
 pub edge-point : (polygons : List Polygon) (values faces : List ℤ) (edge : ℕ × ℕ) (ends beside : List ℕ) (of_ends of_faces : ℤ) (point : Frac) → IsSmall (length values) polygons → faces ≡ all_twelfths values polygons → ends ≡ edge.0 ∷ edge.1 ∷ [] → beside ≡ faces_of_edge polygons edge → of_ends ≡ sum_at values ends → of_faces ≡ sum_at faces beside → point.num ≡ pos 12 *ℤ of_ends +ℤ of_faces → point.den ≡ 48 → unsigned_abs point.num < 2 ^ 127 → IsPointOf polygons values point (edge_mask (plain_level (length values) polygons) CatmullClark edge)
 edge-point polygons values faces edge ends beside of_ends of_faces point small means e f a b num den kept =
-    point-of polygons values (smooth_edge_mask edge (faces_of_edge polygons edge)) 48 _ point
-    (edge-point-over values polygons edge (faces_of_edge polygons edge) (sizes-of (length values) polygons small))
+    let P : Mask → Type 0 = λ mask. IsPointOf polygons values point mask in
+    subst P (sym (plain-edge (length values) polygons edge))
+    (point-of polygons values (smooth_edge_mask edge (faces_of_edge polygons edge)) 48 _ point
+    (edge-point-over values polygons (sizes-of (length values) polygons small) edge (faces_of_edge polygons edge))
     (num ∙ sums polygons values faces (edge.0 ∷ edge.1 ∷ []) beside (faces_of_edge polygons edge) of_ends of_faces means f (a ∙ ap (sum_at values) e) b)
-    den (omega arith) (omega arith) kept
+    den (omega arith) (omega arith) kept)
 
 -- from the mean of its corners over 12
 pub face-point : (polygons : List Polygon) (values faces : List ℤ) (f : ℕ) (point : Frac) → IsSmall (length values) polygons → faces ≡ all_twelfths values polygons → point.num ≡ get_or faces f (pos 0) → point.den ≡ 12 → unsigned_abs point.num < 2 ^ 127 → IsPointOf polygons values point (face_mask (plain_level (length values) polygons) f)
 face-point polygons values faces f point small means num den kept =
     point-of polygons values (face_mask (plain_level (length values) polygons) f) 12 _ point
-    (face-point-over values polygons f (sizes-of (length values) polygons small))
+    (face-point-over values polygons (sizes-of (length values) polygons small) f)
     (num ∙ ap (λ xs. get_or xs f (pos 0)) means) den (omega arith) (omega arith) kept
 
--- points behind points
+-- points after points
 abbrev pub ArePointsOf : List Polygon → List ℤ → List Frac → List Mask → Type 0
 ArePointsOf polygons values points masks = AllZip (IsPointOf polygons values) points masks
 
--- points behind points
+-- points after points
 pub points-append : (polygons : List Polygon) (values : List ℤ) (ps qs : List Frac) (ms ns : List Mask) → ArePointsOf polygons values ps ms → ArePointsOf polygons values qs ns → ArePointsOf polygons values (ps ++ qs) (ms ++ ns)
 points-append polygons values [] qs [] ns h k = k
 points-append polygons values [] qs (m ∷ ms) ns h k = absurd h
 points-append polygons values (p ∷ ps) qs [] ns h k = absurd h
 points-append polygons values (p ∷ ps) qs (m ∷ ms) ns h k = (h.0, points-append polygons values ps qs ms ns h.1 k)
 
--- one point behind points
+-- one point after points
 pub points-push : (polygons : List Polygon) (values : List ℤ) (ps : List Frac) (ms : List Mask) (p : Frac) (m : Mask) → ArePointsOf polygons values ps ms → IsPointOf polygons values p m → ArePointsOf polygons values (ps ++ p ∷ []) (ms ++ m ∷ [])
 points-push polygons values ps ms p m h k = points-append polygons values ps (p ∷ []) ms (m ∷ []) h (k, tt)
 
@@ -119,14 +121,14 @@ points-coarse polygons values [] (m ∷ ms) h = absurd h
 points-coarse polygons values (p ∷ ps) [] h = absurd h
 points-coarse polygons values (p ∷ ps) (m ∷ ms) h = All-cons (λ (f : Frac). f.den ≤ 2 ^ 28) p ps h.0.coarse (points-coarse polygons values ps ms h.1)
 
--- one more point behind the others
+-- one more point after the others
 pub points-next : (polygons : List Polygon) (values : List ℤ) (ps next : List Frac) (ms more : List Mask) (p : Frac) (m : Mask) → ArePointsOf polygons values ps ms → next ≡ ps ++ p ∷ [] → more ≡ ms ++ m ∷ [] → IsPointOf polygons values p m → ArePointsOf polygons values next more
 points-next polygons values ps next ms more p m h e f k =
     let P : List Frac → Type 0 = λ xs. ArePointsOf polygons values xs more in
     let Q : List Mask → Type 0 = λ xs. ArePointsOf polygons values (ps ++ p ∷ []) xs in
     subst P (sym e) (subst Q (sym f) (points-push polygons values ps ms p m h k))
 
--- vertices, faces and edges behind each other are all children
+-- vertices, faces and edges after each other are all children
 pub child-points : (polygons : List Polygon) (values : List ℤ) (vertices faces edges all : List Frac) → ArePointsOf polygons values vertices (map (vertex_mask (plain_level (length values) polygons) CatmullClark) (range_with_len 0 (length values))) → ArePointsOf polygons values faces (map (face_mask (plain_level (length values) polygons)) (range_with_len 0 (length polygons))) → ArePointsOf polygons values edges (map (edge_mask (plain_level (length values) polygons) CatmullClark) (edges_of polygons)) → all ≡ (vertices ++ faces) ++ edges → ArePointsOf polygons values all (child_masks (plain_level (length values) polygons) CatmullClark)
 child-points polygons values vertices faces edges all v f e is =
     let P : List Frac → Type 0 = λ xs. ArePointsOf polygons values xs (child_masks (plain_level (length values) polygons) CatmullClark) in

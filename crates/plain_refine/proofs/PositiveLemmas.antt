@@ -6,10 +6,11 @@ use Rattle.subdiv_model.specs.Polygons.{Polygon}
 use Rattle.subdiv_model.specs.Edges.{edges_of, edges_of_point, faces_of_point, faces_of_edge}
 use Rattle.subdiv_model.specs.Level.{plain_level}
 use Rattle.subdiv_model.specs.Mask.{SourcePoint, OfPoint, OfFace, Term, Mask, CatmullClark, other_end, mask_of_corners, corner_mask, smooth_vertex_mask, smooth_edge_mask, vertex_mask, face_mask, edge_mask, child_masks}
-use Rattle.subdiv_model.specs.Value.{Value, weighted, whole_value, sum_of_values, mask_value, point_value, corner_value, source_value, child_values}
+use Rattle.subdiv_model.specs.Value.{Value, weighted, whole_value, sum_of_values}
+use Rattle.subdiv_model.specs.Refined.{mask_value, point_value, corner_value, source_value, child_values}
 use Rattle.plain_refine.proofs.MaskSumLemmas.{whole-at}
-use Rattle.plain_refine.proofs.PlainMaskLemmas.{plain-vertex, plain-corner}
-use Rattle.subdiv_model.proofs.MultipleLemmas.{product-positive}
+use Rattle.plain_refine.proofs.PlainMaskLemmas.{plain-vertex, plain-edge, plain-corner}
+use Rattle.number_laws.proofs.MultipleLemmas.{product-positive}
 
 abbrev pub IsPositive : Value → Type 0
 IsPositive x = 0 < x.den
@@ -60,7 +61,7 @@ module _ (points : ℕ) (polygons : List Polygon) (values : List ℤ) where
 
   edge-positive : (edge : ℕ × ℕ) → HasPositive (edge_mask (plain_level points polygons) CatmullClark edge)
   edge-positive edge =
-      sum-positive 4 value_at (omega arith) source-positive (smooth_edge_mask edge (faces_of_edge polygons edge)).terms
+      subst HasPositive (sym (plain-edge points polygons edge)) (sum-positive 4 value_at (omega arith) source-positive (smooth_edge_mask edge (faces_of_edge polygons edge)).terms)
 
   face-positive : (f : ℕ) → HasPositive (face_mask (plain_level points polygons) f)
   face-positive f = corners-positive value_at source-positive (get_or polygons f [])

@@ -6,7 +6,8 @@ use Rattle.std.specs.List.{All}
 use Rattle.std.proofs.lemmas.Int.{to_z-of_z, fits_signed_from_abs}
 use Rattle.std.proofs.lemmas.Bool.Decides.{nat_tests}
 use Rattle.std.proofs.lemmas.List.{length-map, get_or-map, take_more, map_push}
-use Rattle.subdiv_model.specs.Polygons.{Polygon, places_from}
+use Rattle.subdiv_model.specs.Polygons.{Polygon}
+use Rattle.subdiv_model.specs.Lists.{places_from}
 use Rattle.plain_refine.specs.Mesh.{IsShort, IsSmall, corners_of}
 use Rattle.plain_refine.specs.Values.{twelfths, all_twelfths}
 use Rattle.plain_refine.proofs.AmountLemmas.{amounts-twelfths}
@@ -30,7 +31,7 @@ corners-at P polygons i p corners h all is e =
     let inside : i < length (corners_of polygons) = omega (arith, length-map polygons (λ (q : Vec ℕ Global). q.items)) in
     subst P (get_or-map (λ (q : Vec ℕ Global). q.items) polygons i p [] h ∙ ap (λ (q : Vec ℕ Global). q.items) (sym is) ∙ sym e) (all i [] inside)
 
--- one more face behind the others
+-- one more face after the others
 pub twelfths-more : (values : List ℤ) (polygons : List (Vec ℕ Global)) (i : ℕ) (p : Vec ℕ Global) (corners : List ℕ) (faces next : List ℤ) (z : ℤ) → i < length polygons → p ≡ get_or polygons i p → corners ≡ p.items → z ≡ twelfths values corners → faces ≡ all_twelfths values (corners_of (take i polygons)) → next ≡ faces ++ z ∷ [] → next ≡ all_twelfths values (corners_of (take (i + 1) polygons))
 twelfths-more values polygons i p corners faces next z h is e ez ef en =
     let before = corners_of (take i polygons) in

@@ -1,11 +1,11 @@
 -- Texts of fractions, points and faces.
-use Rattle.std.proofs.Common.{◌≡◌, ℕ, ◌/◌, ◌<◌, ℤ, pos, ◌*ℤ◌, unsigned_abs, arith, ap, sym, ◌∙◌, List, ◌++◌, append_assoc}
+use Rattle.std.proofs.Common.{◌≡◌, ℕ, ◌/◌, ◌<◌, ℤ, pos, ◌*ℤ◌, unsigned_abs, arith, ap, sym, ◌∙◌, ◌++◌}
 use Rattle.std.specs.Int.{IsGcd}
 use Rattle.std.proofs.lemmas.Nat.Gcd.{same_from_IsGcd}
 use Rattle.subdiv_model.specs.Fractions.{gcd_of, lowest}
-use Rattle.subdiv_model.specs.Text.{sign_text, ratio_text, fraction_text}
-use Rattle.subdiv_model.proofs.FractionLemmas.{gcd_of-is}
-use Rattle.subdiv_model.proofs.TextLemmas.{fraction_text-same}
+use Rattle.subdiv_model.specs.NumberText.{sign_text, ratio_text, fraction_text}
+use Rattle.number_laws.proofs.FractionLemmas.{gcd_of-is}
+use Rattle.number_laws.proofs.TextLemmas.{fraction_text-same}
 
 -- terms without a common factor are the lowest
 lowest-stays : (a b : ℕ) → IsGcd a b 1 → lowest (a, b) ≡ (a, b)
@@ -19,11 +19,3 @@ lowest-stays a b is =
 pub reduced-text : (m n : ℤ) (d e : ℕ) → 0 < d → 0 < e → m *ℤ pos e ≡ n *ℤ pos d → IsGcd (unsigned_abs n) e 1 → sign_text n ++ ratio_text (unsigned_abs n, e) ≡ fraction_text m d
 reduced-text m n d e hd he same is =
     sym (ap (λ x. sign_text n ++ ratio_text x) (lowest-stays (unsigned_abs n) e is)) ∙ sym (fraction_text-same m n d e hd he same)
-
--- the sign and then the ratio, where k is the number n as it is kept
-pub fraction-behind : (old mid : List ℕ) (m n k : ℤ) (d e amount : ℕ) → mid ≡ old ++ sign_text k → amount ≡ unsigned_abs k → k ≡ n → 0 < d → 0 < e → m *ℤ pos e ≡ n *ℤ pos d → IsGcd (unsigned_abs n) e 1 → mid ++ ratio_text (amount, e) ≡ old ++ fraction_text m d
-fraction-behind old mid m n k d e amount signed size kept hd he same is =
-    ap (λ t. t ++ ratio_text (amount, e)) (signed ∙ ap (λ z. old ++ sign_text z) kept)
-    ∙ append_assoc old (sign_text n) (ratio_text (amount, e))
-    ∙ ap (λ a. old ++ (sign_text n ++ ratio_text (a, e))) (size ∙ ap unsigned_abs kept)
-    ∙ ap (λ t. old ++ t) (reduced-text m n d e hd he same is)

@@ -7,7 +7,8 @@ use Rattle.subdiv_model.specs.Polygons.{Polygon}
 use Rattle.subdiv_model.specs.Edges.{edges_of}
 use Rattle.subdiv_model.specs.Level.{plain_level}
 use Rattle.subdiv_model.specs.Mask.{Mask}
-use Rattle.subdiv_model.specs.Value.{Value, IsSameValue, whole_value, mask_value, source_value}
+use Rattle.subdiv_model.specs.Value.{Value, IsSameValue, whole_value}
+use Rattle.subdiv_model.specs.Refined.{mask_value, source_value}
 use Rattle.plain_refine.specs.Mesh.{IsShort, IsSmall}
 
 abbrev pub value_of : Frac → Value

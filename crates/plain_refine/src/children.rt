@@ -5,7 +5,8 @@ ghost use Rattle.std.specs.Prelude.{◌≡◌, ◌+◌, ◌<◌, ◌≤◌, ◌^
 ghost use Rattle.std.specs.List.{position_or_len};
 ghost use Rattle.subdiv_model.specs.Polygons.{same_edge};
 ghost use Rattle.subdiv_model.specs.Edges.{edges_of};
-ghost use Rattle.subdiv_model.specs.Child.{edge_point, last_side, child_face, child_faces, child_polygons};
+ghost use Rattle.subdiv_model.specs.Child.{edge_point, child_face, child_faces, child_polygons};
+ghost use Rattle.subdiv_model.specs.Lists.{last_of};
 ghost use Rattle.plain_refine.specs.Mesh.{corners_of, IsSmall};
 
 use crate::edges::{add_sides, is_same_edge};
@@ -36,7 +37,7 @@ fn edge_point(points: usize, polygons: &[Vec<u32>], edges: &[(u32, u32)], edge: 
 
 // The last of the sides, and (0, 0) where there is none.
 fn last_side(sides: &[(u32, u32)]) -> (u32, u32)
-    ensures { result ≡ last_side (0, 0) sides.now }
+    ensures { result ≡ last_of (0, 0) sides.now }
 {
     sides.last().copied().unwrap_or((0, 0))
 }
@@ -62,7 +63,7 @@ fn child_face(
     Ok(Vec::from_slice(alloc, &corners)?)
 }
 
-// Puts the child faces of a face behind those that are there.
+// Puts the child faces of a face after those that are there.
 fn add_children(
     alloc: Global,
     children: &mut Vec<Vec<u32>>,

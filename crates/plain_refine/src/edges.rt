@@ -25,7 +25,7 @@ fn is_known(edges: &[(u32, u32)], side: (u32, u32)) -> bool
     edges.iter().any(|e| is_same_edge(side, *e))
 }
 
-// Adds the side behind the edges, where none of them is its edge.
+// Adds the side after the edges, where none of them is its edge.
 fn add_side(edges: &mut Vec<(u32, u32)>, side: (u32, u32)) -> Result<(), Memory>
     ensures { OnOk result (edges.new.items ≡ (if list_any (same_edge side) edges.old.items then edges.old.items else edges.old.items ++ side ∷ [])) }
 {
@@ -46,7 +46,7 @@ pub(crate) fn edges_of_sides(alloc: Global, sides: &[(u32, u32)]) -> Result<Vec<
     Ok(edges)
 }
 
-/// Puts the directed edges of a polygon behind those that are there.
+/// Puts the directed edges of a polygon after those that are there.
 pub(crate) fn add_sides(sides: &mut Vec<(u32, u32)>, polygon: &[u32]) -> Result<(), Memory>
     ensures { OnOk result (sides.new.items ≡ sides.old.items ++ sides_of polygon.now) }
 {
@@ -113,7 +113,7 @@ fn has_corner(v: u32, polygon: &[u32]) -> bool
     polygon.contains(&v)
 }
 
-// Puts the number behind the others, where it is wanted.
+// Puts the number after the others, where it is wanted.
 fn push_where(numbers: &mut Vec<u32>, is_wanted: bool, number: u32) -> Result<(), Memory>
     ensures { OnOk result (numbers.new.items ≡ (if is_wanted then numbers.old.items ++ number ∷ [] else numbers.old.items)) }
 {

@@ -10,13 +10,7 @@ mod children;
 mod edges;
 mod manifold;
 mod refine;
-#[cfg(test)]
-mod tests;
 mod text;
-#[cfg(test)]
-mod text_tests;
-#[cfg(test)]
-mod value_tests;
 mod values;
 
 pub use manifold::is_closed_manifold;

@@ -1,11 +1,11 @@
 //! The text of a plain mesh after one step.
 
-ghost use Rattle.std.specs.Prelude.{◌≡◌, ℕ, ◌<◌, ◌≤◌, ◌^◌, ℤ, unsigned_abs, List, ◌++◌, length, map, IfOk, OnOk};
+ghost use Rattle.std.specs.Prelude.{◌≡◌, ℕ, ◌<◌, ◌≤◌, ◌^◌, ℤ, unsigned_abs, List, ◌++◌, length, map, IfOk, OnOk, None};
 ghost use Rattle.std.specs.List.{All, flat_map};
 ghost use Rattle.subdiv_model.specs.Edges.{edges_of};
 ghost use Rattle.subdiv_model.specs.Level.{plain_level};
 ghost use Rattle.subdiv_model.specs.Mask.{CatmullClark};
-ghost use Rattle.subdiv_model.specs.Value.{refined_points};
+ghost use Rattle.subdiv_model.specs.Refined.{refined_points};
 ghost use Rattle.subdiv_model.specs.Text.{point_line, refined_text};
 ghost use Rattle.plain_refine.specs.Mesh.{coordinates_of, corners_of, IsShort, IsSmall};
 
@@ -50,7 +50,7 @@ fn put_refined_points(
     requires small { IsSmall (length points.now) (corners_of polygons.now) }
     requires edges { edges.now ≡ edges_of (corners_of polygons.now) }
     requires scale { scale ≤ 18 }
-    ensures { OnOk result (text.new.items ≡ text.old.items ++ flat_map point_line (refined_points (plain_level (length points.now) (corners_of polygons.now)) CatmullClark scale (coordinates_of points.now) 1)) }
+    ensures { OnOk result (text.new.items ≡ text.old.items ++ flat_map (point_line None) (refined_points (plain_level (length points.now) (corners_of polygons.now)) CatmullClark (10 ^ scale) (coordinates_of points.now) 1)) }
 {
     let old = take_apart(alloc, points)?;
     let xs = refined_coordinate(alloc, polygons, edges, &old.xs, scale)?;
@@ -80,7 +80,7 @@ pub fn write_refined(
     requires short { All (λ p. IsShort p.x × IsShort p.y × IsShort p.z) points.now }
     requires small { IsSmall (length points.now) (corners_of polygons.now) }
     requires scale { scale ≤ 18 }
-    ensures { IfOk result (λ text. text.items ≡ refined_text (plain_level (length points.now) (corners_of polygons.now)) CatmullClark scale (coordinates_of points.now) 1) }
+    ensures { IfOk result (λ text. text.items ≡ refined_text (plain_level (length points.now) (corners_of polygons.now)) CatmullClark (10 ^ scale) (coordinates_of points.now) 1) }
 {
     let edges = edges_of_polygons(alloc, polygons)?;
     let children = child_polygons(alloc, points.len(), polygons, &edges)?;

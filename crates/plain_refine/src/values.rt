@@ -9,7 +9,8 @@ ghost use Rattle.std.specs.List.{All, AllZip, range_with_len};
 ghost use Rattle.subdiv_model.specs.Edges.{edges_of};
 ghost use Rattle.subdiv_model.specs.Level.{plain_level};
 ghost use Rattle.subdiv_model.specs.Mask.{CatmullClark, vertex_mask, face_mask, edge_mask, smooth_edge_mask};
-ghost use Rattle.subdiv_model.specs.Value.{whole_value, child_values, refined_coordinates};
+ghost use Rattle.subdiv_model.specs.Value.{whole_value};
+ghost use Rattle.subdiv_model.specs.Refined.{child_values, refined_coordinates};
 ghost use Rattle.plain_refine.specs.Mesh.{IsShort, IsSmall, corners_of};
 ghost use Rattle.plain_refine.specs.Values.{value_of, over, AreSameValues, sum_at, twelfths, all_twelfths, IsCoordinate, IsPointOf};
 
@@ -260,7 +261,7 @@ pub(crate) fn refined_coordinate(
     requires small { IsSmall (length values.now) (corners_of polygons.now) }
     requires edges { edges.now ≡ edges_of (corners_of polygons.now) }
     requires scale { scale ≤ 18 }
-    ensures values { IfOk result (λ children. AreSameValues (map value_of children.items) (refined_coordinates (plain_level (length values.now) (corners_of polygons.now)) CatmullClark scale values.now 1)) }
+    ensures values { IfOk result (λ children. AreSameValues (map value_of children.items) (refined_coordinates (plain_level (length values.now) (corners_of polygons.now)) CatmullClark (10 ^ scale) values.now 1)) }
     ensures kept { IfOk result (λ children. All (λ f. (0 < f.den) × (unsigned_abs f.num < 2 ^ 127)) children.items) }
 {
     let children = child_values(alloc, polygons, edges, values)?;

@@ -1,14 +1,20 @@
-use Rattle.std.proofs.Common.{refl}
+use Rattle.std.proofs.Common.{◌≡◌, true, refl, ◌∙◌}
 use Rattle.plain_refine.specs.Mesh.{corners_of}
-use Rattle.far_engine.proofs.BuiltLemmas.{short-points, refined-mesh}
+use Rattle.far_engine.specs.Built.{is_built}
+use Rattle.far_engine.proofs.BuiltLemmas.{short-points, built-scale, closed-built, refined-mesh}
 use Rattle.far_engine.proofs.engine.refine_mesh.Goals as goal
 
 pub write_refined-requires-clause-short : goal.write_refined-requires-clause-short
 write_refined-requires-clause-short c = short-points c.args.mesh.now c.points-points.result.now c.points-points.ensures c.if-not-has_built_form.ensures
 
+pub write_refined-requires-clause-scale : goal.write_refined-requires-clause-scale
+write_refined-requires-clause-scale c = built-scale c.args.mesh.now c.scale.result c.scale.ensures c.if-not-has_built_form.ensures
+
 pub returns-clause-refined : goal.returns-clause-refined
 returns-clause-refined c =
-    refined-mesh c.args.mesh.now c.points-points.result.now (corners_of c.in_ok-polygons.polygons.items) _ c.scale.result c.in_ok-is_closed_manifold.field-0 c.in_ok-text.text.items c.points-points.ensures c.in_ok-polygons.ensures refl c.scale.ensures c.if-not-has_built_form.ensures
+    let built : is_built c.args.mesh.now ≡ true =
+    closed-built c.args.mesh.now c.points-points.result.now (corners_of c.in_ok-polygons.polygons.items) _ c.in_ok-is_closed_manifold.field-0 c.points-points.ensures c.in_ok-polygons.ensures refl c.if-not-has_built_form.ensures
     (rw c.deref.ensures.value at c.in_ok-is_closed_manifold.ensures)
-    c.if-not-branch.false
+    ∙ c.if-not-branch.false in
+    refined-mesh c.args.mesh.now c.points-points.result.now (corners_of c.in_ok-polygons.polygons.items) c.scale.result c.in_ok-text.text.items c.points-points.ensures c.in_ok-polygons.ensures c.scale.ensures built
     (rw c.deref-2.ensures.value at c.in_ok-text.ensures)

@@ -1,7 +1,8 @@
 use Rattle.std.proofs.Common.{◌≡◌, arith, ap, sym, ◌∙◌, None, option_map}
 use Rattle.std.proofs.lemmas.Bool.{not-false}
 use Rattle.std.proofs.lemmas.List.{drop_all}
-use Rattle.obj_tags.proofs.LongLemmas.{long_position, long_fault_at, position-long, long-positions, no-long-position}
+use Rattle.obj_tags.specs.Channel.{long_fault_at}
+use Rattle.obj_tags.proofs.LongLemmas.{long_position, position-long, long-positions, no-long-position}
 use Rattle.obj_tags.proofs.channel.first_long_position.Goals as goal
 
 pub returns-then-not-position_fits-clause-first : goal.returns-then-not-position_fits-clause-first

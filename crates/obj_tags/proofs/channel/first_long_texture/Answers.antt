@@ -1,7 +1,8 @@
 use Rattle.std.proofs.Common.{◌≡◌, arith, ap, sym, ◌∙◌, None, option_map}
 use Rattle.std.proofs.lemmas.Bool.{not-false}
 use Rattle.std.proofs.lemmas.List.{drop_all}
-use Rattle.obj_tags.proofs.LongLemmas.{long_texture, long_fault_at, texture-long, long-textures, no-long-texture}
+use Rattle.obj_tags.specs.Channel.{long_fault_at}
+use Rattle.obj_tags.proofs.LongLemmas.{long_texture, texture-long, long-textures, no-long-texture}
 use Rattle.obj_tags.proofs.channel.first_long_texture.Goals as goal
 
 pub returns-then-not-texture_fits-clause-first : goal.returns-then-not-texture_fits-clause-first

@@ -1,7 +1,7 @@
 use Rattle.std.proofs.Common.{◌≡◌, ◌≤◌, ◌<◌, suc, ◌∷◌, length, take, drop, false, arith, ap, sym, subst, ◌∙◌}
 use Rattle.subdiv_model.specs.ObjLine.{line_words}
 use Rattle.subdiv_model.specs.ReadObj.{is_continued, least_values, counts_of, line_fault}
-use Rattle.subdiv_model.proofs.ObjSizeLemmas.{line-words-half}
+use Rattle.obj_laws.proofs.ObjSizeLemmas.{line-words-half}
 use Rattle.obj_tags.specs.Keyword.{IsKeywordOf}
 use Rattle.obj_tags.specs.Walk.{words_left}
 use Rattle.obj_tags.proofs.KeepLemmas.{empty-kept, read-kept, line-unknown, line-short}

@@ -11,9 +11,9 @@ returns c =
       λ before line are kind e number.
           positions-more c.args.positions.now.items c.push.new.self.items before line p are kind
           (subst (λ (vs : List (List ℕ)). 3 ≤ length vs) (sym e) c.requires)
-          (read.1 ∙ number)
-          (subst (λ vs. IsNumeralOf p.x (get_or vs 0 [])) (sym e) read.2)
-          (subst (λ vs. IsNumeralOf p.y (get_or vs 1 [])) (sym e) read.3)
-          (subst (λ vs. IsNumeralOf p.z (get_or vs 2 [])) (sym e) read.4)
+          (read.1.line ∙ number)
+          (subst (λ vs. IsNumeralOf p.x (get_or vs 0 [])) (sym e) read.1.x)
+          (subst (λ vs. IsNumeralOf p.y (get_or vs 1 [])) (sym e) read.1.y)
+          (subst (λ vs. IsNumeralOf p.z (get_or vs 2 [])) (sym e) read.1.z)
           c.in_ok-push.ensures.items,
     )

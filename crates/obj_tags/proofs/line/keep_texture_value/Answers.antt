@@ -11,8 +11,8 @@ returns c =
       λ before line are kind e number.
           textures-more c.args.values.now.items c.push.new.self.items before line p are kind
           (subst (λ (vs : List (List ℕ)). 1 ≤ length vs) (sym e) c.requires)
-          (read.1 ∙ number)
-          (subst (λ vs. IsNumeralOf p.u (get_or vs 0 [])) (sym e) read.2)
-          (subst (λ vs. IsNumeralOf p.v (get_or vs 1 (codes "0"))) (sym e) read.3)
+          (read.1.line ∙ number)
+          (subst (λ vs. IsNumeralOf p.u (get_or vs 0 [])) (sym e) read.1.u)
+          (subst (λ vs. IsNumeralOf p.v (get_or vs 1 (codes "0"))) (sym e) read.1.v)
           c.in_ok-push.ensures.items,
     )

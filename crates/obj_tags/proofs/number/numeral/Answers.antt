@@ -4,5 +4,7 @@ use Rattle.obj_tags.proofs.number.numeral.Goals as goal
 pub returns-in-Ok : goal.returns-in-Ok
 returns-in-Ok c =
     let cases = c.in-Ok.ensures.cases in
-    let small = c.in-Ok.ensures.small in
-    (kept-in-range c.args.word.now cases.0 cases.1, cases.2, small.0, small.1)
+    let small = c.in-Ok.ensures.small in (
+      kept-in-range c.args.word.now cases.0 cases.1,
+      record { form = cases.2; short = small.0; fine = small.1 },
+    )

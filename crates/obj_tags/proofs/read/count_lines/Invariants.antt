@@ -7,10 +7,10 @@ use Rattle.obj_tags.proofs.read.count_lines.Given as goal
 -- the lines so far with those to come are all lines, and each has a byte
 abbrev pub invariant-loop-line : goal.invariant-loop-line
 invariant-loop-line l = record {
-  points : l.counts.points + count_by is_vertex_line (map line_words (lines_of l.rest)) ≡ count_by is_vertex_line (map line_words (lines_of l.text));
-  textures : l.counts.textures + count_by is_texture_line (map line_words (lines_of l.rest)) ≡ count_by is_texture_line (map line_words (lines_of l.text));
-  faces : l.counts.faces + count_by is_face_line (map line_words (lines_of l.rest)) ≡ count_by is_face_line (map line_words (lines_of l.text));
-  bound : (l.counts.points + length l.rest ≤ length l.text) × (l.counts.textures + length l.rest ≤ length l.text) × (l.counts.faces + length l.rest ≤ length l.text);
+  points : l.counts.point_count + count_by is_vertex_line (map line_words (lines_of l.rest)) ≡ count_by is_vertex_line (map line_words (lines_of l.text));
+  textures : l.counts.texture_count + count_by is_texture_line (map line_words (lines_of l.rest)) ≡ count_by is_texture_line (map line_words (lines_of l.text));
+  faces : l.counts.face_count + count_by is_face_line (map line_words (lines_of l.rest)) ≡ count_by is_face_line (map line_words (lines_of l.text));
+  bound : (l.counts.point_count + length l.rest ≤ length l.text) × (l.counts.texture_count + length l.rest ≤ length l.text) × (l.counts.face_count + length l.rest ≤ length l.text);
 }
 
 abbrev pub decreases-loop-line : goal.decreases-loop-line

@@ -1,7 +1,7 @@
 use Rattle.std.proofs.Common.{length, ap, sym, subst, ◌∙◌, option_map}
 use Rattle.std.specs.List.{All}
-use Rattle.obj_tags.specs.Channel.{IsShortPosition, IsShortTexture}
-use Rattle.obj_tags.proofs.LongLemmas.{long_fault_at, lesser-none}
+use Rattle.obj_tags.specs.Channel.{IsShortPosition, IsShortTexture, long_fault_at}
+use Rattle.obj_tags.proofs.LongLemmas.{lesser-none}
 use Rattle.obj_tags.proofs.MeshLemmas.{long-draft, mesh-draft, all-positions, all-values}
 use Rattle.obj_tags.proofs.LawLemmas.{within}
 use Rattle.obj_tags.proofs.WholeLemmas.{whole-mesh}

@@ -1,8 +1,8 @@
 use Rattle.std.proofs.Common.{rules, arith, ◌≡◌, ◌+◌, ◌<◌, ◌^◌, None, Some, length, map, ap, sym, subst, refl, ◌∙◌, below_more, add-one}
 use Rattle.subdiv_model.specs.ObjLine.{lines_of, line_words}
 use Rattle.subdiv_model.specs.ReadObj.{fault_at}
-use Rattle.subdiv_model.proofs.FirstFaultLemmas.{least-fault, no-fault}
-use Rattle.subdiv_model.proofs.ObjSizeLemmas.{line-words-half}
+use Rattle.obj_laws.proofs.FirstFaultLemmas.{least-fault, no-fault}
+use Rattle.obj_laws.proofs.ObjSizeLemmas.{line-words-half}
 use Rattle.obj_tags.specs.Draft.{IsDraftOf, IsLineAt}
 use Rattle.obj_tags.specs.Kept.{IsLineFault}
 use Rattle.obj_tags.specs.View.{cause_of}
@@ -30,7 +30,7 @@ keep_line-requires-clause-short c = omega (arith, c.in-Some.ensures.parts, c.loo
 
 pub keep_line-requires-clause-room : goal.keep_line-requires-clause-room
 keep_line-requires-clause-room c =
-    let few : c.count_lines-all.result.faces < 2 ^ 32 = search rules in
+    let few : c.count_lines-all.result.face_count < 2 ^ 32 = search rules in
     kept-room c.loop-line.draft c.count_lines-all.result (map line_words (lines_of c.args.text.now)) c.loop-line.number (length c.in-Some.line.now) c.count_lines-all.ensures few c.loop-line.invariant.kept (omega (arith, c.in-Some.ensures.parts, c.loop-line.invariant.corners, c.requires))
 
 pub returns-in-Err-Cause : goal.returns-in-Err-Cause

@@ -1,7 +1,7 @@
-use Rattle.std.proofs.Common.{◌≡◌, ◌≤◌, ◌++◌, ◌+◌, length, map, take, drop, unsigned_abs}
+use Rattle.std.proofs.Common.{◌≡◌, ◌≤◌, ◌++◌, ◌+◌, length, map, take, drop}
 use Rattle.subdiv_model.specs.ObjFault.{first_cause}
-use Rattle.subdiv_model.specs.Index.{index_of}
 use Rattle.subdiv_model.specs.ObjTag.{tag_index_fault}
+use Rattle.obj_tags.specs.TagView.{index_said}
 use Rattle.obj_tags.specs.Walk.{words_left}
 use Rattle.obj_tags.proofs.tag_values.indices.Given as goal
 
@@ -9,7 +9,7 @@ use Rattle.obj_tags.proofs.tag_values.indices.Given as goal
 abbrev pub invariant-loop-left : goal.invariant-loop-left
 invariant-loop-left l = record {
   fault : first_cause (tag_index_fault l.all) (take l.left (words_left l.words)) ≡ first_cause (tag_index_fault l.all) (take l.fn.count (words_left l.fn.words));
-  found : l.found.items ++ map (λ word. unsigned_abs (index_of word)) (take l.left (words_left l.words)) ≡ map (λ word. unsigned_abs (index_of word)) (take l.fn.count (words_left l.fn.words));
+  found : l.found.items ++ map index_said (take l.left (words_left l.words)) ≡ map index_said (take l.fn.count (words_left l.fn.words));
   rest : drop l.left (words_left l.words) ≡ drop l.fn.count (words_left l.fn.words);
   count : length l.found.items + l.left ≡ l.fn.count;
   inside : l.left ≤ length (words_left l.words);

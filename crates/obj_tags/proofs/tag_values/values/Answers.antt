@@ -1,10 +1,10 @@
 use Rattle.std.proofs.Common.{◌<◌, ◌-◌, ◌++◌, length, map, take, rules, arith, ap, sym, ◌∙◌}
 use Rattle.obj_tags.specs.View.{cause_of}
+use Rattle.obj_tags.specs.TagView.{sharpness_said}
 use Rattle.obj_tags.specs.Walk.{words_left}
 use Rattle.obj_tags.proofs.WalkLemmas.{taken-cause, taken-some, taken-found, taken-rest, taken-inside}
 use Rattle.std.proofs.lemmas.List.{map_push, length_push}
-use Rattle.subdiv_model.specs.Sharpness as model
-use Rattle.subdiv_model.specs.ObjTag.{tag_numeral_fault, amount_fraction}
+use Rattle.subdiv_model.specs.ObjTag.{tag_numeral_fault}
 use Rattle.sharpness_rules.specs.View.{sharpness_of}
 use Rattle.obj_tags.proofs.tag_values.values.Goals as goal
 
@@ -18,9 +18,9 @@ loop-left-preserved c =
     record {
       fault = taken-cause tag_numeral_fault c.loop-left.left word left next some c.in-Some.ensures read.0 ∙ c.loop-left.invariant.fault;
       found =
-          ap (λ xs. map sharpness_of xs ++ map (λ word. model.sharpness_of_fraction (amount_fraction word)) (take (c.loop-left.left - 1) next)) c.in_ok-push.ensures.items
-          ∙ ap (λ xs. xs ++ map (λ word. model.sharpness_of_fraction (amount_fraction word)) (take (c.loop-left.left - 1) next)) (map_push sharpness_of c.loop-left.found.items c.in_ok-sharpness.field-0)
-          ∙ taken-found (λ word. model.sharpness_of_fraction (amount_fraction word)) c.loop-left.left word left next (map sharpness_of c.loop-left.found.items) (sharpness_of c.in_ok-sharpness.field-0) some c.in-Some.ensures read.1
+          ap (λ xs. map sharpness_of xs ++ map sharpness_said (take (c.loop-left.left - 1) next)) c.in_ok-push.ensures.items
+          ∙ ap (λ xs. xs ++ map sharpness_said (take (c.loop-left.left - 1) next)) (map_push sharpness_of c.loop-left.found.items c.in_ok-sharpness.field-0)
+          ∙ taken-found sharpness_said c.loop-left.left word left next (map sharpness_of c.loop-left.found.items) (sharpness_of c.in_ok-sharpness.field-0) some c.in-Some.ensures read.1
           ∙ c.loop-left.invariant.found;
       rest = taken-rest c.loop-left.left word left next some c.in-Some.ensures ∙ c.loop-left.invariant.rest;
       count = omega (arith, some, c.loop-left.invariant.count, ap length c.in_ok-push.ensures.items, length_push c.loop-left.found.items c.in_ok-sharpness.field-0);

@@ -1,5 +1,5 @@
 use Rattle.std.proofs.Common.{arith, inl}
-use Rattle.obj_tags.proofs.PartLemmas.{few-words}
+use Rattle.obj_tags.proofs.SplitLemmas.{few-words}
 use Rattle.obj_tags.proofs.words.count_words.Goals as goal
 
 pub count-requires-clause-fits : goal.count-requires-clause-fits

@@ -1,7 +1,7 @@
 use Rattle.std.proofs.Common.{arith, ap, ◌∙◌, sym, ◌∷◌}
 use Rattle.std.proofs.lemmas.List.{take_rest}
 use Rattle.subdiv_model.specs.ObjLine.{is_lf, lines_of}
-use Rattle.obj_tags.proofs.PartLemmas.{position-le, lines-at, lines-end, some-bytes}
+use Rattle.obj_tags.proofs.SplitLemmas.{position-le, lines-at, lines-end, some-bytes}
 use Rattle.obj_tags.proofs.words.first_line.Goals as goal
 
 pub split_at-requires : goal.split_at-requires

@@ -1,0 +1,20 @@
+-- The faults and the outcomes of the code, as those of the definitions.
+use Rattle.std.specs.Prelude.{Option, Some, None, Result, Ok, Err}
+use Rattle.subdiv_model.specs.Fault as model
+use Rattle.obj_tags.specs.View.{cause_of}
+use Rattle.far_engine.specs.declared.fault.FarFault.{FarFault}
+use Rattle.far_engine.specs.declared.fault.FarFault.TheVariants.{Usage, Read, Long, Obj, NotBuilt, Write, Memory}
+
+abbrev pub fault_of : FarFault → model.Fault
+fault_of (Usage word) = model.Usage word
+fault_of Read = model.Read
+fault_of Long = model.Long
+fault_of (Obj line cause) = model.Obj (record { line = line; cause = cause_of cause })
+fault_of (NotBuilt line) = model.NotBuilt line
+fault_of Write = model.Write
+fault_of Memory = model.Memory
+
+-- the fault of a run, where it has one
+abbrev pub outcome_of : Result (Unit {0}) FarFault → Option model.Fault
+outcome_of (Ok done) = None
+outcome_of (Err fault) = Some (fault_of fault)
