@@ -1,0 +1,10 @@
+use Rattle.std.proofs.Common.{arith, sym, ◌∙◌, ap}
+use Rattle.far_words.specs.Table.{u32_of_word}
+use Rattle.far_words.proofs.NumberLemmas.{not-between}
+use Rattle.far_words.proofs.options.is_between.Goals as goal
+
+pub returns-in-None : goal.returns-in-None
+returns-in-None c =
+    not-between c.args.value.now c.args.least c.args.greatest
+    (ap u32_of_word (sym c.as_bytes.ensures.value) ∙ sym c.read_number.ensures ∙ c.in-None.is)
+    (omega (arith, c.ranges.greatest.fits))

@@ -1,0 +1,12 @@
+//! The words of a command line as a value: a command with its options filled in. No call takes memory.
+#![tactic(auto)]
+
+mod command;
+mod number;
+mod options;
+mod read;
+mod table;
+
+pub use command::{By, Command, Tags, Uv};
+pub use read::{read_built_words, read_words, read_words_by};
+pub use table::{CommandRule, OptionRule, ValueKind, built_table, command_table};

@@ -1,0 +1,118 @@
+//! Options as `name=value`, and a command's options as a whole.
+
+ghost use Rattle.std.specs.Prelude.{◌≡◌, not, ◌||◌, map, string_bytes};
+ghost use Rattle.std.specs.Option.{option_map};
+ghost use Rattle.subdiv_model.specs.Words as model;
+ghost use Rattle.subdiv_model.specs.Words.{Between};
+ghost use Rattle.far_words.specs.View.{kind_of_code, option_of_code};
+ghost use Rattle.far_words.specs.Table.{u32_of_option};
+
+use crate::number::read_number;
+use crate::table::{OptionRule, ValueKind};
+
+// Whether the value is a number from `least` to `greatest`.
+fn is_between(least: u32, greatest: u32, value: &str) -> bool
+    ensures { result ≡ model.is_value (Between least greatest) value.now }
+{
+    match read_number(value.as_bytes()) {
+        Some(number) => least <= number && number <= greatest,
+        None => false,
+    }
+}
+
+// Whether an option of this kind may have this value.
+fn is_value(kind: &ValueKind, value: &str) -> bool
+    ensures { result ≡ model.is_value (kind_of_code kind.now) value.now }
+{
+    match *kind {
+        ValueKind::Between { least, greatest } => is_between(least, greatest, value),
+        ValueKind::OneOf(names) => names.iter().any(|name| value == *name),
+    }
+}
+
+// Whether the word is `name=value`, with the name of one of the options and a value that it may have.
+fn is_option_of(rules: &[OptionRule], word: &str) -> bool
+    ensures { result ≡ model.is_option_of (map option_of_code rules.now) word.now }
+{
+    match word.split_once('=') {
+        Some((name, value)) => rules
+            .iter()
+            .any(|rule| name == rule.name && is_value(&rule.kind, value)),
+        None => false,
+    }
+}
+
+// What stands before the first `=`.
+fn option_name(word: &str) -> &str
+    ensures { result.now ≡ model.option_name word.now }
+{
+    match word.split_once('=') {
+        Some((name, _)) => name,
+        None => word,
+    }
+}
+
+// What stands after the first `=`.
+fn option_value(word: &str) -> &str
+    ensures { result.now ≡ model.option_value word.now }
+{
+    match word.split_once('=') {
+        Some((_, value)) => value,
+        None => "",
+    }
+}
+
+// Whether one of the words has this name.
+fn has_option(options: &[String], name: &str) -> bool
+    ensures { result ≡ model.has_option (map string_bytes options.now) name.now }
+{
+    options
+        .iter()
+        .any(|option| name == option_name(option.as_str()))
+}
+
+// Whether the word is none of the rules' options, or has the name of an earlier one.
+fn is_bad_option(rules: &[OptionRule], earlier: &[String], word: &str) -> bool
+    ensures { result ≡ (not (model.is_option_of (map option_of_code rules.now) word.now)
+        || model.has_option (map string_bytes earlier.now) (model.option_name word.now)) }
+{
+    !is_option_of(rules, word) || has_option(earlier, option_name(word))
+}
+
+/// The place, from 0, of the first bad option.
+pub(crate) fn first_bad_option(rules: &[OptionRule], options: &[String]) -> Option<usize>
+    ensures { result ≡ model.first_bad_option (map option_of_code rules.now) (map string_bytes options.now) }
+{
+    for (place, option) in options.iter().enumerate() {
+        if is_bad_option(rules, &options[..place], option.as_str()) {
+            return Some(place);
+        }
+    }
+    None
+}
+
+/// Whether each required option is there.
+pub(crate) fn has_required(rules: &[OptionRule], options: &[String]) -> bool
+    ensures { result ≡ model.has_required (map option_of_code rules.now) (map string_bytes options.now) }
+{
+    rules
+        .iter()
+        .all(|rule| !rule.required || has_option(options, rule.name))
+}
+
+/// The value of the option with this name.
+pub(crate) fn value_of<'a>(options: &'a [String], name: &str) -> Option<&'a str>
+    ensures { option_map (λ value. value.now) result ≡ model.value_of (map string_bytes options.now) name.now }
+{
+    let option = options
+        .iter()
+        .find(|option| name == option_name(option.as_str()))?;
+    Some(option_value(option.as_str()))
+}
+
+/// The number of the option with this name; `None` also where its value is no number that fits.
+pub(crate) fn number_of(options: &[String], name: &str) -> Option<u32>
+    ensures { result ≡ u32_of_option (map string_bytes options.now) name.now }
+{
+    read_number(value_of(options, name)?.as_bytes())
+}

@@ -1,0 +1,144 @@
+//! The reading of words as a command.
+
+ghost use Rattle.std.specs.Prelude.{◌≡◌, ◌∷◌, map, string_bytes, Some, IsTrue};
+ghost use Rattle.std.specs.Option.{option_map};
+ghost use Rattle.subdiv_model.specs.Words.{usage_of_rule};
+ghost use Rattle.subdiv_model.specs.Words as words;
+ghost use Rattle.subdiv_model.specs.Command.{read_or};
+ghost use Rattle.subdiv_model.specs.Command as model;
+ghost use Rattle.far_words.specs.View.{table_of_code, rule_of_code, uv_of_code, by_of_code, tags_of_code, command_of_code, result_of_code};
+ghost use Rattle.far_words.specs.Built as built;
+ghost use Rattle.far_words.specs.Table.{AreNumbersU32, is_u32_rule, is_u32_table, u32_of_option};
+
+use crate::command::{By, Command, Tags, Uv};
+use crate::options::{first_bad_option, has_required, number_of, value_of};
+use crate::table::{CommandRule, built_table, command_table};
+
+fn uv_named(name: &str) -> Uv
+    ensures { uv_of_code result ≡ model.uv_of name.now }
+{
+    match name {
+        "corners" => Uv::Corners,
+        "boundaries" => Uv::Boundaries,
+        "linear" => Uv::Linear,
+        _ => Uv::Smooth,
+    }
+}
+
+fn by_named(name: &str) -> By
+    ensures { by_of_code result ≡ model.by_of name.now }
+{
+    match name {
+        "level" => By::Level,
+        _ => By::Table,
+    }
+}
+
+fn tags_named(name: &str) -> Tags
+    ensures { tags_of_code result ≡ model.tags_of name.now }
+{
+    match name {
+        "yes" => Tags::Yes,
+        _ => Tags::No,
+    }
+}
+
+// The number of an option that must be there.
+fn required_number(options: &[String], name: &str) -> u32
+    requires { u32_of_option (map string_bytes options.now) name.now ≡ words.number_of (map string_bytes options.now) name.now }
+    ensures { result ≡ words.required_number (map string_bytes options.now) name.now }
+{
+    number_of(options, name).unwrap_or(0)
+}
+
+fn refine_of(options: &[String]) -> Command
+    requires { AreNumbersU32 (map string_bytes options.now) }
+    ensures { command_of_code result ≡ model.refine_of (map string_bytes options.now) }
+{
+    Command::Refine {
+        depth: required_number(options, "depth"),
+        decimals: number_of(options, "decimals"),
+        uv: uv_named(value_of(options, "uv").unwrap_or("smooth")),
+        by: by_named(value_of(options, "by").unwrap_or("table")),
+        tags: tags_named(value_of(options, "tags").unwrap_or("no")),
+    }
+}
+
+fn gen_of(options: &[String]) -> Command
+    requires { AreNumbersU32 (map string_bytes options.now) }
+    ensures { command_of_code result ≡ model.gen_of (map string_bytes options.now) }
+{
+    Command::Gen {
+        seed: required_number(options, "seed"),
+        size: required_number(options, "size"),
+        depth: required_number(options, "depth"),
+    }
+}
+
+// The command of this name with these options.
+fn command_named(name: &str, options: &[String]) -> Command
+    requires { AreNumbersU32 (map string_bytes options.now) }
+    ensures { command_of_code result ≡ model.command_named name.now (map string_bytes options.now) }
+{
+    match name {
+        "refine" => refine_of(options),
+        "stencils" => Command::Stencils {
+            depth: required_number(options, "depth"),
+        },
+        "levels" => Command::Levels {
+            depth: required_number(options, "depth"),
+        },
+        _ => gen_of(options),
+    }
+}
+
+// The command of this name, by the rule of its options.
+fn read_options(rule: &CommandRule, name: &str, options: &[String]) -> Result<Command, u32>
+    requires { IsTrue (is_u32_rule (rule_of_code rule.now)) }
+    ensures { result_of_code result
+        ≡ read_or (usage_of_rule (Some (rule_of_code rule.now)) (map string_bytes options.now)) (name.now ∷ map string_bytes options.now) }
+{
+    if let Some(place) = first_bad_option(rule.options, options) {
+        return Err(place as u32 + 1);
+    }
+    if !has_required(rule.options, options) {
+        return Err(options.len() as u32 + 1);
+    }
+    Ok(command_named(name, options))
+}
+
+fn rule_named<'a>(table: &'a [CommandRule], name: &str) -> Option<&'a CommandRule>
+    ensures { option_map (λ rule. rule_of_code rule.now) result ≡ words.rule_named (table_of_code table.now) name.now }
+{
+    table.iter().find(|rule| name == rule.name)
+}
+
+/// The command that the words say by a table, or the place, from 0, of the first word that makes them none of the
+/// table's; where only a required option is missing, the number of words.
+pub fn read_words_by(table: &[CommandRule], words: &Vec<String>) -> Result<Command, u32>
+    requires { IsTrue (is_u32_table (table_of_code table.now)) }
+    ensures { result_of_code result ≡ model.read_words_by (table_of_code table.now) (map string_bytes words.now.items) }
+{
+    let [command, options @ ..] = words.as_slice() else {
+        return Err(0);
+    };
+    let name = command.as_str();
+    match rule_named(table, name) {
+        Some(rule) => read_options(rule, name, options),
+        None => Err(0),
+    }
+}
+
+/// The command that the words say, or the place of the first word that makes them none, as `read_words_by` has it.
+pub fn read_words(words: &Vec<String>) -> Result<Command, u32>
+    ensures { result_of_code result ≡ model.read_words (map string_bytes words.now.items) }
+{
+    read_words_by(command_table(), words)
+}
+
+/// The same of the commands and options that are built so far.
+pub fn read_built_words(words: &Vec<String>) -> Result<Command, u32>
+    ensures { result_of_code result ≡ model.read_words_by built.built_table (map string_bytes words.now.items) }
+{
+    read_words_by(built_table(), words)
+}

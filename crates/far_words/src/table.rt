@@ -1,0 +1,99 @@
+//! The table of commands: a command or an option is added by a line of it.
+
+ghost use Rattle.std.specs.Prelude.{◌≡◌};
+ghost use Rattle.subdiv_model.specs.Words as model;
+ghost use Rattle.far_words.specs.View.{table_of_code};
+ghost use Rattle.far_words.specs.Built as built;
+
+/// What the value of an option may be.
+#[derive(Clone, Copy, Debug)]
+pub enum ValueKind {
+    /// A number, from `least` to `greatest`, in decimal digits without a leading zero.
+    Between { least: u32, greatest: u32 },
+    /// One of some names.
+    OneOf(&'static [&'static str]),
+}
+
+/// An option of a command.
+#[derive(Clone, Copy, Debug)]
+pub struct OptionRule {
+    pub name: &'static str,
+    pub kind: ValueKind,
+    pub required: bool,
+}
+
+/// A command with its options.
+#[derive(Clone, Copy, Debug)]
+pub struct CommandRule {
+    pub name: &'static str,
+    pub options: &'static [OptionRule],
+}
+
+// A number that must be there.
+macro_rules! required_option {
+    ($name:literal, $least:literal, $greatest:literal) => {
+        OptionRule { name: $name, kind: ValueKind::Between { least: $least, greatest: $greatest }, required: true }
+    };
+}
+
+// A number that may be left out.
+macro_rules! number_option {
+    ($name:literal, $least:literal, $greatest:literal) => {
+        OptionRule { name: $name, kind: ValueKind::Between { least: $least, greatest: $greatest }, required: false }
+    };
+}
+
+// One of some names, which may be left out.
+macro_rules! name_option {
+    ($name:literal, $names:expr) => {
+        OptionRule { name: $name, kind: ValueKind::OneOf($names), required: false }
+    };
+}
+
+const COMMANDS: &[CommandRule] = &[
+    CommandRule {
+        name: "refine",
+        options: &[
+            required_option!("depth", 0, 10),
+            number_option!("decimals", 0, 18),
+            name_option!("uv", &["smooth", "corners", "boundaries", "linear"]),
+            name_option!("by", &["table", "level"]),
+            name_option!("tags", &["no", "yes"]),
+        ],
+    },
+    CommandRule {
+        name: "stencils",
+        options: &[required_option!("depth", 0, 10)],
+    },
+    CommandRule {
+        name: "levels",
+        options: &[required_option!("depth", 0, 10)],
+    },
+    CommandRule {
+        name: "gen",
+        options: &[
+            required_option!("seed", 0, 4_294_967_295),
+            required_option!("size", 1, 256),
+            required_option!("depth", 0, 10),
+        ],
+    },
+];
+
+const BUILT: &[CommandRule] = &[CommandRule {
+    name: "refine",
+    options: &[required_option!("depth", 1, 1)],
+}];
+
+/// The commands and their options.
+pub fn command_table() -> &'static [CommandRule]
+    ensures { table_of_code result.now ≡ model.command_table }
+{
+    COMMANDS
+}
+
+/// The commands and options that are built so far.
+pub fn built_table() -> &'static [CommandRule]
+    ensures { table_of_code result.now ≡ built.built_table }
+{
+    BUILT
+}

@@ -1,0 +1,3 @@
+pub mod OptionLemmas
+pub mod OrderLemmas
+pub mod ValueLemmas

@@ -1,0 +1,138 @@
+-- Options in another order: they are as good, and give each name the same value.
+use Rattle.std.proofs.Common.{◌≡◌, ℕ, ◌+◌, ◌≤◌, Bool, true, false, cond, not, ◌&&◌, ◌||◌, List, [], ◌∷◌, length, map, Option, Some, None, Ok, refl, ap, sym, ◌∙◌, subst}
+use Rattle.std.specs.Prelude.{bytes_eq, MatchOption, codes, if◌then◌else◌}
+use Rattle.std.specs.Option.{option_map}
+use Rattle.std.specs.List.{list_all, list_any, find, IsDistinct}
+use Rattle.std.specs.List.Sorted.{IsPermutation}
+use Rattle.std.specs.Map.{lookup, keys_of}
+use Rattle.std.proofs.lemmas.Cmp.{nat_list_eq_equiv}
+use Rattle.std.proofs.lemmas.List.Sorted.{IsPermutation-sym, IsPermutation-map, Contains-permutation, list_any-IsPermutation}
+use Rattle.std.proofs.lemmas.Slice.Eq.{bytes_eq-Decides}
+use Rattle.std.proofs.lemmas.Map.Keys.{IsDistinct-IsPermutation}
+use Rattle.std.proofs.lemmas.Map.Views.{Contains-from_lookup, lookup-from_Contains}
+use Rattle.subdiv_model.specs.Words.{OptionRule, CommandRule, option_name, option_value, is_option_of, has_option, has_required, first_bad_option, value_of, usage_of_options, usage_of_rule, rule_named, usage_of}
+use Rattle.subdiv_model.specs.Command.{command_named, read_words_by, read_or}
+use Rattle.word_laws.proofs.OptionLemmas.{names_of, IsGood, good-or-early, none-bad-of-good}
+
+-- an option as its name and its value
+abbrev pub entry : List ℕ → List ℕ × List ℕ
+entry option = (option_name option, option_value option)
+
+value-cond : (b : Bool) (option : List ℕ) (rest : Option (List ℕ))
+    → option_map option_value (cond b (Some option) rest) ≡ cond b (Some (option_value option)) (option_map option_value rest)
+value-cond true option rest = refl
+value-cond false option rest = refl
+
+pub value-lookup : (options : List (List ℕ)) (name : List ℕ) → value_of options name ≡ lookup (bytes_eq name) (map entry options)
+value-lookup [] name = refl
+value-lookup (option ∷ options) name =
+    value-cond (bytes_eq name (option_name option)) option (find (λ o. bytes_eq name (option_name o)) options)
+    ∙ ap (cond (bytes_eq name (option_name option)) (Some (option_value option))) (value-lookup options name)
+
+keys-entries : (options : List (List ℕ)) → keys_of (map entry options) ≡ names_of options
+keys-entries [] = refl
+keys-entries (option ∷ options) = ap (λ names. option_name option ∷ names) (keys-entries options)
+
+same-key : (x y : List ℕ) → bytes_eq x y ≡ true → x ≡ y
+same-key x y = (bytes_eq-Decides x y).0
+
+-- where keys differ, a look-up finds the same in any order
+lookup-order : (name : List ℕ) (es fs : List (List ℕ × List ℕ)) → IsDistinct bytes_eq (keys_of es) → IsDistinct bytes_eq (keys_of fs)
+    → IsPermutation es fs → lookup (bytes_eq name) fs ≡ lookup (bytes_eq name) es
+lookup-order name es fs d e p = go (lookup (bytes_eq name) es) (lookup (bytes_eq name) fs) refl refl
+  where
+    go : (a b : Option (List ℕ)) → lookup (bytes_eq name) es ≡ a → lookup (bytes_eq name) fs ≡ b
+        → lookup (bytes_eq name) fs ≡ lookup (bytes_eq name) es
+    go None None h k = k ∙ sym h
+    go (Some v) b h k =
+        lookup-from_Contains nat_list_eq_equiv name v fs e (Contains-permutation es fs (name, v) p (Contains-from_lookup same-key name v es h)) ∙ sym h
+    go None (Some v) h k =
+        k ∙ sym (lookup-from_Contains nat_list_eq_equiv name v es d
+        (Contains-permutation fs es (name, v) (IsPermutation-sym es fs p) (Contains-from_lookup same-key name v fs k)))
+
+all-none : {X : Type 0} (p : X → Bool) (xs : List X) → list_all p xs ≡ not (list_any (λ x. not (p x)) xs)
+all-none p [] = refl
+all-none p (x ∷ xs) = both (p x) (all-none p xs)
+  where
+    both : (b : Bool) → list_all p xs ≡ not (list_any (λ x. not (p x)) xs) → (b && list_all p xs) ≡ not (not b || list_any (λ x. not (p x)) xs)
+    both true e = e
+    both false e = refl
+
+IsGood-order : (rules : List OptionRule) (options others : List (List ℕ)) → IsPermutation options others → IsGood rules options
+    → IsGood rules others
+IsGood-order rules options others p good = record {
+  known =
+      all-none (is_option_of rules) others
+      ∙ ap not (sym (list_any-IsPermutation (λ o. not (is_option_of rules o)) options others p))
+      ∙ sym (all-none (is_option_of rules) options) ∙ good.known;
+  once = IsDistinct-IsPermutation bytes_eq nat_list_eq_equiv.symm (names_of options) (names_of others) (IsPermutation-map option_name options others p) good.once;
+}
+
+pub value-order : (rules : List OptionRule) (options others : List (List ℕ)) → IsPermutation options others → IsGood rules options
+    → (name : List ℕ) → value_of others name ≡ value_of options name
+value-order rules options others p good name =
+    let moved = IsGood-order rules options others p good in
+    value-lookup others name
+    ∙ lookup-order name (map entry options) (map entry others)
+    (subst (IsDistinct bytes_eq) (sym (keys-entries options)) good.once)
+    (subst (IsDistinct bytes_eq) (sym (keys-entries others)) moved.once)
+    (IsPermutation-map entry options others p)
+    ∙ sym (value-lookup options name)
+
+required-order : (rules : List OptionRule) (options others : List (List ℕ)) → IsPermutation options others
+    → has_required rules others ≡ has_required rules options
+required-order [] options others p = refl
+required-order (rule ∷ rules) options others p =
+    let same : has_option others rule.name ≡ has_option options rule.name =
+    sym (list_any-IsPermutation (λ o. bytes_eq rule.name (option_name o)) options others p) in
+    ap (λ b. (not rule.required || b) && has_required rules others) same
+    ∙ ap (λ b. (not rule.required || has_option options rule.name) && b) (required-order rules options others p)
+
+-- options are understood exactly where none is bad and none is missing
+pub understood-parts : (rules : List OptionRule) (options : List (List ℕ))
+    → usage_of_options rules options (first_bad_option rules options) ≡ None
+    → IsGood rules options × (has_required rules options ≡ true)
+understood-parts rules options h = go (first_bad_option rules options) (has_required rules options) refl (good-or-early rules options) h
+  where
+    go : (bad : Option ℕ) (required : Bool) → has_required rules options ≡ required
+        → MatchOption bad (IsGood rules options) (λ i. i ≤ length rules)
+        → usage_of_options rules options bad ≡ None → IsGood rules options × (has_required rules options ≡ true)
+    go None true e good h = (good, e)
+    go None false e good h = absurd (let stuck : Some (length options + 1) ≡ None = ap (λ b. if b then None else Some (length options + 1)) (sym e) ∙ h in cc)
+    go (Some i) required e early h = absurd (cc)
+
+pub understood-from : (rules : List OptionRule) (options : List (List ℕ)) → IsGood rules options → has_required rules options ≡ true
+    → usage_of_options rules options (first_bad_option rules options) ≡ None
+understood-from rules options good required =
+    ap (usage_of_options rules options) (none-bad-of-good rules options good) ∙ ap (λ b. if b then None else Some (length options + 1)) required
+
+pub understood-order : (rules : List OptionRule) (options others : List (List ℕ)) → IsPermutation options others
+    → usage_of_options rules options (first_bad_option rules options) ≡ None
+    → usage_of_options rules others (first_bad_option rules others) ≡ None
+understood-order rules options others p h =
+    let parts = understood-parts rules options h in
+    understood-from rules others (IsGood-order rules options others p parts.0) (required-order rules options others p ∙ parts.1)
+
+pub usage-order : (found : Option CommandRule) (options others : List (List ℕ)) → IsPermutation options others
+    → usage_of_rule found options ≡ None → usage_of_rule found others ≡ None
+usage-order None options others p h = absurd (cc)
+usage-order (Some rule) options others p h = understood-order rule.options options others p h
+
+-- a command is filled in by the values of its options
+command-same : (name : List ℕ) (options others : List (List ℕ)) → ((n : List ℕ) → value_of others n ≡ value_of options n)
+    → command_named name others ≡ command_named name options
+command-same name options others same =
+    cc (same (codes "depth"), same (codes "decimals"), same (codes "uv"), same (codes "by"), same (codes "tags"), same (codes "seed"), same (codes "size"))
+
+value-in-order : (found : Option CommandRule) (options others : List (List ℕ)) → IsPermutation options others
+    → usage_of_rule found options ≡ None
+    → (name : List ℕ) → value_of others name ≡ value_of options name
+value-in-order None options others p h name = absurd (cc)
+value-in-order (Some rule) options others p h name = value-order rule.options options others p (understood-parts rule.options options h).0 name
+
+pub reading-order : (table : List CommandRule) (command : List ℕ) (options others : List (List ℕ)) → IsPermutation options others
+    → usage_of table (command ∷ options) ≡ None → read_words_by table (command ∷ others) ≡ read_words_by table (command ∷ options)
+reading-order table command options others p h =
+    ap (λ usage. read_or usage (command ∷ others)) (usage-order (rule_named table command) options others p h)
+    ∙ ap Ok (command-same command options others (value-in-order (rule_named table command) options others p h))
+    ∙ sym (ap (λ usage. read_or usage (command ∷ options)) h)

@@ -1,0 +1,9 @@
+use Rattle.subdiv_model.specs.Words.{rule_named}
+use Rattle.word_laws.proofs.OrderLemmas.{usage-order, reading-order}
+use Rattle.word_laws.proofs.options.options_go_in_any_order.Goals as goal
+
+pub returns-clause-understood : goal.returns-clause-understood
+returns-clause-understood c = λ table command options others p h. usage-order (rule_named table command) options others p h
+
+pub returns-clause-same : goal.returns-clause-same
+returns-clause-same c = reading-order
