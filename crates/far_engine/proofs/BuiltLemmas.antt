@@ -1,5 +1,5 @@
 -- What the tests of a mesh say.
-use Rattle.std.proofs.Common.{◌≡◌, ℕ, suc, ◌+◌, ◌^◌, ◌<◌, ◌≤◌, ℤ, Bool, true, false, cond, not, ◌&&◌, nat_eq, nat_le, List, [], ◌∷◌, ◌++◌, length, take, get_or, slice_get, Option, Some, None, Vec, arith, lit≤, refl, ap, sym, ◌∙◌, map, subst, append-nil}
+use Rattle.std.proofs.Common.{◌≡◌, ℕ, suc, ◌+◌, ◌^◌, ◌<◌, ◌≤◌, ℤ, Bool, true, false, cond, not, ◌&&◌, nat_eq, nat_le, List, [], ◌∷◌, ◌++◌, length, take, get_or, slice_get, Option, Some, None, Vec, arith, lit≤, refl, ap, sym, ◌∙◌, map, append-nil}
 use Rattle.std.specs.Global.{Global}
 use Rattle.std.specs.List.{All, list_all}
 use Rattle.std.proofs.lemmas.Bool.{and_parts}
@@ -18,46 +18,47 @@ use Rattle.subdiv_model.specs.Boundary.{Boundary, Hidden, EdgeOnly, EdgeAndCorne
 use Rattle.subdiv_model.specs.ObjFault as model
 use Rattle.subdiv_model.specs.ObjMesh.{ObjMesh}
 use Rattle.subdiv_model.specs.ReadObj.{read_obj_fault, read_obj_mesh}
-use Rattle.subdiv_model.specs.Level.{Level, plain_level}
+use Rattle.subdiv_model.specs.Level.{plain_level}
 use Rattle.subdiv_model.specs.Base.{base_level}
 use Rattle.subdiv_model.specs.Mask.{CatmullClark}
 use Rattle.subdiv_model.specs.Text.{refined_text}
-use Rattle.subdiv_model.specs.Fault.{Obj, NotBuilt}
+use Rattle.subdiv_model.specs.Fault.{NotBuilt}
 use Rattle.mesh_laws.proofs.Laws.{manifold-levels}
 use Rattle.mesh_laws.proofs.WalkLemmas.{manifold-decides}
 use Rattle.level_laws.proofs.PlainLemmas.{plain-base}
 use Rattle.obj_laws.proofs.ObjMeshLemmas.{faces-over}
 use Rattle.plain_refine.specs.Mesh.{IsShort, corners_of}
-use Rattle.obj_tags.specs.declared.fault.ObjFault.{ObjFault}
-use Rattle.obj_tags.specs.declared.fault.ReadFault.{ReadFault}
-use Rattle.obj_tags.specs.declared.fault.ReadFault.TheVariants as ReadFaults
-use Rattle.obj_tags.specs.Kept.{IsReadFault}
-use Rattle.obj_tags.specs.View.{point_of, fault_of}
+use Rattle.obj_tags.specs.View.{point_of}
 use Rattle.far_engine.specs.Built.{is_built, has_built_form, is_closed_manifold, is_small, is_small_face, has_no_tags, has_default_modes, has_short_numbers, is_short, is_short_point, is_edge_only, is_normal}
 use Rattle.far_engine.specs.BuiltWords.{built_text}
-use Rattle.far_engine.specs.Outcome.{refusal_of_obj, refusal_of_text, refusal_of_mesh, level_of}
+use Rattle.far_engine.specs.Outcome.{refusal_of_obj, refusal_of_text, level_of}
 
 both : (a b : Bool) → a ≡ true → b ≡ true → (a && b) ≡ true
 both true b h k = k
 both false b h k = absurd (cc)
 
 -- one more element that passes
-pub all-next : {X : Type 0} (test : X → Bool) (xs : List X) (i : ℕ) (d : X) → i < length xs → list_all test (take i xs) ≡ true → test (get_or xs i d) ≡ true → list_all test (take (i + 1) xs) ≡ true
+pub all-next : {X : Type 0} (test : X → Bool) (xs : List X) (i : ℕ) (d : X) → i < length xs → list_all test (take i xs) ≡ true →
+    test (get_or xs i d) ≡ true → list_all test (take (i + 1) xs) ≡ true
 all-next test xs i d h before here =
     list_all_more test xs i d h ∙ both (list_all test (take i xs)) (test (get_or xs i d)) before here
 
 -- the same where the element was looked up
-pub all-next-found : {X : Type 0} (test : X → Bool) (xs : List X) (i : ℕ) (x : X) → slice_get xs i ≡ Some x → list_all test (take i xs) ≡ true → test x ≡ true → list_all test (take (i + 1) xs) ≡ true
+pub all-next-found : {X : Type 0} (test : X → Bool) (xs : List X) (i : ℕ) (x : X) → slice_get xs i ≡ Some x →
+    list_all test (take i xs) ≡ true → test x ≡ true → list_all test (take (i + 1) xs) ≡ true
 all-next-found test xs i x found before here =
     all-next test xs i x (slice_get_within xs i x found) before (ap test (get_or_from_slice_get xs i x x found) ∙ here)
 
 -- an element that was looked up and does not pass
-pub not-all-found : {X : Type 0} (test : X → Bool) (xs : List X) (i : ℕ) (x : X) → slice_get xs i ≡ Some x → test x ≡ false → list_all test xs ≡ false
+pub not-all-found : {X : Type 0} (test : X → Bool) (xs : List X) (i : ℕ) (x : X) → slice_get xs i ≡ Some x → test x ≡ false →
+    list_all test xs ≡ false
 not-all-found test xs i x found here =
     list_all_at test xs i x (slice_get_within xs i x found) (ap test (get_or_from_slice_get xs i x x found) ∙ here)
 
 -- one more polygon
-pub polygons-next : (polygons next : List (Vec ℕ Global)) (faces : List Polygon) (i : ℕ) (corners : List ℕ) (p : Vec ℕ Global) → slice_get faces i ≡ Some corners → p.items ≡ corners → next ≡ polygons ++ p ∷ [] → corners_of polygons ≡ take i faces → corners_of next ≡ take (i + 1) faces
+pub polygons-next : (polygons next : List (Vec ℕ Global)) (faces : List Polygon) (i : ℕ) (corners : List ℕ) (p : Vec ℕ Global) →
+    slice_get faces i ≡ Some corners → p.items ≡ corners → next ≡ polygons ++ p ∷ [] → corners_of polygons ≡ take i faces →
+    corners_of next ≡ take (i + 1) faces
 polygons-next polygons next faces i corners p found same e before =
     ap corners_of e
     ∙ map_push (λ (q : Vec ℕ Global). q.items) polygons p
@@ -114,15 +115,19 @@ pub record HasForm (mesh : ObjMesh) : Type 0 where
 
 pub form-parts : (mesh : ObjMesh) → has_built_form mesh ≡ true → HasForm mesh
 form-parts mesh form =
-    let five = and_parts (is_small mesh && list_all is_small_face mesh.faces && has_no_tags mesh && has_default_modes mesh && not mesh.has_texture) (has_short_numbers mesh) form in
-    let four = and_parts (is_small mesh && list_all is_small_face mesh.faces && has_no_tags mesh && has_default_modes mesh) (not mesh.has_texture) five.0 in
-    let three = and_parts (is_small mesh && list_all is_small_face mesh.faces && has_no_tags mesh) (has_default_modes mesh) four.0 in
-    let two = and_parts (is_small mesh && list_all is_small_face mesh.faces) (has_no_tags mesh) three.0 in
-    let one = and_parts (is_small mesh) (list_all is_small_face mesh.faces) two.0 in
-    record { small = one.0; small_faces = one.1; untagged = two.1; default = three.1; bare = four.1; short = five.1 }
+    let two = is_small mesh && list_all is_small_face mesh.faces in
+    let three = two && has_no_tags mesh in
+    let four = three && has_default_modes mesh in
+    let sixth = and_parts (four && not mesh.has_texture) (has_short_numbers mesh) form in
+    let fifth = and_parts four (not mesh.has_texture) sixth.0 in
+    let fourth = and_parts three (has_default_modes mesh) fifth.0 in
+    let third = and_parts two (has_no_tags mesh) fourth.0 in
+    let second = and_parts (is_small mesh) (list_all is_small_face mesh.faces) third.0 in
+    record { small = second.0; small_faces = second.1; untagged = third.1; default = fourth.1; bare = fifth.1; short = sixth.1 }
 
 -- a mesh of a built form has short points, and a small scale
-pub short-points : (mesh : ObjMesh) (points : List Point3) → map point_of points ≡ mesh.points → true ≡ has_built_form mesh → All (λ p. IsShort p.x × IsShort p.y × IsShort p.z) points
+pub short-points : (mesh : ObjMesh) (points : List Point3) → map point_of points ≡ mesh.points → true ≡ has_built_form mesh →
+    All (λ p. IsShort p.x × IsShort p.y × IsShort p.z) points
 short-points mesh points same form =
     let numbers = (form-parts mesh (sym form)).short in
     let shorts = and_parts (nat_le mesh.common (10 ^ 18)) (list_all is_short_point mesh.points) numbers in
@@ -153,18 +158,21 @@ plain-built : (mesh : ObjMesh) → is_built mesh ≡ true → base_level mesh �
 plain-built mesh built =
     let parts = and_parts (has_built_form mesh) (is_closed_manifold mesh) built in
     let form = form-parts mesh parts.0 in
-    let holes = and_parts (nat_eq (length mesh.creases) 0 && nat_eq (length mesh.corner_tags) 0) (nat_eq (length mesh.holes) 0) form.untagged in
+    let holes = and_parts (nat_eq (length mesh.creases) 0 && nat_eq (length mesh.corner_tags) 0) (nat_eq (length mesh.holes) 0)
+    form.untagged in
     let tags = and_parts (nat_eq (length mesh.creases) 0) (nat_eq (length mesh.corner_tags) 0) holes.0 in
     let modes = and_parts (is_edge_only mesh.boundary) (is_normal mesh.method) form.default in
     let closed = (and_parts (is_manifold (length mesh.points) mesh.faces) (is_closed mesh.faces) parts.1).1 in
-    plain-base mesh (none-of mesh.creases tags.0) (none-of mesh.corner_tags tags.1) (none-of mesh.holes holes.1) (edge-only mesh.boundary modes.0) (normal mesh.method modes.1) closed
+    plain-base mesh (none-of mesh.creases tags.0) (none-of mesh.corner_tags tags.1) (none-of mesh.holes holes.1)
+    (edge-only mesh.boundary modes.0) (normal mesh.method modes.1) closed
 
 without-texture : (has_texture : Bool) (textured text : List ℕ) → not has_texture ≡ true → cond has_texture textured text ++ [] ≡ text
 without-texture true textured text h = absurd (cc)
 without-texture false textured text h = append-nil text
 
 -- what the command writes of a mesh that is built
-text-built : (mesh : ObjMesh) → is_built mesh ≡ true → built_text mesh ≡ refined_text (plain_level (length mesh.points) mesh.faces) CatmullClark mesh.common mesh.points 1
+text-built : (mesh : ObjMesh) → is_built mesh ≡ true →
+    built_text mesh ≡ refined_text (plain_level (length mesh.points) mesh.faces) CatmullClark mesh.common mesh.points 1
 unfolding built_text
 text-built mesh built =
     let form = form-parts mesh (and_parts (has_built_form mesh) (is_closed_manifold mesh) built).0 in
@@ -172,7 +180,9 @@ text-built mesh built =
     ∙ ap (λ level. refined_text level CatmullClark mesh.common mesh.points 1) (plain-built mesh built)
 
 -- a mesh of a built form, found closed, is built
-pub closed-built : (mesh : ObjMesh) (points : List Point3) (polygons : List Polygon) (count : ℕ) (closed : Bool) → map point_of points ≡ mesh.points → polygons ≡ mesh.faces → count ≡ length points → true ≡ has_built_form mesh → closed ≡ (is_manifold count polygons && is_closed polygons) → is_built mesh ≡ closed
+pub closed-built : (mesh : ObjMesh) (points : List Point3) (polygons : List Polygon) (count : ℕ) (closed : Bool) →
+    map point_of points ≡ mesh.points → polygons ≡ mesh.faces → count ≡ length points → true ≡ has_built_form mesh →
+    closed ≡ (is_manifold count polygons && is_closed polygons) → is_built mesh ≡ closed
 closed-built mesh points polygons count closed same_points same_faces counted form tested =
     let many : length points ≡ length mesh.points = sym (length-map points _) ∙ ap length same_points in
     let by_count : ℕ → Bool = λ n. is_manifold n polygons && is_closed polygons in
@@ -180,10 +190,14 @@ closed-built mesh points polygons count closed same_points same_faces counted fo
     ap (λ b. b && is_closed_manifold mesh) (sym form) ∙ sym (tested ∙ ap by_count (counted ∙ many) ∙ ap by_faces same_faces)
 
 -- and its text is what was written
-pub refined-mesh : (mesh : ObjMesh) (points : List Point3) (polygons : List Polygon) (scale : ℕ) (text : List ℕ) → map point_of points ≡ mesh.points → polygons ≡ mesh.faces → 10 ^ scale ≡ mesh.common → is_built mesh ≡ true → text ≡ refined_text (plain_level (length points) polygons) CatmullClark (10 ^ scale) (map point_of points) 1 → text ≡ built_text mesh
+pub refined-mesh : (mesh : ObjMesh) (points : List Point3) (polygons : List Polygon) (scale : ℕ) (text : List ℕ) →
+    map point_of points ≡ mesh.points → polygons ≡ mesh.faces → 10 ^ scale ≡ mesh.common → is_built mesh ≡ true →
+    text ≡ refined_text (plain_level (length points) polygons) CatmullClark (10 ^ scale) (map point_of points) 1 →
+    text ≡ built_text mesh
 refined-mesh mesh points polygons scale text same_points same_faces same_scale built refined =
     let many : length points ≡ length mesh.points = sym (length-map points _) ∙ ap length same_points in
-    let level : plain_level (length points) polygons ≡ plain_level (length mesh.points) mesh.faces = ap (λ n. plain_level n polygons) many ∙ ap (plain_level (length mesh.points)) same_faces in
+    let level : plain_level (length points) polygons ≡ plain_level (length mesh.points) mesh.faces =
+    ap (λ n. plain_level n polygons) many ∙ ap (plain_level (length mesh.points)) same_faces in
     refined
     ∙ ap (λ l. refined_text l CatmullClark (10 ^ scale) (map point_of points) 1) level
     ∙ ap (λ n. refined_text (plain_level (length mesh.points) mesh.faces) CatmullClark n (map point_of points) 1) same_scale
@@ -195,12 +209,15 @@ built-of mesh true e h = e
 built-of mesh false e h = cc
 
 -- a text that is not refused has no fault, and a mesh that is built
-fine-text : (bytes : List ℕ) (fault : Option model.ObjFault) → read_obj_fault bytes 0 ≡ fault → refusal_of_text fault (read_obj_mesh bytes 0) ≡ None → (read_obj_fault bytes 0 ≡ None) × (is_built (read_obj_mesh bytes 0) ≡ true)
+fine-text : (bytes : List ℕ) (fault : Option model.ObjFault) → read_obj_fault bytes 0 ≡ fault →
+    refusal_of_text fault (read_obj_mesh bytes 0) ≡ None →
+    (read_obj_fault bytes 0 ≡ None) × (is_built (read_obj_mesh bytes 0) ≡ true)
 fine-text bytes None e h = (e, built-of (read_obj_mesh bytes 0) (is_built (read_obj_mesh bytes 0)) refl h)
 fine-text bytes (Some fault) e h = cc
 
 -- so all of its levels are manifolds
-pub levels-manifold : (bytes : List ℕ) → refusal_of_obj bytes ≡ None → (n : ℕ) → IsManifold (level_of bytes n).point_count (level_of bytes n).polygons
+pub levels-manifold : (bytes : List ℕ) → refusal_of_obj bytes ≡ None → (n : ℕ) →
+    IsManifold (level_of bytes n).point_count (level_of bytes n).polygons
 levels-manifold bytes h n =
     let mesh = read_obj_mesh bytes 0 in
     let good = fine-text bytes (read_obj_fault bytes 0) refl h in

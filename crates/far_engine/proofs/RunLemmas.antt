@@ -5,7 +5,8 @@ use Rattle.subdiv_model.specs.Words.{usage_of}
 use Rattle.subdiv_model.specs.ReadObj.{read_obj_mesh}
 use Rattle.subdiv_model.specs.Fault.{Fault, Usage, Read, Long, Write, Memory}
 use Rattle.subdiv_model.specs.Answer.{byte_limit, command_text}
-use Rattle.far_engine.specs.BuiltWords.{built_table, built_text}
+use Rattle.far_words.specs.Built.{built_table}
+use Rattle.far_engine.specs.BuiltWords.{built_text}
 use Rattle.far_engine.specs.Outcome.{refusal_of, refusal_of_words, refusal_of_obj, text_of, IsAnswered, is_after_reading}
 use Rattle.far_engine.specs.Runs.{Runs}
 use Rattle.far_engine.proofs.BuiltLemmas.{within, beyond, levels-manifold}
@@ -26,13 +27,15 @@ taken_within (Some old) None taken told took e = absurd took
 taken_within None new taken told took e = absurd (cc)
 
 -- a command over an input that is not too long is refused where its text is
-by_text : (words : List (List ℕ)) (bytes : List ℕ) → usage_of built_table words ≡ None → length bytes ≤ byte_limit → refusal_of words bytes ≡ refusal_of_obj bytes
+by_text : (words : List (List ℕ)) (bytes : List ℕ) → usage_of built_table words ≡ None → length bytes ≤ byte_limit →
+    refusal_of words bytes ≡ refusal_of_obj bytes
 by_text words bytes command short =
     ap (λ place. refusal_of_words place bytes) command
     ∙ ap (λ b. cond b (refusal_of_obj bytes) (Some Long)) (within (length bytes) byte_limit short)
 
 -- a command over an input that is too long
-by_length : (words : List (List ℕ)) (bytes : List ℕ) → usage_of built_table words ≡ None → byte_limit < length bytes → refusal_of words bytes ≡ Some Long
+by_length : (words : List (List ℕ)) (bytes : List ℕ) → usage_of built_table words ≡ None → byte_limit < length bytes →
+    refusal_of words bytes ≡ Some Long
 by_length words bytes command long =
     ap (λ place. refusal_of_words place bytes) command
     ∙ ap (λ b. cond b (refusal_of_obj bytes) (Some Long)) (beyond (length bytes) byte_limit long)
@@ -53,7 +56,8 @@ other_fault : (fault other : Fault) → is_after_reading (Some fault) ≡ true �
 other_fault fault other after before e = let same = ap (λ f. is_after_reading (Some f)) e in absurd (cc)
 
 -- the words are a command, and the input was read to its end
-pub record WasRead {S : Type 0} (left : S → Option (List ℕ)) (source_faults : S → ℕ) (words : List (List ℕ)) (s s' : S) (bytes : List ℕ) : Type 0 where
+pub record WasRead {S : Type 0} (left : S → Option (List ℕ)) (source_faults : S → ℕ) (words : List (List ℕ)) (s s' : S)
+    (bytes : List ℕ) : Type 0 where
   pub command : usage_of built_table words ≡ None
   pub took : Took (left s) (left s') bytes
   pub dry : IsDry (left s')
@@ -61,12 +65,18 @@ pub record WasRead {S : Type 0} (left : S → Option (List ℕ)) (source_faults 
   pub later : source_faults s ≤ source_faults s'
 
 -- what was read is what the source told
-pub told : {S : Type 0} (left : S → Option (List ℕ)) (source_faults : S → ℕ) (words : List (List ℕ)) (s s' : S) (bytes other : List ℕ) → WasRead left source_faults words s s' bytes → left s ≡ Some other → bytes ≡ other
+pub told : {S : Type 0} (left : S → Option (List ℕ)) (source_faults : S → ℕ) (words : List (List ℕ)) (s s' : S) (bytes other : List ℕ) →
+    WasRead left source_faults words s s' bytes → left s ≡ Some other → bytes ≡ other
 told left source_faults words s s' bytes other read e = all_taken (left s) (left s') bytes other read.took read.dry e
 
-module _ {S K : Type 0} (left : S → Option (List ℕ)) (source_faults : S → ℕ) (held : K → Option (List ℕ)) (sink_faults fixed : K → ℕ) (words : List (List ℕ)) (s s' : S) where
+module _ {S K : Type 0} (left : S → Option (List ℕ)) (source_faults : S → ℕ) (held : K → Option (List ℕ))
+    (sink_faults fixed : K → ℕ) (words : List (List ℕ)) (s s' : S) where
   -- a fault that came before anything was written, and is neither of the words nor of a call
-  pub runs_refused : (k : K) (fault : Fault) (taken : List ℕ) → usage_of built_table words ≡ None → ((bytes : List ℕ) → left s ≡ Some bytes → IsAnswered (Some fault) (refusal_of words bytes)) → ((word : ℕ) → fault ≢ Usage word) → fault ≢ Read → fault ≢ Write → (fault ≡ Long → byte_limit < length taken) → (is_after_reading (Some fault) ≡ true → IsDry (left s')) → Took (left s) (left s') taken → source_faults s ≤ source_faults s' → Runs left source_faults held sink_faults fixed words s s' k k (Some fault)
+  pub runs_refused : (k : K) (fault : Fault) (taken : List ℕ) → usage_of built_table words ≡ None →
+      ((bytes : List ℕ) → left s ≡ Some bytes → IsAnswered (Some fault) (refusal_of words bytes)) →
+      ((word : ℕ) → fault ≢ Usage word) → fault ≢ Read → fault ≢ Write → (fault ≡ Long → byte_limit < length taken) →
+      (is_after_reading (Some fault) ≡ true → IsDry (left s')) → Took (left s) (left s') taken →
+      source_faults s ≤ source_faults s' → Runs left source_faults held sink_faults fixed words s s' k k (Some fault)
   runs_refused k fault taken command answer not_usage not_read not_write long dry took source_later = record {
     usage = λ word. (λ e. absurd (not_usage word (cc)), λ e. absurd (cc));
     uncalled = λ word e. absurd (not_usage word (cc));
@@ -87,19 +97,23 @@ module _ {S K : Type 0} (left : S → Option (List ℕ)) (source_faults : S → 
   }
 
   -- too much came
-  pub runs_long : (k : K) (taken : List ℕ) → usage_of built_table words ≡ None → Took (left s) (left s') taken → byte_limit < length taken → source_faults s ≤ source_faults s' → Runs left source_faults held sink_faults fixed words s s' k k (Some Long)
+  pub runs_long : (k : K) (taken : List ℕ) → usage_of built_table words ≡ None → Took (left s) (left s') taken →
+      byte_limit < length taken → source_faults s ≤ source_faults s' →
+      Runs left source_faults held sink_faults fixed words s s' k k (Some Long)
   runs_long k taken command took long source_later =
       runs_refused k Long taken command
       (λ bytes e. by_length words bytes command (omega (arith, long, taken_within _ _ taken bytes took e)))
       (λ word e. absurd (cc)) (λ e. absurd (cc)) (λ e. absurd (cc)) (λ e. long) (λ e. absurd (cc)) took source_later
 
   module _ (bytes : List ℕ) (was : WasRead left source_faults words s s' bytes) where
-    refused_as : (other : List ℕ) (refusal : Option Fault) → left s ≡ Some other → refusal_of_obj bytes ≡ refusal → refusal_of words other ≡ refusal
+    refused_as : (other : List ℕ) (refusal : Option Fault) → left s ≡ Some other → refusal_of_obj bytes ≡ refusal →
+        refusal_of words other ≡ refusal
     refused_as other refusal e is =
         ap (refusal_of words) (sym (told left source_faults words s s' bytes other was e)) ∙ by_text words bytes was.command was.short ∙ is
 
     -- the text is refused
-    pub runs_text_refused : (k : K) (fault : Fault) → refusal_of_obj bytes ≡ Some fault → is_after_reading (Some fault) ≡ true → fault ≢ Write → Runs left source_faults held sink_faults fixed words s s' k k (Some fault)
+    pub runs_text_refused : (k : K) (fault : Fault) → refusal_of_obj bytes ≡ Some fault → is_after_reading (Some fault) ≡ true →
+        fault ≢ Write → Runs left source_faults held sink_faults fixed words s s' k k (Some fault)
     runs_text_refused k fault refused after not_write =
         runs_refused k fault bytes was.command
         (λ other e. answered fault (refusal_of words other) not_write (refused_as other (Some fault) e refused))
@@ -114,7 +128,9 @@ module _ {S K : Type 0} (left : S → Option (List ℕ)) (source_faults : S → 
         ∙ ap (text_of words) (told left source_faults words s s' bytes other was e)
 
     -- the text stands in the sink
-    pub runs_ok : (k k' : K) (text : List ℕ) → refusal_of_obj bytes ≡ None → text ≡ built_text (read_obj_mesh bytes 0) → Added (held k) (held k') text → sink_faults k ≤ sink_faults k' → fixed k' ≡ fixed k → Runs left source_faults held sink_faults fixed words s s' k k' None
+    pub runs_ok : (k k' : K) (text : List ℕ) → refusal_of_obj bytes ≡ None → text ≡ built_text (read_obj_mesh bytes 0) →
+        Added (held k) (held k') text → sink_faults k ≤ sink_faults k' → fixed k' ≡ fixed k →
+        Runs left source_faults held sink_faults fixed words s s' k k' None
     runs_ok k k' text good defined added sink_later same = record {
       usage = λ word. (λ e. absurd (cc), λ e. absurd (cc));
       uncalled = λ word e. absurd (cc);
@@ -135,7 +151,9 @@ module _ {S K : Type 0} (left : S → Option (List ℕ)) (source_faults : S → 
     }
 
     -- a prefix of the text stands in the sink, whose count rose
-    pub runs_cut : (k k' : K) (text : List ℕ) → refusal_of_obj bytes ≡ None → text ≡ built_text (read_obj_mesh bytes 0) → AddedPrefix (held k) (held k') text → Rose (sink_faults k) (sink_faults k') → sink_faults k ≤ sink_faults k' → fixed k' ≡ fixed k → Runs left source_faults held sink_faults fixed words s s' k k' (Some Write)
+    pub runs_cut : (k k' : K) (text : List ℕ) → refusal_of_obj bytes ≡ None → text ≡ built_text (read_obj_mesh bytes 0) →
+        AddedPrefix (held k) (held k') text → Rose (sink_faults k) (sink_faults k') → sink_faults k ≤ sink_faults k' →
+        fixed k' ≡ fixed k → Runs left source_faults held sink_faults fixed words s s' k k' (Some Write)
     runs_cut k k' text good defined prefix rose sink_later same = record {
       usage = λ word. (λ e. absurd (cc), λ e. absurd (cc));
       uncalled = λ word e. absurd (cc);

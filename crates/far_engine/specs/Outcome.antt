@@ -9,10 +9,10 @@ use Rattle.subdiv_model.specs.ReadObj.{read_obj_fault, read_obj_mesh}
 use Rattle.subdiv_model.specs.Level.{Level}
 use Rattle.subdiv_model.specs.Base.{base_level}
 use Rattle.subdiv_model.specs.Child.{refined_level}
-use Rattle.subdiv_model.specs.Fault.{Fault, Usage, Read, Long, Obj, Mesh, TooLarge, Overflow, Write, Memory, NotBuilt}
+use Rattle.subdiv_model.specs.Fault.{Fault, Usage, Read, Long, Obj, Write, Memory, NotBuilt}
 use Rattle.subdiv_model.specs.Answer.{byte_limit, command_text}
 use Rattle.far_engine.specs.Built.{is_built}
-use Rattle.far_engine.specs.BuiltWords.{built_table}
+use Rattle.far_words.specs.Built.{built_table}
 
 -- what is refused of a mesh that was read: all that is not built yet
 abbrev pub refusal_of_mesh : ObjMesh → Option Fault

@@ -1,16 +1,17 @@
 -- What a run does to its source and its sink, and what its report does to the sink of errors.
 use Rattle.std.specs.Prelude.{ℕ, ◌≡◌, ◌≢◌, ◌≤◌, ◌↔◌, ◌⊎◌, List, Option, Some, None, IsTrue}
-use Rattle.far_io.specs.Bytes.{Rose, Took, TookPrefix, TookMore, Added, AddedPrefix, IsDry}
+use Rattle.far_io.specs.Bytes.{Rose, TookPrefix, TookMore, Added, AddedPrefix, IsDry}
 use Rattle.subdiv_model.specs.Manifold.{IsManifold}
 use Rattle.subdiv_model.specs.Words.{usage_of}
 use Rattle.subdiv_model.specs.Fault.{Fault, Usage, Read, Long, Write, fault_line}
 use Rattle.subdiv_model.specs.Answer.{byte_limit}
-use Rattle.far_engine.specs.BuiltWords.{built_table}
+use Rattle.far_words.specs.Built.{built_table}
 use Rattle.far_engine.specs.Outcome.{refusal_of, text_of, level_of, IsAnswered, is_after_reading}
 
 -- A run over a source and a sink, from what they were to what they are after it, with its outcome.
 -- `left`, `held`, `source_faults`, `sink_faults` and `fixed` read a source or a sink as its trait has them.
-pub record Runs {S K : Type 0} (left : S → Option (List ℕ)) (source_faults : S → ℕ) (held : K → Option (List ℕ)) (sink_faults fixed : K → ℕ) (words : List (List ℕ)) (s s' : S) (k k' : K) (outcome : Option Fault) : Type 0 where
+pub record Runs {S K : Type 0} (left : S → Option (List ℕ)) (source_faults : S → ℕ) (held : K → Option (List ℕ))
+    (sink_faults fixed : K → ℕ) (words : List (List ℕ)) (s s' : S) (k k' : K) (outcome : Option Fault) : Type 0 where
   -- Usage comes exactly where the words are no command, and then nothing is called
   pub usage : (word : ℕ) → (outcome ≡ Some (Usage word)) ↔ (usage_of built_table words ≡ Some word)
   pub uncalled : (word : ℕ) → outcome ≡ Some (Usage word) → (s' ≡ s) × (k' ≡ k)
@@ -20,7 +21,8 @@ pub record Runs {S K : Type 0} (left : S → Option (List ℕ)) (source_faults :
   pub whole : IsTrue (is_after_reading outcome) → IsDry (left s')
   -- without a fault the whole text was added, and every level of the mesh that was read is a manifold
   pub text : (bytes : List ℕ) → left s ≡ Some bytes → outcome ≡ None → Added (held k) (held k') (text_of words bytes)
-  pub manifold : (bytes : List ℕ) → left s ≡ Some bytes → outcome ≡ None → (n : ℕ) → IsManifold (level_of bytes n).point_count (level_of bytes n).polygons
+  pub manifold : (bytes : List ℕ) → left s ≡ Some bytes → outcome ≡ None → (n : ℕ) →
+      IsManifold (level_of bytes n).point_count (level_of bytes n).polygons
   -- after Write a prefix of the text was added, and after any other fault nothing was called
   pub prefix : (bytes : List ℕ) → left s ≡ Some bytes → outcome ≡ Some Write → AddedPrefix (held k) (held k') (text_of words bytes)
   pub kept : (fault : Fault) → outcome ≡ Some fault → fault ≢ Write → k' ≡ k

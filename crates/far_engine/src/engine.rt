@@ -13,10 +13,10 @@ ghost use Rattle.far_engine.specs.Runs.{Runs, Reports};
 ghost use Rattle.far_engine.specs.View.{outcome_of};
 
 use crate::built::{has_built_form, polygons_of};
-use crate::command::usage;
 use crate::fault::{FarFault, report, status};
 use crate::output::put_text;
 use far_io::{InputFault, Sink, Source, WriteFailed, read_all};
+use far_words::read_built_words;
 use obj_tags::{ObjFault, RawMesh, ReadFault, read_obj};
 use plain_refine::{is_closed_manifold, write_refined};
 use ratio128::{Memory, Steps};
@@ -68,7 +68,8 @@ fn refine_bytes(alloc: Global, bytes: &[u8]) -> Result<Vec<u8>, RefineFault>
     requires { length bytes.now ≤ 2 ^ 28 }
     ensures good { OnOk result (refusal_of_obj bytes.now ≡ None) }
     ensures refined { IfOk result (λ text. text.items ≡ built_text (read_obj_mesh bytes.now 0)) }
-    ensures faulty { (fault : ObjFault) → result ≡ Err (Obj fault) → refusal_of_obj bytes.now ≡ Some (model.Obj (view.fault_of fault)) }
+    ensures faulty { (fault : ObjFault) → result ≡ Err (Obj fault) →
+        refusal_of_obj bytes.now ≡ Some (model.Obj (view.fault_of fault)) }
     ensures not_built { result ≡ Err NotBuilt → refusal_of_obj bytes.now ≡ Some (model.NotBuilt 0) }
 {
     match read_obj(alloc, bytes, 0) {
@@ -101,12 +102,13 @@ pub fn run<S: Source, K: Sink, L: Ledger>(
     sink: &mut K,
     steps: &mut Steps<L>,
 ) -> Result<(), FarFault>
-    ensures run { Runs S.left S.faults K.held K.faults K.fixed (map string_bytes words.now.items) source.old source.new sink.old sink.new (outcome_of result) }
+    ensures run { Runs S.left S.faults K.held K.faults K.fixed (map string_bytes words.now.items)
+        source.old source.new sink.old sink.new (outcome_of result) }
     ensures steps { steps.new ≡ steps.old }
 {
-    match usage(words) {
-        None => {}
-        Some(word) => return Err(FarFault::Usage { word }),
+    match read_built_words(words) {
+        Ok(_) => {}
+        Err(word) => return Err(FarFault::Usage { word }),
     }
     let bytes = match read_all(alloc, source, LIMIT) {
         Ok(bytes) => bytes,
@@ -161,7 +163,8 @@ pub fn program<S: Source, K: Sink, E: Sink, L: Ledger>(
     steps: &mut Steps<L>,
 ) -> u8
     ensures outcome { (outcome : Option Fault)
-        × Runs S.left S.faults K.held K.faults K.fixed (map string_bytes words.now.items) source.old source.new sink.old sink.new outcome
+        × Runs S.left S.faults K.held K.faults K.fixed (map string_bytes words.now.items)
+        source.old source.new sink.old sink.new outcome
         × (result ≡ outcome_status outcome)
         × Reports E.held E.faults errors.old errors.new outcome }
     ensures later { E.faults errors.old ≤ E.faults errors.new }

@@ -2,7 +2,6 @@
 #![tactic(auto)]
 
 mod built;
-mod command;
 mod engine;
 mod fault;
 mod output;

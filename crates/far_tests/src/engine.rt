@@ -23,7 +23,8 @@ fn run_surely<L: Ledger>(
     steps: &mut Steps<L>,
 ) -> Result<(), FarFault>
     ensures no_read { result ≡ Err Read → ⊥ }
-    ensures no_write { length sink.old.store.held + length (text_of (map string_bytes words.now.items) source.old) < sink.old.store.room → result ≡ Err Write → ⊥ }
+    ensures no_write { length sink.old.store.held + length (text_of (map string_bytes words.now.items) source.old) < sink.old.store.room →
+        result ≡ Err Write → ⊥ }
 {
     run(alloc, words, source, sink, steps)
 }
@@ -81,22 +82,27 @@ fn words_of(alloc: Global, text: &str) -> Result<Vec<String>, AllocError> {
 const TRIANGLES: &str = "v 0 0 0\nv 12 0 0\nv 0 12 0\nf 1 2 3\nf 1 3 2\n";
 
 const TRIANGLES_REFINED: &str =
-    "v 5 5 0\nv 2 5 0\nv 5 2 0\nv 4 4 0\nv 4 4 0\nv 5 2 0\nv 5 5 0\nv 2 5 0\nf 1 6 4 8\nf 2 7 4 6\nf 3 8 4 7\nf 1 8 5 6\nf 3 7 5 8\nf 2 6 5 7\n";
+    "v 5 5 0\nv 2 5 0\nv 5 2 0\nv 4 4 0\nv 4 4 0\nv 5 2 0\nv 5 5 0\nv 2 5 0\nf 1 6 4 8\nf 2 7 4 6\nf 3 8 4 7\n\
+    f 1 8 5 6\nf 3 7 5 8\nf 2 6 5 7\n";
 
 const CUBE: &str =
-    "v -1 -1 1\nv 1 -1 1\nv -1 1 1\nv 1 1 1\nv -1 1 -1\nv 1 1 -1\nv -1 -1 -1\nv 1 -1 -1\nf 1 2 4 3\nf 3 4 6 5\nf 5 6 8 7\nf 7 8 2 1\nf 2 8 6 4\nf 7 1 3 5\n";
+    "v -1 -1 1\nv 1 -1 1\nv -1 1 1\nv 1 1 1\nv -1 1 -1\nv 1 1 -1\nv -1 -1 -1\nv 1 -1 -1\nf 1 2 4 3\nf 3 4 6 5\n\
+    f 5 6 8 7\nf 7 8 2 1\nf 2 8 6 4\nf 7 1 3 5\n";
 
 // The cube in lines that end in CR LF, with a comment, decimals, and one face by negative indices.
 const OTHER_CUBE: &str =
-    "# a cube\r\nv -1.0 -1.0 1.0\r\nv 1.0 -1.0 1.0\r\nv -1.0 1.0 1.0\r\nv 1.0 1.0 1.0\r\nv -1.0 1.0 -1.0\r\nv 1.0 1.0 -1.0\r\nv -1.0 -1.0 -1.0\r\nv 1.0 -1.0 -1.0\r\nf 1 2 4 3\r\nf 3 4 6 5\r\nf 5 6 8 7\r\nf 7 8 2 1\r\nf 2 8 6 4\r\nf -2 -8 -6 -4\r\n";
+    "# a cube\r\nv -1.0 -1.0 1.0\r\nv 1.0 -1.0 1.0\r\nv -1.0 1.0 1.0\r\nv 1.0 1.0 1.0\r\nv -1.0 1.0 -1.0\r\n\
+    v 1.0 1.0 -1.0\r\nv -1.0 -1.0 -1.0\r\nv 1.0 -1.0 -1.0\r\nf 1 2 4 3\r\nf 3 4 6 5\r\nf 5 6 8 7\r\nf 7 8 2 1\r\n\
+    f 2 8 6 4\r\nf -2 -8 -6 -4\r\n";
 
 const CUBE_REFINED: &str =
-    "v -5/9 -5/9 5/9\nv 5/9 -5/9 5/9\nv -5/9 5/9 5/9\nv 5/9 5/9 5/9\nv -5/9 5/9 -5/9\nv 5/9 5/9 -5/9\nv -5/9 -5/9 -5/9\nv 5/9 -5/9 -5/9\n\
-    v 0 0 1\nv 0 1 0\nv 0 0 -1\nv 0 -1 0\nv 1 0 0\nv -1 0 0\n\
-    v 0 -3/4 3/4\nv 3/4 0 3/4\nv 0 3/4 3/4\nv -3/4 0 3/4\nv 3/4 3/4 0\nv 0 3/4 -3/4\nv -3/4 3/4 0\nv 3/4 0 -3/4\nv 0 -3/4 -3/4\nv -3/4 0 -3/4\nv 3/4 -3/4 0\nv -3/4 -3/4 0\n\
-    f 1 15 9 18\nf 2 16 9 15\nf 4 17 9 16\nf 3 18 9 17\nf 3 17 10 21\nf 4 19 10 17\nf 6 20 10 19\nf 5 21 10 20\n\
-    f 5 20 11 24\nf 6 22 11 20\nf 8 23 11 22\nf 7 24 11 23\nf 7 23 12 26\nf 8 25 12 23\nf 2 15 12 25\nf 1 26 12 15\n\
-    f 2 25 13 16\nf 8 22 13 25\nf 6 19 13 22\nf 4 16 13 19\nf 7 26 14 24\nf 1 18 14 26\nf 3 21 14 18\nf 5 24 14 21\n";
+    "v -5/9 -5/9 5/9\nv 5/9 -5/9 5/9\nv -5/9 5/9 5/9\nv 5/9 5/9 5/9\nv -5/9 5/9 -5/9\nv 5/9 5/9 -5/9\n\
+    v -5/9 -5/9 -5/9\nv 5/9 -5/9 -5/9\nv 0 0 1\nv 0 1 0\nv 0 0 -1\nv 0 -1 0\nv 1 0 0\nv -1 0 0\nv 0 -3/4 3/4\n\
+    v 3/4 0 3/4\nv 0 3/4 3/4\nv -3/4 0 3/4\nv 3/4 3/4 0\nv 0 3/4 -3/4\nv -3/4 3/4 0\nv 3/4 0 -3/4\nv 0 -3/4 -3/4\n\
+    v -3/4 0 -3/4\nv 3/4 -3/4 0\nv -3/4 -3/4 0\nf 1 15 9 18\nf 2 16 9 15\nf 4 17 9 16\nf 3 18 9 17\nf 3 17 10 21\n\
+    f 4 19 10 17\nf 6 20 10 19\nf 5 21 10 20\nf 5 20 11 24\nf 6 22 11 20\nf 8 23 11 22\nf 7 24 11 23\n\
+    f 7 23 12 26\nf 8 25 12 23\nf 2 15 12 25\nf 1 26 12 15\nf 2 25 13 16\nf 8 22 13 25\nf 6 19 13 22\n\
+    f 4 16 13 19\nf 7 26 14 24\nf 1 18 14 26\nf 3 21 14 18\nf 5 24 14 21\n";
 
 const SQUARE: &str = "v 0 0 0\nv 4 0 0\nv 4 4 0\nv 0 4 0\nf 1 2 3 4\n";
 

@@ -15,3 +15,5 @@ mod numbers;
 mod numerals;
 #[cfg(test)]
 mod sharpness;
+#[cfg(test)]
+mod words;

@@ -12,12 +12,16 @@ has_short p = is_short_point (p.x, p.y, p.z)
 
 pub returns-then-not-is_short_point : goal.returns-then-not-is_short_point
 returns-then-not-is_short_point c =
-    sym (list_all-map is_short_point _ c.args.points.now ∙ list_all_at has_short c.args.points.now c.loop-p.p-index _ c.loop-p-test.true (sym c.if-not-is_short_point.ensures))
+    sym
+    (list_all-map is_short_point _ c.args.points.now
+    ∙ list_all_at has_short c.args.points.now c.loop-p.p-index _ c.loop-p-test.true (sym c.if-not-is_short_point.ensures))
 
 pub loop-p-preserved : goal.loop-p-preserved
-loop-p-preserved c = all-next has_short c.args.points.now c.loop-p.p-index _ c.loop-p-test.true c.loop-p.invariant (sym c.if-not-is_short_point.ensures)
+loop-p-preserved c = all-next has_short c.args.points.now c.loop-p.p-index _ c.loop-p-test.true c.loop-p.invariant
+    (sym c.if-not-is_short_point.ensures)
 
 pub returns : goal.returns
 returns c =
-    let all : list_all has_short c.args.points.now ≡ true = subst (λ xs. list_all has_short xs ≡ true) (take_all c.loop-p.p-index c.args.points.now c.loop-p-test.false) c.loop-p.invariant in
+    let all : list_all has_short c.args.points.now ≡ true =
+    subst (λ xs. list_all has_short xs ≡ true) (take_all c.loop-p.p-index c.args.points.now c.loop-p-test.false) c.loop-p.invariant in
     sym (list_all-map is_short_point _ c.args.points.now ∙ all)

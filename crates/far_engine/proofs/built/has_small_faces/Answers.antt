@@ -9,4 +9,5 @@ returns-then-not-is_small_face c =
 
 pub loop-f-preserved : goal.loop-f-preserved
 loop-f-preserved c =
-    all-next-found is_small_face c.args.mesh.now.faces c.loop-f.f c.face.result.now c.face.ensures c.loop-f.invariant (sym c.if-not-is_small_face.ensures)
+    all-next-found is_small_face c.args.mesh.now.faces c.loop-f.f c.face.result.now c.face.ensures c.loop-f.invariant
+    (sym c.if-not-is_small_face.ensures)

@@ -5,7 +5,8 @@ use Rattle.far_engine.proofs.BuiltLemmas.{short-points, built-scale, closed-buil
 use Rattle.far_engine.proofs.engine.refine_mesh.Goals as goal
 
 pub write_refined-requires-clause-short : goal.write_refined-requires-clause-short
-write_refined-requires-clause-short c = short-points c.args.mesh.now c.points-points.result.now c.points-points.ensures c.if-not-has_built_form.ensures
+write_refined-requires-clause-short c = short-points c.args.mesh.now c.points-points.result.now c.points-points.ensures
+    c.if-not-has_built_form.ensures
 
 pub write_refined-requires-clause-scale : goal.write_refined-requires-clause-scale
 write_refined-requires-clause-scale c = built-scale c.args.mesh.now c.scale.result c.scale.ensures c.if-not-has_built_form.ensures
@@ -13,8 +14,10 @@ write_refined-requires-clause-scale c = built-scale c.args.mesh.now c.scale.resu
 pub returns-clause-refined : goal.returns-clause-refined
 returns-clause-refined c =
     let built : is_built c.args.mesh.now ≡ true =
-    closed-built c.args.mesh.now c.points-points.result.now (corners_of c.in_ok-polygons.polygons.items) _ c.in_ok-is_closed_manifold.field-0 c.points-points.ensures c.in_ok-polygons.ensures refl c.if-not-has_built_form.ensures
+    closed-built c.args.mesh.now c.points-points.result.now (corners_of c.in_ok-polygons.polygons.items) _
+    c.in_ok-is_closed_manifold.field-0 c.points-points.ensures c.in_ok-polygons.ensures refl c.if-not-has_built_form.ensures
     (rw c.deref.ensures.value at c.in_ok-is_closed_manifold.ensures)
     ∙ c.if-not-branch.false in
-    refined-mesh c.args.mesh.now c.points-points.result.now (corners_of c.in_ok-polygons.polygons.items) c.scale.result c.in_ok-text.text.items c.points-points.ensures c.in_ok-polygons.ensures c.scale.ensures built
+    refined-mesh c.args.mesh.now c.points-points.result.now (corners_of c.in_ok-polygons.polygons.items) c.scale.result
+    c.in_ok-text.text.items c.points-points.ensures c.in_ok-polygons.ensures c.scale.ensures built
     (rw c.deref-2.ensures.value at c.in_ok-text.ensures)
