@@ -13,7 +13,8 @@ Took-more None None (Some c) xs ys p q = q
 Took-more None None None xs ys p q = tt
 
 -- an error after two calls leaves a prefix taken
-pub OnErr-took : {T E : Type 0} (r : Result T E) (a b c : Option (List ℕ)) (xs ys : List ℕ) → Took a b xs → Took b c ys → OnErr r (TookPrefix a c)
+pub OnErr-took : {T E : Type 0} (r : Result T E) (a b c : Option (List ℕ)) (xs ys : List ℕ) → Took a b xs → Took b c ys →
+    OnErr r (TookPrefix a c)
 OnErr-took (Ok x) a b c xs ys p q = tt
 OnErr-took (Err e) a b c xs ys p q = (xs ++ ys, Took-more a b c xs ys p q)
 
@@ -27,7 +28,8 @@ Added-more None None (Some c) xs ys p q = q
 Added-more None None None xs ys p q = tt
 
 -- one write more, up to the next place of the text
-pub Added-next : (a b c : Option (List ℕ)) (text : List ℕ) (at next : ℕ) → at ≤ next → Added a b (take at text) → Added b c (take (next - at) (drop at text)) → Added a c (take next text)
+pub Added-next : (a b c : Option (List ℕ)) (text : List ℕ) (at next : ℕ) → at ≤ next → Added a b (take at text) →
+    Added b c (take (next - at) (drop at text)) → Added a c (take next text)
 Added-next a b c text at next h p q =
     let e : at + (next - at) ≡ next = omega arith in
     let P : List ℕ → Type 0 = λ xs. Added a c xs in

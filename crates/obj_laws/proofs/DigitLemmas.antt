@@ -10,7 +10,8 @@ digit-most : (b : ℕ) → is_digit b ≡ true → b ≤ 57
 digit-most b h = leb-true _ _ (and_parts _ _ h).1
 
 -- a number of n digits is below 10 ^ n
-pub digits-below : (a : ℕ) (digits : List ℕ) → list_all is_digit digits ≡ true → fold (λ n b. n * 10 + (b - 48)) a digits < (a + 1) * 10 ^ length digits
+pub digits-below : (a : ℕ) (digits : List ℕ) → list_all is_digit digits ≡ true
+    → fold (λ n b. n * 10 + (b - 48)) a digits < (a + 1) * 10 ^ length digits
 digits-below a [] h = omega arith
 digits-below a (b ∷ digits) h =
     let parts : (is_digit b ≡ true) × (list_all is_digit digits ≡ true) = and_parts _ _ h in

@@ -39,7 +39,8 @@ tens-some a z some none =
     absurd (omega arith)
 
 -- the normal form's amount and decimals, from a number's digits up to the last that is not 0 and the zeros after them
-pub normal-tens : (n up down a z : ℕ) → n ≡ a * 10 ^ z → a ≢ 0 → a % 10 ≢ 0 → (if nat_eq n 0 then (0, 0) else cancelled (n * 10 ^ up) down) ≡ (a * 10 ^ ((z + up) - down), down - (z + up))
+pub normal-tens : (n up down a z : ℕ) → n ≡ a * 10 ^ z → a ≢ 0 → a % 10 ≢ 0
+    → (if nat_eq n 0 then (0, 0) else cancelled (n * 10 ^ up) down) ≡ (a * 10 ^ ((z + up) - down), down - (z + up))
 normal-tens n up down a z e some ends =
     let other : n ≢ 0 = λ none. tens-some a z some (sym e ∙ none) in
     let joined : n * 10 ^ up ≡ a * 10 ^ (z + up) = ap (λ k. k * 10 ^ up) e ∙ mul_assoc a (10 ^ z) (10 ^ up) ∙ ap (λ p. a * p) (sym (pow-add 10 z up)) in

@@ -54,13 +54,15 @@ text-digits n bytes is =
     let some = le-leb 1 (length bytes) (omega (arith, is.some)) in rw (some, is.digits) refl
 
 -- digits are neither signs nor marks nor points
-digit-other : (b : ℕ) → is_digit b ≡ true → (is_sign b ≡ false) × (is_exponent_mark b ≡ false) × (is_point b ≡ false) × (nat_eq b 45 ≡ false)
+digit-other : (b : ℕ) → is_digit b ≡ true
+    → (is_sign b ≡ false) × (is_exponent_mark b ≡ false) × (is_point b ≡ false) × (nat_eq b 45 ≡ false)
 digit-other b is = (grind (arith, nat_tests), grind (arith, nat_tests), grind (arith, nat_tests), grind (arith, nat_tests))
 
 position-cons : (p : ℕ → Bool) (b : ℕ) (bytes : List ℕ) → p b ≡ false → position_or_len p (b ∷ bytes) ≡ 1 + position_or_len p bytes
 position-cons p b bytes e = rw e refl
 
-position-after : (bytes : List ℕ) (mark : ℕ) (rest : List ℕ) → list_all is_digit bytes ≡ true → is_exponent_mark mark ≡ true → position_or_len is_exponent_mark (bytes ++ mark ∷ rest) ≡ length bytes
+position-after : (bytes : List ℕ) (mark : ℕ) (rest : List ℕ) → list_all is_digit bytes ≡ true → is_exponent_mark mark ≡ true
+    → position_or_len is_exponent_mark (bytes ++ mark ∷ rest) ≡ length bytes
 position-after [] mark rest are is = rw is refl
 position-after (b ∷ bytes) mark rest are is =
     let parts = and_parts (is_digit b) (list_all is_digit bytes) are in
@@ -72,7 +74,8 @@ no-point (b ∷ bytes) are =
     let parts = and_parts (is_digit b) (list_all is_digit bytes) are in
     position-cons is_point b bytes (digit-other b parts.0).2 ∙ omega (arith, no-point bytes parts.1)
 
-unsigned : (bytes rest : List ℕ) → 0 < length bytes → list_all is_digit bytes ≡ true → (without_sign (bytes ++ rest) ≡ bytes ++ rest) × (has_minus (bytes ++ rest) ≡ false)
+unsigned : (bytes rest : List ℕ) → 0 < length bytes → list_all is_digit bytes ≡ true
+    → (without_sign (bytes ++ rest) ≡ bytes ++ rest) × (has_minus (bytes ++ rest) ≡ false)
 unsigned [] rest some are = absurd (omega arith)
 unsigned (b ∷ bytes) rest some are =
     let parts = and_parts (is_digit b) (list_all is_digit bytes) are in
@@ -103,11 +106,13 @@ record AreParts (word digits exponent : List ℕ) : Type 0 where
   fraction : fraction_digits word ≡ []
   power : exponent_part word ≡ 101 ∷ (45 ∷ exponent)
 
-split-point : (digits : List ℕ) → list_all is_digit digits ≡ true → (before_first is_point digits ≡ digits) × (after_first is_point digits ≡ [])
+split-point : (digits : List ℕ) → list_all is_digit digits ≡ true
+    → (before_first is_point digits ≡ digits) × (after_first is_point digits ≡ [])
 split-point digits are =
     (ap (λ n. take n digits) (no-point digits are) ∙ ap (λ l. take (length digits) l) (sym (append-nil digits)) ∙ take_at digits [] (length digits) refl, ap (λ n. drop (n + 1) digits) (no-point digits are) ∙ drop_all (length digits + 1) digits (omega arith))
 
-split-parts : (word digits exponent : List ℕ) → without_sign word ≡ digits ++ (101 ∷ (45 ∷ exponent)) → list_all is_digit digits ≡ true → AreParts word digits exponent
+split-parts : (word digits exponent : List ℕ) → without_sign word ≡ digits ++ (101 ∷ (45 ∷ exponent)) → list_all is_digit digits ≡ true
+    → AreParts word digits exponent
 split-parts word digits exponent e are =
     let at : position_or_len is_exponent_mark (without_sign word) ≡ length digits =
     ap (position_or_len is_exponent_mark) e ∙ position-after digits 101 (45 ∷ exponent) are refl in

@@ -69,7 +69,8 @@ chosen n up down =
     (λ (some : n ≢ 0). subst (IsReduced (n * 10 ^ up) down) (sym (cond-false _ _ _ (ne_eqb n 0 some))) (reduced (n * 10 ^ up) down))
     (cases_eq n 0)
 
-pub word-reduced : (word : List ℕ) → IsReduced (number_of_digits (all_digits word) * 10 ^ tens_above word) (tens_below word) (normal_amount word)
+pub word-reduced : (word : List ℕ)
+    → IsReduced (number_of_digits (all_digits word) * 10 ^ tens_above word) (tens_below word) (normal_amount word)
 word-reduced word = chosen (number_of_digits (all_digits word)) (tens_above word) (tens_below word)
 
 signed-times : (negative : Bool) (a b : ℕ) → signed negative a *ℤ pos b ≡ signed negative (a * b)
@@ -96,7 +97,8 @@ crossed : (m a n b p q : ℕ) → 0 < q → m * q ≡ p * a → n * q ≡ p * b 
 crossed m a n b p q some e f =
     times-same (m * b) (n * a) q some (omega (arith, ap (λ x. x * b) e, ap (λ x. x * a) f))
 
-pub form-least : (word : List ℕ) (mantissa : ℤ) (decimals : ℕ) → IsSameValue (form_value (mantissa, decimals)) (numeral_value word) → (normal_form word).1 ≤ decimals
+pub form-least : (word : List ℕ) (mantissa : ℤ) (decimals : ℕ) → IsSameValue (form_value (mantissa, decimals)) (numeral_value word)
+    → (normal_form word).1 ≤ decimals
 form-least word mantissa decimals same =
     let form = normal_amount word in
     let amount = number_of_digits (all_digits word) * 10 ^ tens_above word in

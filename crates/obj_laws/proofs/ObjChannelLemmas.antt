@@ -17,7 +17,8 @@ pub passing-all : {X Y : Type 0} (P : X → Bool) (f : X → Y) (xs : List X) �
 passing-all P f [] h = refl
 passing-all P f (x ∷ xs) h = step (P x) h (passing-all P f xs)
   where
-    step : (b : Bool) → b && list_all P xs ≡ true → (list_all P xs ≡ true → where-passing P f xs ≡ map f xs) → (if b then f x ∷ [] else []) ++ where-passing P f xs ≡ f x ∷ map f xs
+    step : (b : Bool) → b && list_all P xs ≡ true → (list_all P xs ≡ true → where-passing P f xs ≡ map f xs)
+        → (if b then f x ∷ [] else []) ++ where-passing P f xs ≡ f x ∷ map f xs
     step true e rest = ap (λ ys. f x ∷ ys) (rest e)
     step false e rest = absurd (true≢false (sym e))
 
@@ -26,7 +27,8 @@ pub passing-count : {X Y : Type 0} (P : X → Bool) (f : X → Y) (xs : List X) 
 passing-count P f [] = refl
 passing-count P f (x ∷ xs) = step (P x) (passing-count P f xs) ∙ sym (count-cons P x xs)
   where
-    step : (b : Bool) → length (where-passing P f xs) ≡ count_by P xs → length ((if b then f x ∷ [] else []) ++ where-passing P f xs) ≡ one_if b + count_by P xs
+    step : (b : Bool) → length (where-passing P f xs) ≡ count_by P xs
+        → length ((if b then f x ∷ [] else []) ++ where-passing P f xs) ≡ one_if b + count_by P xs
     step true rest = omega (arith, rest)
     step false rest = omega (arith, rest)
 
@@ -35,10 +37,12 @@ pub all-counted : {X : Type 0} (P : X → Bool) (xs : List X) → nat_eq (count_
 all-counted P [] = refl
 all-counted P (x ∷ xs) = ap (λ n. nat_eq n (suc (length xs))) (count-cons P x xs) ∙ step (P x) (all-counted P xs) (count_by-le-length P xs)
   where
-    step : (b : Bool) → nat_eq (count_by P xs) (length xs) ≡ list_all P xs → count_by P xs ≤ length xs → nat_eq (one_if b + count_by P xs) (suc (length xs)) ≡ b && list_all P xs
+    step : (b : Bool) → nat_eq (count_by P xs) (length xs) ≡ list_all P xs → count_by P xs ≤ length xs
+        → nat_eq (one_if b + count_by P xs) (suc (length xs)) ≡ b && list_all P xs
     step true rest most = same (cases_eq (count_by P xs) (length xs)) ∙ rest
       where
-        same : (count_by P xs ≡ length xs) ⊎ (count_by P xs ≢ length xs) → nat_eq (1 + count_by P xs) (suc (length xs)) ≡ nat_eq (count_by P xs) (length xs)
+        same : (count_by P xs ≡ length xs) ⊎ (count_by P xs ≢ length xs)
+            → nat_eq (1 + count_by P xs) (suc (length xs)) ≡ nat_eq (count_by P xs) (length xs)
         same (inl e) = eq-eqb _ _ (omega (arith, e)) ∙ sym (eq-eqb _ _ e)
         same (inr d) = ne_eqb _ _ (λ e. d (omega (arith, e))) ∙ sym (ne_eqb _ _ d)
     step false rest most = ne_eqb _ _ (λ e. absurd (omega (arith, e, most)))
@@ -47,6 +51,7 @@ all-counted P (x ∷ xs) = ap (λ n. nat_eq n (suc (length xs))) (count-cons P x
 abbrev pub corner-words : List (List (List ℕ)) → List (List ℕ)
 corner-words lines = flat_map values_of (filter is_face_line lines)
 
-pub channel-counted : (lines : List (List (List ℕ))) → has_texture_channel lines ≡ list_any is_face_line lines && nat_eq (count_by has_texture_part (corner-words lines)) (length (corner-words lines))
+pub channel-counted : (lines : List (List (List ℕ)))
+    → has_texture_channel lines ≡ list_any is_face_line lines && nat_eq (count_by has_texture_part (corner-words lines)) (length (corner-words lines))
 channel-counted lines =
     ap (λ b. list_any is_face_line lines && b) (sym (all-counted has_texture_part (corner-words lines) ∙ all-flat_map has_texture_part values_of (filter is_face_line lines)))

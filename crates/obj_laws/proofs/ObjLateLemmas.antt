@@ -6,10 +6,12 @@ use Rattle.subdiv_model.specs.Lists.{places, places_from}
 use Rattle.subdiv_model.specs.ObjLine.{is_vertex_line}
 use Rattle.subdiv_model.specs.ReadObj.{is_texture_line, long_fault}
 
-pub long-other : (least : ℕ) (lines : List (List (List ℕ))) (words : List (List ℕ)) → is_vertex_line words ≡ false → is_texture_line words ≡ false → long_fault least lines words ≡ None
+pub long-other : (least : ℕ) (lines : List (List (List ℕ))) (words : List (List ℕ)) → is_vertex_line words ≡ false
+    → is_texture_line words ≡ false → long_fault least lines words ≡ None
 long-other least lines words vertex texture = rw (vertex, texture) refl
 
-filter-places-from : {X : Type 0} (kind : X → Bool) (f : ℕ → X) (d : X) (place : ℕ) (xs : List X) → ((i : ℕ) → i < length xs → f (place + i) ≡ get_or xs i d) → map f (places_from place kind xs) ≡ filter kind xs
+filter-places-from : {X : Type 0} (kind : X → Bool) (f : ℕ → X) (d : X) (place : ℕ) (xs : List X)
+    → ((i : ℕ) → i < length xs → f (place + i) ≡ get_or xs i d) → map f (places_from place kind xs) ≡ filter kind xs
 filter-places-from kind f d place [] h = refl
 filter-places-from kind f d place (x ∷ xs) h =
     let rest : map f (places_from (place + 1) kind xs) ≡ filter kind xs =

@@ -22,12 +22,14 @@ closed-cons line (part ∷ parts) h = refl
 closed-one : (line : List ℕ) → 0 < length line → closed_lines (line ∷ []) ≡ line ∷ []
 closed-one line h = grind (arith, nat_tests)
 
-lines-cut : (text : List ℕ) → position_or_len is_lf text < length text → lines_of text ≡ before_first is_lf text ∷ lines_of (after_first is_lf text)
+lines-cut : (text : List ℕ) → position_or_len is_lf text < length text
+    → lines_of text ≡ before_first is_lf text ∷ lines_of (after_first is_lf text)
 lines-cut text h =
     ap closed_lines (slice_split_first is_lf text 0 h)
     ∙ closed-cons (before_first is_lf text) (slice_split is_lf (after_first is_lf text)) (omega (arith, length-slice_split is_lf (after_first is_lf text)))
 
-lines-whole : (text : List ℕ) → 0 < length text → length text ≤ position_or_len is_lf text → lines_of text ≡ before_first is_lf text ∷ lines_of (after_first is_lf text)
+lines-whole : (text : List ℕ) → 0 < length text → length text ≤ position_or_len is_lf text
+    → lines_of text ≡ before_first is_lf text ∷ lines_of (after_first is_lf text)
 lines-whole text some h =
     let whole : before_first is_lf text ≡ text = take_all (position_or_len is_lf text) text h in
     let rest : after_first is_lf text ≡ [] = drop_all (position_or_len is_lf text + 1) text (omega arith) in
@@ -53,7 +55,8 @@ count-before kind xs i = sum_by-take-le (λ x. cond (kind x) 1 0) xs i
 abbrev last-place : Bool → ℕ → List ℕ
 last-place passes place = cond passes (place ∷ []) []
 
-places-from-more : {X : Type 0} (test : X → Bool) (place : ℕ) (xs : List X) (x : X) → places_from place test (xs ++ x ∷ []) ≡ places_from place test xs ++ last-place (test x) (place + length xs)
+places-from-more : {X : Type 0} (test : X → Bool) (place : ℕ) (xs : List X) (x : X)
+    → places_from place test (xs ++ x ∷ []) ≡ places_from place test xs ++ last-place (test x) (place + length xs)
 places-from-more test place [] x = let e : place ≡ place + 0 = omega arith in ap (last-place (test x)) e
 places-from-more test place (y ∷ xs) x =
     let e : place + 1 + length xs ≡ place + suc (length xs) = omega arith in
@@ -65,7 +68,8 @@ places-from-more test place (y ∷ xs) x =
     (λ no. rest ∙ sym (ap (λ ps. ps ++ last) (cond-false (test y) (place ∷ places_from (place + 1) test xs) (places_from (place + 1) test xs) no)))
 
 -- one more line adds its place, or none
-pub places-more : {X : Type 0} (test : X → Bool) (xs : List X) (x : X) → places test (xs ++ x ∷ []) ≡ places test xs ++ cond (test x) (length xs ∷ []) []
+pub places-more : {X : Type 0} (test : X → Bool) (xs : List X) (x : X)
+    → places test (xs ++ x ∷ []) ≡ places test xs ++ cond (test x) (length xs ∷ []) []
 places-more test xs x =
     let e : 0 + length xs ≡ length xs = omega arith in
     places-from-more test 0 xs x ∙ ap (λ n. places test xs ++ last-place (test x) n) e

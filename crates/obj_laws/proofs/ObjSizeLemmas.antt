@@ -30,7 +30,8 @@ runs-some : (b : ℕ) (run : List ℕ) (parts : List (List ℕ)) → runs-in ((b
 runs-some b run parts = grind (arith, nat_tests)
 
 -- one more byte that is no blank makes one more run only where the first part was empty
-onto-runs : (b : ℕ) (parts : List (List ℕ)) → (runs-in (onto_first b parts) ≤ runs-in parts + first-empty parts) × (first-empty (onto_first b parts) ≡ 0)
+onto-runs : (b : ℕ) (parts : List (List ℕ))
+    → (runs-in (onto_first b parts) ≤ runs-in parts + first-empty parts) × (first-empty (onto_first b parts) ≡ 0)
 onto-runs b [] = let new = runs-some b [] [] in (omega (arith, new), refl)
 onto-runs b ([] ∷ parts) = let new = runs-some b [] parts in (omega (arith, new), refl)
 onto-runs b ((c ∷ part) ∷ parts) =
@@ -126,7 +127,9 @@ lines-bytes-most (line ∷ lines) =
     let old = sum_by-cons length line lines in
     omega (arith, rest, here, new, old)
 
-sum-places-from : {X : Type 0} (test : X → Bool) (f : ℕ → ℕ) (g : X → ℕ) (d : X) (place : ℕ) (xs : List X) → ((i : ℕ) → i < length xs → f (place + i) ≡ g (get_or xs i d)) → sum_by f (places_from place test xs) ≡ sum_by (λ x. cond (test x) (g x) 0) xs
+sum-places-from : {X : Type 0} (test : X → Bool) (f : ℕ → ℕ) (g : X → ℕ) (d : X) (place : ℕ) (xs : List X)
+    → ((i : ℕ) → i < length xs → f (place + i) ≡ g (get_or xs i d))
+    → sum_by f (places_from place test xs) ≡ sum_by (λ x. cond (test x) (g x) 0) xs
 sum-places-from test f g d place [] h = refl
 sum-places-from test f g d place (x ∷ xs) h =
     let rest : sum_by f (places_from (place + 1) test xs) ≡ sum_by (λ y. cond (test y) (g y) 0) xs =
@@ -162,7 +165,8 @@ without-mark-bytes text =
     (λ _. let less = length-drop 3 text in omega (arith, less)) (λ _. omega arith)
 
 -- each corner takes two bytes of the text, and each face one more
-pub corners-bytes : (text : List ℕ) (least : ℕ) → 2 * sum_by length (read_obj_mesh text least).faces + length (read_obj_mesh text least).faces ≤ length text
+pub corners-bytes : (text : List ℕ) (least : ℕ)
+    → 2 * sum_by length (read_obj_mesh text least).faces + length (read_obj_mesh text least).faces ≤ length text
 corners-bytes text least =
     let lines = lines_of (without_mark text) in
     let faces = faces_of (obj_lines text) in

@@ -27,11 +27,13 @@ some-or : (x y : Option ObjCause) → IsReading x → IsReading y → IsReading 
 some-or (Some c) y p q = p
 some-or None y p q = q
 
-cons-cause : (r : Option ObjCause) (causes : List ObjCause) → IsReading r → IsReading (first_of causes) → IsReading (first_of (cons_option r causes))
+cons-cause : (r : Option ObjCause) (causes : List ObjCause) → IsReading r → IsReading (first_of causes)
+    → IsReading (first_of (cons_option r causes))
 cons-cause (Some c) causes p q = p
 cons-cause None causes p q = q
 
-first-among : (cause_of : List ℕ → Option ObjCause) → ((word : List ℕ) → IsReading (cause_of word)) → (words : List (List ℕ)) → IsReading (first_cause cause_of words)
+first-among : (cause_of : List ℕ → Option ObjCause) → ((word : List ℕ) → IsReading (cause_of word)) → (words : List (List ℕ))
+    → IsReading (first_cause cause_of words)
 first-among cause_of all [] = no-cause
 first-among cause_of all (word ∷ words) = cons-cause (cause_of word) _ (all word) (first-among cause_of all words)
 
@@ -84,11 +86,13 @@ line-cause before whole (word ∷ words) = line-words-cause before whole (word �
 abbrev IsReadingFault : Option ObjFault → Type 0
 IsReadingFault fault = IfSome fault (λ f. IsTrue (is_of_reading f.cause))
 
-cons-fault : (i : ℕ) (r : Option ObjCause) (faults : List ObjFault) → IsReading r → IsReadingFault (first_of faults) → IsReadingFault (first_of (cons_option (option_map (λ cause. record { line = suc i; cause = cause }) r) faults))
+cons-fault : (i : ℕ) (r : Option ObjCause) (faults : List ObjFault) → IsReading r → IsReadingFault (first_of faults)
+    → IsReadingFault (first_of (cons_option (option_map (λ cause. record { line = suc i; cause = cause }) r) faults))
 cons-fault i (Some c) faults p q = p.is
 cons-fault i None faults p q = q
 
-fault-from : (cause_at : ℕ → Option ObjCause) → ((i : ℕ) → IsReading (cause_at i)) → (start count : ℕ) → IsReadingFault (first_from cause_at start count)
+fault-from : (cause_at : ℕ → Option ObjCause) → ((i : ℕ) → IsReading (cause_at i)) → (start count : ℕ)
+    → IsReadingFault (first_from cause_at start count)
 fault-from cause_at all start zero = tt
 fault-from cause_at all start (suc count) = cons-fault start (cause_at start) _ (all start) (fault-from cause_at all (start + 1) count)
 

@@ -59,12 +59,16 @@ no-normal a b normal h =
     (λ k. many-parts a b (slice_split is_slash normal) k) (one-or-more normal)
 
 -- three parts with an empty one between
-pub three-without-texture : (vertex : ℤ) (a b normal : List ℕ) → is_index a ≡ true → vertex ≡ nearest_index a → is_index normal ≡ true → nat_eq (length b) 0 ≡ true → IsReadAs (Some (record { vertex = vertex; texture = None; has_normal = true })) (a ∷ b ∷ slice_split is_slash normal)
+pub three-without-texture : (vertex : ℤ) (a b normal : List ℕ) → is_index a ≡ true → vertex ≡ nearest_index a → is_index normal ≡ true
+    → nat_eq (length b) 0 ≡ true
+    → IsReadAs (Some (record { vertex = vertex; texture = None; has_normal = true })) (a ∷ b ∷ slice_split is_slash normal)
 three-without-texture vertex a b normal is e last none =
     rw (index-part normal last) (rw (is, none, last) refl, record { vertex = e; texture = none; normal = refl })
 
 -- three parts, each an index
-pub three-with-texture : (vertex texture : ℤ) (a b normal : List ℕ) → is_index a ≡ true → vertex ≡ nearest_index a → is_index normal ≡ true → nat_eq (length b) 0 ≡ false → is_index b ≡ true → texture ≡ nearest_index b → IsReadAs (Some (record { vertex = vertex; texture = Some texture; has_normal = true })) (a ∷ b ∷ slice_split is_slash normal)
+pub three-with-texture : (vertex texture : ℤ) (a b normal : List ℕ) → is_index a ≡ true → vertex ≡ nearest_index a
+    → is_index normal ≡ true → nat_eq (length b) 0 ≡ false → is_index b ≡ true → texture ≡ nearest_index b
+    → IsReadAs (Some (record { vertex = vertex; texture = Some texture; has_normal = true })) (a ∷ b ∷ slice_split is_slash normal)
 three-with-texture vertex texture a b normal is e last some index f =
     rw (index-part normal last) (rw (is, some, index, last) refl, record { vertex = e; texture = (some, f); normal = refl })
 

@@ -31,17 +31,20 @@ use Rattle.obj_tags.proofs.PiecesLemmas.{length-pieces}
 use Rattle.number_laws.proofs.CountLemmas.{one_if, one-yes, one-no}
 
 -- a line begins with one keyword
-vertex-only : (line : Words) → is_vertex_line line ≡ true → (is_texture_line line ≡ false) × (is_face_line line ≡ false) × (is_tag_line line ≡ false)
+vertex-only : (line : Words) → is_vertex_line line ≡ true
+    → (is_texture_line line ≡ false) × (is_face_line line ≡ false) × (is_tag_line line ≡ false)
 vertex-only line kind = rw (keyword-first (codes "v") line kind) (refl, refl, refl)
 
 texture-only : (line : Words) → is_texture_line line ≡ true → (is_face_line line ≡ false) × (is_tag_line line ≡ false)
 texture-only line kind = rw (keyword-first (codes "vt") line kind) (refl, refl)
 
 -- the lines up to this one
-taken : (all : face.Counts) (number : ℕ) (lines : List Words) (n : ℕ) (line : Words) → IsLineAt all number lines n line → take (n + 1) lines ≡ take n lines ++ line ∷ []
+taken : (all : face.Counts) (number : ℕ) (lines : List Words) (n : ℕ) (line : Words) → IsLineAt all number lines n line
+    → take (n + 1) lines ≡ take n lines ++ line ∷ []
 taken all number lines n line at = take_more lines n [] at.inside ∙ ap (λ ws. take n lines ++ ws ∷ []) at.here
 
-before : (all : face.Counts) (number : ℕ) (lines : List Words) (n : ℕ) (line : Words) → IsLineAt all number lines n line → number ≡ suc (length (take n lines))
+before : (all : face.Counts) (number : ℕ) (lines : List Words) (n : ℕ) (line : Words) → IsLineAt all number lines n line
+    → number ≡ suc (length (take n lines))
 before all number lines n line at =
     let inside = at.inside in
     let place = at.place in
@@ -49,33 +52,46 @@ before all number lines n line at =
     omega (arith, short, inside, place)
 
 -- a kind of line that this line is not
-same-positions : (ps : List Position) (all : face.Counts) (number : ℕ) (lines : List Words) (n : ℕ) (line : Words) → IsLineAt all number lines n line → ArePositions ps (take n lines) → is_vertex_line line ≡ false → ArePositions ps (take (n + 1) lines)
+same-positions : (ps : List Position) (all : face.Counts) (number : ℕ) (lines : List Words) (n : ℕ) (line : Words)
+    → IsLineAt all number lines n line → ArePositions ps (take n lines) → is_vertex_line line ≡ false
+    → ArePositions ps (take (n + 1) lines)
 same-positions ps all number lines n line at are other =
     subst (λ ls. ArePositions ps ls) (sym (taken all number lines n line at)) (positions-other ps (take n lines) line are other)
 
-same-textures : (ts : List TextureValue) (all : face.Counts) (number : ℕ) (lines : List Words) (n : ℕ) (line : Words) → IsLineAt all number lines n line → AreTextureValues ts (take n lines) → is_texture_line line ≡ false → AreTextureValues ts (take (n + 1) lines)
+same-textures : (ts : List TextureValue) (all : face.Counts) (number : ℕ) (lines : List Words) (n : ℕ) (line : Words)
+    → IsLineAt all number lines n line → AreTextureValues ts (take n lines) → is_texture_line line ≡ false
+    → AreTextureValues ts (take (n + 1) lines)
 same-textures ts all number lines n line at are other =
     subst (λ ls. AreTextureValues ts ls) (sym (taken all number lines n line at)) (textures-other ts (take n lines) line are other)
 
 -- what holds of a result holds also in other words
-match-map : {T E : Type 0} {A A' : T → Type 0} {B B' : E → Type 0} (r : Result T E) → ((x : T) → A x → A' x) → ((e : E) → B e → B' e) → MatchResult r A B → MatchResult r A' B'
+match-map : {T E : Type 0} {A A' : T → Type 0} {B B' : E → Type 0} (r : Result T E) → ((x : T) → A x → A' x) → ((e : E) → B e → B' e)
+    → MatchResult r A B → MatchResult r A' B'
 match-map (Ok x) f g said = f x said
 match-map (Err e) f g said = g e said
 
-vertex-fault : (b w : Counts) (line values : Words) → is_vertex_line line ≡ true → drop 1 line ≡ values → words_fault b w line ≡ fault.first_cause numeral_fault values
+vertex-fault : (b w : Counts) (line values : Words) → is_vertex_line line ≡ true → drop 1 line ≡ values
+    → words_fault b w line ≡ fault.first_cause numeral_fault values
 vertex-fault b w line values kind e = rw kind (ap (fault.first_cause numeral_fault) e)
 
-texture-fault : (b w : Counts) (line values : Words) → is_vertex_line line ≡ false → is_texture_line line ≡ true → drop 1 line ≡ values → words_fault b w line ≡ fault.first_cause numeral_fault values
+texture-fault : (b w : Counts) (line values : Words) → is_vertex_line line ≡ false → is_texture_line line ≡ true → drop 1 line ≡ values
+    → words_fault b w line ≡ fault.first_cause numeral_fault values
 texture-fault b w line values other kind e = rw (other, kind) (ap (fault.first_cause numeral_fault) e)
 
-tag-line-fault : (b w : Counts) (line : Words) → is_vertex_line line ≡ false → is_texture_line line ≡ false → is_face_line line ≡ false → is_tag_line line ≡ true → words_fault b w line ≡ tag_fault w line
+tag-line-fault : (b w : Counts) (line : Words) → is_vertex_line line ≡ false → is_texture_line line ≡ false → is_face_line line ≡ false
+    → is_tag_line line ≡ true → words_fault b w line ≡ tag_fault w line
 tag-line-fault b w line a c d kind = rw (a, c, d, kind) refl
 
-no-words-fault : (b w : Counts) (line : Words) → is_vertex_line line ≡ false → is_texture_line line ≡ false → is_face_line line ≡ false → is_tag_line line ≡ false → words_fault b w line ≡ None
+no-words-fault : (b w : Counts) (line : Words) → is_vertex_line line ≡ false → is_texture_line line ≡ false → is_face_line line ≡ false
+    → is_tag_line line ≡ false → words_fault b w line ≡ None
 no-words-fault b w line a c d e = rw (a, c, d, e) refl
 
 -- a line whose position was kept
-pub kept-position : (r : Result (Unit {0}) LineFault) (draft : Draft) (ps : List Position) (next : Draft) (all : face.Counts) (number : ℕ) (lines : List Words) (n : ℕ) (line values : Words) → next.positions.items ≡ ps → next.texture ≡ draft.texture → next.faces ≡ draft.faces → next.tags ≡ draft.tags → IsLineAt all number lines n line → is_vertex_line line ≡ true → drop 1 line ≡ values → IsDraftOf draft lines n → KeptUnless r (fault.first_cause numeral_fault values) (λ _. AddsPosition number values draft.positions.items ps) → KeptUnless r (words_fault (counts_of (take n lines)) (counts_of lines) line) (λ _. IsDraftOf next lines (n + 1))
+pub kept-position : (r : Result (Unit {0}) LineFault) (draft : Draft) (ps : List Position) (next : Draft) (all : face.Counts) (number : ℕ) (lines : List Words) (n : ℕ) (line values : Words)
+    → next.positions.items ≡ ps → next.texture ≡ draft.texture → next.faces ≡ draft.faces → next.tags ≡ draft.tags
+    → IsLineAt all number lines n line → is_vertex_line line ≡ true → drop 1 line ≡ values → IsDraftOf draft lines n
+    → KeptUnless r (fault.first_cause numeral_fault values) (λ _. AddsPosition number values draft.positions.items ps)
+    → KeptUnless r (words_fault (counts_of (take n lines)) (counts_of lines) line) (λ _. IsDraftOf next lines (n + 1))
 kept-position r draft ps next all number lines n line values e texture faces tags at kind v is said =
     let b = counts_of (take n lines) in
     let w = counts_of lines in
@@ -95,7 +111,12 @@ kept-position r draft ps next all number lines n line values e texture faces tag
     said
 
 -- a line whose texture value was kept
-pub kept-texture : (r : Result (Unit {0}) LineFault) (draft : Draft) (ts : List TextureValue) (next : Draft) (all : face.Counts) (number : ℕ) (lines : List Words) (n : ℕ) (line values : Words) → next.texture.items ≡ ts → next.positions ≡ draft.positions → next.faces ≡ draft.faces → next.tags ≡ draft.tags → IsLineAt all number lines n line → is_vertex_line line ≡ false → is_texture_line line ≡ true → drop 1 line ≡ values → IsDraftOf draft lines n → KeptUnless r (fault.first_cause numeral_fault values) (λ _. AddsTextureValue number values draft.texture.items ts) → KeptUnless r (words_fault (counts_of (take n lines)) (counts_of lines) line) (λ _. IsDraftOf next lines (n + 1))
+pub kept-texture : (r : Result (Unit {0}) LineFault) (draft : Draft) (ts : List TextureValue) (next : Draft) (all : face.Counts) (number : ℕ) (lines : List Words) (n : ℕ) (line values : Words)
+    → next.texture.items ≡ ts → next.positions ≡ draft.positions → next.faces ≡ draft.faces → next.tags ≡ draft.tags
+    → IsLineAt all number lines n line → is_vertex_line line ≡ false → is_texture_line line ≡ true → drop 1 line ≡ values
+    → IsDraftOf draft lines n
+    → KeptUnless r (fault.first_cause numeral_fault values) (λ _. AddsTextureValue number values draft.texture.items ts)
+    → KeptUnless r (words_fault (counts_of (take n lines)) (counts_of lines) line) (λ _. IsDraftOf next lines (n + 1))
 kept-texture r draft ts next all number lines n line values e positions faces tags at other kind v is said =
     let b = counts_of (take n lines) in
     let w = counts_of lines in
@@ -115,7 +136,12 @@ kept-texture r draft ts next all number lines n line values e positions faces ta
     said
 
 -- a line whose tag was kept
-pub kept-tag : (r : Result (Unit {0}) LineFault) (draft next : Draft) (all : face.Counts) (w : Counts) (number : ℕ) (lines : List Words) (n : ℕ) (line values : Words) → next.positions ≡ draft.positions → next.texture ≡ draft.texture → next.faces ≡ draft.faces → IsLineAt all number lines n line → w ≡ counts_of lines → is_vertex_line line ≡ false → is_texture_line line ≡ false → is_face_line line ≡ false → is_tag_line line ≡ true → drop 1 line ≡ values → IsDraftOf draft lines n → KeptUnless r (tag_fault w (codes "t" ∷ values)) (λ _. AddsTag (codes "t" ∷ values) draft.tags next.tags) → KeptUnless r (words_fault (counts_of (take n lines)) (counts_of lines) line) (λ _. IsDraftOf next lines (n + 1))
+pub kept-tag : (r : Result (Unit {0}) LineFault) (draft next : Draft) (all : face.Counts) (w : Counts) (number : ℕ) (lines : List Words) (n : ℕ) (line values : Words)
+    → next.positions ≡ draft.positions → next.texture ≡ draft.texture → next.faces ≡ draft.faces → IsLineAt all number lines n line
+    → w ≡ counts_of lines → is_vertex_line line ≡ false → is_texture_line line ≡ false → is_face_line line ≡ false
+    → is_tag_line line ≡ true → drop 1 line ≡ values → IsDraftOf draft lines n
+    → KeptUnless r (tag_fault w (codes "t" ∷ values)) (λ _. AddsTag (codes "t" ∷ values) draft.tags next.tags)
+    → KeptUnless r (words_fault (counts_of (take n lines)) (counts_of lines) line) (λ _. IsDraftOf next lines (n + 1))
 kept-tag r draft next all w number lines n line values positions texture faces at whole no-v no-vt no-f kind v is said =
     let split : line ≡ codes "t" ∷ values = keyword-first (codes "t") line kind ∙ ap (λ vs. codes "t" ∷ vs) v in
     let same : words_fault (counts_of (take n lines)) (counts_of lines) line ≡ tag_fault w (codes "t" ∷ values) =
@@ -134,7 +160,10 @@ kept-tag r draft next all w number lines n line values positions texture faces a
     said
 
 -- a line that is dropped unread
-pub kept-nothing : (draft : Draft) (all : face.Counts) (number : ℕ) (lines : List Words) (n : ℕ) (line : Words) → IsLineAt all number lines n line → is_vertex_line line ≡ false → is_texture_line line ≡ false → is_face_line line ≡ false → is_tag_line line ≡ false → IsDraftOf draft lines n → (words_fault (counts_of (take n lines)) (counts_of lines) line ≡ None) × IsDraftOf draft lines (n + 1)
+pub kept-nothing : (draft : Draft) (all : face.Counts) (number : ℕ) (lines : List Words) (n : ℕ) (line : Words)
+    → IsLineAt all number lines n line → is_vertex_line line ≡ false → is_texture_line line ≡ false → is_face_line line ≡ false
+    → is_tag_line line ≡ false → IsDraftOf draft lines n
+    → (words_fault (counts_of (take n lines)) (counts_of lines) line ≡ None) × IsDraftOf draft lines (n + 1)
 kept-nothing draft all number lines n line at no-v no-vt no-f no-t is = (
   no-words-fault (counts_of (take n lines)) (counts_of lines) line no-v no-vt no-f no-t,
   record {
@@ -145,7 +174,8 @@ kept-nothing draft all number lines n line at no-v no-vt no-f no-t is = (
   },
 )
 
-kept-count : (place : ℕ) (kind : Words → Bool) (forms : Words → Forms) (lines : List Words) → length (kept_from place kind forms lines) ≡ count_by kind lines
+kept-count : (place : ℕ) (kind : Words → Bool) (forms : Words → Forms) (lines : List Words)
+    → length (kept_from place kind forms lines) ≡ count_by kind lines
 kept-count place kind forms [] = refl
 kept-count place kind forms (line ∷ lines) =
     let rest : length (kept_from (place + 1) kind forms lines) ≡ count_by kind lines = kept-count (place + 1) kind forms lines in
@@ -155,7 +185,9 @@ kept-count place kind forms (line ∷ lines) =
     (λ no. let none : one_if (kind line) ≡ 0 = one-no (kind line) no in omega (arith, rest, sum, none))
 
 -- what was kept of the lines counts them
-pub counts-kept : (draft : Draft) (b : face.Counts) (lines : List Words) (n : ℕ) → b.point_count ≡ length draft.positions.items → b.texture_count ≡ length draft.texture.items → b.face_count + 1 ≡ length draft.faces.starts.items → IsDraftOf draft lines n → view.counts_of b ≡ counts_of (take n lines)
+pub counts-kept : (draft : Draft) (b : face.Counts) (lines : List Words) (n : ℕ) → b.point_count ≡ length draft.positions.items
+    → b.texture_count ≡ length draft.texture.items → b.face_count + 1 ≡ length draft.faces.starts.items → IsDraftOf draft lines n
+    → view.counts_of b ≡ counts_of (take n lines)
 counts-kept draft b lines n points textures faces is =
     let ps : b.point_count ≡ count_by is_vertex_line (take n lines) =
     points ∙ sym (length-map draft.positions.items (λ (p : Position). (p.line, position_forms p))) ∙ ap length is.positions.read ∙ kept-count 1 is_vertex_line position_line_forms (take n lines) in
@@ -167,14 +199,20 @@ counts-kept draft b lines n points textures faces is =
     let fs : b.face_count ≡ count_by is_face_line (take n lines) = omega (arith, faces, pieced, counted) in
     rw (ps, ts, fs) refl
 
-face-line-fault : (b w : Counts) (line values : Words) → is_vertex_line line ≡ false → is_texture_line line ≡ false → is_face_line line ≡ true → line ≡ codes "f" ∷ values → words_fault b w line ≡ corners_fault b w values
+face-line-fault : (b w : Counts) (line values : Words) → is_vertex_line line ≡ false → is_texture_line line ≡ false
+    → is_face_line line ≡ true → line ≡ codes "f" ∷ values → words_fault b w line ≡ corners_fault b w values
 face-line-fault b w line values a c kind split = rw (a, c, kind) (ap (λ l. fault.first_cause (corner_fault b w (get_or l 1 [])) (values_of l)) split)
 
 face-only : (line : Words) → is_face_line line ≡ true → is_tag_line line ≡ false
 face-only line kind = rw (keyword-first (codes "f") line kind) refl
 
 -- a line whose face was kept
-pub kept-face : (r : Result (Unit {0}) LineFault) (draft next : Draft) (all : face.Counts) (b w : Counts) (number : ℕ) (lines : List Words) (n : ℕ) (line values : Words) → next.positions ≡ draft.positions → next.texture ≡ draft.texture → next.tags ≡ draft.tags → IsLineAt all number lines n line → b ≡ counts_of (take n lines) → w ≡ counts_of lines → is_vertex_line line ≡ false → is_texture_line line ≡ false → is_face_line line ≡ true → drop 1 line ≡ values → IsDraftOf draft lines n → KeptUnless r (corners_fault b w values) (λ _. AddsFace b w values draft.faces next.faces) → KeptUnless r (words_fault (counts_of (take n lines)) (counts_of lines) line) (λ _. IsDraftOf next lines (n + 1))
+pub kept-face : (r : Result (Unit {0}) LineFault) (draft next : Draft) (all : face.Counts) (b w : Counts) (number : ℕ) (lines : List Words) (n : ℕ) (line values : Words)
+    → next.positions ≡ draft.positions → next.texture ≡ draft.texture → next.tags ≡ draft.tags → IsLineAt all number lines n line
+    → b ≡ counts_of (take n lines) → w ≡ counts_of lines → is_vertex_line line ≡ false → is_texture_line line ≡ false
+    → is_face_line line ≡ true → drop 1 line ≡ values → IsDraftOf draft lines n
+    → KeptUnless r (corners_fault b w values) (λ _. AddsFace b w values draft.faces next.faces)
+    → KeptUnless r (words_fault (counts_of (take n lines)) (counts_of lines) line) (λ _. IsDraftOf next lines (n + 1))
 kept-face r draft next all b w number lines n line values positions texture tags at eb ew no-v no-vt kind v is said =
     let bn = counts_of (take n lines) in
     let wn = counts_of lines in
@@ -209,23 +247,33 @@ ltb-of a b h = grind (arith, nat_tests)
 ltb-not : (a b : ℕ) → b ≤ a → nat_lt a b ≡ false
 ltb-not a b h = grind (arith, nat_tests)
 
-pub line-unknown : (b w : Counts) (word : List ℕ) (values : Words) → is_continued (word ∷ values) ≡ false → has_known_keyword (word ∷ values) ≡ false → line_fault b w (word ∷ values) ≡ Some fault.UnknownKeyword
+pub line-unknown : (b w : Counts) (word : List ℕ) (values : Words) → is_continued (word ∷ values) ≡ false
+    → has_known_keyword (word ∷ values) ≡ false → line_fault b w (word ∷ values) ≡ Some fault.UnknownKeyword
 line-unknown b w word values last unknown = rw (last, unknown) refl
 
-pub line-short : (b w : Counts) (word : List ℕ) (values : Words) → is_continued (word ∷ values) ≡ false → has_known_keyword (word ∷ values) ≡ true → length values < least_values (word ∷ values) → line_fault b w (word ∷ values) ≡ Some fault.ShortLine
+pub line-short : (b w : Counts) (word : List ℕ) (values : Words) → is_continued (word ∷ values) ≡ false
+    → has_known_keyword (word ∷ values) ≡ true → length values < least_values (word ∷ values)
+    → line_fault b w (word ∷ values) ≡ Some fault.ShortLine
 line-short b w word values last known short = rw (last, known, ltb-of (length values) (least_values (word ∷ values)) short) refl
 
-pub line-read : (b w : Counts) (word : List ℕ) (values : Words) → is_continued (word ∷ values) ≡ false → has_known_keyword (word ∷ values) ≡ true → least_values (word ∷ values) ≤ length values → line_fault b w (word ∷ values) ≡ words_fault b w (word ∷ values)
+pub line-read : (b w : Counts) (word : List ℕ) (values : Words) → is_continued (word ∷ values) ≡ false
+    → has_known_keyword (word ∷ values) ≡ true → least_values (word ∷ values) ≤ length values
+    → line_fault b w (word ∷ values) ≡ words_fault b w (word ∷ values)
 line-read b w word values last known enough = rw (last, known, ltb-not (length values) (least_values (word ∷ values)) enough) refl
 
 -- a line without words
-pub empty-kept : (draft : Draft) (all : face.Counts) (number : ℕ) (lines : List Words) (n : ℕ) (line : Words) → line ≡ [] → IsLineAt all number lines n line → IsDraftOf draft lines n → (fault_at lines n ≡ None) × IsDraftOf draft lines (n + 1)
+pub empty-kept : (draft : Draft) (all : face.Counts) (number : ℕ) (lines : List Words) (n : ℕ) (line : Words) → line ≡ []
+    → IsLineAt all number lines n line → IsDraftOf draft lines n → (fault_at lines n ≡ None) × IsDraftOf draft lines (n + 1)
 empty-kept draft all number lines n line e at is =
     let kept = kept-nothing draft all number lines n line at (ap is_vertex_line e) (ap is_texture_line e) (ap is_face_line e) (ap is_tag_line e) is in
     (ap (line_fault (counts_of (take n lines)) (counts_of lines)) (at.here ∙ e), kept.1)
 
 -- a line whose words were read
-pub read-kept : (r : Result (Unit {0}) LineFault) (next : Draft) (all : face.Counts) (number : ℕ) (lines : List Words) (n : ℕ) (line : Words) (word : List ℕ) (values : Words) → line ≡ word ∷ values → IsLineAt all number lines n line → is_continued (word ∷ values) ≡ false → has_known_keyword (word ∷ values) ≡ true → least_values (word ∷ values) ≤ length values → KeptUnless r (words_fault (counts_of (take n lines)) (counts_of lines) line) (λ _. IsDraftOf next lines (n + 1)) → KeptUnless r (fault_at lines n) (λ _. IsDraftOf next lines (n + 1))
+pub read-kept : (r : Result (Unit {0}) LineFault) (next : Draft) (all : face.Counts) (number : ℕ) (lines : List Words) (n : ℕ) (line : Words) (word : List ℕ) (values : Words)
+    → line ≡ word ∷ values → IsLineAt all number lines n line → is_continued (word ∷ values) ≡ false
+    → has_known_keyword (word ∷ values) ≡ true → least_values (word ∷ values) ≤ length values
+    → KeptUnless r (words_fault (counts_of (take n lines)) (counts_of lines) line) (λ _. IsDraftOf next lines (n + 1))
+    → KeptUnless r (fault_at lines n) (λ _. IsDraftOf next lines (n + 1))
 read-kept r next all number lines n line word values e at last known enough said =
     let bn = counts_of (take n lines) in
     let wn = counts_of lines in
@@ -241,7 +289,8 @@ some-starts [] end ascend = absurd ascend
 some-starts (a ∷ starts) end ascend = omega arith
 
 -- what was kept of the first lines is no more than what all lines have
-pub kept-room : (draft : Draft) (all : face.Counts) (lines : List Words) (n more : ℕ) → view.counts_of all ≡ counts_of lines → all.face_count < 2 ^ 32 → IsDraftOf draft lines n → length draft.faces.corners.items + more < 2 ^ 32 → HasRoom draft all more
+pub kept-room : (draft : Draft) (all : face.Counts) (lines : List Words) (n more : ℕ) → view.counts_of all ≡ counts_of lines
+    → all.face_count < 2 ^ 32 → IsDraftOf draft lines n → length draft.faces.corners.items + more < 2 ^ 32 → HasRoom draft all more
 kept-room draft all lines n more counted few is corners =
     let starts = draft.faces.starts.items in
     let some = some-starts starts (length draft.faces.corners.items) is.faces.ascend in

@@ -1,12 +1,11 @@
 -- A mesh that is kept in whole lists has its numbers within the lists that they count.
-use Rattle.std.proofs.Common.{◌≡◌, ℕ, ◌+◌, ◌-◌, ◌^◌, ◌<◌, ◌≤◌, Bool, true, false, if◌then◌else◌, List, [], ◌∷◌, length, map, arith, slice_range, drop}
+use Rattle.std.proofs.Common.{◌≡◌, ℕ, ◌+◌, ◌-◌, ◌<◌, ◌≤◌, Bool, true, false, if◌then◌else◌, List, [], ◌∷◌, length, map, arith, slice_range, drop}
 use Rattle.std.specs.List.{All, sum_by}
 use Rattle.std.proofs.lemmas.List.{length-map}
 use Rattle.std.proofs.lemmas.List.Elements.{All-nil, All-cons, All-map, All-weaker, All-take, All-drop}
 use Rattle.obj_tags.specs.Mesh.{pieces, Ascend, IsWhole, mesh_of}
 use Rattle.obj_tags.specs.Laws.{IsWithin}
-use Rattle.obj_tags.specs.View.{point_of, texture_of, crease_of, corner_tag_of, boundary_of}
-use Rattle.sharpness_rules.specs.View.{method_of}
+use Rattle.obj_tags.specs.View.{point_of, texture_of, crease_of, corner_tag_of}
 use Rattle.ratio128.specs.declared.point.Point3.{Point3}
 use Rattle.ratio128.specs.declared.point.Point2.{Point2}
 use Rattle.obj_tags.specs.declared.mesh.Faces.{Faces}
@@ -28,12 +27,15 @@ pieces-short : (starts xs : List ℕ) → Ascend starts (length xs) → sum_by l
 pieces-short [] xs h = absurd h
 pieces-short (s ∷ starts) xs h = omega (arith, sum_by-pieces s starts xs h)
 
-texture-all : (has : Bool) (P : ℕ → Type 0) (starts xs : List ℕ) → All P xs → All (λ piece. All P piece) (if has then pieces starts xs else [])
+texture-all : (has : Bool) (P : ℕ → Type 0) (starts xs : List ℕ) → All P xs
+    → All (λ piece. All P piece) (if has then pieces starts xs else [])
 texture-all true P starts xs h = pieces-all P starts xs h
 texture-all false P starts xs h = All-nil (λ piece. All P piece)
 
 -- the laws of a mesh, from what is kept
-pub within : (points : List Point3) (scale : ℕ) (texture : List Point2) (texture_scale : ℕ) (faces : Faces) (has_texture : Bool) (tags : Tags) → IsWhole (length points) (length texture) has_texture faces tags → IsWithin (mesh_of points scale texture texture_scale faces has_texture tags)
+pub within : (points : List Point3) (scale : ℕ) (texture : List Point2) (texture_scale : ℕ) (faces : Faces) (has_texture : Bool) (tags : Tags)
+    → IsWhole (length points) (length texture) has_texture faces tags
+    → IsWithin (mesh_of points scale texture texture_scale faces has_texture tags)
 within points scale texture texture_scale faces has_texture tags whole =
     let as_points : length (map point_of points) ≡ length points = length-map points point_of in
     let as_values : length (map texture_of texture) ≡ length texture = length-map texture texture_of in

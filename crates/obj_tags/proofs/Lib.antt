@@ -10,7 +10,6 @@ pub mod LineLemmas
 pub mod PiecesLemmas
 pub mod TagLemmas
 pub mod TagKindLemmas
-pub mod TagRangeLemmas
 pub mod DraftLemmas
 pub mod KeepLemmas
 pub mod ReadLemmas

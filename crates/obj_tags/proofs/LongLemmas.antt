@@ -40,28 +40,37 @@ same-long scale (w ∷ words) = ap (λ t. is_long_form scale (normal_form w) || 
 zero-short : (scale : ℕ) → is_long_form scale (pos 0, 0) ≡ false
 zero-short scale = let zero-times = zero-*ℤ (pos (10 ^ (scale - 0))) in ap (λ z. nat_le (10 ^ 37) (unsigned_abs z)) zero-times
 
-second-long : (scale : ℕ) (words : Words) → list_any (is_long_form scale) (with_second (map normal_form words)) ≡ list_any (is_long_at scale) words
+second-long : (scale : ℕ) (words : Words)
+    → list_any (is_long_form scale) (with_second (map normal_form words)) ≡ list_any (is_long_at scale) words
 second-long scale [] = refl
 second-long scale (u ∷ []) = ap (λ t. is_long_form scale (normal_form u) || (t || false)) (zero-short scale)
 second-long scale (u ∷ (v ∷ rest)) = same-long scale (u ∷ v ∷ rest)
 
 -- the fault of a line, counted from 1
-from-bad : (cause_at : ℕ → Option ObjCause) (start count : ℕ) → cause_at start ≡ Some NumberRange → Some (long_fault_at (start + 1)) ≡ first_from cause_at start (suc count)
+from-bad : (cause_at : ℕ → Option ObjCause) (start count : ℕ) → cause_at start ≡ Some NumberRange
+    → Some (long_fault_at (start + 1)) ≡ first_from cause_at start (suc count)
 from-bad cause_at start count e = let next : start + 1 ≡ suc start = omega arith in rw e (ap (λ n. Some (long_fault_at n)) next)
 
-from-good : (cause_at : ℕ → Option ObjCause) (start count : ℕ) (given : Option ObjFault) → cause_at start ≡ None → given ≡ first_from cause_at (start + 1) count → given ≡ first_from cause_at start (suc count)
+from-good : (cause_at : ℕ → Option ObjCause) (start count : ℕ) (given : Option ObjFault) → cause_at start ≡ None
+    → given ≡ first_from cause_at (start + 1) count → given ≡ first_from cause_at start (suc count)
 from-good cause_at start count given e rest = rw e rest
 
-long-yes : (kind : Words → Bool) (scale : ℕ) (words : Words) → kind words ≡ true → list_any (is_long_at scale) (kept_coordinates words) ≡ true → long_of_kind kind scale words ≡ Some NumberRange
+long-yes : (kind : Words → Bool) (scale : ℕ) (words : Words) → kind words ≡ true
+    → list_any (is_long_at scale) (kept_coordinates words) ≡ true → long_of_kind kind scale words ≡ Some NumberRange
 long-yes kind scale words e long = rw (e, long) refl
 
-long-short : (kind : Words → Bool) (scale : ℕ) (words : Words) → kind words ≡ true → list_any (is_long_at scale) (kept_coordinates words) ≡ false → long_of_kind kind scale words ≡ None
+long-short : (kind : Words → Bool) (scale : ℕ) (words : Words) → kind words ≡ true
+    → list_any (is_long_at scale) (kept_coordinates words) ≡ false → long_of_kind kind scale words ≡ None
 long-short kind scale words e short = rw (e, short) refl
 
 long-other : (kind : Words → Bool) (scale : ℕ) (words : Words) → kind words ≡ false → long_of_kind kind scale words ≡ None
 long-other kind scale words e = rw e refl
 
-long-from : (kind : Words → Bool) (forms : Words → Forms) (scale : ℕ) → ((words : Words) → list_any (is_long_form scale) (forms words) ≡ list_any (is_long_at scale) (kept_coordinates words)) → (cause_at : ℕ → Option ObjCause) (start : ℕ) (lines : List Words) → ((i : ℕ) → i < length lines → cause_at (start + i) ≡ long_of_kind kind scale (get_or lines i [])) → option_map long_fault_at (first_long_kept scale (kept_from (start + 1) kind forms lines)) ≡ first_from cause_at start (length lines)
+long-from : (kind : Words → Bool) (forms : Words → Forms) (scale : ℕ)
+    → ((words : Words) → list_any (is_long_form scale) (forms words) ≡ list_any (is_long_at scale) (kept_coordinates words))
+    → (cause_at : ℕ → Option ObjCause) (start : ℕ) (lines : List Words)
+    → ((i : ℕ) → i < length lines → cause_at (start + i) ≡ long_of_kind kind scale (get_or lines i []))
+    → option_map long_fault_at (first_long_kept scale (kept_from (start + 1) kind forms lines)) ≡ first_from cause_at start (length lines)
 long-from kind forms scale agree cause_at start [] each = refl
 long-from kind forms scale agree cause_at start (words ∷ lines) each =
     let none : start ≡ start + 0 = omega arith in
@@ -78,7 +87,10 @@ long-from kind forms scale agree cause_at start (words ∷ lines) each =
     (λ (e : kind words ≡ false). rw e (from-good cause_at start (length lines) _ (here ∙ long-other kind scale words e) rest))
     (cases_Bool (kind words))
 
-long-lines : (kind : Words → Bool) (forms : Words → Forms) (scale : ℕ) → ((words : Words) → list_any (is_long_form scale) (forms words) ≡ list_any (is_long_at scale) (kept_coordinates words)) → (lines : List Words) → option_map long_fault_at (first_long_kept scale (kept_from 1 kind forms lines)) ≡ first_long_of_kind kind scale lines
+long-lines : (kind : Words → Bool) (forms : Words → Forms) (scale : ℕ)
+    → ((words : Words) → list_any (is_long_form scale) (forms words) ≡ list_any (is_long_at scale) (kept_coordinates words))
+    → (lines : List Words)
+    → option_map long_fault_at (first_long_kept scale (kept_from 1 kind forms lines)) ≡ first_long_of_kind kind scale lines
 long-lines kind forms scale agree lines =
     long-from kind forms scale agree (λ i. long_of_kind kind scale (get_or lines i [])) 0 lines (λ i h. let same : 0 + i ≡ i = omega arith in ap (λ n. long_of_kind kind scale (get_or lines n [])) same)
 
@@ -89,21 +101,26 @@ long_position scale ps = first_long_kept scale (map (λ p. (p.line, position_for
 abbrev pub long_texture : ℕ → List TextureValue → Option ℕ
 long_texture scale ts = first_long_kept scale (map (λ t. (t.line, texture_forms t)) ts)
 
-pub long-positions : (scale : ℕ) (ps : List Position) (lines : List Words) → ArePositions ps lines → option_map long_fault_at (long_position scale ps) ≡ first_long_of_kind is_vertex_line scale lines
+pub long-positions : (scale : ℕ) (ps : List Position) (lines : List Words) → ArePositions ps lines
+    → option_map long_fault_at (long_position scale ps) ≡ first_long_of_kind is_vertex_line scale lines
 long-positions scale ps lines are =
     ap (λ kept. option_map long_fault_at (first_long_kept scale kept)) are.read
     ∙ long-lines is_vertex_line position_line_forms scale (λ words. same-long scale (kept_coordinates words)) lines
 
-pub long-textures : (scale : ℕ) (ts : List TextureValue) (lines : List Words) → AreTextureValues ts lines → option_map long_fault_at (long_texture scale ts) ≡ first_long_of_kind is_texture_line scale lines
+pub long-textures : (scale : ℕ) (ts : List TextureValue) (lines : List Words) → AreTextureValues ts lines
+    → option_map long_fault_at (long_texture scale ts) ≡ first_long_of_kind is_texture_line scale lines
 long-textures scale ts lines are =
     ap (λ kept. option_map long_fault_at (first_long_kept scale kept)) are.read
     ∙ long-lines is_texture_line texture_line_forms scale (λ words. second-long scale (kept_coordinates words)) lines
 
 -- one more position, which is long or not
-pub position-long : (scale i : ℕ) (ps : List Position) (d : Position) → i < length ps → list_any (is_long_form scale) (position_forms (get_or ps i d)) ≡ true → long_position scale (drop i ps) ≡ Some (get_or ps i d).line
+pub position-long : (scale i : ℕ) (ps : List Position) (d : Position) → i < length ps
+    → list_any (is_long_form scale) (position_forms (get_or ps i d)) ≡ true
+    → long_position scale (drop i ps) ≡ Some (get_or ps i d).line
 position-long scale i ps d h long = rw (drop-cons ps i d h, long) refl
 
-pub texture-long : (scale i : ℕ) (ts : List TextureValue) (d : TextureValue) → i < length ts → list_any (is_long_form scale) (texture_forms (get_or ts i d)) ≡ true → long_texture scale (drop i ts) ≡ Some (get_or ts i d).line
+pub texture-long : (scale i : ℕ) (ts : List TextureValue) (d : TextureValue) → i < length ts
+    → list_any (is_long_form scale) (texture_forms (get_or ts i d)) ≡ true → long_texture scale (drop i ts) ≡ Some (get_or ts i d).line
 texture-long scale i ts d h long = rw (drop-cons ts i d h, long) refl
 
 -- what is not long is short
@@ -139,7 +156,8 @@ same-line : (f g : ObjFault) → Some f ≡ Some g → f.line ≡ g.line
 same-line f g e = let same : f ≡ g = cc in ap (λ (x : ObjFault). x.line) same
 
 -- the first fault is at none of the lines before
-from-later : (cause_at : ℕ → Option ObjCause) (start count line : ℕ) → Some (long_fault_at line) ≡ first_from cause_at start count → suc start ≤ line
+from-later : (cause_at : ℕ → Option ObjCause) (start count line : ℕ) → Some (long_fault_at line) ≡ first_from cause_at start count
+    → suc start ≤ line
 from-later cause_at start zero line e = cc
 from-later cause_at start (suc count) line e =
     ⊎_elim
@@ -150,7 +168,8 @@ from-later cause_at start (suc count) line e =
     omega arith)
     (option-cases (cause_at start))
 
-least-first : (a b : Option ℕ) (n : ℕ) (cause : ObjCause) → option_map long_fault_at a ≡ Some (record { line = n; cause = cause }) → ((m : ℕ) → b ≡ Some m → n ≤ m) → option_map long_fault_at (lesser_line a b) ≡ Some (record { line = n; cause = cause })
+least-first : (a b : Option ℕ) (n : ℕ) (cause : ObjCause) → option_map long_fault_at a ≡ Some (record { line = n; cause = cause })
+    → ((m : ℕ) → b ≡ Some m → n ≤ m) → option_map long_fault_at (lesser_line a b) ≡ Some (record { line = n; cause = cause })
 least-first None b n cause e later = cc
 least-first (Some k) None n cause e later = e
 least-first (Some k) (Some m) n cause e later =
@@ -159,7 +178,8 @@ least-first (Some k) (Some m) n cause e later =
     let less : min k m ≡ k = omega arith in
     ap (λ l. Some (long_fault_at l)) less ∙ e
 
-least-second : (a b : Option ℕ) (n : ℕ) (cause : ObjCause) → option_map long_fault_at b ≡ Some (record { line = n; cause = cause }) → ((m : ℕ) → a ≡ Some m → n ≤ m) → option_map long_fault_at (lesser_line a b) ≡ Some (record { line = n; cause = cause })
+least-second : (a b : Option ℕ) (n : ℕ) (cause : ObjCause) → option_map long_fault_at b ≡ Some (record { line = n; cause = cause })
+    → ((m : ℕ) → a ≡ Some m → n ≤ m) → option_map long_fault_at (lesser_line a b) ≡ Some (record { line = n; cause = cause })
 least-second None b n cause e later = e
 least-second (Some k) None n cause e later = cc
 least-second (Some k) (Some m) n cause e later =
@@ -169,7 +189,9 @@ least-second (Some k) (Some m) n cause e later =
     ap (λ l. Some (long_fault_at l)) less ∙ e
 
 -- the first fault of two kinds of lines
-least-from : (f g h : ℕ → Option ObjCause) → ((i : ℕ) → h i ≡ option_or (f i) (g i)) → (a b : Option ℕ) (start count : ℕ) → option_map long_fault_at a ≡ first_from f start count → option_map long_fault_at b ≡ first_from g start count → option_map long_fault_at (lesser_line a b) ≡ first_from h start count
+least-from : (f g h : ℕ → Option ObjCause) → ((i : ℕ) → h i ≡ option_or (f i) (g i)) → (a b : Option ℕ) (start count : ℕ)
+    → option_map long_fault_at a ≡ first_from f start count → option_map long_fault_at b ≡ first_from g start count
+    → option_map long_fault_at (lesser_line a b) ≡ first_from h start count
 least-from f g h each None None start zero ea eb = refl
 least-from f g h each None (Some m) start zero ea eb = cc
 least-from f g h each (Some k) b start zero ea eb = cc
@@ -199,16 +221,20 @@ or-none (Some cause) = refl
 abbrev fault_at_scales : ℕ → ℕ → Words → Option ObjCause
 fault_at_scales ps ts words = if list_any (is_long_at (if is_vertex_line words then ps else ts)) (kept_coordinates words) then Some NumberRange else None
 
-by-vertex : (ps ts : ℕ) (words : Words) → is_vertex_line words ≡ true → is_texture_line words ≡ false → fault_at_scales ps ts words ≡ option_or (long_of_kind is_vertex_line ps words) (long_of_kind is_texture_line ts words)
+by-vertex : (ps ts : ℕ) (words : Words) → is_vertex_line words ≡ true → is_texture_line words ≡ false
+    → fault_at_scales ps ts words ≡ option_or (long_of_kind is_vertex_line ps words) (long_of_kind is_texture_line ts words)
 by-vertex ps ts words vertex other = rw (vertex, other) (or-none _)
 
-by-texture : (ps ts : ℕ) (words : Words) → is_vertex_line words ≡ false → is_texture_line words ≡ true → fault_at_scales ps ts words ≡ option_or (long_of_kind is_vertex_line ps words) (long_of_kind is_texture_line ts words)
+by-texture : (ps ts : ℕ) (words : Words) → is_vertex_line words ≡ false → is_texture_line words ≡ true
+    → fault_at_scales ps ts words ≡ option_or (long_of_kind is_vertex_line ps words) (long_of_kind is_texture_line ts words)
 by-texture ps ts words other texture = rw (other, texture) refl
 
-by-none : (ps ts : ℕ) (words : Words) → is_vertex_line words ≡ false → is_texture_line words ≡ false → fault_at_scales ps ts words ≡ option_or (long_of_kind is_vertex_line ps words) (long_of_kind is_texture_line ts words)
+by-none : (ps ts : ℕ) (words : Words) → is_vertex_line words ≡ false → is_texture_line words ≡ false
+    → fault_at_scales ps ts words ≡ option_or (long_of_kind is_vertex_line ps words) (long_of_kind is_texture_line ts words)
 by-none ps ts words other none = rw (other, none) refl
 
-either-kind : (least : ℕ) (lines : List Words) (words : Words) → long_fault least lines words ≡ option_or (long_of_kind is_vertex_line (position_scale least lines) words) (long_of_kind is_texture_line (texture_scale_of lines) words)
+either-kind : (least : ℕ) (lines : List Words) (words : Words)
+    → long_fault least lines words ≡ option_or (long_of_kind is_vertex_line (position_scale least lines) words) (long_of_kind is_texture_line (texture_scale_of lines) words)
 either-kind least lines words =
     ⊎_elim
     (λ (vertex : is_vertex_line words ≡ true).
@@ -222,7 +248,10 @@ either-kind least lines words =
     (cases_Bool (is_vertex_line words))
 
 -- the long line of positions or of texture values that comes first is the first long line
-pub first-long : (least : ℕ) (lines : List Words) (a b : Option ℕ) → option_map long_fault_at a ≡ first_long_of_kind is_vertex_line (position_scale least lines) lines → option_map long_fault_at b ≡ first_long_of_kind is_texture_line (texture_scale_of lines) lines → option_map long_fault_at (lesser_line a b) ≡ first_long_line least lines
+pub first-long : (least : ℕ) (lines : List Words) (a b : Option ℕ)
+    → option_map long_fault_at a ≡ first_long_of_kind is_vertex_line (position_scale least lines) lines
+    → option_map long_fault_at b ≡ first_long_of_kind is_texture_line (texture_scale_of lines) lines
+    → option_map long_fault_at (lesser_line a b) ≡ first_long_line least lines
 first-long least lines a b ea eb =
     least-from (λ i. long_of_kind is_vertex_line (position_scale least lines) (get_or lines i [])) (λ i. long_of_kind is_texture_line (texture_scale_of lines) (get_or lines i [])) (λ i. long_fault least lines (get_or lines i [])) (λ i. either-kind least lines (get_or lines i [])) a b 0 (length lines) ea eb
 

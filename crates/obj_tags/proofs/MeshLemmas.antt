@@ -1,5 +1,5 @@
 -- The mesh of a draft of all lines is that of the lines.
-use Rattle.std.proofs.Common.{◌≡◌, ℕ, ◌+◌, ◌^◌, ℤ, Bool, true, false, ◌&&◌, nat_eq, nat_lt, List, [], ◌∷◌, ◌++◌, length, map, take, get_or, arith, refl, ap, sym, subst, ◌∙◌, Option, option_map, ⊎_elim, if◌then◌else◌}
+use Rattle.std.proofs.Common.{◌≡◌, ℕ, ◌+◌, Bool, true, false, nat_lt, List, [], ◌∷◌, ◌++◌, length, map, take, get_or, arith, refl, ap, sym, subst, ◌∙◌, Option, option_map, ⊎_elim, if◌then◌else◌}
 use Rattle.std.specs.Prelude.{unwrap_or}
 use Rattle.std.specs.List.{list_all, list_any, count_by, filter, flat_map}
 use Rattle.std.proofs.Math.Seq.{take-length}
@@ -46,7 +46,8 @@ points-count lines (i ∷ is) =
     omega (arith, length-append (named i) (flat_map named is), length-append values (words-at lines is), here, points-count lines is)
 
 -- and where it has a texture value it has one
-textures-count : (lines : List Words) (is : List ℕ) → length (flat_map (textures_at lines) is) ≡ count_by has_texture_part (words-at lines is)
+textures-count : (lines : List Words) (is : List ℕ)
+    → length (flat_map (textures_at lines) is) ≡ count_by has_texture_part (words-at lines is)
 textures-count lines [] = refl
 textures-count lines (i ∷ is) =
     let values = values_of (get_or lines i []) in
@@ -67,20 +68,24 @@ has-texture draft lines all =
     rw (some, textures, corners) (sym (channel-counted lines))
 
 -- then these are all that were kept
-all-textured : (lines : List Words) (is : List ℕ) → list_all (λ i. list_all has_texture_part (values_of (get_or lines i []))) is ≡ true → flat_map (textures_at lines) is ≡ flat_map (corner_numbers corner_texture lines) is
+all-textured : (lines : List Words) (is : List ℕ) → list_all (λ i. list_all has_texture_part (values_of (get_or lines i []))) is ≡ true
+    → flat_map (textures_at lines) is ≡ flat_map (corner_numbers corner_texture lines) is
 all-textured lines [] h = refl
 all-textured lines (i ∷ is) h =
     let parts : (list_all has_texture_part (values_of (get_or lines i [])) ≡ true) × (list_all (λ j. list_all has_texture_part (values_of (get_or lines j []))) is ≡ true) = and_parts _ _ h in
     let here : textures_at lines i ≡ corner_numbers corner_texture lines i = passing-all has_texture_part (λ word. unwrap_or (corner_texture (counts_of (take i lines)) (counts_of lines) word) 0) (values_of (get_or lines i [])) parts.0 in
     ap (λ xs. xs ++ flat_map (textures_at lines) is) here ∙ ap (λ xs. corner_numbers corner_texture lines i ++ xs) (all-textured lines is parts.1)
 
-textured-faces : (lines : List Words) → has_texture_channel lines ≡ true → flat_map (textures_at lines) (face-places lines) ≡ flat_map (corner_numbers corner_texture lines) (face-places lines)
+textured-faces : (lines : List Words) → has_texture_channel lines ≡ true
+    → flat_map (textures_at lines) (face-places lines) ≡ flat_map (corner_numbers corner_texture lines) (face-places lines)
 textured-faces lines has =
     let parts : (list_any is_face_line lines ≡ true) × (list_all (λ words. list_all has_texture_part (values_of words)) (filter is_face_line lines) ≡ true) = and_parts _ _ has in
     all-textured lines (face-places lines)
     (sym (list_all-map (λ words. list_all has_texture_part (values_of words)) (λ i. get_or lines i []) (face-places lines)) ∙ ap (list_all (λ words. list_all has_texture_part (values_of words))) (filter-places is_face_line [] lines) ∙ parts.1)
 
-texture-corners : (draft : Draft) (lines : List Words) → Ascend draft.faces.starts.items (length draft.faces.corners.items) → OfAll draft lines → (if has_texture_channel lines then pieces draft.faces.starts.items draft.faces.texture_corners.items else []) ≡ texture_corners_of lines
+texture-corners : (draft : Draft) (lines : List Words) → Ascend draft.faces.starts.items (length draft.faces.corners.items)
+    → OfAll draft lines
+    → (if has_texture_channel lines then pieces draft.faces.starts.items draft.faces.texture_corners.items else []) ≡ texture_corners_of lines
 texture-corners draft lines ascend all =
     let named = corner_numbers corner_texture lines in
     let alike : (i : ℕ) → length (corner_numbers corner_texture lines i) ≡ length (corner_numbers corner_point lines i) = λ i.
@@ -96,21 +101,30 @@ texture-corners draft lines ascend all =
     (cases_Bool (has_texture_channel lines))
 
 -- what was kept of all lines
-pub all-positions : (draft : Draft) (lines : List Words) (ps : List Position) → ps ≡ draft.positions.items → IsDraftOf draft lines (length lines) → ArePositions ps lines
+pub all-positions : (draft : Draft) (lines : List Words) (ps : List Position) → ps ≡ draft.positions.items
+    → IsDraftOf draft lines (length lines) → ArePositions ps lines
 all-positions draft lines ps e is = rw e (subst (ArePositions draft.positions.items) (take-length lines) is.positions)
 
-pub all-values : (draft : Draft) (lines : List Words) (ts : List TextureValue) → ts ≡ draft.texture.items → IsDraftOf draft lines (length lines) → AreTextureValues ts lines
+pub all-values : (draft : Draft) (lines : List Words) (ts : List TextureValue) → ts ≡ draft.texture.items
+    → IsDraftOf draft lines (length lines) → AreTextureValues ts lines
 all-values draft lines ts e is = rw e (subst (AreTextureValues draft.texture.items) (take-length lines) is.texture)
 
 -- what was kept, at its scales, is the mesh of the lines
-pub mesh-draft : (draft : Draft) (lines : List Words) (least scale texture_scale : ℕ) (has : Bool) (points : List Point3) (values : List Point2) → IsDraftOf draft lines (length lines) → scale ≡ position_scale least lines → texture_scale ≡ texture_scale_of lines → has ≡ names_all_texture draft.faces → map point_of points ≡ map (point_at scale) (filter is_vertex_line lines) → map texture_of values ≡ map (texture_at texture_scale) (filter is_texture_line lines) → mesh_of points scale values texture_scale draft.faces has draft.tags ≡ mesh_of_lines lines least
+pub mesh-draft : (draft : Draft) (lines : List Words) (least scale texture_scale : ℕ) (has : Bool) (points : List Point3) (values : List Point2)
+    → IsDraftOf draft lines (length lines) → scale ≡ position_scale least lines → texture_scale ≡ texture_scale_of lines
+    → has ≡ names_all_texture draft.faces → map point_of points ≡ map (point_at scale) (filter is_vertex_line lines)
+    → map texture_of values ≡ map (texture_at texture_scale) (filter is_texture_line lines)
+    → mesh_of points scale values texture_scale draft.faces has draft.tags ≡ mesh_of_lines lines least
 mesh-draft draft lines least scale texture_scale has points values is e_scale e_texture_scale e_has e_points e_values =
     let all = of-all draft lines is in
     let same : has ≡ has_texture_channel lines = e_has ∙ has-texture draft lines all in
     rw (e_points, e_values, e_scale, e_texture_scale, all.read, all.tags.creases, all.tags.corners, all.tags.holes, all.tags.boundary, all.tags.method, same, texture-corners draft lines is.faces.ascend all) refl
 
 -- the first line that is too long at these scales
-pub long-draft : (lines : List Words) (least scale texture_scale : ℕ) (a b : Option ℕ) → scale ≡ position_scale least lines → texture_scale ≡ texture_scale_of lines → option_map long_fault_at a ≡ first_long_of_kind is_vertex_line scale lines → option_map long_fault_at b ≡ first_long_of_kind is_texture_line texture_scale lines → option_map long_fault_at (lesser_line a b) ≡ first_long_line least lines
+pub long-draft : (lines : List Words) (least scale texture_scale : ℕ) (a b : Option ℕ) → scale ≡ position_scale least lines
+    → texture_scale ≡ texture_scale_of lines → option_map long_fault_at a ≡ first_long_of_kind is_vertex_line scale lines
+    → option_map long_fault_at b ≡ first_long_of_kind is_texture_line texture_scale lines
+    → option_map long_fault_at (lesser_line a b) ≡ first_long_line least lines
 long-draft lines least scale texture_scale a b e_scale e_texture_scale e_a e_b =
     first-long least lines a b
     (e_a ∙ ap (λ n. first_long_of_kind is_vertex_line n lines) e_scale)

@@ -41,7 +41,8 @@ infinite (suc a) d h =
     rw yes refl
 
 -- a sharpness of 10 or more
-pub sharp-infinite : (word : List ℕ) (m : ℤ) (d : ℕ) → numeral_fault word ≡ None → (m, d) ≡ normal_form word → lt_z m (pos 0) ≡ false → 10 ^ (d + 1) ≤ unsigned_abs m → (tag_numeral_fault word ≡ None) × (Infinite ≡ sharpness_of_fraction (amount_fraction word))
+pub sharp-infinite : (word : List ℕ) (m : ℤ) (d : ℕ) → numeral_fault word ≡ None → (m, d) ≡ normal_form word → lt_z m (pos 0) ≡ false
+    → 10 ^ (d + 1) ≤ unsigned_abs m → (tag_numeral_fault word ≡ None) × (Infinite ≡ sharpness_of_fraction (amount_fraction word))
 sharp-infinite word m d kept form sign far =
     let em : m ≡ signed (has_minus word) (normal_amount word).0 = ap (λ (p : ℤ × ℕ). p.0) form in
     let ed : d ≡ (normal_amount word).1 = ap (λ (p : ℤ × ℕ). p.1) form in

@@ -14,7 +14,8 @@ length-pieces [] xs = refl
 length-pieces (a ∷ []) xs = refl
 length-pieces (a ∷ (b ∷ places)) xs = omega (arith, length-pieces (b ∷ places) xs)
 
-pub piece_at : (starts xs : List ℕ) (f : ℕ) → suc f < length starts → slice_get (pieces starts xs) f ≡ Some (slice_range xs (get_or starts f 0) (get_or starts (suc f) 0))
+pub piece_at : (starts xs : List ℕ) (f : ℕ) → suc f < length starts
+    → slice_get (pieces starts xs) f ≡ Some (slice_range xs (get_or starts f 0) (get_or starts (suc f) 0))
 piece_at [] xs f h = absurd (omega arith)
 piece_at (a ∷ []) xs f h = absurd (omega arith)
 piece_at (a ∷ (b ∷ places)) xs zero h = refl
@@ -24,7 +25,8 @@ head_below : (y : ℕ) (places : List ℕ) (end : ℕ) → Ascend (y ∷ places)
 head_below y [] end a = omega (arith, a)
 head_below y (z ∷ places) end a = omega (arith, a.0, head_below z places end a.1)
 
-pub ascend_at : (starts : List ℕ) (end f : ℕ) → Ascend starts end → suc f < length starts → (get_or starts f 0 ≤ get_or starts (suc f) 0) × (get_or starts (suc f) 0 ≤ end)
+pub ascend_at : (starts : List ℕ) (end f : ℕ) → Ascend starts end → suc f < length starts
+    → (get_or starts f 0 ≤ get_or starts (suc f) 0) × (get_or starts (suc f) 0 ≤ end)
 ascend_at [] end f a h = absurd (omega arith)
 ascend_at (x ∷ []) end f a h = absurd (omega arith)
 ascend_at (x ∷ (y ∷ places)) end zero a h = (a.0, head_below y places end a.1)
@@ -42,7 +44,8 @@ range-append xs ys a b h = grind (arith, common_steps)
 range-rest : (xs ys : List ℕ) → slice_range (xs ++ ys) (length xs) (length xs + length ys) ≡ ys
 range-rest xs ys = grind (arith, common_steps)
 
-pub pieces-push : (starts xs ys : List ℕ) → Ascend starts (length xs) → pieces (starts ++ (length xs + length ys) ∷ []) (xs ++ ys) ≡ pieces starts xs ++ ys ∷ []
+pub pieces-push : (starts xs ys : List ℕ) → Ascend starts (length xs)
+    → pieces (starts ++ (length xs + length ys) ∷ []) (xs ++ ys) ≡ pieces starts xs ++ ys ∷ []
 pieces-push [] xs ys a = absurd a
 pieces-push (x ∷ []) xs ys a = ap (λ p. p ∷ []) (rw a (range-rest xs ys))
 pieces-push (x ∷ (y ∷ places)) xs ys a =
@@ -62,13 +65,15 @@ sum_by-pieces s (t ∷ starts) xs a =
 join-cons : {p q : List ℕ} {ps qs : List (List ℕ)} → p ≡ q → ps ≡ qs → (p ∷ ps) ≡ (q ∷ qs)
 join-cons e f = cc
 
-range-middle : (prefix ys zs : List ℕ) (s t : ℕ) → s ≡ length prefix → t ≡ length prefix + length ys → slice_range ((prefix ++ ys) ++ zs) s t ≡ ys
+range-middle : (prefix ys zs : List ℕ) (s t : ℕ) → s ≡ length prefix → t ≡ length prefix + length ys
+    → slice_range ((prefix ++ ys) ++ zs) s t ≡ ys
 range-middle prefix ys zs s t e h =
     let within : t ≤ length (prefix ++ ys) = omega (arith, h, length-append prefix ys) in
     range-append (prefix ++ ys) zs s t within ∙ ap (λ a. slice_range (prefix ++ ys) a t) e ∙ ap (slice_range (prefix ++ ys) (length prefix)) h ∙ range-rest prefix ys
 
 -- lists whose parts are as long as these pieces have the same places
-pieces-alike : (f g : ℕ → List ℕ) → ((i : ℕ) → length (g i) ≡ length (f i)) → (starts xs prefix is : List ℕ) → Ascend starts (length xs) → pieces starts xs ≡ map f is → get_or starts 0 0 ≡ length prefix → pieces starts (prefix ++ flat_map g is) ≡ map g is
+pieces-alike : (f g : ℕ → List ℕ) → ((i : ℕ) → length (g i) ≡ length (f i)) → (starts xs prefix is : List ℕ) → Ascend starts (length xs)
+    → pieces starts xs ≡ map f is → get_or starts 0 0 ≡ length prefix → pieces starts (prefix ++ flat_map g is) ≡ map g is
 pieces-alike f g same [] xs prefix is a e h = absurd a
 pieces-alike f g same (s ∷ []) xs prefix [] a e h = refl
 pieces-alike f g same (s ∷ []) xs prefix (i ∷ is) a e h = cc
@@ -86,7 +91,8 @@ pieces-alike f g same (s ∷ (t ∷ starts)) xs prefix (i ∷ is) a e h =
     (pieces-alike f g same (t ∷ starts) xs (prefix ++ g i) is a.1 parts.1 (next ∙ sym (length-append prefix (g i))))
 
 -- the places of lists that lie one after the other
-pub pieces-same : (f g : ℕ → List ℕ) → ((i : ℕ) → length (g i) ≡ length (f i)) → (starts xs is : List ℕ) → Ascend starts (length xs) → pieces starts xs ≡ map f is → xs ≡ flat_map f is → pieces starts (flat_map g is) ≡ map g is
+pub pieces-same : (f g : ℕ → List ℕ) → ((i : ℕ) → length (g i) ≡ length (f i)) → (starts xs is : List ℕ) → Ascend starts (length xs)
+    → pieces starts xs ≡ map f is → xs ≡ flat_map f is → pieces starts (flat_map g is) ≡ map g is
 pieces-same f g same [] xs is a e all = absurd a
 pieces-same f g same (s ∷ starts) xs is a e all =
     let sum : sum_by length (pieces (s ∷ starts) xs) ≡ sum_by length (map f is) = ap (sum_by length) e in
@@ -95,8 +101,10 @@ pieces-same f g same (s ∷ starts) xs is a e all =
     pieces-alike f g same (s ∷ starts) xs [] is a e (omega (arith, sum, each, long, sum_by-pieces s starts xs a))
 
 -- the same, as code counts up
-pub ascend_next : (starts : List ℕ) (end f : ℕ) → Ascend starts end → f + 1 < length starts → (get_or starts f 0 ≤ get_or starts (f + 1) 0) × (get_or starts (f + 1) 0 ≤ end)
+pub ascend_next : (starts : List ℕ) (end f : ℕ) → Ascend starts end → f + 1 < length starts
+    → (get_or starts f 0 ≤ get_or starts (f + 1) 0) × (get_or starts (f + 1) 0 ≤ end)
 ascend_next starts end f a h = rw add-one (ascend_at starts end f a (omega arith))
 
-pub piece_next : (starts xs : List ℕ) (f : ℕ) → f + 1 < length starts → slice_get (pieces starts xs) f ≡ Some (slice_range xs (get_or starts f 0) (get_or starts (f + 1) 0))
+pub piece_next : (starts xs : List ℕ) (f : ℕ) → f + 1 < length starts
+    → slice_get (pieces starts xs) f ≡ Some (slice_range xs (get_or starts f 0) (get_or starts (f + 1) 0))
 piece_next starts xs f h = rw add-one (piece_at starts xs f (omega arith))

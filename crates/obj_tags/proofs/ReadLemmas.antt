@@ -21,7 +21,8 @@ inside-drop : (lines : List Words) (n : ℕ) (words : Words) (rest : List Words)
 inside-drop lines n words rest e =
     let short : length (words ∷ rest) ≡ length lines - n = ap length e ∙ length-drop n lines in omega arith
 
-pub next-line : (rest line others : List ℕ) (lines : List Words) (n : ℕ) → lines_of rest ≡ line ∷ lines_of others → map line_words (lines_of rest) ≡ drop n lines → IsNext lines n (line_words line) (map line_words (lines_of others))
+pub next-line : (rest line others : List ℕ) (lines : List Words) (n : ℕ) → lines_of rest ≡ line ∷ lines_of others
+    → map line_words (lines_of rest) ≡ drop n lines → IsNext lines n (line_words line) (map line_words (lines_of others))
 next-line rest line others lines n e left =
     let whole : line_words line ∷ map line_words (lines_of others) ≡ drop n lines = sym (ap (map line_words) e) ∙ left in
     let inside = inside-drop lines n (line_words line) (map line_words (lines_of others)) whole in
@@ -29,7 +30,8 @@ next-line rest line others lines n e left =
     record { inside = inside; here = cc; left = cc }
 
 -- no line is left
-pub at-end : (rest : List ℕ) (lines : List Words) (n : ℕ) → lines_of rest ≡ [] → map line_words (lines_of rest) ≡ drop n lines → length lines ≤ n
+pub at-end : (rest : List ℕ) (lines : List Words) (n : ℕ) → lines_of rest ≡ [] → map line_words (lines_of rest) ≡ drop n lines
+    → length lines ≤ n
 at-end rest lines n e left =
     let none : length (drop n lines) ≡ 0 = ap length (sym left) ∙ ap (λ ls. length (map line_words ls)) e in
     omega (arith, length-drop n lines)
@@ -39,10 +41,12 @@ abbrev AreKept : Draft → List Words → Type 0
 AreKept draft lines = (first_bad_line lines ≡ None) × IsDraftOf draft lines (length lines)
 
 -- the lines of what follows a byte order mark are those of the text
-pub kept-text : (draft : Draft) (text rest : List ℕ) → rest ≡ without_mark text → AreKept draft (map line_words (lines_of rest)) → AreKept draft (obj_lines text)
+pub kept-text : (draft : Draft) (text rest : List ℕ) → rest ≡ without_mark text → AreKept draft (map line_words (lines_of rest))
+    → AreKept draft (obj_lines text)
 kept-text draft text rest e kept = subst (λ t. AreKept draft (map line_words (lines_of t))) e kept
 
 -- a text without a bad line is refused for its first long one
-pub refused-late : {X : Type 0} (Says : X → Type 0) (r : Result X ReadFault) (bad long : Option ObjFault) → bad ≡ None → TextKeptUnless r long Says → MatchResult r (λ _. Unit {0}) (λ f. IsReadFault f (option_or bad long))
+pub refused-late : {X : Type 0} (Says : X → Type 0) (r : Result X ReadFault) (bad long : Option ObjFault) → bad ≡ None
+    → TextKeptUnless r long Says → MatchResult r (λ _. Unit {0}) (λ f. IsReadFault f (option_or bad long))
 refused-late Says (Ok x) bad long none said = tt
 refused-late Says (Err f) bad long none said = rw none said

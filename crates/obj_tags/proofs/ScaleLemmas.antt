@@ -21,11 +21,13 @@ abbrev pub scale_of_kept : ℕ → List (ℕ × Forms) → ℕ
 scale_of_kept scale [] = scale
 scale_of_kept scale (k ∷ kept) = scale_of_kept (fold max scale (map (λ f. f.1) k.1)) kept
 
-positions-scale : (scale : ℕ) (ps : List Position) → fold with_position scale ps ≡ scale_of_kept scale (map (λ p. (p.line, position_forms p)) ps)
+positions-scale : (scale : ℕ) (ps : List Position)
+    → fold with_position scale ps ≡ scale_of_kept scale (map (λ p. (p.line, position_forms p)) ps)
 positions-scale scale [] = refl
 positions-scale scale (p ∷ ps) = positions-scale (with_position scale p) ps
 
-texture-scale : (scale : ℕ) (ts : List TextureValue) → fold with_texture scale ts ≡ scale_of_kept scale (map (λ t. (t.line, texture_forms t)) ts)
+texture-scale : (scale : ℕ) (ts : List TextureValue)
+    → fold with_texture scale ts ≡ scale_of_kept scale (map (λ t. (t.line, texture_forms t)) ts)
 texture-scale scale [] = refl
 texture-scale scale (t ∷ ts) = texture-scale (with_texture scale t) ts
 
@@ -33,15 +35,18 @@ texture-scale scale (t ∷ ts) = texture-scale (with_texture scale t) ts
 abbrev decimals_of : List ℕ → ℕ
 decimals_of word = (normal_form word).1
 
-over-append : (scale : ℕ) (xs ys : Words) → fold max scale (map decimals_of (xs ++ ys)) ≡ fold max (fold max scale (map decimals_of xs)) (map decimals_of ys)
+over-append : (scale : ℕ) (xs ys : Words)
+    → fold max scale (map decimals_of (xs ++ ys)) ≡ fold max (fold max scale (map decimals_of xs)) (map decimals_of ys)
 over-append scale [] ys = refl
 over-append scale (x ∷ xs) ys = over-append (max scale (decimals_of x)) xs ys
 
-same-decimals : (scale : ℕ) (words : Words) → fold max scale (map (λ f. f.1) (map normal_form words)) ≡ fold max scale (map decimals_of words)
+same-decimals : (scale : ℕ) (words : Words)
+    → fold max scale (map (λ f. f.1) (map normal_form words)) ≡ fold max scale (map decimals_of words)
 same-decimals scale [] = refl
 same-decimals scale (w ∷ words) = same-decimals (max scale (decimals_of w)) words
 
-second-decimals : (scale : ℕ) (words : Words) → fold max scale (map (λ f. f.1) (with_second (map normal_form words))) ≡ fold max scale (map decimals_of words)
+second-decimals : (scale : ℕ) (words : Words)
+    → fold max scale (map (λ f. f.1) (with_second (map normal_form words))) ≡ fold max scale (map decimals_of words)
 second-decimals scale [] = refl
 second-decimals scale (u ∷ []) = last (max scale (decimals_of u))
   where
@@ -50,7 +55,10 @@ second-decimals scale (u ∷ []) = last (max scale (decimals_of u))
 second-decimals scale (u ∷ (v ∷ rest)) = same-decimals scale (u ∷ v ∷ rest)
 
 -- the scale of what is kept is that of the lines, where what is kept of a line has its decimals
-kept-scale : (kind : Words → Bool) (forms : Words → Forms) → ((n : ℕ) (words : Words) → fold max n (map (λ f. f.1) (forms words)) ≡ fold max n (map decimals_of (kept_coordinates words))) → (place scale : ℕ) (lines : List Words) → scale_of_kept scale (kept_from place kind forms lines) ≡ scale_over scale (filter kind lines)
+kept-scale : (kind : Words → Bool) (forms : Words → Forms)
+    → ((n : ℕ) (words : Words) → fold max n (map (λ f. f.1) (forms words)) ≡ fold max n (map decimals_of (kept_coordinates words)))
+    → (place scale : ℕ) (lines : List Words)
+    → scale_of_kept scale (kept_from place kind forms lines) ≡ scale_over scale (filter kind lines)
 kept-scale kind forms agree place scale [] = refl
 kept-scale kind forms agree place scale (words ∷ lines) =
     ⊎_elim
@@ -62,12 +70,14 @@ kept-scale kind forms agree place scale (words ∷ lines) =
     (λ (e : kind words ≡ false). rw e (kept-scale kind forms agree (place + 1) scale lines))
     (cases_Bool (kind words))
 
-pub scale-positions : (least : ℕ) (ps : List Position) (lines : List Words) → ArePositions ps lines → fold with_position least ps ≡ position_scale least lines
+pub scale-positions : (least : ℕ) (ps : List Position) (lines : List Words) → ArePositions ps lines
+    → fold with_position least ps ≡ position_scale least lines
 scale-positions least ps lines are =
     positions-scale least ps ∙ ap (scale_of_kept least) are.read
     ∙ kept-scale is_vertex_line position_line_forms (λ n words. same-decimals n (kept_coordinates words)) 1 least lines
 
-pub scale-texture : (ts : List TextureValue) (lines : List Words) → AreTextureValues ts lines → fold with_texture 0 ts ≡ texture_scale_of lines
+pub scale-texture : (ts : List TextureValue) (lines : List Words) → AreTextureValues ts lines
+    → fold with_texture 0 ts ≡ texture_scale_of lines
 scale-texture ts lines are =
     texture-scale 0 ts ∙ ap (scale_of_kept 0) are.read
     ∙ kept-scale is_texture_line texture_line_forms (λ n words. second-decimals n (kept_coordinates words)) 1 0 lines

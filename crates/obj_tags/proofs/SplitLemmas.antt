@@ -18,7 +18,8 @@ pub some-bytes : (text : List ℕ) (empty : Bool) → empty ≡ nat_eq (length t
 some-bytes text empty e f = grind (arith, nat_tests)
 
 -- the same, where the text is cut at that place
-pub lines-at : (text prefix others : List ℕ) (n : ℕ) → n ≡ position_or_len is_lf text → prefix ≡ take n text → others ≡ drop n text → 0 < length text → lines_of text ≡ prefix ∷ lines_of (drop 1 others)
+pub lines-at : (text prefix others : List ℕ) (n : ℕ) → n ≡ position_or_len is_lf text → prefix ≡ take n text → others ≡ drop n text
+    → 0 < length text → lines_of text ≡ prefix ∷ lines_of (drop 1 others)
 lines-at text prefix others n e f g some =
     lines-first text some
     ∙ ap (λ k. take k text ∷ lines_of (drop (k + 1) text)) (sym e)
@@ -29,12 +30,14 @@ no-more : (others : List ℕ) → length others ≡ 0 → drop 1 others ≡ othe
 no-more [] h = refl
 no-more (b ∷ others) h = absurd (omega arith)
 
-pub lines-end : (text prefix others : List ℕ) (n : ℕ) → n ≡ position_or_len is_lf text → prefix ≡ take n text → others ≡ drop n text → 0 < length text → length others ≡ 0 → lines_of text ≡ prefix ∷ lines_of others
+pub lines-end : (text prefix others : List ℕ) (n : ℕ) → n ≡ position_or_len is_lf text → prefix ≡ take n text → others ≡ drop n text
+    → 0 < length text → length others ≡ 0 → lines_of text ≡ prefix ∷ lines_of others
 lines-end text prefix others n e f g some none =
     lines-at text prefix others n e f g some ∙ ap (λ rest. prefix ∷ lines_of rest) (no-more others none)
 
 -- a word that is cut at its first slash
-pub parts-at : (word prefix others : List ℕ) (n : ℕ) → n ≡ position_or_len is_slash word → prefix ≡ take n word → others ≡ drop n word → 0 < length others → slice_split is_slash word ≡ prefix ∷ slice_split is_slash (drop 1 others)
+pub parts-at : (word prefix others : List ℕ) (n : ℕ) → n ≡ position_or_len is_slash word → prefix ≡ take n word → others ≡ drop n word
+    → 0 < length others → slice_split is_slash word ≡ prefix ∷ slice_split is_slash (drop 1 others)
 parts-at word prefix others n e f g some =
     let short : length others ≡ length word - n = ap length g ∙ length-drop n word in
     slice_split_first is_slash word 0 (omega arith)
@@ -43,7 +46,8 @@ parts-at word prefix others n e f g some =
     ∙ ap (λ rest. prefix ∷ slice_split is_slash rest) (sym (ap (drop 1) g ∙ drop-drop 1 n word))
 
 -- a word with no slash
-pub parts-end : (word prefix others : List ℕ) (n : ℕ) → n ≡ position_or_len is_slash word → prefix ≡ take n word → others ≡ drop n word → length others ≡ 0 → slice_split is_slash word ≡ prefix ∷ []
+pub parts-end : (word prefix others : List ℕ) (n : ℕ) → n ≡ position_or_len is_slash word → prefix ≡ take n word → others ≡ drop n word
+    → length others ≡ 0 → slice_split is_slash word ≡ prefix ∷ []
 parts-end word prefix others n e f g none =
     let short : length others ≡ length word - n = ap length g ∙ length-drop n word in
     let whole : length word ≤ n = omega arith in

@@ -28,7 +28,8 @@ method-counts : (w n s : ℕ) → may_have MethodTag w n s ≡ true → (w ≡ 0
 method-counts w n s e = grind (arith, nat_tests)
 
 -- the only value of a boundary tag, and that of a method tag
-pub boundary-wholes : (line : List (List ℕ)) (word : List ℕ) (rest : List (List ℕ)) → fits_counts BoundaryTag line ≡ true → tag_values line ≡ word ∷ rest → tag_wholes line ≡ word ∷ []
+pub boundary-wholes : (line : List (List ℕ)) (word : List ℕ) (rest : List (List ℕ)) → fits_counts BoundaryTag line ≡ true
+    → tag_values line ≡ word ∷ rest → tag_wholes line ≡ word ∷ []
 boundary-wholes line word rest fits e =
     let parts = and-last _ _ _ fits in
     let one : whole_count line ≡ 1 = boundary-counts _ _ _ parts.0 in
@@ -38,7 +39,8 @@ single : (word : List ℕ) (rest : List (List ℕ)) → length (word ∷ rest) �
 single word [] h = refl
 single word (next ∷ rest) h = absurd (omega arith)
 
-pub method-strings : (line : List (List ℕ)) (word : List ℕ) (rest : List (List ℕ)) → fits_counts MethodTag line ≡ true → tag_values line ≡ word ∷ rest → tag_strings line ≡ word ∷ []
+pub method-strings : (line : List (List ℕ)) (word : List ℕ) (rest : List (List ℕ)) → fits_counts MethodTag line ≡ true
+    → tag_values line ≡ word ∷ rest → tag_strings line ≡ word ∷ []
 method-strings line word rest fits e =
     let parts : (may_have MethodTag (whole_count line) (numeral_count line) (string_count line) ≡ true) × (nat_eq (length (tag_values line)) (whole_count line + numeral_count line + string_count line) ≡ true) = and-last _ _ _ fits in
     let counts = method-counts (whole_count line) (numeral_count line) (string_count line) parts.0 in
@@ -47,18 +49,24 @@ method-strings line word rest fits e =
     ap (λ n. drop n (tag_values line)) none ∙ e ∙ single word rest (omega (arith, ap length e, all, counts.0, counts.1, counts.2))
 
 -- nothing is wrong with a tag whose only value says a mode, or a method
-pub boundary-sound : (whole : Counts) (line : List (List ℕ)) (word : List ℕ) (rest : List (List ℕ)) (mode : Boundary) → kind_of_name (tag_name line) ≡ Some BoundaryTag → fits_counts BoundaryTag line ≡ true → tag_values line ≡ word ∷ rest → mode_of_word word ≡ Some mode → (tag_fault whole line ≡ None) × (tag_mode line ≡ mode)
+pub boundary-sound : (whole : Counts) (line : List (List ℕ)) (word : List ℕ) (rest : List (List ℕ)) (mode : Boundary)
+    → kind_of_name (tag_name line) ≡ Some BoundaryTag → fits_counts BoundaryTag line ≡ true → tag_values line ≡ word ∷ rest
+    → mode_of_word word ≡ Some mode → (tag_fault whole line ≡ None) × (tag_mode line ≡ mode)
 boundary-sound whole line word rest mode kind fits e says =
     let wholes : tag_wholes line ≡ word ∷ [] = boundary-wholes line word rest fits e in
     (rw (kind, fits, wholes, says), rw (wholes, says))
 
-pub method-sound : (whole : Counts) (line : List (List ℕ)) (word : List ℕ) (rest : List (List ℕ)) (method : Method) → kind_of_name (tag_name line) ≡ Some MethodTag → fits_counts MethodTag line ≡ true → tag_values line ≡ word ∷ rest → method_of_word word ≡ Some method → (tag_fault whole line ≡ None) × (tag_method line ≡ method)
+pub method-sound : (whole : Counts) (line : List (List ℕ)) (word : List ℕ) (rest : List (List ℕ)) (method : Method)
+    → kind_of_name (tag_name line) ≡ Some MethodTag → fits_counts MethodTag line ≡ true → tag_values line ≡ word ∷ rest
+    → method_of_word word ≡ Some method → (tag_fault whole line ≡ None) × (tag_method line ≡ method)
 method-sound whole line word rest method kind fits e says =
     let strings : tag_strings line ≡ word ∷ [] = method-strings line word rest fits e in
     (rw (kind, fits, strings, says), rw (strings, says))
 
 -- the names of the two kinds, by which of the tests of a name is met
-boundary-test : (a b c d e f : Bool) → (if a then Some CreaseTag else if b then Some CornerTag else if c then Some HoleTag else if d then Some BoundaryTag else if e then Some MethodTag else if f then Some DroppedTag else None) ≡ Some BoundaryTag → d ≡ true
+boundary-test : (a b c d e f : Bool)
+    → (if a then Some CreaseTag else if b then Some CornerTag else if c then Some HoleTag else if d then Some BoundaryTag else if e then Some MethodTag else if f then Some DroppedTag else None) ≡ Some BoundaryTag
+    → d ≡ true
 boundary-test true b c d e f h = cc
 boundary-test false true c d e f h = cc
 boundary-test false false true d e f h = cc
@@ -67,7 +75,9 @@ boundary-test false false false false true f h = cc
 boundary-test false false false false false true h = cc
 boundary-test false false false false false false h = cc
 
-method-test : (a b c d e f : Bool) → (if a then Some CreaseTag else if b then Some CornerTag else if c then Some HoleTag else if d then Some BoundaryTag else if e then Some MethodTag else if f then Some DroppedTag else None) ≡ Some MethodTag → e ≡ true
+method-test : (a b c d e f : Bool)
+    → (if a then Some CreaseTag else if b then Some CornerTag else if c then Some HoleTag else if d then Some BoundaryTag else if e then Some MethodTag else if f then Some DroppedTag else None) ≡ Some MethodTag
+    → e ≡ true
 method-test true b c d e f h = cc
 method-test false true c d e f h = cc
 method-test false false true d e f h = cc
@@ -87,7 +97,9 @@ method-name name e =
     (method-test (bytes_eq name (codes "crease")) (bytes_eq name (codes "corner")) (bytes_eq name (codes "hole")) (bytes_eq name (codes "interpolateboundary")) (bytes_eq name (codes "creasemethod")) (is_dropped_name name) e)
 
 -- such a tag sets the mode, or the method, and nothing else
-pub adds-boundary : (words : List (List ℕ)) (before : Tags) (mode : declared.Boundary) → kind_of_name (tag_name (codes "t" ∷ words)) ≡ Some BoundaryTag → tag_mode (codes "t" ∷ words) ≡ boundary_of mode → AddsTag (codes "t" ∷ words) before (record before { boundary = mode })
+pub adds-boundary : (words : List (List ℕ)) (before : Tags) (mode : declared.Boundary)
+    → kind_of_name (tag_name (codes "t" ∷ words)) ≡ Some BoundaryTag → tag_mode (codes "t" ∷ words) ≡ boundary_of mode
+    → AddsTag (codes "t" ∷ words) before (record before { boundary = mode })
 adds-boundary words before mode kind says =
     let name : get_or words 0 [] ≡ codes "interpolateboundary" = boundary-name (get_or words 0 []) kind in
     record {
@@ -98,7 +110,9 @@ adds-boundary words before mode kind says =
       method = rw name;
     }
 
-pub adds-method : (words : List (List ℕ)) (before : Tags) (method : sharp.Method) → kind_of_name (tag_name (codes "t" ∷ words)) ≡ Some MethodTag → tag_method (codes "t" ∷ words) ≡ method_of method → AddsTag (codes "t" ∷ words) before (record before { method = method })
+pub adds-method : (words : List (List ℕ)) (before : Tags) (method : sharp.Method)
+    → kind_of_name (tag_name (codes "t" ∷ words)) ≡ Some MethodTag → tag_method (codes "t" ∷ words) ≡ method_of method
+    → AddsTag (codes "t" ∷ words) before (record before { method = method })
 adds-method words before method kind says =
     let name : get_or words 0 [] ≡ codes "creasemethod" = method-name (get_or words 0 []) kind in
     record {

@@ -7,7 +7,9 @@ pub length-said : {X : Type 0} (read : List ℕ → X) (n : ℕ) (words : List (
 length-said read n words h = length-map (take n words) read ∙ length-take-le n words h
 
 -- the sizes of what was read are the counts
-pub sizes-said : {S X Y : Type 0} (view : S → X) (read : List ℕ → X) (index : List ℕ → Y) (wholes numerals : ℕ) (words : List (List ℕ)) (vertices : List Y) (values : List S) → wholes + numerals ≤ length words → vertices ≡ map index (take wholes words) → map view values ≡ map read (take numerals (drop wholes words)) → (length vertices ≡ wholes) × (length values ≡ numerals)
+pub sizes-said : {S X Y : Type 0} (view : S → X) (read : List ℕ → X) (index : List ℕ → Y) (wholes numerals : ℕ) (words : List (List ℕ)) (vertices : List Y) (values : List S)
+    → wholes + numerals ≤ length words → vertices ≡ map index (take wholes words)
+    → map view values ≡ map read (take numerals (drop wholes words)) → (length vertices ≡ wholes) × (length values ≡ numerals)
 sizes-said view read index wholes numerals words vertices values enough e f = (
   ap length e ∙ length-said index wholes words (omega arith),
   sym (length-map values view) ∙ ap length f ∙ length-said read numerals (drop wholes words) (omega (arith, length-drop wholes words)),

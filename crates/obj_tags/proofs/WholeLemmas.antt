@@ -1,5 +1,5 @@
 -- What is kept of lines without fault is whole: each number is below what it counts.
-use Rattle.std.proofs.Common.{◌≡◌, ℕ, ◌+◌, ◌-◌, ◌*◌, ◌^◌, ◌<◌, ◌≤◌, Bool, true, false, ◌&&◌, nat_eq, nat_lt, List, [], ◌∷◌, length, map, take, get_or, None, arith, refl, ap, sym, subst, ◌∙◌, ⊎_elim}
+use Rattle.std.proofs.Common.{◌≡◌, ℕ, ◌+◌, ◌-◌, ◌*◌, ◌^◌, ◌<◌, ◌≤◌, Bool, true, false, ◌&&◌, nat_lt, List, [], ◌∷◌, length, map, take, get_or, None, arith, refl, ap, sym, subst, ◌∙◌, ⊎_elim}
 use Rattle.std.specs.List.{All, sum_by, list_all, flat_map}
 use Rattle.std.proofs.Math.Seq.{take-length}
 use Rattle.std.proofs.lemmas.Bool.{and_parts, cases_Bool, eqb-true, ltb-true}
@@ -31,34 +31,39 @@ use Rattle.obj_tags.proofs.ScaleLemmas.{Words}
 use Rattle.number_laws.proofs.CountLemmas.{all-flat_map}
 
 -- what a test says of each
-all-from : {X : Type 0} (test : X → Bool) (P : X → Type 0) (xs : List X) → ((x : X) → test x ≡ true → P x) → list_all test xs ≡ true → All P xs
+all-from : {X : Type 0} (test : X → Bool) (P : X → Type 0) (xs : List X) → ((x : X) → test x ≡ true → P x) → list_all test xs ≡ true
+    → All P xs
 all-from test P [] sound h = All-nil P
 all-from test P (x ∷ xs) sound h =
     let parts = and_parts (test x) (list_all test xs) h in
     All-cons P x xs (sound x parts.0) (all-from test P xs sound parts.1)
 
 -- the same of what is seen of each
-all-seen : {X Y : Type 0} (view : X → Y) (test : Y → Bool) (P : X → Type 0) (xs : List X) (ys : List Y) → map view xs ≡ ys → ((x : X) → test (view x) ≡ true → P x) → list_all test ys ≡ true → All P xs
+all-seen : {X Y : Type 0} (view : X → Y) (test : Y → Bool) (P : X → Type 0) (xs : List X) (ys : List Y) → map view xs ≡ ys
+    → ((x : X) → test (view x) ≡ true → P x) → list_all test ys ≡ true → All P xs
 all-seen view test P xs ys e sound h = all-from (λ x. test (view x)) P xs sound (sym (list_all-map test view xs) ∙ ap (list_all test) e ∙ h)
 
 -- the numbers of all corners
 abbrev pub face-places : List Words → List ℕ
 face-places lines = places is_face_line lines
 
-vertices-below : (lines : List Words) → AreGood lines → are-below (counts_of lines).point_count (flat_map (corner_numbers corner_point lines) (face-places lines)) ≡ true
+vertices-below : (lines : List Words) → AreGood lines
+    → are-below (counts_of lines).point_count (flat_map (corner_numbers corner_point lines) (face-places lines)) ≡ true
 vertices-below lines good =
     all-flat_map (λ v. nat_lt v (counts_of lines).point_count) (corner_numbers corner_point lines) (face-places lines)
     ∙ sym (list_all-map (are-below (counts_of lines).point_count) (corner_numbers corner_point lines) (face-places lines))
     ∙ vertices-good lines good
 
-corner-texture-below : (b w : Counts) (first word : List ℕ) → b.texture_count ≤ w.texture_count → corner_fault b w first word ≡ None → are-below w.texture_count (named_textures b w word) ≡ true
+corner-texture-below : (b w : Counts) (first word : List ℕ) → b.texture_count ≤ w.texture_count → corner_fault b w first word ≡ None
+    → are-below w.texture_count (named_textures b w word) ≡ true
 corner-texture-below b w first word h fine =
     ⊎_elim
     (λ (has : has_texture_part word ≡ true). let below = texture-below b w first word h fine has in rw (has, below) refl)
     (λ (none : has_texture_part word ≡ false). rw none refl)
     (cases_Bool (has_texture_part word))
 
-line-textures-below : (lines : List Words) → AreGood lines → (i : ℕ) → i < length lines → is_face_line (get_or lines i []) ≡ true → are-below (counts_of lines).texture_count (textures_at lines i) ≡ true
+line-textures-below : (lines : List Words) → AreGood lines → (i : ℕ) → i < length lines → is_face_line (get_or lines i []) ≡ true
+    → are-below (counts_of lines).texture_count (textures_at lines i) ≡ true
 line-textures-below lines good i low is =
     let b = counts_of (take i lines) in
     let w = counts_of lines in
@@ -68,7 +73,8 @@ line-textures-below lines good i low is =
     (λ word fine. corner-texture-below b w (get_or words 1 []) word (count-before is_texture_line lines i) fine)
     (values_of words) (face-corners b w words is (good i low))
 
-textures-below : (lines : List Words) → AreGood lines → are-below (counts_of lines).texture_count (flat_map (textures_at lines) (face-places lines)) ≡ true
+textures-below : (lines : List Words) → AreGood lines
+    → are-below (counts_of lines).texture_count (flat_map (textures_at lines) (face-places lines)) ≡ true
 textures-below lines good =
     all-flat_map (λ t. nat_lt t (counts_of lines).texture_count) (textures_at lines) (face-places lines)
     ∙ all-places is_face_line (λ i. are-below (counts_of lines).texture_count (textures_at lines i)) [] lines (line-textures-below lines good)
@@ -88,7 +94,8 @@ few-corners : (faces : List (List ℕ)) → 2 * sum_by length faces + length fac
 few-corners [] h = omega arith
 few-corners (face ∷ faces) h = omega (arith, h)
 
-corners-sum : (lines : List Words) → length (flat_map (corner_numbers corner_point lines) (face-places lines)) ≡ sum_by length (faces_of lines)
+corners-sum : (lines : List Words)
+    → length (flat_map (corner_numbers corner_point lines) (face-places lines)) ≡ sum_by length (faces_of lines)
 corners-sum lines =
     length-flat_map (corner_numbers corner_point lines) (face-places lines)
     ∙ sym (fold-map (λ n face. n + length face) (corner_numbers corner_point lines) 0 (face-places lines))
@@ -123,7 +130,9 @@ of-all draft lines is =
     }
 
 -- is whole, where no line is bad
-pub whole-draft : (draft : Draft) (text : List ℕ) → length text ≤ 2 ^ 28 → IsDraftOf draft (obj_lines text) (length (obj_lines text)) → first_bad_line (obj_lines text) ≡ None → IsWhole (length draft.positions.items) (length draft.texture.items) false draft.faces draft.tags
+pub whole-draft : (draft : Draft) (text : List ℕ) → length text ≤ 2 ^ 28 → IsDraftOf draft (obj_lines text) (length (obj_lines text))
+    → first_bad_line (obj_lines text) ≡ None
+    → IsWhole (length draft.positions.items) (length draft.texture.items) false draft.faces draft.tags
 whole-draft draft text short is none =
     let lines = obj_lines text in
     let points = (counts_of lines).point_count in
@@ -145,7 +154,8 @@ whole-draft draft text short is none =
     }
 
 -- so is what was kept beside its points and its texture values at their scales
-pub whole-mesh : (points values points' values' : ℕ) (has : Bool) (faces : Faces) (tags : Tags) → IsWhole points values false faces tags → points' ≡ points → values' ≡ values → has ≡ names_all_texture faces → IsWhole points' values' has faces tags
+pub whole-mesh : (points values points' values' : ℕ) (has : Bool) (faces : Faces) (tags : Tags) → IsWhole points values false faces tags
+    → points' ≡ points → values' ≡ values → has ≡ names_all_texture faces → IsWhole points' values' has faces tags
 whole-mesh points values points' values' has faces tags whole e_points e_values e_has =
     rw (e_points, e_values)
     record {

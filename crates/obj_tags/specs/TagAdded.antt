@@ -1,5 +1,5 @@
 -- What a tag adds to the tags before it.
-use Rattle.std.specs.Prelude.{ℕ, ◌≡◌, List, [], ◌++◌, map, codes, if◌then◌else◌}
+use Rattle.std.specs.Prelude.{◌≡◌, [], ◌++◌, map, codes, if◌then◌else◌}
 use Rattle.sharpness_rules.specs.View.{method_of}
 use Rattle.subdiv_model.specs.ObjTag.{is_tag, tag_creases, tag_corners, tag_indices, tag_mode, tag_method}
 use Rattle.obj_tags.specs.Line.{Line}

@@ -1,6 +1,6 @@
 -- What the values of a tag say, by its counts.
 use Rattle.std.specs.Option.{option_or}
-use Rattle.std.specs.Prelude.{ℕ, ◌≡◌, ◌++◌, true, List, map, take, drop, zip, length, Option, Some, unsigned_abs}
+use Rattle.std.specs.Prelude.{ℕ, ◌≡◌, true, List, map, take, drop, zip, length, Option, Some, unsigned_abs}
 use Rattle.subdiv_model.specs.ObjFault as fault
 use Rattle.subdiv_model.specs.ObjWord.{Counts}
 use Rattle.subdiv_model.specs.Sharpness as model

@@ -68,7 +68,9 @@ long-rest n (b ∷ digits) are is =
     long-rest (n * 10 + (b - 48)) digits parts.1 (long-more n (b - 48) is (digit-below b parts.0))
 
 -- the digits so far and one more are too long, and so are all
-pub long-part : (start : ℕ) (digits : List ℕ) (i n : ℕ) → i < length digits → list_all is_digit digits ≡ true → n ≡ fold with_next_digit start (take i digits) → IsLong (n * 10 + (get_or digits i 0 - 48)) → IsLong (fold with_next_digit start digits)
+pub long-part : (start : ℕ) (digits : List ℕ) (i n : ℕ) → i < length digits → list_all is_digit digits ≡ true
+    → n ≡ fold with_next_digit start (take i digits) → IsLong (n * 10 + (get_or digits i 0 - 48))
+    → IsLong (fold with_next_digit start digits)
 long-part start digits i n h are e is =
     let next : with_next_digit n (get_or digits i 0) ≡ fold with_next_digit start (take (i + 1) digits) =
     ap (λ m. with_next_digit m (get_or digits i 0)) e ∙ sym (fold_more with_next_digit start digits i 0 h) in

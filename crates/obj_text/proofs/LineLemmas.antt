@@ -15,17 +15,20 @@ abbrev is_word : List ℕ → Bool
 is_word run = not (opens_comment run)
 
 -- a line with no blank is one run, and nothing follows it
-runs-whole : (line : List ℕ) → length line ≤ position_or_len is_blank line → runs_of line ≡ filter has_bytes (before_first is_blank line ∷ slice_split is_blank (after_first is_blank line))
+runs-whole : (line : List ℕ) → length line ≤ position_or_len is_blank line
+    → runs_of line ≡ filter has_bytes (before_first is_blank line ∷ slice_split is_blank (after_first is_blank line))
 runs-whole line h =
     ap (filter has_bytes) (slice_split_none is_blank line (λ k d l. fails_before_first is_blank line k d (omega arith)))
     ∙ sym (ap (λ run. filter has_bytes (run ∷ slice_split is_blank (after_first is_blank line))) (take_all (position_or_len is_blank line) line h) ∙ ap (λ rest. filter has_bytes (line ∷ slice_split is_blank rest)) (drop_all (position_or_len is_blank line + 1) line (omega arith)))
 
-runs-parts : (line : List ℕ) → runs_of line ≡ filter has_bytes (before_first is_blank line ∷ slice_split is_blank (after_first is_blank line))
+runs-parts : (line : List ℕ)
+    → runs_of line ≡ filter has_bytes (before_first is_blank line ∷ slice_split is_blank (after_first is_blank line))
 runs-parts line =
     ⊎_elim (λ h. ap (filter has_bytes) (slice_split_first is_blank line 0 h)) (λ h. runs-whole line h) (cases_lt (position_or_len is_blank line) (length line))
 
 -- the same, for the names that a reader gives to the two parts
-runs-named : (line run rest : List ℕ) → run ≡ before_first is_blank line → rest ≡ after_first is_blank line → runs_of line ≡ filter has_bytes (run ∷ slice_split is_blank rest)
+runs-named : (line run rest : List ℕ) → run ≡ before_first is_blank line → rest ≡ after_first is_blank line
+    → runs_of line ≡ filter has_bytes (run ∷ slice_split is_blank rest)
 runs-named line run rest e f =
     runs-parts line
     ∙ ap (λ r. filter has_bytes (r ∷ slice_split is_blank (after_first is_blank line))) (sym e)
@@ -35,7 +38,8 @@ runs-some : (b : ℕ) (run : List ℕ) (rest : List (List ℕ)) → filter has_b
 runs-some b run rest = grind (arith, nat_tests)
 
 -- the run is the first word
-pub words-first : (line run rest : List ℕ) → run ≡ before_first is_blank line → rest ≡ after_first is_blank line → 0 < length run → opens_comment run ≡ false → line_words line ≡ run ∷ line_words rest
+pub words-first : (line run rest : List ℕ) → run ≡ before_first is_blank line → rest ≡ after_first is_blank line → 0 < length run
+    → opens_comment run ≡ false → line_words line ≡ run ∷ line_words rest
 words-first line [] rest e f some other = absurd (omega arith)
 words-first line (b ∷ run) rest e f some other =
     ap (take_while is_word) (runs-named line (b ∷ run) rest e f ∙ runs-some b run (slice_split is_blank rest))

@@ -27,14 +27,16 @@ pub word-inside : (word : List ℕ) (m d : ℕ) → normal_amount word ≡ (m, d
 word-inside word m d e h k = ap (λ (f : ℕ × ℕ). nat_lt f.0 BOUND && nat_le f.1 37) e ∙ inside m d h k
 
 -- the digits on both sides of the point, read one after another
-pub both-sides : (word whole fraction : List ℕ) (n : ℕ) → whole ≡ whole_digits word → fraction ≡ fraction_digits word → n ≡ fold with_next_digit 0 whole → fold with_next_digit n fraction ≡ number_of_digits (all_digits word)
+pub both-sides : (word whole fraction : List ℕ) (n : ℕ) → whole ≡ whole_digits word → fraction ≡ fraction_digits word
+    → n ≡ fold with_next_digit 0 whole → fold with_next_digit n fraction ≡ number_of_digits (all_digits word)
 both-sides word whole fraction n e f h =
     ap (λ k. fold with_next_digit k fraction) h
     ∙ sym (fold-append with_next_digit 0 whole fraction)
     ∙ ap (λ w. fold with_next_digit 0 (w ++ fraction)) e
     ∙ ap (λ g. fold with_next_digit 0 (whole_digits word ++ g)) f
 
-normal-word : (word : List ℕ) (a z : ℕ) → number_of_digits (all_digits word) ≡ a * 10 ^ z → a ≢ 0 → (a % 10 ≡ 0 → a ≡ 0) → normal_amount word ≡ (a * 10 ^ ((z + tens_above word) - tens_below word), tens_below word - (z + tens_above word))
+normal-word : (word : List ℕ) (a z : ℕ) → number_of_digits (all_digits word) ≡ a * 10 ^ z → a ≢ 0 → (a % 10 ≡ 0 → a ≡ 0)
+    → normal_amount word ≡ (a * 10 ^ ((z + tens_above word) - tens_below word), tens_below word - (z + tens_above word))
 normal-word word a z e some ends = normal-tens _ (tens_above word) (tens_below word) a z e some (λ none. some (ends none))
 
 -- digits that are too long put the word out of range, whatever its exponent
@@ -56,18 +58,22 @@ IsFormOf r a above below =
 abbrev pub IsReadAs : Option (ℕ × ℕ) → List ℕ → Type 0
 IsReadAs r word = MatchOption r (is_in_range word ≡ false) (λ n. (is_in_range word ≡ true) × ((n.0, n.1) ≡ normal_amount word) × (n.0 < BOUND) × (n.1 ≤ 37))
 
-form-same : (word : List ℕ) (r : Option (ℕ × ℕ)) (a above below : ℕ) → normal_amount word ≡ (a * 10 ^ (above - below), below - above) → IsFormOf r a above below → IsReadAs r word
+form-same : (word : List ℕ) (r : Option (ℕ × ℕ)) (a above below : ℕ) → normal_amount word ≡ (a * 10 ^ (above - below), below - above)
+    → IsFormOf r a above below → IsReadAs r word
 form-same word None a above below e h = word-outside word _ _ e h
 form-same word (Some n) a above below e h =
     let same : (n.0, n.1) ≡ normal_amount word = ap (λ k. (k, n.1)) h.0 ∙ ap (λ d. (a * 10 ^ (above - below), d)) h.1 ∙ sym e in
     (word-inside word n.0 n.1 (sym same) h.2 h.3, same, h.2, h.3)
 
-form-far : (word : List ℕ) (r : Option (ℕ × ℕ)) (a above below : ℕ) → is_in_range word ≡ false → (BOUND ≤ a * 10 ^ (above - below)) ⊎ (37 < below - above) → IsFormOf r a above below → IsReadAs r word
+form-far : (word : List ℕ) (r : Option (ℕ × ℕ)) (a above below : ℕ) → is_in_range word ≡ false
+    → (BOUND ≤ a * 10 ^ (above - below)) ⊎ (37 < below - above) → IsFormOf r a above below → IsReadAs r word
 form-far word None a above below out far h = out
 form-far word (Some n) a above below out far h =
     ⊎_elim (λ (many : BOUND ≤ a * 10 ^ (above - below)). absurd (omega arith)) (λ (fine : 37 < below - above). absurd (omega arith)) far
 
-form-alike : (word : List ℕ) (r : Option (ℕ × ℕ)) (a above below told_above told_below : ℕ) → a ≢ 0 → normal_amount word ≡ (a * 10 ^ (above - below), below - above) → AreAlike above below told_above told_below → IsFormOf r a told_above told_below → IsReadAs r word
+form-alike : (word : List ℕ) (r : Option (ℕ × ℕ)) (a above below told_above told_below : ℕ) → a ≢ 0
+    → normal_amount word ≡ (a * 10 ^ (above - below), below - above) → AreAlike above below told_above told_below
+    → IsFormOf r a told_above told_below → IsReadAs r word
 form-alike word r a above below told_above told_below some e (inl same) h =
     form-same word r a told_above told_below (e ∙ ap (λ n. (a * 10 ^ (n - below), below - n)) same.0 ∙ ap (λ n. (a * 10 ^ (told_above - n), n - told_above)) same.1) h
 form-alike word r a above below told_above told_below some e (inr (inl far)) h =
@@ -85,7 +91,9 @@ alike-minus z f e told short t =
     ⊎_elim (λ (h : e < 10 ^ 20). inl (omega arith, omega arith)) (λ (h : 10 ^ 20 ≤ e). inr (inr (omega arith, omega arith))) (cases_lt e (10 ^ 20))
 
 -- what was read of a word's digits and exponent is its normal form
-pub read-plus : (word : List ℕ) (r : Option (ℕ × ℕ)) (a z f told : ℕ) → number_of_digits (all_digits word) ≡ a * 10 ^ z → a ≢ 0 → (a % 10 ≡ 0 → a ≡ 0) → false ≡ exponent_has_minus (exponent_part word) → f ≡ length (fraction_digits word) → f < 2 ^ 64 → told ≡ min (exponent_amount (exponent_part word)) (10 ^ 20) → IsFormOf r a (z + told) f → IsReadAs r word
+pub read-plus : (word : List ℕ) (r : Option (ℕ × ℕ)) (a z f told : ℕ) → number_of_digits (all_digits word) ≡ a * 10 ^ z → a ≢ 0
+    → (a % 10 ≡ 0 → a ≡ 0) → false ≡ exponent_has_minus (exponent_part word) → f ≡ length (fraction_digits word) → f < 2 ^ 64
+    → told ≡ min (exponent_amount (exponent_part word)) (10 ^ 20) → IsFormOf r a (z + told) f → IsReadAs r word
 read-plus word r a z f told e some ends minus g short t h =
     let above : tens_above word ≡ exponent_amount (exponent_part word) = rw (sym minus) refl in
     let below : tens_below word ≡ f = rw (sym minus) (sym g) in
@@ -93,7 +101,9 @@ read-plus word r a z f told e some ends minus g short t h =
     (normal-word word a z e some ends ∙ ap (λ n. (a * 10 ^ ((z + n) - tens_below word), tens_below word - (z + n))) above ∙ ap (λ n. (a * 10 ^ ((z + exponent_amount (exponent_part word)) - n), n - (z + exponent_amount (exponent_part word)))) below)
     (alike-plus z f (exponent_amount (exponent_part word)) told short t) h
 
-pub read-minus : (word : List ℕ) (r : Option (ℕ × ℕ)) (a z f told : ℕ) → number_of_digits (all_digits word) ≡ a * 10 ^ z → a ≢ 0 → (a % 10 ≡ 0 → a ≡ 0) → true ≡ exponent_has_minus (exponent_part word) → f ≡ length (fraction_digits word) → z < 2 ^ 66 → told ≡ min (exponent_amount (exponent_part word)) (10 ^ 20) → IsFormOf r a z (f + told) → IsReadAs r word
+pub read-minus : (word : List ℕ) (r : Option (ℕ × ℕ)) (a z f told : ℕ) → number_of_digits (all_digits word) ≡ a * 10 ^ z → a ≢ 0
+    → (a % 10 ≡ 0 → a ≡ 0) → true ≡ exponent_has_minus (exponent_part word) → f ≡ length (fraction_digits word) → z < 2 ^ 66
+    → told ≡ min (exponent_amount (exponent_part word)) (10 ^ 20) → IsFormOf r a z (f + told) → IsReadAs r word
 read-minus word r a z f told e some ends minus g short t h =
     let above : tens_above word ≡ 0 = rw (sym minus) refl in
     let below : tens_below word ≡ f + exponent_amount (exponent_part word) = rw (sym minus) (ap (λ n. n + exponent_amount (exponent_part word)) (sym g)) in

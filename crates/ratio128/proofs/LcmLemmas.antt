@@ -35,7 +35,8 @@ pub IsLcm-from_IsGcd : (a b g : ℕ) → 0 < g → IsGcd a b g → IsLcm a b (a 
 IsLcm-from_IsGcd a b g positive is =
     let whole : a * (b / g) * g ≡ a * b = mul_assoc a (b / g) g ∙ ap (λ m. a * m) (div-mul_cancel g is.1) in
     let crossed : a / g * b ≡ a * (b / g) =
-    ap (λ m. a / g * m) (sym (mul-div_cancel' g is.1)) ∙ sym (mul_assoc (a / g) g (b / g)) ∙ ap (λ m. m * (b / g)) (div-mul_cancel g is.0) in
+    ap (λ m. a / g * m) (sym (mul-div_cancel' g is.1)) ∙ sym (mul_assoc (a / g) g (b / g))
+    ∙ ap (λ m. m * (b / g)) (div-mul_cancel g is.0) in
     record {
       first = dvd-mul_right a (b / g);
       second = let P : ℕ → Type 0 = λ m. b ∣ m in subst P crossed (dvd-mul_left b (a / g));
@@ -50,13 +51,15 @@ IsLcm-from_IsGcd a b g positive is =
         let second : a * b ∣ suc n * b = mul-dvd-mul_right a p b in
         let both : a * b ∣ suc n * g = (IsGcd-scaled (suc n) a b g (omega arith) is).2 (a * b) first second in
         let P : ℕ → Type 0 = λ k. k ∣ suc n * g in
-        dvd_of_mul-dvd-mul_right (a * (b / g)) positive (subst P (sym (mul_assoc a (b / g) g ∙ ap (λ m. a * m) (div-mul_cancel g is.1))) both)
+        dvd_of_mul-dvd-mul_right (a * (b / g)) positive
+        (subst P (sym (mul_assoc a (b / g) g ∙ ap (λ m. a * m) (div-mul_cancel g is.1))) both)
 
 -- no common multiple is less, but 0
 pub IsLcm-unique : (a b m k : ℕ) → IsLcm a b m → IsLcm a b k → m ≡ k
 IsLcm-unique a b m k one two = dvd_antisymm (one.least k two.first two.second) (two.least m one.first one.second)
 
-pub none_passes : (a b g bound : ℕ) (r : Option ℕ) → 0 < g → IsGcd a b g → (IsNone r ↔ (bound < a * (b / g))) → IfNone r ((m : ℕ) → IsLcm a b m → bound < m)
+pub none_passes : (a b g bound : ℕ) (r : Option ℕ) → 0 < g → IsGcd a b g → (IsNone r ↔ (bound < a * (b / g))) →
+    IfNone r ((m : ℕ) → IsLcm a b m → bound < m)
 none_passes a b g bound None positive is passed = λ m least.
     let same : a * (b / g) ≡ m = IsLcm-unique a b _ m (IsLcm-from_IsGcd a b g positive is) least in
     let P : ℕ → Type 0 = λ k. bound < k in subst P same (passed.0 refl)

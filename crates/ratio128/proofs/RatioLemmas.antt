@@ -49,12 +49,14 @@ quotient_positive a b g is positive =
     nonzero zero e = let none : 0 ≡ b = sym (zero-mul g) ∙ e in absurd (omega arith)
     nonzero (suc q) e = omega arith
 
-pub lowest_same : (num : ℤ) (den amount g : ℕ) (r : ℤ) → amount ≡ unsigned_abs num → IsGcd amount den g → r ≡ signed_like num (amount / g) → num *ℤ pos (den / g) ≡ r *ℤ pos den
+pub lowest_same : (num : ℤ) (den amount g : ℕ) (r : ℤ) → amount ≡ unsigned_abs num → IsGcd amount den g →
+    r ≡ signed_like num (amount / g) → num *ℤ pos (den / g) ≡ r *ℤ pos den
 lowest_same num den amount g r e is s =
     let is' : IsGcd (unsigned_abs num) den g = let P : ℕ → Type 0 = λ k. IsGcd k den g in subst P e is in
     same_fraction num den g is' ∙ ap (λ k. signed_like num (k / g) *ℤ pos den) (sym e) ∙ ap (λ k. k *ℤ pos den) (sym s)
 
-pub lowest_gcd : (num : ℤ) (den amount g : ℕ) (r : ℤ) → 0 < g → IsGcd amount den g → r ≡ signed_like num (amount / g) → IsGcd (unsigned_abs r) (den / g) 1
+pub lowest_gcd : (num : ℤ) (den amount g : ℕ) (r : ℤ) → 0 < g → IsGcd amount den g → r ≡ signed_like num (amount / g) →
+    IsGcd (unsigned_abs r) (den / g) 1
 lowest_gcd num den amount g r positive is s =
     let P : ℕ → Type 0 = λ k. IsGcd k (den / g) 1 in
     subst P (sym (unsigned_abs-signed_like num (amount / g)) ∙ ap unsigned_abs (sym s)) (IsGcd-quotients amount den g positive is)

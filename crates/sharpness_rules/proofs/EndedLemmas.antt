@@ -17,7 +17,8 @@ use Rattle.sharpness_rules.proofs.RingLemmas.{values-proper, length-values, leng
 abbrev pairs : List Sharpness → List Sharpness → List (model.Sharpness × model.Sharpness)
 pairs ring next = zip (map sharpness_of ring) (map sharpness_of next)
 
-pair-at : (ring next : List Sharpness) (i : ℕ) (s t : Sharpness) → length ring ≡ length next → i < length ring → s ≡ get_or ring i s → t ≡ get_or next i t → get_or (pairs ring next) i (model.Smooth, model.Smooth) ≡ (sharpness_of s, sharpness_of t)
+pair-at : (ring next : List Sharpness) (i : ℕ) (s t : Sharpness) → length ring ≡ length next → i < length ring → s ≡ get_or ring i s
+    → t ≡ get_or next i t → get_or (pairs ring next) i (model.Smooth, model.Smooth) ≡ (sharpness_of s, sharpness_of t)
 pair-at ring next i s t same within first second =
     let inside : i < length (map sharpness_of ring) = rw length-map within in
     let beside : i < length (map sharpness_of next) = rw length-map (omega (arith, same)) in
@@ -40,7 +41,8 @@ pairs-proper (s ∷ ring) (n ∷ next) = AreProper-append (ended_value (sharpnes
 length-ended : (x : model.Sharpness × model.Sharpness) → length (ended_value x) ≤ 1
 length-ended x = cond_both (is_sharp x.1) [] (semi_values x.0) (λ values. length values ≤ 1) (λ _. omega arith) (λ _. length-values x.0)
 
-length-ended_values : (x : model.Sharpness × model.Sharpness) (xs : List (model.Sharpness × model.Sharpness)) → length (ended_value x ++ flat_map ended_value xs) ≤ length xs + 1
+length-ended_values : (x : model.Sharpness × model.Sharpness) (xs : List (model.Sharpness × model.Sharpness))
+    → length (ended_value x ++ flat_map ended_value xs) ≤ length xs + 1
 length-ended_values x xs = omega (arith, length-append (ended_value x) (flat_map ended_value xs), length-ended x, length-flat_map ended_value length-ended xs)
 
 -- the values that end at a vertex and in its ring
@@ -53,19 +55,23 @@ abbrev pub values_before : Sharpness → Sharpness → List Sharpness → List S
 values_before vertex vertex_child ring next i =
     ended_value (sharpness_of vertex, sharpness_of vertex_child) ++ flat_map ended_value (take i (pairs ring next))
 
-pub values_ended-proper : (vertex vertex_child : Sharpness) (ring next : List Sharpness) → AreProper (values_ended vertex vertex_child ring next)
+pub values_ended-proper : (vertex vertex_child : Sharpness) (ring next : List Sharpness)
+    → AreProper (values_ended vertex vertex_child ring next)
 values_ended-proper vertex vertex_child ring next =
     AreProper-append (ended_value (sharpness_of vertex, sharpness_of vertex_child)) _ (ended-proper vertex (sharpness_of vertex_child)) (pairs-proper ring (map sharpness_of next))
 
-pub length-values_ended : (vertex vertex_child : Sharpness) (ring next : List Sharpness) → length ring ≡ length next → length (values_ended vertex vertex_child ring next) ≤ length ring + 1
+pub length-values_ended : (vertex vertex_child : Sharpness) (ring next : List Sharpness) → length ring ≡ length next
+    → length (values_ended vertex vertex_child ring next) ≤ length ring + 1
 length-values_ended vertex vertex_child ring next same =
     omega (arith, length-pairs ring next same, length-ended_values (sharpness_of vertex, sharpness_of vertex_child) (pairs ring next))
 
-pub length-values_before : (vertex vertex_child : Sharpness) (ring next : List Sharpness) (i : ℕ) → length (values_before vertex vertex_child ring next i) ≤ i + 1
+pub length-values_before : (vertex vertex_child : Sharpness) (ring next : List Sharpness) (i : ℕ)
+    → length (values_before vertex vertex_child ring next i) ≤ i + 1
 length-values_before vertex vertex_child ring next i =
     omega (arith, length-take i (pairs ring next), length-ended_values (sharpness_of vertex, sharpness_of vertex_child) (take i (pairs ring next)))
 
-pub values_before-all : (vertex vertex_child : Sharpness) (ring next : List Sharpness) (i : ℕ) → length ring ≡ length next → length ring ≤ i → values_before vertex vertex_child ring next i ≡ values_ended vertex vertex_child ring next
+pub values_before-all : (vertex vertex_child : Sharpness) (ring next : List Sharpness) (i : ℕ) → length ring ≡ length next
+    → length ring ≤ i → values_before vertex vertex_child ring next i ≡ values_ended vertex vertex_child ring next
 values_before-all vertex vertex_child ring next i same past =
     ap (λ xs. ended_value (sharpness_of vertex, sharpness_of vertex_child) ++ flat_map ended_value xs) (take_all i (pairs ring next) (omega (arith, length-pairs ring next same)))
 
@@ -75,26 +81,34 @@ pub record EndsAt (ring next : List Sharpness) (i : ℕ) (values : List (ℕ × 
   within : i < length ring
   ends : values ≡ ended_value (get_or (pairs ring next) i (model.Smooth, model.Smooth))
 
-pub EndsAt-from : (ring next : List Sharpness) (i : ℕ) (s t : Sharpness) (values : List (ℕ × ℕ)) → length ring ≡ length next → i < length ring → s ≡ get_or ring i s → t ≡ get_or next i t → values ≡ ended_value (sharpness_of s, sharpness_of t) → EndsAt ring next i values
+pub EndsAt-from : (ring next : List Sharpness) (i : ℕ) (s t : Sharpness) (values : List (ℕ × ℕ)) → length ring ≡ length next
+    → i < length ring → s ≡ get_or ring i s → t ≡ get_or next i t → values ≡ ended_value (sharpness_of s, sharpness_of t)
+    → EndsAt ring next i values
 EndsAt-from ring next i s t values same within first second e = record {
   same = same;
   within = within;
   ends = e ∙ ap ended_value (sym (pair-at ring next i s t same within first second));
 }
 
-pub values_before-next : (vertex vertex_child : Sharpness) (ring next : List Sharpness) (i : ℕ) (values : List (ℕ × ℕ)) → EndsAt ring next i values → values_before vertex vertex_child ring next i ++ values ≡ values_before vertex vertex_child ring next (i + 1)
+pub values_before-next : (vertex vertex_child : Sharpness) (ring next : List Sharpness) (i : ℕ) (values : List (ℕ × ℕ))
+    → EndsAt ring next i values
+    → values_before vertex vertex_child ring next i ++ values ≡ values_before vertex vertex_child ring next (i + 1)
 values_before-next vertex vertex_child ring next i values at =
     let inside : i < length (pairs ring next) = omega (arith, at.within, length-pairs ring next at.same) in
     ap (λ more. values_before vertex vertex_child ring next i ++ more) at.ends
     ∙ flat_map-next ended_value (ended_value (sharpness_of vertex, sharpness_of vertex_child)) (pairs ring next) i (model.Smooth, model.Smooth) inside
 
-pub values_before-too_fine : (vertex vertex_child : Sharpness) (ring next : List Sharpness) (i : ℕ) (values : List (ℕ × ℕ)) → EndsAt ring next i values → 2 ^ 60 < common_denominator (values_before vertex vertex_child ring next i ++ values) → 2 ^ 60 < common_denominator (values_ended vertex vertex_child ring next)
+pub values_before-too_fine : (vertex vertex_child : Sharpness) (ring next : List Sharpness) (i : ℕ) (values : List (ℕ × ℕ))
+    → EndsAt ring next i values → 2 ^ 60 < common_denominator (values_before vertex vertex_child ring next i ++ values)
+    → 2 ^ 60 < common_denominator (values_ended vertex vertex_child ring next)
 values_before-too_fine vertex vertex_child ring next i values at passed =
     let inside : i < length (pairs ring next) = omega (arith, at.within, length-pairs ring next at.same) in
     let P : List (ℕ × ℕ) → Type 0 = λ more. 2 ^ 60 < common_denominator (values_before vertex vertex_child ring next i ++ more) in
     too_fine-split ended_value (ended_value (sharpness_of vertex, sharpness_of vertex_child)) (pairs ring next) i (model.Smooth, model.Smooth) inside (values_ended-proper vertex vertex_child ring next) (subst P at.ends passed)
 
-pub vertex-too_fine : (vertex vertex_child : Sharpness) (ring next : List Sharpness) (values : List (ℕ × ℕ)) → values ≡ ended_value (sharpness_of vertex, sharpness_of vertex_child) → 2 ^ 60 < common_denominator values → 2 ^ 60 < common_denominator (values_ended vertex vertex_child ring next)
+pub vertex-too_fine : (vertex vertex_child : Sharpness) (ring next : List Sharpness) (values : List (ℕ × ℕ))
+    → values ≡ ended_value (sharpness_of vertex, sharpness_of vertex_child) → 2 ^ 60 < common_denominator values
+    → 2 ^ 60 < common_denominator (values_ended vertex vertex_child ring next)
 vertex-too_fine vertex vertex_child ring next values e passed =
     let P : List (ℕ × ℕ) → Type 0 = λ more. 2 ^ 60 < common_denominator more in
     common_denominator-more (ended_value (sharpness_of vertex, sharpness_of vertex_child)) (flat_map ended_value (pairs ring next)) (2 ^ 60) (values_ended-proper vertex vertex_child ring next) (subst P e passed)

@@ -14,7 +14,8 @@ use Rattle.sharpness_rules.proofs.PartLemmas.{sum-same}
 use Rattle.sharpness_rules.proofs.SharpnessLemmas.{sharpness_of-same}
 
 -- the half stays below 16 times its denominator
-pub half-bounded : (count others own num den whole : ℕ) → count ≡ others + 1 → 1 ≤ others → own ≤ 10 * den → num ≤ 10 * (count * den) → whole ≡ 4 * others * den → whole ≤ 2 ^ 60 → 3 * others * own + (num - own) - whole < 2 ^ 64
+pub half-bounded : (count others own num den whole : ℕ) → count ≡ others + 1 → 1 ≤ others → own ≤ 10 * den → num ≤ 10 * (count * den)
+    → whole ≡ 4 * others * den → whole ≤ 2 ^ 60 → 3 * others * own + (num - own) - whole < 2 ^ 64
 half-bounded count others own num den whole e some h k same short =
     let mine : 3 * others * own ≤ 3 * others * (10 * den) = mul-le-mul_left (3 * others) h in
     let one : 1 * den ≤ others * den = mul-le-mul_right den some in
@@ -56,7 +57,8 @@ value-over x den h =
     let whole : den / x.1 * x.1 ≡ den = div-mul_cancel x.1 h in record { crossed = omega (arith, ap (λ z. x.0 * z) whole) }
 
 -- the half of one of `others + 1` values, whose sum is num / den
-half-over : (x sum : ℕ × ℕ) (others own num den : ℕ) → IsOver x own den → IsOver sum num den → IsOver (chaikin_value x sum (others + 1)) (3 * others * own + (num - own) - 4 * others * den) (4 * others * den)
+half-over : (x sum : ℕ × ℕ) (others own num den : ℕ) → IsOver x own den → IsOver sum num den
+    → IsOver (chaikin_value x sum (others + 1)) (3 * others * own + (num - own) - 4 * others * den) (4 * others * den)
 half-over x sum others own num den mine all =
     let less : others + 1 - 1 ≡ others = omega arith in
     let first : IsOver (times_fraction (3, 4) x) (3 * others * own) (4 * others * den) = same-over _ _ _ _ _ (scaled-over others _ _ _ (times-over 3 4 x own den mine)) (omega arith) (omega arith) in
@@ -74,7 +76,9 @@ pub total-common : (values : List (ℕ × ℕ)) (total : Total) → IsTotal valu
 total-common values total is = let P : ℕ → Type 0 = λ m. m ∣ total.den in subst P is.den (dvd_refl total.den)
 
 -- what the code makes is the half of the definition
-pub half-value : (values : List (ℕ × ℕ)) (x : ℕ × ℕ) (total : Total) → AreProper values → 0 < x.1 → x.1 ∣ total.den → IsTotal values total → 2 ≤ total.count → sharpness_of_fraction (3 * (total.count - 1) * parts_over total.den x + (total.num - parts_over total.den x) - 4 * (total.count - 1) * total.den, 4 * (total.count - 1) * total.den) ≡ chaikin_half values x
+pub half-value : (values : List (ℕ × ℕ)) (x : ℕ × ℕ) (total : Total) → AreProper values → 0 < x.1 → x.1 ∣ total.den
+    → IsTotal values total → 2 ≤ total.count
+    → sharpness_of_fraction (3 * (total.count - 1) * parts_over total.den x + (total.num - parts_over total.den x) - 4 * (total.count - 1) * total.den, 4 * (total.count - 1) * total.den) ≡ chaikin_half values x
 half-value values x total proper positive divides is several =
     let next : total.count - 1 + 1 ≡ length values = omega (arith, is.count) in
     let all : IsOver (sum_of_fractions values) total.num total.den = record { crossed = sum-same values total.den (total-common values total is) ∙ ap (λ n. n * (sum_of_fractions values).1) (sym is.num) } in

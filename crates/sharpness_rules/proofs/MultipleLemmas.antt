@@ -76,7 +76,8 @@ common_denominator-positive [] p = omega arith
 common_denominator-positive (x ∷ xs) p = IsLcm-positive x.1 (common_denominator xs) _ (lcm_of-is x.1 (common_denominator xs)) p.0.positive (common_denominator-positive xs p.1)
 
 -- one more value
-pub common_denominator-push : (values : List (ℕ × ℕ)) (x : ℕ × ℕ) → common_denominator (values ++ x ∷ []) ≡ lcm_of (common_denominator values) x.1
+pub common_denominator-push : (values : List (ℕ × ℕ)) (x : ℕ × ℕ)
+    → common_denominator (values ++ x ∷ []) ≡ lcm_of (common_denominator values) x.1
 common_denominator-push values x =
     ap lcm_of_all (map_push (λ y. y.1) values x) ∙ lcm_of_all-push (map (λ y. y.1) values) x.1
 
@@ -87,7 +88,8 @@ common_denominator-prefix (x ∷ xs) ys =
     (lcm_of-is x.1 (common_denominator xs)).least _ all.first (dvd_trans (common_denominator xs) (common_denominator-prefix xs ys) all.second)
 
 -- more values have no lesser denominator
-pub common_denominator-more : (xs ys : List (ℕ × ℕ)) (bound : ℕ) → AreProper (xs ++ ys) → bound < common_denominator xs → bound < common_denominator (xs ++ ys)
+pub common_denominator-more : (xs ys : List (ℕ × ℕ)) (bound : ℕ) → AreProper (xs ++ ys) → bound < common_denominator xs
+    → bound < common_denominator (xs ++ ys)
 common_denominator-more xs ys bound positive passed =
     let less : common_denominator xs ≤ common_denominator (xs ++ ys) = le_of_dvd (common_denominator-positive (xs ++ ys) positive) (common_denominator-prefix xs ys) in
     omega arith

@@ -23,7 +23,8 @@ head-divides x xs den h = dvd_trans x.1 (lcm_of-is x.1 (common_denominator xs)).
 rest-divides : (x : ℕ × ℕ) (xs : List (ℕ × ℕ)) (den : ℕ) → common_denominator (x ∷ xs) ∣ den → common_denominator xs ∣ den
 rest-divides x xs den h = dvd_trans (common_denominator xs) (lcm_of-is x.1 (common_denominator xs)).second h
 
-pub sum-more : (values : List (ℕ × ℕ)) (den more : ℕ) → common_denominator values ∣ den → den ∣ more → sum_by (parts_over more) values ≡ sum_by (parts_over den) values * (more / den)
+pub sum-more : (values : List (ℕ × ℕ)) (den more : ℕ) → common_denominator values ∣ den → den ∣ more
+    → sum_by (parts_over more) values ≡ sum_by (parts_over den) values * (more / den)
 sum-more [] den more p q = omega arith
 sum-more (x ∷ xs) den more p q =
     let here = parts-more x den more (head-divides x xs den p) q in
@@ -42,7 +43,8 @@ sum-step a b n d q s den whole rest =
     omega (arith, ap (λ m. a * d * m) whole, ap (λ m. m * b) rest)
 
 -- the sum over the denominator is the sum of the fractions
-pub sum-same : (values : List (ℕ × ℕ)) (den : ℕ) → common_denominator values ∣ den → (sum_of_fractions values).0 * den ≡ sum_by (parts_over den) values * (sum_of_fractions values).1
+pub sum-same : (values : List (ℕ × ℕ)) (den : ℕ) → common_denominator values ∣ den
+    → (sum_of_fractions values).0 * den ≡ sum_by (parts_over den) values * (sum_of_fractions values).1
 sum-same [] den p = omega arith
 sum-same (x ∷ xs) den p =
     let rest = sum-same xs den (rest-divides x xs den p) in

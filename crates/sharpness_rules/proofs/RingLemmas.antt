@@ -19,7 +19,9 @@ use Rattle.sharpness_rules.specs.View.{sharpness_of}
 use Rattle.sharpness_rules.proofs.MultipleLemmas.{IsProper, AreProper, AreProper-append, common_denominator-prefix, common_denominator-more, common_denominator-push, lcm_of-is, too_fine-several}
 
 -- an edge at a place is sharp or not
-pub places-at : (ring : List Sharpness) (place : ℕ) (s : Sharpness) → place < length ring → s ≡ get_or ring place s → is_sharp (sharpness_of s) ≡ true → places_from place is_sharp (drop place (map sharpness_of ring)) ≡ place ∷ places_from (place + 1) is_sharp (drop (place + 1) (map sharpness_of ring))
+pub places-at : (ring : List Sharpness) (place : ℕ) (s : Sharpness) → place < length ring → s ≡ get_or ring place s
+    → is_sharp (sharpness_of s) ≡ true
+    → places_from place is_sharp (drop place (map sharpness_of ring)) ≡ place ∷ places_from (place + 1) is_sharp (drop (place + 1) (map sharpness_of ring))
 places-at ring place s within read sharp =
     let inside : place < length (map sharpness_of ring) = rw length-map within in
     let here : get_or (map sharpness_of ring) place model.Smooth ≡ sharpness_of s = get_or-map sharpness_of ring place s model.Smooth within ∙ ap sharpness_of (sym read) in
@@ -28,7 +30,9 @@ places-at ring place s within read sharp =
     ∙ ap (λ x. cond (is_sharp x) (place ∷ rest) rest) here
     ∙ cond-true (is_sharp (sharpness_of s)) (place ∷ rest) rest sharp
 
-pub places-after : (ring : List Sharpness) (place : ℕ) (s : Sharpness) → place < length ring → s ≡ get_or ring place s → is_sharp (sharpness_of s) ≡ false → places_from place is_sharp (drop place (map sharpness_of ring)) ≡ places_from (place + 1) is_sharp (drop (place + 1) (map sharpness_of ring))
+pub places-after : (ring : List Sharpness) (place : ℕ) (s : Sharpness) → place < length ring → s ≡ get_or ring place s
+    → is_sharp (sharpness_of s) ≡ false
+    → places_from place is_sharp (drop place (map sharpness_of ring)) ≡ places_from (place + 1) is_sharp (drop (place + 1) (map sharpness_of ring))
 places-after ring place s within read soft =
     let inside : place < length (map sharpness_of ring) = rw length-map within in
     let here : get_or (map sharpness_of ring) place model.Smooth ≡ sharpness_of s = get_or-map sharpness_of ring place s model.Smooth within ∙ ap sharpness_of (sym read) in
@@ -38,7 +42,8 @@ places-after ring place s within read soft =
     ∙ cond-false (is_sharp (sharpness_of s)) (place ∷ rest) rest soft
 
 -- the values before a place, at it and after it
-flat_map-split : {X : Type 0} (f : X → List (ℕ × ℕ)) (xs : List X) (i : ℕ) (d : X) → i < length xs → flat_map f xs ≡ (flat_map f (take i xs) ++ f (get_or xs i d)) ++ flat_map f (drop (suc i) xs)
+flat_map-split : {X : Type 0} (f : X → List (ℕ × ℕ)) (xs : List X) (i : ℕ) (d : X) → i < length xs
+    → flat_map f xs ≡ (flat_map f (take i xs) ++ f (get_or xs i d)) ++ flat_map f (drop (suc i) xs)
 flat_map-split f [] i d h = absurd (omega arith)
 flat_map-split f (x ∷ xs) zero d h = refl
 flat_map-split f (x ∷ xs) (suc i) d h =
@@ -47,7 +52,9 @@ flat_map-split f (x ∷ xs) (suc i) d h =
     ∙ ap (λ r. r ++ flat_map f (drop (suc i) xs)) (sym (append_assoc (f x) (flat_map f (take i xs)) (f (get_or xs i d))))
 
 -- what is too fine already stays so
-pub too_fine-split : {X : Type 0} (f : X → List (ℕ × ℕ)) (prefix : List (ℕ × ℕ)) (xs : List X) (i : ℕ) (d : X) → i < length xs → AreProper (prefix ++ flat_map f xs) → 2 ^ 60 < common_denominator ((prefix ++ flat_map f (take i xs)) ++ f (get_or xs i d)) → 2 ^ 60 < common_denominator (prefix ++ flat_map f xs)
+pub too_fine-split : {X : Type 0} (f : X → List (ℕ × ℕ)) (prefix : List (ℕ × ℕ)) (xs : List X) (i : ℕ) (d : X) → i < length xs
+    → AreProper (prefix ++ flat_map f xs) → 2 ^ 60 < common_denominator ((prefix ++ flat_map f (take i xs)) ++ f (get_or xs i d))
+    → 2 ^ 60 < common_denominator (prefix ++ flat_map f xs)
 too_fine-split f prefix xs i d h proper passed =
     let here = f (get_or xs i d) in
     let after = flat_map f (drop (suc i) xs) in
@@ -58,11 +65,13 @@ too_fine-split f prefix xs i d h proper passed =
     subst Q (sym split) (common_denominator-more ((prefix ++ flat_map f (take i xs)) ++ here) after (2 ^ 60) (subst AreProper split proper) passed)
 
 -- one item more
-pub flat_map-next : {X : Type 0} (f : X → List (ℕ × ℕ)) (prefix : List (ℕ × ℕ)) (xs : List X) (i : ℕ) (d : X) → i < length xs → (prefix ++ flat_map f (take i xs)) ++ f (get_or xs i d) ≡ prefix ++ flat_map f (take (i + 1) xs)
+pub flat_map-next : {X : Type 0} (f : X → List (ℕ × ℕ)) (prefix : List (ℕ × ℕ)) (xs : List X) (i : ℕ) (d : X) → i < length xs
+    → (prefix ++ flat_map f (take i xs)) ++ f (get_or xs i d) ≡ prefix ++ flat_map f (take (i + 1) xs)
 flat_map-next f prefix xs i d h =
     flat_map_more f prefix (take i xs) (get_or xs i d) ∙ ap (λ r. prefix ++ flat_map f r) (sym (take_more xs i d h))
 
-pub length-flat_map : {X : Type 0} (f : X → List (ℕ × ℕ)) → ((x : X) → length (f x) ≤ 1) → (xs : List X) → length (flat_map f xs) ≤ length xs
+pub length-flat_map : {X : Type 0} (f : X → List (ℕ × ℕ)) → ((x : X) → length (f x) ≤ 1) → (xs : List X)
+    → length (flat_map f xs) ≤ length xs
 length-flat_map f short [] = omega arith
 length-flat_map f short (x ∷ xs) = omega (arith, length-append (f x) (flat_map f xs), short x, length-flat_map f short xs)
 
@@ -98,7 +107,9 @@ pub length-ring : (ring : List Sharpness) → length (ring_values ring) ≤ leng
 length-ring ring = omega (arith, length-flat_map semi_values length-values (map sharpness_of ring), length-map ring sharpness_of)
 
 -- what is too fine before the end of the ring stays so
-pub ring-too_fine : (ring : List Sharpness) (i : ℕ) (s : Sharpness) → i < length ring → s ≡ get_or ring i s → 2 ^ 60 < common_denominator (ring_values (take i ring) ++ semi_values (sharpness_of s)) → 2 ^ 60 < common_denominator (ring_values ring)
+pub ring-too_fine : (ring : List Sharpness) (i : ℕ) (s : Sharpness) → i < length ring → s ≡ get_or ring i s
+    → 2 ^ 60 < common_denominator (ring_values (take i ring) ++ semi_values (sharpness_of s))
+    → 2 ^ 60 < common_denominator (ring_values ring)
 ring-too_fine ring i s within read passed =
     let inside : i < length (map sharpness_of ring) = rw length-map within in
     let here : sharpness_of s ≡ get_or (map sharpness_of ring) i model.Smooth = ap sharpness_of read ∙ sym (get_or-map sharpness_of ring i s model.Smooth within) in
@@ -106,11 +117,13 @@ ring-too_fine ring i s within read passed =
     let Q : model.Sharpness → Type 0 = λ x. 2 ^ 60 < common_denominator (flat_map semi_values (take i (map sharpness_of ring)) ++ semi_values x) in
     too_fine-split semi_values [] (map sharpness_of ring) i model.Smooth inside (ring-proper ring) (subst Q here (subst P (sym (take-map sharpness_of i ring)) passed))
 
-pub edge-at : (ring : List Sharpness) (at : ℕ) (d : Sharpness) (value : Semi) → at < length ring → get_or ring at d ≡ variant.Semi value → get_or (map sharpness_of ring) at model.Smooth ≡ model.Semi value.num value.den
+pub edge-at : (ring : List Sharpness) (at : ℕ) (d : Sharpness) (value : Semi) → at < length ring → get_or ring at d ≡ variant.Semi value
+    → get_or (map sharpness_of ring) at model.Smooth ≡ model.Semi value.num value.den
 edge-at ring at d value within read = get_or-map sharpness_of ring at d model.Smooth within ∙ ap sharpness_of read
 
 -- a semi-sharp edge of the ring is one of its values
-edge-split : (ring : List Sharpness) (at : ℕ) (d : Sharpness) (value : Semi) → at < length ring → get_or ring at d ≡ variant.Semi value → ring_values ring ≡ (flat_map semi_values (take at (map sharpness_of ring)) ++ (value.num, value.den) ∷ []) ++ flat_map semi_values (drop (suc at) (map sharpness_of ring))
+edge-split : (ring : List Sharpness) (at : ℕ) (d : Sharpness) (value : Semi) → at < length ring → get_or ring at d ≡ variant.Semi value
+    → ring_values ring ≡ (flat_map semi_values (take at (map sharpness_of ring)) ++ (value.num, value.den) ∷ []) ++ flat_map semi_values (drop (suc at) (map sharpness_of ring))
 edge-split ring at d value within read =
     let inside : at < length (map sharpness_of ring) = rw length-map within in
     flat_map-split semi_values (map sharpness_of ring) at model.Smooth inside
@@ -121,21 +134,26 @@ middle-divides prefix after x =
     let P : ℕ → Type 0 = λ m. x.1 ∣ m in
     dvd_trans x.1 (subst P (sym (common_denominator-push prefix x)) (lcm_of-is (common_denominator prefix) x.1).second) (common_denominator-prefix (prefix ++ x ∷ []) after)
 
-middle-parts : (prefix after : List (ℕ × ℕ)) (x : ℕ × ℕ) (den : ℕ) → parts_over den x ≤ sum_by (parts_over den) ((prefix ++ x ∷ []) ++ after)
+middle-parts : (prefix after : List (ℕ × ℕ)) (x : ℕ × ℕ) (den : ℕ)
+    → parts_over den x ≤ sum_by (parts_over den) ((prefix ++ x ∷ []) ++ after)
 middle-parts prefix after x den = omega (arith, sum_by-append (parts_over den) (prefix ++ x ∷ []) after, sum_by_push (parts_over den) prefix x)
 
-pub edge-divides : (ring : List Sharpness) (at : ℕ) (d : Sharpness) (value : Semi) → at < length ring → get_or ring at d ≡ variant.Semi value → value.den ∣ common_denominator (ring_values ring)
+pub edge-divides : (ring : List Sharpness) (at : ℕ) (d : Sharpness) (value : Semi) → at < length ring
+    → get_or ring at d ≡ variant.Semi value → value.den ∣ common_denominator (ring_values ring)
 edge-divides ring at d value within read =
     let P : List (ℕ × ℕ) → Type 0 = λ values. value.den ∣ common_denominator values in
     subst P (sym (edge-split ring at d value within read)) (middle-divides _ _ (value.num, value.den))
 
-pub edge-parts : (ring : List Sharpness) (at : ℕ) (d : Sharpness) (value : Semi) (den : ℕ) → at < length ring → get_or ring at d ≡ variant.Semi value → parts_over den (value.num, value.den) ≤ sum_by (parts_over den) (ring_values ring)
+pub edge-parts : (ring : List Sharpness) (at : ℕ) (d : Sharpness) (value : Semi) (den : ℕ) → at < length ring
+    → get_or ring at d ≡ variant.Semi value → parts_over den (value.num, value.den) ≤ sum_by (parts_over den) (ring_values ring)
 edge-parts ring at d value den within read =
     let P : List (ℕ × ℕ) → Type 0 = λ values. parts_over den (value.num, value.den) ≤ sum_by (parts_over den) values in
     subst P (sym (edge-split ring at d value within read)) (middle-parts (flat_map semi_values (take at (map sharpness_of ring))) (flat_map semi_values (drop (suc at) (map sharpness_of ring))) (value.num, value.den) den)
 
 -- where the ring is too fine, a semi-sharp edge of it has no half
-pub edge-overflows : (ring : List Sharpness) (at : ℕ) (d : Sharpness) (value : Semi) → at < length ring → get_or ring at d ≡ variant.Semi value → 2 ^ 60 < common_denominator (ring_values ring) → model.half_overflows (map sharpness_of ring) at ≡ true
+pub edge-overflows : (ring : List Sharpness) (at : ℕ) (d : Sharpness) (value : Semi) → at < length ring
+    → get_or ring at d ≡ variant.Semi value → 2 ^ 60 < common_denominator (ring_values ring)
+    → model.half_overflows (map sharpness_of ring) at ≡ true
 edge-overflows ring at d value within read passed =
     let several : 2 ≤ length (ring_values ring) = too_fine-several (ring_values ring) (ring-proper ring) passed in
     let times : 1 * common_denominator (ring_values ring) ≤ 4 * (length (ring_values ring) - 1) * common_denominator (ring_values ring) = mul-le-mul_right (common_denominator (ring_values ring)) (omega arith) in

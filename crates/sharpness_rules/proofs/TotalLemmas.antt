@@ -25,16 +25,19 @@ scaled-bounded num count den more h p =
 pub product-bounded : (count den : ℕ) → count ≤ 2 ^ 32 → den ≤ 2 ^ 60 → count * den ≤ 2 ^ 92
 product-bounded count den few short = mul-le count den (2 ^ 32) (2 ^ 60) few short
 
-pub push-too_fine : (values : List (ℕ × ℕ)) (x : ℕ × ℕ) (den bound : ℕ) → den ≡ common_denominator values → ((m : ℕ) → IsLcm den x.1 m → bound < m) → bound < common_denominator (values ++ x ∷ [])
+pub push-too_fine : (values : List (ℕ × ℕ)) (x : ℕ × ℕ) (den bound : ℕ) → den ≡ common_denominator values
+    → ((m : ℕ) → IsLcm den x.1 m → bound < m) → bound < common_denominator (values ++ x ∷ [])
 push-too_fine values x den bound same passed =
     let P : ℕ → Type 0 = λ m. bound < m in
     subst P (ap (λ n. lcm_of n x.1) same ∙ sym (common_denominator-push values x)) (passed (lcm_of den x.1) (lcm_of-is den x.1))
 
-push-den : (values : List (ℕ × ℕ)) (x : ℕ × ℕ) (den more : ℕ) → den ≡ common_denominator values → IsLcm den x.1 more → more ≡ common_denominator (values ++ x ∷ [])
+push-den : (values : List (ℕ × ℕ)) (x : ℕ × ℕ) (den more : ℕ) → den ≡ common_denominator values → IsLcm den x.1 more
+    → more ≡ common_denominator (values ++ x ∷ [])
 push-den values x den more same is =
     IsLcm-unique den x.1 more (lcm_of den x.1) is (lcm_of-is den x.1) ∙ ap (λ n. lcm_of n x.1) same ∙ sym (common_denominator-push values x)
 
-push-num : (values : List (ℕ × ℕ)) (x : ℕ × ℕ) (num den more : ℕ) → den ≡ common_denominator values → IsLcm den x.1 more → num ≡ sum_by (parts_over den) values → num * (more / den) + parts_over more x ≡ sum_by (parts_over more) (values ++ x ∷ [])
+push-num : (values : List (ℕ × ℕ)) (x : ℕ × ℕ) (num den more : ℕ) → den ≡ common_denominator values → IsLcm den x.1 more
+    → num ≡ sum_by (parts_over den) values → num * (more / den) + parts_over more x ≡ sum_by (parts_over more) (values ++ x ∷ [])
 push-num values x num den more same is sum =
     let within : common_denominator values ∣ den = let Q : ℕ → Type 0 = λ n. n ∣ den in subst Q same (dvd_refl den) in
     ap (λ n. n * (more / den) + parts_over more x) sum
@@ -42,7 +45,9 @@ push-num values x num den more same is sum =
     ∙ sym (sum_by_push (parts_over more) values x)
 
 -- one more value
-pub IsTotal-push : (values : List (ℕ × ℕ)) (x : ℕ × ℕ) (total more : Total) → IsTotal values total → IsLcm total.den x.1 more.den → more.count ≡ total.count + 1 → more.num ≡ total.num * (more.den / total.den) + parts_over more.den x → IsTotal (values ++ x ∷ []) more
+pub IsTotal-push : (values : List (ℕ × ℕ)) (x : ℕ × ℕ) (total more : Total) → IsTotal values total → IsLcm total.den x.1 more.den
+    → more.count ≡ total.count + 1 → more.num ≡ total.num * (more.den / total.den) + parts_over more.den x
+    → IsTotal (values ++ x ∷ []) more
 IsTotal-push values x total more is multiple count num = record {
   count = count ∙ ap (λ n. n + 1) is.count ∙ sym (length_push values x);
   den = push-den values x total.den more.den is.den multiple;

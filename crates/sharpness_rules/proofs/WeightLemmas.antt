@@ -18,7 +18,8 @@ use Rattle.sharpness_rules.proofs.HalfLemmas.{sum-positive, total-common}
 use Rattle.sharpness_rules.proofs.SharpnessLemmas.{at_most_one-same}
 
 -- the mean of what is too fine is too fine
-pub mean-too_fine : (values : List (ℕ × ℕ)) → 2 ^ 60 < common_denominator values → is_too_fine (length values * common_denominator values) ≡ true
+pub mean-too_fine : (values : List (ℕ × ℕ)) → 2 ^ 60 < common_denominator values
+    → is_too_fine (length values * common_denominator values) ≡ true
 mean-too_fine values passed =
     let some : 1 ≤ length values = too_fine-some values passed in
     let times : 1 * common_denominator values ≤ length values * common_denominator values = mul-le-mul_right (common_denominator values) some in
@@ -28,7 +29,8 @@ crossed : (num count den s d len : ℕ) → s * den ≡ num * d → count ≡ le
 crossed num count den s d len all same = omega (arith, ap (λ n. n * len) all, ap (λ n. s * (n * den)) same)
 
 -- what the code makes is the mean of the definition
-pub mean-value : (values : List (ℕ × ℕ)) (total : Total) → AreProper values → IsTotal values total → at_most_one (total.num, total.count * total.den) ≡ at_most_one (mean_of values)
+pub mean-value : (values : List (ℕ × ℕ)) (total : Total) → AreProper values → IsTotal values total
+    → at_most_one (total.num, total.count * total.den) ≡ at_most_one (mean_of values)
 mean-value [] total proper is =
     let none : total.count * total.den ≡ 0 = ap (λ n. n * total.den) is.count ∙ zero-mul total.den in
     cond-true (nat_le (total.count * total.den) total.num) (1, 1) (lowest (total.num, total.count * total.den)) (le-leb (total.count * total.den) total.num (omega arith))
@@ -40,7 +42,8 @@ mean-value (x ∷ xs) total proper is =
     (crossed total.num total.count total.den (sum_of_fractions (x ∷ xs)).0 (sum_of_fractions (x ∷ xs)).1 (length (x ∷ xs)) all is.count)
 
 -- values above 0 have a sum above 0
-sum-above : (values : List (ℕ × ℕ)) (den : ℕ) → AreProper values → 0 < den → common_denominator values ∣ den → 0 < length values → 0 < sum_by (parts_over den) values
+sum-above : (values : List (ℕ × ℕ)) (den : ℕ) → AreProper values → 0 < den → common_denominator values ∣ den → 0 < length values
+    → 0 < sum_by (parts_over den) values
 sum-above [] den proper above common some = absurd (omega arith)
 sum-above (x ∷ xs) den proper above common some =
     let whole : den / x.1 * x.1 ≡ den = div-mul_cancel x.1 (dvd_trans x.1 (lcm_of-is x.1 (common_denominator xs)).first common) in

@@ -7,8 +7,10 @@ nonzero_div-b c = IsGcd-positive _ _ _ c.gcd-common.ensures c.requires.b_positiv
 
 pub returns-clause-passed : goal.returns-clause-passed
 returns-clause-passed c =
-    none_passes _ _ _ _ _ (IsGcd-positive _ _ _ c.gcd-common.ensures c.requires.b_positive) c.gcd-common.ensures c.times_within.ensures.passed
+    none_passes _ _ _ _ _ (IsGcd-positive _ _ _ c.gcd-common.ensures c.requires.b_positive) c.gcd-common.ensures
+    c.times_within.ensures.passed
 
 pub returns-clause-multiple : goal.returns-clause-multiple
 returns-clause-multiple c =
-    some_is_least _ _ _ _ (IsGcd-positive _ _ _ c.gcd-common.ensures c.requires.b_positive) c.gcd-common.ensures c.times_within.ensures.product
+    some_is_least _ _ _ _ (IsGcd-positive _ _ _ c.gcd-common.ensures c.requires.b_positive) c.gcd-common.ensures
+    c.times_within.ensures.product

@@ -1,4 +1,4 @@
-use Rattle.std.proofs.Common.{◌<◌, ◌^◌, arith, rules}
+use Rattle.std.proofs.Common.{◌<◌, ◌^◌, arith}
 use Rattle.number_laws.proofs.DecimalLemmas.{decimal-number_text}
 use Rattle.obj_tags.proofs.fault.ObjFaultDisplay.fmt.Goals as goal
 
