@@ -1,0 +1,26 @@
+-- Codes of kept sharpness.
+use Rattle.std.proofs.Common.{◌≡◌, ℕ, suc, ◌<◌, ◌⊎◌, inl, inr, List, [], ◌∷◌, ◌++◌, length, map, get_or, arith, refl, ap, ◌∙◌}
+use Rattle.std.proofs.lemmas.List.{map_push, get_or_append_left}
+use Rattle.subdiv_model.specs.Sharpness.{Sharpness, Smooth}
+use Rattle.sharpness_rules.specs.declared.sharpness.Sharpness as declared
+use Rattle.sharpness_rules.specs.View.{sharpness_of}
+use Rattle.level_topology.specs.Coded.{kept, decoded}
+
+-- codes keep what they say when more values come after
+decoded-more : (values more : List Sharpness) (codes : List ℕ) → ((k : ℕ) → k < length codes → get_or codes k 0 < length values) → decoded (values ++ more) codes ≡ decoded values codes
+decoded-more values more [] each = refl
+decoded-more values more (code ∷ codes) each =
+    let here : code < length values = each 0 (omega arith) in
+    let first = get_or_append_left values more Smooth code here in
+    let rest = decoded-more values more codes (λ k h. each (suc k) (omega arith)) in
+    cc
+
+pub kept-push : (old new : List declared.Sharpness) (s : declared.Sharpness) (codes : List ℕ) (code limit : ℕ) → ((k : ℕ) → k < length codes → get_or codes k 0 < length (map sharpness_of old)) → (new ≡ old) ⊎ (new ≡ old ++ s ∷ []) → get_or (map sharpness_of new) code Smooth ≡ sharpness_of s → kept (decoded (map sharpness_of new) (codes ++ code ∷ [])) limit ≡ kept (decoded (map sharpness_of old) codes ++ sharpness_of s ∷ []) limit
+kept-push old new s codes code limit each how value = ap (λ xs. kept xs limit) (map_push (λ c. get_or (map sharpness_of new) c Smooth) codes code ∙ joined (stays how))
+  where
+    stays : (new ≡ old) ⊎ (new ≡ old ++ s ∷ []) → decoded (map sharpness_of new) codes ≡ decoded (map sharpness_of old) codes
+    stays (inl e) = ap (λ xs. decoded (map sharpness_of xs) codes) e
+    stays (inr e) = ap (λ xs. decoded (map sharpness_of xs) codes) e ∙ ap (λ xs. decoded xs codes) (map_push sharpness_of old s) ∙ decoded-more (map sharpness_of old) (sharpness_of s ∷ []) codes each
+
+    joined : decoded (map sharpness_of new) codes ≡ decoded (map sharpness_of old) codes → decoded (map sharpness_of new) codes ++ get_or (map sharpness_of new) code Smooth ∷ [] ≡ decoded (map sharpness_of old) codes ++ sharpness_of s ∷ []
+    joined e = cc

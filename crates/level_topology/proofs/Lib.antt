@@ -1,0 +1,6 @@
+pub mod PieceLemmas
+pub mod CodeLemmas
+pub mod RowLemmas
+pub mod PlaceLemmas
+pub mod LawLemmas
+pub mod SquareLemmas

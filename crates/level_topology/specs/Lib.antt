@@ -1,0 +1,7 @@
+pub mod Topology
+pub mod Packed
+pub mod Coded
+pub mod Rows
+pub mod View
+pub mod CountedText
+pub mod Square
