@@ -1,6 +1,6 @@
 -- The edges of a list of polygons, by first appearance, and the faces and edges that meet.
 -- Source: this profile.
-use Rattle.std.specs.Prelude.{ℕ, Bool, not, ◌&&◌, ◌||◌, nat_eq, List, [], ◌∷◌, length}
+use Rattle.std.specs.Prelude.{ℕ, Bool, ◌&&◌, ◌||◌, nat_eq, List, length}
 use Rattle.std.specs.List.{filter, flat_map, list_all, count_by, position_or_len}
 use Rattle.subdiv_model.specs.Polygons.{Polygon, sides_of, same_side, same_edge, has_corner, has_edge}
 use Rattle.subdiv_model.specs.Lists.{places, each_once_by}

@@ -1,9 +1,9 @@
 -- The mesh that the program makes by itself: a sheet of quads, with heights and creases that a seed decides.
 -- Source: this profile.
-use Rattle.std.specs.Prelude.{ℕ, zero, suc, ◌+◌, ◌*◌, ◌/◌, ◌%◌, ◌^◌, ℤ, pos, false, List, [], ◌∷◌, ◌++◌, map, zip, drop, get_or}
+use Rattle.std.specs.Prelude.{ℕ, zero, suc, ◌+◌, ◌*◌, ◌/◌, ◌%◌, ◌^◌, ℤ, pos, false, List, [], ◌∷◌, map, zip, drop, get_or}
 use Rattle.std.specs.List.{flat_map, range_with_len}
 use Rattle.subdiv_model.specs.Polygons.{Polygon}
-use Rattle.subdiv_model.specs.Sharpness.{Sharpness, Smooth, Normal, sharpness_of}
+use Rattle.subdiv_model.specs.Sharpness.{Sharpness, Normal, sharpness_of}
 use Rattle.subdiv_model.specs.Boundary.{EdgeOnly}
 use Rattle.subdiv_model.specs.ObjMesh.{ObjMesh}
 

@@ -1,8 +1,8 @@
 -- The line of a level: its counts.
 -- Source: this profile.
-use Rattle.std.specs.Prelude.{ℕ, ◌+◌, ◌-◌, ℤ, pos, ◌-ℤ◌, unsigned_abs, Bool, not, ◌&&◌, nat_eq, nat_lt, List, [], ◌∷◌, ◌++◌, length, codes}
-use Rattle.std.specs.List.{filter, flat_map, count_by, range_with_len}
-use Rattle.subdiv_model.specs.Edges.{edges_of, faces_of_edge, is_boundary}
+use Rattle.std.specs.Prelude.{ℕ, ◌+◌, ℤ, pos, ◌-ℤ◌, unsigned_abs, Bool, not, ◌&&◌, nat_eq, nat_lt, List, [], ◌∷◌, ◌++◌, length, codes}
+use Rattle.std.specs.List.{flat_map, count_by, range_with_len}
+use Rattle.subdiv_model.specs.Edges.{edges_of, is_boundary}
 use Rattle.subdiv_model.specs.Level.{Level, edges_at, faces_at, is_hole}
 use Rattle.subdiv_model.specs.Child.{refined_level}
 use Rattle.subdiv_model.specs.Base.{is_at_boundary}

@@ -1,6 +1,6 @@
 -- What is wrong with a mesh, and the fault that is named.
 -- Source: this profile.
-use Rattle.std.specs.Prelude.{ℕ, Bool, not, ◌||◌, nat_le, nat_lt, List, [], ◌∷◌, ◌++◌, length, map, Option, Some, None}
+use Rattle.std.specs.Prelude.{ℕ, Bool, not, ◌||◌, nat_le, nat_lt, List, ◌++◌, length, map, Option}
 use Rattle.std.specs.List.{filter, count_by, range_with_len}
 use Rattle.subdiv_model.specs.Polygons.{Polygon, same_edge, is_distinct}
 use Rattle.subdiv_model.specs.Lists.{places, first_of}

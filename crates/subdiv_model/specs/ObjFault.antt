@@ -1,6 +1,6 @@
 -- What is wrong with an OBJ text.
 -- Source: this profile.
-use Rattle.std.specs.Prelude.{ℕ, Bool, true, false, List, Option, Some, None}
+use Rattle.std.specs.Prelude.{ℕ, Bool, true, false, List, Option}
 use Rattle.std.specs.List.{filter_map}
 use Rattle.subdiv_model.specs.Lists.{first_of}
 

@@ -5,12 +5,12 @@ use Rattle.std.specs.Prelude.{ℕ, ◌+◌, ◌-◌, ◌*◌, ◌^◌, ℤ, pos,
 use Rattle.std.specs.List.{list_all, slice_split}
 use Rattle.subdiv_model.specs.ObjLine.{begins_with}
 use Rattle.subdiv_model.specs.Digits.{is_digits, number_of_digits, has_minus}
-use Rattle.subdiv_model.specs.Numeral.{normal_amount}
+use Rattle.subdiv_model.specs.Numeral.{is_fraction, is_slash, numeral_amount, decimals_of}
 use Rattle.subdiv_model.specs.Index.{is_index, index_of}
 use Rattle.subdiv_model.specs.Sharpness.{Sharpness, Smooth, Method, Normal, Chaikin, sharpness_of_fraction}
 use Rattle.subdiv_model.specs.Boundary.{Boundary, Hidden, EdgeOnly, EdgeAndCorner}
 use Rattle.subdiv_model.specs.ObjFault.{ObjCause, BadTag, TagIndex, SharpnessRange, first_cause}
-use Rattle.subdiv_model.specs.ObjWord.{Counts, is_slash, numeral_fault}
+use Rattle.subdiv_model.specs.ObjWord.{Counts, numeral_fault}
 
 pub data TagKind : Type 0 where
   -- a chain of vertices, with one sharpness or with one for each pair
@@ -101,21 +101,20 @@ abbrev pub tag_index_fault : ℕ → List ℕ → Option ObjCause
 tag_index_fault count word =
     if is_index word then if is_below count (index_of word) then None else Some TagIndex else Some BadTag
 
--- a numeral's amount as a fraction
-abbrev pub amount_fraction : List ℕ → ℕ × ℕ
-amount_fraction word = ((normal_amount word).0, 10 ^ (normal_amount word).1)
-
--- the numeral is below 0
+-- the numeral is below 0, and it is below 10
 abbrev pub is_negative : List ℕ → Bool
-is_negative word = has_minus word && nat_lt 0 (normal_amount word).0
+is_negative word = has_minus word && nat_lt 0 (numeral_amount word).0
 
--- the numeral is below 10 and has more than six decimals
-abbrev pub has_too_many_decimals : List ℕ → Bool
-has_too_many_decimals word = nat_lt (amount_fraction word).0 (10 * (amount_fraction word).1) && nat_lt 6 (normal_amount word).1
+abbrev pub is_below_ten : List ℕ → Bool
+is_below_ten word = nat_lt (numeral_amount word).0 (10 * (numeral_amount word).1)
+
+-- a decimal of more than six decimals, or a fraction whose denominator in lowest terms passes 10^6
+abbrev pub is_too_fine_numeral : List ℕ → Bool
+is_too_fine_numeral word = if is_fraction word then nat_lt (10 ^ 6) (numeral_amount word).1 else nat_lt 6 (decimals_of word)
 
 -- what is wrong with a numeral that is kept, as a sharpness
 abbrev pub sharpness_fault : List ℕ → Option ObjCause
-sharpness_fault word = if is_negative word || has_too_many_decimals word then Some SharpnessRange else None
+sharpness_fault word = if is_negative word || (is_below_ten word && is_too_fine_numeral word) then Some SharpnessRange else None
 
 -- what is wrong with a word that must be a sharpness
 abbrev pub tag_numeral_fault : List ℕ → Option ObjCause
@@ -172,7 +171,7 @@ abbrev pub tag_indices : List (List ℕ) → List ℕ
 tag_indices words = map (λ word. unsigned_abs (index_of word)) (tag_wholes words)
 
 abbrev pub tag_sharpnesses : List (List ℕ) → List Sharpness
-tag_sharpnesses words = map (λ word. sharpness_of_fraction (amount_fraction word)) (tag_numerals words)
+tag_sharpnesses words = map (λ word. sharpness_of_fraction (numeral_amount word)) (tag_numerals words)
 
 -- one sharpness stands for all
 abbrev pub for_each : ℕ → List Sharpness → List Sharpness

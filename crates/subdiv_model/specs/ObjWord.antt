@@ -1,9 +1,9 @@
 -- Words of OBJ lines: kept numerals, corners of faces, and what is wrong with each.
 -- Source: this profile.
-use Rattle.std.specs.Prelude.{ℕ, zero, suc, ◌+◌, ◌-◌, ◌^◌, ℤ, pos, negsuc, ◌*ℤ◌, Bool, false, not, ◌&&◌, ◌||◌, nat_eq, nat_lt, List, [], ◌∷◌, length, get_or, Option, Some, None, is_none, if◌then◌else◌}
+use Rattle.std.specs.Prelude.{ℕ, zero, suc, ◌+◌, ◌-◌, ◌/◌, ℤ, pos, negsuc, ◌*ℤ◌, Bool, false, not, ◌&&◌, ◌||◌, nat_eq, nat_lt, List, [], ◌∷◌, length, get_or, Option, Some, None, is_none, if◌then◌else◌}
 use Rattle.std.specs.List.{slice_split}
 use Rattle.subdiv_model.specs.Digits.{number_of_digits}
-use Rattle.subdiv_model.specs.Numeral.{is_numeral, all_digits, tens_above, tens_below, normal_form, is_in_range}
+use Rattle.subdiv_model.specs.Numeral.{is_numeral, is_fraction, all_digits, tens_above, tens_below, numeral_form, is_decimal_in_range, is_fraction_in_range, is_slash}
 use Rattle.subdiv_model.specs.Index.{is_index, index_of}
 use Rattle.subdiv_model.specs.ObjFault.{ObjCause, BadNumeral, NumberRange, BadCorner, IndexRange}
 
@@ -13,24 +13,22 @@ is_far_exponent word =
     nat_lt (tens_below word + 36) (tens_above word)
     || nat_lt (length (all_digits word) + tens_above word + 37) (tens_below word)
 
--- the numeral is no zero and has such an exponent
+-- the decimal is no zero and has such an exponent
 abbrev pub is_past_range : List ℕ → Bool
 is_past_range word = nat_lt 0 (number_of_digits (all_digits word)) && is_far_exponent word
 
--- at most 37 digits and at most 37 decimals in normal form; the first test only spares a huge power
+-- a fraction with parts of at most 37 digits, or a decimal with at most 37 digits and at most 37 decimals in normal form;
+-- the test for an exponent only spares a huge power
 abbrev pub is_representable : List ℕ → Bool
-is_representable word = not (is_past_range word) && is_in_range word
+is_representable word = if is_fraction word then is_fraction_in_range word else not (is_past_range word) && is_decimal_in_range word
 
 -- what is wrong with a word that must be a numeral
 abbrev pub numeral_fault : List ℕ → Option ObjCause
 numeral_fault word = if is_numeral word then if is_representable word then None else Some NumberRange else Some BadNumeral
 
--- the numeral as a whole number over 10^scale, for a scale of at least its decimals
-abbrev pub number_at : ℕ → List ℕ → ℤ
-number_at scale word = (normal_form word).0 *ℤ pos (10 ^ (scale - (normal_form word).1))
-
-abbrev pub is_slash : ℕ → Bool
-is_slash b = nat_eq b 47
+-- the numeral as a whole number over a common denominator, which its own divides
+abbrev pub number_over : ℕ → List ℕ → ℤ
+number_over common word = (numeral_form word).0 *ℤ pos (common / (numeral_form word).1)
 
 abbrev pub is_empty : List ℕ → Bool
 is_empty word = nat_eq (length word) 0

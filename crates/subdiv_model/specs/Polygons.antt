@@ -1,6 +1,6 @@
 -- Polygons over points, as plain lists: their corners, their directed edges, and their places in a list.
 -- Source: this profile.
-use Rattle.std.specs.Prelude.{ℕ, ◌+◌, Bool, true, not, ◌&&◌, ◌||◌, nat_eq, nat_lt, List, [], ◌∷◌, get_or, if◌then◌else◌}
+use Rattle.std.specs.Prelude.{ℕ, Bool, true, not, ◌&&◌, ◌||◌, nat_eq, nat_lt, List, [], ◌∷◌, get_or}
 use Rattle.std.specs.List.{list_any, list_all}
 
 -- a polygon is its corners in order, each the number of a point

@@ -1,18 +1,19 @@
 -- Reading OBJ text: its first fault, or its mesh.
 -- Source: this profile.
 use Rattle.std.specs.Option.{option_or}
-use Rattle.std.specs.Prelude.{ℕ, suc, ◌-◌, ◌^◌, ℤ, unsigned_abs, Bool, not, ◌&&◌, ◌||◌, nat_eq, nat_le, nat_lt, max, List, [], ◌∷◌, length, map, take, drop, get_or, Option, Some, None, option_map, unwrap_or, bytes_eq, codes, if◌then◌else◌}
+use Rattle.std.specs.Prelude.{ℕ, suc, ◌-◌, ◌^◌, ℤ, unsigned_abs, Bool, not, ◌&&◌, ◌||◌, nat_eq, nat_le, nat_lt, List, [], ◌∷◌, length, map, take, drop, get_or, Option, Some, None, option_map, unwrap_or, bytes_eq, codes, if◌then◌else◌}
 use Rattle.std.specs.List.{filter, filter_map, flat_map, list_any, list_all, fold, count_by, range_with_len}
 use Rattle.subdiv_model.specs.Lists.{first_of, last_of}
 use Rattle.subdiv_model.specs.Polygons.{Polygon}
 use Rattle.subdiv_model.specs.Lists.{places}
 use Rattle.subdiv_model.specs.ObjLine.{lines_of, begins_with, is_vertex_line, is_face_line, line_words}
-use Rattle.subdiv_model.specs.Numeral.{normal_form}
+use Rattle.subdiv_model.specs.Multiples.{lcm_of}
+use Rattle.subdiv_model.specs.Numeral.{numeral_form}
 use Rattle.subdiv_model.specs.Sharpness.{Method, Normal}
 use Rattle.subdiv_model.specs.Boundary.{Boundary, EdgeOnly}
 use Rattle.subdiv_model.specs.ObjFault.{ObjCause, ObjFault, NumberRange, UnknownKeyword, Continuation, ShortLine, first_cause}
 use Rattle.subdiv_model.specs.ObjMesh.{ObjMesh}
-use Rattle.subdiv_model.specs.ObjWord.{Counts, numeral_fault, number_at, corner_fault, corner_point, corner_texture, has_texture_part}
+use Rattle.subdiv_model.specs.ObjWord.{Counts, numeral_fault, number_over, corner_fault, corner_point, corner_texture, has_texture_part}
 use Rattle.subdiv_model.specs.ObjTag.{tag_fault, is_tag, tag_creases, tag_corners, tag_indices, tag_mode, tag_method}
 
 -- a byte order mark at the beginning is skipped
@@ -105,29 +106,42 @@ kept_coordinates words =
     else if is_texture_line words then take 2 (values_of words)
     else []
 
--- a channel's scale: the greatest number of decimals among its kept coordinates, or more
-abbrev pub scale_over : ℕ → List (List (List ℕ)) → ℕ
-scale_over least lines = fold max least (map (λ word. (normal_form word).1) (flat_map kept_coordinates lines))
+-- a numeral's denominator in lowest terms
+abbrev pub denominator_of : List ℕ → ℕ
+denominator_of word = (numeral_form word).1
 
--- the scale of the positions, which is at least `least`, and that of the texture values
-abbrev pub position_scale : ℕ → List (List (List ℕ)) → ℕ
-position_scale least lines = scale_over least (filter is_vertex_line lines)
+-- a channel's common denominator over some of its lines: the least common multiple of `start` and of the denominators
+-- of the kept coordinates
+abbrev pub common_over : ℕ → List (List (List ℕ)) → ℕ
+common_over start lines = fold lcm_of start (map denominator_of (flat_map kept_coordinates lines))
 
-abbrev pub texture_scale_of : List (List (List ℕ)) → ℕ
-texture_scale_of lines = scale_over 0 (filter is_texture_line lines)
+-- the common denominator of the positions, which is a multiple of `10^least`, and that of the texture values
+abbrev pub position_common : ℕ → List (List (List ℕ)) → ℕ
+position_common least lines = common_over (10 ^ least) (filter is_vertex_line lines)
 
--- the scale of the channel of a `v` or `vt` line
-abbrev pub line_scale : ℕ → List (List (List ℕ)) → List (List ℕ) → ℕ
-line_scale least lines words = if is_vertex_line words then position_scale least lines else texture_scale_of lines
+abbrev pub texture_common_of : List (List (List ℕ)) → ℕ
+texture_common_of lines = common_over 1 (filter is_texture_line lines)
 
--- the numeral has more than 37 digits at a scale
-abbrev pub is_long_at : ℕ → List ℕ → Bool
-is_long_at scale word = nat_le (10 ^ 37) (unsigned_abs (number_at scale word))
+-- the common denominator of the channel's lines among the first ones passes 10^37
+abbrev pub passes_bound : (List (List ℕ) → Bool) → ℕ → List (List (List ℕ)) → Bool
+passes_bound is_of_channel start lines = nat_lt (10 ^ 37) (common_over start (filter is_of_channel lines))
 
--- a kept coordinate of the line has more than 37 digits at its channel's scale
-abbrev pub long_fault : ℕ → List (List (List ℕ)) → List (List ℕ) → Option ObjCause
-long_fault least lines words =
-    if list_any (is_long_at (line_scale least lines words)) (kept_coordinates words) then Some NumberRange else None
+-- the numeral has more than 37 digits over a common denominator
+abbrev pub is_long_over : ℕ → List ℕ → Bool
+is_long_over common word = nat_le (10 ^ 37) (unsigned_abs (number_over common word))
+
+abbrev pub has_long_number : ℕ → List (List ℕ) → Bool
+has_long_number common words = list_any (is_long_over common) (kept_coordinates words)
+
+-- the fault of the line at place i, of a channel whose common denominator passes the bound from there on, or has a
+-- number there that is too long over it
+abbrev pub wide_fault : (List (List ℕ) → Bool) → ℕ → List (List (List ℕ)) → ℕ → Option ObjCause
+wide_fault is_of_channel start lines i =
+    if is_of_channel (get_or lines i []) && passes_bound is_of_channel start (take (suc i) lines) then Some NumberRange else None
+
+abbrev pub long_fault : (List (List ℕ) → Bool) → ℕ → List (List (List ℕ)) → ℕ → Option ObjCause
+long_fault is_of_channel common lines i =
+    if is_of_channel (get_or lines i []) && has_long_number common (get_or lines i []) then Some NumberRange else None
 
 -- the first fault of the lines, where `cause_at` gives what is wrong at a place counted from 0
 abbrev pub first_fault : (ℕ → Option ObjCause) → ℕ → Option ObjFault
@@ -138,21 +152,34 @@ first_fault cause_at count =
 abbrev pub first_bad_line : List (List (List ℕ)) → Option ObjFault
 first_bad_line lines = first_fault (fault_at lines) (length lines)
 
--- the least line with a coordinate that is too long at its channel's scale
-abbrev pub first_long_line : ℕ → List (List (List ℕ)) → Option ObjFault
-first_long_line least lines = first_fault (λ i. long_fault least lines (get_or lines i [])) (length lines)
+-- the late fault of a channel: where its common denominator passes the bound, the least line up to which it does, and else
+-- the least line with a number that is too long
+abbrev pub late_fault : (List (List ℕ) → Bool) → ℕ → List (List (List ℕ)) → Option ObjFault
+late_fault is_of_channel start lines =
+    if passes_bound is_of_channel start lines then first_fault (wide_fault is_of_channel start lines) (length lines)
+    else first_fault (long_fault is_of_channel (common_over start (filter is_of_channel lines)) lines) (length lines)
 
--- the fault of a text, read with a scale of at least `least` for positions
+-- the fault of the lesser line
+abbrev pub lesser_fault : Option ObjFault → Option ObjFault → Option ObjFault
+lesser_fault None other = other
+lesser_fault (Some fault) None = Some fault
+lesser_fault (Some fault) (Some other) = if nat_lt other.line fault.line then Some other else Some fault
+
+-- the lesser of the late faults of both channels
+abbrev pub first_late_fault : ℕ → List (List (List ℕ)) → Option ObjFault
+first_late_fault least lines = lesser_fault (late_fault is_vertex_line (10 ^ least) lines) (late_fault is_texture_line 1 lines)
+
+-- the fault of a text, read with a common denominator of the positions that is a multiple of `10^least`
 abbrev pub read_obj_fault : List ℕ → ℕ → Option ObjFault
-read_obj_fault text least = option_or (first_bad_line (obj_lines text)) (first_long_line least (obj_lines text))
+read_obj_fault text least = option_or (first_bad_line (obj_lines text)) (first_late_fault least (obj_lines text))
 
--- a point at a scale, and a texture value, whose second coordinate is 0 where it is missing
-abbrev pub point_at : ℕ → List (List ℕ) → ℤ × ℤ × ℤ
-point_at scale words =
-    (number_at scale (get_or words 1 []), number_at scale (get_or words 2 []), number_at scale (get_or words 3 []))
+-- a point over a common denominator, and a texture value, whose second coordinate is 0 where it is missing
+abbrev pub point_over : ℕ → List (List ℕ) → ℤ × ℤ × ℤ
+point_over common words =
+    (number_over common (get_or words 1 []), number_over common (get_or words 2 []), number_over common (get_or words 3 []))
 
-abbrev pub texture_at : ℕ → List (List ℕ) → ℤ × ℤ
-texture_at scale words = (number_at scale (get_or words 1 []), number_at scale (get_or words 2 (codes "0")))
+abbrev pub texture_over : ℕ → List (List ℕ) → ℤ × ℤ
+texture_over common words = (number_over common (get_or words 1 []), number_over common (get_or words 2 (codes "0")))
 
 -- the numbers that the corners of the face line at place i name, by what one corner names
 abbrev pub corner_numbers : (Counts → Counts → List ℕ → Option ℕ) → List (List (List ℕ)) → ℕ → List ℕ
@@ -185,10 +212,10 @@ method_of lines = last_of Normal (map tag_method (tags_named (codes "creasemetho
 -- the mesh of lines without fault
 abbrev pub mesh_of_lines : List (List (List ℕ)) → ℕ → ObjMesh
 mesh_of_lines lines least = record {
-  points = map (point_at (position_scale least lines)) (filter is_vertex_line lines);
-  common = 10 ^ position_scale least lines;
-  texture = map (texture_at (texture_scale_of lines)) (filter is_texture_line lines);
-  texture_common = 10 ^ texture_scale_of lines;
+  points = map (point_over (position_common least lines)) (filter is_vertex_line lines);
+  common = position_common least lines;
+  texture = map (texture_over (texture_common_of lines)) (filter is_texture_line lines);
+  texture_common = texture_common_of lines;
   faces = faces_of lines;
   has_texture = has_texture_channel lines;
   texture_corners = texture_corners_of lines;

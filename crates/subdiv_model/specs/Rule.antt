@@ -1,11 +1,11 @@
 -- The rule of a vertex, and the weight between the rules of two levels.
 -- Source: DeRose, Kass and Truong 1998 for the rules; the weight at a vertex is this profile's.
-use Rattle.std.specs.Prelude.{ℕ, ◌*◌, Bool, true, false, ◌&&◌, ◌||◌, nat_eq, nat_le, nat_lt, List, [], ◌∷◌, ◌++◌, length, map, zip, if◌then◌else◌}
+use Rattle.std.specs.Prelude.{ℕ, ◌*◌, Bool, true, false, ◌&&◌, ◌||◌, nat_eq, nat_le, List, [], ◌∷◌, ◌++◌, length, map, zip, if◌then◌else◌}
 use Rattle.std.specs.List.{flat_map}
 use Rattle.subdiv_model.specs.Lists.{places}
-use Rattle.subdiv_model.specs.Fractions.{gcd_of, lowest, sum_of_fractions}
+use Rattle.subdiv_model.specs.Fractions.{lowest, sum_of_fractions}
 use Rattle.subdiv_model.specs.Multiples.{common_denominator}
-use Rattle.subdiv_model.specs.Sharpness.{Sharpness, Smooth, Semi, Infinite, Method, is_sharp, is_too_fine, semi_values, half_child}
+use Rattle.subdiv_model.specs.Sharpness.{Sharpness, Method, is_sharp, is_too_fine, semi_values, half_child}
 
 -- a crease names its two sharp edges by their places in the ring of all edges at the vertex, ascending
 pub data Rule : Type 0 where

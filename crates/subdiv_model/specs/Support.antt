@@ -1,6 +1,6 @@
 -- The control points that a refined point depends on, and how much of each: stencil rows.
 -- Source: this profile; the words are those of OpenSubdiv's Far layer.
-use Rattle.std.specs.Prelude.{ℕ, zero, suc, ◌+◌, ◌*◌, ◌/◌, ℤ, pos, unsigned_abs, nat_eq, List, [], ◌∷◌, map, get_or, length, if◌then◌else◌}
+use Rattle.std.specs.Prelude.{ℕ, zero, suc, ◌*◌, ◌/◌, ℤ, pos, unsigned_abs, nat_eq, List, [], ◌∷◌, map, get_or, length, if◌then◌else◌}
 use Rattle.std.specs.List.{filter, list_any, range_with_len, sum_by}
 use Rattle.subdiv_model.specs.Polygons.{is_among}
 use Rattle.subdiv_model.specs.Level.{Level}

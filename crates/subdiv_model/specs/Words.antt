@@ -1,7 +1,7 @@
 -- The words of a command line: a command, then options `name=value`, by one table.
 -- Source: this profile.
-use Rattle.std.specs.Prelude.{ℕ, ◌+◌, Bool, true, false, not, ◌&&◌, ◌||◌, nat_eq, nat_le, List, [], ◌∷◌, length, map, take, get_or, Option, Some, None, option_map, unwrap_or, is_some, bytes_eq, codes, if◌then◌else◌}
-use Rattle.std.specs.List.{list_all, list_any, filter, find, before_first, after_first, range_with_len}
+use Rattle.std.specs.Prelude.{ℕ, ◌+◌, Bool, true, false, not, ◌&&◌, ◌||◌, nat_eq, nat_le, List, [], ◌∷◌, length, take, get_or, Option, Some, None, option_map, unwrap_or, bytes_eq, codes, if◌then◌else◌}
+use Rattle.std.specs.List.{list_all, list_any, find, before_first, after_first, range_with_len}
 use Rattle.subdiv_model.specs.Digits.{is_digit, number_of_digits}
 
 -- what the value of an option may be

@@ -3,17 +3,20 @@
 //@ Faces=Fault
 //@ Valence=Fault
 
-ghost use Rattle.std.specs.Prelude.{◌≡◌, [], ◌∷◌, ◌++◌, map, take, pos, Some, None, codes};
-ghost use Rattle.subdiv_model.specs.Answer.{answer, level_count_faults};
+ghost use Rattle.std.specs.Prelude.{◌≡◌, List, [], ◌∷◌, ◌++◌, map, take, pos, Some, None, codes};
+ghost use Rattle.subdiv_model.specs.Answer.{answer, answer_of_mesh, count_faults, level_count_faults};
 ghost use Rattle.subdiv_model.specs.Base.{base_level};
 ghost use Rattle.subdiv_model.specs.ExampleControls.{first_texture};
 ghost use Rattle.subdiv_model.specs.ExampleTexts.{corner_cube_refined_text, cube_text, seamed_text, square_text};
+ghost use Rattle.subdiv_model.specs.Command.{Command};
 ghost use Rattle.subdiv_model.specs.Examples.{cube};
-ghost use Rattle.subdiv_model.specs.Fault.{ChaikinOverflow, Entries, FaceSize, LevelFaces, Long, Memory, Mesh, NotBuilt, Obj, Overflow, Positions, Read, Texture, TooLarge, TransitionOverflow, Usage, Valence, ValueOverflow, Write, fault_line, fault_status, outcome_status};
+ghost use Rattle.subdiv_model.specs.Fault.{ChaikinOverflow, Entries, Fault, FaceSize, LevelFaces, Long, Memory, Mesh, NotBuilt, Obj, Overflow, Positions, Read, Texture, TooLarge, TransitionOverflow, Usage, Valence, ValueOverflow, Write, fault_line, fault_status, outcome_status};
 ghost use Rattle.subdiv_model.specs.Generator.{draws_from, generated_mesh, sheet_faces};
 ghost use Rattle.subdiv_model.specs.MeshFault.{NonManifoldEdge, RepeatedVertex, SplitVertex};
 ghost use Rattle.subdiv_model.specs.ObjFault.{BadTag, UnknownKeyword};
+ghost use Rattle.subdiv_model.specs.ObjMesh.{ObjMesh};
 ghost use Rattle.subdiv_model.specs.ReadObj.{read_obj_mesh};
+ghost use Rattle.subdiv_model.specs.Sharpness.{Semi};
 
 /// The words of `refine`, by the table and level by level, on small meshes.
 pub fn refined_meshes()
@@ -63,6 +66,7 @@ pub fn refusals_in_their_order()
     ensures mesh { answer (codes "levels" ∷ codes "depth=0" ∷ []) (codes "v 0 0 0\nv 0 0 0\nf 1 2 1\n") ≡ record { text = []; refusal = Some (Mesh (RepeatedVertex 0)) } }
     ensures value { (answer (codes "refine" ∷ codes "depth=1" ∷ []) (square_text ++ codes "v 1e36 0 0\nv 0 0 9e36\n")).refusal ≡ None }
     ensures overflow { (answer (codes "refine" ∷ codes "depth=2" ∷ []) (square_text ++ codes "v 0 0 9e36\n")).refusal ≡ Some (Overflow Positions 2 ValueOverflow) }
+    ensures by_level { (answer (codes "refine" ∷ codes "by=level" ∷ codes "depth=2" ∷ []) (square_text ++ codes "v 0 0 9e36\n")).refusal ≡ Some (Overflow Positions 2 ValueOverflow) }
     ensures level_alone { (answer (codes "levels" ∷ codes "depth=2" ∷ []) (square_text ++ codes "v 0 0 9e36\n")).refusal ≡ None }
 {}
 
@@ -71,6 +75,12 @@ pub fn counts_past_their_limits()
     ensures faces { level_count_faults cube 10 ≡ TooLarge (LevelFaces 10 6291456) ∷ [] }
     ensures two { map fault_line (level_count_faults cube 10) ≡ codes "far: level 10 has 6291456 faces\n" ∷ [] }
     ensures none { level_count_faults cube 9 ≡ [] }
+{}
+
+/// A mesh with a count past its limit is refused for the first such count, whatever the command.
+pub fn counts_come_first()
+    ensures { (command : Command) (mesh : ObjMesh) (fault : Fault) (faults : List Fault) → count_faults mesh ≡ fault ∷ faults
+        → (answer_of_mesh command mesh).refusal ≡ Some fault }
 {}
 
 /// Each fault as a line on standard error, and its status.
@@ -94,5 +104,5 @@ pub fn draws_and_sheets()
     ensures faces { sheet_faces 1 ≡ (0 ∷ 1 ∷ 3 ∷ 2 ∷ []) ∷ [] }
     ensures points { map (λ p. p.2) (generated_mesh 0 1).points ≡ pos 0 ∷ pos 6 ∷ pos 6 ∷ pos 4 ∷ [] }
     ensures places { take 4 (map (λ p. p.0) (generated_mesh 0 2).points) ≡ pos 0 ∷ pos 10 ∷ pos 20 ∷ pos 0 ∷ [] }
-    ensures creases { map (λ c. c.0) (generated_mesh 3 2).creases ≡ (3, 4) ∷ (4, 5) ∷ [] }
+    ensures creases { (generated_mesh 3 2).creases ≡ ((3, 4), Semi 2 1) ∷ ((4, 5), Semi 2 1) ∷ [] }
 {}

@@ -3,7 +3,8 @@
 
 ghost use Rattle.std.specs.Prelude.{◌≡◌, ◌-◌, ◌≤◌, ◌^◌, pos, negsuc, true, false, [], ◌∷◌, codes};
 ghost use Rattle.subdiv_model.specs.ObjLine.{line_end_of, line_words};
-ghost use Rattle.subdiv_model.specs.Numeral.{is_numeral, normal_form, is_in_range, form_text};
+ghost use Rattle.subdiv_model.specs.Numeral.{is_numeral, is_fraction, normal_form, numeral_form, is_in_range, form_text};
+ghost use Rattle.subdiv_model.specs.ObjWord.{number_over};
 ghost use Rattle.subdiv_model.specs.Index.{is_index, index_of, nearest_index};
 
 /// Where lines end.
@@ -48,6 +49,37 @@ pub fn words_that_are_no_numerals()
     ensures gap { is_numeral (codes "1_0") ≡ false }
 {}
 
+/// Words that are fractions: a sign, digits, a slash, and digits that are not all zero.
+pub fn words_that_are_fractions()
+    ensures fraction { is_fraction (codes "5/9") ≡ true }
+    ensures plus { is_numeral (codes "+07/010") ≡ true }
+    ensures nought { is_numeral (codes "-0/3") ≡ true }
+    ensures decimal { is_fraction (codes "0.5") ≡ false }
+{}
+
+/// Words with a slash that are no numerals.
+pub fn words_that_are_no_fractions()
+    ensures none { is_numeral (codes "1/0") ≡ false }
+    ensures noughts { is_numeral (codes "0/00") ≡ false }
+    ensures sign { is_numeral (codes "1/-2") ≡ false }
+    ensures point { is_numeral (codes "1.5/2") ≡ false }
+    ensures exponent { is_numeral (codes "1/2e3") ≡ false }
+    ensures before { is_numeral (codes "/2") ≡ false }
+    ensures after_slash { is_numeral (codes "1/") ≡ false }
+    ensures twice { is_numeral (codes "1/2/3") ≡ false }
+{}
+
+/// Numerals in lowest terms, and as whole numbers over a common denominator.
+pub fn numerals_in_lowest_terms()
+    ensures fraction { numeral_form (codes "-10/18") ≡ (negsuc 4, 9) }
+    ensures decimal { numeral_form (codes "0.50") ≡ (pos 1, 2) }
+    ensures tens { numeral_form (codes "12.34e1") ≡ (pos 617, 5) }
+    ensures whole { numeral_form (codes "6/3") ≡ (pos 2, 1) }
+    ensures zero { numeral_form (codes "-0/7") ≡ (pos 0, 1) }
+    ensures over { number_over 36 (codes "-5/9") ≡ negsuc 19 }
+    ensures itself { number_over 9 (codes "5/9") ≡ pos 5 }
+{}
+
 /// Normal forms: the mantissa and the number of decimals.
 pub fn normal_forms_of_numerals()
     ensures half { normal_form (codes "0.50") ≡ (pos 5, 1) }
@@ -74,6 +106,9 @@ pub fn bounds_of_the_range()
     ensures even { is_in_range (codes "10e-38") ≡ true }
     ensures high { is_in_range (codes "1e36") ≡ true }
     ensures higher { is_in_range (codes "1e37") ≡ false }
+    ensures numerator { is_in_range (codes "10000000000000000000000000000000000000/10000000000000000000000000000000000000") ≡ false }
+    ensures denominator { is_in_range (codes "1/10000000000000000000000000000000000000") ≡ false }
+    ensures zeros { is_in_range (codes "09999999999999999999999999999999999999/09999999999999999999999999999999999999") ≡ true }
 {}
 
 /// Words that are indices, and what they say.

@@ -38,6 +38,7 @@ pub fn seam_that_ends_inside()
     ensures divided { joined_faces slit_sheet 1 0 ≡ 0 ∷ [] }
     ensures points { (cut_level SmoothSeams slit_sheet).point_count ≡ 10 }
     ensures boundary { edge_sharpness_of (cut_level SmoothSeams slit_sheet) (1, 2) ≡ Infinite }
+    ensures tag { edge_sharpness_of (cut_level SmoothSeams (record slit_sheet { creases = ((4, 5), Semi 5 2) ∷ [] })) (6, 2) ≡ Semi 5 2 }
 {}
 
 /// What the modes keep sharp: points of one face, or all points on the boundary of the cut mesh; and tags of the mesh

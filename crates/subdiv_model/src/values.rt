@@ -1,6 +1,6 @@
 //! Examples of refined values, common denominators and stencil rows, each proved by computing.
 
-ghost use Rattle.std.specs.Prelude.{◌≡◌, ◌^◌, true, false, [], ◌∷◌, ◌++◌, map, get_or, replicate, pos, codes};
+ghost use Rattle.std.specs.Prelude.{◌≡◌, ◌+◌, ◌^◌, true, false, [], ◌∷◌, ◌++◌, map, get_or, replicate, pos, codes};
 ghost use Rattle.subdiv_model.specs.Base.{base_level};
 ghost use Rattle.subdiv_model.specs.Channel.{Sharpnesses, Tables, Values, chaikin_overflows_at, channel_faults, greatest_denominator, has_value_overflow, transition_overflows_at};
 ghost use Rattle.subdiv_model.specs.ExampleControls.{cube_ring, cube_x, cube_z};
@@ -101,7 +101,7 @@ pub fn overflows_of_sharpness()
     ensures other_end { chaikin_overflows_at (base_level (record (tagged_mesh 8 cube (((0, 1), Semi 1 (2 ^ 59)) ∷ ((1, 3), Semi 1 3) ∷ []) []) { method = Chaikin })) 0 ≡ false }
     ensures normal { chaikin_overflows_at (tagged_level 8 cube (((0, 1), Semi 1 (2 ^ 59)) ∷ ((1, 3), Semi 1 3) ∷ []) []) 1 ≡ false }
     ensures transition { transition_overflows_at (tagged_level 8 cube (((0, 1), Semi 1 (2 ^ 59)) ∷ ((1, 3), Semi 1 3) ∷ []) []) CatmullClark 1 ≡ true }
-    ensures one_mask { transition_overflows_at (tagged_level 8 cube (((0, 1), Semi 1 (2 ^ 60)) ∷ []) []) CatmullClark 1 ≡ false }
+    ensures one_mask { transition_overflows_at (tagged_level 8 cube (((0, 1), Semi 1 (2 ^ 60 + 1)) ∷ []) []) CatmullClark 1 ≡ false }
     ensures linear { transition_overflows_at (tagged_level 8 cube (((0, 1), Semi 1 (2 ^ 59)) ∷ ((1, 3), Semi 1 3) ∷ []) []) Linear 1 ≡ false }
 {}
 
