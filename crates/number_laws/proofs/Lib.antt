@@ -3,6 +3,7 @@ pub mod ListLemmas
 pub mod DecimalLemmas
 pub mod FractionLemmas
 pub mod DivisorLemmas
+pub mod CoprimeLemmas
 pub mod MultipleLemmas
 pub mod WholeNumberLemmas
 pub mod TextLemmas

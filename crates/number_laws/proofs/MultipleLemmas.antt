@@ -1,10 +1,10 @@
 -- Least common multiples.
-use Rattle.std.proofs.Common.{◌≡◌, ℕ, zero, suc, ◌*◌, ◌/◌, ◌<◌, List, [], ◌∷◌, arith, ap, sym, ◌∙◌, subst}
-use Rattle.std.specs.List.{All, AllByRecursion}
+use Rattle.std.proofs.Common.{◌≡◌, ℕ, zero, suc, ◌*◌, ◌/◌, ◌<◌, List, [], ◌∷◌, arith, lit<, ap, sym, ◌∙◌, subst}
+use Rattle.std.specs.List.{All, AllByRecursion, fold}
 use Rattle.std.specs.Int.{◌∣◌}
-use Rattle.std.proofs.lemmas.Nat.Gcd.{dvd_trans, dvd-zero}
+use Rattle.std.proofs.lemmas.Nat.Gcd.{dvd_refl, dvd_trans, dvd-zero, same_from_IsGcd}
 use Rattle.std.proofs.lemmas.List.Elements.{All-from_recursion, recursion_from_All}
-use Rattle.std.proofs.Math.Nat.{mul_comm, mul_assoc, div-mul_cancel, mul-div_cancel', mul-div_cancel_left, dvd-mul_left, dvd-mul_right, mul-dvd-mul_left, mul-dvd-mul_right, dvd_of_mul-dvd-mul_right, one-dvd}
+use Rattle.std.proofs.Math.Nat.{mul_comm, mul_assoc, div-mul_cancel, mul-div_cancel', mul-div_cancel_left, dvd-mul_left, dvd-mul_right, mul-dvd-mul_left, mul-dvd-mul_right, dvd_of_mul-dvd-mul_right, one-dvd, div_self, mul-one}
 use Rattle.subdiv_model.specs.Fractions.{gcd_of}
 use Rattle.subdiv_model.specs.Multiples.{lcm_of, lcm_of_all}
 use Rattle.number_laws.proofs.FractionLemmas.{gcd_of-is}
@@ -86,3 +86,35 @@ each-divides numbers = All-from_recursion (λ a. a ∣ lcm_of_all numbers) numbe
 pub least-of-all : (numbers : List ℕ) (n : ℕ) → All (λ a. 0 < a) numbers → All (λ a. a ∣ n) numbers → lcm_of_all numbers ∣ n
 least-of-all numbers n h d =
     lcm-least_of_all numbers n (recursion_from_All (λ a. 0 < a) numbers h) (recursion_from_All (λ a. a ∣ n) numbers d)
+
+-- a divisor adds nothing
+pub lcm-absorbs : (a b : ℕ) → 0 < b → b ∣ a → lcm_of a b ≡ a
+lcm-absorbs a b positive divides =
+    let common : gcd_of a b ≡ b = same_from_IsGcd a b (gcd_of a b) b (gcd_of-is a b) (divides, dvd_refl b, λ d p q. q) in
+    ap (λ g. a * (b / g)) common ∙ ap (λ n. a * n) (div_self positive) ∙ mul-one a
+
+-- neither does 1
+pub lcm-one : (a : ℕ) → lcm_of a 1 ≡ a
+lcm-one a = lcm-absorbs a 1 (lit< tt) (one-dvd a)
+
+-- one by one, to a number to start with
+pub fold-lcm-multiple : (start : ℕ) (numbers : List ℕ) → start ∣ fold lcm_of start numbers
+fold-lcm-multiple start [] = dvd_refl start
+fold-lcm-multiple start (a ∷ numbers) = dvd_trans start (lcm-first start a) (fold-lcm-multiple (lcm_of start a) numbers)
+
+pub fold-lcm-positive : (start : ℕ) (numbers : List ℕ) → 0 < start → AllByRecursion (λ a. 0 < a) numbers → 0 < fold lcm_of start numbers
+fold-lcm-positive start [] positive all = positive
+fold-lcm-positive start (a ∷ numbers) positive all = fold-lcm-positive (lcm_of start a) numbers (lcm-positive start a positive all.0) all.1
+
+-- each of them divides the last
+pub fold-lcm-divided : (start : ℕ) (numbers : List ℕ) → AllByRecursion (λ a. a ∣ fold lcm_of start numbers) numbers
+fold-lcm-divided start [] = tt
+fold-lcm-divided start (a ∷ numbers) =
+    (dvd_trans a (lcm-second start a) (fold-lcm-multiple (lcm_of start a) numbers), fold-lcm-divided (lcm_of start a) numbers)
+
+-- and it divides each number that all of them divide
+pub fold-lcm-least : (start : ℕ) (numbers : List ℕ) (n : ℕ) → AllByRecursion (λ a. 0 < a) numbers → start ∣ n
+    → AllByRecursion (λ a. a ∣ n) numbers → fold lcm_of start numbers ∣ n
+fold-lcm-least start [] n all first each = first
+fold-lcm-least start (a ∷ numbers) n all first each =
+    fold-lcm-least (lcm_of start a) numbers n all.1 (lcm-least start a n all.0 first each.0) each.1

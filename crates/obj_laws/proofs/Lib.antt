@@ -2,6 +2,8 @@ pub mod DigitLemmas
 pub mod NumeralLemmas
 pub mod NumeralValueLemmas
 pub mod NumeralTextLemmas
+pub mod NumeralKindLemmas
+pub mod NumeralTermsLemmas
 pub mod RangeLemmas
 pub mod FirstFaultLemmas
 pub mod ObjLineLemmas

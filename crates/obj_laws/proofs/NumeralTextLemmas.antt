@@ -6,7 +6,7 @@ use Rattle.std.proofs.lemmas.Bool.{cases_eq, and_parts, ne_eqb, eq-eqb, le-leb, 
 use Rattle.std.proofs.lemmas.Bool.Decides.{nat_tests}
 use Rattle.std.proofs.lemmas.Int.Digits.{number_digits_of, all_below_base_digits_of, length-digits_of_step}
 use Rattle.std.proofs.lemmas.List.{take_at, drop_at, drop_all, length-map}
-use Rattle.subdiv_model.specs.Numeral.{are_digits, is_sign, without_sign, signed, is_exponent_mark, is_point, decimal_part, exponent_part, fraction_digits, all_digits, exponent_amount, exponent_has_minus, is_exponent, is_numeral, cancelled, normal_amount, normal_form, form_text}
+use Rattle.subdiv_model.specs.Numeral.{are_digits, is_sign, without_sign, signed, is_exponent_mark, is_point, decimal_part, exponent_part, fraction_digits, all_digits, exponent_amount, exponent_has_minus, is_exponent, is_decimal, cancelled, normal_amount, normal_form, form_text}
 use Rattle.subdiv_model.specs.NumberText.{number_text}
 use Rattle.subdiv_model.specs.Digits.{is_digit, number_of_digits, has_minus}
 use Rattle.number_laws.proofs.DecimalLemmas.{number_text-digits}
@@ -132,8 +132,8 @@ split-parts word digits exponent e are =
 text-parts : (m : ℤ) (d : ℕ) → AreParts (form_text (m, d)) (number_text (unsigned_abs m)) (number_text d)
 text-parts m d = split-parts (form_text (m, d)) _ _ (parts-of m d).rest (text-of (unsigned_abs m)).digits
 
-pub text-numeral : (m : ℤ) (d : ℕ) → is_numeral (form_text (m, d)) ≡ true
-text-numeral m d =
+pub text-decimal : (m : ℤ) (d : ℕ) → is_decimal (form_text (m, d)) ≡ true
+text-decimal m d =
     let parts = text-parts m d in
     ap (λ digits. are_digits digits && is_exponent (exponent_part (form_text (m, d)))) parts.decimal
     ∙ ap (λ power. are_digits (number_text (unsigned_abs m)) && is_exponent power) parts.power
@@ -182,5 +182,5 @@ form-read-back word =
     text-form (normal_form word).0 (normal_form word).1
     (λ none. (word-reduced word).ends (ap (λ n. n % 10) (sym (signed-amount (has_minus word) (normal_amount word).0)) ∙ none))
 
-pub form-numeral : (word : List ℕ) → is_numeral (form_text (normal_form word)) ≡ true
-form-numeral word = text-numeral (normal_form word).0 (normal_form word).1
+pub form-decimal : (word : List ℕ) → is_decimal (form_text (normal_form word)) ≡ true
+form-decimal word = text-decimal (normal_form word).0 (normal_form word).1

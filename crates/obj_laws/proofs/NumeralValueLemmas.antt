@@ -1,4 +1,4 @@
--- The normal form of a numeral has its value, with the least number of decimals.
+-- The normal form of a decimal has its value, with the least number of decimals.
 use Rattle.std.proofs.Common.{◌≡◌, ◌≢◌, ℕ, zero, suc, ◌+◌, ◌-◌, ◌*◌, ◌/◌, ◌%◌, ◌^◌, ◌<◌, ◌≤◌, ℤ, pos, neg_ℤ, ◌*ℤ◌, unsigned_abs, Bool, true, false, nat_eq, List, arith, lit<, refl, ap, sym, subst, ◌∙◌, if◌then◌else◌, ⊎_elim}
 use Rattle.std.proofs.lemmas.Bool.{cases_eq, cases_lt, ne_eqb, eq-eqb, cond-true, cond-false}
 use Rattle.std.proofs.lemmas.Grind.{pow_more}
@@ -6,13 +6,13 @@ use Rattle.std.proofs.lemmas.Int.{unsigned_abs-mul}
 use Rattle.std.proofs.lemmas.Nat.{div-add-mod', pow-add}
 use Rattle.std.proofs.Math.IntN.{*ℤ_comm, pos-*ℤ-pos, negsuc-*ℤ-pos}
 use Rattle.std.proofs.Math.Nat.{mul-div_cancel, one-le-pow}
-use Rattle.subdiv_model.specs.Numeral.{signed, tens_above, tens_below, all_digits, cancelled, normal_amount, normal_form, numeral_value, form_value}
+use Rattle.subdiv_model.specs.Numeral.{signed, tens_above, tens_below, all_digits, cancelled, normal_amount, normal_form, decimal_value, form_value}
 use Rattle.subdiv_model.specs.Digits.{number_of_digits, has_minus}
 use Rattle.subdiv_model.specs.Value.{Value, IsSameValue}
 use Rattle.obj_laws.proofs.NumeralLemmas.{ten-times, cancelled-step, cancelled-stays}
 use Rattle.number_laws.proofs.WholeNumberLemmas.{pos-swap, pos-cancel}
 
-tens : (k : ℕ) → 0 < 10 ^ k
+pub tens : (k : ℕ) → 0 < 10 ^ k
 tens k = let one : 1 ≤ 10 ^ k = one-le-pow k 10 (lit< tt) in omega arith
 
 times-same : (a b c : ℕ) → 0 < c → a * c ≡ b * c → a ≡ b
@@ -73,7 +73,7 @@ pub word-reduced : (word : List ℕ)
     → IsReduced (number_of_digits (all_digits word) * 10 ^ tens_above word) (tens_below word) (normal_amount word)
 word-reduced word = chosen (number_of_digits (all_digits word)) (tens_above word) (tens_below word)
 
-signed-times : (negative : Bool) (a b : ℕ) → signed negative a *ℤ pos b ≡ signed negative (a * b)
+pub signed-times : (negative : Bool) (a b : ℕ) → signed negative a *ℤ pos b ≡ signed negative (a * b)
 signed-times false a b = pos-*ℤ-pos a b
 signed-times true zero b = let none : 0 * b ≡ 0 = omega arith in pos-*ℤ-pos 0 b ∙ ap pos none ∙ sym (ap (λ n. neg_ℤ (pos n)) none)
 signed-times true (suc a) b = negsuc-*ℤ-pos a b
@@ -84,7 +84,7 @@ signed-amount true zero = refl
 signed-amount true (suc a) = refl
 
 -- the normal form has the value
-pub form-value : (word : List ℕ) → IsSameValue (form_value (normal_form word)) (numeral_value word)
+pub form-value : (word : List ℕ) → IsSameValue (form_value (normal_form word)) (decimal_value word)
 form-value word =
     let form = normal_amount word in
     let amount = number_of_digits (all_digits word) * 10 ^ tens_above word in
@@ -97,7 +97,7 @@ crossed : (m a n b p q : ℕ) → 0 < q → m * q ≡ p * a → n * q ≡ p * b 
 crossed m a n b p q some e f =
     times-same (m * b) (n * a) q some (omega (arith, ap (λ x. x * b) e, ap (λ x. x * a) f))
 
-pub form-least : (word : List ℕ) (mantissa : ℤ) (decimals : ℕ) → IsSameValue (form_value (mantissa, decimals)) (numeral_value word)
+pub form-least : (word : List ℕ) (mantissa : ℤ) (decimals : ℕ) → IsSameValue (form_value (mantissa, decimals)) (decimal_value word)
     → (normal_form word).1 ≤ decimals
 form-least word mantissa decimals same =
     let form = normal_amount word in
@@ -107,10 +107,10 @@ form-least word mantissa decimals same =
     least amount (tens_below word) form.0 form.1 (unsigned_abs mantissa) decimals (word-reduced word)
     (crossed form.0 (10 ^ form.1) (unsigned_abs mantissa) (10 ^ decimals) amount (10 ^ tens_below word) (tens (tens_below word)) (word-reduced word).value given)
 
-same-turned : (x y : Value) → IsSameValue x y → IsSameValue y x
+pub same-turned : (x y : Value) → IsSameValue x y → IsSameValue y x
 same-turned x y e = sym e
 
-same-through : (x y z : Value) → 0 < y.den → IsSameValue x y → IsSameValue y z → IsSameValue x z
+pub same-through : (x y z : Value) → 0 < y.den → IsSameValue x y → IsSameValue y z → IsSameValue x z
 same-through x y z some e f =
     let left : pos y.den *ℤ x.num ≡ pos x.den *ℤ y.num = *ℤ_comm (pos y.den) x.num ∙ e ∙ *ℤ_comm y.num (pos x.den) in
     let right : pos z.den *ℤ y.num ≡ pos y.den *ℤ z.num = *ℤ_comm (pos z.den) y.num ∙ f ∙ *ℤ_comm z.num (pos y.den) in
@@ -122,11 +122,11 @@ same-through x y z some e f =
     ∙ pos-swap x.den y.den z.num in
     *ℤ_comm x.num (pos z.den) ∙ pos-cancel y.den _ _ some both ∙ *ℤ_comm (pos x.den) z.num
 
-pub one-form-one-value : (v w : List ℕ) → normal_form v ≡ normal_form w → IsSameValue (numeral_value v) (numeral_value w)
+pub one-form-one-value : (v w : List ℕ) → normal_form v ≡ normal_form w → IsSameValue (decimal_value v) (decimal_value w)
 one-form-one-value v w e =
-    same-through (numeral_value v) (form_value (normal_form v)) (numeral_value w) (tens (normal_form v).1)
-    (same-turned (form_value (normal_form v)) (numeral_value v) (form-value v))
-    (subst (λ form. IsSameValue (form_value form) (numeral_value w)) (sym e) (form-value w))
+    same-through (decimal_value v) (form_value (normal_form v)) (decimal_value w) (tens (normal_form v).1)
+    (same-turned (form_value (normal_form v)) (decimal_value v) (form-value v))
+    (subst (λ form. IsSameValue (form_value form) (decimal_value w)) (sym e) (form-value w))
 
 same-decimals : (m n : ℤ) (d e : ℕ) → d ≤ e → e ≤ d → IsSameValue (form_value (m, d)) (form_value (n, e)) → ◌≡◌ {A = ℤ × ℕ} (m, d) (n, e)
 same-decimals m n d e h k same =
@@ -135,12 +135,12 @@ same-decimals m n d e h k same =
     let equal : m ≡ n = pos-cancel (10 ^ e) m n (tens e) (*ℤ_comm (pos (10 ^ e)) m ∙ level ∙ *ℤ_comm n (pos (10 ^ e))) in
     ap (λ x. (x, d)) equal ∙ ap (λ i. (n, i)) one
 
-pub one-value-one-form : (v w : List ℕ) → IsSameValue (numeral_value v) (numeral_value w) → normal_form v ≡ normal_form w
+pub one-value-one-form : (v w : List ℕ) → IsSameValue (decimal_value v) (decimal_value w) → normal_form v ≡ normal_form w
 one-value-one-form v w same =
-    let across : IsSameValue (form_value (normal_form v)) (numeral_value w) =
-    same-through (form_value (normal_form v)) (numeral_value v) (numeral_value w) (tens (tens_below v)) (form-value v) same in
-    let back : IsSameValue (form_value (normal_form w)) (numeral_value v) =
-    same-through (form_value (normal_form w)) (numeral_value w) (numeral_value v) (tens (tens_below w)) (form-value w) (same-turned (numeral_value v) (numeral_value w) same) in
+    let across : IsSameValue (form_value (normal_form v)) (decimal_value w) =
+    same-through (form_value (normal_form v)) (decimal_value v) (decimal_value w) (tens (tens_below v)) (form-value v) same in
+    let back : IsSameValue (form_value (normal_form w)) (decimal_value v) =
+    same-through (form_value (normal_form w)) (decimal_value w) (decimal_value v) (tens (tens_below w)) (form-value w) (same-turned (decimal_value v) (decimal_value w) same) in
     let forms : IsSameValue (form_value (normal_form v)) (form_value (normal_form w)) =
-    same-through (form_value (normal_form v)) (numeral_value w) (form_value (normal_form w)) (tens (tens_below w)) across (same-turned (form_value (normal_form w)) (numeral_value w) (form-value w)) in
+    same-through (form_value (normal_form v)) (decimal_value w) (form_value (normal_form w)) (tens (tens_below w)) across (same-turned (form_value (normal_form w)) (decimal_value w) (form-value w)) in
     same-decimals (normal_form v).0 (normal_form w).0 (normal_form v).1 (normal_form w).1 (form-least v (normal_form w).0 (normal_form w).1 back) (form-least w (normal_form v).0 (normal_form v).1 across) forms

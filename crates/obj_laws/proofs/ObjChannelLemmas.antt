@@ -1,12 +1,21 @@
--- The texture channel by counting: it is there where there is a face and as many corners have a texture value as there are corners.
-use Rattle.std.proofs.Common.{◌≡◌, ◌≢◌, ℕ, ◌+◌, ◌≤◌, Bool, true, false, ◌&&◌, nat_eq, List, [], ◌∷◌, ◌++◌, length, map, arith, refl, ap, sym, true≢false, inl, inr, ◌⊎◌, suc, ◌∙◌, if◌then◌else◌}
-use Rattle.std.specs.List.{list_all, list_any, filter, flat_map, count_by}
-use Rattle.std.proofs.lemmas.Bool.{cases_eq, eq-eqb, ne_eqb}
-use Rattle.std.proofs.lemmas.List.Sums.{count_by-le-length}
+-- Channels: their common denominators line by line, which only grow; and the texture channel by counting: it is there where
+-- there is a face and as many corners have a texture value as there are corners.
+use Rattle.std.proofs.Common.{◌≡◌, ◌≢◌, ℕ, ◌+◌, ◌^◌, ◌<◌, ◌≤◌, Bool, true, false, ◌&&◌, nat_eq, nat_lt, List, [], ◌∷◌, ◌++◌, length, map, take, drop, arith, refl, ap, sym, subst, true≢false, inl, inr, ◌⊎◌, suc, ◌∙◌, if◌then◌else◌, append-nil}
+use Rattle.std.specs.Int.{◌∣◌}
+use Rattle.std.specs.List.{AllByRecursion, list_all, list_any, filter, flat_map, fold, count_by}
+use Rattle.std.proofs.lemmas.Bool.{cases_eq, eq-eqb, ne_eqb, lt-ltb, ltb-true}
+use Rattle.std.proofs.lemmas.Grind.{flat_map-append}
+use Rattle.std.proofs.lemmas.List.{map-append, take-append-drop}
+use Rattle.std.proofs.lemmas.List.Elements.{filter-append}
+use Rattle.std.proofs.lemmas.List.Sums.{count_by-le-length, fold-append}
+use Rattle.std.proofs.lemmas.Nat.Gcd.{le_of_dvd}
+use Rattle.subdiv_model.specs.Multiples.{lcm_of}
 use Rattle.subdiv_model.specs.ObjLine.{is_face_line}
 use Rattle.subdiv_model.specs.ObjWord.{has_texture_part}
-use Rattle.subdiv_model.specs.ReadObj.{values_of, has_texture_channel}
+use Rattle.subdiv_model.specs.ReadObj.{values_of, has_texture_channel, kept_coordinates, denominator_of, common_over, passes_bound}
 use Rattle.number_laws.proofs.CountLemmas.{all-flat_map, one_if, count-cons}
+use Rattle.number_laws.proofs.MultipleLemmas.{fold-lcm-multiple, fold-lcm-positive, fold-lcm-divided}
+use Rattle.obj_laws.proofs.NumeralTermsLemmas.{terms-positive}
 
 -- a list of what those have that pass a test
 abbrev pub where-passing : {X Y : Type 0} → (X → Bool) → (X → Y) → List X → List Y
@@ -55,3 +64,78 @@ pub channel-counted : (lines : List (List (List ℕ)))
     → has_texture_channel lines ≡ list_any is_face_line lines && nat_eq (count_by has_texture_part (corner-words lines)) (length (corner-words lines))
 channel-counted lines =
     ap (λ b. list_any is_face_line lines && b) (sym (all-counted has_texture_part (corner-words lines) ∙ all-flat_map has_texture_part values_of (filter is_face_line lines)))
+
+abbrev Line : Type 0
+Line = List (List ℕ)
+
+-- the denominators of the kept coordinates of some lines
+abbrev pub denominators : List Line → List ℕ
+denominators lines = map denominator_of (flat_map kept_coordinates lines)
+
+denominators-append : (lines more : List Line) → denominators (lines ++ more) ≡ denominators lines ++ denominators more
+denominators-append lines more =
+    ap (map denominator_of) (flat_map-append kept_coordinates lines more)
+    ∙ map-append denominator_of (flat_map kept_coordinates lines) (flat_map kept_coordinates more)
+
+-- more lines go on from what stands
+pub common-append : (start : ℕ) (lines more : List Line) → common_over start (lines ++ more) ≡ common_over (common_over start lines) more
+common-append start lines more =
+    ap (fold lcm_of start) (denominators-append lines more) ∙ fold-append lcm_of start (denominators lines) (denominators more)
+
+-- one more line adds the denominators of its kept coordinates
+pub common-more : (start : ℕ) (lines : List Line) (line : Line)
+    → common_over start (lines ++ line ∷ []) ≡ fold lcm_of (common_over start lines) (map denominator_of (kept_coordinates line))
+common-more start lines line =
+    common-append start lines (line ∷ [])
+    ∙ ap (λ words. fold lcm_of (common_over start lines) (map denominator_of words)) (append-nil (kept_coordinates line))
+
+-- denominators are above 0
+pub denominators-positive : (words : List (List ℕ)) → AllByRecursion (λ a. 0 < a) (map denominator_of words)
+denominators-positive [] = tt
+denominators-positive (word ∷ words) = (terms-positive word, denominators-positive words)
+
+-- a common denominator is at least 1 where it starts so
+pub common-positive : (start : ℕ) (lines : List Line) → 0 < start → 0 < common_over start lines
+common-positive start lines positive =
+    fold-lcm-positive start (denominators lines) positive (denominators-positive (flat_map kept_coordinates lines))
+
+-- it is a multiple of what it starts with, and of each denominator
+pub common-multiple : (start : ℕ) (lines : List Line) → start ∣ common_over start lines
+common-multiple start lines = fold-lcm-multiple start (denominators lines)
+
+pub common-divided : (start : ℕ) (lines : List Line) → AllByRecursion (λ a. a ∣ common_over start lines) (denominators lines)
+common-divided start lines = fold-lcm-divided start (denominators lines)
+
+-- and so it is a multiple of that over fewer lines
+pub common-longer : (start : ℕ) (lines more : List Line) → common_over start lines ∣ common_over start (lines ++ more)
+common-longer start lines more =
+    let P : ℕ → Type 0 = λ n. common_over start lines ∣ n in
+    subst P (sym (common-append start lines more)) (common-multiple (common_over start lines) more)
+
+pub common-grows : (start : ℕ) (lines more : List Line) → 0 < start → common_over start lines ≤ common_over start (lines ++ more)
+common-grows start lines more positive = le_of_dvd (common-positive start (lines ++ more) positive) (common-longer start lines more)
+
+-- what passes the bound once passes it from there on
+pub passes-longer : (kind : Line → Bool) (start : ℕ) (lines more : List Line) → 0 < start
+    → passes_bound kind start lines ≡ true → passes_bound kind start (lines ++ more) ≡ true
+passes-longer kind start lines more positive past =
+    let grows : common_over start (filter kind lines) ≤ common_over start (filter kind lines ++ filter kind more) =
+    common-grows start (filter kind lines) (filter kind more) positive in
+    let far : 10 ^ 37 < common_over start (filter kind lines) = ltb-true (10 ^ 37) (common_over start (filter kind lines)) past in
+    ap (λ kept. nat_lt (10 ^ 37) (common_over start kept)) (filter-append kind lines more)
+    ∙ lt-ltb (10 ^ 37) (common_over start (filter kind lines ++ filter kind more)) (omega arith)
+
+-- so all lines pass it where the first ones do
+pub passes-whole : (kind : Line → Bool) (start : ℕ) (lines : List Line) (n : ℕ) → 0 < start
+    → passes_bound kind start (take n lines) ≡ true → passes_bound kind start lines ≡ true
+passes-whole kind start lines n positive past =
+    ap (passes_bound kind start) (sym (take-append-drop n lines)) ∙ passes-longer kind start (take n lines) (drop n lines) positive past
+
+-- and where all do not, none of the first ones do
+pub within-first : (kind : Line → Bool) (start : ℕ) (lines : List Line) (n : ℕ) → 0 < start
+    → passes_bound kind start lines ≡ false → passes_bound kind start (take n lines) ≡ false
+within-first kind start lines n positive within = step (passes_bound kind start (take n lines)) refl
+  where
+    step : (b : Bool) → b ≡ passes_bound kind start (take n lines) → passes_bound kind start (take n lines) ≡ false
+    step true e = absurd (true≢false (sym (passes-whole kind start lines n positive (sym e)) ∙ within))
+    step false e = sym e

@@ -13,7 +13,7 @@ use Rattle.subdiv_model.specs.ObjFault.{first_cause}
 use Rattle.subdiv_model.specs.ObjMesh.{has_faces_over_points, has_corners_over_texture, has_creases_over_points, has_corner_tags_over_points, has_holes_over_faces}
 use Rattle.subdiv_model.specs.ObjWord.{Counts, corner_fault, corner_point, corner_texture, has_texture_part}
 use Rattle.subdiv_model.specs.ObjTag.{TagKind, CreaseTag, CornerTag, HoleTag, kind_of_name, tag_values_fault, tag_index_fault, tag_wholes, tag_indices, is_tag, tag_name, tag_creases, tag_corners, tag_numerals, tag_numeral_fault, index_and_sharpness_fault}
-use Rattle.subdiv_model.specs.ReadObj.{obj_lines, fault_at, counts_of, is_tag_line, is_texture_line, values_of, corner_numbers, has_texture_channel, texture_corners_of, faces_of, tags_named, first_bad_line, first_long_line, read_obj_fault, read_obj_mesh}
+use Rattle.subdiv_model.specs.ReadObj.{obj_lines, fault_at, counts_of, is_tag_line, is_texture_line, values_of, corner_numbers, has_texture_channel, texture_corners_of, faces_of, tags_named, first_bad_line, first_late_fault, read_obj_fault, read_obj_mesh}
 use Rattle.obj_laws.proofs.FirstFaultLemmas.{each-good}
 use Rattle.obj_laws.proofs.ObjLineLemmas.{count-before, places-length}
 use Rattle.obj_laws.proofs.ObjGoodLemmas.{all-good, all-good-where, point-below, texture-below, face-corners, tag-good, tag-values-good, or-else-none, are-below, indices-below, creases-below, corners-below}
@@ -26,7 +26,7 @@ abbrev pub AreGood : List Words → Type 0
 AreGood lines = (i : ℕ) → i < length lines → fault_at lines i ≡ None
 
 good-lines : (text : List ℕ) (least : ℕ) → read_obj_fault text least ≡ None → AreGood (obj_lines text)
-good-lines text least h = each-good (fault_at (obj_lines text)) (length (obj_lines text)) (or-else-none (first_bad_line (obj_lines text)) (first_long_line least (obj_lines text)) h)
+good-lines text least h = each-good (fault_at (obj_lines text)) (length (obj_lines text)) (or-else-none (first_bad_line (obj_lines text)) (first_late_fault least (obj_lines text)) h)
 
 -- what holds at each place of a kind holds of all places of the kind
 all-places-from : {X : Type 0} (test : X → Bool) (P : ℕ → Bool) (d : X) (place : ℕ) (xs : List X) → ((i : ℕ) → i < length xs → test (get_or xs i d) ≡ true → P (place + i) ≡ true) → list_all P (places_from place test xs) ≡ true

@@ -1,14 +1,15 @@
 -- A numeral is kept exactly where it is in range: what its exponent alone refuses is out of range.
-use Rattle.std.proofs.Common.{◌≡◌, ◌≢◌, ℕ, ◌+◌, ◌*◌, ◌^◌, ◌<◌, ◌≤◌, true, false, ◌&&◌, nat_lt, nat_le, List, length, arith, lit<, refl, ap, ◌∙◌, ⊎_elim}
+use Rattle.std.proofs.Common.{◌≡◌, ◌≢◌, ℕ, ◌+◌, ◌*◌, ◌^◌, ◌<◌, ◌≤◌, true, false, not, ◌&&◌, nat_lt, nat_le, List, length, arith, lit<, refl, ap, ◌∙◌, ⊎_elim}
 use Rattle.std.specs.List.{list_all}
 use Rattle.std.proofs.lemmas.Bool.{cases_lt, cases_Bool, or_cases, and_parts, ltb-true}
 use Rattle.std.proofs.lemmas.Bool.Decides.{nat_tests}
 use Rattle.std.proofs.lemmas.Nat.{pow-add}
 use Rattle.std.proofs.Math.Nat.{pow-le-pow_right, mul-le-mul_left, mul-le-mul_right, one-le-pow}
 use Rattle.subdiv_model.specs.Digits.{is_digit, number_of_digits}
-use Rattle.subdiv_model.specs.Numeral.{is_numeral, all_digits, tens_above, tens_below, normal_amount, is_in_range}
+use Rattle.subdiv_model.specs.Numeral.{is_numeral, is_decimal, is_fraction, all_digits, tens_above, tens_below, normal_amount, is_decimal_in_range, is_in_range}
 use Rattle.subdiv_model.specs.ObjWord.{is_far_exponent, is_past_range, is_representable}
 use Rattle.obj_laws.proofs.DigitLemmas.{digits-below}
+use Rattle.obj_laws.proofs.NumeralKindLemmas.{decimal-of}
 use Rattle.obj_laws.proofs.NumeralValueLemmas.{IsReduced, word-reduced}
 
 pub grows : (i j : ℕ) → i ≤ j → 10 ^ i ≤ 10 ^ j
@@ -55,27 +56,35 @@ outside-amount m d h = grind (arith, nat_tests)
 outside-decimals : (m d : ℕ) → 37 < d → nat_lt m (10 ^ 37) && nat_le d 37 ≡ false
 outside-decimals m d h = grind (arith, nat_tests)
 
-word-digits : (word : List ℕ) → is_numeral word ≡ true → list_all is_digit (all_digits word) ≡ true
-word-digits word numeral = (and_parts _ _ (and_parts _ _ numeral).0).1
+word-digits : (word : List ℕ) → is_decimal word ≡ true → list_all is_digit (all_digits word) ≡ true
+word-digits word decimal = (and_parts _ _ (and_parts _ _ decimal).0).1
 
-number-short : (word : List ℕ) → is_numeral word ≡ true → number_of_digits (all_digits word) < 10 ^ length (all_digits word)
-number-short word numeral = let below = digits-below 0 (all_digits word) (word-digits word numeral) in omega (arith, below)
+number-short : (word : List ℕ) → is_decimal word ≡ true → number_of_digits (all_digits word) < 10 ^ length (all_digits word)
+number-short word decimal = let below = digits-below 0 (all_digits word) (word-digits word decimal) in omega (arith, below)
 
-past-range : (word : List ℕ) → is_numeral word ≡ true → is_past_range word ≡ true → is_in_range word ≡ false
-past-range word numeral past =
+past-range : (word : List ℕ) → is_decimal word ≡ true → is_past_range word ≡ true → is_decimal_in_range word ≡ false
+past-range word decimal past =
     let n = number_of_digits (all_digits word) in
     let form = normal_amount word in
     let parts : (nat_lt 0 n ≡ true) × (is_far_exponent word ≡ true) = and_parts _ _ past in
     let some : 0 < n = ltb-true 0 n parts.0 in
     ⊎_elim
     (λ h. outside-amount form.0 form.1 (far-above n (tens_above word) (tens_below word) form.0 form.1 some (ltb-true _ _ h) (word-reduced word)))
-    (λ h. outside-decimals form.0 form.1 (far-below n (length (all_digits word)) (tens_above word) (tens_below word) form.0 form.1 some (number-short word numeral) (ltb-true _ _ h) (word-reduced word)))
+    (λ h. outside-decimals form.0 form.1 (far-below n (length (all_digits word)) (tens_above word) (tens_below word) form.0 form.1 some (number-short word decimal) (ltb-true _ _ h) (word-reduced word)))
     (or_cases _ _ parts.1)
 
--- a numeral is kept exactly where it is in range
+-- a decimal is kept exactly where it is in range
+decimal-kept : (word : List ℕ) → is_decimal word ≡ true → not (is_past_range word) && is_decimal_in_range word ≡ is_decimal_in_range word
+decimal-kept word decimal =
+    ⊎_elim
+    (λ (past : is_past_range word ≡ true). let out = past-range word decimal past in rw (past, out) refl)
+    (λ (near : is_past_range word ≡ false). rw near refl)
+    (cases_Bool (is_past_range word))
+
+-- and so is a numeral
 pub kept-range : (word : List ℕ) → is_numeral word ≡ true → is_representable word ≡ is_in_range word
 kept-range word numeral =
     ⊎_elim
-    (λ (past : is_past_range word ≡ true). let out = past-range word numeral past in rw (past, out) refl)
-    (λ (near : is_past_range word ≡ false). rw near refl)
-    (cases_Bool (is_past_range word))
+    (λ (fraction : is_fraction word ≡ true). rw fraction refl)
+    (λ (other : is_fraction word ≡ false). rw other (decimal-kept word (decimal-of word numeral other)))
+    (cases_Bool (is_fraction word))

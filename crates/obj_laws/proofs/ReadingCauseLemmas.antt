@@ -1,14 +1,15 @@
 -- Reading gives only the causes of reading.
 use Rattle.std.specs.Option.{option_or}
-use Rattle.std.proofs.Common.{◌≡◌, ℕ, zero, suc, ◌+◌, Bool, true, false, cond, List, [], ◌∷◌, length, get_or, Option, Some, None, refl}
+use Rattle.std.proofs.Common.{◌≡◌, ℕ, zero, suc, ◌+◌, ◌^◌, Bool, true, false, cond, List, [], ◌∷◌, length, get_or, Option, Some, None, refl}
 use Rattle.std.specs.Prelude.{not, nat_lt, take, IfSome, IsTrue, option_map}
-use Rattle.std.specs.List.{cons_option}
+use Rattle.std.specs.List.{cons_option, filter}
 use Rattle.subdiv_model.specs.Lists.{first_of}
+use Rattle.subdiv_model.specs.ObjLine.{is_vertex_line}
 use Rattle.subdiv_model.specs.ObjFault.{ObjCause, ObjFault, UnknownKeyword, Continuation, ShortLine, is_of_reading, first_cause}
 use Rattle.subdiv_model.specs.ObjWord.{Counts, numeral_fault, corner_fault}
 use Rattle.subdiv_model.specs.ObjTag.{TagKind, CreaseTag, CornerTag, HoleTag, BoundaryTag, MethodTag, DroppedTag, kind_of_name, tag_name, tag_wholes, tag_numerals, tag_strings, tag_index_fault, tag_numeral_fault, sharpness_fault, mode_fault, method_fault, index_and_sharpness_fault, tag_values_fault, tag_fault_of_kind}
 use Rattle.obj_laws.proofs.FirstFaultLemmas.{first_from}
-use Rattle.subdiv_model.specs.ReadObj.{counts_of, is_continued, has_known_keyword, least_values, obj_lines, fault_at, line_fault, line_fault_of_words, words_fault, values_of, long_fault, first_bad_line, first_long_line, read_obj_fault}
+use Rattle.subdiv_model.specs.ReadObj.{counts_of, is_continued, has_known_keyword, least_values, obj_lines, fault_at, line_fault, line_fault_of_words, words_fault, values_of, wide_fault, long_fault, late_fault, lesser_fault, first_bad_line, first_late_fault, passes_bound, common_over, is_texture_line, read_obj_fault}
 
 record IsReading (cause : Option ObjCause) : Type 0 where
   pub is : IfSome cause (λ c. IsTrue (is_of_reading c))
@@ -100,9 +101,25 @@ some-fault : (x y : Option ObjFault) → IsReadingFault x → IsReadingFault y �
 some-fault (Some f) y p q = p
 some-fault None y p q = q
 
+choice-fault : (b : Bool) (x y : Option ObjFault) → IsReadingFault x → IsReadingFault y → IsReadingFault (cond b x y)
+choice-fault true x y p q = p
+choice-fault false x y p q = q
+
+lesser-reading : (x y : Option ObjFault) → IsReadingFault x → IsReadingFault y → IsReadingFault (lesser_fault x y)
+lesser-reading None y p q = q
+lesser-reading (Some f) None p q = p
+lesser-reading (Some f) (Some g) p q = choice-fault (nat_lt g.line f.line) (Some g) (Some f) q p
+
+late-causes : (is_of_channel : List (List ℕ) → Bool) (start : ℕ) (lines : List (List (List ℕ)))
+    → IsReadingFault (late_fault is_of_channel start lines)
+late-causes is_of_channel start lines =
+    choice-fault (passes_bound is_of_channel start lines) _ _
+    (fault-from (wide_fault is_of_channel start lines) (λ i. either _ _ _ (one-cause _ refl) no-cause) 0 (length lines))
+    (fault-from (long_fault is_of_channel (common_over start (filter is_of_channel lines)) lines) (λ i. either _ _ _ (one-cause _ refl) no-cause) 0 (length lines))
+
 pub reading-causes : (text : List ℕ) (least : ℕ) → IsReadingFault (read_obj_fault text least)
 reading-causes text least =
     let lines = obj_lines text in
-    some-fault (first_bad_line lines) (first_long_line least lines)
+    some-fault (first_bad_line lines) (first_late_fault least lines)
     (fault-from (fault_at lines) (λ i. line-cause (counts_of (take i lines)) (counts_of lines) (get_or lines i [])) 0 (length lines))
-    (fault-from (λ i. long_fault least lines (get_or lines i [])) (λ i. either _ _ _ (one-cause _ refl) no-cause) 0 (length lines))
+    (lesser-reading (late_fault is_vertex_line (10 ^ least) lines) (late_fault is_texture_line 1 lines) (late-causes is_vertex_line (10 ^ least) lines) (late-causes is_texture_line 1 lines))

@@ -13,7 +13,7 @@ use Rattle.subdiv_model.specs.Level.{edge_sharpness_of, vertex_sharpness_of, is_
 use Rattle.subdiv_model.specs.Base.{tagged_edge, tagged_vertex, is_end_corner, is_hidden, base_level}
 use Rattle.subdiv_model.specs.ObjLine.{is_vertex_line}
 use Rattle.subdiv_model.specs.ObjTag.{is_tag, tag_creases, tag_corners}
-use Rattle.subdiv_model.specs.ReadObj.{point_at, position_scale, faces_of, boundary_of, mesh_of_lines}
+use Rattle.subdiv_model.specs.ReadObj.{point_over, position_common, faces_of, boundary_of, mesh_of_lines}
 use Rattle.tag_laws.specs.TagLines.{is_crease_line_of, is_corner_line_of, is_hole_line_of, is_boundary_line}
 use Rattle.tag_laws.proofs.MeshTagLemmas.{interior-edge, untagged-edge, base-vertex, end-corner, other-vertex, untagged-vertex, base-hole}
 use Rattle.tag_laws.proofs.TextTagLemmas.{Line, any-made, last-crease_line, last-corner_line, holes-any, no-mode}
@@ -21,7 +21,7 @@ use Rattle.tag_laws.proofs.TextTagLemmas.{Line, any-made, last-crease_line, last
 -- each vertex line gives a point
 within : (lines : List Line) (least v : ℕ) → v < count_by is_vertex_line lines → v < length (mesh_of_lines lines least).points
 within lines least v inside =
-    let points = length-map (filter is_vertex_line lines) (point_at (position_scale least lines)) in
+    let points = length-map (filter is_vertex_line lines) (point_over (position_common least lines)) in
     omega (arith, inside, points, length-filter is_vertex_line lines)
 
 pub last-edge : (lines before after : List Line) (words : Line) (least : ℕ) (edge : ℕ × ℕ) → lines ≡ before ++ (words ∷ after)
