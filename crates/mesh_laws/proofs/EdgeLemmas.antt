@@ -3,7 +3,7 @@ use Rattle.std.proofs.Common.{◌≡◌, ℕ, ◌+◌, ◌<◌, ◌≤◌, Bool,
 use Rattle.std.specs.List.{filter, list_any, list_all, count_by, position_or_len}
 use Rattle.std.proofs.lemmas.Bool.Decides.{nat_tests}
 use Rattle.std.proofs.lemmas.Bool.{and_parts, eqb-true, eq-eqb, false_from_ne_true}
-use Rattle.std.proofs.lemmas.List.Sums.{list_all-from_AllPass, passes_at_first}
+use Rattle.std.proofs.lemmas.List.Sums.{list_all-from_AllPass, passes_at_first, length-filter, count_by-le-length}
 use Rattle.std.proofs.lemmas.List.Folds.{list_any_at}
 use Rattle.subdiv_model.specs.Polygons.{Polygon, same_edge, sides_of, has_edge}
 use Rattle.subdiv_model.specs.Lists.{places_from}
@@ -21,6 +21,14 @@ any-filter s t (x ∷ xs) = grind (arith, nat_tests, any-filter s t xs, same_edg
 pub any-first_named : (s : ℕ × ℕ) (sides : List (ℕ × ℕ)) → list_any (same_edge s) (first_named sides) ≡ list_any (same_edge s) sides
 any-first_named s [] = refl
 any-first_named s (t ∷ sides) = grind (arith, nat_tests, any-first_named s sides, any-filter s t (first_named sides))
+
+-- there are no more edges than sides
+pub length-first : (sides : List (ℕ × ℕ)) → length (first_named sides) ≤ length sides
+length-first [] = omega arith
+length-first (s ∷ sides) =
+    let others = first_named sides in
+    let keep = λ (t : ℕ × ℕ). not (same_edge s t) in
+    omega (arith, length-filter keep others, count_by-le-length keep others, length-first sides)
 
 count-filter-le : (test keep : ℕ × ℕ → Bool) (xs : List (ℕ × ℕ)) → count_by test (filter keep xs) ≤ count_by test xs
 count-filter-le test keep [] = omega arith

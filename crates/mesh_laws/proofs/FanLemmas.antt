@@ -16,7 +16,7 @@ pub places-before : {X : Type 0} (test : X → Bool) (place n : ℕ) (xs : List 
 places-before test place n [] h = refl
 places-before test place n (x ∷ xs) h = let behind = places-before test (place + 1) n xs (omega arith) in grind (arith, nat_tests)
 
-places-at : {X : Type 0} (test : X → Bool) (d : X) → test d ≡ false → (place k : ℕ) (xs : List X) → is_among (places_from place test xs) (place + k) ≡ test (get_or xs k d)
+pub places-at : {X : Type 0} (test : X → Bool) (d : X) → test d ≡ false → (place k : ℕ) (xs : List X) → is_among (places_from place test xs) (place + k) ≡ test (get_or xs k d)
 places-at test d none place k [] = sym none
 places-at test d none place zero (x ∷ xs) = let behind = places-before test (place + 1) (place + 0) xs (omega arith) in grind (arith, nat_tests)
 places-at test d none place (suc k) (x ∷ xs) =
