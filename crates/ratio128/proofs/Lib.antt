@@ -1,2 +1,3 @@
 pub mod RatioLemmas
 pub mod LcmLemmas
+pub mod OddLemmas

@@ -2,18 +2,20 @@ ghost use Rattle.std.specs.Prelude.{◌≡◌, ℕ, ◌<◌, ◌^◌, ℤ, pos, 
 ghost use Rattle.std.specs.Int.{IsGcd};
 ghost use Rattle.ratio128.specs.Ratio.{signed_like};
 
+use crate::euclid::{gcd_of_wide, odd_part};
+
 /// The greatest common divisor: the one that every common divisor divides. It is 0 for two zeros.
 pub fn gcd(a: u128, b: u128) -> u128
     ensures { IsGcd a b result }
 {
-    let mut x = a;
-    let mut y = b;
-    while y != 0 {
-        let rest = x % y;
-        x = y;
-        y = rest;
+    if a == 0 {
+        return b;
     }
-    x
+    if b == 0 {
+        return a;
+    }
+    let twos = a.trailing_zeros().min(b.trailing_zeros());
+    gcd_of_wide(odd_part(a), odd_part(b)) << twos
 }
 
 /// A whole numerator over a whole denominator, just as given; `lowest` makes one in lowest terms.

@@ -3,6 +3,7 @@
 #![tactic(auto)]
 
 mod divisor;
+mod euclid;
 mod memory;
 mod multiple;
 mod point;
