@@ -1,3 +1,4 @@
 pub mod LineLemmas
 pub mod DecimalLemmas
 pub mod NumeralLemmas
+pub mod TermsLemmas

@@ -1,4 +1,4 @@
--- The normal form of a numeral, from its digits up to the last that is not 0, the zeros after them and its exponent.
+-- The normal form of a decimal, from its digits up to the last that is not 0, the zeros after them and its exponent.
 use Rattle.std.proofs.Common.{◌≡◌, ◌≢◌, ℕ, ◌+◌, ◌-◌, ◌*◌, ◌%◌, ◌^◌, ◌<◌, ◌≤◌, ◌⊎◌, true, false, ◌&&◌, nat_lt, nat_le, List, ◌++◌, length, Option, Some, None, MatchOption, min, arith, refl, ap, sym, ◌∙◌, inl, inr, ⊎_elim}
 use Rattle.std.specs.List.{fold}
 use Rattle.std.proofs.lemmas.Bool.{cases_lt}
@@ -7,7 +7,7 @@ use Rattle.std.proofs.lemmas.List.Sums.{fold-append}
 use Rattle.obj_text.specs.Significant.{IsLong, with_next_digit}
 use Rattle.obj_text.proofs.DecimalLemmas.{zeros-far, times-tens}
 use Rattle.subdiv_model.specs.Digits.{number_of_digits}
-use Rattle.subdiv_model.specs.Numeral.{whole_digits, fraction_digits, all_digits, exponent_part, exponent_amount, exponent_has_minus, tens_above, tens_below, normal_amount, is_in_range}
+use Rattle.subdiv_model.specs.Numeral.{whole_digits, fraction_digits, all_digits, exponent_part, exponent_amount, exponent_has_minus, tens_above, tens_below, normal_amount, is_decimal_in_range}
 use Rattle.obj_laws.proofs.NumeralLemmas.{normal-tens}
 
 abbrev BOUND : ℕ
@@ -20,10 +20,10 @@ inside : (m d : ℕ) → m < BOUND → d ≤ 37 → nat_lt m BOUND && nat_le d 3
 inside m d h k = grind (arith, nat_tests)
 
 -- a word whose normal form is known is in range or not
-pub word-outside : (word : List ℕ) (m d : ℕ) → normal_amount word ≡ (m, d) → (BOUND ≤ m) ⊎ (37 < d) → is_in_range word ≡ false
+pub word-outside : (word : List ℕ) (m d : ℕ) → normal_amount word ≡ (m, d) → (BOUND ≤ m) ⊎ (37 < d) → is_decimal_in_range word ≡ false
 word-outside word m d e h = ap (λ (f : ℕ × ℕ). nat_lt f.0 BOUND && nat_le f.1 37) e ∙ outside m d h
 
-pub word-inside : (word : List ℕ) (m d : ℕ) → normal_amount word ≡ (m, d) → m < BOUND → d ≤ 37 → is_in_range word ≡ true
+pub word-inside : (word : List ℕ) (m d : ℕ) → normal_amount word ≡ (m, d) → m < BOUND → d ≤ 37 → is_decimal_in_range word ≡ true
 word-inside word m d e h k = ap (λ (f : ℕ × ℕ). nat_lt f.0 BOUND && nat_le f.1 37) e ∙ inside m d h k
 
 -- the digits on both sides of the point, read one after another
@@ -40,7 +40,7 @@ normal-word : (word : List ℕ) (a z : ℕ) → number_of_digits (all_digits wor
 normal-word word a z e some ends = normal-tens _ (tens_above word) (tens_below word) a z e some (λ none. some (ends none))
 
 -- digits that are too long put the word out of range, whatever its exponent
-pub long-word : (word : List ℕ) → IsLong (number_of_digits (all_digits word)) → is_in_range word ≡ false
+pub long-word : (word : List ℕ) → IsLong (number_of_digits (all_digits word)) → is_decimal_in_range word ≡ false
 long-word word is =
     let most : BOUND ≤ is.amount = is.long in
     let grows = times-tens is.amount ((is.zeros + tens_above word) - tens_below word) in
@@ -56,7 +56,7 @@ IsFormOf r a above below =
     MatchOption r ((BOUND ≤ a * 10 ^ (above - below)) ⊎ (37 < below - above)) (λ n. (n.0 ≡ a * 10 ^ (above - below)) × (n.1 ≡ below - above) × (n.0 < BOUND) × (n.1 ≤ 37))
 
 abbrev pub IsReadAs : Option (ℕ × ℕ) → List ℕ → Type 0
-IsReadAs r word = MatchOption r (is_in_range word ≡ false) (λ n. (is_in_range word ≡ true) × ((n.0, n.1) ≡ normal_amount word) × (n.0 < BOUND) × (n.1 ≤ 37))
+IsReadAs r word = MatchOption r (is_decimal_in_range word ≡ false) (λ n. (is_decimal_in_range word ≡ true) × ((n.0, n.1) ≡ normal_amount word) × (n.0 < BOUND) × (n.1 ≤ 37))
 
 form-same : (word : List ℕ) (r : Option (ℕ × ℕ)) (a above below : ℕ) → normal_amount word ≡ (a * 10 ^ (above - below), below - above)
     → IsFormOf r a above below → IsReadAs r word
@@ -65,7 +65,7 @@ form-same word (Some n) a above below e h =
     let same : (n.0, n.1) ≡ normal_amount word = ap (λ k. (k, n.1)) h.0 ∙ ap (λ d. (a * 10 ^ (above - below), d)) h.1 ∙ sym e in
     (word-inside word n.0 n.1 (sym same) h.2 h.3, same, h.2, h.3)
 
-form-far : (word : List ℕ) (r : Option (ℕ × ℕ)) (a above below : ℕ) → is_in_range word ≡ false
+form-far : (word : List ℕ) (r : Option (ℕ × ℕ)) (a above below : ℕ) → is_decimal_in_range word ≡ false
     → (BOUND ≤ a * 10 ^ (above - below)) ⊎ (37 < below - above) → IsFormOf r a above below → IsReadAs r word
 form-far word None a above below out far h = out
 form-far word (Some n) a above below out far h =

@@ -1,3 +1,4 @@
 pub mod Significant
 pub mod NumeralFaults
 pub mod NumeralParts
+pub mod NumeralTerms

@@ -1,9 +1,9 @@
--- The parts of a numeral, as a reader keeps them.
+-- The parts of a decimal, as a reader keeps them.
 use Rattle.std.specs.Prelude.{ℕ, ◌≡◌, ◌⊎◌, ◌-◌, ◌*◌, ◌^◌, ◌<◌, ◌≤◌, true, false, min, List, Option, MatchOption}
 use Rattle.obj_text.specs.declared.numeral.Exponent.{Exponent}
 use Rattle.obj_text.specs.declared.numeral.Parts.{Parts}
-use Rattle.subdiv_model.specs.Digits.{number_of_digits, has_minus}
-use Rattle.subdiv_model.specs.Numeral.{are_digits, whole_digits, fraction_digits, is_exponent, exponent_part, exponent_amount, exponent_has_minus, normal_amount, is_in_range}
+use Rattle.subdiv_model.specs.Digits.{number_of_digits}
+use Rattle.subdiv_model.specs.Numeral.{are_digits, whole_digits, fraction_digits, is_exponent, exponent_part, exponent_amount, exponent_has_minus, normal_amount, is_decimal_in_range}
 
 -- the number that one or more digits say, or `most` where it is more
 abbrev pub IsNumberUpTo : ℕ → Option ℕ → List ℕ → Type 0
@@ -18,7 +18,6 @@ IsExponentUpTo most read part =
 
 -- the parts of a word; of the exponent's amount no more than 10^20 is told
 pub record ArePartsOf (parts : Parts) (word : List ℕ) : Type 0 where
-  pub sign : parts.negative ≡ has_minus word
   pub whole : parts.whole.now ≡ whole_digits word
   pub fraction : parts.fraction.now ≡ fraction_digits word
   pub exponent_sign : parts.exponent.negative ≡ exponent_has_minus (exponent_part word)
@@ -33,5 +32,5 @@ IsOverTens read amount above below =
 -- the normal form's amount and decimals, where they are in range
 abbrev pub IsNormalAmount : Option (ℕ × ℕ) → List ℕ → Type 0
 IsNormalAmount read word =
-    MatchOption read (is_in_range word ≡ false)
-    (λ n. (is_in_range word ≡ true) × ((n.0, n.1) ≡ normal_amount word) × (n.0 < 10 ^ 37) × (n.1 ≤ 37))
+    MatchOption read (is_decimal_in_range word ≡ false)
+    (λ n. (is_decimal_in_range word ≡ true) × ((n.0, n.1) ≡ normal_amount word) × (n.0 < 10 ^ 37) × (n.1 ≤ 37))

@@ -21,6 +21,9 @@ pub(crate) fn with_zeros(amount: u128, zeros: u128) -> Option<u128>
     if amount == 0 {
         return Some(0);
     }
+    if zeros == 0 {
+        return if amount < BOUND { Some(amount) } else { None };
+    }
     if zeros > 37 {
         return None;
     }

@@ -18,7 +18,7 @@ pub(crate) fn has_digits_alone(bytes: &[u8]) -> bool
 /// The number that one or more digits say, or `most` where it is more; `None` where there is no
 /// digit, or another byte.
 pub(crate) fn digits_up_to(bytes: &[u8], most: u128) -> Option<u128>
-    requires { most < 2 ^ 120 }
+    requires { most < 2 ^ 124 }
     ensures { IsNumberUpTo most result bytes.now }
 {
     if bytes.is_empty() {

@@ -1,11 +1,14 @@
-//! Lines, words, decimal numerals and indices of OBJ text, read exactly. No call takes memory.
+//! Lines, words, numerals and indices of OBJ text, read exactly. No call takes memory.
 #![tactic(auto)]
 
 mod decimal;
 mod digits;
+mod fraction;
 mod index;
 mod line;
 mod numeral;
+mod sign;
+mod terms;
 
 pub use index::read_index;
 pub use line::{Words, line_end, words_of};

@@ -2,18 +2,24 @@ ghost use Rattle.std.specs.Prelude.{◌≡◌, ℕ, ◌^◌, ◌<◌, ◌≤◌,
 ghost use Rattle.std.specs.List.{list_all, position_or_len, before_first, after_first};
 ghost use Rattle.obj_text.specs.NumeralFaults.{IsReadAs};
 ghost use Rattle.obj_text.specs.NumeralParts.{ArePartsOf, IsExponentUpTo, IsOverTens, IsNormalAmount};
-ghost use Rattle.subdiv_model.specs.Digits.{is_digit, has_minus};
-ghost use Rattle.subdiv_model.specs.Numeral.{without_sign, is_exponent_mark, is_point, is_numeral};
+ghost use Rattle.obj_text.specs.NumeralTerms.{IsTermsRead};
+ghost use Rattle.subdiv_model.specs.Digits.{is_digit};
+ghost use Rattle.subdiv_model.specs.Numeral.{signed, is_exponent_mark, is_point, is_decimal};
 
 use crate::decimal::{Significant, with_digits, with_zeros};
 use crate::digits::{digits_up_to, has_digits_alone};
+use crate::fraction::read_fraction;
+use crate::sign::split_sign;
+use crate::terms::{Terms, over_decimals};
 use std::fmt;
 
-/// A decimal number in normal form: `mantissa` over ten to the `decimals`, with the least number of
-/// decimals. The mantissa has at most 37 digits, and there are at most 37 decimals. Zero is 0 over 1.
+/// A number in lowest terms: `num` over `den`, of which `num` has at most 37 digits and `den` is from 1
+/// to ten to the 37. Zero is 0 over 1. `decimals` are those of a decimal's normal form, at most 37, and
+/// 0 of a fraction.
 #[derive(Clone, Copy, Debug, PartialEq, Eq)]
 pub struct Numeral {
-    pub mantissa: i128,
+    pub num: i128,
+    pub den: u128,
     pub decimals: u32,
 }
 
@@ -22,7 +28,8 @@ pub struct Numeral {
 pub enum NumeralFault {
     /// The word is no numeral.
     BadNumeral,
-    /// The word is a numeral, and in normal form its mantissa or its decimals pass 37 digits.
+    /// The word is a decimal, and in normal form its mantissa or its decimals pass 37 digits; or it is a
+    /// fraction, and one of its parts, as it is written, passes 37 digits after its leading zeros.
     NumberRange,
 }
 
@@ -45,10 +52,9 @@ impl std::error::Error for NumeralFault {}
 // An exponent of this amount puts each number but 0 out of range, since no word has as many digits.
 const MOST_EXPONENT: u128 = 100_000_000_000_000_000_000;
 
-// The parts of a numeral. An exponent of more than `MOST_EXPONENT` is told as that.
+// The parts of a decimal but its sign. An exponent of more than `MOST_EXPONENT` is told as that.
 #[derive(Drop)]
 struct Parts<'a> {
-    negative: bool,
     whole: &'a [u8],
     fraction: &'a [u8],
     exponent: Exponent,
@@ -58,18 +64,6 @@ struct Parts<'a> {
 struct Exponent {
     negative: bool,
     amount: u128,
-}
-
-// Whether the word begins with `-`, and what follows its sign.
-fn split_sign(word: &[u8]) -> (bool, &[u8])
-    ensures negative { result.0 ≡ has_minus word.now }
-    ensures rest { result.1.now ≡ without_sign word.now }
-{
-    match word {
-        [b'-', rest @ ..] => (true, rest),
-        [b'+', rest @ ..] => (false, rest),
-        _ => (false, word),
-    }
 }
 
 fn is_mark(b: u8) -> bool
@@ -131,12 +125,12 @@ fn read_exponent(part: &[u8]) -> Option<Exponent>
     }
 }
 
-// The parts of the word; `None` where it is no numeral.
+// The parts of the word; `None` where it is no decimal.
 fn parts_of(word: &[u8]) -> Option<Parts<'_>>
-    ensures { MatchOption result (is_numeral word.now ≡ false)
-        (λ p. (is_numeral word.now ≡ true) × ArePartsOf p word.now) }
+    ensures { MatchOption result (is_decimal word.now ≡ false)
+        (λ p. (is_decimal word.now ≡ true) × ArePartsOf p word.now) }
 {
-    let (negative, unsigned) = split_sign(word);
+    let (_, unsigned) = split_sign(word);
     let (decimal, part) = unsigned.split_at(decimal_len(unsigned));
     let (whole, fraction) = split_point(decimal);
     if whole.is_empty() && fraction.is_empty() {
@@ -147,7 +141,6 @@ fn parts_of(word: &[u8]) -> Option<Parts<'_>>
     }
     let exponent = read_exponent(part)?;
     Some(Parts {
-        negative,
         whole,
         fraction,
         exponent,
@@ -200,21 +193,45 @@ fn normal_form_of(parts: &Parts<'_>) -> Option<(u128, u32)>
     }
 }
 
-/// A decimal numeral, read exactly: an optional sign; one or more digits, which may have a point
-/// before, after or among them; and an optional exponent, which is `e` or `E`, an optional sign and
-/// one or more digits. There may be any number of digits, in the exponent too.
+// The terms of the word's amount, or why it is refused.
+fn terms_of(word: &[u8]) -> Result<Terms, NumeralFault>
+    ensures { IsTermsRead result word.now }
+{
+    let Some(parts) = parts_of(word) else {
+        return read_fraction(word);
+    };
+    let Some((amount, decimals)) = normal_form_of(&parts) else {
+        return Err(NumeralFault::NumberRange);
+    };
+    Ok(over_decimals(amount, decimals))
+}
+
+/// A numeral, read exactly. It is a decimal: an optional sign; one or more digits, which may have a
+/// point before, after or among them; and an optional exponent, which is `e` or `E`, an optional sign
+/// and one or more digits. Or it is a fraction: an optional sign, one or more digits, `/`, and one or
+/// more digits that are not all zero. There may be any number of digits, in the exponent too.
 ///
-/// `BadNumeral` comes exactly where the word is no numeral, and `NumberRange` exactly where it is one
-/// that in normal form passes 37 digits in its mantissa or in its decimals (this profile).
+/// `BadNumeral` comes exactly where the word is no numeral. `NumberRange` comes exactly where it is a
+/// decimal that in normal form passes 37 digits in its mantissa or in its decimals, or a fraction of
+/// which a part, as it is written, passes 37 digits after its leading zeros (this profile).
 pub fn read_numeral(word: &[u8]) -> Result<Numeral, NumeralFault>
     ensures cases { IsReadAs result word.now }
-    ensures small { IfOk result (λ n. (unsigned_abs n.mantissa < 10 ^ 37) × (n.decimals ≤ 37)) }
+    ensures small { IfOk result (λ n. (unsigned_abs n.num < 10 ^ 37) × (0 < n.den) × (n.den ≤ 10 ^ 37) × (n.decimals ≤ 37)) }
 {
-    let parts = parts_of(word).ok_or(NumeralFault::BadNumeral)?;
-    let (amount, decimals) = normal_form_of(&parts).ok_or(NumeralFault::NumberRange)?;
-    let amount = amount as i128;
+    let terms = terms_of(word)?;
+    let (negative, _) = split_sign(word);
     Ok(Numeral {
-        mantissa: if parts.negative { -amount } else { amount },
-        decimals,
+        num: with_sign(negative, terms.num),
+        den: terms.den,
+        decimals: terms.decimals,
     })
+}
+
+// The number of this amount, below 0 or not.
+fn with_sign(negative: bool, amount: u128) -> i128
+    requires { amount < 10 ^ 37 }
+    ensures { result ≡ signed negative amount }
+{
+    let amount = amount as i128;
+    if negative { -amount } else { amount }
 }

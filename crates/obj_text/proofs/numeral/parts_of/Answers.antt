@@ -5,4 +5,4 @@ use Rattle.obj_text.proofs.numeral.parts_of.Goals as goal
 
 pub split_at-requires : goal.split_at-requires
 split_at-requires c =
-    rw c.decimal_len.ensures (prefix_len-le-length (λ b. not (is_exponent_mark b)) c.split_sign-negative.result.1.now)
+    rw c.decimal_len.ensures (prefix_len-le-length (λ b. not (is_exponent_mark b)) c.split_sign.result.1.now)

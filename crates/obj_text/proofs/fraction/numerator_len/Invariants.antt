@@ -1,0 +1,6 @@
+use Rattle.std.proofs.Common.{◌≡◌, ℕ, ◌<◌, false, get_or}
+use Rattle.subdiv_model.specs.Numeral.{is_slash}
+use Rattle.obj_text.proofs.fraction.numerator_len.Given as goal
+
+abbrev pub invariant-loop-i : goal.invariant-loop-i
+invariant-loop-i l = (k : ℕ) → k < l.i → is_slash (get_or l.unsigned k 0) ≡ false
