@@ -1,115 +1,93 @@
--- The positions and the texture values of one more line.
-use Rattle.std.proofs.Common.{◌≡◌, ℕ, suc, ◌+◌, ◌≤◌, Bool, true, false, List, [], ◌∷◌, ◌++◌, length, map, take, drop, get_or, append-nil, arith, refl, ap, sym, ◌∙◌, ⊎_elim, codes}
-use Rattle.std.proofs.lemmas.Bool.{cases_Bool}
-use Rattle.std.proofs.lemmas.List.Elements.{All-push, All-same}
-use Rattle.std.proofs.lemmas.List.{map_push}
-use Rattle.subdiv_model.specs.Numeral.{normal_form}
-use Rattle.subdiv_model.specs.ObjLine.{is_vertex_line}
-use Rattle.subdiv_model.specs.ReadObj.{kept_coordinates, is_texture_line}
-use Rattle.obj_tags.specs.View.{form_of}
-use Rattle.obj_tags.specs.Kept.{IsNumeralOf}
-use Rattle.obj_tags.specs.declared.channel.Position.{Position}
-use Rattle.obj_tags.specs.declared.channel.TextureValue.{TextureValue}
-use Rattle.obj_tags.specs.Channel.{position_forms, texture_forms, with_second, IsPositionAt, IsTextureAt, position_line_forms, texture_line_forms, kept_from, ArePositions, AreTextureValues}
-use Rattle.obj_tags.proofs.ScaleLemmas.{Words, Forms}
-use Rattle.obj_tags.proofs.AtScaleLemmas.{kept-yes, kept-no, texture-kept}
+-- What is kept of the lines of a channel, with one more line.
+use Rattle.std.proofs.Common.{◌≡◌, ℕ, suc, ◌+◌, Bool, true, false, cond, List, [], ◌∷◌, ◌++◌, length, map, append-nil, Option, Some, None, option_map, arith, refl, ap, sym, ◌∙◌, if◌then◌else◌}
+use Rattle.std.specs.List.{filter, count_by}
+use Rattle.std.proofs.lemmas.List.{map_push, length_push}
+use Rattle.std.proofs.lemmas.List.Elements.{filter-append}
+use Rattle.std.proofs.lemmas.List.Sums.{sum_by-append}
+use Rattle.subdiv_model.specs.ObjFault.{NumberRange}
+use Rattle.subdiv_model.specs.ReadObj.{has_long_number, long_fault, first_fault}
+use Rattle.obj_tags.specs.Channel.{IsChannelOf, first_long}
+use Rattle.obj_tags.specs.Line.{Line}
+use Rattle.obj_tags.specs.Survey.{long_fault_at}
+use Rattle.obj_tags.proofs.CommonLemmas.{long-before, long-last}
+use Rattle.obj_tags.proofs.FirstLineLemmas.{first-more, or-none, some-or, none-or, cause-of}
 
--- one more line
-kept-more : (place : ℕ) (kind : Words → Bool) (forms : Words → Forms) (lines : List Words) (words : Words)
-    → kept_from place kind forms (lines ++ words ∷ []) ≡ kept_from place kind forms lines ++ kept_from (place + length lines) kind forms (words ∷ [])
-kept-more place kind forms [] words = let same : place ≡ place + 0 = omega arith in ap (λ n. kept_from n kind forms (words ∷ [])) same
-kept-more place kind forms (line ∷ lines) words =
-    let same : place + 1 + length lines ≡ place + suc (length lines) = omega arith in
-    let last = λ (n : ℕ). kept_from n kind forms (words ∷ []) in
-    let rest : kept_from (place + 1) kind forms (lines ++ words ∷ []) ≡ kept_from (place + 1) kind forms lines ++ last (place + suc (length lines)) =
-    kept-more (place + 1) kind forms lines words ∙ ap (λ n. kept_from (place + 1) kind forms lines ++ last n) same in
-    ⊎_elim
-    (λ (e : kind line ≡ true).
-    kept-yes place kind forms line (lines ++ words ∷ []) e
-    ∙ ap (λ kept. (place, forms line) ∷ kept) rest
-    ∙ ap (λ kept. kept ++ last (place + suc (length lines))) (sym (kept-yes place kind forms line lines e)))
-    (λ (e : kind line ≡ false).
-    kept-no place kind forms line (lines ++ words ∷ []) e
-    ∙ rest
-    ∙ ap (λ kept. kept ++ last (place + suc (length lines))) (sym (kept-no place kind forms line lines e)))
-    (cases_Bool (kind line))
+filter-other : (kind : Line → Bool) (before : List Line) (line : Line) → kind line ≡ false
+    → filter kind (before ++ line ∷ []) ≡ filter kind before
+filter-other kind before line other = filter-append kind before (line ∷ []) ∙ none ∙ append-nil (filter kind before)
+  where
+    none : filter kind before ++ filter kind (line ∷ []) ≡ filter kind before ++ []
+    none = rw other refl
 
-more-yes : {X : Type 0} (kind : Words → Bool) (forms : Words → Forms) (view : X → ℕ × Forms) (xs : List X) (x : X) (lines : List Words) (words : Words)
-    → map view xs ≡ kept_from 1 kind forms lines → kind words ≡ true → view x ≡ (suc (length lines), forms words)
-    → map view (xs ++ x ∷ []) ≡ kept_from 1 kind forms (lines ++ words ∷ [])
-more-yes kind forms view xs x lines words e here same =
-    let place : suc (length lines) ≡ 1 + length lines = omega arith in
-    map_push view xs x
-    ∙ ap (λ kept. kept ++ view x ∷ []) e
-    ∙ ap (λ k. kept_from 1 kind forms lines ++ k ∷ []) (same ∙ ap (λ n. (n, forms words)) place)
-    ∙ ap (λ last. kept_from 1 kind forms lines ++ last) (sym (kept-yes (1 + length lines) kind forms words [] here))
-    ∙ sym (kept-more 1 kind forms lines words)
+filter-one : (kind : Line → Bool) (before : List Line) (line : Line) → kind line ≡ true
+    → filter kind (before ++ line ∷ []) ≡ filter kind before ++ line ∷ []
+filter-one kind before line is = filter-append kind before (line ∷ []) ∙ one
+  where
+    one : filter kind before ++ filter kind (line ∷ []) ≡ filter kind before ++ line ∷ []
+    one = rw is refl
 
-more-no : (kind : Words → Bool) (forms : Words → Forms) (kept : List (ℕ × Forms)) (lines : List Words) (words : Words)
-    → kept ≡ kept_from 1 kind forms lines → kind words ≡ false → kept ≡ kept_from 1 kind forms (lines ++ words ∷ [])
-more-no kind forms kept lines words e other =
-    e
+count-last : (kind : Line → Bool) (before : List Line) (line : Line)
+    → count_by kind (before ++ line ∷ []) ≡ count_by kind before + cond (kind line) 1 0
+count-last kind before line = sum_by-append (λ w. cond (kind w) 1 0) before (line ∷ []) ∙ ap (λ n. count_by kind before + n) alone
+  where
+    alone : count_by kind (line ∷ []) ≡ cond (kind line) 1 0
+    alone = omega arith
+
+-- a line of another channel
+pub channel-other : (Q : Type 0) (kind : Line → Bool) (over : ℕ → Line → Q) (common : ℕ) (numbers : List Q) (long : Option ℕ) (before : List Line) (line : Line)
+    → IsChannelOf Q kind over common numbers long before → kind line ≡ false
+    → IsChannelOf Q kind over common numbers long (before ++ line ∷ [])
+channel-other Q kind over common numbers long before line is other =
+    let same = filter-other kind before line other in
+    let none : long_fault kind common (before ++ line ∷ []) (length before) ≡ None = long-last kind common before line ∙ rw other refl in
+    let count : count_by kind (before ++ line ∷ []) ≡ count_by kind before + 0 = count-last kind before line ∙ rw other refl in
+    let kept = is.count in
+    record {
+      count = omega (arith, count, kept);
+      kept = λ e. is.kept e ∙ ap (map (over common)) (sym same);
+      first = is.first ∙ sym (first-more (long_fault kind common (before ++ line ∷ [])) (long_fault kind common before) before line None (λ k low. long-before kind common before line k low) none ∙ or-none (first_fault (long_fault kind common before) (length before)));
+    }
+
+both-none : (long : Option ℕ) (number : ℕ) (has : Bool) → first_long long number has ≡ None → (long ≡ None) × (has ≡ false)
+both-none (Some place) number has e = cc
+both-none None number true e = cc
+both-none None number false e = (refl, refl)
+
+first-here : (kind : Line → Bool) (common : ℕ) (long : Option ℕ) (has : Bool) (before : List Line) (line : Line) → kind line ≡ true
+    → has_long_number common line ≡ has
+    → option_map long_fault_at long ≡ first_fault (long_fault kind common before) (length before)
+    → option_map long_fault_at (first_long long (suc (length before)) has) ≡ first_fault (long_fault kind common (before ++ line ∷ [])) (length (before ++ line ∷ []))
+first-here kind common (Some place) has before line is e first =
+    sym
+    (first-more (long_fault kind common (before ++ line ∷ [])) (long_fault kind common before) before line _ (λ k low. long-before kind common before line k low) refl
+    ∙ some-or _ _ _ first)
+first-here kind common None has before line is e first =
+    let last : long_fault kind common (before ++ line ∷ []) (length before) ≡ (if has then Some NumberRange else None) = long-last kind common before line ∙ rw (is, e) refl in
+    told has (suc (length before))
+    ∙ cause-of has (length before)
     ∙ sym
-    (kept-more 1 kind forms lines words
-    ∙ ap (λ last. kept_from 1 kind forms lines ++ last) (kept-no (1 + length lines) kind forms words [] other)
-    ∙ append-nil (kept_from 1 kind forms lines))
-
--- the numerals of a line of a position, and of one of a texture value
-line-position : (words : Words) (p : Position) → is_vertex_line words ≡ true → 3 ≤ length (drop 1 words)
-    → IsNumeralOf p.x (get_or (drop 1 words) 0 []) → IsNumeralOf p.y (get_or (drop 1 words) 1 [])
-    → IsNumeralOf p.z (get_or (drop 1 words) 2 []) → position_forms p ≡ position_line_forms words
-line-position words p kind enough x y z = three (drop 1 words) enough x.form y.form z.form ∙ sym (ap (map normal_form) (vertex-kept words kind))
+    (first-more (long_fault kind common (before ++ line ∷ [])) (long_fault kind common before) before line _ (λ k low. long-before kind common before line k low) last
+    ∙ none-or _ _ first)
   where
-    vertex-kept : (words : Words) → is_vertex_line words ≡ true → kept_coordinates words ≡ take 3 (drop 1 words)
-    vertex-kept words kind = rw kind refl
+    told : (b : Bool) (n : ℕ) → option_map long_fault_at (first_long None n b) ≡ option_map long_fault_at (if b then Some n else None)
+    told true n = refl
+    told false n = refl
 
-    three : (values : Words) → 3 ≤ length values → form_of p.x ≡ normal_form (get_or values 0 [])
-        → form_of p.y ≡ normal_form (get_or values 1 []) → form_of p.z ≡ normal_form (get_or values 2 [])
-        → position_forms p ≡ map normal_form (take 3 values)
-    three [] h x y z = absurd (omega arith)
-    three (a ∷ []) h x y z = absurd (omega arith)
-    three (a ∷ (b ∷ [])) h x y z = absurd (omega arith)
-    three (a ∷ (b ∷ (c ∷ rest))) h x y z = cc
-
-line-texture : (words : Words) (t : TextureValue) → is_texture_line words ≡ true → 1 ≤ length (drop 1 words)
-    → IsNumeralOf t.u (get_or (drop 1 words) 0 []) → IsNumeralOf t.v (get_or (drop 1 words) 1 (codes "0"))
-    → texture_forms t ≡ texture_line_forms words
-line-texture words t kind enough u v = two (drop 1 words) enough u.form v.form ∙ sym (ap (λ kept. with_second (map normal_form kept)) (texture-kept words kind))
-  where
-    two : (values : Words) → 1 ≤ length values → form_of t.u ≡ normal_form (get_or values 0 [])
-        → form_of t.v ≡ normal_form (get_or values 1 (codes "0")) → texture_forms t ≡ with_second (map normal_form (take 2 values))
-    two [] h u v = absurd (omega arith)
-    two (a ∷ []) h u v = cc
-    two (a ∷ (b ∷ rest)) h u v = cc
-
-pub positions-more : (ps next : List Position) (before : List Words) (words : Words) (p : Position) → ArePositions ps before
-    → is_vertex_line words ≡ true → 3 ≤ length (drop 1 words) → p.line ≡ suc (length before)
-    → IsNumeralOf p.x (get_or (drop 1 words) 0 []) → IsNumeralOf p.y (get_or (drop 1 words) 1 [])
-    → IsNumeralOf p.z (get_or (drop 1 words) 2 []) → next ≡ ps ++ p ∷ [] → ArePositions next (before ++ words ∷ [])
-positions-more ps next before words p are kind enough number x y z e =
-    let same : (p.line, position_forms p) ≡ (suc (length before), position_line_forms words) = ap (λ n. (n, position_forms p)) number ∙ ap (λ f. (suc (length before), f)) (line-position words p kind enough x y z) in
+-- a line of the channel, whose number is kept where it is not too long
+pub channel-more : (Q : Type 0) (kind : Line → Bool) (over : ℕ → Line → Q) (common : ℕ) (numbers : List Q) (q : Q) (long : Option ℕ) (has : Bool) (before : List Line) (line : Line)
+    → IsChannelOf Q kind over common numbers long before → kind line ≡ true → has_long_number common line ≡ has
+    → (has ≡ false → q ≡ over common line)
+    → IsChannelOf Q kind over common (numbers ++ q ∷ []) (first_long long (suc (length before)) has) (before ++ line ∷ [])
+channel-more Q kind over common numbers q long has before line is kin e here =
+    let count : count_by kind (before ++ line ∷ []) ≡ count_by kind before + 1 = count-last kind before line ∙ rw kin refl in
+    let size = length_push numbers q in
+    let kept = is.count in
     record {
-      read = ap (map (λ (q : Position). (q.line, position_forms q))) e ∙ more-yes is_vertex_line position_line_forms (λ q. (q.line, position_forms q)) ps p before words are.read kind same;
-      few = All-same (IsPositionAt 37) next (ps ++ p ∷ []) e (All-push (IsPositionAt 37) ps p are.few (x.fine, y.fine, z.fine));
+      count = omega (arith, count, size, kept);
+      kept = λ none.
+          let parts = both-none long (suc (length before)) has none in
+          ap (λ ns. ns ++ q ∷ []) (is.kept parts.0)
+          ∙ ap (λ x. map (over common) (filter kind before) ++ x ∷ []) (here parts.1)
+          ∙ sym (ap (map (over common)) (filter-one kind before line kin) ∙ map_push (over common) (filter kind before) line);
+      first = first-here kind common long has before line kin e is.first;
     }
-
-pub positions-other : (ps : List Position) (before : List Words) (words : Words) → ArePositions ps before → is_vertex_line words ≡ false
-    → ArePositions ps (before ++ words ∷ [])
-positions-other ps before words are other =
-    record { read = more-no is_vertex_line position_line_forms _ before words are.read other; few = are.few }
-
-pub textures-more : (ts next : List TextureValue) (before : List Words) (words : Words) (t : TextureValue) → AreTextureValues ts before
-    → is_texture_line words ≡ true → 1 ≤ length (drop 1 words) → t.line ≡ suc (length before)
-    → IsNumeralOf t.u (get_or (drop 1 words) 0 []) → IsNumeralOf t.v (get_or (drop 1 words) 1 (codes "0")) → next ≡ ts ++ t ∷ []
-    → AreTextureValues next (before ++ words ∷ [])
-textures-more ts next before words t are kind enough number u v e =
-    let same : (t.line, texture_forms t) ≡ (suc (length before), texture_line_forms words) = ap (λ n. (n, texture_forms t)) number ∙ ap (λ f. (suc (length before), f)) (line-texture words t kind enough u v) in
-    record {
-      read = ap (map (λ (q : TextureValue). (q.line, texture_forms q))) e ∙ more-yes is_texture_line texture_line_forms (λ q. (q.line, texture_forms q)) ts t before words are.read kind same;
-      few = All-same (IsTextureAt 37) next (ts ++ t ∷ []) e (All-push (IsTextureAt 37) ts t are.few (u.fine, v.fine));
-    }
-
-pub textures-other : (ts : List TextureValue) (before : List Words) (words : Words) → AreTextureValues ts before
-    → is_texture_line words ≡ false → AreTextureValues ts (before ++ words ∷ [])
-textures-other ts before words are other =
-    record { read = more-no is_texture_line texture_line_forms _ before words are.read other; few = are.few }

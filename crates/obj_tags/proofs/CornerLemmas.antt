@@ -8,7 +8,8 @@ use Rattle.subdiv_model.specs.ObjTag.{are_counts}
 use Rattle.subdiv_model.specs.Digits.{is_digit, is_digits}
 use Rattle.subdiv_model.specs.Numeral.{are_digits}
 use Rattle.subdiv_model.specs.Index.{is_index, nearest_index}
-use Rattle.subdiv_model.specs.ObjWord.{is_slash, are_corner_parts}
+use Rattle.subdiv_model.specs.Numeral.{is_slash}
+use Rattle.subdiv_model.specs.ObjWord.{are_corner_parts}
 use Rattle.std.specs.Int.{w64, saturate_to_bits}
 use Rattle.obj_tags.proofs.SplitLemmas.{one-part}
 use Rattle.obj_tags.specs.Corner.{IsReadAs}

@@ -18,10 +18,10 @@ use Rattle.obj_tags.specs.TagAdded.{AddsTag}
 use Rattle.obj_tags.specs.declared.mesh.Faces.{Faces}
 use Rattle.obj_tags.specs.declared.mesh.Tags.{Tags}
 use Rattle.obj_tags.proofs.PiecesLemmas.{Ascend-push, pieces-push}
-use Rattle.obj_tags.proofs.ScaleLemmas.{Words}
+use Rattle.obj_tags.specs.Line.{Line}
 
 -- a tag line without fault
-pub tags-more : (old new : Tags) (lines : List Words) (n : ℕ) → n < length lines → AreTags old (take n lines)
+pub tags-more : (old new : Tags) (lines : List Line) (n : ℕ) → n < length lines → AreTags old (take n lines)
     → AddsTag (get_or lines n []) old new → AreTags new (take (n + 1) lines)
 tags-more old new lines n h are adds =
     let line = get_or lines n [] in
@@ -33,7 +33,7 @@ tags-more old new lines n h are adds =
       method = adds.method ∙ ap (λ m. cond (is_tag (codes "creasemethod") line) (tag_method line) m) are.method ∙ sym (last-take (is_tag (codes "creasemethod")) tag_method Normal lines n [] h);
     }
 
-no-tag : (name : List ℕ) (line : Words) → is_tag_line line ≡ false → is_tag name line ≡ false
+no-tag : (name : List ℕ) (line : Line) → is_tag_line line ≡ false → is_tag name line ≡ false
 no-tag name line other = rw other refl
 
 add-none : {X : Type 0} (b : Bool) (xs ys : List X) → b ≡ false → xs ≡ xs ++ cond b ys []
@@ -43,7 +43,7 @@ keep-given : {X : Type 0} (b : Bool) (x y : X) → b ≡ false → y ≡ cond b 
 keep-given b x y e = rw e refl
 
 -- a line that is no tag
-pub tags-other : (tags : Tags) (lines : List Words) (n : ℕ) → n < length lines → AreTags tags (take n lines)
+pub tags-other : (tags : Tags) (lines : List Line) (n : ℕ) → n < length lines → AreTags tags (take n lines)
     → is_tag_line (get_or lines n []) ≡ false → AreTags tags (take (n + 1) lines)
 tags-other tags lines n h are other =
     let line = get_or lines n [] in
@@ -56,16 +56,16 @@ tags-other tags lines n h are other =
       method = keep-given (is_tag (codes "creasemethod") line) (tag_method line) _ (no-tag (codes "creasemethod") line other);
     }
 
-places-other : (lines : List Words) (n : ℕ) → n < length lines → is_face_line (get_or lines n []) ≡ false
+places-other : (lines : List Line) (n : ℕ) → n < length lines → is_face_line (get_or lines n []) ≡ false
     → places is_face_line (take (n + 1) lines) ≡ places is_face_line (take n lines)
 places-other lines n h other = places-take is_face_line lines n [] h ∙ sym (add-none (is_face_line (get_or lines n [])) _ (n ∷ []) other)
 
-places-face : (lines : List Words) (n : ℕ) → n < length lines → is_face_line (get_or lines n []) ≡ true
+places-face : (lines : List Line) (n : ℕ) → n < length lines → is_face_line (get_or lines n []) ≡ true
     → places is_face_line (take (n + 1) lines) ≡ places is_face_line (take n lines) ++ n ∷ []
 places-face lines n h face = places-take is_face_line lines n [] h ∙ ap (λ b. places is_face_line (take n lines) ++ cond b (n ∷ []) []) face
 
 -- a line that is no face
-pub faces-other : (faces : Faces) (lines : List Words) (n : ℕ) → n < length lines → AreFaces faces lines n
+pub faces-other : (faces : Faces) (lines : List Line) (n : ℕ) → n < length lines → AreFaces faces lines n
     → is_face_line (get_or lines n []) ≡ false → AreFaces faces lines (n + 1)
 faces-other faces lines n h are other =
     let same = sym (places-other lines n h other) in
@@ -84,7 +84,7 @@ flat-last : {X Y : Type 0} (f : X → List Y) (xs : List X) (x : X) → flat_map
 flat-last f xs x = flat_map-append f xs (x ∷ []) ∙ ap (λ ys. flat_map f xs ++ ys) (append-nil (f x))
 
 -- a face line without fault
-pub faces-more : (old new : Faces) (lines : List Words) (n : ℕ) → n < length lines → AreFaces old lines n
+pub faces-more : (old new : Faces) (lines : List Line) (n : ℕ) → n < length lines → AreFaces old lines n
     → is_face_line (get_or lines n []) ≡ true → new.corners.items ≡ old.corners.items ++ corner_numbers corner_point lines n
     → new.texture_corners.items ≡ old.texture_corners.items ++ textures_at lines n
     → new.starts.items ≡ old.starts.items ++ (length old.corners.items + length (corner_numbers corner_point lines n)) ∷ []
@@ -102,7 +102,7 @@ faces-more old new lines n h are face corners texture starts =
     }
 
 -- a line adds at most as many corners as it has words
-pub corners-step : (old new : Faces) (lines : List Words) (n : ℕ) → n < length lines → AreFaces old lines n → AreFaces new lines (n + 1)
+pub corners-step : (old new : Faces) (lines : List Line) (n : ℕ) → n < length lines → AreFaces old lines n → AreFaces new lines (n + 1)
     → length new.corners.items ≤ length old.corners.items + length (get_or lines n [])
 corners-step old new lines n h are next =
     let named = corner_numbers corner_point lines in

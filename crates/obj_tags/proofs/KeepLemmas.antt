@@ -1,49 +1,48 @@
 -- A line is kept after the lines before it, by its keyword.
-use Rattle.std.proofs.Common.{◌≡◌, ℕ, suc, ◌+◌, ◌-◌, ◌^◌, ◌<◌, ◌≤◌, Bool, true, false, cond, List, [], ◌∷◌, ◌++◌, length, map, take, drop, get_or, arith, refl, ap, sym, subst, ◌∙◌, codes, Result, Ok, Err, MatchResult, None, Some, nat_lt}
+use Rattle.std.proofs.Common.{◌≡◌, ℕ, ℤ, suc, ◌+◌, ◌-◌, ◌^◌, ◌<◌, ◌≤◌, true, false, List, [], ◌∷◌, ◌++◌, length, map, take, drop, get_or, arith, refl, ap, sym, subst, ◌∙◌, codes, Result, Ok, Err, MatchResult, None, Some, nat_lt}
 use Rattle.std.proofs.lemmas.Bool.Decides.{nat_tests}
 use Rattle.std.specs.List.{count_by, flat_map}
-use Rattle.std.proofs.lemmas.Bool.{cond_both}
 use Rattle.std.proofs.lemmas.List.{take_more, length-take, length-map}
-use Rattle.std.proofs.lemmas.List.Sums.{sum_by-cons}
 use Rattle.subdiv_model.specs.Lists.{places}
 use Rattle.subdiv_model.specs.ObjLine.{is_vertex_line, is_face_line}
 use Rattle.subdiv_model.specs.ObjFault as fault
 use Rattle.subdiv_model.specs.ObjWord.{Counts, numeral_fault, corner_fault, corner_point}
 use Rattle.subdiv_model.specs.ObjTag.{tag_fault}
-use Rattle.subdiv_model.specs.ReadObj.{counts_of, is_texture_line, is_tag_line, words_fault, values_of, corner_numbers, is_continued, has_known_keyword, least_values, line_fault, fault_at}
+use Rattle.subdiv_model.specs.ReadObj.{counts_of, is_texture_line, is_tag_line, words_fault, values_of, corner_numbers, point_over, texture_over, is_continued, has_known_keyword, least_values, line_fault, fault_at}
 use Rattle.obj_laws.proofs.ObjLineLemmas.{keyword-first, places-length, count-before}
-use Rattle.obj_tags.specs.Channel.{ArePositions, AreTextureValues, AddsPosition, AddsTextureValue, kept_from, position_forms, texture_forms, position_line_forms, texture_line_forms}
+use Rattle.obj_tags.specs.Channel.{ArePositions, AreTextureValues, AddsPosition, AddsTextureValue}
 use Rattle.obj_tags.specs.Draft.{IsDraftOf, IsLineAt, HasRoom, textures_at}
 use Rattle.obj_tags.specs.Mesh.{pieces, Ascend}
 use Rattle.obj_tags.specs.View as view
+use Rattle.obj_tags.specs.View.{point_of, texture_of}
 use Rattle.obj_tags.specs.Face.{named_point, named_textures, corners_fault, AddsFace}
 use Rattle.obj_tags.specs.Kept.{IsLineFault, KeptUnless}
 use Rattle.obj_tags.specs.declared.draft.Draft.{Draft}
 use Rattle.obj_tags.specs.declared.face.Counts as face
-use Rattle.obj_tags.specs.declared.channel.Position.{Position}
-use Rattle.obj_tags.specs.declared.channel.TextureValue.{TextureValue}
+use Rattle.obj_tags.specs.declared.channel.Positions.{Positions}
+use Rattle.obj_tags.specs.declared.channel.TextureValues.{TextureValues}
+use Rattle.obj_tags.specs.declared.survey.Survey.{Survey}
 use Rattle.obj_tags.specs.declared.fault.LineFault.{LineFault}
 use Rattle.obj_tags.specs.TagAdded.{AddsTag}
-use Rattle.obj_tags.proofs.ChannelLemmas.{positions-other, textures-other}
+use Rattle.obj_tags.proofs.ChannelLemmas.{channel-other}
 use Rattle.obj_tags.proofs.DraftLemmas.{tags-more, tags-other, faces-more, faces-other}
-use Rattle.obj_tags.proofs.ScaleLemmas.{Words, Forms}
+use Rattle.obj_tags.specs.Line.{Line}
 use Rattle.obj_tags.proofs.PiecesLemmas.{length-pieces}
-use Rattle.number_laws.proofs.CountLemmas.{one_if, one-yes, one-no}
 
 -- a line begins with one keyword
-vertex-only : (line : Words) → is_vertex_line line ≡ true
+vertex-only : (line : Line) → is_vertex_line line ≡ true
     → (is_texture_line line ≡ false) × (is_face_line line ≡ false) × (is_tag_line line ≡ false)
 vertex-only line kind = rw (keyword-first (codes "v") line kind) (refl, refl, refl)
 
-texture-only : (line : Words) → is_texture_line line ≡ true → (is_face_line line ≡ false) × (is_tag_line line ≡ false)
+texture-only : (line : Line) → is_texture_line line ≡ true → (is_face_line line ≡ false) × (is_tag_line line ≡ false)
 texture-only line kind = rw (keyword-first (codes "vt") line kind) (refl, refl)
 
 -- the lines up to this one
-taken : (all : face.Counts) (number : ℕ) (lines : List Words) (n : ℕ) (line : Words) → IsLineAt all number lines n line
+taken : (all : face.Counts) (number : ℕ) (lines : List Line) (n : ℕ) (line : Line) → IsLineAt all number lines n line
     → take (n + 1) lines ≡ take n lines ++ line ∷ []
 taken all number lines n line at = take_more lines n [] at.inside ∙ ap (λ ws. take n lines ++ ws ∷ []) at.here
 
-before : (all : face.Counts) (number : ℕ) (lines : List Words) (n : ℕ) (line : Words) → IsLineAt all number lines n line
+before : (all : face.Counts) (number : ℕ) (lines : List Line) (n : ℕ) (line : Line) → IsLineAt all number lines n line
     → number ≡ suc (length (take n lines))
 before all number lines n line at =
     let inside = at.inside in
@@ -52,17 +51,17 @@ before all number lines n line at =
     omega (arith, short, inside, place)
 
 -- a kind of line that this line is not
-same-positions : (ps : List Position) (all : face.Counts) (number : ℕ) (lines : List Words) (n : ℕ) (line : Words)
-    → IsLineAt all number lines n line → ArePositions ps (take n lines) → is_vertex_line line ≡ false
-    → ArePositions ps (take (n + 1) lines)
-same-positions ps all number lines n line at are other =
-    subst (λ ls. ArePositions ps ls) (sym (taken all number lines n line at)) (positions-other ps (take n lines) line are other)
+same-positions : (common : ℕ) (ps : Positions) (all : face.Counts) (number : ℕ) (lines : List Line) (n : ℕ) (line : Line)
+    → IsLineAt all number lines n line → ArePositions common ps (take n lines) → is_vertex_line line ≡ false
+    → ArePositions common ps (take (n + 1) lines)
+same-positions common ps all number lines n line at are other =
+    subst (λ ls. ArePositions common ps ls) (sym (taken all number lines n line at)) (channel-other (ℤ × ℤ × ℤ) is_vertex_line point_over common (map point_of ps.points.items) ps.long (take n lines) line are other)
 
-same-textures : (ts : List TextureValue) (all : face.Counts) (number : ℕ) (lines : List Words) (n : ℕ) (line : Words)
-    → IsLineAt all number lines n line → AreTextureValues ts (take n lines) → is_texture_line line ≡ false
-    → AreTextureValues ts (take (n + 1) lines)
-same-textures ts all number lines n line at are other =
-    subst (λ ls. AreTextureValues ts ls) (sym (taken all number lines n line at)) (textures-other ts (take n lines) line are other)
+same-textures : (common : ℕ) (ts : TextureValues) (all : face.Counts) (number : ℕ) (lines : List Line) (n : ℕ) (line : Line)
+    → IsLineAt all number lines n line → AreTextureValues common ts (take n lines) → is_texture_line line ≡ false
+    → AreTextureValues common ts (take (n + 1) lines)
+same-textures common ts all number lines n line at are other =
+    subst (λ ls. AreTextureValues common ts ls) (sym (taken all number lines n line at)) (channel-other (ℤ × ℤ) is_texture_line texture_over common (map texture_of ts.points.items) ts.long (take n lines) line are other)
 
 -- what holds of a result holds also in other words
 match-map : {T E : Type 0} {A A' : T → Type 0} {B B' : E → Type 0} (r : Result T E) → ((x : T) → A x → A' x) → ((e : E) → B e → B' e)
@@ -70,28 +69,28 @@ match-map : {T E : Type 0} {A A' : T → Type 0} {B B' : E → Type 0} (r : Resu
 match-map (Ok x) f g said = f x said
 match-map (Err e) f g said = g e said
 
-vertex-fault : (b w : Counts) (line values : Words) → is_vertex_line line ≡ true → drop 1 line ≡ values
+vertex-fault : (b w : Counts) (line values : Line) → is_vertex_line line ≡ true → drop 1 line ≡ values
     → words_fault b w line ≡ fault.first_cause numeral_fault values
 vertex-fault b w line values kind e = rw kind (ap (fault.first_cause numeral_fault) e)
 
-texture-fault : (b w : Counts) (line values : Words) → is_vertex_line line ≡ false → is_texture_line line ≡ true → drop 1 line ≡ values
+texture-fault : (b w : Counts) (line values : Line) → is_vertex_line line ≡ false → is_texture_line line ≡ true → drop 1 line ≡ values
     → words_fault b w line ≡ fault.first_cause numeral_fault values
 texture-fault b w line values other kind e = rw (other, kind) (ap (fault.first_cause numeral_fault) e)
 
-tag-line-fault : (b w : Counts) (line : Words) → is_vertex_line line ≡ false → is_texture_line line ≡ false → is_face_line line ≡ false
+tag-line-fault : (b w : Counts) (line : Line) → is_vertex_line line ≡ false → is_texture_line line ≡ false → is_face_line line ≡ false
     → is_tag_line line ≡ true → words_fault b w line ≡ tag_fault w line
 tag-line-fault b w line a c d kind = rw (a, c, d, kind) refl
 
-no-words-fault : (b w : Counts) (line : Words) → is_vertex_line line ≡ false → is_texture_line line ≡ false → is_face_line line ≡ false
+no-words-fault : (b w : Counts) (line : Line) → is_vertex_line line ≡ false → is_texture_line line ≡ false → is_face_line line ≡ false
     → is_tag_line line ≡ false → words_fault b w line ≡ None
 no-words-fault b w line a c d e = rw (a, c, d, e) refl
 
 -- a line whose position was kept
-pub kept-position : (r : Result (Unit {0}) LineFault) (draft : Draft) (ps : List Position) (next : Draft) (all : face.Counts) (number : ℕ) (lines : List Words) (n : ℕ) (line values : Words)
-    → next.positions.items ≡ ps → next.texture ≡ draft.texture → next.faces ≡ draft.faces → next.tags ≡ draft.tags
-    → IsLineAt all number lines n line → is_vertex_line line ≡ true → drop 1 line ≡ values → IsDraftOf draft lines n
-    → KeptUnless r (fault.first_cause numeral_fault values) (λ _. AddsPosition number values draft.positions.items ps)
-    → KeptUnless r (words_fault (counts_of (take n lines)) (counts_of lines) line) (λ _. IsDraftOf next lines (n + 1))
+pub kept-position : (r : Result (Unit {0}) LineFault) (draft : Draft) (ps : Positions) (next : Draft) (all : Survey) (number : ℕ) (lines : List Line) (n : ℕ) (line values : Line)
+    → next.positions ≡ ps → next.texture ≡ draft.texture → next.faces ≡ draft.faces → next.tags ≡ draft.tags
+    → IsLineAt all.counts number lines n line → is_vertex_line line ≡ true → drop 1 line ≡ values → IsDraftOf all draft lines n
+    → KeptUnless r (fault.first_cause numeral_fault values) (λ _. AddsPosition all.positions.value number values draft.positions ps)
+    → KeptUnless r (words_fault (counts_of (take n lines)) (counts_of lines) line) (λ _. IsDraftOf all next lines (n + 1))
 kept-position r draft ps next all number lines n line values e texture faces tags at kind v is said =
     let b = counts_of (take n lines) in
     let w = counts_of lines in
@@ -101,8 +100,8 @@ kept-position r draft ps next all number lines n line values e texture faces tag
     (λ _ good. (
       same ∙ good.0,
       record {
-        positions = subst (λ xs. ArePositions xs (take (n + 1) lines)) (sym e) (subst (λ ls. ArePositions ps ls) (sym (taken all number lines n line at)) (good.1 (take n lines) line is.positions kind v (before all number lines n line at)));
-        texture = rw texture (same-textures draft.texture.items all number lines n line at is.texture only.0);
+        positions = subst (λ xs. ArePositions all.positions.value xs (take (n + 1) lines)) (sym e) (subst (λ ls. ArePositions all.positions.value ps ls) (sym (taken all.counts number lines n line at)) (good.1 (take n lines) line is.positions kind v (before all.counts number lines n line at)));
+        texture = rw texture (same-textures all.texture.value draft.texture all.counts number lines n line at is.texture only.0);
         faces = rw faces (faces-other draft.faces lines n at.inside is.faces (ap is_face_line at.here ∙ only.1));
         tags = rw tags (tags-other draft.tags lines n at.inside is.tags (ap is_tag_line at.here ∙ only.2));
       },
@@ -111,12 +110,12 @@ kept-position r draft ps next all number lines n line values e texture faces tag
     said
 
 -- a line whose texture value was kept
-pub kept-texture : (r : Result (Unit {0}) LineFault) (draft : Draft) (ts : List TextureValue) (next : Draft) (all : face.Counts) (number : ℕ) (lines : List Words) (n : ℕ) (line values : Words)
-    → next.texture.items ≡ ts → next.positions ≡ draft.positions → next.faces ≡ draft.faces → next.tags ≡ draft.tags
-    → IsLineAt all number lines n line → is_vertex_line line ≡ false → is_texture_line line ≡ true → drop 1 line ≡ values
-    → IsDraftOf draft lines n
-    → KeptUnless r (fault.first_cause numeral_fault values) (λ _. AddsTextureValue number values draft.texture.items ts)
-    → KeptUnless r (words_fault (counts_of (take n lines)) (counts_of lines) line) (λ _. IsDraftOf next lines (n + 1))
+pub kept-texture : (r : Result (Unit {0}) LineFault) (draft : Draft) (ts : TextureValues) (next : Draft) (all : Survey) (number : ℕ) (lines : List Line) (n : ℕ) (line values : Line)
+    → next.texture ≡ ts → next.positions ≡ draft.positions → next.faces ≡ draft.faces → next.tags ≡ draft.tags
+    → IsLineAt all.counts number lines n line → is_vertex_line line ≡ false → is_texture_line line ≡ true → drop 1 line ≡ values
+    → IsDraftOf all draft lines n
+    → KeptUnless r (fault.first_cause numeral_fault values) (λ _. AddsTextureValue all.texture.value number values draft.texture ts)
+    → KeptUnless r (words_fault (counts_of (take n lines)) (counts_of lines) line) (λ _. IsDraftOf all next lines (n + 1))
 kept-texture r draft ts next all number lines n line values e positions faces tags at other kind v is said =
     let b = counts_of (take n lines) in
     let w = counts_of lines in
@@ -126,8 +125,8 @@ kept-texture r draft ts next all number lines n line values e positions faces ta
     (λ _ good. (
       same ∙ good.0,
       record {
-        positions = rw positions (same-positions draft.positions.items all number lines n line at is.positions other);
-        texture = subst (λ xs. AreTextureValues xs (take (n + 1) lines)) (sym e) (subst (λ ls. AreTextureValues ts ls) (sym (taken all number lines n line at)) (good.1 (take n lines) line is.texture kind v (before all number lines n line at)));
+        positions = rw positions (same-positions all.positions.value draft.positions all.counts number lines n line at is.positions other);
+        texture = subst (λ xs. AreTextureValues all.texture.value xs (take (n + 1) lines)) (sym e) (subst (λ ls. AreTextureValues all.texture.value ts ls) (sym (taken all.counts number lines n line at)) (good.1 (take n lines) line is.texture kind v (before all.counts number lines n line at)));
         faces = rw faces (faces-other draft.faces lines n at.inside is.faces (ap is_face_line at.here ∙ only.0));
         tags = rw tags (tags-other draft.tags lines n at.inside is.tags (ap is_tag_line at.here ∙ only.1));
       },
@@ -136,12 +135,12 @@ kept-texture r draft ts next all number lines n line values e positions faces ta
     said
 
 -- a line whose tag was kept
-pub kept-tag : (r : Result (Unit {0}) LineFault) (draft next : Draft) (all : face.Counts) (w : Counts) (number : ℕ) (lines : List Words) (n : ℕ) (line values : Words)
-    → next.positions ≡ draft.positions → next.texture ≡ draft.texture → next.faces ≡ draft.faces → IsLineAt all number lines n line
+pub kept-tag : (r : Result (Unit {0}) LineFault) (draft next : Draft) (all : Survey) (w : Counts) (number : ℕ) (lines : List Line) (n : ℕ) (line values : Line)
+    → next.positions ≡ draft.positions → next.texture ≡ draft.texture → next.faces ≡ draft.faces → IsLineAt all.counts number lines n line
     → w ≡ counts_of lines → is_vertex_line line ≡ false → is_texture_line line ≡ false → is_face_line line ≡ false
-    → is_tag_line line ≡ true → drop 1 line ≡ values → IsDraftOf draft lines n
+    → is_tag_line line ≡ true → drop 1 line ≡ values → IsDraftOf all draft lines n
     → KeptUnless r (tag_fault w (codes "t" ∷ values)) (λ _. AddsTag (codes "t" ∷ values) draft.tags next.tags)
-    → KeptUnless r (words_fault (counts_of (take n lines)) (counts_of lines) line) (λ _. IsDraftOf next lines (n + 1))
+    → KeptUnless r (words_fault (counts_of (take n lines)) (counts_of lines) line) (λ _. IsDraftOf all next lines (n + 1))
 kept-tag r draft next all w number lines n line values positions texture faces at whole no-v no-vt no-f kind v is said =
     let split : line ≡ codes "t" ∷ values = keyword-first (codes "t") line kind ∙ ap (λ vs. codes "t" ∷ vs) v in
     let same : words_fault (counts_of (take n lines)) (counts_of lines) line ≡ tag_fault w (codes "t" ∷ values) =
@@ -150,8 +149,8 @@ kept-tag r draft next all w number lines n line values positions texture faces a
     (λ _ good. (
       same ∙ good.0,
       record {
-        positions = rw positions (same-positions draft.positions.items all number lines n line at is.positions no-v);
-        texture = rw texture (same-textures draft.texture.items all number lines n line at is.texture no-vt);
+        positions = rw positions (same-positions all.positions.value draft.positions all.counts number lines n line at is.positions no-v);
+        texture = rw texture (same-textures all.texture.value draft.texture all.counts number lines n line at is.texture no-vt);
         faces = rw faces (faces-other draft.faces lines n at.inside is.faces (ap is_face_line at.here ∙ no-f));
         tags = tags-more draft.tags next.tags lines n at.inside is.tags (subst (λ l. AddsTag l draft.tags next.tags) (sym (at.here ∙ split)) good.1);
       },
@@ -160,59 +159,47 @@ kept-tag r draft next all w number lines n line values positions texture faces a
     said
 
 -- a line that is dropped unread
-pub kept-nothing : (draft : Draft) (all : face.Counts) (number : ℕ) (lines : List Words) (n : ℕ) (line : Words)
-    → IsLineAt all number lines n line → is_vertex_line line ≡ false → is_texture_line line ≡ false → is_face_line line ≡ false
-    → is_tag_line line ≡ false → IsDraftOf draft lines n
-    → (words_fault (counts_of (take n lines)) (counts_of lines) line ≡ None) × IsDraftOf draft lines (n + 1)
+pub kept-nothing : (draft : Draft) (all : Survey) (number : ℕ) (lines : List Line) (n : ℕ) (line : Line)
+    → IsLineAt all.counts number lines n line → is_vertex_line line ≡ false → is_texture_line line ≡ false → is_face_line line ≡ false
+    → is_tag_line line ≡ false → IsDraftOf all draft lines n
+    → (words_fault (counts_of (take n lines)) (counts_of lines) line ≡ None) × IsDraftOf all draft lines (n + 1)
 kept-nothing draft all number lines n line at no-v no-vt no-f no-t is = (
   no-words-fault (counts_of (take n lines)) (counts_of lines) line no-v no-vt no-f no-t,
   record {
-    positions = same-positions draft.positions.items all number lines n line at is.positions no-v;
-    texture = same-textures draft.texture.items all number lines n line at is.texture no-vt;
+    positions = same-positions all.positions.value draft.positions all.counts number lines n line at is.positions no-v;
+    texture = same-textures all.texture.value draft.texture all.counts number lines n line at is.texture no-vt;
     faces = faces-other draft.faces lines n at.inside is.faces (ap is_face_line at.here ∙ no-f);
     tags = tags-other draft.tags lines n at.inside is.tags (ap is_tag_line at.here ∙ no-t);
   },
 )
 
-kept-count : (place : ℕ) (kind : Words → Bool) (forms : Words → Forms) (lines : List Words)
-    → length (kept_from place kind forms lines) ≡ count_by kind lines
-kept-count place kind forms [] = refl
-kept-count place kind forms (line ∷ lines) =
-    let rest : length (kept_from (place + 1) kind forms lines) ≡ count_by kind lines = kept-count (place + 1) kind forms lines in
-    let sum : count_by kind (line ∷ lines) ≡ one_if (kind line) + count_by kind lines = sum_by-cons (λ y. cond (kind y) 1 0) line lines in
-    cond_both (kind line) ((place, forms line) ∷ kept_from (place + 1) kind forms lines) (kept_from (place + 1) kind forms lines) (λ ps. length ps ≡ count_by kind (line ∷ lines))
-    (λ yes. let one : one_if (kind line) ≡ 1 = one-yes (kind line) yes in omega (arith, rest, sum, one))
-    (λ no. let none : one_if (kind line) ≡ 0 = one-no (kind line) no in omega (arith, rest, sum, none))
-
 -- what was kept of the lines counts them
-pub counts-kept : (draft : Draft) (b : face.Counts) (lines : List Words) (n : ℕ) → b.point_count ≡ length draft.positions.items
-    → b.texture_count ≡ length draft.texture.items → b.face_count + 1 ≡ length draft.faces.starts.items → IsDraftOf draft lines n
+pub counts-kept : (all : Survey) (draft : Draft) (b : face.Counts) (lines : List Line) (n : ℕ) → b.point_count ≡ length draft.positions.points.items
+    → b.texture_count ≡ length draft.texture.points.items → b.face_count + 1 ≡ length draft.faces.starts.items → IsDraftOf all draft lines n
     → view.counts_of b ≡ counts_of (take n lines)
-counts-kept draft b lines n points textures faces is =
-    let ps : b.point_count ≡ count_by is_vertex_line (take n lines) =
-    points ∙ sym (length-map draft.positions.items (λ (p : Position). (p.line, position_forms p))) ∙ ap length is.positions.read ∙ kept-count 1 is_vertex_line position_line_forms (take n lines) in
-    let ts : b.texture_count ≡ count_by is_texture_line (take n lines) =
-    textures ∙ sym (length-map draft.texture.items (λ (t : TextureValue). (t.line, texture_forms t))) ∙ ap length is.texture.read ∙ kept-count 1 is_texture_line texture_line_forms (take n lines) in
+counts-kept all draft b lines n points textures faces is =
+    let ps : b.point_count ≡ count_by is_vertex_line (take n lines) = points ∙ sym (length-map draft.positions.points.items point_of) ∙ is.positions.count in
+    let ts : b.texture_count ≡ count_by is_texture_line (take n lines) = textures ∙ sym (length-map draft.texture.points.items texture_of) ∙ is.texture.count in
     let pieced : length (pieces draft.faces.starts.items draft.faces.corners.items) ≡ length draft.faces.starts.items - 1 = length-pieces draft.faces.starts.items draft.faces.corners.items in
     let counted : length (pieces draft.faces.starts.items draft.faces.corners.items) ≡ count_by is_face_line (take n lines) =
     ap length is.faces.read ∙ length-map (places is_face_line (take n lines)) (corner_numbers corner_point lines) ∙ places-length is_face_line (take n lines) in
     let fs : b.face_count ≡ count_by is_face_line (take n lines) = omega (arith, faces, pieced, counted) in
     rw (ps, ts, fs) refl
 
-face-line-fault : (b w : Counts) (line values : Words) → is_vertex_line line ≡ false → is_texture_line line ≡ false
+face-line-fault : (b w : Counts) (line values : Line) → is_vertex_line line ≡ false → is_texture_line line ≡ false
     → is_face_line line ≡ true → line ≡ codes "f" ∷ values → words_fault b w line ≡ corners_fault b w values
 face-line-fault b w line values a c kind split = rw (a, c, kind) (ap (λ l. fault.first_cause (corner_fault b w (get_or l 1 [])) (values_of l)) split)
 
-face-only : (line : Words) → is_face_line line ≡ true → is_tag_line line ≡ false
+face-only : (line : Line) → is_face_line line ≡ true → is_tag_line line ≡ false
 face-only line kind = rw (keyword-first (codes "f") line kind) refl
 
 -- a line whose face was kept
-pub kept-face : (r : Result (Unit {0}) LineFault) (draft next : Draft) (all : face.Counts) (b w : Counts) (number : ℕ) (lines : List Words) (n : ℕ) (line values : Words)
-    → next.positions ≡ draft.positions → next.texture ≡ draft.texture → next.tags ≡ draft.tags → IsLineAt all number lines n line
+pub kept-face : (r : Result (Unit {0}) LineFault) (draft next : Draft) (all : Survey) (b w : Counts) (number : ℕ) (lines : List Line) (n : ℕ) (line values : Line)
+    → next.positions ≡ draft.positions → next.texture ≡ draft.texture → next.tags ≡ draft.tags → IsLineAt all.counts number lines n line
     → b ≡ counts_of (take n lines) → w ≡ counts_of lines → is_vertex_line line ≡ false → is_texture_line line ≡ false
-    → is_face_line line ≡ true → drop 1 line ≡ values → IsDraftOf draft lines n
+    → is_face_line line ≡ true → drop 1 line ≡ values → IsDraftOf all draft lines n
     → KeptUnless r (corners_fault b w values) (λ _. AddsFace b w values draft.faces next.faces)
-    → KeptUnless r (words_fault (counts_of (take n lines)) (counts_of lines) line) (λ _. IsDraftOf next lines (n + 1))
+    → KeptUnless r (words_fault (counts_of (take n lines)) (counts_of lines) line) (λ _. IsDraftOf all next lines (n + 1))
 kept-face r draft next all b w number lines n line values positions texture tags at eb ew no-v no-vt kind v is said =
     let bn = counts_of (take n lines) in
     let wn = counts_of lines in
@@ -229,8 +216,8 @@ kept-face r draft next all b w number lines n line values positions texture tags
     (λ _ good. (
       same ∙ good.0,
       record {
-        positions = rw positions (same-positions draft.positions.items all number lines n line at is.positions no-v);
-        texture = rw texture (same-textures draft.texture.items all number lines n line at is.texture no-vt);
+        positions = rw positions (same-positions all.positions.value draft.positions all.counts number lines n line at is.positions no-v);
+        texture = rw texture (same-textures all.texture.value draft.texture all.counts number lines n line at is.texture no-vt);
         faces = faces-more draft.faces next.faces lines n at.inside is.faces (ap is_face_line at.here ∙ kind)
             (good.1.corners ∙ ap (λ xs. draft.faces.corners.items ++ xs) points)
             (good.1.textures ∙ ap (λ xs. draft.faces.texture_corners.items ++ xs) named)
@@ -247,33 +234,33 @@ ltb-of a b h = grind (arith, nat_tests)
 ltb-not : (a b : ℕ) → b ≤ a → nat_lt a b ≡ false
 ltb-not a b h = grind (arith, nat_tests)
 
-pub line-unknown : (b w : Counts) (word : List ℕ) (values : Words) → is_continued (word ∷ values) ≡ false
+pub line-unknown : (b w : Counts) (word : List ℕ) (values : Line) → is_continued (word ∷ values) ≡ false
     → has_known_keyword (word ∷ values) ≡ false → line_fault b w (word ∷ values) ≡ Some fault.UnknownKeyword
 line-unknown b w word values last unknown = rw (last, unknown) refl
 
-pub line-short : (b w : Counts) (word : List ℕ) (values : Words) → is_continued (word ∷ values) ≡ false
+pub line-short : (b w : Counts) (word : List ℕ) (values : Line) → is_continued (word ∷ values) ≡ false
     → has_known_keyword (word ∷ values) ≡ true → length values < least_values (word ∷ values)
     → line_fault b w (word ∷ values) ≡ Some fault.ShortLine
 line-short b w word values last known short = rw (last, known, ltb-of (length values) (least_values (word ∷ values)) short) refl
 
-pub line-read : (b w : Counts) (word : List ℕ) (values : Words) → is_continued (word ∷ values) ≡ false
+pub line-read : (b w : Counts) (word : List ℕ) (values : Line) → is_continued (word ∷ values) ≡ false
     → has_known_keyword (word ∷ values) ≡ true → least_values (word ∷ values) ≤ length values
     → line_fault b w (word ∷ values) ≡ words_fault b w (word ∷ values)
 line-read b w word values last known enough = rw (last, known, ltb-not (length values) (least_values (word ∷ values)) enough) refl
 
 -- a line without words
-pub empty-kept : (draft : Draft) (all : face.Counts) (number : ℕ) (lines : List Words) (n : ℕ) (line : Words) → line ≡ []
-    → IsLineAt all number lines n line → IsDraftOf draft lines n → (fault_at lines n ≡ None) × IsDraftOf draft lines (n + 1)
+pub empty-kept : (draft : Draft) (all : Survey) (number : ℕ) (lines : List Line) (n : ℕ) (line : Line) → line ≡ []
+    → IsLineAt all.counts number lines n line → IsDraftOf all draft lines n → (fault_at lines n ≡ None) × IsDraftOf all draft lines (n + 1)
 empty-kept draft all number lines n line e at is =
     let kept = kept-nothing draft all number lines n line at (ap is_vertex_line e) (ap is_texture_line e) (ap is_face_line e) (ap is_tag_line e) is in
     (ap (line_fault (counts_of (take n lines)) (counts_of lines)) (at.here ∙ e), kept.1)
 
 -- a line whose words were read
-pub read-kept : (r : Result (Unit {0}) LineFault) (next : Draft) (all : face.Counts) (number : ℕ) (lines : List Words) (n : ℕ) (line : Words) (word : List ℕ) (values : Words)
-    → line ≡ word ∷ values → IsLineAt all number lines n line → is_continued (word ∷ values) ≡ false
+pub read-kept : (r : Result (Unit {0}) LineFault) (next : Draft) (all : Survey) (number : ℕ) (lines : List Line) (n : ℕ) (line : Line) (word : List ℕ) (values : Line)
+    → line ≡ word ∷ values → IsLineAt all.counts number lines n line → is_continued (word ∷ values) ≡ false
     → has_known_keyword (word ∷ values) ≡ true → least_values (word ∷ values) ≤ length values
-    → KeptUnless r (words_fault (counts_of (take n lines)) (counts_of lines) line) (λ _. IsDraftOf next lines (n + 1))
-    → KeptUnless r (fault_at lines n) (λ _. IsDraftOf next lines (n + 1))
+    → KeptUnless r (words_fault (counts_of (take n lines)) (counts_of lines) line) (λ _. IsDraftOf all next lines (n + 1))
+    → KeptUnless r (fault_at lines n) (λ _. IsDraftOf all next lines (n + 1))
 read-kept r next all number lines n line word values e at last known enough said =
     let bn = counts_of (take n lines) in
     let wn = counts_of lines in
@@ -289,20 +276,20 @@ some-starts [] end ascend = absurd ascend
 some-starts (a ∷ starts) end ascend = omega arith
 
 -- what was kept of the first lines is no more than what all lines have
-pub kept-room : (draft : Draft) (all : face.Counts) (lines : List Words) (n more : ℕ) → view.counts_of all ≡ counts_of lines
-    → all.face_count < 2 ^ 32 → IsDraftOf draft lines n → length draft.faces.corners.items + more < 2 ^ 32 → HasRoom draft all more
-kept-room draft all lines n more counted few is corners =
+pub kept-room : (all : Survey) (draft : Draft) (lines : List Line) (n more : ℕ) → view.counts_of all.counts ≡ counts_of lines
+    → all.counts.face_count < 2 ^ 32 → IsDraftOf all draft lines n → length draft.faces.corners.items + more < 2 ^ 32 → HasRoom draft all.counts more
+kept-room all draft lines n more counted few is corners =
     let starts = draft.faces.starts.items in
     let some = some-starts starts (length draft.faces.corners.items) is.faces.ascend in
-    let b : face.Counts = record { point_count = length draft.positions.items; texture_count = length draft.texture.items; face_count = length starts - 1 } in
+    let b : face.Counts = record { point_count = length draft.positions.points.items; texture_count = length draft.texture.points.items; face_count = length starts - 1 } in
     let whole : (length starts - 1) + 1 ≡ length starts = omega (arith, some) in
-    let before = counts-kept draft b lines n refl refl whole is in
-    let ps : length draft.positions.items ≡ count_by is_vertex_line (take n lines) = ap (λ (k : Counts). k.point_count) before in
-    let ts : length draft.texture.items ≡ count_by is_texture_line (take n lines) = ap (λ (k : Counts). k.texture_count) before in
+    let before = counts-kept all draft b lines n refl refl whole is in
+    let ps : length draft.positions.points.items ≡ count_by is_vertex_line (take n lines) = ap (λ (k : Counts). k.point_count) before in
+    let ts : length draft.texture.points.items ≡ count_by is_texture_line (take n lines) = ap (λ (k : Counts). k.texture_count) before in
     let fs : length starts - 1 ≡ count_by is_face_line (take n lines) = ap (λ (k : Counts). k.face_count) before in
-    let all-ps : all.point_count ≡ count_by is_vertex_line lines = ap (λ (k : Counts). k.point_count) counted in
-    let all-ts : all.texture_count ≡ count_by is_texture_line lines = ap (λ (k : Counts). k.texture_count) counted in
-    let all-fs : all.face_count ≡ count_by is_face_line lines = ap (λ (k : Counts). k.face_count) counted in
+    let all-ps : all.counts.point_count ≡ count_by is_vertex_line lines = ap (λ (k : Counts). k.point_count) counted in
+    let all-ts : all.counts.texture_count ≡ count_by is_texture_line lines = ap (λ (k : Counts). k.texture_count) counted in
+    let all-fs : all.counts.face_count ≡ count_by is_face_line lines = ap (λ (k : Counts). k.face_count) counted in
     record {
       points = omega (arith, ps, all-ps, count-before is_vertex_line lines n);
       textures = omega (arith, ts, all-ts, count-before is_texture_line lines n);

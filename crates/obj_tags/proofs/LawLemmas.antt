@@ -1,5 +1,5 @@
 -- A mesh that is kept in whole lists has its numbers within the lists that they count.
-use Rattle.std.proofs.Common.{◌≡◌, ℕ, ◌+◌, ◌-◌, ◌<◌, ◌≤◌, Bool, true, false, if◌then◌else◌, List, [], ◌∷◌, length, map, arith, slice_range, drop}
+use Rattle.std.proofs.Common.{◌≡◌, ℕ, ◌+◌, ◌-◌, ◌^◌, ◌<◌, ◌≤◌, Bool, true, false, if◌then◌else◌, List, [], ◌∷◌, length, map, arith, slice_range, drop}
 use Rattle.std.specs.List.{All, sum_by}
 use Rattle.std.proofs.lemmas.List.{length-map}
 use Rattle.std.proofs.lemmas.List.Elements.{All-nil, All-cons, All-map, All-weaker, All-take, All-drop}
@@ -33,15 +33,19 @@ texture-all true P starts xs h = pieces-all P starts xs h
 texture-all false P starts xs h = All-nil (λ piece. All P piece)
 
 -- the laws of a mesh, from what is kept
-pub within : (points : List Point3) (scale : ℕ) (texture : List Point2) (texture_scale : ℕ) (faces : Faces) (has_texture : Bool) (tags : Tags)
-    → IsWhole (length points) (length texture) has_texture faces tags
-    → IsWithin (mesh_of points scale texture texture_scale faces has_texture tags)
-within points scale texture texture_scale faces has_texture tags whole =
+pub within : (points : List Point3) (common : ℕ) (texture : List Point2) (texture_common : ℕ) (faces : Faces) (has_texture : Bool) (tags : Tags)
+    → 0 < common → common ≤ 10 ^ 37 → 0 < texture_common → texture_common ≤ 10 ^ 37 → IsWhole (length points) (length texture) has_texture faces tags
+    → IsWithin (mesh_of points common texture texture_common faces has_texture tags)
+within points common texture texture_common faces has_texture tags positive short texture_positive texture_short whole =
     let as_points : length (map point_of points) ≡ length points = length-map points point_of in
     let as_values : length (map texture_of texture) ≡ length texture = length-map texture texture_of in
     let as_faces = length-pieces faces.starts.items faces.corners.items in
     let polygons = pieces faces.starts.items faces.corners.items in
     record {
+      common = positive;
+      common_short = short;
+      texture_common = texture_positive;
+      texture_common_short = texture_short;
       faces = pieces-all (λ v. v < length (map point_of points)) faces.starts.items faces.corners.items (All-weaker (λ v. v < length points) (λ v. v < length (map point_of points)) (λ v h. omega (arith, h, as_points)) faces.corners.items whole.vertices);
       texture_corners = texture-all has_texture (λ t. t < length (map texture_of texture)) faces.starts.items faces.texture_corners.items (All-weaker (λ t. t < length texture) (λ t. t < length (map texture_of texture)) (λ t h. omega (arith, h, as_values)) faces.texture_corners.items whole.texture);
       creases = All-map (λ c. (c.0.0 < length (map point_of points)) × (c.0.1 < length (map point_of points))) crease_of tags.creases.items (All-weaker (λ c. (c.a < length points) × (c.b < length points)) (λ c. (c.a < length (map point_of points)) × (c.b < length (map point_of points))) (λ c h. (omega (arith, h.0, as_points), omega (arith, h.1, as_points))) tags.creases.items whole.crease_ends);

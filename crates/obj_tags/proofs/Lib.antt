@@ -2,10 +2,14 @@ pub mod SplitLemmas
 pub mod NumberLemmas
 pub mod CornerLemmas
 pub mod WalkLemmas
-pub mod ScaleLemmas
-pub mod LongLemmas
-pub mod AtScaleLemmas
+pub mod FirstLineLemmas
+pub mod CommonLemmas
+pub mod SurveyLemmas
+pub mod FineLemmas
+pub mod DenominatorLemmas
 pub mod ChannelLemmas
+pub mod LateLemmas
+pub mod PointLemmas
 pub mod LineLemmas
 pub mod PiecesLemmas
 pub mod TagLemmas

@@ -1,5 +1,5 @@
 -- The mesh of a draft of all lines is that of the lines.
-use Rattle.std.proofs.Common.{◌≡◌, ℕ, ◌+◌, Bool, true, false, nat_lt, List, [], ◌∷◌, ◌++◌, length, map, take, get_or, arith, refl, ap, sym, subst, ◌∙◌, Option, option_map, ⊎_elim, if◌then◌else◌}
+use Rattle.std.proofs.Common.{◌≡◌, ℕ, ℤ, ◌+◌, ◌^◌, None, Bool, true, false, nat_lt, List, [], ◌∷◌, ◌++◌, length, map, take, get_or, arith, refl, ap, sym, subst, ◌∙◌, option_map, ⊎_elim, if◌then◌else◌}
 use Rattle.std.specs.Prelude.{unwrap_or}
 use Rattle.std.specs.List.{list_all, list_any, count_by, filter, flat_map}
 use Rattle.std.proofs.Math.Seq.{take-length}
@@ -10,34 +10,32 @@ use Rattle.std.proofs.lemmas.List.Folds.{list_all-map, flat_map-map}
 use Rattle.std.proofs.lemmas.List.Sums.{sum_by-append}
 use Rattle.subdiv_model.specs.ObjLine.{is_vertex_line, is_face_line}
 use Rattle.subdiv_model.specs.ObjWord.{corner_point, corner_texture, has_texture_part}
-use Rattle.subdiv_model.specs.ReadObj.{counts_of, values_of, corner_numbers, has_texture_channel, texture_corners_of, is_texture_line, position_scale, texture_scale_of, point_at, texture_at, mesh_of_lines, first_long_line}
+use Rattle.subdiv_model.specs.ReadObj.{counts_of, values_of, corner_numbers, has_texture_channel, texture_corners_of, is_texture_line, point_over, texture_over, mesh_of_lines, late_fault, lesser_fault, first_late_fault}
 use Rattle.number_laws.proofs.CountLemmas.{any-count}
 use Rattle.obj_laws.proofs.ObjChannelLemmas.{passing-all, passing-count, corner-words, channel-counted}
 use Rattle.obj_laws.proofs.ObjLateLemmas.{filter-places}
-use Rattle.obj_tags.specs.declared.channel.Position.{Position}
-use Rattle.obj_tags.specs.declared.channel.TextureValue.{TextureValue}
-use Rattle.obj_tags.specs.Channel.{ArePositions, AreTextureValues, first_long_of_kind, lesser_line, long_fault_at}
-use Rattle.obj_tags.proofs.LongLemmas.{first-long}
+use Rattle.obj_tags.specs.Channel.{ArePositions, AreTextureValues, late_line, lesser_line}
+use Rattle.obj_tags.specs.Survey.{AreCommon, long_fault_at}
+use Rattle.obj_tags.specs.declared.survey.Survey.{Survey}
+use Rattle.obj_tags.proofs.LateLemmas.{late-channel, late-kept, lesser-late}
 use Rattle.obj_tags.specs.Draft.{IsDraftOf, textures_at}
 use Rattle.obj_tags.specs.Mesh.{pieces, Ascend, names_all_texture, mesh_of}
 use Rattle.obj_tags.specs.View.{point_of, texture_of}
-use Rattle.ratio128.specs.declared.point.Point2.{Point2}
-use Rattle.ratio128.specs.declared.point.Point3.{Point3}
 use Rattle.obj_tags.specs.declared.draft.Draft.{Draft}
 use Rattle.obj_tags.proofs.PiecesLemmas.{pieces-same}
-use Rattle.obj_tags.proofs.ScaleLemmas.{Words}
+use Rattle.obj_tags.specs.Line.{Line}
 use Rattle.obj_tags.proofs.WholeLemmas.{OfAll, of-all, face-places}
 
 -- the corners of the face lines at places, as words
-abbrev words-at : List Words → List ℕ → List (List ℕ)
+abbrev words-at : List Line → List ℕ → List (List ℕ)
 words-at lines is = flat_map (λ i. values_of (get_or lines i [])) is
 
-words-of-faces : (lines : List Words) → words-at lines (face-places lines) ≡ corner-words lines
+words-of-faces : (lines : List Line) → words-at lines (face-places lines) ≡ corner-words lines
 words-of-faces lines =
     sym (flat_map-map values_of (λ i. get_or lines i []) (face-places lines)) ∙ ap (flat_map values_of) (filter-places is_face_line [] lines)
 
 -- each corner has a point
-points-count : (lines : List Words) (is : List ℕ) → length (flat_map (corner_numbers corner_point lines) is) ≡ length (words-at lines is)
+points-count : (lines : List Line) (is : List ℕ) → length (flat_map (corner_numbers corner_point lines) is) ≡ length (words-at lines is)
 points-count lines [] = refl
 points-count lines (i ∷ is) =
     let named = corner_numbers corner_point lines in
@@ -46,7 +44,7 @@ points-count lines (i ∷ is) =
     omega (arith, length-append (named i) (flat_map named is), length-append values (words-at lines is), here, points-count lines is)
 
 -- and where it has a texture value it has one
-textures-count : (lines : List Words) (is : List ℕ)
+textures-count : (lines : List Line) (is : List ℕ)
     → length (flat_map (textures_at lines) is) ≡ count_by has_texture_part (words-at lines is)
 textures-count lines [] = refl
 textures-count lines (i ∷ is) =
@@ -59,7 +57,7 @@ some-counted : {X : Type 0} (test : X → Bool) (xs : List X) (n : ℕ) → n �
 some-counted test xs n e = grind (arith, nat_tests, any-count test xs)
 
 -- whether all corners have a texture value
-pub has-texture : (draft : Draft) (lines : List Words) → OfAll draft lines → names_all_texture draft.faces ≡ has_texture_channel lines
+pub has-texture : (draft : Draft) (lines : List Line) → OfAll draft lines → names_all_texture draft.faces ≡ has_texture_channel lines
 has-texture draft lines all =
     let words = words-of-faces lines in
     let some : nat_lt 1 (length draft.faces.starts.items) ≡ list_any is_face_line lines = some-counted is_face_line lines (length draft.faces.starts.items) all.faces in
@@ -68,7 +66,7 @@ has-texture draft lines all =
     rw (some, textures, corners) (sym (channel-counted lines))
 
 -- then these are all that were kept
-all-textured : (lines : List Words) (is : List ℕ) → list_all (λ i. list_all has_texture_part (values_of (get_or lines i []))) is ≡ true
+all-textured : (lines : List Line) (is : List ℕ) → list_all (λ i. list_all has_texture_part (values_of (get_or lines i []))) is ≡ true
     → flat_map (textures_at lines) is ≡ flat_map (corner_numbers corner_texture lines) is
 all-textured lines [] h = refl
 all-textured lines (i ∷ is) h =
@@ -76,14 +74,14 @@ all-textured lines (i ∷ is) h =
     let here : textures_at lines i ≡ corner_numbers corner_texture lines i = passing-all has_texture_part (λ word. unwrap_or (corner_texture (counts_of (take i lines)) (counts_of lines) word) 0) (values_of (get_or lines i [])) parts.0 in
     ap (λ xs. xs ++ flat_map (textures_at lines) is) here ∙ ap (λ xs. corner_numbers corner_texture lines i ++ xs) (all-textured lines is parts.1)
 
-textured-faces : (lines : List Words) → has_texture_channel lines ≡ true
+textured-faces : (lines : List Line) → has_texture_channel lines ≡ true
     → flat_map (textures_at lines) (face-places lines) ≡ flat_map (corner_numbers corner_texture lines) (face-places lines)
 textured-faces lines has =
     let parts : (list_any is_face_line lines ≡ true) × (list_all (λ words. list_all has_texture_part (values_of words)) (filter is_face_line lines) ≡ true) = and_parts _ _ has in
     all-textured lines (face-places lines)
     (sym (list_all-map (λ words. list_all has_texture_part (values_of words)) (λ i. get_or lines i []) (face-places lines)) ∙ ap (list_all (λ words. list_all has_texture_part (values_of words))) (filter-places is_face_line [] lines) ∙ parts.1)
 
-texture-corners : (draft : Draft) (lines : List Words) → Ascend draft.faces.starts.items (length draft.faces.corners.items)
+texture-corners : (draft : Draft) (lines : List Line) → Ascend draft.faces.starts.items (length draft.faces.corners.items)
     → OfAll draft lines
     → (if has_texture_channel lines then pieces draft.faces.starts.items draft.faces.texture_corners.items else []) ≡ texture_corners_of lines
 texture-corners draft lines ascend all =
@@ -101,31 +99,35 @@ texture-corners draft lines ascend all =
     (cases_Bool (has_texture_channel lines))
 
 -- what was kept of all lines
-pub all-positions : (draft : Draft) (lines : List Words) (ps : List Position) → ps ≡ draft.positions.items
-    → IsDraftOf draft lines (length lines) → ArePositions ps lines
-all-positions draft lines ps e is = rw e (subst (ArePositions draft.positions.items) (take-length lines) is.positions)
+all-positions : (found : Survey) (draft : Draft) (lines : List Line) → IsDraftOf found draft lines (length lines)
+    → ArePositions found.positions.value draft.positions lines
+all-positions found draft lines is = subst (ArePositions found.positions.value draft.positions) (take-length lines) is.positions
 
-pub all-values : (draft : Draft) (lines : List Words) (ts : List TextureValue) → ts ≡ draft.texture.items
-    → IsDraftOf draft lines (length lines) → AreTextureValues ts lines
-all-values draft lines ts e is = rw e (subst (AreTextureValues draft.texture.items) (take-length lines) is.texture)
+all-values : (found : Survey) (draft : Draft) (lines : List Line) → IsDraftOf found draft lines (length lines)
+    → AreTextureValues found.texture.value draft.texture lines
+all-values found draft lines is = subst (AreTextureValues found.texture.value draft.texture) (take-length lines) is.texture
 
--- what was kept, at its scales, is the mesh of the lines
-pub mesh-draft : (draft : Draft) (lines : List Words) (least scale texture_scale : ℕ) (has : Bool) (points : List Point3) (values : List Point2)
-    → IsDraftOf draft lines (length lines) → scale ≡ position_scale least lines → texture_scale ≡ texture_scale_of lines
-    → has ≡ names_all_texture draft.faces → map point_of points ≡ map (point_at scale) (filter is_vertex_line lines)
-    → map texture_of values ≡ map (texture_at texture_scale) (filter is_texture_line lines)
-    → mesh_of points scale values texture_scale draft.faces has draft.tags ≡ mesh_of_lines lines least
-mesh-draft draft lines least scale texture_scale has points values is e_scale e_texture_scale e_has e_points e_values =
-    let all = of-all draft lines is in
+-- what was kept of all lines, where there is no late fault, is the mesh of the lines
+pub mesh-draft : (found : Survey) (draft : Draft) (lines : List Line) (least : ℕ) (has : Bool) → AreCommon found least lines
+    → IsDraftOf found draft lines (length lines) → has ≡ names_all_texture draft.faces
+    → late_line found.positions.wide draft.positions.long ≡ None → late_line found.texture.wide draft.texture.long ≡ None
+    → mesh_of draft.positions.points.items found.positions.value draft.texture.points.items found.texture.value draft.faces has draft.tags
+    ≡ mesh_of_lines lines least
+mesh-draft found draft lines least has are is e_has no-position no-texture =
+    let all = of-all found draft lines is in
     let same : has ≡ has_texture_channel lines = e_has ∙ has-texture draft lines all in
-    rw (e_points, e_values, e_scale, e_texture_scale, all.read, all.tags.creases, all.tags.corners, all.tags.holes, all.tags.boundary, all.tags.method, same, texture-corners draft lines is.faces.ascend all) refl
+    let points = late-kept (ℤ × ℤ × ℤ) is_vertex_line point_over (10 ^ least) found.positions (map point_of draft.positions.points.items) draft.positions.long lines no-position are.positions (all-positions found draft lines is) in
+    let values = late-kept (ℤ × ℤ) is_texture_line texture_over 1 found.texture (map texture_of draft.texture.points.items) draft.texture.long lines no-texture are.texture (all-values found draft lines is) in
+    rw (points.1, values.1, points.0, values.0, all.read, all.tags.creases, all.tags.corners, all.tags.holes, all.tags.boundary, all.tags.method, same, texture-corners draft lines is.faces.ascend all) refl
 
--- the first line that is too long at these scales
-pub long-draft : (lines : List Words) (least scale texture_scale : ℕ) (a b : Option ℕ) → scale ≡ position_scale least lines
-    → texture_scale ≡ texture_scale_of lines → option_map long_fault_at a ≡ first_long_of_kind is_vertex_line scale lines
-    → option_map long_fault_at b ≡ first_long_of_kind is_texture_line texture_scale lines
-    → option_map long_fault_at (lesser_line a b) ≡ first_long_line least lines
-long-draft lines least scale texture_scale a b e_scale e_texture_scale e_a e_b =
-    first-long least lines a b
-    (e_a ∙ ap (λ n. first_long_of_kind is_vertex_line n lines) e_scale)
-    (e_b ∙ ap (λ n. first_long_of_kind is_texture_line n lines) e_texture_scale)
+-- the late fault of the lines
+pub late-draft : (found : Survey) (draft : Draft) (lines : List Line) (least : ℕ) → AreCommon found least lines
+    → IsDraftOf found draft lines (length lines)
+    → option_map long_fault_at (lesser_line (late_line found.positions.wide draft.positions.long) (late_line found.texture.wide draft.texture.long))
+    ≡ first_late_fault least lines
+late-draft found draft lines least are is =
+    let positions = late-channel (ℤ × ℤ × ℤ) is_vertex_line point_over (10 ^ least) found.positions (map point_of draft.positions.points.items) draft.positions.long lines are.positions (all-positions found draft lines is) in
+    let texture = late-channel (ℤ × ℤ) is_texture_line texture_over 1 found.texture (map texture_of draft.texture.points.items) draft.texture.long lines are.texture (all-values found draft lines is) in
+    lesser-late (late_line found.positions.wide draft.positions.long) (late_line found.texture.wide draft.texture.long)
+    ∙ ap (λ a. lesser_fault a (option_map long_fault_at (late_line found.texture.wide draft.texture.long))) positions
+    ∙ ap (lesser_fault (late_fault is_vertex_line (10 ^ least) lines)) texture

@@ -7,7 +7,6 @@ use Rattle.std.proofs.lemmas.List.Concat.{length-flat_map}
 use Rattle.std.proofs.lemmas.List.Folds.{fold-map}
 use Rattle.std.proofs.lemmas.List.Sums.{sum_by-cons}
 use Rattle.obj_tags.specs.Mesh.{pieces, Ascend}
-use Rattle.obj_tags.proofs.AtScaleLemmas.{cons-parts}
 
 pub length-pieces : (starts xs : List ℕ) → length (pieces starts xs) ≡ length starts - 1
 length-pieces [] xs = refl
@@ -61,6 +60,9 @@ pub sum_by-pieces : (s : ℕ) (starts xs : List ℕ) → Ascend (s ∷ starts) (
 sum_by-pieces s [] xs a = omega (arith, a)
 sum_by-pieces s (t ∷ starts) xs a =
     omega (arith, sum_by-cons length (slice_range xs s t) (pieces (t ∷ starts) xs), sum_by-pieces t starts xs a.1, length-range xs s t a.0 (head_below t starts (length xs) a.1))
+
+cons-parts : {X : Type 0} (x y : X) (xs ys : List X) → x ∷ xs ≡ y ∷ ys → (x ≡ y) × (xs ≡ ys)
+cons-parts x y xs ys e = (cc, cc)
 
 join-cons : {p q : List ℕ} {ps qs : List (List ℕ)} → p ≡ q → ps ≡ qs → (p ∷ ps) ≡ (q ∷ qs)
 join-cons e f = cc

@@ -7,7 +7,9 @@ use Rattle.std.proofs.lemmas.List.Splits.{slice_split_none, slice_split_first, l
 use Rattle.std.proofs.lemmas.List.Sums.{fails_before_first, prefix_len-le-length, length-filter, count_by-le-length}
 use Rattle.std.proofs.lemmas.List.Folds.{length-prefix_len}
 use Rattle.subdiv_model.specs.ObjLine.{is_lf, is_blank, runs_of, opens_comment, line_words, lines_of}
-use Rattle.subdiv_model.specs.ObjWord.{is_slash}
+use Rattle.subdiv_model.specs.Numeral.{is_slash}
+use Rattle.subdiv_model.specs.ReadObj.{is_continued}
+use Rattle.obj_tags.specs.Walk.{continued_from}
 use Rattle.obj_laws.proofs.ObjLineLemmas.{lines-first}
 
 -- a text with no separator is one piece, and nothing follows it
@@ -69,3 +71,8 @@ few-words line =
 -- a place in a text
 pub position-le : (p : ℕ → Bool) (text : List ℕ) → position_or_len p text ≤ length text
 position-le p text = prefix_len-le-length (λ b. not (p b)) text
+
+-- whether the last of all words ends with a backslash
+pub continued-start : (words : List (List ℕ)) → continued_from false words ≡ is_continued words
+continued-start [] = refl
+continued-start (word ∷ words) = refl

@@ -25,9 +25,10 @@ use Rattle.obj_tags.specs.declared.face.Counts as face
 use Rattle.obj_tags.specs.declared.mesh.Crease.{Crease}
 use Rattle.obj_tags.specs.declared.mesh.Faces.{Faces}
 use Rattle.obj_tags.specs.declared.mesh.Tags.{Tags}
+use Rattle.obj_tags.specs.declared.survey.Survey.{Survey}
 use Rattle.obj_tags.proofs.KeepLemmas.{counts-kept, some-starts}
 use Rattle.obj_tags.proofs.PiecesLemmas.{length-pieces}
-use Rattle.obj_tags.proofs.ScaleLemmas.{Words}
+use Rattle.obj_tags.specs.Line.{Line}
 use Rattle.number_laws.proofs.CountLemmas.{all-flat_map}
 
 -- what a test says of each
@@ -44,10 +45,10 @@ all-seen : {X Y : Type 0} (view : X → Y) (test : Y → Bool) (P : X → Type 0
 all-seen view test P xs ys e sound h = all-from (λ x. test (view x)) P xs sound (sym (list_all-map test view xs) ∙ ap (list_all test) e ∙ h)
 
 -- the numbers of all corners
-abbrev pub face-places : List Words → List ℕ
+abbrev pub face-places : List Line → List ℕ
 face-places lines = places is_face_line lines
 
-vertices-below : (lines : List Words) → AreGood lines
+vertices-below : (lines : List Line) → AreGood lines
     → are-below (counts_of lines).point_count (flat_map (corner_numbers corner_point lines) (face-places lines)) ≡ true
 vertices-below lines good =
     all-flat_map (λ v. nat_lt v (counts_of lines).point_count) (corner_numbers corner_point lines) (face-places lines)
@@ -62,7 +63,7 @@ corner-texture-below b w first word h fine =
     (λ (none : has_texture_part word ≡ false). rw none refl)
     (cases_Bool (has_texture_part word))
 
-line-textures-below : (lines : List Words) → AreGood lines → (i : ℕ) → i < length lines → is_face_line (get_or lines i []) ≡ true
+line-textures-below : (lines : List Line) → AreGood lines → (i : ℕ) → i < length lines → is_face_line (get_or lines i []) ≡ true
     → are-below (counts_of lines).texture_count (textures_at lines i) ≡ true
 line-textures-below lines good i low is =
     let b = counts_of (take i lines) in
@@ -73,7 +74,7 @@ line-textures-below lines good i low is =
     (λ word fine. corner-texture-below b w (get_or words 1 []) word (count-before is_texture_line lines i) fine)
     (values_of words) (face-corners b w words is (good i low))
 
-textures-below : (lines : List Words) → AreGood lines
+textures-below : (lines : List Line) → AreGood lines
     → are-below (counts_of lines).texture_count (flat_map (textures_at lines) (face-places lines)) ≡ true
 textures-below lines good =
     all-flat_map (λ t. nat_lt t (counts_of lines).texture_count) (textures_at lines) (face-places lines)
@@ -94,30 +95,30 @@ few-corners : (faces : List (List ℕ)) → 2 * sum_by length faces + length fac
 few-corners [] h = omega arith
 few-corners (face ∷ faces) h = omega (arith, h)
 
-corners-sum : (lines : List Words)
+corners-sum : (lines : List Line)
     → length (flat_map (corner_numbers corner_point lines) (face-places lines)) ≡ sum_by length (faces_of lines)
 corners-sum lines =
     length-flat_map (corner_numbers corner_point lines) (face-places lines)
     ∙ sym (fold-map (λ n face. n + length face) (corner_numbers corner_point lines) 0 (face-places lines))
 
 -- the draft of all lines, without its lines
-pub record OfAll (draft : Draft) (lines : List Words) : Type 0 where
+pub record OfAll (draft : Draft) (lines : List Line) : Type 0 where
   pub read : pieces draft.faces.starts.items draft.faces.corners.items ≡ faces_of lines
   pub corners : draft.faces.corners.items ≡ flat_map (corner_numbers corner_point lines) (face-places lines)
   pub texture : draft.faces.texture_corners.items ≡ flat_map (textures_at lines) (face-places lines)
   pub tags : AreTags draft.tags lines
-  pub points : length draft.positions.items ≡ (counts_of lines).point_count
-  pub values : length draft.texture.items ≡ (counts_of lines).texture_count
+  pub points : length draft.positions.points.items ≡ (counts_of lines).point_count
+  pub values : length draft.texture.points.items ≡ (counts_of lines).texture_count
   pub faces : length draft.faces.starts.items ≡ (counts_of lines).face_count + 1
 
 -- the draft of all lines
-pub of-all : (draft : Draft) (lines : List Words) → IsDraftOf draft lines (length lines) → OfAll draft lines
-of-all draft lines is =
+pub of-all : (found : Survey) (draft : Draft) (lines : List Line) → IsDraftOf found draft lines (length lines) → OfAll draft lines
+of-all found draft lines is =
     let all : take (length lines) lines ≡ lines = take-length lines in
     let starts = draft.faces.starts.items in
     let some = some-starts starts (length draft.faces.corners.items) is.faces.ascend in
-    let b : face.Counts = record { point_count = length draft.positions.items; texture_count = length draft.texture.items; face_count = length starts - 1 } in
-    let counted : view.counts_of b ≡ counts_of lines = counts-kept draft b lines (length lines) refl refl (omega (arith, some)) is ∙ ap counts_of all in
+    let b : face.Counts = record { point_count = length draft.positions.points.items; texture_count = length draft.texture.points.items; face_count = length starts - 1 } in
+    let counted : view.counts_of b ≡ counts_of lines = counts-kept found draft b lines (length lines) refl refl (omega (arith, some)) is ∙ ap counts_of all in
     let faces : length starts - 1 ≡ (counts_of lines).face_count = ap (λ (k : Counts). k.face_count) counted in
     record {
       read = is.faces.read ∙ ap (λ ls. map (corner_numbers corner_point lines) (face-places ls)) all;
@@ -130,13 +131,13 @@ of-all draft lines is =
     }
 
 -- is whole, where no line is bad
-pub whole-draft : (draft : Draft) (text : List ℕ) → length text ≤ 2 ^ 28 → IsDraftOf draft (obj_lines text) (length (obj_lines text))
+pub whole-draft : (found : Survey) (draft : Draft) (text : List ℕ) → length text ≤ 2 ^ 28 → IsDraftOf found draft (obj_lines text) (length (obj_lines text))
     → first_bad_line (obj_lines text) ≡ None
-    → IsWhole (length draft.positions.items) (length draft.texture.items) false draft.faces draft.tags
-whole-draft draft text short is none =
+    → IsWhole (length draft.positions.points.items) (length draft.texture.points.items) false draft.faces draft.tags
+whole-draft found draft text short is none =
     let lines = obj_lines text in
     let points = (counts_of lines).point_count in
-    let all = of-all draft lines is in
+    let all = of-all found draft lines is in
     let good : AreGood lines = each-good (fault_at lines) (length lines) none in
     let bytes : 2 * sum_by length (faces_of lines) + length (faces_of lines) ≤ length text = corners-bytes text 0 in
     let size : length draft.faces.corners.items ≡ sum_by length (faces_of lines) = ap length all.corners ∙ corners-sum lines in
@@ -146,18 +147,17 @@ whole-draft draft text short is none =
       few = omega (arith, polygons, bytes, short);
       short = omega (arith, size, few-corners (faces_of lines) (omega (arith, bytes, short)));
       same = λ e. cc;
-      vertices = below-from points (length draft.positions.items) draft.faces.corners.items (sym all.points) (ap (are-below points) all.corners ∙ vertices-below lines good);
-      texture = below-from (counts_of lines).texture_count (length draft.texture.items) draft.faces.texture_corners.items (sym all.values) (ap (are-below (counts_of lines).texture_count) all.texture ∙ textures-below lines good);
-      crease_ends = all-seen crease_of (λ c. nat_lt c.0.0 points && nat_lt c.0.1 points) (λ c. (c.a < length draft.positions.items) × (c.b < length draft.positions.items)) draft.tags.creases.items _ all.tags.creases (λ c below. crease-sound points (length draft.positions.items) c (sym all.points) below) (creases-good lines good);
-      corner_vertices = all-seen corner_tag_of (λ c. nat_lt c.0 points) (λ c. c.vertex < length draft.positions.items) draft.tags.corners.items _ all.tags.corners (λ c below. let less = ltb-true c.vertex points below in omega (arith, all.points, less)) (corners-good lines good);
+      vertices = below-from points (length draft.positions.points.items) draft.faces.corners.items (sym all.points) (ap (are-below points) all.corners ∙ vertices-below lines good);
+      texture = below-from (counts_of lines).texture_count (length draft.texture.points.items) draft.faces.texture_corners.items (sym all.values) (ap (are-below (counts_of lines).texture_count) all.texture ∙ textures-below lines good);
+      crease_ends = all-seen crease_of (λ c. nat_lt c.0.0 points && nat_lt c.0.1 points) (λ c. (c.a < length draft.positions.points.items) × (c.b < length draft.positions.points.items)) draft.tags.creases.items _ all.tags.creases (λ c below. crease-sound points (length draft.positions.points.items) c (sym all.points) below) (creases-good lines good);
+      corner_vertices = all-seen corner_tag_of (λ c. nat_lt c.0 points) (λ c. c.vertex < length draft.positions.points.items) draft.tags.corners.items _ all.tags.corners (λ c below. let less = ltb-true c.vertex points below in omega (arith, all.points, less)) (corners-good lines good);
       hole_faces = all-from (λ f. nat_lt f (counts_of lines).face_count) (λ f. f + 1 < length draft.faces.starts.items) draft.tags.holes.items (λ f below. let less = ltb-true f (counts_of lines).face_count below in omega (arith, all.faces, less)) (ap (are-below (counts_of lines).face_count) all.tags.holes ∙ holes-good lines good);
     }
 
--- so is what was kept beside its points and its texture values at their scales
-pub whole-mesh : (points values points' values' : ℕ) (has : Bool) (faces : Faces) (tags : Tags) → IsWhole points values false faces tags
-    → points' ≡ points → values' ≡ values → has ≡ names_all_texture faces → IsWhole points' values' has faces tags
-whole-mesh points values points' values' has faces tags whole e_points e_values e_has =
-    rw (e_points, e_values)
+-- so it is beside whether all corners have a texture value
+pub whole-mesh : (points values : ℕ) (has : Bool) (faces : Faces) (tags : Tags) → IsWhole points values false faces tags
+    → has ≡ names_all_texture faces → IsWhole points values has faces tags
+whole-mesh points values has faces tags whole e_has =
     record {
       ascend = whole.ascend;
       few = whole.few;

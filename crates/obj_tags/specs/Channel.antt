@@ -1,139 +1,102 @@
--- What is kept of the lines of positions and of texture values.
-use Rattle.std.specs.Prelude.{ℕ, suc, ◌+◌, ◌-◌, ◌*◌, ◌^◌, ◌<◌, ◌≤◌, ◌≡◌, ℤ, pos, ◌*ℤ◌, unsigned_abs, Bool, ◌&&◌, nat_le, min, max, List, [], ◌∷◌, ◌++◌, map, drop, get_or, length, Option, Some, None, true, codes, if◌then◌else◌}
-use Rattle.std.specs.List.{All, list_any}
-use Rattle.subdiv_model.specs.Numeral.{normal_form}
+-- What is kept of the lines of positions and of texture values, over the common denominators of their channels.
+use Rattle.std.specs.Prelude.{ℕ, suc, ◌/◌, ◌^◌, ◌<◌, ◌≤◌, ◌≡◌, ℤ, pos, ◌*ℤ◌, unsigned_abs, Bool, true, false, min, List, [], ◌∷◌, ◌++◌, map, take, drop, get_or, length, Option, Some, None, option_map, MatchOption, codes}
+use Rattle.std.specs.List.{list_any, filter, count_by}
 use Rattle.subdiv_model.specs.ObjLine.{is_vertex_line}
-use Rattle.subdiv_model.specs.ObjFault.{ObjCause, ObjFault, NumberRange}
-use Rattle.subdiv_model.specs.ReadObj.{is_texture_line, kept_coordinates, is_long_at, first_fault}
+use Rattle.subdiv_model.specs.ObjWord.{number_over}
+use Rattle.subdiv_model.specs.ReadObj.{is_texture_line, is_long_over, long_fault, first_fault, point_over, texture_over}
 use Rattle.obj_text.specs.declared.numeral.Numeral.{Numeral}
-use Rattle.obj_tags.specs.declared.channel.Position.{Position}
-use Rattle.obj_tags.specs.declared.channel.TextureValue.{TextureValue}
+use Rattle.obj_tags.specs.declared.channel.Positions.{Positions}
+use Rattle.obj_tags.specs.declared.channel.TextureValues.{TextureValues}
 use Rattle.ratio128.specs.declared.point.Point3.{Point3}
 use Rattle.ratio128.specs.declared.point.Point2.{Point2}
-use Rattle.obj_tags.specs.Kept.{IsNumeralOf}
 use Rattle.obj_tags.specs.Line.{Line}
-use Rattle.obj_tags.specs.View.{form_of}
+use Rattle.obj_tags.specs.Survey.{long_fault_at}
+use Rattle.obj_tags.specs.View.{point_of, texture_of}
 
--- 0 for a second coordinate that is missing
-abbrev pub with_second : List (ℤ × ℕ) → List (ℤ × ℕ)
-with_second [] = []
-with_second (u ∷ []) = u ∷ (pos 0, 0) ∷ []
-with_second (u ∷ (v ∷ rest)) = u ∷ v ∷ rest
+-- a numeral as a whole number over a common denominator
+abbrev pub over_common : ℕ → Numeral → ℤ
+over_common common n = n.num *ℤ pos (common / n.den)
 
--- the normal forms of a position's coordinates, and of a texture value's
-abbrev pub position_forms : Position → List (ℤ × ℕ)
-position_forms p = form_of p.x ∷ form_of p.y ∷ form_of p.z ∷ []
+-- the number, where it has at most 37 digits
+abbrev pub IsShortNumber : Option ℤ → ℤ → Type 0
+IsShortNumber read z = MatchOption read (10 ^ 37 ≤ unsigned_abs z) (λ x. (x ≡ z) × (unsigned_abs z < 10 ^ 37))
 
-abbrev pub texture_forms : TextureValue → List (ℤ × ℕ)
-texture_forms t = form_of t.u ∷ form_of t.v ∷ []
+-- the words have a number that is too long over a common denominator
+abbrev pub are_long : ℕ → List (List ℕ) → Bool
+are_long common words = list_any (is_long_over common) words
 
--- the position of line `number` with these words after its keyword
-pub record IsPositionOf (p : Position) (number : ℕ) (words : List (List ℕ)) : Type 0 where
-  pub line : p.line ≡ number
-  pub x : IsNumeralOf p.x (get_or words 0 [])
-  pub y : IsNumeralOf p.y (get_or words 1 [])
-  pub z : IsNumeralOf p.z (get_or words 2 [])
+-- the point of a line with these words after its keyword, where its numbers are short enough
+abbrev pub IsPointOver : ℕ → Option Point3 → List (List ℕ) → Type 0
+IsPointOver common read words =
+    MatchOption read (are_long common (take 3 words) ≡ true)
+    (λ p. (are_long common (take 3 words) ≡ false)
+    × (point_of p ≡ (number_over common (get_or words 0 []), number_over common (get_or words 1 []), number_over common (get_or words 2 []))))
 
 -- the texture value of such a line, whose second coordinate is 0 where it is missing
-pub record IsTextureValueOf (t : TextureValue) (number : ℕ) (words : List (List ℕ)) : Type 0 where
-  pub line : t.line ≡ number
-  pub u : IsNumeralOf t.u (get_or words 0 [])
-  pub v : IsNumeralOf t.v (get_or words 1 (codes "0"))
+abbrev pub IsTextureOver : ℕ → Option Point2 → List (List ℕ) → Type 0
+IsTextureOver common read words =
+    MatchOption read (are_long common (take 2 words) ≡ true)
+    (λ p. (are_long common (take 2 words) ≡ false)
+    × (texture_of p ≡ (number_over common (get_or words 0 []), number_over common (get_or words 1 (codes "0")))))
 
--- no coordinate has more decimals than the scale
-abbrev pub IsPositionAt : ℕ → Position → Type 0
-IsPositionAt scale p = (p.x.decimals ≤ scale) × (p.y.decimals ≤ scale) × (p.z.decimals ≤ scale)
+-- the point of three numbers, and the texture value of two, where they are there
+abbrev pub point_from : Option ℤ → Option ℤ → Option ℤ → Option Point3
+point_from None y z = None
+point_from (Some x) None z = None
+point_from (Some x) (Some y) None = None
+point_from (Some x) (Some y) (Some z) = Some (record { x = x; y = y; z = z })
 
-abbrev pub IsTextureAt : ℕ → TextureValue → Type 0
-IsTextureAt scale t = (t.u.decimals ≤ scale) × (t.v.decimals ≤ scale)
+abbrev pub texture_from : Option ℤ → Option ℤ → Option Point2
+texture_from None v = None
+texture_from (Some u) None = None
+texture_from (Some u) (Some v) = Some (record { u = u; v = v })
 
--- the normal forms that are kept of a line of a position, and of one of a texture value
-abbrev pub position_line_forms : Line → List (ℤ × ℕ)
-position_line_forms words = map normal_form (kept_coordinates words)
+-- and zeros where they are not
+abbrev pub point_or_origin : Option Point3 → Point3
+point_or_origin None = record { x = pos 0; y = pos 0; z = pos 0 }
+point_or_origin (Some p) = p
 
-abbrev pub texture_line_forms : Line → List (ℤ × ℕ)
-texture_line_forms words = with_second (map normal_form (kept_coordinates words))
+abbrev pub texture_or_origin : Option Point2 → Point2
+texture_or_origin None = record { u = pos 0; v = pos 0 }
+texture_or_origin (Some p) = p
 
--- the lines of a kind, each by its place, where the first line of all is at `place`, and by what is kept of it
-abbrev pub kept_from : ℕ → (Line → Bool) → (Line → List (ℤ × ℕ)) → List Line → List (ℕ × List (ℤ × ℕ))
-kept_from place kind forms [] = []
-kept_from place kind forms (words ∷ lines) =
-    if kind words then (place, forms words) ∷ kept_from (place + 1) kind forms lines else kept_from (place + 1) kind forms lines
+-- the numbers of the lines of a channel over its common denominator, while no line has a number that is too long; and the
+-- first line that has one
+pub record IsChannelOf (Q : Type 0) (kind : Line → Bool) (over : ℕ → Line → Q) (common : ℕ) (numbers : List Q) (long : Option ℕ) (lines : List Line) : Type 0 where
+  pub count : length numbers ≡ count_by kind lines
+  pub kept : long ≡ None → numbers ≡ map (over common) (filter kind lines)
+  pub first : option_map long_fault_at long ≡ first_fault (long_fault kind common lines) (length lines)
 
--- the positions are those of the lines, each with its place counted from 1, and with at most 37 decimals
-pub record ArePositions (positions : List Position) (lines : List Line) : Type 0 where
-  pub read : map (λ p. (p.line, position_forms p)) positions ≡ kept_from 1 is_vertex_line position_line_forms lines
-  pub few : All (IsPositionAt 37) positions
+abbrev pub ArePositions : ℕ → Positions → List Line → Type 0
+ArePositions common kept lines = IsChannelOf (ℤ × ℤ × ℤ) is_vertex_line point_over common (map point_of kept.points.items) kept.long lines
 
--- the texture values are those of the lines
-pub record AreTextureValues (values : List TextureValue) (lines : List Line) : Type 0 where
-  pub read : map (λ t. (t.line, texture_forms t)) values ≡ kept_from 1 is_texture_line texture_line_forms lines
-  pub few : All (IsTextureAt 37) values
+abbrev pub AreTextureValues : ℕ → TextureValues → List Line → Type 0
+AreTextureValues common kept lines = IsChannelOf (ℤ × ℤ) is_texture_line texture_over common (map texture_of kept.points.items) kept.long lines
 
 -- what was kept of the lines before, with line `number`, which has these words after its keyword
-abbrev pub AddsPosition : ℕ → List (List ℕ) → List Position → List Position → Type 0
-AddsPosition number words old new =
-    (before : List Line) (line : Line) → ArePositions old before → is_vertex_line line ≡ true → drop 1 line ≡ words → number ≡ suc (length before)
-    → ArePositions new (before ++ line ∷ [])
+abbrev pub AddsPosition : ℕ → ℕ → List (List ℕ) → Positions → Positions → Type 0
+AddsPosition common number words old new =
+    (before : List Line) (line : Line) → ArePositions common old before → is_vertex_line line ≡ true → drop 1 line ≡ words → number ≡ suc (length before)
+    → ArePositions common new (before ++ line ∷ [])
 
-abbrev pub AddsTextureValue : ℕ → List (List ℕ) → List TextureValue → List TextureValue → Type 0
-AddsTextureValue number words old new =
-    (before : List Line) (line : Line) → AreTextureValues old before → is_texture_line line ≡ true → drop 1 line ≡ words → number ≡ suc (length before)
-    → AreTextureValues new (before ++ line ∷ [])
+abbrev pub AddsTextureValue : ℕ → ℕ → List (List ℕ) → TextureValues → TextureValues → Type 0
+AddsTextureValue common number words old new =
+    (before : List Line) (line : Line) → AreTextureValues common old before → is_texture_line line ≡ true → drop 1 line ≡ words → number ≡ suc (length before)
+    → AreTextureValues common new (before ++ line ∷ [])
 
--- a scale that is raised to the decimals of one more
-abbrev pub with_position : ℕ → Position → ℕ
-with_position scale p = max (max (max scale p.x.decimals) p.y.decimals) p.z.decimals
+-- the first line with a number that is too long, where there is one, with one more line
+abbrev pub first_long : Option ℕ → ℕ → Bool → Option ℕ
+first_long (Some line) number long = Some line
+first_long None number true = Some number
+first_long None number false = None
 
-abbrev pub with_texture : ℕ → TextureValue → ℕ
-with_texture scale t = max (max scale t.u.decimals) t.v.decimals
-
--- a normal form over ten to a scale, and whether it has more than 37 digits there
-abbrev pub form_at : ℕ → ℤ × ℕ → ℤ
-form_at scale form = form.0 *ℤ pos (10 ^ (scale - form.1))
-
-abbrev pub is_long_form : ℕ → ℤ × ℕ → Bool
-is_long_form scale form = nat_le (10 ^ 37) (unsigned_abs (form_at scale form))
-
--- the fault of a line of a kind that has too many digits at a scale
-abbrev pub long_of_kind : (Line → Bool) → ℕ → Line → Option ObjCause
-long_of_kind kind scale words =
-    if kind words && list_any (is_long_at scale) (kept_coordinates words) then Some NumberRange else None
-
--- the first line of a kind that has too many digits at a scale
-abbrev pub first_long_of_kind : (Line → Bool) → ℕ → List Line → Option ObjFault
-first_long_of_kind kind scale lines = first_fault (λ i. long_of_kind kind scale (get_or lines i [])) (length lines)
-
--- the fault of a line with too many digits
-abbrev pub long_fault_at : ℕ → ObjFault
-long_fault_at line = record { line = line; cause = NumberRange }
+-- the late line of a channel: the first up to which it is too wide, and else the first with a number that is too long
+abbrev pub late_line : Option ℕ → Option ℕ → Option ℕ
+late_line (Some line) long = Some line
+late_line None long = long
 
 -- the lesser of two lines, where there is one
 abbrev pub lesser_line : Option ℕ → Option ℕ → Option ℕ
 lesser_line None b = b
 lesser_line (Some a) None = Some a
 lesser_line (Some a) (Some b) = Some (min a b)
-
--- the numeral has at most 37 digits at a scale
-abbrev pub IsShortAt : ℕ → Numeral → Type 0
-IsShortAt scale n = unsigned_abs n.mantissa * 10 ^ (scale - n.decimals) < 10 ^ 37
-
-abbrev pub IsShortPosition : ℕ → Position → Type 0
-IsShortPosition scale p = IsShortAt scale p.x × IsShortAt scale p.y × IsShortAt scale p.z
-
-abbrev pub IsShortTexture : ℕ → TextureValue → Type 0
-IsShortTexture scale t = IsShortAt scale t.u × IsShortAt scale t.v
-
--- a position and a texture value over ten to a scale
-abbrev pub position_at : ℕ → Position → ℤ × ℤ × ℤ
-position_at scale p = (form_at scale (form_of p.x), form_at scale (form_of p.y), form_at scale (form_of p.z))
-
-abbrev pub texture_value_at : ℕ → TextureValue → ℤ × ℤ
-texture_value_at scale t = (form_at scale (form_of t.u), form_at scale (form_of t.v))
-
--- each coordinate has at most 37 digits
-abbrev pub IsShortPoint : Point3 → Type 0
-IsShortPoint p = (unsigned_abs p.x < 10 ^ 37) × (unsigned_abs p.y < 10 ^ 37) × (unsigned_abs p.z < 10 ^ 37)
-
-abbrev pub IsShortTexturePoint : Point2 → Type 0
-IsShortTexturePoint p = (unsigned_abs p.u < 10 ^ 37) × (unsigned_abs p.v < 10 ^ 37)

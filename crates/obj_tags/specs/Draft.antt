@@ -18,6 +18,7 @@ use Rattle.obj_tags.specs.declared.face.Counts as face
 use Rattle.obj_tags.specs.declared.draft.Draft.{Draft}
 use Rattle.obj_tags.specs.declared.mesh.Faces.{Faces}
 use Rattle.obj_tags.specs.declared.mesh.Tags.{Tags}
+use Rattle.obj_tags.specs.declared.survey.Survey.{Survey}
 
 -- the texture values that the corners of the line at place i name, where they have one
 abbrev pub textures_at : List Line → ℕ → List ℕ
@@ -38,17 +39,17 @@ pub record AreTags (tags : Tags) (lines : List Line) : Type 0 where
   pub boundary : boundary_of tags.boundary ≡ model.boundary_of lines
   pub method : method_of tags.method ≡ model.method_of lines
 
--- the draft is what the first n lines of these lines say, by the counts of all of them
-pub record IsDraftOf (draft : Draft) (lines : List Line) (n : ℕ) : Type 0 where
-  pub positions : ArePositions draft.positions.items (take n lines)
-  pub texture : AreTextureValues draft.texture.items (take n lines)
+-- the draft is what the first n lines of these lines say, by what was found in all of them
+pub record IsDraftOf (all : Survey) (draft : Draft) (lines : List Line) (n : ℕ) : Type 0 where
+  pub positions : ArePositions all.positions.value draft.positions (take n lines)
+  pub texture : AreTextureValues all.texture.value draft.texture (take n lines)
   pub faces : AreFaces draft.faces lines n
   pub tags : AreTags draft.tags (take n lines)
 
 -- no more was kept than all lines have, and so many corners more can be numbered
 pub record HasRoom (draft : Draft) (all : face.Counts) (more : ℕ) : Type 0 where
-  pub points : length draft.positions.items ≤ all.point_count
-  pub textures : length draft.texture.items ≤ all.texture_count
+  pub points : length draft.positions.points.items ≤ all.point_count
+  pub textures : length draft.texture.points.items ≤ all.texture_count
   pub some : 1 ≤ length draft.faces.starts.items
   pub faces : length draft.faces.starts.items ≤ 2 ^ 32
   pub corners : length draft.faces.corners.items + more < 2 ^ 32

@@ -1,14 +1,14 @@
 -- What is kept of a word, a line or a text, or why it is refused.
 use Rattle.std.specs.Prelude.{ℕ, ◌≡◌, ◌<◌, ◌≤◌, ◌^◌, unsigned_abs, List, Option, Some, None, Result, MatchResult}
 use Rattle.subdiv_model.specs.ObjFault as fault
-use Rattle.subdiv_model.specs.Numeral.{normal_form}
+use Rattle.subdiv_model.specs.Numeral.{numeral_form, decimals_of}
 use Rattle.obj_text.specs.declared.numeral.Numeral.{Numeral}
 use Rattle.obj_tags.specs.declared.fault.ObjCause.{ObjCause}
 use Rattle.obj_tags.specs.declared.fault.LineFault.{LineFault}
 use Rattle.obj_tags.specs.declared.fault.LineFault.TheVariants.{Cause, Memory}
 use Rattle.obj_tags.specs.declared.fault.ReadFault.{ReadFault}
 use Rattle.obj_tags.specs.declared.fault.ReadFault.TheVariants as read
-use Rattle.obj_tags.specs.View.{form_of, cause_of, fault_of}
+use Rattle.obj_tags.specs.View.{terms_of, cause_of, fault_of}
 
 -- a line is refused for this cause, or memory ran out
 abbrev pub IsLineFault : LineFault → Option fault.ObjCause → Type 0
@@ -36,8 +36,10 @@ TextKeptUnless result fault Says = MatchResult result (λ x. (fault ≡ None) ×
 abbrev pub ReadOr : {X Y : Type 0} → Result X ObjCause → (X → Y) → Option Y → fault.ObjCause → Type 0
 ReadOr result view said cause = MatchResult result (λ x. said ≡ Some (view x)) (λ c. (said ≡ None) × (cause_of c ≡ cause))
 
--- a numeral that is kept
+-- a numeral that is kept, in lowest terms
 pub record IsNumeralOf (n : Numeral) (word : List ℕ) : Type 0 where
-  pub form : form_of n ≡ normal_form word
-  pub short : unsigned_abs n.mantissa < 10 ^ 37
-  pub fine : n.decimals ≤ 37
+  pub terms : terms_of n ≡ numeral_form word
+  pub decimals : n.decimals ≡ decimals_of word
+  pub short : unsigned_abs n.num < 10 ^ 37
+  pub positive : 0 < n.den
+  pub bounded : n.den ≤ 10 ^ 37

@@ -5,6 +5,7 @@ pub mod Corner
 pub mod Kept
 pub mod Face
 pub mod Counts
+pub mod Survey
 pub mod Channel
 pub mod Mesh
 pub mod TagView

@@ -25,13 +25,13 @@ Ascend (a ∷ (b ∷ places)) end = (a ≤ b) × Ascend (b ∷ places) end
 abbrev pub names_all_texture : Faces → Bool
 names_all_texture faces = nat_lt 1 (length faces.starts.items) && nat_eq (length faces.texture_corners.items) (length faces.corners.items)
 
--- the points and the texture values over ten to their scales, with the faces and the tags
+-- the points and the texture values over their common denominators, with the faces and the tags
 abbrev pub mesh_of : List Point3 → ℕ → List Point2 → ℕ → Faces → Bool → Tags → ObjMesh
-mesh_of points scale texture texture_scale faces has_texture tags = record {
+mesh_of points common texture texture_common faces has_texture tags = record {
   points = map point_of points;
-  common = 10 ^ scale;
+  common = common;
   texture = map texture_of texture;
-  texture_common = 10 ^ texture_scale;
+  texture_common = texture_common;
   faces = pieces faces.starts.items faces.corners.items;
   has_texture = has_texture;
   texture_corners = if has_texture then pieces faces.starts.items faces.texture_corners.items else [];

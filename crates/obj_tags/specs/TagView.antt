@@ -5,7 +5,8 @@ use Rattle.subdiv_model.specs.ObjFault as fault
 use Rattle.subdiv_model.specs.ObjWord.{Counts}
 use Rattle.subdiv_model.specs.Sharpness as model
 use Rattle.subdiv_model.specs.Index.{index_of}
-use Rattle.subdiv_model.specs.ObjTag.{amount_fraction, tag_name, tag_counts, tag_values, kind_of_name, fits_counts, tag_fault, tag_index_fault, tag_numeral_fault, chain_pairs, for_each}
+use Rattle.subdiv_model.specs.Numeral.{numeral_amount}
+use Rattle.subdiv_model.specs.ObjTag.{tag_name, tag_counts, tag_values, kind_of_name, fits_counts, tag_fault, tag_index_fault, tag_numeral_fault, chain_pairs, for_each}
 use Rattle.sharpness_rules.specs.View.{sharpness_of}
 use Rattle.sharpness_rules.specs.declared.sharpness.Sharpness.{Sharpness}
 use Rattle.obj_tags.specs.Counts.{AreCountsOf}
@@ -25,7 +26,7 @@ abbrev pub index_said : List ℕ → ℕ
 index_said word = unsigned_abs (index_of word)
 
 abbrev pub sharpness_said : List ℕ → model.Sharpness
-sharpness_said word = model.sharpness_of_fraction (amount_fraction word)
+sharpness_said word = model.sharpness_of_fraction (numeral_amount word)
 
 -- those of a tag with these counts
 abbrev pub indices_said : TagCounts → List (List ℕ) → List ℕ

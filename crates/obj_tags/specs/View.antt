@@ -61,9 +61,9 @@ kind_of kind.Boundary = tags.BoundaryTag
 kind_of kind.Method = tags.MethodTag
 kind_of kind.Dropped = tags.DroppedTag
 
--- a numeral's mantissa and decimals
-abbrev pub form_of : Numeral → ℤ × ℕ
-form_of n = (n.mantissa, n.decimals)
+-- a numeral's terms
+abbrev pub terms_of : Numeral → ℤ × ℕ
+terms_of n = (n.num, n.den)
 
 abbrev pub crease_of : Crease → (ℕ × ℕ) × sharp.Sharpness
 crease_of c = ((c.a, c.b), sharpness_of c.sharpness)

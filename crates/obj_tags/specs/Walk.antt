@@ -3,7 +3,7 @@ use Rattle.std.specs.Prelude.{ℕ, Bool, List, [], ◌∷◌, Option, Some, None
 use Rattle.std.specs.Borrow.{Bor}
 use Rattle.std.specs.List.{slice_split}
 use Rattle.subdiv_model.specs.ObjLine.{line_words}
-use Rattle.subdiv_model.specs.ObjWord.{is_slash}
+use Rattle.subdiv_model.specs.Numeral.{is_slash}
 use Rattle.subdiv_model.specs.ReadObj.{is_continued}
 use Rattle.obj_text.specs.declared.line.Words.{Words}
 

@@ -1,6 +1,7 @@
 ghost use Rattle.std.specs.Prelude.{◌≡◌, ℕ, List, ◌∷◌};
 ghost use Rattle.std.specs.List.{slice_split};
-ghost use Rattle.subdiv_model.specs.ObjWord.{is_slash, corner_parts, same_form};
+ghost use Rattle.subdiv_model.specs.Numeral.{is_slash};
+ghost use Rattle.subdiv_model.specs.ObjWord.{corner_parts, same_form};
 ghost use Rattle.obj_tags.specs.Corner.{IsIndexOf, IsCornerOf, IsReadAs};
 
 use crate::words::split_slash;

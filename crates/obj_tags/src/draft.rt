@@ -1,31 +1,48 @@
-ghost use Rattle.std.specs.Prelude.{◌≡◌, ◌+◌, ◌≤◌, ◌<◌, ◌^◌, ℕ, List, length, IfOk};
+ghost use Rattle.std.specs.Prelude.{◌≡◌, ◌+◌, ◌≤◌, ◌<◌, ◌^◌, List, length, IfOk};
 ghost use Rattle.obj_tags.specs.Draft.{IsDraftOf};
+ghost use Rattle.obj_tags.specs.Line.{Line};
 
-use crate::channel::{Position, TextureValue};
+use crate::channel::{Positions, TextureValues};
 use crate::face::Counts;
 use crate::mesh::{Boundary, Faces, Tags};
+use crate::survey::Survey;
 use sharpness_rules::Method;
 use std::alloc::{AllocError, Global};
 
 /// What was kept of the lines so far.
 #[derive(Drop)]
 pub(crate) struct Draft {
-    pub(crate) positions: Vec<Position>,
-    pub(crate) texture: Vec<TextureValue>,
+    pub(crate) positions: Positions,
+    pub(crate) texture: TextureValues,
     pub(crate) faces: Faces,
     pub(crate) tags: Tags,
 }
 
+// The lesser of a count of lines and the most good lines of a kind that a text can have.
+fn room(count: u32, most: usize) -> usize
+    ensures { result ≤ most }
+{
+    most.min(count as usize)
+}
+
 impl Draft {
-    /// Nothing was kept.
-    pub(crate) fn new(alloc: Global) -> Result<Draft, AllocError>
-        ensures { (lines : List (List (List ℕ))) → IfOk result (λ draft. IsDraftOf draft lines 0) }
+    /// Nothing was kept. There is room for so many lines of each kind as `all` counts, as far as a text
+    /// of `len` bytes can have good ones.
+    pub(crate) fn new(alloc: Global, all: Survey, len: usize) -> Result<Draft, AllocError>
+        requires { len ≤ 2 ^ 28 }
+        ensures { (lines : List Line) → IfOk result (λ draft. IsDraftOf all draft lines 0) }
     {
-        let mut starts = Vec::new(alloc);
+        let mut starts = Vec::with_capacity(alloc, room(all.counts.face_count, len / 4) + 1)?;
         starts.push(0)?;
         Ok(Draft {
-            positions: Vec::new(alloc),
-            texture: Vec::new(alloc),
+            positions: Positions {
+                points: Vec::with_capacity(alloc, room(all.counts.point_count, len / 8 + 1))?,
+                long: None,
+            },
+            texture: TextureValues {
+                points: Vec::with_capacity(alloc, room(all.counts.texture_count, len / 5 + 1))?,
+                long: None,
+            },
             faces: Faces {
                 starts,
                 corners: Vec::new(alloc),
@@ -43,17 +60,17 @@ impl Draft {
 
     /// How many lines of each kind were kept.
     pub(crate) fn counts(&self) -> Counts
-        requires points { length self.now.positions.items < 2 ^ 32 }
-        requires textures { length self.now.texture.items < 2 ^ 32 }
+        requires points { length self.now.positions.points.items < 2 ^ 32 }
+        requires textures { length self.now.texture.points.items < 2 ^ 32 }
         requires some { 1 ≤ length self.now.faces.starts.items }
         requires faces { length self.now.faces.starts.items ≤ 2 ^ 32 }
-        ensures points { result.point_count ≡ length self.now.positions.items }
-        ensures textures { result.texture_count ≡ length self.now.texture.items }
+        ensures points { result.point_count ≡ length self.now.positions.points.items }
+        ensures textures { result.texture_count ≡ length self.now.texture.points.items }
         ensures faces { result.face_count + 1 ≡ length self.now.faces.starts.items }
     {
         Counts {
-            point_count: self.positions.len() as u32,
-            texture_count: self.texture.len() as u32,
+            point_count: self.positions.points.len() as u32,
+            texture_count: self.texture.points.len() as u32,
             face_count: (self.faces.starts.len() - 1) as u32,
         }
     }

@@ -11,6 +11,7 @@ mod line;
 mod mesh;
 mod number;
 mod read;
+mod survey;
 mod tag;
 mod tag_counts;
 mod tag_values;

@@ -1,9 +1,6 @@
 ghost use Rattle.std.specs.Prelude.{◌≡◌, ◌+◌, ◌^◌, ◌≤◌, ℕ, List, ◌∷◌, length, take, drop};
 ghost use Rattle.subdiv_model.specs.ObjLine.{line_words};
-ghost use Rattle.subdiv_model.specs.ObjFault.{first_cause};
-ghost use Rattle.subdiv_model.specs.ObjWord.{numeral_fault};
 ghost use Rattle.subdiv_model.specs.ReadObj.{is_dropped_line, least_values, counts_of, words_fault, fault_at};
-ghost use Rattle.obj_tags.specs.Channel.{AddsPosition, AddsTextureValue};
 ghost use Rattle.obj_tags.specs.Draft.{IsDraftOf, HasRoom, IsLineAt};
 ghost use Rattle.obj_tags.specs.Kept.{KeptUnless};
 ghost use Rattle.obj_tags.specs.Keyword.{IsKeywordOf, IsReadAs, least_of};
@@ -11,12 +8,13 @@ ghost use Rattle.obj_tags.specs.Line.{Line};
 ghost use Rattle.obj_tags.specs.Walk.{words_left};
 
 use crate::ObjCause;
-use crate::channel::{Position, TextureValue, read_position, read_texture_value};
+use crate::channel::{keep_position, keep_texture_value};
 use crate::draft::Draft;
-use crate::face::{Counts, keep_face};
+use crate::face::keep_face;
 use crate::fault::LineFault;
+use crate::survey::Survey;
 use crate::tag::keep_tag;
-use crate::words::{count_words, has_continuation, is_word, next_word};
+use crate::words::{extent_of, is_word, next_word};
 use obj_text::{Words, words_of};
 use std::alloc::Global;
 
@@ -78,90 +76,69 @@ fn least_words(keyword: Keyword) -> usize
     }
 }
 
-// Keeps the position of a `v` line, from the words after its keyword.
-fn keep_position(
-    positions: &mut Vec<Position>,
-    number: u32,
-    words: &mut Words<'_>,
-) -> Result<(), LineFault>
-    requires { 3 ≤ length (words_left words.old) }
-    ensures { let read = words_left words.old in
-        KeptUnless result (first_cause numeral_fault read) (λ _. AddsPosition number read positions.old.items positions.new.items) }
-{
-    let position = read_position(number, words)?;
-    positions.push(position)?;
-    Ok(())
-}
-
-// Keeps the texture value of a `vt` line, from the words after its keyword.
-fn keep_texture_value(
-    values: &mut Vec<TextureValue>,
-    number: u32,
-    words: &mut Words<'_>,
-) -> Result<(), LineFault>
-    requires { 1 ≤ length (words_left words.old) }
-    ensures { let read = words_left words.old in
-        KeptUnless result (first_cause numeral_fault read) (λ _. AddsTextureValue number read values.old.items values.new.items) }
-{
-    let value = read_texture_value(number, words)?;
-    values.push(value)?;
-    Ok(())
-}
-
 // Keeps what the words after a keyword say; there are `len` of them, and enough for the keyword.
 fn keep_values(
     alloc: Global,
     draft: &mut Draft,
-    all: Counts,
+    all: Survey,
     number: u32,
     keyword: Keyword,
     len: usize,
     words: &mut Words<'_>,
 ) -> Result<(), LineFault>
-    requires room { HasRoom draft.old all (length (words_left words.old)) }
+    requires room { HasRoom draft.old all.counts (length (words_left words.old)) }
+    requires positions { all.positions.value ≤ 10 ^ 37 }
+    requires texture { all.texture.value ≤ 10 ^ 37 }
     requires count { len ≡ length (words_left words.old) }
     requires enough { least_of keyword ≤ len }
-    ensures { (lines : List Line) (n : ℕ) (line : Line) → IsLineAt all number lines n line → IsKeywordOf keyword line
-        → drop 1 line ≡ words_left words.old → IsDraftOf draft.old lines n
-        → KeptUnless result (words_fault (counts_of (take n lines)) (counts_of lines) line) (λ _. IsDraftOf draft.new lines (n + 1)) }
+    ensures { (lines : List Line) (n : ℕ) (line : Line) → IsLineAt all.counts number lines n line → IsKeywordOf keyword line
+        → drop 1 line ≡ words_left words.old → IsDraftOf all draft.old lines n
+        → KeptUnless result (words_fault (counts_of (take n lines)) (counts_of lines) line) (λ _. IsDraftOf all draft.new lines (n + 1)) }
 {
     match keyword {
-        Keyword::Position => keep_position(&mut draft.positions, number, words),
-        Keyword::Texture => keep_texture_value(&mut draft.texture, number, words),
+        Keyword::Position => {
+            keep_position(&mut draft.positions, all.positions.value, number, words)
+        }
+        Keyword::Texture => {
+            keep_texture_value(&mut draft.texture, all.texture.value, number, words)
+        }
         Keyword::Face => {
             let before = draft.counts();
-            keep_face(&mut draft.faces, all, before, words)
+            keep_face(&mut draft.faces, all.counts, before, words)
         }
-        Keyword::Tag => keep_tag(alloc, &mut draft.tags, all, len, words),
+        Keyword::Tag => keep_tag(alloc, &mut draft.tags, all.counts, len, words),
         Keyword::Ignored => Ok(()),
     }
 }
 
 /// Keeps what a line says after what the lines before it said: `number` is its place in the text,
-/// counted from 1, and `all` counts the lines of the whole text.
+/// counted from 1, and `all` is what was found in the whole text.
 pub(crate) fn keep_line(
     alloc: Global,
     draft: &mut Draft,
-    all: Counts,
+    all: Survey,
     number: u32,
     line: &[u8],
 ) -> Result<(), LineFault>
     requires short { length line.now ≤ 2 ^ 28 }
-    requires room { HasRoom draft.old all (length line.now) }
-    ensures { (lines : List Line) (n : ℕ) → IsLineAt all number lines n (line_words line.now) → IsDraftOf draft.old lines n
-        → KeptUnless result (fault_at lines n) (λ _. IsDraftOf draft.new lines (n + 1)) }
+    requires positions { all.positions.value ≤ 10 ^ 37 }
+    requires texture { all.texture.value ≤ 10 ^ 37 }
+    requires room { HasRoom draft.old all.counts (length line.now) }
+    ensures { (lines : List Line) (n : ℕ) → IsLineAt all.counts number lines n (line_words line.now) → IsDraftOf all draft.old lines n
+        → KeptUnless result (fault_at lines n) (λ _. IsDraftOf all draft.new lines (n + 1)) }
 {
     let mut words = words_of(line);
     let Some(first) = next_word(&mut words) else {
         return Ok(());
     };
-    if has_continuation(line) {
+    let extent = extent_of(line);
+    if extent.continued {
         return Err(LineFault::Cause(ObjCause::Continuation));
     }
     let Some(keyword) = keyword_of(first) else {
         return Err(LineFault::Cause(ObjCause::UnknownKeyword));
     };
-    let len = count_words(line) - 1;
+    let len = extent.len - 1;
     if len < least_words(keyword) {
         return Err(LineFault::Cause(ObjCause::ShortLine));
     }

@@ -40,9 +40,9 @@ pub struct CornerTag {
 #[derive(Drop)]
 pub struct RawMesh {
     pub(crate) points: Vec<Point3>,
-    pub(crate) scale: u32,
+    pub(crate) common: u128,
     pub(crate) texture: Vec<Point2>,
-    pub(crate) texture_scale: u32,
+    pub(crate) texture_common: u128,
     pub(crate) faces: Faces,
     pub(crate) has_texture: bool,
     pub(crate) tags: Tags,
@@ -70,7 +70,7 @@ pub(crate) struct Tags {
 impl Model for RawMesh {
     ghost Value = { ObjMesh };
 
-    ghost view = { λ m. mesh_of m.points.items m.scale m.texture.items m.texture_scale m.faces m.has_texture m.tags };
+    ghost view = { λ m. mesh_of m.points.items m.common m.texture.items m.texture_common m.faces m.has_texture m.tags };
 
     ghost invariant = { λ m. IsWhole (length m.points.items) (length m.texture.items) m.has_texture m.faces m.tags };
 }
@@ -87,32 +87,34 @@ fn piece<'a>(starts: &[u32], corners: &'a [u32], f: usize) -> &'a [u32]
 }
 
 impl RawMesh {
-    /// The points, as numerators over ten to the `scale`.
+    /// The points, as numerators over the common denominator [`RawMesh::scale`]. Each has at most 37
+    /// digits.
     pub fn points(&self) -> &[Point3]
         ensures { map point_of result.now ≡ self.now.points }
     {
         self.points.as_slice()
     }
 
-    /// The number of decimals of the points.
-    pub fn scale(&self) -> u32
-        ensures { 10 ^ result ≡ self.now.common }
+    /// The common denominator of the points, at least 1 and at most 10^37.
+    pub fn scale(&self) -> u128
+        ensures { result ≡ self.now.common }
     {
-        self.scale
+        self.common
     }
 
-    /// The texture values, as numerators over ten to the `texture_scale`.
+    /// The texture values, as numerators over the common denominator [`RawMesh::texture_scale`]. Each has
+    /// at most 37 digits.
     pub fn texture(&self) -> &[Point2]
         ensures { map texture_of result.now ≡ self.now.texture }
     {
         self.texture.as_slice()
     }
 
-    /// The number of decimals of the texture values.
-    pub fn texture_scale(&self) -> u32
-        ensures { 10 ^ result ≡ self.now.texture_common }
+    /// The common denominator of the texture values, at least 1 and at most 10^37.
+    pub fn texture_scale(&self) -> u128
+        ensures { result ≡ self.now.texture_common }
     {
-        self.texture_scale
+        self.texture_common
     }
 
     /// How many faces there are.

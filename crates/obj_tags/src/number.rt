@@ -1,9 +1,10 @@
-ghost use Rattle.std.specs.Prelude.{◌≡◌, ℕ, List, ◌+◌, ◌-◌, ◌*◌, ◌^◌, ◌<◌, ◌≤◌, nat_lt, ℤ, pos, ◌*ℤ◌, unsigned_abs, IfOk};
+ghost use Rattle.std.specs.Prelude.{◌≡◌, ℕ, List, ◌^◌, ◌<◌, ◌≤◌, unsigned_abs, IfOk};
 ghost use Rattle.subdiv_model.specs.Index.{nearest_index};
 ghost use Rattle.subdiv_model.specs.ObjFault as model;
 ghost use Rattle.subdiv_model.specs.ObjWord.{numeral_fault, place_of_index, place_of_word};
 ghost use Rattle.subdiv_model.specs.ObjTag.{tag_index_fault, tag_numeral_fault};
 ghost use Rattle.sharpness_rules.specs.View.{sharpness_of};
+ghost use Rattle.obj_tags.specs.Channel.{over_common, IsShortNumber};
 ghost use Rattle.obj_tags.specs.Kept.{ReadUnless, ReadOr, IsNumeralOf};
 ghost use Rattle.obj_tags.specs.TagView.{index_said, sharpness_said};
 
@@ -11,8 +12,8 @@ use crate::ObjCause;
 use obj_text::{Numeral, NumeralFault, read_index, read_numeral};
 use sharpness_rules::Sharpness;
 
-// A numerator has at most 37 digits.
-const BOUND: u128 = 10_000_000_000_000_000_000_000_000_000_000_000_000;
+/// A numerator has at most 37 digits, and a common denominator is at most this.
+pub(crate) const BOUND: u128 = 10_000_000_000_000_000_000_000_000_000_000_000_000;
 
 /// A numeral, or the cause that its word is refused for.
 pub(crate) fn numeral(word: &[u8]) -> Result<Numeral, ObjCause>
@@ -25,30 +26,19 @@ pub(crate) fn numeral(word: &[u8]) -> Result<Numeral, ObjCause>
     }
 }
 
-/// Whether the numeral's numerator at a scale, which is at most 37, has at most 37 digits.
-pub(crate) fn fits_scale(number: Numeral, scale: u32) -> bool
-    requires finer { number.decimals ≤ scale }
-    requires scale { scale ≤ 37 }
-    ensures { result ≡ nat_lt (unsigned_abs number.mantissa * 10 ^ (scale - number.decimals)) (10 ^ 37) }
+/// The numeral as a whole number over a common denominator, which is at most 10^37; `None` where it has
+/// more than 37 digits.
+pub(crate) fn over(number: Numeral, common: u128) -> Option<i128>
+    requires positive { 0 < number.den }
+    requires short { unsigned_abs number.num < 10 ^ 37 }
+    requires common { common ≤ 10 ^ 37 }
+    ensures { IsShortNumber result (over_common common number) }
 {
-    match number
-        .mantissa
-        .unsigned_abs()
-        .checked_mul(10u128.pow(scale - number.decimals))
-    {
-        Some(amount) => amount < BOUND,
-        None => false,
+    let factor = common / number.den;
+    match number.num.unsigned_abs().checked_mul(factor) {
+        Some(amount) if amount < BOUND => Some(number.num * factor as i128),
+        _ => None,
     }
-}
-
-/// The numeral's numerator over ten to the scale, where it fits.
-pub(crate) fn at_scale(number: Numeral, scale: u32) -> i128
-    requires finer { number.decimals ≤ scale }
-    requires scale { scale ≤ 37 }
-    requires fits { unsigned_abs number.mantissa * 10 ^ (scale - number.decimals) < 10 ^ 37 }
-    ensures { result ≡ number.mantissa *ℤ pos (10 ^ (scale - number.decimals)) }
-{
-    number.mantissa * 10i128.pow(scale - number.decimals)
 }
 
 /// The place of the line that an index of a face corner names, counted from 0. A positive index
@@ -88,15 +78,15 @@ pub(crate) fn sharpness(word: &[u8]) -> Result<Sharpness, ObjCause>
     ensures { ReadUnless result (tag_numeral_fault word.now) (λ s. sharpness_of s ≡ sharpness_said word.now) }
 {
     let number = numeral(word)?;
-    if number.mantissa < 0 {
+    if number.num < 0 {
         return Err(ObjCause::SharpnessRange);
     }
-    let amount = number.mantissa.unsigned_abs();
-    if amount >= 10u128.pow(number.decimals + 1) {
+    let amount = number.num.unsigned_abs();
+    if amount >= 10 * number.den {
         return Ok(Sharpness::Infinite);
     }
-    if number.decimals > 6 {
+    if number.decimals > 6 || number.den > 1_000_000 {
         return Err(ObjCause::SharpnessRange);
     }
-    Ok(Sharpness::new(amount as u64, 10u64.pow(number.decimals)))
+    Ok(Sharpness::new(amount as u64, number.den as u64))
 }

@@ -1,6 +1,6 @@
 ghost use Rattle.std.specs.Prelude.{◌≡◌, ◌+◌, ◌^◌, ◌<◌, ◌∷◌, option_map, IfSome};
 ghost use Rattle.std.specs.List.{slice_split};
-ghost use Rattle.subdiv_model.specs.ObjWord.{is_slash};
+ghost use Rattle.subdiv_model.specs.Numeral.{is_slash};
 ghost use Rattle.subdiv_model.specs.ObjTag.{kind_of_name, may_have};
 ghost use Rattle.obj_tags.specs.Counts.{IsCount, AreShort, IsReadAs};
 ghost use Rattle.obj_tags.specs.View.{kind_of};

@@ -2,7 +2,7 @@ ghost use Rattle.std.specs.Prelude.{◌≡◌, ◌+◌, ◌<◌, ◌≤◌, ◌^
 ghost use Rattle.std.specs.Iterator.{YieldsFirstRef};
 ghost use Rattle.std.specs.List.{slice_split, position_or_len};
 ghost use Rattle.subdiv_model.specs.ObjLine.{lines_of, line_words};
-ghost use Rattle.subdiv_model.specs.ObjWord.{is_slash};
+ghost use Rattle.subdiv_model.specs.Numeral.{is_slash};
 ghost use Rattle.subdiv_model.specs.ReadObj.{without_mark, is_continued, ends_with_backslash};
 ghost use Rattle.obj_tags.specs.Walk.{words_left, parts_left};
 
@@ -36,14 +36,6 @@ pub(crate) fn first_line(text: &[u8]) -> Option<(&[u8], &[u8])>
     }
 }
 
-/// How many words a line has.
-pub(crate) fn count_words(line: &[u8]) -> usize
-    requires { length line.now ≤ 2 ^ 28 }
-    ensures { result ≡ length (line_words line.now) }
-{
-    words_of(line).count()
-}
-
 fn ends_in_backslash(word: &[u8]) -> bool
     ensures { result ≡ ends_with_backslash word.now }
 {
@@ -53,16 +45,27 @@ fn ends_in_backslash(word: &[u8]) -> bool
     }
 }
 
-/// Whether the last word of a line ends with a backslash.
-pub(crate) fn has_continuation(line: &[u8]) -> bool
-    ensures { result ≡ is_continued (line_words line.now) }
+/// How many words a line has, and whether the last of them ends with a backslash.
+#[derive(Clone, Copy)]
+pub(crate) struct Extent {
+    pub(crate) len: usize,
+    pub(crate) continued: bool,
+}
+
+/// The extent of a line, told in one walk over its words.
+pub(crate) fn extent_of(line: &[u8]) -> Extent
+    requires { length line.now ≤ 2 ^ 28 }
+    ensures len { result.len ≡ length (line_words line.now) }
+    ensures continued { result.continued ≡ is_continued (line_words line.now) }
 {
     let mut words = words_of(line);
+    let mut len = 0;
     let mut continued = false;
     while let Some(word) = next_word(&mut words) {
+        len += 1;
         continued = ends_in_backslash(word);
     }
-    continued
+    Extent { len, continued }
 }
 
 /// Takes the next word of a line; `None` where there is none.

@@ -15,7 +15,7 @@ pub returns-in_default-keyword_of : goal.returns-in_default-keyword_of
 returns-in_default-keyword_of c = λ lines n at is.
     let rest = words_left c.next_word.new.words in
     let e : line_words c.args.line.now ≡ c.in-Some.first.now ∷ rest = sym c.words_of-words.ensures ∙ c.in-Some.ensures in
-    let last : is_continued (c.in-Some.first.now ∷ rest) ≡ false = ap is_continued (sym e) ∙ sym c.has_continuation.ensures ∙ c.if-has_continuation.false in
+    let last : is_continued (c.in-Some.first.now ∷ rest) ≡ false = ap is_continued (sym e) ∙ sym c.extent_of-extent.ensures.continued ∙ c.if-extent.false in
     ap (line_fault (counts_of (take n lines)) (counts_of lines)) (at.here ∙ e)
     ∙ line-unknown (counts_of (take n lines)) (counts_of lines) c.in-Some.first.now rest last (c.in_default-keyword_of.ensures rest)
 
@@ -23,11 +23,11 @@ pub returns-then-len-least_words : goal.returns-then-len-least_words
 returns-then-len-least_words c = λ lines n at is.
     let rest = words_left c.next_word.new.words in
     let e : line_words c.args.line.now ≡ c.in-Some.first.now ∷ rest = sym c.words_of-words.ensures ∙ c.in-Some.ensures in
-    let last : is_continued (c.in-Some.first.now ∷ rest) ≡ false = ap is_continued (sym e) ∙ sym c.has_continuation.ensures ∙ c.if-has_continuation.false in
+    let last : is_continued (c.in-Some.first.now ∷ rest) ≡ false = ap is_continued (sym e) ∙ sym c.extent_of-extent.ensures.continued ∙ c.if-extent.false in
     let known = c.in-Some-keyword_of.ensures rest in
     let least : c.least_words.result ≡ least_values (c.in-Some.first.now ∷ rest) = c.least_words.ensures.least (c.in-Some.first.now ∷ rest) known.1 in
     let size : length (line_words c.args.line.now) ≡ suc (length rest) = ap length e in
-    let count = c.count_words-len.ensures in
+    let count = c.extent_of-extent.ensures.len in
     let few = c.if-len-least_words.true in
     let short : length rest < least_values (c.in-Some.first.now ∷ rest) = omega (arith, least, size, count, few) in
     ap (line_fault (counts_of (take n lines)) (counts_of lines)) (at.here ∙ e)
@@ -53,11 +53,11 @@ pub returns : goal.returns
 returns c = λ lines n at is.
     let rest = words_left c.next_word.new.words in
     let e : line_words c.args.line.now ≡ c.in-Some.first.now ∷ rest = sym c.words_of-words.ensures ∙ c.in-Some.ensures in
-    let last : is_continued (c.in-Some.first.now ∷ rest) ≡ false = ap is_continued (sym e) ∙ sym c.has_continuation.ensures ∙ c.if-has_continuation.false in
+    let last : is_continued (c.in-Some.first.now ∷ rest) ≡ false = ap is_continued (sym e) ∙ sym c.extent_of-extent.ensures.continued ∙ c.if-extent.false in
     let known = c.in-Some-keyword_of.ensures rest in
     let least : c.least_words.result ≡ least_values (c.in-Some.first.now ∷ rest) = c.least_words.ensures.least (c.in-Some.first.now ∷ rest) known.1 in
     let size : length (line_words c.args.line.now) ≡ suc (length rest) = ap length e in
-    let count = c.count_words-len.ensures in
+    let count = c.extent_of-extent.ensures.len in
     let many = c.if-len-least_words.false in
     let enough : least_values (c.in-Some.first.now ∷ rest) ≤ length rest = omega (arith, least, size, count, many) in
     read-kept c.keep_values.result _ c.args.all c.args.number lines n (line_words c.args.line.now) c.in-Some.first.now rest e at last known.0 enough

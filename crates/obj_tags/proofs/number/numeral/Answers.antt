@@ -6,5 +6,5 @@ returns-in-Ok c =
     let cases = c.in-Ok.ensures.cases in
     let small = c.in-Ok.ensures.small in (
       kept-in-range c.args.word.now cases.0 cases.1,
-      record { form = cases.2; short = small.0; fine = small.1 },
+      record { terms = cases.2; decimals = cases.3; short = small.0; positive = small.1; bounded = small.2 },
     )

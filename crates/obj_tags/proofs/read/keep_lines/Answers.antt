@@ -26,19 +26,19 @@ loop-line-init c =
     }
 
 pub keep_line-requires-clause-short : goal.keep_line-requires-clause-short
-keep_line-requires-clause-short c = omega (arith, c.in-Some.ensures.parts, c.loop-line.invariant.bound, c.requires)
+keep_line-requires-clause-short c = omega (arith, c.in-Some.ensures.parts, c.loop-line.invariant.bound, c.requires.short)
 
 pub keep_line-requires-clause-room : goal.keep_line-requires-clause-room
 keep_line-requires-clause-room c =
-    let few : c.count_lines-all.result.face_count < 2 ^ 32 = search rules in
-    kept-room c.loop-line.draft c.count_lines-all.result (map line_words (lines_of c.args.text.now)) c.loop-line.number (length c.in-Some.line.now) c.count_lines-all.ensures few c.loop-line.invariant.kept (omega (arith, c.in-Some.ensures.parts, c.loop-line.invariant.corners, c.requires))
+    let few : c.args.all.counts.face_count < 2 ^ 32 = search rules in
+    kept-room c.args.all c.loop-line.draft (map line_words (lines_of c.args.text.now)) c.loop-line.number (length c.in-Some.line.now) c.requires.counted few c.loop-line.invariant.kept (omega (arith, c.in-Some.ensures.parts, c.loop-line.invariant.corners, c.requires.short))
 
 pub returns-in-Err-Cause : goal.returns-in-Err-Cause
 returns-in-Err-Cause c =
     let n = c.loop-line.number in
     let lines = map line_words (lines_of c.args.text.now) in
     let next = next-line c.loop-line.rest.now c.in-Some.line.now c.in-Some.others.now lines n c.in-Some.ensures.lines c.loop-line.invariant.left in
-    let at : IsLineAt c.count_lines-all.result (n + 1) lines n (line_words c.in-Some.line.now) = record { inside = next.inside; here = next.here; place = add-one n; counted = c.count_lines-all.ensures } in
+    let at : IsLineAt c.args.all.counts (n + 1) lines n (line_words c.in-Some.line.now) = record { inside = next.inside; here = next.here; place = add-one n; counted = c.requires.counted } in
     let bad : fault_at lines n ≡ Some (cause_of c.in-Err-Cause.cause) = subst (λ f. IsLineFault f (fault_at lines n)) c.in-Err-Cause.field-0-is (c.in-Err-Cause.ensures lines n at c.loop-line.invariant.kept) in
     rw c.in-Err-Cause.field-0-is
     (least-fault (fault_at lines) (length lines) n _ next.inside c.loop-line.invariant.good bad
@@ -49,7 +49,7 @@ loop-line-preserved c =
     let n = c.loop-line.number in
     let lines = map line_words (lines_of c.args.text.now) in
     let next = next-line c.loop-line.rest.now c.in-Some.line.now c.in-Some.others.now lines n c.in-Some.ensures.lines c.loop-line.invariant.left in
-    let at : IsLineAt c.count_lines-all.result (n + 1) lines n (line_words c.in-Some.line.now) = record { inside = next.inside; here = next.here; place = add-one n; counted = c.count_lines-all.ensures } in
+    let at : IsLineAt c.args.all.counts (n + 1) lines n (line_words c.in-Some.line.now) = record { inside = next.inside; here = next.here; place = add-one n; counted = c.requires.counted } in
     let kept = c.in-Ok.ensures lines n at c.loop-line.invariant.kept in
     let inside = next.inside in
     let step = corners-step c.loop-line.draft.faces c.keep_line.new.draft.faces lines n next.inside c.loop-line.invariant.kept.faces kept.1.faces in
@@ -71,5 +71,5 @@ returns c =
     let over = at-end c.loop-line.rest.now lines n c.in_default.ensures.lines c.loop-line.invariant.left in
     let all : n ≡ length lines = omega (arith, over, c.loop-line.invariant.within) in (
       no-fault (fault_at lines) (length lines) (λ i h. c.loop-line.invariant.good i (omega (arith, h, all))),
-      subst (λ k. IsDraftOf c.loop-line.draft lines k) all c.loop-line.invariant.kept,
+      subst (λ k. IsDraftOf c.args.all c.loop-line.draft lines k) all c.loop-line.invariant.kept,
     )

@@ -10,7 +10,7 @@ invariant-loop-line l = record {
   left : map line_words (lines_of l.rest) ≡ drop l.number (map line_words (lines_of l.text));
   within : l.number ≤ length (map line_words (lines_of l.text));
   good : (i : ℕ) → i < l.number → fault_at (map line_words (lines_of l.text)) i ≡ None;
-  kept : IsDraftOf l.draft (map line_words (lines_of l.text)) l.number;
+  kept : IsDraftOf l.all l.draft (map line_words (lines_of l.text)) l.number;
   corners : length l.draft.faces.corners.items + length l.rest ≤ length l.text;
   bound : l.number + length l.rest ≤ length l.text;
 }

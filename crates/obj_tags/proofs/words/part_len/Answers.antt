@@ -1,6 +1,6 @@
 use Rattle.std.proofs.Common.{arith, sym, eq-eqb}
 use Rattle.std.proofs.lemmas.List.Sums.{position_or_len_is}
-use Rattle.subdiv_model.specs.ObjWord.{is_slash}
+use Rattle.subdiv_model.specs.Numeral.{is_slash}
 use Rattle.obj_tags.proofs.words.part_len.Goals as goal
 
 pub returns-then-b-eq47 : goal.returns-then-b-eq47

@@ -1,7 +1,7 @@
 use Rattle.std.proofs.Common.{arith, ap, sym, ◌∙◌, ◌∷◌}
 use Rattle.std.specs.List.{slice_split}
 use Rattle.std.proofs.lemmas.List.{take_rest}
-use Rattle.subdiv_model.specs.ObjWord.{is_slash}
+use Rattle.subdiv_model.specs.Numeral.{is_slash}
 use Rattle.obj_tags.proofs.SplitLemmas.{position-le, parts-at, parts-end}
 use Rattle.obj_tags.proofs.words.split_slash.Goals as goal
 
