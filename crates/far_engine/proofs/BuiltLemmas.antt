@@ -1,5 +1,5 @@
 -- What the tests of a mesh say.
-use Rattle.std.proofs.Common.{◌≡◌, ℕ, suc, ◌+◌, ◌^◌, ◌<◌, ◌≤◌, ℤ, Bool, true, false, cond, not, ◌&&◌, nat_eq, nat_le, List, [], ◌∷◌, ◌++◌, length, take, get_or, slice_get, Option, Some, None, Vec, arith, lit≤, refl, ap, sym, ◌∙◌, map, append-nil}
+use Rattle.std.proofs.Common.{◌≡◌, ℕ, ◌+◌, ◌^◌, ◌<◌, ◌≤◌, ℤ, Bool, true, false, cond, not, ◌&&◌, nat_eq, nat_le, List, [], ◌∷◌, ◌++◌, length, take, get_or, slice_get, Option, Some, None, Vec, arith, refl, ap, sym, ◌∙◌, map, append-nil}
 use Rattle.std.specs.Global.{Global}
 use Rattle.std.specs.List.{All, list_all}
 use Rattle.std.proofs.lemmas.Bool.{and_parts}
@@ -8,7 +8,6 @@ use Rattle.std.proofs.lemmas.List.{length-map, take_more, map_push}
 use Rattle.std.proofs.lemmas.List.Folds.{list_all_at, list_all_more}
 use Rattle.std.proofs.lemmas.List.Elements.{All-nil, All-cons}
 use Rattle.std.proofs.lemmas.Option.{get_or_from_slice_get, slice_get_within}
-use Rattle.std.proofs.Math.Nat.{pow-le-pow_right, pow-suc}
 use Rattle.ratio128.specs.declared.point.Point3.{Point3}
 use Rattle.subdiv_model.specs.Polygons.{Polygon}
 use Rattle.subdiv_model.specs.Edges.{is_closed}
@@ -90,20 +89,6 @@ within n m h = grind (arith, nat_tests)
 pub beyond : (n m : ℕ) → m < n → nat_le n m ≡ false
 beyond n m h = grind (arith, nat_tests)
 
--- powers of ten are in the order of their exponents
-power-grows : (n m : ℕ) → n < m → 10 ^ n < 10 ^ m
-power-grows n m h =
-    let some : 1 ≤ 10 ^ n = pow-le-pow_right (lit≤ tt) {i = 0} {j = n} (omega arith) in
-    let next : 10 ^ suc n ≤ 10 ^ m = pow-le-pow_right (lit≤ tt) {i = suc n} {j = m} (omega arith) in
-    omega (arith, pow-suc 10 n)
-
-pub power-order : (n m : ℕ) → nat_le n m ≡ nat_le (10 ^ n) (10 ^ m)
-power-order n m = by_test (nat_le n m) refl
-  where
-    by_test : (b : Bool) → nat_le n m ≡ b → nat_le n m ≡ nat_le (10 ^ n) (10 ^ m)
-    by_test true e = e ∙ sym (within (10 ^ n) (10 ^ m) (pow-le-pow_right (lit≤ tt) {i = n} {j = m} (grind (arith, nat_tests))))
-    by_test false e = e ∙ sym (beyond (10 ^ n) (10 ^ m) (power-grows m n (grind (arith, nat_tests))))
-
 -- what a mesh of a built form shows
 pub record HasForm (mesh : ObjMesh) : Type 0 where
   pub small : is_small mesh ≡ true
@@ -125,7 +110,7 @@ form-parts mesh form =
     let second = and_parts (is_small mesh) (list_all is_small_face mesh.faces) third.0 in
     record { small = second.0; small_faces = second.1; untagged = third.1; default = fourth.1; bare = fifth.1; short = sixth.1 }
 
--- a mesh of a built form has short points, and a small scale
+-- a mesh of a built form has short points, and a small common denominator
 pub short-points : (mesh : ObjMesh) (points : List Point3) → map point_of points ≡ mesh.points → true ≡ has_built_form mesh →
     All (λ p. IsShort p.x × IsShort p.y × IsShort p.z) points
 short-points mesh points same form =
@@ -133,11 +118,11 @@ short-points mesh points same form =
     let shorts = and_parts (nat_le mesh.common (10 ^ 18)) (list_all is_short_point mesh.points) numbers in
     all-short points (ap (list_all is_short_point) same ∙ shorts.1)
 
-pub built-scale : (mesh : ObjMesh) (scale : ℕ) → 10 ^ scale ≡ mesh.common → true ≡ has_built_form mesh → scale ≤ 18
-built-scale mesh scale same form =
+pub built-common : (mesh : ObjMesh) (common : ℕ) → common ≡ mesh.common → true ≡ has_built_form mesh → common ≤ 10 ^ 18
+built-common mesh common same form =
     let numbers = (form-parts mesh (sym form)).short in
     let shorts = and_parts (nat_le mesh.common (10 ^ 18)) (list_all is_short_point mesh.points) numbers in
-    let small : nat_le scale 18 ≡ true = power-order scale 18 ∙ ap (λ n. nat_le n (10 ^ 18)) same ∙ shorts.0 in
+    let small : nat_le common (10 ^ 18) ≡ true = ap (λ n. nat_le n (10 ^ 18)) same ∙ shorts.0 in
     grind (arith, nat_tests)
 
 none-of : {X : Type 0} (xs : List X) → nat_eq (length xs) 0 ≡ true → xs ≡ []
@@ -190,17 +175,17 @@ closed-built mesh points polygons count closed same_points same_faces counted fo
     ap (λ b. b && is_closed_manifold mesh) (sym form) ∙ sym (tested ∙ ap by_count (counted ∙ many) ∙ ap by_faces same_faces)
 
 -- and its text is what was written
-pub refined-mesh : (mesh : ObjMesh) (points : List Point3) (polygons : List Polygon) (scale : ℕ) (text : List ℕ) →
-    map point_of points ≡ mesh.points → polygons ≡ mesh.faces → 10 ^ scale ≡ mesh.common → is_built mesh ≡ true →
-    text ≡ refined_text (plain_level (length points) polygons) CatmullClark (10 ^ scale) (map point_of points) 1 →
+pub refined-mesh : (mesh : ObjMesh) (points : List Point3) (polygons : List Polygon) (common : ℕ) (text : List ℕ) →
+    map point_of points ≡ mesh.points → polygons ≡ mesh.faces → common ≡ mesh.common → is_built mesh ≡ true →
+    text ≡ refined_text (plain_level (length points) polygons) CatmullClark common (map point_of points) 1 →
     text ≡ built_text mesh
-refined-mesh mesh points polygons scale text same_points same_faces same_scale built refined =
+refined-mesh mesh points polygons common text same_points same_faces same_common built refined =
     let many : length points ≡ length mesh.points = sym (length-map points _) ∙ ap length same_points in
     let level : plain_level (length points) polygons ≡ plain_level (length mesh.points) mesh.faces =
     ap (λ n. plain_level n polygons) many ∙ ap (plain_level (length mesh.points)) same_faces in
     refined
-    ∙ ap (λ l. refined_text l CatmullClark (10 ^ scale) (map point_of points) 1) level
-    ∙ ap (λ n. refined_text (plain_level (length mesh.points) mesh.faces) CatmullClark n (map point_of points) 1) same_scale
+    ∙ ap (λ l. refined_text l CatmullClark common (map point_of points) 1) level
+    ∙ ap (λ n. refined_text (plain_level (length mesh.points) mesh.faces) CatmullClark n (map point_of points) 1) same_common
     ∙ ap (λ cs. refined_text (plain_level (length mesh.points) mesh.faces) CatmullClark mesh.common cs 1) same_points
     ∙ sym (text-built mesh built)
 

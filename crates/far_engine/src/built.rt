@@ -14,11 +14,8 @@ use std::alloc::Global;
 // How many points a mesh may have, and how many faces.
 const MOST: usize = 1024;
 
-// The greatest amount of a numerator, 10^18.
+// The greatest amount of a numerator, and the greatest common denominator, 10^18.
 const LIMIT: u128 = 1_000_000_000_000_000_000;
-
-// How many decimals a coordinate may have.
-const DECIMALS: u32 = 18;
 
 // Whether there are at most 1,024 points and at most 1,024 faces.
 fn is_small(mesh: &RawMesh) -> bool
@@ -86,18 +83,18 @@ fn are_short(points: &[Point3]) -> bool
     true
 }
 
-// Whether the coordinates have so few decimals.
-fn has_short_decimals(mesh: &RawMesh) -> bool
+// Whether the common denominator of the points is at most 10^18.
+fn has_short_common(mesh: &RawMesh) -> bool
     ensures { result ≡ nat_le mesh.now.common (10 ^ 18) }
 {
-    mesh.scale() <= DECIMALS
+    mesh.scale() <= LIMIT
 }
 
 // Whether a step can be computed with the mesh's numbers.
 fn has_short_numbers(mesh: &RawMesh) -> bool
     ensures { result ≡ has_short_numbers mesh.now }
 {
-    has_short_decimals(mesh) && are_short(mesh.points())
+    has_short_common(mesh) && are_short(mesh.points())
 }
 
 /// Whether the mesh is of a form that is built, however its faces join.

@@ -10,7 +10,8 @@ use Rattle.subdiv_model.specs.Child.{child_faces}
 use Rattle.subdiv_model.specs.Lists.{last_of}
 use Rattle.plain_refine.specs.Mesh.{corners_of}
 use Rattle.std.proofs.lemmas.List.Elements.{recursion_from_All}
-use Rattle.plain_refine.proofs.InsideLemmas.{length-first, length-all_sides}
+use Rattle.mesh_laws.proofs.EdgeLemmas.{length-first}
+use Rattle.plain_refine.proofs.InsideLemmas.{length-all_sides}
 
 -- the last of a list that has a first
 last_at : (d e : ℕ × ℕ) (xs : List (ℕ × ℕ)) → unwrap_or (slice_get (d ∷ xs) (length xs)) e ≡ last_of d xs

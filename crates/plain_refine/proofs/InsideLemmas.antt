@@ -8,6 +8,7 @@ use Rattle.subdiv_model.specs.Polygons.{Polygon, sides_back_to, sides_of, same_e
 use Rattle.subdiv_model.specs.Lists.{places_from, places}
 use Rattle.subdiv_model.specs.Edges.{all_sides, first_named, edges_of, has_end}
 use Rattle.subdiv_model.specs.Mask.{other_end}
+use Rattle.mesh_laws.proofs.EdgeLemmas.{length-first}
 use Rattle.plain_refine.specs.Mesh.{IsSmall}
 
 -- a filter makes no list longer
@@ -96,10 +97,6 @@ pub length-all_sides : (polygons : List Polygon) → AllByRecursion (λ p. (3 �
 length-all_sides [] sizes = omega arith
 length-all_sides (p ∷ polygons) sizes =
     omega (arith, length-append (sides_of p) (all_sides polygons), length-sides p, sizes.0.1, length-all_sides polygons sizes.1)
-
-pub length-first : (sides : List (ℕ × ℕ)) → length (first_named sides) ≤ length sides
-length-first [] = omega arith
-length-first (s ∷ sides) = omega (arith, shorter (λ t. not (same_edge s t)) (first_named sides), length-first sides)
 
 -- at most as many edges as there are sides
 pub length-edges : (points : ℕ) (polygons : List Polygon) (edges : List (ℕ × ℕ)) → IsSmall points polygons → edges ≡ edges_of polygons → length edges ≤ 4096

@@ -2,7 +2,6 @@
 use Rattle.std.proofs.Common.{◌≡◌, ℕ, ◌*◌, ◌^◌, ◌<◌, ◌≤◌, ℤ, pos, ◌*ℤ◌, unsigned_abs, arith, ap, sym, ◌∙◌, List, [], ◌∷◌, map, mul-le-mul}
 use Rattle.std.specs.List.{All}
 use Rattle.std.proofs.Math.IntN.{*ℤ_comm}
-use Rattle.std.proofs.Math.Nat.{one-le-pow, pow-le-pow_right}
 use Rattle.std.proofs.lemmas.List.Elements.{All-map, All-weaker}
 use Rattle.ratio128.specs.declared.divisor.Frac.{Frac}
 use Rattle.subdiv_model.specs.Value.{Value}
@@ -11,14 +10,7 @@ use Rattle.number_laws.proofs.MultipleLemmas.{product-positive}
 use Rattle.number_laws.proofs.WholeNumberLemmas.{pos-assoc}
 use Rattle.plain_refine.specs.Values.{value_of, over, AreSameValues}
 
--- a power of ten that is a scale
-pub tens-few : (scale : ℕ) → scale ≤ 18 → 10 ^ scale ≤ 10 ^ 18
-tens-few scale h = pow-le-pow_right (omega arith) h
-
-pub tens-positive : (scale : ℕ) → 1 ≤ 10 ^ scale
-tens-positive scale = one-le-pow scale 10 (omega arith)
-
--- there is room for a scale
+-- there is room for a common denominator
 pub product-fits : (den times : ℕ) → den ≤ 2 ^ 28 → times ≤ 10 ^ 18 → den * times < 2 ^ 128
 product-fits den times h k = omega (arith, mul-le-mul h k)
 

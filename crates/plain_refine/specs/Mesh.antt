@@ -13,7 +13,7 @@ coordinates_of points = map (λ p. (p.x, p.y, p.z)) points
 abbrev pub corners_of : List (Vec ℕ Global) → List Polygon
 corners_of polygons = map (λ p. p.items) polygons
 
--- a coordinate of at most 10^18 in amount, as a whole number at its scale
+-- a coordinate of at most 10^18 in amount, as a whole number over the common denominator
 abbrev pub IsShort : ℤ → Type 0
 IsShort z = unsigned_abs z ≤ 10 ^ 18
 

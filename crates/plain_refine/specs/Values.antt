@@ -52,5 +52,5 @@ pub record IsPointOf (polygons : List Polygon) (values : List ℤ) (point : Frac
   pub same : IsSameValue (value_of point) (plain_value polygons values mask)
   pub positive : 0 < point.den
   pub kept : unsigned_abs point.num < 2 ^ 127
-  -- which leaves room for a scale
+  -- which leaves room for a common denominator
   pub coarse : point.den ≤ 2 ^ 28

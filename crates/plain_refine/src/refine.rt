@@ -44,18 +44,19 @@ fn put_refined_points(
     points: &[Point3],
     polygons: &[Vec<u32>],
     edges: &[(u32, u32)],
-    scale: u32,
+    common: u128,
 ) -> Result<(), Memory>
     requires short { All (λ p. IsShort p.x × IsShort p.y × IsShort p.z) points.now }
     requires small { IsSmall (length points.now) (corners_of polygons.now) }
     requires edges { edges.now ≡ edges_of (corners_of polygons.now) }
-    requires scale { scale ≤ 18 }
-    ensures { OnOk result (text.new.items ≡ text.old.items ++ flat_map (point_line None) (refined_points (plain_level (length points.now) (corners_of polygons.now)) CatmullClark (10 ^ scale) (coordinates_of points.now) 1)) }
+    requires positive { 1 ≤ common }
+    requires common { common ≤ 10 ^ 18 }
+    ensures { OnOk result (text.new.items ≡ text.old.items ++ flat_map (point_line None) (refined_points (plain_level (length points.now) (corners_of polygons.now)) CatmullClark common (coordinates_of points.now) 1)) }
 {
     let old = take_apart(alloc, points)?;
-    let xs = refined_coordinate(alloc, polygons, edges, &old.xs, scale)?;
-    let ys = refined_coordinate(alloc, polygons, edges, &old.ys, scale)?;
-    let zs = refined_coordinate(alloc, polygons, edges, &old.zs, scale)?;
+    let xs = refined_coordinate(alloc, polygons, edges, &old.xs, common)?;
+    let ys = refined_coordinate(alloc, polygons, edges, &old.ys, common)?;
+    let zs = refined_coordinate(alloc, polygons, edges, &old.zs, common)?;
     put_points(text, &xs, &ys, &zs)
 }
 
@@ -63,8 +64,7 @@ fn put_refined_points(
 /// coordinate a fraction in lowest terms, and then a line `f A B C D` for each face, with its
 /// corners counted from 1.
 ///
-/// The points are whole numbers over ten to the `scale`, which is at most 18, each at most 10^18 in
-/// amount. The polygons name their corners counted from 0. The new points are those of the points, then of
+/// The points are whole numbers over `common`, which is from 1 to 10^18, each at most 10^18 in amount. The polygons name their corners counted from 0. The new points are those of the points, then of
 /// the faces, then of the edges by first appearance; the new faces go by face and then by corner.
 /// There are at most 1,024 points and at most 1,024 polygons of three or four corners. The mesh need not
 /// be closed; along a boundary the values are then no means, since its edges are smooth.
@@ -74,18 +74,19 @@ fn put_refined_points(
 pub fn write_refined(
     alloc: Global,
     points: &[Point3],
-    scale: u32,
+    common: u128,
     polygons: &[Vec<u32>],
 ) -> Result<Vec<u8>, Memory>
     requires short { All (λ p. IsShort p.x × IsShort p.y × IsShort p.z) points.now }
     requires small { IsSmall (length points.now) (corners_of polygons.now) }
-    requires scale { scale ≤ 18 }
-    ensures { IfOk result (λ text. text.items ≡ refined_text (plain_level (length points.now) (corners_of polygons.now)) CatmullClark (10 ^ scale) (coordinates_of points.now) 1) }
+    requires positive { 1 ≤ common }
+    requires common { common ≤ 10 ^ 18 }
+    ensures { IfOk result (λ text. text.items ≡ refined_text (plain_level (length points.now) (corners_of polygons.now)) CatmullClark common (coordinates_of points.now) 1) }
 {
     let edges = edges_of_polygons(alloc, polygons)?;
     let children = child_polygons(alloc, points.len(), polygons, &edges)?;
     let mut text = Vec::new(alloc);
-    put_refined_points(alloc, &mut text, points, polygons, &edges, scale)?;
+    put_refined_points(alloc, &mut text, points, polygons, &edges, common)?;
     put_faces(&mut text, &children)?;
     Ok(text)
 }

@@ -248,23 +248,24 @@ fn all_over(alloc: Global, values: &[Frac], times: u128) -> Result<Vec<Frac>, Me
     Ok(scaled)
 }
 
-/// The values of all points after one step, of one coordinate that is given as whole numbers over ten
-/// to the scale. The order is that of `child_values`.
+/// The values of all points after one step, of one coordinate that is given as whole numbers over a common
+/// denominator. The order is that of `child_values`.
 pub(crate) fn refined_coordinate(
     alloc: Global,
     polygons: &[Vec<u32>],
     edges: &[(u32, u32)],
     values: &[i128],
-    scale: u32,
+    common: u128,
 ) -> Result<Vec<Frac>, Memory>
     requires short { All IsShort values.now }
     requires small { IsSmall (length values.now) (corners_of polygons.now) }
     requires edges { edges.now ≡ edges_of (corners_of polygons.now) }
-    requires scale { scale ≤ 18 }
-    ensures values { IfOk result (λ children. AreSameValues (map value_of children.items) (refined_coordinates (plain_level (length values.now) (corners_of polygons.now)) CatmullClark (10 ^ scale) values.now 1)) }
+    requires positive { 1 ≤ common }
+    requires common { common ≤ 10 ^ 18 }
+    ensures values { IfOk result (λ children. AreSameValues (map value_of children.items) (refined_coordinates (plain_level (length values.now) (corners_of polygons.now)) CatmullClark common values.now 1)) }
     ensures kept { IfOk result (λ children. All (λ f. (0 < f.den) × (unsigned_abs f.num < 2 ^ 127)) children.items) }
 {
     let children = child_values(alloc, polygons, edges, values)?;
-    let scaled = all_over(alloc, &children, 10u128.pow(scale))?;
+    let scaled = all_over(alloc, &children, common)?;
     Ok(scaled)
 }

@@ -1,15 +1,15 @@
 use Rattle.std.proofs.Common.{◌≡◌, true, refl, ◌∙◌}
 use Rattle.plain_refine.specs.Mesh.{corners_of}
 use Rattle.far_engine.specs.Built.{is_built}
-use Rattle.far_engine.proofs.BuiltLemmas.{short-points, built-scale, closed-built, refined-mesh}
+use Rattle.far_engine.proofs.BuiltLemmas.{short-points, built-common, closed-built, refined-mesh}
 use Rattle.far_engine.proofs.engine.refine_mesh.Goals as goal
 
 pub write_refined-requires-clause-short : goal.write_refined-requires-clause-short
 write_refined-requires-clause-short c = short-points c.args.mesh.now c.points-points.result.now c.points-points.ensures
     c.if-not-has_built_form.ensures
 
-pub write_refined-requires-clause-scale : goal.write_refined-requires-clause-scale
-write_refined-requires-clause-scale c = built-scale c.args.mesh.now c.scale.result c.scale.ensures c.if-not-has_built_form.ensures
+pub write_refined-requires-clause-common : goal.write_refined-requires-clause-common
+write_refined-requires-clause-common c = built-common c.args.mesh.now c.scale.result c.scale.ensures c.if-not-has_built_form.ensures
 
 pub returns-clause-refined : goal.returns-clause-refined
 returns-clause-refined c =
