@@ -1,5 +1,5 @@
 -- Laws of a level.
-use Rattle.std.proofs.Common.{◌≡◌, ℕ, Bool, zero, suc, ◌+◌, ◌<◌, ◌≤◌, true, false, ◌&&◌, ◌||◌, nat_eq, List, [], ◌∷◌, length, map, get_or, arith, refl, ap, sym, ◌∙◌, IsTrue, add-one, if◌then◌else◌}
+use Rattle.std.proofs.Common.{◌≡◌, ℕ, zero, suc, ◌+◌, ◌<◌, ◌≤◌, true, false, ◌&&◌, ◌||◌, nat_eq, List, [], ◌∷◌, length, map, get_or, arith, refl, ap, sym, ◌∙◌, IsTrue, add-one, if◌then◌else◌}
 use Rattle.std.specs.List.{All, list_any, position_or_len}
 use Rattle.std.proofs.lemmas.Bool.Decides.{nat_tests}
 use Rattle.std.proofs.lemmas.Bool.{and_from, eqb-true, eq-eqb, false_from_ne_true}
@@ -15,7 +15,7 @@ use Rattle.number_laws.proofs.ListLemmas.{any-both}
 use Rattle.mesh_laws.proofs.SideLemmas.{same_edge-refl}
 use Rattle.mesh_laws.proofs.EdgeLemmas.{any-first_named, first_named-once, position-within, position-alike}
 use Rattle.mesh_laws.proofs.ClosedLemmas.{any-here}
-use Rattle.mesh_laws.proofs.FanLemmas.{places-before, faces-among}
+use Rattle.mesh_laws.proofs.FanLemmas.{places-at, faces-among}
 use Rattle.mesh_laws.proofs.FaultLemmas.{edge-faces}
 use Rattle.mesh_laws.proofs.ChildPlaceLemmas.{first-within}
 use Rattle.level_topology.specs.Topology.{Topology, IsTopology, IsFaceAt, IsEdgeAt, IsFaceOf, edge_at, end_at, face_edges_of, edge_numbers_at, side_at}
@@ -101,15 +101,6 @@ edge-order polygons e i h = rw add-one (places-ascend (has_edge (edge_at polygon
 
 pub edge-few : (t : Topology) (e : ℕ) → IsTopology t → e < length (edges_of t.level.polygons) → (1 ≤ length (faces_of_edge t.level.polygons (edge_at t.level.polygons e))) × (length (faces_of_edge t.level.polygons (edge_at t.level.polygons e)) ≤ 2)
 edge-few t e is inside = edge-faces t.level.polygons is.simple is.sides_once e (0, 0) inside
-
--- what passes a test is found at its place
-places-at : {X : Type 0} (test : X → Bool) (d : X) → test d ≡ false → (place k : ℕ) (xs : List X) → is_among (places_from place test xs) (place + k) ≡ test (get_or xs k d)
-places-at test d none place k [] = sym none
-places-at test d none place zero (x ∷ xs) = let later = places-before test (place + 1) (place + 0) xs (omega arith) in grind (arith, nat_tests)
-places-at test d none place (suc k) (x ∷ xs) =
-    let e : place + 1 + k ≡ place + suc k = omega arith in
-    let later = ap (is_among (places_from (place + 1) test xs)) (sym e) ∙ places-at test d none (place + 1) k xs in
-    grind (arith, nat_tests)
 
 pub edge-all : (polygons : List Polygon) (e f : ℕ) → is_among (faces_of_edge polygons (edge_at polygons e)) f ≡ has_edge (edge_at polygons e) (polygon_at polygons f)
 edge-all polygons e f =

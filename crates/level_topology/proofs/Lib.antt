@@ -3,4 +3,6 @@ pub mod CodeLemmas
 pub mod RowLemmas
 pub mod PlaceLemmas
 pub mod LawLemmas
-pub mod SquareLemmas
+pub mod ChildTableLemmas
+pub mod ChildLemmas
+pub mod ChildMadeLemmas

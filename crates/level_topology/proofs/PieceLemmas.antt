@@ -1,9 +1,9 @@
 -- The pieces of a list.
-use Rattle.std.proofs.Common.{◌≡◌, ℕ, zero, suc, ◌+◌, ◌-◌, ◌<◌, ◌≤◌, List, [], ◌∷◌, ◌++◌, length, get_or, arith, refl, ap, slice_range, length-append, add-one}
+use Rattle.std.proofs.Common.{◌≡◌, ℕ, zero, suc, ◌+◌, ◌-◌, ◌<◌, ◌≤◌, List, [], ◌∷◌, ◌++◌, length, map, get_or, arith, refl, ap, slice_range, length-append, add-one}
 use Rattle.std.specs.List.{sum_by}
 use Rattle.std.proofs.lemmas.Grind.{common_steps}
 use Rattle.std.proofs.lemmas.List.Sums.{sum_by-cons}
-use Rattle.level_topology.specs.Packed.{paired, pieces, Ascend, IsPacked}
+use Rattle.level_topology.specs.Packed.{paired, pieces, gaps, Ascend, IsPacked}
 
 pub length-pieces : {X : Type 0} (starts : List ℕ) (xs : List X) → length (pieces starts xs) ≡ length starts - 1
 length-pieces [] xs = refl
@@ -20,7 +20,7 @@ head_below : (y : ℕ) (places : List ℕ) (end : ℕ) → Ascend (y ∷ places)
 head_below y [] end a = omega (arith, a)
 head_below y (z ∷ places) end a = omega (arith, a.0, head_below z places end a.1)
 
-ascend_at : (starts : List ℕ) (end i : ℕ) → Ascend starts end → suc i < length starts → (get_or starts i 0 ≤ get_or starts (suc i) 0) × (get_or starts (suc i) 0 ≤ end)
+pub ascend_at : (starts : List ℕ) (end i : ℕ) → Ascend starts end → suc i < length starts → (get_or starts i 0 ≤ get_or starts (suc i) 0) × (get_or starts (suc i) 0 ≤ end)
 ascend_at [] end i a h = absurd (omega arith)
 ascend_at (x ∷ []) end i a h = absurd (omega arith)
 ascend_at (x ∷ (y ∷ places)) end zero a h = (a.0, head_below y places end a.1)
@@ -54,6 +54,15 @@ pieces-push (x ∷ (y ∷ places)) xs ys a =
 
 length-range : {X : Type 0} (xs : List X) (a b : ℕ) → a ≤ b → b ≤ length xs → length (slice_range xs a b) + a ≡ b
 length-range xs a b h k = grind (arith, common_steps)
+
+-- the gaps between the starts of pieces are as long as the pieces
+pub gaps-pieces : {X : Type 0} (starts : List ℕ) (xs : List X) → Ascend starts (length xs) → gaps starts ≡ map length (pieces starts xs)
+gaps-pieces [] xs a = refl
+gaps-pieces (s ∷ []) xs a = refl
+gaps-pieces (s ∷ (t ∷ starts)) xs a =
+    let first : t - s ≡ length (slice_range xs s t) = omega (arith, a.0, length-range xs s t a.0 (head_below t starts (length xs) a.1)) in
+    let rest = gaps-pieces (t ∷ starts) xs a.1 in
+    cc
 
 sum_by-pieces : {X : Type 0} (s : ℕ) (starts : List ℕ) (xs : List X) → Ascend (s ∷ starts) (length xs) → sum_by length (pieces (s ∷ starts) xs) + s ≡ length xs
 sum_by-pieces s [] xs a = omega (arith, a)

@@ -4,4 +4,5 @@ pub mod Coded
 pub mod Rows
 pub mod View
 pub mod CountedText
-pub mod Square
+pub mod Child
+pub mod ChildTables

@@ -1,5 +1,5 @@
 -- Lists of lists as one list and the places where each begins.
-use Rattle.std.specs.Prelude.{ℕ, ◌≡◌, ◌+◌, ◌^◌, ◌<◌, ◌≤◌, List, [], ◌∷◌, length, slice_range, get_or}
+use Rattle.std.specs.Prelude.{ℕ, ◌≡◌, ◌+◌, ◌-◌, ◌^◌, ◌<◌, ◌≤◌, List, [], ◌∷◌, length, slice_range, get_or}
 
 -- lists of numbers, and beside each a list of as many items; and how many lists and items there may be
 pub record Paired (X : Type 0) : Type 0 where
@@ -16,6 +16,12 @@ abbrev pub pieces : {X : Type 0} → List ℕ → List X → List (List X)
 pieces [] xs = []
 pieces (a ∷ []) xs = []
 pieces (a ∷ (b ∷ places)) xs = slice_range xs a b ∷ pieces (b ∷ places) xs
+
+-- how many numbers lie between each of these places and the next
+abbrev pub gaps : List ℕ → List ℕ
+gaps [] = []
+gaps (a ∷ []) = []
+gaps (a ∷ (b ∷ places)) = (b - a) ∷ gaps (b ∷ places)
 
 -- the places ascend to the end
 abbrev pub Ascend : List ℕ → ℕ → Type 0

@@ -1,10 +1,12 @@
 //! A level and its accessors.
 
 ghost use Rattle.std.specs.Prelude.{◌≡◌, ◌<◌, false, [], length, map, get_or};
+ghost use Rattle.std.specs.List.{sum_by};
 ghost use Rattle.subdiv_model.specs.Polygons.{polygon_at};
 ghost use Rattle.subdiv_model.specs.Edges.{edges_of, faces_of_edge};
 ghost use Rattle.subdiv_model.specs.Sharpness.{Smooth};
 ghost use Rattle.sharpness_rules.specs.View.{sharpness_of, method_of};
+ghost use Rattle.level_topology.specs.Packed.{Ascend, gaps};
 ghost use Rattle.level_topology.specs.Topology.{IsTopology, edge_at, face_edges_of, corner_of, end_of};
 ghost use Rattle.level_topology.specs.View.{listed, faces_of_pair};
 
@@ -84,6 +86,14 @@ impl Level {
         ensures { result.now ≡ face_edges_of self.now.level.polygons (polygon_at self.now.level.polygons f) }
     {
         self.tables.faces.beside(f as usize)
+    }
+
+    // How many corners the faces before each face have together, and at the end how many all have.
+    pub(crate) fn corner_starts(&self) -> &[u32]
+        ensures gaps { gaps result.now ≡ map length self.now.level.polygons }
+        ensures ascend { Ascend result.now (sum_by length self.now.level.polygons) }
+    {
+        self.tables.faces.starts()
     }
 
     /// The ends of an edge, in the direction in which a face names it first.

@@ -1,6 +1,10 @@
-//! Levels: six incidence tables, built in linear time and read without a search.
+//! Levels: six incidence tables, and the tables into a child, built in linear time and read without a search.
 #![tactic(auto)]
 
+mod child;
+pub mod child_laws;
+mod child_origin;
+mod child_tables;
 mod counted;
 mod faces;
 pub mod laws;
@@ -9,9 +13,9 @@ mod pairs;
 mod rows;
 mod sharps;
 mod tables;
-#[cfg(test)]
-mod tests;
 
+pub use child::Child;
+pub use child_origin::{FacePlace, Origin};
 pub use counted::Counted;
 pub use faces::EdgeFaces;
 pub use level::Level;

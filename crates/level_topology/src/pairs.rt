@@ -1,9 +1,9 @@
 //! Lists of numbers, each with a list of as many items beside it, packed into three arrays.
 
-ghost use Rattle.std.specs.Prelude.{◌≡◌, ◌+◌, ◌^◌, ◌<◌, ◌≤◌, List, [], ◌∷◌, ◌++◌, length, get_or, IfOk, vec_len};
+ghost use Rattle.std.specs.Prelude.{◌≡◌, ◌+◌, ◌^◌, ◌<◌, ◌≤◌, List, [], ◌∷◌, ◌++◌, length, map, get_or, IfOk, vec_len};
 ghost use Rattle.std.specs.Vec.{vec_capacity};
 ghost use Rattle.std.specs.List.{sum_by};
-ghost use Rattle.level_topology.specs.Packed.{Ascend, pieces};
+ghost use Rattle.level_topology.specs.Packed.{Ascend, pieces, gaps};
 
 use ratio128::Memory;
 use std::alloc::Global;
@@ -115,6 +115,14 @@ impl<T: Copy> Pairs<T> {
         ensures beside { result ≡ length self.now.beside }
     {
         self.starts.len() - 1
+    }
+
+    // Where each list begins in all lists one after another, and at the end where the last ends.
+    pub(crate) fn starts(&self) -> &[u32]
+        ensures gaps { gaps result.now ≡ map length self.now.lists }
+        ensures ascend { Ascend result.now (sum_by length self.now.lists) }
+    {
+        &self.starts
     }
 
     // The list with a number.
