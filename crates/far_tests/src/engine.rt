@@ -1,13 +1,14 @@
-// Whole runs, and the lines of their faults.
+// Whole runs, over memory whose calls succeed or fail.
 
 ghost use Rattle.std.specs.Prelude.{◌≡◌, ◌+◌, ◌<◌, length, map, string_bytes, Err};
 ghost use Rattle.far_engine.specs.declared.fault.FarFault.TheVariants.{Read, Write};
 ghost use Rattle.far_engine.specs.Outcome.{text_of};
 
-use far_engine::{FarFault, program, report, run, status};
-use far_io::{MemSink, MemSource, SureSink, SureSource, WriteFailed};
+use crate::expect::expect_same;
+use far_engine::{FarFault, program, run};
+use far_io::{MemSink, MemSource, SureSink, SureSource};
 use obj_tags::ObjCause;
-use ratio128::Steps;
+use ratio128::{Memory, Steps};
 use std::alloc::{AllocError, Global};
 use std::marker::Brand;
 use std::sync::ledger::{Blank, Ledger};
@@ -71,12 +72,41 @@ fn program_counted<L: Ledger>(
     )
 }
 
+// A run, and the program, each with a counter of its own.
+fn run_on(
+    alloc: Global,
+    words: &Vec<String>,
+    source: &mut SureSource,
+    sink: &mut SureSink,
+) -> Result<(), FarFault> {
+    surely_counted::<Brand>(alloc, Blank::new(1), words, source, sink)
+}
+
+fn program_on(
+    alloc: Global,
+    words: &Vec<String>,
+    source: &mut MemSource,
+    sink: &mut MemSink,
+    errors: &mut MemSink,
+) -> u8 {
+    program_counted::<Brand>(alloc, Blank::new(1), words, source, sink, errors)
+}
+
 fn words_of(alloc: Global, text: &str) -> Result<Vec<String>, AllocError> {
     let mut words = Vec::new(alloc);
     for word in text.split_whitespace() {
         words.push(String::from_str(alloc, word)?)?;
     }
     Ok(words)
+}
+
+// A source and a sink of which one call fails.
+fn failing_source(alloc: Global, text: &str, call: u32) -> Result<MemSource, AllocError> {
+    Ok(MemSource::new(text.as_bytes().to_vec(alloc)?, vec![in alloc; call]?))
+}
+
+pub fn failing_sink(alloc: Global, room: usize, call: u32) -> Result<MemSink, Memory> {
+    MemSink::with_room(alloc, room, vec![in alloc; call]?)
 }
 
 const TRIANGLES: &str = "v 0 0 0\nv 12 0 0\nv 0 12 0\nf 1 2 3\nf 1 3 2\n";
@@ -110,297 +140,200 @@ const REFINE: &str = "refine depth=1";
 
 const NOT_BUILT: FarFault = FarFault::NotBuilt { line: 0 };
 
+// Words, a mesh and a line after it, the answer, and what is written.
+type Run = (
+    &'static str,
+    &'static str,
+    &'static str,
+    Result<(), FarFault>,
+    &'static str,
+);
+
+const RUNS: &[Run] = &[
+    ("", "", "", Err(FarFault::Usage { word: 0 }), ""),
+    ("refine", "", "", Err(FarFault::Usage { word: 1 }), ""),
+    (
+        "refine depth=2",
+        "",
+        "",
+        Err(FarFault::Usage { word: 1 }),
+        "",
+    ),
+    (
+        "refine depth=1 x",
+        "",
+        "",
+        Err(FarFault::Usage { word: 2 }),
+        "",
+    ),
+    (REFINE, "", "", Ok(()), ""),
+    (REFINE, "", "v 7 8 9", Ok(()), "v 7 8 9\n"),
+    (REFINE, "", "v 0.50 -1e-1 .02", Ok(()), "v 1/2 -1/10 1/50\n"),
+    (REFINE, CUBE, "", Ok(()), CUBE_REFINED),
+    (REFINE, OTHER_CUBE, "", Ok(()), CUBE_REFINED),
+    (REFINE, TRIANGLES, "", Ok(()), TRIANGLES_REFINED),
+    (REFINE, TRIANGLES, "vt 0 0", Ok(()), TRIANGLES_REFINED),
+    (
+        REFINE,
+        TRIANGLES,
+        "t interpolateboundary 1/0/0 2",
+        Ok(()),
+        TRIANGLES_REFINED,
+    ),
+    (
+        REFINE,
+        TRIANGLES,
+        "t creasemethod 0/0/1 normal",
+        Ok(()),
+        TRIANGLES_REFINED,
+    ),
+    (
+        REFINE,
+        TRIANGLES,
+        "t interpolateboundary 1/0/0 1",
+        Err(NOT_BUILT),
+        "",
+    ),
+    (
+        REFINE,
+        TRIANGLES,
+        "t creasemethod 0/0/1 chaikin",
+        Err(NOT_BUILT),
+        "",
+    ),
+    (
+        REFINE,
+        TRIANGLES,
+        "t crease 2/1/0 0 1 0",
+        Err(NOT_BUILT),
+        "",
+    ),
+    (REFINE, TRIANGLES, "t corner 1/1/0 0 2", Err(NOT_BUILT), ""),
+    (REFINE, TRIANGLES, "t hole 1/0/0 0", Err(NOT_BUILT), ""),
+    (REFINE, TRIANGLES, "v 0 0 1e-18", Err(NOT_BUILT), ""),
+    (REFINE, TRIANGLES, "v 0 0 1e-19", Err(NOT_BUILT), ""),
+    (
+        REFINE,
+        "v 1e18 0 0\n",
+        "v 1000000000000000001 0 0",
+        Err(NOT_BUILT),
+        "",
+    ),
+    (REFINE, SQUARE, "", Err(NOT_BUILT), ""),
+    (
+        REFINE,
+        "v 0 0 0.5\n\n",
+        "v 0 nan",
+        Err(FarFault::Obj {
+            line: 3,
+            cause: ObjCause::ShortLine,
+        }),
+        "",
+    ),
+    (
+        REFINE,
+        TRIANGLES,
+        "t corner 1/1/0 3 2",
+        Err(FarFault::Obj {
+            line: 6,
+            cause: ObjCause::TagIndex,
+        }),
+        "",
+    ),
+    (
+        REFINE,
+        TRIANGLES,
+        "f 1 2 4",
+        Err(FarFault::Obj {
+            line: 6,
+            cause: ObjCause::IndexRange,
+        }),
+        "",
+    ),
+];
+
+fn runs() -> &'static [Run] {
+    RUNS
+}
+
 #[test]
 fn answers_words_and_texts(rt: HostRuntime) -> Result<(), Fail> {
     let alloc = rt.alloc();
-    for (text, mesh, line, answer, written) in [
-        ("", "", "", Err(FarFault::Usage { word: 0 }), ""),
-        ("refine", "", "", Err(FarFault::Usage { word: 1 }), ""),
-        (
-            "refine depth=2",
-            "",
-            "",
-            Err(FarFault::Usage { word: 1 }),
-            "",
-        ),
-        (
-            "refine depth=1 x",
-            "",
-            "",
-            Err(FarFault::Usage { word: 2 }),
-            "",
-        ),
-        (REFINE, "", "", Ok(()), ""),
-        (REFINE, "", "v 7 8 9", Ok(()), "v 7 8 9\n"),
-        (REFINE, "", "v 0.50 -1e-1 .02", Ok(()), "v 1/2 -1/10 1/50\n"),
-        (REFINE, CUBE, "", Ok(()), CUBE_REFINED),
-        (REFINE, OTHER_CUBE, "", Ok(()), CUBE_REFINED),
-        (REFINE, TRIANGLES, "", Ok(()), TRIANGLES_REFINED),
-        (REFINE, TRIANGLES, "vt 0 0", Ok(()), TRIANGLES_REFINED),
-        (
-            REFINE,
-            TRIANGLES,
-            "t interpolateboundary 1/0/0 2",
-            Ok(()),
-            TRIANGLES_REFINED,
-        ),
-        (
-            REFINE,
-            TRIANGLES,
-            "t creasemethod 0/0/1 normal",
-            Ok(()),
-            TRIANGLES_REFINED,
-        ),
-        (
-            REFINE,
-            TRIANGLES,
-            "t interpolateboundary 1/0/0 1",
-            Err(NOT_BUILT),
-            "",
-        ),
-        (
-            REFINE,
-            TRIANGLES,
-            "t creasemethod 0/0/1 chaikin",
-            Err(NOT_BUILT),
-            "",
-        ),
-        (
-            REFINE,
-            TRIANGLES,
-            "t crease 2/1/0 0 1 0",
-            Err(NOT_BUILT),
-            "",
-        ),
-        (REFINE, TRIANGLES, "t corner 1/1/0 0 2", Err(NOT_BUILT), ""),
-        (REFINE, TRIANGLES, "t hole 1/0/0 0", Err(NOT_BUILT), ""),
-        (REFINE, TRIANGLES, "v 0 0 1e-18", Err(NOT_BUILT), ""),
-        (REFINE, TRIANGLES, "v 0 0 1e-19", Err(NOT_BUILT), ""),
-        (
-            REFINE,
-            "v 1e18 0 0\n",
-            "v 1000000000000000001 0 0",
-            Err(NOT_BUILT),
-            "",
-        ),
-        (REFINE, SQUARE, "", Err(NOT_BUILT), ""),
-        (
-            REFINE,
-            "v 0 0 0.5\n\n",
-            "v 0 nan",
-            Err(FarFault::Obj {
-                line: 3,
-                cause: ObjCause::ShortLine,
-            }),
-            "",
-        ),
-        (
-            REFINE,
-            TRIANGLES,
-            "t corner 1/1/0 3 2",
-            Err(FarFault::Obj {
-                line: 6,
-                cause: ObjCause::TagIndex,
-            }),
-            "",
-        ),
-        (
-            REFINE,
-            TRIANGLES,
-            "f 1 2 4",
-            Err(FarFault::Obj {
-                line: 6,
-                cause: ObjCause::IndexRange,
-            }),
-            "",
-        ),
-    ] {
+    for row in runs() {
+        let &(text, mesh, line, answer, written) = row;
         let words = words_of(alloc, text)?;
         let mut input = mesh.as_bytes().to_vec(alloc)?;
         input.extend_from_slice(line.as_bytes())?;
         let mut source = SureSource::new(input);
         let mut sink = SureSink::with_room(alloc, 4096)?;
-        let given = surely_counted::<Brand>(alloc, Blank::new(1), &words, &mut source, &mut sink);
-        assert_eq!(rt; given, answer, "{text} on {mesh}{line}");
-        assert_eq!(rt; sink.bytes(), written.as_bytes(), "{text} on {mesh}{line}");
+        let given = run_on(alloc, &words, &mut source, &mut sink);
+        expect_same(&rt, &given, &answer, row);
+        expect_same(&rt, &sink.bytes(), &written.as_bytes(), row);
     }
     Ok(())
+}
+
+// Words; the call of the source, of the sink and of the sink for errors that fails, and none from 9 on; the room of the sink;
+// the status, the line of the fault, and what is written.
+type FailedCalls = (
+    &'static str,
+    u32,
+    u32,
+    u32,
+    usize,
+    u8,
+    &'static str,
+    &'static str,
+);
+
+const FAILED_CALLS: &[FailedCalls] = &[
+    (REFINE, 9, 9, 9, 4096, 0, "", TRIANGLES_REFINED),
+    (REFINE, 0, 9, 9, 4096, 3, "far: reading failed\n", ""),
+    (REFINE, 1, 9, 9, 4096, 3, "far: reading failed\n", ""),
+    (REFINE, 0, 9, 0, 4096, 3, "", ""),
+    (REFINE, 9, 0, 9, 4096, 10, "far: writing failed\n", ""),
+    // The flush.
+    (
+        REFINE,
+        9,
+        1,
+        9,
+        4096,
+        10,
+        "far: writing failed\n",
+        TRIANGLES_REFINED,
+    ),
+    (REFINE, 9, 9, 9, 8, 10, "far: writing failed\n", "v 5 5 0\n"),
+    (
+        "refine",
+        0,
+        0,
+        9,
+        4096,
+        2,
+        "far: word 1 is not understood\n",
+        "",
+    ),
+    ("refine", 0, 0, 1, 4096, 2, "far: ", ""),
+];
+
+fn failed_calls() -> &'static [FailedCalls] {
+    FAILED_CALLS
 }
 
 #[test]
 fn answers_calls_that_fail(rt: HostRuntime) -> Result<(), Fail> {
     let alloc = rt.alloc();
-    // The call of the source, of the sink and of the sink for errors that fails, and none from 9 on.
-    for (text, read, write, tell, room, status, line, written) in [
-        (REFINE, 9, 9, 9, 4096, 0, "", TRIANGLES_REFINED),
-        (REFINE, 0, 9, 9, 4096, 3, "far: reading failed\n", ""),
-        (REFINE, 1, 9, 9, 4096, 3, "far: reading failed\n", ""),
-        (REFINE, 0, 9, 0, 4096, 3, "", ""),
-        (REFINE, 9, 0, 9, 4096, 10, "far: writing failed\n", ""),
-        // The flush.
-        (
-            REFINE,
-            9,
-            1,
-            9,
-            4096,
-            10,
-            "far: writing failed\n",
-            TRIANGLES_REFINED,
-        ),
-        (REFINE, 9, 9, 9, 8, 10, "far: writing failed\n", "v 5 5 0\n"),
-        (
-            "refine",
-            0,
-            0,
-            9,
-            4096,
-            2,
-            "far: word 1 is not understood\n",
-            "",
-        ),
-        ("refine", 0, 0, 1, 4096, 2, "far: ", ""),
-    ] {
+    for row in failed_calls() {
+        let &(text, read, write, tell, room, status, line, written) = row;
         let words = words_of(alloc, text)?;
-        let mut source = MemSource::new(TRIANGLES.as_bytes().to_vec(alloc)?, vec![in alloc; read]?);
-        let mut sink = MemSink::with_room(alloc, room, vec![in alloc; write]?)?;
-        let mut errors = MemSink::with_room(alloc, 64, vec![in alloc; tell]?)?;
-        let given = program_counted::<Brand>(
-            alloc,
-            Blank::new(1),
-            &words,
-            &mut source,
-            &mut sink,
-            &mut errors,
-        );
-        assert_eq!(rt;
-            given,
-            status,
-            "{text} with read {read}, write {write} and line {tell} failing"
-        );
-        assert_eq!(rt; errors.bytes(), line.as_bytes());
-        assert_eq!(rt; sink.bytes(), written.as_bytes());
-    }
-    Ok(())
-}
-
-fn obj(line: u32, cause: ObjCause) -> FarFault {
-    FarFault::Obj { line, cause }
-}
-
-#[test]
-fn names_faults_of_runs(rt: HostRuntime) -> Result<(), Fail> {
-    let alloc = rt.alloc();
-    for (fault, number, text) in [
-        (
-            FarFault::Usage { word: 0 },
-            2,
-            "far: word 0 is not understood\n",
-        ),
-        (FarFault::Read, 3, "far: reading failed\n"),
-        (
-            FarFault::Long,
-            4,
-            "far: input is longer than 268435456 bytes\n",
-        ),
-        (
-            obj(10, ObjCause::BadNumeral),
-            5,
-            "far: line 10: bad numeral\n",
-        ),
-        (
-            obj(1, ObjCause::NumberRange),
-            5,
-            "far: line 1: number out of range\n",
-        ),
-        (
-            obj(1, ObjCause::UnknownKeyword),
-            5,
-            "far: line 1: unknown keyword\n",
-        ),
-        (
-            obj(1, ObjCause::Continuation),
-            5,
-            "far: line 1: line continuation\n",
-        ),
-        (
-            obj(1, ObjCause::ShortLine),
-            5,
-            "far: line 1: line too short\n",
-        ),
-        (
-            obj(1, ObjCause::BadCorner),
-            5,
-            "far: line 1: bad face corner\n",
-        ),
-        (
-            obj(1, ObjCause::IndexRange),
-            5,
-            "far: line 1: index out of range\n",
-        ),
-        (obj(1, ObjCause::BadTag), 5, "far: line 1: bad tag\n"),
-        (
-            obj(1, ObjCause::TagIndex),
-            5,
-            "far: line 1: tag index out of range\n",
-        ),
-        (
-            obj(u32::MAX, ObjCause::SharpnessRange),
-            5,
-            "far: line 4294967295: sharpness out of range\n",
-        ),
-        (NOT_BUILT, 12, "far: line 0 is not built yet\n"),
-        (FarFault::Write, 10, "far: writing failed\n"),
-        (FarFault::Memory, 11, "far: out of memory\n"),
-    ] {
-        let mut errors = SureSink::with_room(alloc, 64)?;
-        assert_eq!(rt; report(&fault, &mut errors), Ok(()), "{fault}");
-        assert_eq!(rt; errors.bytes(), text.as_bytes());
-        assert_eq!(rt; status(&fault), number, "{fault}");
-        let line = format!(in alloc; "far: {fault}\n")?;
-        assert_eq!(rt; line.as_str(), text);
-    }
-    Ok(())
-}
-
-#[test]
-fn reports_what_fails(rt: HostRuntime) -> Result<(), Fail> {
-    let alloc = rt.alloc();
-    // The call that fails. The last call is the flush, and the line stands whole before it.
-    for (fault, call, answer, held) in [
-        (FarFault::Read, 1, Err(WriteFailed), "far: "),
-        (FarFault::Read, 3, Err(WriteFailed), "far: reading failed\n"),
-        (FarFault::Read, 4, Ok(()), "far: reading failed\n"),
-        (
-            FarFault::Usage { word: 1 },
-            2,
-            Err(WriteFailed),
-            "far: word ",
-        ),
-        (
-            FarFault::Usage { word: 1 },
-            5,
-            Err(WriteFailed),
-            "far: word 1 is not understood\n",
-        ),
-        (
-            FarFault::Usage { word: 1 },
-            6,
-            Ok(()),
-            "far: word 1 is not understood\n",
-        ),
-    ] {
-        let mut errors = MemSink::with_room(alloc, 64, vec![in alloc; call]?)?;
-        assert_eq!(rt;
-            report(&fault, &mut errors),
-            answer,
-            "{fault}, call {call} fails"
-        );
-        assert_eq!(rt;
-            errors.bytes(),
-            held.as_bytes(),
-            "{fault}, call {call} fails"
-        );
+        let mut source = failing_source(alloc, TRIANGLES, read)?;
+        let mut sink = failing_sink(alloc, room, write)?;
+        let mut errors = failing_sink(alloc, 64, tell)?;
+        let given = program_on(alloc, &words, &mut source, &mut sink, &mut errors);
+        expect_same(&rt, &given, &status, row);
+        expect_same(&rt, &errors.bytes(), &line.as_bytes(), row);
+        expect_same(&rt, &sink.bytes(), &written.as_bytes(), row);
     }
     Ok(())
 }

@@ -1,5 +1,6 @@
 // Sources and sinks, in memory and over the readers and writers of std.
 
+use crate::expect::expect_same;
 use far_io::{
     InputFault, MemSink, MemSource, ReadFailed, Sink, StdSink, StdSource, SureSink, WriteFailed,
     read_all, write_all_of,
@@ -8,59 +9,94 @@ use ratio128::Memory;
 use std::io;
 use std::test::Fail;
 
+// A bound, the call that fails, and none from 9 on, and the fault.
+type Reading = (usize, u32, Option<InputFault>);
+
+const READINGS: &[Reading] = &[
+    (4, 9, None),
+    (3, 9, Some(InputFault::Long)),
+    (4, 0, Some(InputFault::Read)),
+    (4, 1, Some(InputFault::Read)),
+];
+
+fn readings() -> &'static [Reading] {
+    READINGS
+}
+
 #[test]
 fn reads_an_input_or_refuses_it(rt: HostRuntime) -> Result<(), Fail> {
     let alloc = rt.alloc();
-    // The call that fails, and none from 9 on.
-    for (bound, call, fault) in [
-        (4, 9, None),
-        (3, 9, Some(InputFault::Long)),
-        (4, 0, Some(InputFault::Read)),
-        (4, 1, Some(InputFault::Read)),
-    ] {
+    for row in readings() {
+        let &(bound, call, fault) = row;
+        assert!(rt; bound < 10);
         let mut source = MemSource::new(b"abcd".to_vec(alloc)?, vec![in alloc; call]?);
-        let given = read_all(alloc, &mut source, bound).err();
-        assert_eq!(rt; given, fault, "within {bound}, call {call} fails");
+        expect_same(&rt, &read_all(alloc, &mut source, bound).err(), &fault, row);
     }
     Ok(())
+}
+
+// What is written, the answer, and what the sink then holds.
+type Writing = (&'static str, Result<(), WriteFailed>, &'static str);
+
+const WRITINGS: &[Writing] = &[
+    ("ab", Ok(()), "ab"),
+    ("cd", Err(WriteFailed), "ab"),
+    ("efghij", Err(WriteFailed), "abefgh"),
+    ("", Ok(()), "abefgh"),
+];
+
+fn writings() -> &'static [Writing] {
+    WRITINGS
 }
 
 #[test]
 fn keeps_the_prefix_that_was_written(rt: HostRuntime) -> Result<(), Fail> {
     let alloc = rt.alloc();
     let mut sink = MemSink::with_room(alloc, 6, vec![in alloc; 1]?)?;
-    for (text, answer, held) in [
-        ("ab", Ok(()), "ab"),
-        ("cd", Err(WriteFailed), "ab"),
-        ("efghij", Err(WriteFailed), "abefgh"),
-        ("", Ok(()), "abefgh"),
-    ] {
-        assert_eq!(rt; write_all_of(&mut sink, text.as_bytes()), answer, "{text}");
-        assert_eq!(rt; sink.bytes(), held.as_bytes(), "{text}");
+    for row in writings() {
+        let &(text, answer, held) = row;
+        expect_same(&rt, &write_all_of(&mut sink, text.as_bytes()), &answer, row);
+        expect_same(&rt, &sink.bytes(), &held.as_bytes(), row);
     }
-    assert_eq!(rt; sink.flush(), Ok(()));
-    let mut sink = SureSink::with_room(alloc, 4)?;
-    assert_eq!(rt; sink.write(b"abcdef"), Ok(4));
-    assert_eq!(rt; sink.write(b"g"), Err(WriteFailed));
-    assert_eq!(rt; sink.flush(), Ok(()));
-    assert_eq!(rt; sink.bytes(), b"abcd".as_slice());
+    expect_same(&rt, &sink.flush(), &Ok(()), &"the flush");
     Ok(())
 }
 
 #[test]
-fn serves_readers_and_writers_of_std(rt: HostRuntime) -> Result<(), Fail> {
-    let alloc = rt.alloc();
-    let mut source = StdSource::new(b"abcd".as_slice());
-    assert_eq!(rt;
-        read_all(alloc, &mut source, 4)?.as_slice(),
-        b"abcd".as_slice()
-    );
-    let mut written = Vec::new(alloc);
-    let mut sink = StdSink::new(&mut written);
-    assert_eq!(rt; write_all_of(&mut sink, b"abcd"), Ok(()));
-    assert_eq!(rt; sink.flush(), Ok(()));
-    assert_eq!(rt; written.as_slice(), b"abcd".as_slice());
+fn keeps_what_it_has_room_for(rt: HostRuntime) -> Result<(), Fail> {
+    let mut sink = SureSink::with_room(rt.alloc(), 4)?;
+    expect_same(&rt, &sink.write(b"abcdef"), &Ok(4), &"six bytes");
+    expect_same(&rt, &sink.write(b"g"), &Err(WriteFailed), &"one byte");
+    expect_same(&rt, &sink.flush(), &Ok(()), &"the flush");
+    expect_same(&rt, &sink.bytes(), &b"abcd".as_slice(), &"what is held");
     Ok(())
+}
+
+#[test]
+fn serves_readers_of_std(rt: HostRuntime) -> Result<(), Fail> {
+    let mut source = StdSource::new(b"abcd".as_slice());
+    let bytes = read_all(rt.alloc(), &mut source, 4)?;
+    expect_same(&rt, &bytes.as_slice(), &b"abcd".as_slice(), &"four bytes");
+    Ok(())
+}
+
+#[test]
+fn serves_writers_of_std(rt: HostRuntime) {
+    let mut written = Vec::new(rt.alloc());
+    let mut sink = StdSink::new(&mut written);
+    expect_same(
+        &rt,
+        &write_all_of(&mut sink, b"abcd"),
+        &Ok(()),
+        &"four bytes",
+    );
+    expect_same(&rt, &sink.flush(), &Ok(()), &"the flush");
+    expect_same(
+        &rt,
+        &written.as_slice(),
+        &b"abcd".as_slice(),
+        &"what is held",
+    );
 }
 
 // A reader and a writer that fail at every call.
@@ -84,16 +120,18 @@ impl io::Write for Broken {
 }
 
 #[test]
-fn hands_on_the_faults_of_std(rt: HostRuntime) {
+fn hands_on_the_faults_of_readers(rt: HostRuntime) {
     let mut source = StdSource::new(Broken);
-    assert_eq!(rt;
-        read_all(rt.alloc(), &mut source, 4).err(),
-        Some(InputFault::Read)
-    );
+    let fault = read_all(rt.alloc(), &mut source, 4).err();
+    expect_same(&rt, &fault, &Some(InputFault::Read), &"a read");
+}
+
+#[test]
+fn hands_on_the_faults_of_writers(rt: HostRuntime) {
     let mut sink = StdSink::new(Broken);
-    assert_eq!(rt; sink.write(b""), Ok(0));
-    assert_eq!(rt; sink.write(b"a"), Err(WriteFailed));
-    assert_eq!(rt; sink.flush(), Err(WriteFailed));
+    expect_same(&rt, &sink.write(b""), &Ok(0), &"no byte");
+    expect_same(&rt, &sink.write(b"a"), &Err(WriteFailed), &"one byte");
+    expect_same(&rt, &sink.flush(), &Err(WriteFailed), &"the flush");
 }
 
 #[test]

@@ -4,7 +4,13 @@
 #[cfg(test)]
 mod engine;
 #[cfg(test)]
+mod expect;
+#[cfg(test)]
+mod faults;
+#[cfg(test)]
 mod io;
+#[cfg(test)]
+mod levels;
 #[cfg(test)]
 mod lines;
 #[cfg(test)]

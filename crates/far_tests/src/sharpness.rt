@@ -1,91 +1,122 @@
 // Sharpness of edges and vertices, its fall from level to level, rules and weights.
 
+use crate::expect::expect_same;
 use sharpness_rules::{
     Rule, SharpOverflow, Sharpness, Weight, chaikin_child, transition_weight, uniform_child,
     vertex_rule,
 };
+use std::process::Abort;
 use std::test::Fail;
+
+// A sharpness as a table names it: `Of(a, b)` is the one that is made of the fraction `a / b`.
+#[derive(Clone, Copy, Debug)]
+enum Named {
+    Smooth,
+    Of(u64, u64),
+    Infinite,
+}
+
+use Named::{Infinite, Of, Smooth};
+
+fn sharpness_of(rt: &impl Abort, named: Named) -> Sharpness {
+    match named {
+        Smooth => Sharpness::Smooth,
+        Of(num, den) => {
+            assert!(rt; 0 < den && den <= TOP);
+            Sharpness::new(num, den)
+        }
+        Infinite => Sharpness::Infinite,
+    }
+}
+
+// The greatest denominator.
+const TOP: u64 = 1 << 60;
+
+// A fraction, and the same in lowest terms.
+type Reduced = ((u64, u64), (u64, u64));
+
+const SEMI_SHARP: &[Reduced] = &[
+    ((6, 4), (3, 2)),
+    ((1, TOP), (1, TOP)),
+    ((10 * TOP - 1, TOP), (10 * TOP - 1, TOP)),
+];
+
+fn semi_sharp() -> &'static [Reduced] {
+    SEMI_SHARP
+}
+
+fn fraction_of(value: &Sharpness) -> Option<(u64, u64)> {
+    match value {
+        Sharpness::Semi(value) => Some((value.num(), value.den())),
+        _ => None,
+    }
+}
 
 #[test]
 fn makes_semi_sharp_fractions(rt: HostRuntime) {
-    let top = 1 << 60;
-    for (made, num, den) in [
-        (Sharpness::new(6, 4), 3, 2),
-        (Sharpness::new(1, top), 1, top),
-        (Sharpness::new(10 * top - 1, top), 10 * top - 1, top),
-    ] {
-        if let Sharpness::Semi(value) = made {
-            assert_eq!(rt; (value.num(), value.den()), (num, den));
-        } else {
-            assert!(rt; false, "{num}/{den} is semi-sharp");
-        }
+    for row in semi_sharp() {
+        let &((num, den), want) = row;
+        let made = sharpness_of(&rt, Of(num, den));
+        expect_same(&rt, &fraction_of(&made), &Some(want), row);
     }
 }
 
-// Smooth and infinite ones, also where they are made of a fraction, stay.
+// A sharpness and its uniform child. Smooth and infinite ones, also where they are made of a fraction, stay.
+const UNIFORM: &[(Named, Named)] = &[
+    (Of(0, 7), Smooth),
+    (Of(20, 2), Infinite),
+    (Of(10 * TOP, TOP), Infinite),
+    (Smooth, Smooth),
+    (Infinite, Infinite),
+    (Of(5, 2), Of(3, 2)),
+    (Of(1, 1), Smooth),
+    (Of(1, 2), Smooth),
+];
+
+fn uniform() -> &'static [(Named, Named)] {
+    UNIFORM
+}
+
 #[test]
 fn makes_uniform_children(rt: HostRuntime) {
-    let top = 1 << 60;
-    for (s, want) in [
-        (Sharpness::new(0, 7), Sharpness::Smooth),
-        (Sharpness::new(20, 2), Sharpness::Infinite),
-        (Sharpness::new(10 * top, top), Sharpness::Infinite),
-        (Sharpness::Smooth, Sharpness::Smooth),
-        (Sharpness::Infinite, Sharpness::Infinite),
-        (Sharpness::new(5, 2), Sharpness::new(3, 2)),
-        (Sharpness::new(1, 1), Sharpness::Smooth),
-        (Sharpness::new(1, 2), Sharpness::Smooth),
-    ] {
-        assert_eq!(rt; uniform_child(s), want);
+    for row in uniform() {
+        let &(parent, want) = row;
+        let child = uniform_child(sharpness_of(&rt, parent));
+        expect_same(&rt, &child, &sharpness_of(&rt, want), row);
     }
 }
 
-// The halves of two edges that meet at a vertex.
+// Two edges that meet at a vertex, and the halves of both there; no half where a denominator is too long.
+type Halves = (Named, Named, Option<(Named, Named)>);
+
+const HALVES: &[Halves] = &[
+    (Of(2, 1), Of(4, 1), Some((Of(3, 2), Of(5, 2)))),
+    (Of(1, 1 << 59), Of(1, 3), None),
+    (
+        Of(3, 1 << 58),
+        Of(2, 1),
+        Some((Smooth, Of((1 << 59) + 3, TOP))),
+    ),
+    (Of(3, 1 << 59), Of(2, 1), None),
+    (Of(2, 1), Infinite, Some((Of(1, 1), Infinite))),
+    (Of(1, TOP), Smooth, Some((Smooth, Smooth))),
+];
+
+fn halves() -> &'static [Halves] {
+    HALVES
+}
+
 #[test]
 fn makes_chaikin_children(rt: HostRuntime) {
-    let two = Sharpness::new(2, 1);
-    let fine = Sharpness::new(3, 1 << 58);
-    let least = Sharpness::new(1, 1 << 60);
-    for (a, b, first, second) in [
-        (
-            two,
-            Sharpness::new(4, 1),
-            Ok(Sharpness::new(3, 2)),
-            Ok(Sharpness::new(5, 2)),
-        ),
-        (
-            Sharpness::new(1, 1 << 59),
-            Sharpness::new(1, 3),
-            Err(SharpOverflow),
-            Err(SharpOverflow),
-        ),
-        (
-            fine,
-            two,
-            Ok(Sharpness::Smooth),
-            Ok(Sharpness::new((1 << 59) + 3, 1 << 60)),
-        ),
-        (
-            Sharpness::new(3, 1 << 59),
-            two,
-            Err(SharpOverflow),
-            Err(SharpOverflow),
-        ),
-        (
-            two,
-            Sharpness::Infinite,
-            Ok(Sharpness::new(1, 1)),
-            Ok(Sharpness::Infinite),
-        ),
-        (
-            least,
-            Sharpness::Smooth,
-            Ok(Sharpness::Smooth),
-            Ok(Sharpness::Smooth),
-        ),
-    ] {
-        assert_eq!(rt; chaikin_child(&[a, b], 0), first);
-        assert_eq!(rt; chaikin_child(&[a, b], 1), second);
+    for row in halves() {
+        let &(first, second, want) = row;
+        let ring = [sharpness_of(&rt, first), sharpness_of(&rt, second)];
+        let (first, second) = match want {
+            Some((first, second)) => (Ok(sharpness_of(&rt, first)), Ok(sharpness_of(&rt, second))),
+            None => (Err(SharpOverflow), Err(SharpOverflow)),
+        };
+        expect_same(&rt, &chaikin_child(&ring, 0), &first, row);
+        expect_same(&rt, &chaikin_child(&ring, 1), &second, row);
     }
 }
 
@@ -114,10 +145,10 @@ fn tells_rules(rt: HostRuntime) {
         ([semi, semi, soft, semi], Rule::Corner),
         ([hard, hard, hard, hard], Rule::Corner),
     ] {
-        assert_eq!(rt; vertex_rule(soft, &ring), want);
-        assert_eq!(rt; vertex_rule(semi, &ring), Rule::Corner);
+        expect_same(&rt, &vertex_rule(soft, &ring), &want, &ring);
+        expect_same(&rt, &vertex_rule(semi, &ring), &Rule::Corner, &ring);
     }
-    assert_eq!(rt; vertex_rule(soft, &[]), Rule::Corner);
+    expect_same(&rt, &vertex_rule(soft, &[]), &Rule::Corner, &"no edge");
 }
 
 #[test]
@@ -146,12 +177,16 @@ fn weighs_transitions(rt: HostRuntime) {
         (fine, [fine, fine], Err(SharpOverflow)),
         (soft, [fine, third], Err(SharpOverflow)),
     ] {
-        assert_eq!(rt; transition_weight(vertex, soft, &ring, &[soft, soft]), want);
+        let given = transition_weight(vertex, soft, &ring, &[soft, soft]);
+        expect_same(&rt, &given, &want, &ring);
     }
     let kept = Sharpness::new(3, 2);
-    assert_eq!(rt;
-        transition_weight(kept, half, &[kept, third], &[half, soft]),
-        Ok(Weight { num: 1, den: 3 })
+    let given = transition_weight(kept, half, &[kept, third], &[half, soft]);
+    expect_same(
+        &rt,
+        &given,
+        &Ok(Weight { num: 1, den: 3 }),
+        &"sharp at both",
     );
 }
 
@@ -160,12 +195,12 @@ fn weighs_transitions(rt: HostRuntime) {
 fn takes_long_rings(rt: HostRuntime) -> Result<(), Fail> {
     let same = vec![in rt.alloc(); Sharpness::new(5, 3); 65_536]?;
     let none = vec![in rt.alloc(); Sharpness::Smooth; 65_536]?;
-    assert_eq!(rt; chaikin_child(&same, 65_535), Ok(Sharpness::new(2, 3)));
-    assert_eq!(rt; vertex_rule(Sharpness::Smooth, &none), Rule::Smooth);
-    assert_eq!(rt;
-        transition_weight(Sharpness::new(1, 3), Sharpness::Smooth, &same, &none),
-        Ok(Weight { num: 1, den: 1 })
-    );
+    let child = chaikin_child(&same, 65_535);
+    let rule = vertex_rule(Sharpness::Smooth, &none);
+    let weight = transition_weight(Sharpness::new(1, 3), Sharpness::Smooth, &same, &none);
+    expect_same(&rt, &child, &Ok(Sharpness::new(2, 3)), &"the child");
+    expect_same(&rt, &rule, &Rule::Smooth, &"the rule");
+    expect_same(&rt, &weight, &Ok(Weight { num: 1, den: 1 }), &"the weight");
     Ok(())
 }
 
@@ -177,10 +212,14 @@ fn takes_many_denominators(rt: HostRuntime) {
     for (i, edge) in ring.iter_mut().enumerate() {
         *edge = Sharpness::new(1, i as u64 + 1);
     }
-    assert_eq!(rt; chaikin_child(&ring, 999), Err(SharpOverflow));
-    assert_eq!(rt;
-        transition_weight(Sharpness::Smooth, Sharpness::Smooth, &ring, &none),
-        Err(SharpOverflow)
+    let weight = transition_weight(Sharpness::Smooth, Sharpness::Smooth, &ring, &none);
+    let rule = vertex_rule(Sharpness::Smooth, &ring);
+    expect_same(
+        &rt,
+        &chaikin_child(&ring, 999),
+        &Err(SharpOverflow),
+        &"the child",
     );
-    assert_eq!(rt; vertex_rule(Sharpness::Smooth, &ring), Rule::Corner);
+    expect_same(&rt, &weight, &Err(SharpOverflow), &"the weight");
+    expect_same(&rt, &rule, &Rule::Corner, &"the rule");
 }

@@ -1,5 +1,6 @@
 // The words of a command line: the commands that they say, and the places of bad words.
 
+use crate::expect::expect_same;
 use far_words::{By, Command, Tags, Uv, read_built_words, read_words};
 use std::alloc::Global;
 use std::test::Fail;
@@ -14,14 +15,10 @@ fn words_of(alloc: Global, text: &str) -> Result<Vec<String>, Fail> {
 }
 
 // Refining to a depth, with all else left out.
-fn refine(depth: u32) -> Command {
-    Command::Refine {
-        depth,
-        decimals: None,
-        uv: Uv::Smooth,
-        by: By::Table,
-        tags: Tags::No,
-    }
+macro_rules! refine {
+    ($depth:literal) => {
+        Command::Refine { depth: $depth, decimals: None, uv: Uv::Smooth, by: By::Table, tags: Tags::No }
+    };
 }
 
 // Words that are no command, each after the place of the first bad one.
@@ -101,63 +98,71 @@ const BAD_WORDS: &str = "\
 1 stencils|select=
 1 stencils|uv=linear|depth=2";
 
+// Words, each after the first one after a `|`, and the command that they say.
+const COMMANDS: &[(&'static str, Command)] = &[
+    ("refine|depth=0", refine!(0)),
+    ("refine|depth=10", refine!(10)),
+    ("refine|by=table|tags=no|uv=smooth|depth=9", refine!(9)),
+    (
+        "refine|decimals=18|uv=boundaries|tags=yes|depth=1|by=level",
+        Command::Refine {
+            depth: 1,
+            decimals: Some(18),
+            uv: Uv::Boundaries,
+            by: By::Level,
+            tags: Tags::Yes,
+        },
+    ),
+    (
+        "refine|depth=2|decimals=0|uv=corners",
+        Command::Refine {
+            depth: 2,
+            decimals: Some(0),
+            uv: Uv::Corners,
+            by: By::Table,
+            tags: Tags::No,
+        },
+    ),
+    (
+        "refine|uv=linear|by=level|depth=5",
+        Command::Refine {
+            depth: 5,
+            decimals: None,
+            uv: Uv::Linear,
+            by: By::Level,
+            tags: Tags::No,
+        },
+    ),
+    ("stencils|depth=3", Command::Stencils { depth: 3 }),
+    ("levels|depth=10", Command::Levels { depth: 10 }),
+    (
+        "gen|seed=0|size=1|depth=0",
+        Command::Gen {
+            seed: 0,
+            size: 1,
+            depth: 0,
+        },
+    ),
+    (
+        "gen|size=256|depth=10|seed=4294967295",
+        Command::Gen {
+            seed: 4_294_967_295,
+            size: 256,
+            depth: 10,
+        },
+    ),
+];
+
+fn commands() -> &'static [(&'static str, Command)] {
+    COMMANDS
+}
+
 #[test]
 fn reads_commands(rt: HostRuntime) -> Result<(), Fail> {
-    for (text, want) in [
-        ("refine|depth=0", Ok(refine(0))),
-        ("refine|depth=10", Ok(refine(10))),
-        ("refine|by=table|tags=no|uv=smooth|depth=9", Ok(refine(9))),
-        (
-            "refine|decimals=18|uv=boundaries|tags=yes|depth=1|by=level",
-            Ok(Command::Refine {
-                depth: 1,
-                decimals: Some(18),
-                uv: Uv::Boundaries,
-                by: By::Level,
-                tags: Tags::Yes,
-            }),
-        ),
-        (
-            "refine|depth=2|decimals=0|uv=corners",
-            Ok(Command::Refine {
-                depth: 2,
-                decimals: Some(0),
-                uv: Uv::Corners,
-                by: By::Table,
-                tags: Tags::No,
-            }),
-        ),
-        (
-            "refine|uv=linear|by=level|depth=5",
-            Ok(Command::Refine {
-                depth: 5,
-                decimals: None,
-                uv: Uv::Linear,
-                by: By::Level,
-                tags: Tags::No,
-            }),
-        ),
-        ("stencils|depth=3", Ok(Command::Stencils { depth: 3 })),
-        ("levels|depth=10", Ok(Command::Levels { depth: 10 })),
-        (
-            "gen|seed=0|size=1|depth=0",
-            Ok(Command::Gen {
-                seed: 0,
-                size: 1,
-                depth: 0,
-            }),
-        ),
-        (
-            "gen|size=256|depth=10|seed=4294967295",
-            Ok(Command::Gen {
-                seed: 4_294_967_295,
-                size: 256,
-                depth: 10,
-            }),
-        ),
-    ] {
+    for row in commands() {
+        let &(text, want) = row;
         let words = words_of(rt.alloc(), text)?;
-        assert_eq!(rt; read_words(&words), want, "at {text:?}");
+        expect_same(&rt, &read_words(&words), &Ok(want), row);
     }
     Ok(())
 }
@@ -173,26 +178,35 @@ fn refuses_words(rt: HostRuntime) -> Result<(), Fail> {
         };
         let words = words_of(rt.alloc(), text)?;
         let want = Err(u32::from(digit.wrapping_sub(b'0')));
-        assert_eq!(rt; read_words(&words), want, "at {text:?}");
+        expect_same(&rt, &read_words(&words), &want, &text);
     }
-    assert_eq!(rt; read_words(&Vec::new(rt.alloc())), Err(0));
+    let none = Vec::new(rt.alloc());
+    expect_same(&rt, &read_words(&none), &Err(0), &"no word");
     Ok(())
+}
+
+// Words, and the command that they say or the place of the first bad one, where only one command is built.
+const BUILT: &[(&'static str, Result<Command, u32>)] = &[
+    ("refine|depth=1", Ok(refine!(1))),
+    ("refine", Err(1)),
+    ("refine|depth=0", Err(1)),
+    ("refine|depth=2", Err(1)),
+    ("refine|depth=1|depth=1", Err(2)),
+    ("refine|depth=1|uv=smooth", Err(2)),
+    ("levels|depth=1", Err(0)),
+    ("", Err(0)),
+];
+
+fn built() -> &'static [(&'static str, Result<Command, u32>)] {
+    BUILT
 }
 
 #[test]
 fn reads_what_is_built(rt: HostRuntime) -> Result<(), Fail> {
-    for (text, want) in [
-        ("refine|depth=1", Ok(refine(1))),
-        ("refine", Err(1)),
-        ("refine|depth=0", Err(1)),
-        ("refine|depth=2", Err(1)),
-        ("refine|depth=1|depth=1", Err(2)),
-        ("refine|depth=1|uv=smooth", Err(2)),
-        ("levels|depth=1", Err(0)),
-        ("", Err(0)),
-    ] {
+    for row in built() {
+        let &(text, want) = row;
         let words = words_of(rt.alloc(), text)?;
-        assert_eq!(rt; read_built_words(&words), want, "at {text:?}");
+        expect_same(&rt, &read_built_words(&words), &want, row);
     }
     Ok(())
 }

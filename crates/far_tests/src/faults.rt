@@ -1,0 +1,175 @@
+// The lines and the statuses of the faults of runs.
+
+use crate::engine::failing_sink;
+use crate::expect::expect_same;
+use far_engine::{FarFault, report, status};
+use far_io::{SureSink, WriteFailed};
+use obj_tags::ObjCause;
+use std::test::Fail;
+
+// A fault, its status and its line.
+type Fault = (FarFault, u8, &'static str);
+
+const FAULTS: &[Fault] = &[
+    (
+        FarFault::Usage { word: 0 },
+        2,
+        "far: word 0 is not understood\n",
+    ),
+    (FarFault::Read, 3, "far: reading failed\n"),
+    (
+        FarFault::Long,
+        4,
+        "far: input is longer than 268435456 bytes\n",
+    ),
+    (
+        FarFault::Obj {
+            line: 10,
+            cause: ObjCause::BadNumeral,
+        },
+        5,
+        "far: line 10: bad numeral\n",
+    ),
+    (
+        FarFault::Obj {
+            line: 1,
+            cause: ObjCause::NumberRange,
+        },
+        5,
+        "far: line 1: number out of range\n",
+    ),
+    (
+        FarFault::Obj {
+            line: 1,
+            cause: ObjCause::UnknownKeyword,
+        },
+        5,
+        "far: line 1: unknown keyword\n",
+    ),
+    (
+        FarFault::Obj {
+            line: 1,
+            cause: ObjCause::Continuation,
+        },
+        5,
+        "far: line 1: line continuation\n",
+    ),
+    (
+        FarFault::Obj {
+            line: 1,
+            cause: ObjCause::ShortLine,
+        },
+        5,
+        "far: line 1: line too short\n",
+    ),
+    (
+        FarFault::Obj {
+            line: 1,
+            cause: ObjCause::BadCorner,
+        },
+        5,
+        "far: line 1: bad face corner\n",
+    ),
+    (
+        FarFault::Obj {
+            line: 1,
+            cause: ObjCause::IndexRange,
+        },
+        5,
+        "far: line 1: index out of range\n",
+    ),
+    (
+        FarFault::Obj {
+            line: 1,
+            cause: ObjCause::BadTag,
+        },
+        5,
+        "far: line 1: bad tag\n",
+    ),
+    (
+        FarFault::Obj {
+            line: 1,
+            cause: ObjCause::TagIndex,
+        },
+        5,
+        "far: line 1: tag index out of range\n",
+    ),
+    (
+        FarFault::Obj {
+            line: u32::MAX,
+            cause: ObjCause::SharpnessRange,
+        },
+        5,
+        "far: line 4294967295: sharpness out of range\n",
+    ),
+    (
+        FarFault::NotBuilt { line: 0 },
+        12,
+        "far: line 0 is not built yet\n",
+    ),
+    (FarFault::Write, 10, "far: writing failed\n"),
+    (FarFault::Memory, 11, "far: out of memory\n"),
+];
+
+fn faults() -> &'static [Fault] {
+    FAULTS
+}
+
+#[test]
+fn names_faults_of_runs(rt: HostRuntime) -> Result<(), Fail> {
+    let alloc = rt.alloc();
+    for row in faults() {
+        let (fault, number, text) = row;
+        let mut errors = SureSink::with_room(alloc, 64)?;
+        expect_same(&rt, &report(fault, &mut errors), &Ok(()), row);
+        expect_same(&rt, &errors.bytes(), &text.as_bytes(), row);
+        expect_same(&rt, &status(fault), number, row);
+        let line = format!(in alloc; "far: {fault}\n")?;
+        expect_same(&rt, &line.as_str(), text, row);
+    }
+    Ok(())
+}
+
+// A fault, the call that fails, the answer, and what the sink holds. The last call is the flush, and the line stands whole
+// before it.
+type Report = (FarFault, u32, Result<(), WriteFailed>, &'static str);
+
+const REPORTS: &[Report] = &[
+    (FarFault::Read, 1, Err(WriteFailed), "far: "),
+    (FarFault::Read, 3, Err(WriteFailed), "far: reading failed\n"),
+    (FarFault::Read, 4, Ok(()), "far: reading failed\n"),
+    (
+        FarFault::Usage { word: 1 },
+        2,
+        Err(WriteFailed),
+        "far: word ",
+    ),
+    (
+        FarFault::Usage { word: 1 },
+        5,
+        Err(WriteFailed),
+        "far: word 1 is not understood\n",
+    ),
+    (
+        FarFault::Usage { word: 1 },
+        6,
+        Ok(()),
+        "far: word 1 is not understood\n",
+    ),
+];
+
+fn reports() -> &'static [Report] {
+    REPORTS
+}
+
+#[test]
+fn reports_what_fails(rt: HostRuntime) -> Result<(), Fail> {
+    let alloc = rt.alloc();
+    for row in reports() {
+        let &(fault, call, answer, held) = row;
+        let mut errors = failing_sink(alloc, 64, call)?;
+        expect_same(&rt, &report(&fault, &mut errors), &answer, row);
+        expect_same(&rt, &errors.bytes(), &held.as_bytes(), row);
+    }
+    Ok(())
+}
