@@ -1,8 +1,9 @@
 #!/usr/bin/env python3
 """Compares the built program with `tools/reference.py` on random OBJ texts.
 
-The texts are made of lines that are good, bad or nearly bad, and of the cube with a few changes. The same
-seed makes the same texts. A text on which the two differ is printed, and the exit status is then 1.
+The texts are made of lines that are good, bad or nearly bad, and of the cube and the refined cube with a few
+changes. The same seed makes the same texts. A text on which the two differ is printed, and the exit status is
+then 1.
 
     tools/compare_random.py --seed 1 --count 3000
 """
@@ -19,10 +20,27 @@ import reference
 
 TOP = Path(__file__).resolve().parent.parent
 WORDS = ["refine", "depth=1"]
-CUBE = (TOP / "examples" / "cube.obj").read_text().splitlines()
+CUBE = (TOP / "examples" / "cube.obj").read_bytes()
 NUMERALS = (
     ["1.", "-.5", ".", "+", "-", "nan", "0x1", "1e", "1e+", "--1", "-0", "00.10", "1e36", "1e37", "1e-37", "1e-38"]
     + ["0.0000001", "0.0000010", "9.9999999", "10.0000001", "9" * 37, "9" * 38, f"0.{1:037}", f"0.{1:038}"]
+)
+# Parts of fractions: small ones, and some at the bounds of a sharpness, of what is built, of a common denominator and
+# of a numeral. The least common multiple of two long denominators may be 10^37, just above it, or far past it.
+NUMERATORS = [0, 1, -1, 3, 7, 10, 9999999, 10000001, 20000003, -(10**18), 10**18 + 1, 10**36, 1 - 10**37]
+DENOMINATORS = (
+    [1, 2, 3, 4, 7, 12, 30, 10**6, 10**6 + 1, 2**18, 5**18, 10**9, 10**9 + 1, 10**18 - 1, 10**18, 10**18 + 1]
+    + [10**19 - 1, 10**19, 2**37, 2**38, 5**37, 10**36, 10**37 - 1]
+)
+FRACTIONS = (
+    ["1/0", "0/0", "1/000", "1//2", "/2", "1/", "/", "1/-2", "1/+2", "1.5/2", "1/2.", "1e2/3", "1/2e3", "1/2/3"]
+    + ["--1/2", "+1/2", "-1/2", "-0/5", "00/01", "2/4", "6/3", "-7/0021"]
+    + [f"{1:038}/{2:040}", f"{'0' * 40}/5", f"5/{'0' * 38}", f"{10**37 - 1}/3", f"{10**37}/10", f"10/{10**37}"]
+)
+LONG_DECIMALS = ["0.5", "1e18", "-1e35", "1e36", "1e-19", "1e-37"]
+SHARPNESSES = (
+    ["1/2", "3/2", "19/2", "10/1", "-1/2", "-0/7", "1/128", "0.0078125", "1/1000000", "1/1000001", "2/2000002"]
+    + ["9999999/1000000", "9999999/1000001", "20000003/1000001"]
 )
 INDICES = ["0", "-0", "01", "-01", "+1", "", "x", str(2**63), str(-(2**63) - 1), "9" * 23]
 OTHER_LINES = (
@@ -42,6 +60,18 @@ TAGS = {
 }
 
 
+def expected(data):
+    """The status and what is written on standard output and standard error, by the reference."""
+    try:
+        text = reference.answer([word.encode() for word in WORDS], io.BytesIO(data))
+    except reference.Refusal as refusal:
+        return refusal.status, b"", f"{refusal.line}\n".encode()
+    return 0, text.encode(), b""
+
+
+_, REFINED_CUBE, _ = expected(CUBE)
+
+
 class Texts:
     """Random texts from a seed."""
 
@@ -51,15 +81,31 @@ class Texts:
     def happens(self, chance):
         return self.random.random() < chance
 
+    def long_fraction(self):
+        return f"{self.random.choice(NUMERATORS)}/{self.random.choice(DENOMINATORS)}"
+
+    def fraction(self):
+        if self.happens(0.7):
+            return f"{self.random.randint(-20, 20)}/{self.random.randint(1, 12)}"
+        return self.long_fraction() if self.happens(0.6) else self.random.choice(FRACTIONS)
+
     def numeral(self):
-        if self.happens(0.5):
+        if self.happens(0.4):
             return str(self.random.randint(-9, 9))
+        if self.happens(0.4):
+            return self.fraction()
         if self.happens(0.4):
             return f"{self.random.randint(-5, 5)}.{self.random.randint(0, 99)}"
         if self.happens(0.5):
             exponent = self.random.choice([0, 1, 2, 17, 18, 19, 35, 36, 37, 38, 10**12, 10**25])
             return f"{self.random.randint(-99, 99)}{self.random.choice('eE')}{self.random.choice(['', '+', '-'])}{exponent}"
         return self.random.choice(NUMERALS)
+
+    def long_number(self):
+        """A numeral that is in range."""
+        if self.happens(0.6):
+            return str(self.random.randint(-9, 9))
+        return self.long_fraction() if self.happens(0.6) else self.random.choice(LONG_DECIMALS)
 
     def index(self, most):
         if self.happens(0.7):
@@ -79,7 +125,7 @@ class Texts:
             numerals = {"crease": wholes - 1, "corner": wholes}.get(name, numerals)
         counts = self.random.choice(COUNTS) if self.happens(0.05) else f"{wholes}/{max(numerals, 0)}/{strings}"
         words = [str(self.random.randint(0, 4)) if self.happens(0.85) else self.index(6) for _ in range(wholes)]
-        words += [self.numeral() for _ in range(numerals)]
+        words += [self.random.choice(SHARPNESSES) if self.happens(0.5) else self.numeral() for _ in range(numerals)]
         words += [self.random.choice(["normal", "chaikin", "x"]) for _ in range(strings)]
         if self.happens(0.06):
             words = words[:-1] if self.happens(0.5) else words + ["1"]
@@ -103,34 +149,34 @@ class Texts:
         return line + self.random.choice([""] * 20 + [" \\", "\r", "\r", " # c"])
 
     def changed_cube(self):
-        lines = list(CUBE)
+        lines = (REFINED_CUBE if self.happens(0.2) else CUBE).decode().splitlines()
         for _ in range(self.random.randint(0, 3)):
             place = self.random.randrange(len(lines))
             if self.happens(0.5):
-                lines.insert(place, self.line())
+                lines.insert(place, self.tag() if self.happens(0.3) else self.line())
             elif lines[place].startswith("v "):
                 lines[place] = "v " + " ".join(self.numeral() for _ in range(3))
             else:
                 self.random.shuffle(lines)
         return lines
 
+    def long_numbers(self):
+        """Points and texture values whose lines are good by themselves."""
+        kinds = self.random.choices(["v", "vt"], [2, 1], k=self.random.randint(1, 5))
+        return [" ".join([kind] + [self.long_number() for _ in range(3)]) for kind in kinds]
+
+    def lines(self):
+        if self.happens(0.5):
+            return self.changed_cube()
+        return self.long_numbers() if self.happens(0.2) else [self.line() for _ in range(self.random.randint(0, 9))]
+
     def text(self):
-        lines = self.changed_cube() if self.happens(0.5) else [self.line() for _ in range(self.random.randint(0, 9))]
-        data = ("\n".join(lines) + self.random.choice(["\n", "\n", ""])).encode()
+        data = ("\n".join(self.lines()) + self.random.choice(["\n", "\n", ""])).encode()
         if self.happens(0.03):
             data = b"\xef\xbb\xbf" + data
         if self.happens(0.05):
             data = data[: self.random.randrange(len(data) + 1)]
         return data
-
-
-def expected(data):
-    """The status and what is written on standard output and standard error, by the reference."""
-    try:
-        text = reference.answer([word.encode() for word in WORDS], io.BytesIO(data))
-    except reference.Refusal as refusal:
-        return refusal.status, b"", f"{refusal.line}\n".encode()
-    return 0, text.encode(), b""
 
 
 def main():

@@ -8,15 +8,20 @@ import re
 import sys
 from collections import Counter
 from dataclasses import dataclass
+from fractions import Fraction
+from math import gcd
 
 MARK = b"\xef\xbb\xbf"
-NUMERAL = re.compile(rb"[+-]?(?:(\d+)\.?(\d*)|()\.(\d+))(?:[eE]([+-]?\d+))?")
+DECIMAL = re.compile(rb"[+-]?(?:(\d+)\.?(\d*)|()\.(\d+))(?:[eE]([+-]?\d+))?")
+FRACTION = re.compile(rb"[+-]?(\d+)/(\d+)")
 INDEX = re.compile(rb"-?\d+")
 COUNTS = re.compile(rb"(\d{1,9})/(\d{1,9})/(\d{1,9})")
 UNREAD = (b"vn", b"g", b"o", b"s", b"usemtl", b"mtllib", b"l", b"p")
 DROPPED_TAGS = (b"facevaryinginterpolateboundary", b"facevaryingpropagatecorners")
 LEAST_WORDS = {b"v": 3, b"vt": 1, b"f": 1, b"t": 2}
 MOST_DIGITS = 37
+GREATEST_COMMON = 10**37
+GREATEST_SEMI_SHARP_DENOMINATOR = 10**6
 
 if hasattr(sys, "set_int_max_str_digits"):
     sys.set_int_max_str_digits(0)
@@ -33,11 +38,11 @@ class Fault(Exception):
 
 @dataclass
 class Mesh:
-    """Points are whole numbers over 10^scale, and faces count from 0. Of creases, corners and holes `tags` has the
+    """Points are whole numbers over `common`, and faces count from 0. Of creases, corners and holes `tags` has the
     names alone: their values, and those of texture, are checked and not kept."""
 
     points: list
-    scale: int
+    common: int
     faces: list
     has_texture: bool
     tags: list
@@ -59,21 +64,36 @@ def words_of(line):
 # Words
 
 
-def normal_form(word):
-    """(mantissa, decimals) of a numeral that is in range."""
-    match = NUMERAL.fullmatch(word)
-    if not match:
-        raise Fault("bad numeral")
+def decimal_amount(match):
+    """The amount of a decimal of at most 37 digits and 37 decimals in normal form."""
     whole, behind = (match[1], match[2]) if match[1] is not None else (match[3], match[4])
     digits = (whole + behind).lstrip(b"0")
     if not digits:
-        return 0, 0
+        return Fraction(0)
     kept = digits.rstrip(b"0")
     tens = int(match[5] or 0) - len(behind) + len(digits) - len(kept)
     if len(kept) + max(tens, 0) > MOST_DIGITS or -tens > MOST_DIGITS:
         raise Fault("number out of range")
-    amount = int(kept) * 10 ** max(tens, 0)
-    return (-amount if word.startswith(b"-") else amount), max(-tens, 0)
+    return int(kept) * Fraction(10) ** tens
+
+
+def fraction_amount(match):
+    """The amount of a fraction of at most 37 digits in each part."""
+    numerator, denominator = (part.lstrip(b"0") for part in match.groups())
+    if not denominator:
+        raise Fault("bad numeral")
+    if max(len(numerator), len(denominator)) > MOST_DIGITS:
+        raise Fault("number out of range")
+    return Fraction(int(numerator or b"0"), int(denominator))
+
+
+def read_numeral(word):
+    """The value of a numeral that is in range."""
+    decimal, fraction = DECIMAL.fullmatch(word), FRACTION.fullmatch(word)
+    if not decimal and not fraction:
+        raise Fault("bad numeral")
+    amount = decimal_amount(decimal) if decimal else fraction_amount(fraction)
+    return -amount if word.startswith(b"-") else amount
 
 
 def place(word, before, whole):
@@ -118,9 +138,16 @@ def check_listed(word, count):
         raise Fault("tag index out of range")
 
 
+def is_fine_enough(word, value):
+    """Whether a sharpness below 10 is written so that it is kept: a decimal has at most six decimals."""
+    if b"/" in word:
+        return value.denominator <= GREATEST_SEMI_SHARP_DENOMINATOR
+    return GREATEST_SEMI_SHARP_DENOMINATOR % value.denominator == 0
+
+
 def check_sharpness(word):
-    mantissa, decimals = normal_form(word)
-    if mantissa < 0 or (mantissa < 10 * 10**decimals and decimals > 6):
+    value = read_numeral(word)
+    if value < 0 or (value < 10 and not is_fine_enough(word, value)):
         raise Fault("sharpness out of range")
 
 
@@ -174,17 +201,26 @@ def check_line(words):
         raise Fault("line too short")
 
 
-def first_long(channel, scale):
-    """The lines with a coordinate of too many digits at the scale, least first."""
-    return [
-        line
-        for line, forms in channel
-        if any(abs(mantissa) * 10 ** (scale - decimals) >= 10**MOST_DIGITS for mantissa, decimals in forms)
-    ]
+def common_with(common, values):
+    """The least common multiple of a common denominator and the denominators of some values."""
+    for value in values:
+        common = common // gcd(common, value.denominator) * value.denominator
+    return common
 
 
-def scale_of(channel):
-    return max((decimals for _, forms in channel for _, decimals in forms), default=0)
+def late_line(channel):
+    """The line of a channel's late fault, None where it has none. A channel has its lines in order, each with its
+    number and its values. The fault stands at the line that takes the common denominator past 10^37, or else at the
+    first with a number that is too long over it."""
+    common = 1
+    for line, values in channel:
+        common = common_with(common, values)
+        if common > GREATEST_COMMON:
+            return line
+    for line, values in channel:
+        if any(abs(value) * common >= 10**MOST_DIGITS for value in values):
+            return line
+    return None
 
 
 def read_obj(data):
@@ -194,15 +230,15 @@ def read_obj(data):
     whole = Counter(words[0] for words in lines if words)
     before, textured = Counter(), []
     channels = {b"v": [], b"vt": []}
-    mesh = Mesh([], 0, [], False, [], 2, b"normal")
+    mesh = Mesh([], 1, [], False, [], 2, b"normal")
     for number, words in enumerate(lines, start=1):
         if not words:
             continue
         try:
             check_line(words)
             if words[0] in channels:
-                forms = [normal_form(word) for word in words[1:]]
-                channels[words[0]].append((number, forms[: 3 if words[0] == b"v" else 2]))
+                values = [read_numeral(word) for word in words[1:]]
+                channels[words[0]].append((number, values[: 3 if words[0] == b"v" else 2]))
             elif words[0] == b"f":
                 corners = [read_corner(word, words[1], before, whole) for word in words[1:]]
                 mesh.faces.append(tuple(vertex for vertex, _ in corners))
@@ -212,10 +248,11 @@ def read_obj(data):
         except Fault as fault:
             raise Fault(fault.cause, number) from None
         before[words[0]] += 1
-    long = [line for channel in channels.values() for line in first_long(channel, scale_of(channel))]
-    if long:
-        raise Fault("number out of range", min(long))
-    mesh.scale = scale_of(channels[b"v"])
-    mesh.points = [tuple(m * 10 ** (mesh.scale - d) for m, d in forms) for _, forms in channels[b"v"]]
+    late = [late_line(channel) for channel in channels.values()]
+    if any(late):
+        raise Fault("number out of range", min(filter(None, late)))
+    points = [values for _, values in channels[b"v"]]
+    mesh.common = common_with(1, [value for values in points for value in values])
+    mesh.points = [tuple(int(value * mesh.common) for value in values) for values in points]
     mesh.has_texture = bool(textured) and all(textured)
     return mesh

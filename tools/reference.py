@@ -18,6 +18,7 @@ from obj_reference import Fault, read_obj
 
 GREATEST_INPUT = 2**28
 GREATEST_COUNT = 1024
+GREATEST_NUMBER = 10**18
 NOT_UNDERSTOOD, TOO_LONG, BAD_LINE, NOT_BUILT = 2, 4, 5, 12
 
 
@@ -65,8 +66,8 @@ def is_built(mesh):
         and not mesh.tags
         and (mesh.mode, mesh.method) == (2, b"normal")
         and not mesh.has_texture
-        and mesh.scale <= 18
-        and all(abs(number) <= 10**18 for point in mesh.points for number in point)
+        and mesh.common <= GREATEST_NUMBER
+        and all(abs(number) <= GREATEST_NUMBER for point in mesh.points for number in point)
     )
 
 
@@ -188,7 +189,7 @@ def answer(words, source):
         raise Refusal(BAD_LINE, f"far: line {fault.line}: {fault.cause}") from None
     if not is_built(mesh) or not is_closed_manifold(len(mesh.points), mesh.faces):
         raise Refusal(NOT_BUILT, "far: line 0 is not built yet")
-    points = [tuple(Fraction(number, 10**mesh.scale) for number in point) for point in mesh.points]
+    points = [tuple(Fraction(number, mesh.common) for number in point) for point in mesh.points]
     return text_of(*refine(points, mesh.faces))
 
 
