@@ -4,6 +4,7 @@ pub mod NumeralValueLemmas
 pub mod NumeralTextLemmas
 pub mod NumeralKindLemmas
 pub mod NumeralTermsLemmas
+pub mod PlainNumeralLemmas
 pub mod RangeLemmas
 pub mod FirstFaultLemmas
 pub mod ObjLineLemmas

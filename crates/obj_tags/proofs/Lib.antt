@@ -7,6 +7,7 @@ pub mod CommonLemmas
 pub mod SurveyLemmas
 pub mod FineLemmas
 pub mod DenominatorLemmas
+pub mod PlainLemmas
 pub mod ChannelLemmas
 pub mod LateLemmas
 pub mod PointLemmas

@@ -6,6 +6,7 @@ pub mod Kept
 pub mod Face
 pub mod Counts
 pub mod Survey
+pub mod Plain
 pub mod Channel
 pub mod Mesh
 pub mod TagView

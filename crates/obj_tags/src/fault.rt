@@ -8,10 +8,11 @@ use std::fmt;
 /// Why a line is refused.
 #[derive(Clone, Copy, Debug, PartialEq, Eq)]
 pub enum ObjCause {
-    /// A word that should be a decimal numeral is none.
+    /// A word that should be a numeral, a decimal or a fraction, is none.
     BadNumeral,
-    /// A numeral passes 37 digits in its mantissa or in its decimals, in normal form, or 37 digits at
-    /// the scale of its channel.
+    /// A decimal passes 37 digits in its mantissa or in its decimals, in normal form, or a fraction in
+    /// one of its parts. Where each line by itself is good: a channel's common denominator passes
+    /// 10^37 up to this line, or a number of this line has more than 37 digits over it.
     NumberRange,
     /// The first word of a line is no keyword.
     UnknownKeyword,
@@ -27,7 +28,8 @@ pub enum ObjCause {
     BadTag,
     /// A tag names no vertex or no face.
     TagIndex,
-    /// A sharpness is below 0, or below 10 with more than six decimals.
+    /// A sharpness is below 0, or below 10 and a decimal of more than six decimals, or a fraction whose
+    /// denominator in lowest terms passes 10^6.
     SharpnessRange,
     /// A move names no control point. Moves are not built yet, and `read_obj` never answers this.
     MoveIndex,

@@ -10,6 +10,7 @@ mod fault;
 mod line;
 mod mesh;
 mod number;
+mod plain;
 mod read;
 mod survey;
 mod tag;

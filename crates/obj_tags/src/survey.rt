@@ -11,6 +11,7 @@ ghost use Rattle.obj_tags.specs.Walk.{words_left};
 
 use crate::face::Counts;
 use crate::number::{BOUND, numeral};
+use crate::plain::is_over;
 use crate::words::{first_line, is_word, next_word};
 use obj_text::{Words, words_of};
 use ratio128::lcm_within;
@@ -70,12 +71,16 @@ fn with_denominator(common: Common, number: u32, den: u128) -> Common
     }
 }
 
-// A common denominator with that of a word. A word that is refused is passed over.
+// A common denominator with that of a word. A word that is refused is passed over, and a word is not read
+// where its denominator changes nothing.
 fn with_word(common: Common, number: u32, word: &[u8]) -> Common
     requires bounded { IsBounded common }
     ensures with { result ≡ spec.with_word number common word.now }
     ensures bounded { IsBounded result }
 {
+    if common.wide.is_some() || is_over(word, common.value) {
+        return common;
+    }
     match numeral(word) {
         Ok(read) => with_denominator(common, number, read.den),
         Err(_) => common,
