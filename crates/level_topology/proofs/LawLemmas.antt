@@ -71,7 +71,7 @@ pub faces-all : (t : Topology) (v f : ℕ) → IsTopology t → v < t.level.poin
 faces-all t v f is inside = sym (list_any-IsPermutation (nat_eq f) _ _ (is.listed v inside).faces) ∙ faces-among t.level.polygons v f
 
 -- numbers that ascend are distinct
-ascend-distinct : (xs : List ℕ) → ((k : ℕ) → suc k < length xs → get_or xs k 0 < get_or xs (suc k) 0) → is_distinct xs ≡ true
+pub ascend-distinct : (xs : List ℕ) → ((k : ℕ) → suc k < length xs → get_or xs k 0 < get_or xs (suc k) 0) → is_distinct xs ≡ true
 ascend-distinct [] h = refl
 ascend-distinct (x ∷ xs) h =
     let behind = ascend-distinct xs (λ k inside. h (suc k) (omega arith)) in
@@ -128,7 +128,7 @@ edge-at polygons v k h =
     let number : edge_number polygons (get_or (edges_of_point polygons v) k (0, 0)) ≡ found.0 = ap (edge_number polygons) found.2 ∙ own-number polygons found.0 found.1 in
     rw number (record { exists = found.1; there = end-there v (edge_at polygons found.0) found.3 })
 
-edges-at : (polygons : List Polygon) (v : ℕ) → All (λ e. IsEdgeAt polygons v e) (edge_numbers_at polygons v)
+pub edges-at : (polygons : List Polygon) (v : ℕ) → All (λ e. IsEdgeAt polygons v e) (edge_numbers_at polygons v)
 edges-at polygons v k d h =
     let within : k < length (edges_of_point polygons v) = omega (arith, length-map (edges_of_point polygons v) (edge_number polygons)) in
     rw (get_or-map (edge_number polygons) (edges_of_point polygons v) k (0, 0) d within) (edge-at polygons v k within)
@@ -136,7 +136,7 @@ edges-at polygons v k d h =
 pub edges-each : (t : Topology) (v i : ℕ) → IsTopology t → v < t.level.point_count → i < length (get_or t.edges_at v []) → IsEdgeAt t.level.polygons v (get_or (get_or t.edges_at v []) i 0)
 edges-each t v i is inside h = All-permutation (λ e. IsEdgeAt t.level.polygons v e) _ _ (is.listed v inside).edges (edges-at t.level.polygons v) i 0 h
 
-numbers-at : (polygons : List Polygon) (v : ℕ) → edge_numbers_at polygons v ≡ places_from 0 (has_end v) (edges_of polygons)
+pub numbers-at : (polygons : List Polygon) (v : ℕ) → edge_numbers_at polygons v ≡ places_from 0 (has_end v) (edges_of polygons)
 numbers-at polygons v = numbers-places (edge_number polygons) (has_end v) (0, 0) 0 (edges_of polygons) (λ j inside. omega (arith, own-number polygons j inside))
 
 pub edges-once : (t : Topology) (v : ℕ) → IsTopology t → v < t.level.point_count → is_distinct (get_or t.edges_at v []) ≡ true

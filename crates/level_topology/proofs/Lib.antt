@@ -6,3 +6,15 @@ pub mod LawLemmas
 pub mod ChildTableLemmas
 pub mod ChildLemmas
 pub mod ChildMadeLemmas
+pub mod BuilderEdgeLemmas
+pub mod BuilderFaceLemmas
+pub mod FanOrderLemmas
+pub mod FanWalkLemmas
+pub mod FanEdgeLemmas
+pub mod BuilderLemmas
+pub mod BuilderPlaceLemmas
+pub mod AcrossLemmas
+pub mod TurnLemmas
+pub mod PointPlaceLemmas
+pub mod PointRowLemmas
+pub mod FinishLemmas

@@ -6,3 +6,7 @@ pub mod View
 pub mod CountedText
 pub mod Child
 pub mod ChildTables
+pub mod BuilderEdges
+pub mod Builder
+pub mod BuilderPlaces
+pub mod BuilderFan

@@ -1,6 +1,6 @@
 //! Lists of numbers, each with a list of as many items beside it, packed into three arrays.
 
-ghost use Rattle.std.specs.Prelude.{◌≡◌, ◌+◌, ◌^◌, ◌<◌, ◌≤◌, List, [], ◌∷◌, ◌++◌, length, map, get_or, IfOk, vec_len};
+ghost use Rattle.std.specs.Prelude.{◌≡◌, ◌+◌, ◌^◌, ◌<◌, ◌≤◌, List, [], ◌∷◌, ◌++◌, length, map, get_or, IfOk, OnOk, vec_len};
 ghost use Rattle.std.specs.Vec.{vec_capacity};
 ghost use Rattle.std.specs.List.{sum_by};
 ghost use Rattle.level_topology.specs.Packed.{Ascend, pieces, gaps};
@@ -139,5 +139,31 @@ impl<T: Copy> Pairs<T> {
         ensures { result.now ≡ get_or self.now.beside i [] }
     {
         piece(&self.starts, &self.beside, i)
+    }
+}
+
+impl<T: Copy> Pairs<T> {
+    // How many items there are in all lists.
+    pub(crate) fn total(&self) -> usize
+        ensures { result ≡ sum_by length self.now.lists }
+    {
+        self.items.len()
+    }
+
+    // Makes room for so many lists more, and so many items more in all.
+    pub(crate) fn make_room(&mut self, lists: u32, items: u32) -> Result<(), Memory>
+        requires few { length self.old.lists + lists < 2 ^ 32 }
+        requires short { sum_by length self.old.lists + items < 2 ^ 32 }
+        ensures lists { self.new.lists ≡ self.old.lists }
+        ensures beside { self.new.beside ≡ self.old.beside }
+        ensures list_room { OnOk result (length self.new.lists + lists ≤ self.new.list_limit) }
+        ensures item_room { OnOk result (sum_by length self.new.lists + items ≤ self.new.item_limit) }
+    {
+        self.starts.reserve(lists as usize)?;
+        self.items.reserve(items as usize)?;
+        self.beside.reserve(items as usize)?;
+        self.list_limit = self.list_limit.max((self.starts.len() - 1) as u32 + lists);
+        self.item_limit = self.item_limit.max(self.items.len() as u32 + items);
+        Ok(())
     }
 }

@@ -1,0 +1,20 @@
+use Rattle.std.proofs.Common.{subst, ◌≡◌, ◌∙◌, ◌++◌, ◌∷◌, [], true, ap, sym, arith, take, ℕ}
+use Rattle.std.proofs.lemmas.List.{take_more}
+use Rattle.subdiv_model.specs.Polygons.{has_corner, polygon_at}
+use Rattle.level_topology.proofs.AcrossLemmas.{walk-there, walk-next}
+use Rattle.level_topology.proofs.builder.LevelBuilder.walk.Goals as goal
+
+pub loop-i-preserved : goal.loop-i-preserved
+loop-i-preserved c =
+    let polygons = c.args.self.now.level.polygons in
+    record {
+      there = subst (λ (k : ℕ). has_corner c.args.v (polygon_at polygons k) ≡ true) (sym c.unwrap_or-f.ensures)
+          (walk-there polygons c.facts.ensures.simple c.facts.ensures.sides_once c.args.v c.loop-i.f c.face_after.result c.loop-i.invariant.there c.face_after.ensures);
+      follows = λ fan is count.
+          c.in_ok-push.ensures.items ∙ ap (λ xs. xs ++ c.loop-i.f ∷ []) (c.loop-i.invariant.follows fan is count)
+          ∙ ap (λ k. take c.loop-i.i fan ++ k ∷ []) (c.loop-i.invariant.next fan is count c.loop-i-test.true)
+          ∙ sym (take_more fan c.loop-i.i 0 (omega (arith, count, c.loop-i-test.true)));
+      next = λ fan is count more.
+          c.unwrap_or-f.ensures
+          ∙ walk-next polygons c.facts.ensures.simple c.facts.ensures.sides_once c.args.v c.loop-i.f c.face_after.result c.args.start fan c.loop-i.i is (omega (arith, count, more)) (c.loop-i.invariant.next fan is count c.loop-i-test.true) c.face_after.ensures;
+    }
