@@ -1,0 +1,5 @@
+pub mod TextSoFarLemmas
+pub mod NumberLemmas
+pub mod DecimalTextLemmas
+pub mod RoundingLemmas
+pub mod CallerLemmas

@@ -1,0 +1,38 @@
+-- One call after another: what they put, and what a sink has got of it.
+use Rattle.std.proofs.Common.{◌≡◌, ℕ, ◌+◌, List, [], ◌++◌, length, take, arith, Option, Result, Ok, Err, append_assoc, length-append, ap, sym, ◌∙◌, subst}
+use Rattle.std.proofs.Math.Seq.{take-append-add}
+use Rattle.std.proofs.lemmas.List.{append-nil}
+use Rattle.far_io.specs.Bytes.{Added, AddedPrefix}
+use Rattle.far_io.specs.declared.sink.WriteFailed.{WriteFailed}
+use Rattle.far_io.proofs.BytesLemmas.{Added-more}
+use Rattle.obj_out.specs.TextSoFar.{IsTextSoFar, IsPut}
+
+-- a text that is put after the text so far
+pub text-more : (start old new : Option (List ℕ)) (waited waits before text : List ℕ) → IsTextSoFar start old waited before →
+    IsTextSoFar old new waits (waited ++ text) → IsTextSoFar start new waits (before ++ text)
+text-more start old new waited waits before text p q = (
+  p.0 ++ q.0,
+  Added-more start old new p.0 q.0 p.1 q.1,
+  append_assoc p.0 q.0 waits ∙ ap (λ r. p.0 ++ r) q.2 ∙ sym (append_assoc p.0 waited text) ∙ ap (λ r. r ++ text) p.2,
+)
+
+-- a prefix of it, where the call failed
+pub prefix-more : (start old new : Option (List ℕ)) (waited before text : List ℕ) → IsTextSoFar start old waited before →
+    AddedPrefix old new (waited ++ text) → AddedPrefix start new (before ++ text)
+prefix-more start old new waited before text p q =
+    let whole : p.0 ++ (waited ++ text) ≡ before ++ text = sym (append_assoc p.0 waited text) ∙ ap (λ r. r ++ text) p.2 in
+    let front : take (length p.0 + q.0) (before ++ text) ≡ p.0 ++ take q.0 (waited ++ text) =
+    ap (λ r. take (length p.0 + q.0) r) (sym whole) ∙ take-append-add p.0 (waited ++ text) q.0 in
+    let long : length (before ++ text) ≡ length p.0 + length (waited ++ text) = ap length (sym whole) ∙ length-append p.0 (waited ++ text) in (
+      length p.0 + q.0,
+      omega (arith, long, q.1),
+      subst (λ (r : List ℕ). Added start new r) (sym front) (Added-more start old new p.0 (take q.0 (waited ++ text)) p.1 q.2),
+    )
+
+-- either of them, after a call that put nothing
+pub put-more : (old mid new : Option (List ℕ)) (waited between waits text : List ℕ) (r : Result (Unit {0}) WriteFailed) →
+    IsTextSoFar old mid between (waited ++ []) → IsPut mid between text r new waits → IsPut old waited text r new waits
+put-more old mid new waited between waits text (Ok x) p q =
+    subst (λ (before : List ℕ). IsTextSoFar old new waits (before ++ text)) (append-nil waited) (text-more old mid new between waits (waited ++ []) text p q)
+put-more old mid new waited between waits text (Err e) p q =
+    subst (λ (before : List ℕ). AddedPrefix old new (before ++ text)) (append-nil waited) (prefix-more old mid new between (waited ++ []) text p q)

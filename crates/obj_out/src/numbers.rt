@@ -1,0 +1,155 @@
+//! The texts of numbers, put behind what waits.
+
+ghost use Rattle.std.specs.Prelude.{◌≡◌, ℕ, ◌+◌, ◌*◌, ◌/◌, ◌%◌, ◌<◌, ◌≤◌, ◌^◌, ℤ, unsigned_abs, [], ◌∷◌, ◌++◌, length};
+ghost use Rattle.subdiv_model.specs.NumberText.{number_text, sign_text, ratio_text, fraction_text, last_digits, decimal_text, rounded_sign, rounded_text};
+
+use crate::rounding::{Decimal, rounded};
+use crate::waiting::Waiting;
+use itoa::Buffer;
+use ratio128::{Frac, lowest};
+
+impl Waiting {
+    // A whole number.
+    pub(crate) fn push_number(&mut self, n: u64)
+        requires room { length self.old + 40 ≤ 4096 }
+        ensures text { self.new ≡ self.old ++ number_text n }
+        ensures short { length self.new ≤ length self.old + 40 }
+    {
+        let mut buffer = Buffer::new();
+        self.push(buffer.format(n).as_bytes());
+    }
+
+    // A whole number of up to 128 bits.
+    pub(crate) fn push_wide(&mut self, n: u128)
+        requires room { length self.old + 40 ≤ 4096 }
+        ensures text { self.new ≡ self.old ++ number_text n }
+        ensures short { length self.new ≤ length self.old + 40 }
+    {
+        let mut buffer = Buffer::new();
+        self.push(buffer.format(n).as_bytes());
+    }
+
+    // The numerator, and the denominator after it where that is not 1.
+    fn push_ratio(&mut self, num: u128, den: u128)
+        requires room { length self.old + 81 ≤ 4096 }
+        ensures { self.new ≡ self.old ++ ratio_text (num, den) }
+    {
+        self.push_wide(num);
+        if den != 1 {
+            self.push(b"/");
+            self.push_wide(den);
+        }
+    }
+
+    // `-` for a number below 0.
+    fn push_sign(&mut self, num: i128)
+        requires room { length self.old + 1 ≤ 4096 }
+        ensures text { self.new ≡ self.old ++ sign_text num }
+        ensures short { length self.new ≤ length self.old + 1 }
+    {
+        if num < 0 {
+            self.push(b"-");
+        }
+    }
+
+    // A fraction in the terms that it is kept in.
+    fn push_terms(&mut self, f: &Frac)
+        requires room { length self.old + 82 ≤ 4096 }
+        ensures { self.new ≡ self.old ++ (sign_text f.now.num ++ ratio_text (unsigned_abs f.now.num, f.now.den)) }
+    {
+        self.push_sign(f.num);
+        self.push_ratio(f.num.unsigned_abs(), f.den);
+    }
+
+    // A fraction in lowest terms, whatever terms it is kept in.
+    pub(crate) fn push_frac(&mut self, f: &Frac)
+        requires room { length self.old + 82 ≤ 4096 }
+        requires positive { 0 < f.now.den }
+        requires kept { unsigned_abs f.now.num < 2 ^ 127 }
+        ensures { self.new ≡ self.old ++ fraction_text f.now.num f.now.den }
+    {
+        self.push_terms(&in_lowest_terms(f));
+    }
+
+    // A fraction rounded to so many decimals, half to even.
+    pub(crate) fn push_rounded(&mut self, f: &Frac, digits: u32)
+        requires room { length self.old + 60 ≤ 4096 }
+        requires positive { 0 < f.now.den }
+        requires kept { unsigned_abs f.now.num < 2 ^ 127 }
+        requires bounded { f.now.den < 2 ^ 126 }
+        requires few { digits ≤ 18 }
+        ensures { self.new ≡ self.old ++ rounded_text digits f.now.num f.now.den }
+    {
+        let number = rounded(f.num.unsigned_abs(), f.den, digits);
+        self.push_rounded_sign(f.num, &number, digits);
+        self.push_decimal(&number, digits);
+    }
+
+    // `-` for a number below 0 that is not rounded to 0.
+    fn push_rounded_sign(&mut self, num: i128, number: &Decimal, digits: u32)
+        requires room { length self.old + 1 ≤ 4096 }
+        ensures text { self.new ≡ self.old ++ rounded_sign num (number.now.whole * 10 ^ digits + number.now.units) }
+        ensures short { length self.new ≤ length self.old + 1 }
+    {
+        if number.whole != 0 || number.units != 0 {
+            self.push_sign(num);
+        }
+    }
+
+    // A number of so many decimals, with a point before them where there are any.
+    fn push_decimal(&mut self, number: &Decimal, digits: u32)
+        requires room { length self.old + 59 ≤ 4096 }
+        requires few { digits ≤ 18 }
+        requires units { number.now.units < 10 ^ digits }
+        ensures { self.new ≡ self.old ++ decimal_text digits (number.now.whole * 10 ^ digits + number.now.units) }
+    {
+        self.push_wide(number.whole);
+        if digits != 0 {
+            self.push(b".");
+            self.push_last_digits(number.units, digits);
+        }
+    }
+
+    // The last digits of a number, so many, the highest first.
+    fn push_last_digits(&mut self, n: u64, digits: u32)
+        requires room { length self.old + digits ≤ 4096 }
+        requires few { digits ≤ 18 }
+        ensures { self.new ≡ self.old ++ last_digits digits n }
+    {
+        let mut left = digits;
+        let mut unit = 10u64.pow(digits);
+        while left > 0 {
+            left -= 1;
+            unit /= 10;
+            let digit = digit_at(n, unit);
+            self.push_digit(digit);
+        }
+    }
+
+    // One digit.
+    fn push_digit(&mut self, digit: u64)
+        requires room { length self.old + 1 ≤ 4096 }
+        requires digit { digit < 10 }
+        ensures { self.new ≡ self.old ++ ((digit + 48) ∷ []) }
+    {
+        self.push(&[b'0' + digit as u8]);
+    }
+}
+
+// The digit of a number that counts units of this size.
+fn digit_at(n: u64, unit: u64) -> u64
+    requires { 0 < unit }
+    ensures value { result ≡ n / unit % 10 }
+    ensures digit { result < 10 }
+{
+    n / unit % 10
+}
+
+// The fraction in lowest terms.
+fn in_lowest_terms(f: &Frac) -> Frac
+    requires positive { 0 < f.now.den }
+    requires kept { unsigned_abs f.now.num < 2 ^ 127 }
+    ensures { sign_text result.num ++ ratio_text (unsigned_abs result.num, result.den) ≡ fraction_text f.now.num f.now.den }
+{
+    lowest(f.num, f.den)
+}

@@ -1,0 +1,224 @@
+ghost use Rattle.std.specs.Prelude.{◌≡◌, ℕ, ◌+◌, ◌<◌, ◌≤◌, ◌^◌, ◌⊎◌, ◌↔◌, [], ◌++◌, false, unsigned_abs, IsTrue, IsErr, OnOk, OnErr, length};
+ghost use Rattle.far_io.specs.Bytes.{Added, AddedPrefix, Rose};
+ghost use Rattle.subdiv_model.specs.NumberText.{number_text, fraction_text, rounded_text};
+ghost use Rattle.obj_out.specs.TextSoFar.{IsTextSoFar, IsPut};
+
+use crate::waiting::Waiting;
+use far_io::{Sink, WriteFailed, write_all_of};
+use ratio128::Frac;
+
+/// Text on its way to a sink, gathered in a buffer of 4,096 bytes of its own. No call takes memory.
+///
+/// The text so far is what was put, in order: what the sink has got of it since `new`, and what
+/// waits. Each call that puts a text appends it to the text so far.
+///
+/// `WriteFailed` is answered only where the sink's count of faults rose. The sink then holds what it
+/// held at `new` and a prefix of the text so far, and every later call answers `WriteFailed` and
+/// leaves the sink alone.
+#[derive(Drop)]
+pub struct Out<'a, K: Sink> {
+    sink: &'a mut K,
+    waiting: Waiting,
+    failed: bool,
+}
+
+impl<'a, K: Sink> Out<'a, K> {
+    /// A text of no bytes so far. It writes nothing.
+    pub fn new(sink: &'a mut K) -> Out<'a, K>
+        ensures same_reference { result.sink.ghost_name ≡ sink.entry.ghost_name }
+        ensures sink { result.sink.now ≡ sink.entry.now }
+        ensures empty { result.waiting ≡ [] }
+        ensures failed { result.failed ≡ false }
+    {
+        Out {
+            sink,
+            waiting: Waiting::new(),
+            failed: false,
+        }
+    }
+
+    /// Puts these bytes.
+    pub fn put_bytes(&mut self, text: &[u8]) -> Result<(), WriteFailed>
+        ensures same_reference { self.new.sink.ghost_name ≡ self.old.sink.ghost_name }
+        ensures put { IsPut (K.held self.old.sink.now) self.old.waiting text.now result (K.held self.new.sink.now) self.new.waiting }
+        ensures failed { IsErr result ↔ IsTrue self.new.failed }
+        ensures cause { OnErr result (IsTrue self.old.failed ⊎ Rose (K.faults self.old.sink.now) (K.faults self.new.sink.now)) }
+        ensures stuck { IsTrue self.old.failed → IsErr result × (self.new.sink.now ≡ self.old.sink.now) }
+        ensures later { K.faults self.old.sink.now ≤ K.faults self.new.sink.now }
+        ensures fixed { K.fixed self.new.sink.now ≡ K.fixed self.old.sink.now }
+    {
+        if self.failed {
+            return Err(WriteFailed);
+        }
+        if text.len() <= self.waiting.room() {
+            self.waiting.push(text);
+            return Ok(());
+        }
+        self.hand_on()?;
+        self.put_first(text)
+    }
+
+    /// Puts a whole number in decimal digits.
+    pub fn put_number(&mut self, n: u64) -> Result<(), WriteFailed>
+        ensures same_reference { self.new.sink.ghost_name ≡ self.old.sink.ghost_name }
+        ensures put { IsPut (K.held self.old.sink.now) self.old.waiting (number_text n) result (K.held self.new.sink.now) self.new.waiting }
+        ensures failed { IsErr result ↔ IsTrue self.new.failed }
+        ensures cause { OnErr result (IsTrue self.old.failed ⊎ Rose (K.faults self.old.sink.now) (K.faults self.new.sink.now)) }
+        ensures stuck { IsTrue self.old.failed → IsErr result × (self.new.sink.now ≡ self.old.sink.now) }
+        ensures later { K.faults self.old.sink.now ≤ K.faults self.new.sink.now }
+        ensures fixed { K.fixed self.new.sink.now ≡ K.fixed self.old.sink.now }
+    {
+        self.make_room()?;
+        self.waiting.push_number(n);
+        Ok(())
+    }
+
+    /// Puts a whole number of up to 128 bits in decimal digits.
+    pub fn put_wide(&mut self, n: u128) -> Result<(), WriteFailed>
+        ensures same_reference { self.new.sink.ghost_name ≡ self.old.sink.ghost_name }
+        ensures put { IsPut (K.held self.old.sink.now) self.old.waiting (number_text n) result (K.held self.new.sink.now) self.new.waiting }
+        ensures failed { IsErr result ↔ IsTrue self.new.failed }
+        ensures cause { OnErr result (IsTrue self.old.failed ⊎ Rose (K.faults self.old.sink.now) (K.faults self.new.sink.now)) }
+        ensures stuck { IsTrue self.old.failed → IsErr result × (self.new.sink.now ≡ self.old.sink.now) }
+        ensures later { K.faults self.old.sink.now ≤ K.faults self.new.sink.now }
+        ensures fixed { K.fixed self.new.sink.now ≡ K.fixed self.old.sink.now }
+    {
+        self.make_room()?;
+        self.waiting.push_wide(n);
+        Ok(())
+    }
+
+    /// Puts a fraction in lowest terms, whatever terms it is kept in: `n/d`, or `n` where d is 1,
+    /// with `-` before it where it is below 0.
+    ///
+    /// The denominator is at least 1, and the numerator is not the least `i128`.
+    pub fn put_frac(&mut self, f: &Frac) -> Result<(), WriteFailed>
+        requires positive { 0 < f.now.den }
+        requires kept { unsigned_abs f.now.num < 2 ^ 127 }
+        ensures same_reference { self.new.sink.ghost_name ≡ self.old.sink.ghost_name }
+        ensures put { IsPut (K.held self.old.sink.now) self.old.waiting (fraction_text f.now.num f.now.den) result (K.held self.new.sink.now) self.new.waiting }
+        ensures failed { IsErr result ↔ IsTrue self.new.failed }
+        ensures cause { OnErr result (IsTrue self.old.failed ⊎ Rose (K.faults self.old.sink.now) (K.faults self.new.sink.now)) }
+        ensures stuck { IsTrue self.old.failed → IsErr result × (self.new.sink.now ≡ self.old.sink.now) }
+        ensures later { K.faults self.old.sink.now ≤ K.faults self.new.sink.now }
+        ensures fixed { K.fixed self.new.sink.now ≡ K.fixed self.old.sink.now }
+    {
+        self.make_room()?;
+        self.waiting.push_frac(f);
+        Ok(())
+    }
+
+    /// Puts a fraction rounded to so many decimals, half to even. Where `digits` is 0 there is no
+    /// point, and what is rounded to 0 has no sign.
+    ///
+    /// There are at most 18 digits, the denominator is at least 1 and below 2^126, and the numerator
+    /// is not the least `i128`.
+    pub fn put_decimal(&mut self, f: &Frac, digits: u32) -> Result<(), WriteFailed>
+        requires few { digits ≤ 18 }
+        requires positive { 0 < f.now.den }
+        requires bounded { f.now.den < 2 ^ 126 }
+        requires kept { unsigned_abs f.now.num < 2 ^ 127 }
+        ensures same_reference { self.new.sink.ghost_name ≡ self.old.sink.ghost_name }
+        ensures put { IsPut (K.held self.old.sink.now) self.old.waiting (rounded_text digits f.now.num f.now.den) result (K.held self.new.sink.now) self.new.waiting }
+        ensures failed { IsErr result ↔ IsTrue self.new.failed }
+        ensures cause { OnErr result (IsTrue self.old.failed ⊎ Rose (K.faults self.old.sink.now) (K.faults self.new.sink.now)) }
+        ensures stuck { IsTrue self.old.failed → IsErr result × (self.new.sink.now ≡ self.old.sink.now) }
+        ensures later { K.faults self.old.sink.now ≤ K.faults self.new.sink.now }
+        ensures fixed { K.fixed self.new.sink.now ≡ K.fixed self.old.sink.now }
+    {
+        self.make_room()?;
+        self.waiting.push_rounded(f, digits);
+        Ok(())
+    }
+
+    /// Hands on what waits, and flushes the sink. The sink then holds what it held at `new` and the
+    /// whole text.
+    ///
+    /// `WriteFailed` is answered where a call before failed, and where the rest or the flush fails.
+    pub fn end(self) -> Result<(), WriteFailed>
+        ensures whole { OnOk result (Added (K.held self.entry.sink.now) (K.held self.exit.0.now) self.entry.waiting) }
+        ensures prefix { OnErr result (AddedPrefix (K.held self.entry.sink.now) (K.held self.exit.0.now) self.entry.waiting) }
+        ensures cause { OnErr result (IsTrue self.entry.failed ⊎ Rose (K.faults self.entry.sink.now) (K.faults self.exit.0.now)) }
+        ensures stuck { IsTrue self.entry.failed → IsErr result × (self.exit.0.now ≡ self.entry.sink.now) }
+        ensures later { K.faults self.entry.sink.now ≤ K.faults self.exit.0.now }
+        ensures fixed { K.fixed self.exit.0.now ≡ K.fixed self.entry.sink.now }
+    {
+        let Out {
+            sink,
+            waiting,
+            failed,
+        } = self;
+        if failed {
+            return Err(WriteFailed);
+        }
+        write_all_of(sink, waiting.as_slice())?;
+        sink.flush()
+    }
+
+    // Room for the text of one number.
+    fn make_room(&mut self) -> Result<(), WriteFailed>
+        ensures same_reference { self.new.sink.ghost_name ≡ self.old.sink.ghost_name }
+        ensures put { IsPut (K.held self.old.sink.now) self.old.waiting [] result (K.held self.new.sink.now) self.new.waiting }
+        ensures room { OnOk result (length self.new.waiting + 128 ≤ 4096) }
+        ensures failed { IsErr result ↔ IsTrue self.new.failed }
+        ensures cause { OnErr result (IsTrue self.old.failed ⊎ Rose (K.faults self.old.sink.now) (K.faults self.new.sink.now)) }
+        ensures stuck { IsTrue self.old.failed → IsErr result × (self.new.sink.now ≡ self.old.sink.now) }
+        ensures later { K.faults self.old.sink.now ≤ K.faults self.new.sink.now }
+        ensures fixed { K.fixed self.new.sink.now ≡ K.fixed self.old.sink.now }
+    {
+        if self.failed {
+            return Err(WriteFailed);
+        }
+        if self.waiting.room() >= 128 {
+            return Ok(());
+        }
+        self.hand_on()
+    }
+
+    // Hands on what waits.
+    fn hand_on(&mut self) -> Result<(), WriteFailed>
+        requires { self.old.failed ≡ false }
+        ensures same_reference { self.new.sink.ghost_name ≡ self.old.sink.ghost_name }
+        ensures put { IsPut (K.held self.old.sink.now) self.old.waiting [] result (K.held self.new.sink.now) self.new.waiting }
+        ensures empty { OnOk result (self.new.waiting ≡ []) }
+        ensures failed { IsErr result ↔ IsTrue self.new.failed }
+        ensures cause { OnErr result (Rose (K.faults self.old.sink.now) (K.faults self.new.sink.now)) }
+        ensures later { K.faults self.old.sink.now ≤ K.faults self.new.sink.now }
+        ensures fixed { K.fixed self.new.sink.now ≡ K.fixed self.old.sink.now }
+    {
+        match write_all_of(self.sink, self.waiting.as_slice()) {
+            Ok(()) => {
+                self.waiting.clear();
+                Ok(())
+            }
+            Err(WriteFailed) => {
+                self.failed = true;
+                Err(WriteFailed)
+            }
+        }
+    }
+
+    // Puts a text where nothing waits. One that is longer than the buffer goes straight to the sink.
+    fn put_first(&mut self, text: &[u8]) -> Result<(), WriteFailed>
+        requires fine { self.old.failed ≡ false }
+        requires empty { self.old.waiting ≡ [] }
+        ensures same_reference { self.new.sink.ghost_name ≡ self.old.sink.ghost_name }
+        ensures put { IsPut (K.held self.old.sink.now) self.old.waiting text.now result (K.held self.new.sink.now) self.new.waiting }
+        ensures failed { IsErr result ↔ IsTrue self.new.failed }
+        ensures cause { OnErr result (Rose (K.faults self.old.sink.now) (K.faults self.new.sink.now)) }
+        ensures later { K.faults self.old.sink.now ≤ K.faults self.new.sink.now }
+        ensures fixed { K.fixed self.new.sink.now ≡ K.fixed self.old.sink.now }
+    {
+        if text.len() <= self.waiting.room() {
+            self.waiting.push(text);
+            return Ok(());
+        }
+        match write_all_of(self.sink, text) {
+            Ok(()) => Ok(()),
+            Err(WriteFailed) => {
+                self.failed = true;
+                Err(WriteFailed)
+            }
+        }
+    }
+}

@@ -1,0 +1,142 @@
+ghost use Rattle.std.specs.Prelude.{◌≡◌, ℕ, ◌+◌, ◌*◌, ◌%◌, ◌<◌, ◌≤◌, ◌^◌};
+ghost use Rattle.subdiv_model.specs.NumberText.{goes_up, half_to_even};
+
+// A number of so many decimals: its whole part, and units of the last decimal.
+#[derive(Drop)]
+pub(crate) struct Decimal {
+    pub(crate) whole: u128,
+    pub(crate) units: u64,
+}
+
+// A quotient, and what is left of the dividend.
+#[derive(Drop)]
+struct Division {
+    quotient: u64,
+    rest: u128,
+}
+
+// The amount over the denominator, rounded to so many decimals: to the nearest, and half to even.
+pub(crate) fn rounded(amount: u128, den: u128, digits: u32) -> Decimal
+    requires kept { amount < 2 ^ 127 }
+    requires positive { 0 < den }
+    requires bounded { den < 2 ^ 126 }
+    requires few { digits ≤ 18 }
+    ensures value { result.whole * 10 ^ digits + result.units ≡ half_to_even (amount * 10 ^ digits) den }
+    ensures units { result.units < 10 ^ digits }
+{
+    let whole = amount / den;
+    let cut = decimals_of(amount % den, den, digits);
+    let last = last_place(whole, cut.quotient, digits);
+    let up = rounds_up(last, cut.rest, den);
+    if up {
+        unit_more(whole, cut.quotient, digits)
+    } else {
+        Decimal {
+            whole,
+            units: cut.quotient,
+        }
+    }
+}
+
+// The decimals, or the whole part where there are none: it is odd where the number in units of the
+// last place is.
+fn last_place(whole: u128, units: u64, digits: u32) -> u128
+    requires { units < 10 ^ digits }
+    ensures { result % 2 ≡ (whole * 10 ^ digits + units) % 2 }
+{
+    if digits == 0 { whole } else { units as u128 }
+}
+
+// One unit of the last decimal more.
+fn unit_more(whole: u128, units: u64, digits: u32) -> Decimal
+    requires kept { whole < 2 ^ 127 }
+    requires few { digits ≤ 18 }
+    requires units { units < 10 ^ digits }
+    ensures value { result.whole * 10 ^ digits + result.units ≡ whole * 10 ^ digits + units + 1 }
+    ensures units { result.units < 10 ^ digits }
+{
+    if units + 1 == 10u64.pow(digits) {
+        Decimal {
+            whole: whole + 1,
+            units: 0,
+        }
+    } else {
+        Decimal {
+            whole,
+            units: units + 1,
+        }
+    }
+}
+
+// Whether a quotient with this remainder goes up: above half, or at half where its last digit is odd.
+fn rounds_up(last: u128, rest: u128, den: u128) -> bool
+    requires bounded { den < 2 ^ 126 }
+    requires below { rest < den }
+    ensures { result ≡ goes_up last rest den }
+{
+    den < 2 * rest || (den == 2 * rest && last % 2 == 1)
+}
+
+// So many decimals of a fraction below 1, and what is left after them.
+fn decimals_of(rest: u128, den: u128, digits: u32) -> Division
+    requires bounded { den < 2 ^ 126 }
+    requires below { rest < den }
+    requires few { digits ≤ 18 }
+    ensures whole { result.quotient * den + result.rest ≡ rest * 10 ^ digits }
+    ensures below { result.rest < den }
+    ensures units { result.quotient < 10 ^ digits }
+{
+    let mut units = 0u64;
+    let mut left = rest;
+    for _ in 0..digits {
+        let next = next_digit(left, den);
+        units = units * 10 + next.quotient;
+        left = next.rest;
+    }
+    Division {
+        quotient: units,
+        rest: left,
+    }
+}
+
+// One decimal of a fraction below 1. Ten times the remainder may pass 128 bits, so it is doubled,
+// divided, and taken five times: as twice the double and once more.
+fn next_digit(rest: u128, den: u128) -> Division
+    requires bounded { den < 2 ^ 126 }
+    requires below { rest < den }
+    ensures whole { result.quotient * den + result.rest ≡ rest * 10 }
+    ensures below { result.rest < den }
+    ensures digit { result.quotient ≤ 9 }
+{
+    let double = divided_once(2 * rest, den);
+    let twice = divided_once(2 * double.rest, den);
+    let four_times = divided_once(2 * twice.rest, den);
+    let five_times = divided_once(four_times.rest + double.rest, den);
+    Division {
+        quotient: 5 * double.quotient
+            + 2 * twice.quotient
+            + four_times.quotient
+            + five_times.quotient,
+        rest: five_times.rest,
+    }
+}
+
+// Divides a number below twice the denominator.
+fn divided_once(number: u128, den: u128) -> Division
+    requires { number < 2 * den }
+    ensures whole { result.quotient * den + result.rest ≡ number }
+    ensures below { result.rest < den }
+    ensures once { result.quotient ≤ 1 }
+{
+    if number < den {
+        Division {
+            quotient: 0,
+            rest: number,
+        }
+    } else {
+        Division {
+            quotient: 1,
+            rest: number - den,
+        }
+    }
+}

@@ -1,0 +1,66 @@
+ghost use Rattle.std.specs.Prelude.{◌≡◌, ℕ, ◌+◌, ◌≤◌, [], ◌++◌, length, take};
+
+use std::marker::Model;
+
+// Up to 4,096 bytes of a text, which wait to be handed on.
+#[derive(Drop)]
+pub(crate) struct Waiting {
+    bytes: [u8; 4096],
+    len: usize,
+}
+
+impl Model for Waiting {
+    ghost use Rattle.std.specs.Prelude.{ℕ, ◌≤◌, List, take};
+
+    ghost Value = { List ℕ };
+
+    ghost view = { λ w. take w.len w.bytes };
+
+    ghost invariant = { λ w. w.len ≤ 4096 };
+}
+
+impl Waiting {
+    pub(crate) fn new() -> Waiting
+        ensures { result ≡ [] }
+    {
+        Waiting {
+            bytes: [0; 4096],
+            len: 0,
+        }
+    }
+
+    // How many more bytes fit.
+    pub(crate) fn room(&self) -> usize
+        ensures { result + length self.now ≡ 4096 }
+    {
+        4096 - self.len
+    }
+
+    pub(crate) fn as_slice(&self) -> &[u8]
+        ensures { result.now ≡ self.now }
+    {
+        &self.bytes[..self.len]
+    }
+
+    pub(crate) fn clear(&mut self)
+        ensures { self.new ≡ [] }
+    {
+        self.len = 0;
+    }
+
+    pub(crate) fn push(&mut self, text: &[u8])
+        requires { length self.old + length text.now ≤ 4096 }
+        ensures { self.new ≡ self.old ++ text.now }
+    {
+        copy_behind(&mut self.bytes, self.len, text);
+        self.len += text.len();
+    }
+}
+
+// Copies the text behind so many bytes of a buffer.
+fn copy_behind(buffer: &mut [u8], at: usize, text: &[u8])
+    requires { at + length text.now ≤ length buffer.old }
+    ensures { take (at + length text.now) buffer.new ≡ take at buffer.old ++ text.now }
+{
+    buffer[at..at + text.len()].copy_from_slice(text);
+}
