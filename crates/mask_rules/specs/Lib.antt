@@ -1,0 +1,4 @@
+pub mod View
+pub mod Masks
+pub mod Spread
+pub mod Around

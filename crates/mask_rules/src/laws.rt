@@ -1,0 +1,28 @@
+//! Laws of equal masks, each for all masks.
+
+ghost use Rattle.std.specs.Prelude.{◌≡◌, ◌*◌, ℕ, IsTrue};
+ghost use Rattle.std.specs.List.{sum_by};
+ghost use Rattle.subdiv_model.specs.Level.{Level};
+ghost use Rattle.subdiv_model.specs.Mask.{Mask, Scheme, SourcePoint, face_mask, edge_mask, vertex_mask};
+ghost use Rattle.subdiv_model.specs.Value.{Value};
+ghost use Rattle.subdiv_model.specs.Refined.{mask_value, mask_denominator};
+ghost use Rattle.sharpness_laws.specs.SameWeights.{is_joined};
+ghost use Rattle.mask_rules.specs.Masks.{IsMask};
+
+/// A mask and the one of the definitions that it is have one sum over all numbers of their sources, and, where the defined
+/// one is joined, one value over all values and one denominator.
+pub fn equal_masks_have_equal_sums()
+    ensures numbers { (mask defined : Mask) (number : SourcePoint → ℕ) → IsMask mask defined
+        → sum_by (λ t. t.weight * number t.source) mask.terms ≡ sum_by (λ t. t.weight * number t.source) defined.terms }
+    ensures values { (mask defined : Mask) (value : SourcePoint → Value) → IsMask mask defined → IsTrue (is_joined defined)
+        → mask_value value mask ≡ mask_value value defined }
+    ensures denominators { (mask defined : Mask) (denominator : SourcePoint → ℕ) → IsMask mask defined → IsTrue (is_joined defined)
+        → mask_denominator denominator mask ≡ mask_denominator denominator defined }
+{}
+
+/// Each mask of a level is joined: it lists each of its sources once, with a weight above 0.
+pub fn masks_of_levels_are_joined()
+    ensures face { (level : Level) (f : ℕ) → IsTrue (is_joined (face_mask level f)) }
+    ensures edge { (level : Level) (scheme : Scheme) (edge : ℕ × ℕ) → IsTrue (is_joined (edge_mask level scheme edge)) }
+    ensures vertex { (level : Level) (scheme : Scheme) (v : ℕ) → IsTrue (is_joined (vertex_mask level scheme v)) }
+{}

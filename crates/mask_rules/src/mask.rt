@@ -1,0 +1,55 @@
+//! What a mask is made of.
+
+use std::fmt;
+
+/// How a level is refined.
+#[derive(Clone, Copy, Debug, PartialEq, Eq)]
+pub enum Scheme {
+    /// Edges and vertices by their sharpness.
+    CatmullClark,
+    /// A vertex stays, and an edge has its middle point.
+    Linear,
+}
+
+/// Where a term is taken: at a point of the level, or at the new point of one of its faces, each by its number.
+#[derive(Clone, Copy, Debug, PartialEq, Eq)]
+pub enum At {
+    Point(u32),
+    FacePoint(u32),
+}
+
+/// A place and its whole weight.
+#[derive(Clone, Copy, Debug, PartialEq, Eq)]
+pub struct Term {
+    pub at: At,
+    pub weight: u128,
+}
+
+/// Why a vertex has no mask.
+#[derive(Clone, Copy, Debug, PartialEq, Eq)]
+pub enum MaskFault {
+    /// The weight between the masks of two levels has a denominator above 2^60.
+    Transition,
+    /// There is no memory for a long mask.
+    Memory,
+}
+
+impl fmt::Display for MaskFault {
+    fn fmt<W: fmt::Write>(&self, f: &mut fmt::Formatter<W>) -> fmt::Result {
+        match self {
+            MaskFault::Transition => write!(f, "a denominator passes 2^60"),
+            MaskFault::Memory => write!(f, "out of memory"),
+        }
+    }
+}
+
+impl std::error::Error for MaskFault {}
+
+impl Default for Term {
+    fn default() -> Term {
+        Term {
+            at: At::Point(0),
+            weight: 0,
+        }
+    }
+}

@@ -1,0 +1,161 @@
+//! The mask of a vertex by its rules in its level and in the next.
+
+ghost use Rattle.std.specs.Prelude.{◌≡◌, ◌+◌, ◌<◌, ◌≤◌, ◌^◌, true, false, IsTrue, [], length, map, get_or, IfOk, MatchResult};
+ghost use Rattle.subdiv_model.specs.Sharpness.{Chaikin, chaikin_overflows};
+ghost use Rattle.subdiv_model.specs.Rule.{child_ring};
+ghost use Rattle.subdiv_model.specs.Mask.{CatmullClark, mask_of_rule, transition_mask, vertex_mask};
+ghost use Rattle.subdiv_model.specs.Channel.{chaikin_overflows_at, transition_overflows_at};
+ghost use Rattle.sharpness_rules.specs.View.{sharpness_of, rule_of};
+ghost use Rattle.mask_rules.specs.View.{scheme_of, seen_vertex};
+ghost use Rattle.mask_rules.specs.Spread.{IsRuleAmong};
+ghost use Rattle.mask_rules.specs.Masks.{IsMask, IsJoinedAs};
+ghost use Rattle.mask_rules.specs.Around.{ends_in, faces_in, ring_in, mask_in, is_refused_in, IsFaultWhere, HasSharpBoundaryAt};
+
+use crate::mask::{MaskFault, Scheme};
+use crate::ring::{is_same_mask, put_child_ring, put_ring};
+use crate::vertex::{VertexMask, one_rule, two_rules, valence};
+use level_topology::Level;
+use ratio128::Memory;
+use sharpness_rules::{Rule, Sharpness, Weight, transition_weight, uniform_child, vertex_rule};
+use std::alloc::Global;
+
+// Rings of at most so many edges take no memory.
+const FEW: usize = 16;
+
+// Part of the mask of one rule, and the rest of that of another; the first alone at weight 1.
+fn weighed(
+    alloc: Global,
+    level: &Level,
+    v: u32,
+    parent: Rule,
+    child: Rule,
+    weight: Weight,
+) -> Result<VertexMask, Memory>
+    requires known { v < level.now.level.point_count }
+    requires parent { IsRuleAmong (rule_of parent) (length (ends_in level.now v)) }
+    requires child { IsRuleAmong (rule_of child) (length (ends_in level.now v)) }
+    requires part { weight.num ≤ weight.den }
+    requires short { weight.den ≤ 2 ^ 60 }
+    ensures { IfOk result (λ m. IsJoinedAs (seen_vertex m) (transition_mask (weight.num, weight.den)
+        (mask_of_rule v (ends_in level.now v) (faces_in level.now v) (rule_of parent))
+        (mask_of_rule v (ends_in level.now v) (faces_in level.now v) (rule_of child)))) }
+{
+    if weight.num == weight.den {
+        one_rule(alloc, level, v, parent)
+    } else {
+        two_rules(alloc, level, v, parent, child, weight)
+    }
+}
+
+fn or_fault(made: Result<VertexMask, Memory>) -> Result<VertexMask, MaskFault>
+    ensures { MatchResult made (λ m. result ≡ Ok m) (λ _. result ≡ Err MaskFault.Memory) }
+{
+    match made {
+        Ok(mask) => Ok(mask),
+        Err(_) => Err(MaskFault::Memory),
+    }
+}
+
+// The mask between the rules of two rings of the same edges.
+fn between(
+    alloc: Global,
+    level: &Level,
+    v: u32,
+    ring: &[Sharpness],
+    next: &[Sharpness],
+) -> Result<VertexMask, MaskFault>
+    requires known { v < level.now.level.point_count }
+    requires short { length ring.now < 2 ^ 32 }
+    requires ring { map sharpness_of ring.now ≡ ring_in level.now v }
+    requires next { map sharpness_of next.now ≡ child_ring level.now.level.method (ring_in level.now v) }
+    ensures { MatchResult result (λ m. IsJoinedAs (seen_vertex m) (mask_in level.now v) × (is_refused_in level.now v ≡ false))
+        (IsFaultWhere (is_refused_in level.now v)) }
+{
+    let vertex = level.vertex_sharpness(v);
+    let vertex_child = uniform_child(vertex);
+    let parent = vertex_rule(vertex, ring);
+    let child = vertex_rule(vertex_child, next);
+    if is_same_mask(parent, child) {
+        return or_fault(one_rule(alloc, level, v, parent));
+    }
+    match transition_weight(vertex, vertex_child, ring, next) {
+        Ok(weight) => or_fault(weighed(alloc, level, v, parent, child, weight)),
+        Err(_) => Err(MaskFault::Transition),
+    }
+}
+
+// The same, where both rings are written first.
+fn from_rings(
+    alloc: Global,
+    level: &Level,
+    v: u32,
+    ring: &mut [Sharpness],
+    next: &mut [Sharpness],
+) -> Result<VertexMask, MaskFault>
+    requires known { v < level.now.level.point_count }
+    requires room { length ring.old ≡ length (ring_in level.now v) }
+    requires beside { length next.old ≡ length (ring_in level.now v) }
+    requires short { length ring.old < 2 ^ 32 }
+    requires fine { level.now.level.method ≡ Chaikin → chaikin_overflows (ring_in level.now v) ≡ false }
+    ensures { MatchResult result (λ m. IsJoinedAs (seen_vertex m) (mask_in level.now v) × (is_refused_in level.now v ≡ false))
+        (IsFaultWhere (is_refused_in level.now v)) }
+{
+    put_ring(level, v, ring);
+    put_child_ring(level.method(), ring, next);
+    between(alloc, level, v, ring, next)
+}
+
+// The mask by Catmull and Clark's scheme, in the order of the level's lists.
+fn by_rules(alloc: Global, level: &Level, v: u32) -> Result<VertexMask, MaskFault>
+    requires known { v < level.now.level.point_count }
+    requires fine { level.now.level.method ≡ Chaikin → chaikin_overflows (ring_in level.now v) ≡ false }
+    ensures { MatchResult result (λ m. IsJoinedAs (seen_vertex m) (mask_in level.now v) × (is_refused_in level.now v ≡ false))
+        (IsFaultWhere (is_refused_in level.now v)) }
+{
+    let count = valence(level, v) as usize;
+    if count <= FEW {
+        let mut ring = [Sharpness::Smooth; FEW];
+        let mut next = [Sharpness::Smooth; FEW];
+        return from_rings(alloc, level, v, &mut ring[..count], &mut next[..count]);
+    }
+    let Ok(mut ring) = rings(alloc, count) else {
+        return Err(MaskFault::Memory);
+    };
+    let (ring, next) = ring.split_at_mut(count);
+    from_rings(alloc, level, v, ring, next)
+}
+
+// Room for two rings.
+fn rings(alloc: Global, count: usize) -> Result<Vec<Sharpness>, Memory>
+    requires { count < 2 ^ 32 }
+    ensures { IfOk result (λ rings. length rings.items ≡ count + count) }
+{
+    let rings = vec![in alloc; Sharpness::Smooth; count + count]?;
+    Ok(rings)
+}
+
+/// The mask of a vertex whose lists are complete. Under Catmull and Clark's scheme each edge of one face there is infinitely
+/// sharp, and under the method chaikin no half of an edge there is refused. Up to 16 edges and 16 terms take no memory.
+///
+/// `Transition` comes exactly where the scheme is Catmull and Clark's, the rules in this level and in the next name two
+/// masks, and the denominator of the weight between them, before it is reduced, passes 2^60; `Memory` where there is none.
+pub fn vertex_mask(
+    alloc: Global,
+    level: &Level,
+    v: u32,
+    scheme: Scheme,
+) -> Result<VertexMask, MaskFault>
+    requires known { v < level.now.level.point_count }
+    requires complete { get_or level.now.complete v false ≡ true }
+    requires boundary { scheme_of scheme ≡ CatmullClark → HasSharpBoundaryAt level.now.level v }
+    requires fine { scheme_of scheme ≡ CatmullClark → chaikin_overflows_at level.now.level v ≡ false }
+    ensures { MatchResult result
+        (λ m. IsMask (seen_vertex m) (vertex_mask level.now.level (scheme_of scheme) v) × (transition_overflows_at level.now.level (scheme_of scheme) v ≡ false))
+        (IsFaultWhere (transition_overflows_at level.now.level (scheme_of scheme) v)) }
+{
+    level.facts();
+    match scheme {
+        Scheme::CatmullClark => by_rules(alloc, level, v),
+        Scheme::Linear => or_fault(one_rule(alloc, level, v, Rule::Corner)),
+    }
+}
