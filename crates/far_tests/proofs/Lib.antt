@@ -1,2 +1,4 @@
-mod SureLemmas
+pub mod ClosedLemmas
+mod KeptLemmas
 mod QuarterLemmas
+mod SureLemmas

@@ -1,6 +1,6 @@
 -- The tables of the square, of its quarters and of one quarter are those of levels, and two of them are children.
-use Rattle.std.proofs.Common.{◌≡◌, ◌≢◌, ℕ, zero, suc, ◌+◌, ◌<◌, ◌≤◌, ◌^◌, Bool, true, false, List, [], ◌∷◌, length, get_or, map, arith, refl, ap, sym, ◌∙◌, subst, inl, inr}
-use Rattle.std.specs.List.{All, AllPairs, IsDistinct}
+use Rattle.std.proofs.Common.{◌≡◌, ℕ, zero, suc, ◌+◌, ◌<◌, ◌≤◌, ◌^◌, List, [], ◌∷◌, length, get_or, map, arith, refl, ap, sym, ◌∙◌, inl, inr}
+use Rattle.std.specs.List.{All, IsDistinct}
 use Rattle.std.specs.Bool.{Decides}
 use Rattle.std.specs.List.Sorted.{IsPermutation}
 use Rattle.std.proofs.lemmas.List.Sorted.{IsPermutation-refl}
@@ -8,8 +8,8 @@ use Rattle.std.proofs.lemmas.Map.Made.{AllPairs-from_IsDistinct}
 use Rattle.subdiv_model.specs.Polygons.{Polygon}
 use Rattle.subdiv_model.specs.Edges.{edges_of}
 use Rattle.subdiv_model.specs.Manifold.{IsSuccessor}
-use Rattle.level_topology.specs.Topology.{Topology, IsListedAt, IsSmallEnough, IsFan, edge_before, edge_after, corner_of, end_of}
-use Rattle.level_topology.specs.Rows.{Rows, topology_of, AreOfLevel}
+use Rattle.level_topology.specs.Topology.{IsListedAt, IsFan, edge_before, edge_after, corner_of, end_of}
+use Rattle.level_topology.specs.Rows.{topology_of, AreOfLevel}
 use Rattle.level_topology.specs.Child.{PointOrigin, same_origin, same_place, IsOriginWithin, IsPlaceWithin, IsChild, corner_origins, origins_along}
 use Rattle.level_topology.proofs.ChildLemmas.{same_origin-refl, same_origin-true, same_place-refl, same_place-true}
 use Rattle.far_tests.specs.Squares.{square_rows, quarters_rows, quarters_origins, quarters_places, quarter_rows, quarter_origins, quarter_places, square, quarters, quarter}

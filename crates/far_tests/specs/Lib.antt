@@ -1,1 +1,3 @@
+pub mod Closed
+pub mod Kept
 pub mod Squares

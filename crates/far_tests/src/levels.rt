@@ -23,7 +23,7 @@ fn one(first: u32) -> EdgeFaces
     }
 }
 
-fn two(first: u32, second: u32) -> EdgeFaces
+pub fn two(first: u32, second: u32) -> EdgeFaces
     ensures { result ≡ record { first = first; second = Some second } }
 {
     EdgeFaces {
@@ -188,6 +188,11 @@ fn square_counted<L: Ledger>(alloc: Global, blank: Blank) -> Result<Level, Memor
     make_square(alloc, &mut Steps::start(blank.open::<L>()))
 }
 
+// The square.
+pub fn square_alone(alloc: Global) -> Result<Level, Memory> {
+    square_counted::<Brand>(alloc, Blank::new(1))
+}
+
 fn quarters_counted<L: Ledger>(alloc: Global, blank: Blank) -> Result<Child, Memory>
     requires name { blank.name ≡ L.name }
     requires parts { blank.parts ≡ L.parts }
@@ -262,7 +267,7 @@ fn has_origins(child: &Child, origins: &[Origin]) -> bool
 
 #[test]
 fn finishes_the_square(rt: HostRuntime) -> Result<(), Memory> {
-    let level = square_counted::<Brand>(rt.alloc(), Blank::new(1))?;
+    let level = square_alone(rt.alloc())?;
     assert!(rt; level.points() == 4 && level.edges() == 4 && level.faces() == 1);
     assert!(rt; level.method() == Method::Normal);
     assert!(rt; is_face(&level, 0));

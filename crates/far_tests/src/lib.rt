@@ -2,9 +2,17 @@
 #![tactic(auto)]
 
 #[cfg(test)]
+mod built_levels;
+#[cfg(test)]
+mod checked;
+#[cfg(test)]
+mod colliding;
+#[cfg(test)]
 mod engine;
 #[cfg(test)]
 mod expect;
+#[cfg(test)]
+mod fans;
 #[cfg(test)]
 mod faults;
 #[cfg(test)]
@@ -14,6 +22,8 @@ mod levels;
 #[cfg(test)]
 mod lines;
 #[cfg(test)]
+mod masks;
+#[cfg(test)]
 mod meshes;
 #[cfg(test)]
 mod numbers;
@@ -21,5 +31,7 @@ mod numbers;
 mod numerals;
 #[cfg(test)]
 mod sharpness;
+#[cfg(test)]
+mod texts;
 #[cfg(test)]
 mod words;

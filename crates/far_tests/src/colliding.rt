@@ -1,0 +1,270 @@
+// Edges that collide under the key 0, numbered under two keys.
+
+ghost use Rattle.std.specs.Prelude.{◌≡◌, ◌<◌};
+
+use crate::built_levels::expect_same_levels;
+use crate::checked::Checked;
+use level_topology::Level;
+use ratio128::{Memory, Steps};
+use sharpness_rules::Method;
+use std::alloc::Global;
+use std::marker::Brand;
+use std::process::Abort;
+use std::sync::ledger::{Blank, Ledger};
+
+// Ends of edges whose hashes after the key 0 are the same in their lowest nine bits, so that the search for each begins
+// at one place while the map has at most 512 of them.
+const PAIRS: &[(u32, u32)] = &[
+    (1, 474),
+    (5, 497),
+    (5, 570),
+    (5, 756),
+    (6, 529),
+    (8, 520),
+    (11, 528),
+    (11, 567),
+    (11, 616),
+    (11, 786),
+    (13, 574),
+    (15, 437),
+    (17, 635),
+    (18, 660),
+    (21, 449),
+    (21, 708),
+    (22, 567),
+    (24, 585),
+    (26, 750),
+    (27, 541),
+    (27, 686),
+    (28, 415),
+    (28, 540),
+    (28, 686),
+    (29, 612),
+    (29, 659),
+    (32, 751),
+    (32, 798),
+    (34, 421),
+    (34, 684),
+    (34, 763),
+    (34, 794),
+    (35, 538),
+    (35, 665),
+    (39, 633),
+    (39, 638),
+    (42, 437),
+    (43, 685),
+    (43, 702),
+    (45, 659),
+    (46, 545),
+    (46, 607),
+    (46, 610),
+    (53, 413),
+    (53, 464),
+    (53, 791),
+    (54, 412),
+    (54, 416),
+    (54, 490),
+    (54, 506),
+    (56, 441),
+    (56, 782),
+    (57, 562),
+    (57, 741),
+    (63, 410),
+    (63, 606),
+    (67, 428),
+    (70, 736),
+    (71, 494),
+    (71, 745),
+    (74, 435),
+    (76, 584),
+    (76, 696),
+    (77, 675),
+    (79, 486),
+    (80, 756),
+    (80, 780),
+    (84, 414),
+    (84, 670),
+    (87, 417),
+    (87, 478),
+    (87, 663),
+    (87, 695),
+    (88, 535),
+    (88, 760),
+    (89, 468),
+    (94, 569),
+    (94, 572),
+    (94, 645),
+    (96, 662),
+    (97, 476),
+    (99, 721),
+    (99, 737),
+    (100, 602),
+    (102, 509),
+    (103, 690),
+    (104, 575),
+    (104, 630),
+    (105, 633),
+    (105, 753),
+    (105, 787),
+    (106, 438),
+    (107, 414),
+    (107, 741),
+    (109, 569),
+    (110, 683),
+    (111, 500),
+    (111, 597),
+    (116, 446),
+    (116, 634),
+    (118, 717),
+    (121, 577),
+    (121, 606),
+    (121, 777),
+    (122, 521),
+    (123, 554),
+    (125, 649),
+    (127, 502),
+    (127, 591),
+    (127, 799),
+    (128, 614),
+    (130, 729),
+    (130, 789),
+    (131, 433),
+    (132, 428),
+    (133, 616),
+    (135, 662),
+    (135, 734),
+    (139, 411),
+    (139, 704),
+    (141, 551),
+    (141, 654),
+    (142, 491),
+    (142, 502),
+    (143, 558),
+    (143, 754),
+    (146, 682),
+    (146, 747),
+    (147, 477),
+    (148, 445),
+    (148, 711),
+    (148, 778),
+    (150, 741),
+    (151, 505),
+    (151, 680),
+    (152, 733),
+    (154, 770),
+    (154, 775),
+    (155, 559),
+    (155, 794),
+    (156, 479),
+    (157, 680),
+    (158, 581),
+    (160, 498),
+    (160, 618),
+    (162, 794),
+    (163, 657),
+    (164, 656),
+    (167, 429),
+    (169, 540),
+    (170, 449),
+    (170, 586),
+    (171, 467),
+    (174, 572),
+    (174, 626),
+    (175, 409),
+    (175, 783),
+    (178, 643),
+    (182, 768),
+    (183, 618),
+    (186, 412),
+    (186, 511),
+    (187, 595),
+    (189, 480),
+    (189, 685),
+    (192, 596),
+    (193, 527),
+    (194, 506),
+    (198, 463),
+    (199, 551),
+    (199, 734),
+    (201, 414),
+    (203, 413),
+    (205, 654),
+    (207, 455),
+    (207, 538),
+    (208, 510),
+    (208, 624),
+    (211, 420),
+    (211, 482),
+    (212, 482),
+    (212, 542),
+    (213, 457),
+    (213, 647),
+    (220, 463),
+    (221, 452),
+    (221, 606),
+    (223, 733),
+    (224, 506),
+    (224, 710),
+    (225, 463),
+    (225, 768),
+    (226, 505),
+    (226, 624),
+    (228, 695),
+    (228, 769),
+    (231, 791),
+    (233, 544),
+    (236, 626),
+    (236, 663),
+];
+
+fn pairs() -> &'static [(u32, u32)] {
+    PAIRS
+}
+
+// A triangle at each of the edges, with a point of its own.
+fn with_triangles<L: Ledger>(
+    rt: &impl Abort,
+    start: Checked,
+    steps: &mut Steps<L>,
+) -> Result<Checked, Memory> {
+    let mut builder = start;
+    let mut last = 1000;
+    for (a, b) in pairs() {
+        assert!(rt; last < 2000);
+        builder = builder.add_face(rt, &[*a, *b, last], false, steps)?;
+        last += 1;
+    }
+    Ok(builder)
+}
+
+fn build<L: Ledger>(
+    rt: &impl Abort,
+    alloc: Global,
+    key: Option<u128>,
+    blank: Blank,
+) -> Result<Level, Memory>
+    requires name { blank.name ≡ L.name }
+    requires parts { blank.parts ≡ L.parts }
+    requires some { 0 < blank.parts }
+{
+    let start = Checked::new(alloc, 2000, Method::Normal, key)?;
+    let mut steps = Steps::start(blank.open::<L>());
+    with_triangles(rt, start, &mut steps)?.finish(rt)
+}
+
+fn build_alone(rt: &impl Abort, alloc: Global, key: Option<u128>) -> Result<Level, Memory> {
+    build::<Brand>(rt, alloc, key, Blank::new(1))
+}
+
+#[test]
+fn numbers_colliding_edges_under_any_key(rt: HostRuntime) -> Result<(), Memory> {
+    let plain = build_alone(&rt, rt.alloc(), None)?;
+    assert!(rt; plain.faces() == 200 && plain.edges() == 600);
+    let keyed = build_alone(
+        &rt,
+        rt.alloc(),
+        Some(0x1234_5678_9abc_def0_0fed_cba9_8765_4321),
+    )?;
+    expect_same_levels(&rt, &plain, &keyed);
+    Ok(())
+}
