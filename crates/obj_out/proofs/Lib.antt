@@ -1,4 +1,5 @@
 pub mod TextSoFarLemmas
+pub mod PutsLemmas
 pub mod NumberLemmas
 pub mod DecimalTextLemmas
 pub mod RoundingLemmas

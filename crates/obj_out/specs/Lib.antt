@@ -1,1 +1,2 @@
 pub mod TextSoFar
+pub mod Puts
