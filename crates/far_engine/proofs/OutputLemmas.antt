@@ -1,38 +1,51 @@
--- Prefixes of texts, one after another.
-use Rattle.std.proofs.Common.{◌≡◌, ℕ, suc, ◌+◌, ◌<◌, ◌≤◌, List, ◌++◌, length, take, drop, get_or, Option, Result, Ok, Err, OnErr, arith, length-append, drop-cons, ap, sym, ◌∙◌}
-use Rattle.std.proofs.lemmas.List.{take-append-le, take-append-drop}
-use Rattle.std.proofs.lemmas.Grind.{flat_map-append}
-use Rattle.std.proofs.Math.Seq.{take-append-add}
-use Rattle.far_io.specs.Bytes.{Added, AddedPrefix, AddedProperPrefix}
-use Rattle.far_io.proofs.BytesLemmas.{Added-more}
-use Rattle.far_engine.specs.declared.piece.Piece.{Piece}
-use Rattle.far_engine.specs.Pieces.{piece_text, pieces_text}
+-- What a sink has got when a buffer over it is dropped, or ended.
+use Rattle.std.proofs.Common.{◌≡◌, ℕ, ◌+◌, ◌<◌, ◌≤◌, ◌⊎◌, inl, inr, Bool, true, false, List, [], arith, Option, Result, Ok, Err, IsTrue, OnOk, OnErr, refl, sym, ◌∙◌, subst}
+use Rattle.far_io.specs.Bytes.{Rose, Added, AddedPrefix}
+use Rattle.far_io.specs.declared.sink.WriteFailed.{WriteFailed}
+use Rattle.obj_out.specs.Puts.{Puts}
+use Rattle.obj_out.proofs.PutsLemmas.{puts-none, puts-fine, whole-at-end, prefix-at-end}
 
--- a prefix of a text is a prefix of a longer one
-prefix_of_longer : (a b : Option (List ℕ)) (xs ys : List ℕ) → AddedProperPrefix a b xs → AddedPrefix a b (xs ++ ys)
-prefix_of_longer a b xs ys p =
-    let within : p.0 ≤ length xs = omega (arith, p.1) in
-    (p.0, omega (arith, length-append {A = ℕ}), rw take-append-le p.2)
+risen : (b : Bool) (k l m : ℕ) → b ≡ false → k ≤ l → IsTrue b ⊎ Rose l m → Rose k m
+risen b k l m fine h (inl failed) = absurd (cc)
+risen b k l m fine h (inr (inl less)) = inl (omega (arith, h, less))
+risen b k l m fine h (inr (inr top)) = inr top
 
--- a text and then a prefix of another
-prefix_after : (a b c : Option (List ℕ)) (xs ys : List ℕ) → Added a b xs → AddedPrefix b c ys → AddedPrefix a c (xs ++ ys)
-prefix_after a b c xs ys p q =
-    (length xs + q.0, omega (arith, length-append {A = ℕ}, q.1), rw (take-append-add xs ys q.0) (Added-more a b c xs (take q.0 ys) p q.2))
+module _ {K : Type 0} (held : K → Option (List ℕ)) (faults fixed : K → ℕ) where
+  -- a buffer that was just made
+  pub from-new : (k n l : K) (w v : List ℕ) (was is : Bool) (text : List ℕ) (r : Result (Unit {0}) WriteFailed) → n ≡ k → w ≡ [] → was ≡ false →
+      Puts held faults fixed n l w v was is text r → Puts held faults fixed k l [] v false is text r
+  from-new k n l w v was is text r e f h p =
+      subst (λ (b : Bool). Puts held faults fixed k l [] v b is text r) h
+      (subst (λ (x : List ℕ). Puts held faults fixed k l x v was is text r) f
+      (subst (λ (x : K). Puts held faults fixed x l w v was is text r) e p))
 
--- the text of pieces, at one of them
-split_at : (pieces : List Piece) (i : ℕ) (d : Piece) → i < length pieces →
-    pieces_text (take i pieces) ++ (piece_text (get_or pieces i d) ++ pieces_text (drop (suc i) pieces)) ≡ pieces_text pieces
-split_at pieces i d h =
-    ap (λ rest. pieces_text (take i pieces) ++ pieces_text rest) (sym (drop-cons pieces i d h))
-    ∙ sym (flat_map-append piece_text (take i pieces) (drop i pieces))
-    ∙ ap pieces_text (take-append-drop i pieces)
+  pub none-new : (k n : K) (w : List ℕ) (was : Bool) → n ≡ k → w ≡ [] → was ≡ false → Puts held faults fixed k n [] w false was [] (Ok tt)
+  none-new k n w was e f h = from-new k n n w w was was [] (Ok tt) e f h (puts-none held faults fixed n w was h)
 
--- a prefix of a piece after the pieces before it
-pub OnErr-piece : {T E : Type 0} (r : Result T E) (a b c : Option (List ℕ)) (pieces : List Piece) (i : ℕ) (d : Piece) →
-    i < length pieces → Added a b (pieces_text (take i pieces)) → AddedProperPrefix b c (piece_text (get_or pieces i d)) →
-    OnErr r (AddedPrefix a c (pieces_text pieces))
-OnErr-piece (Ok x) a b c pieces i d h p q = tt
-OnErr-piece (Err e) a b c pieces i d h p q =
-    rw (← (split_at pieces i d h))
-    (prefix_after a b c (pieces_text (take i pieces)) (piece_text (get_or pieces i d) ++ pieces_text (drop (suc i) pieces)) p
-    (prefix_of_longer b c (piece_text (get_or pieces i d)) (pieces_text (drop (suc i) pieces)) q))
+  -- where a put failed
+  pub cut-prefix : (k l : K) (v : List ℕ) (is : Bool) (text : List ℕ) (r : Result (Unit {0}) WriteFailed) →
+      Puts held faults fixed k l [] v false is text r → OnErr r (AddedPrefix (held k) (held l) text)
+  cut-prefix k l v is text (Ok x) p = tt
+  cut-prefix k l v is text (Err e) p = p.put
+
+  pub cut-cause : (k l : K) (v : List ℕ) (is : Bool) (text : List ℕ) (r : Result (Unit {0}) WriteFailed) →
+      Puts held faults fixed k l [] v false is text r → OnErr r (Rose (faults k) (faults l))
+  cut-cause k l v is text (Ok x) p = tt
+  cut-cause k l v is text (Err e) p = risen false (faults k) (faults k) (faults l) refl (omega arith) p.cause
+
+  -- where all was put, and the buffer was ended
+  pub end-whole : (k l m : K) (v : List ℕ) (is : Bool) (text : List ℕ) (r : Result (Unit {0}) WriteFailed) →
+      Puts held faults fixed k l [] v false is text (Ok tt) → OnOk r (Added (held l) (held m) v) → OnOk r (Added (held k) (held m) text)
+  end-whole k l m v is text (Ok x) p q = whole-at-end (held k) (held l) (held m) v text p.put q
+  end-whole k l m v is text (Err e) p q = tt
+
+  pub end-prefix : (k l m : K) (v : List ℕ) (is : Bool) (text : List ℕ) (r : Result (Unit {0}) WriteFailed) →
+      Puts held faults fixed k l [] v false is text (Ok tt) → OnErr r (AddedPrefix (held l) (held m) v) → OnErr r (AddedPrefix (held k) (held m) text)
+  end-prefix k l m v is text (Ok x) p q = tt
+  end-prefix k l m v is text (Err e) p q = prefix-at-end (held k) (held l) (held m) v text p.put q
+
+  pub end-cause : (k l m : K) (v : List ℕ) (is : Bool) (text : List ℕ) (r : Result (Unit {0}) WriteFailed) →
+      Puts held faults fixed k l [] v false is text (Ok tt) → OnErr r (IsTrue is ⊎ Rose (faults l) (faults m)) → OnErr r (Rose (faults k) (faults m))
+  end-cause k l m v is text (Ok x) p q = tt
+  end-cause k l m v is text (Err e) p q =
+      risen is (faults k) (faults l) (faults m) (puts-fine held faults fixed k l [] v false is text p) p.later q

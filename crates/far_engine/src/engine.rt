@@ -14,11 +14,11 @@ ghost use Rattle.far_engine.specs.View.{outcome_of};
 
 use crate::built::{has_built_form, polygons_of};
 use crate::fault::{FarFault, report, status};
-use crate::output::put_text;
+use crate::output::put_refined;
 use far_io::{InputFault, Sink, Source, WriteFailed, read_all};
 use far_words::read_built_words;
 use obj_tags::{ObjFault, RawMesh, ReadFault, read_obj};
-use plain_refine::{is_closed_manifold, write_refined};
+use plain_refine::{Refined, is_closed_manifold, refine};
 use ratio128::{Memory, Steps};
 use std::alloc::Global;
 use std::sync::ledger::Ledger;
@@ -43,11 +43,11 @@ impl From<Memory> for RefineFault {
     }
 }
 
-// The text of a mesh that was read after one step.
-fn refine_mesh(alloc: Global, mesh: &RawMesh) -> Result<Vec<u8>, RefineFault>
+// A mesh that was read, after one step.
+fn refine_mesh(alloc: Global, mesh: &RawMesh) -> Result<Refined, RefineFault>
     requires { IsWithin mesh.now }
     ensures built { OnOk result (is_built mesh.now ≡ true) }
-    ensures refined { IfOk result (λ text. text.items ≡ built_text mesh.now) }
+    ensures refined { IfOk result (λ refined. refined ≡ built_text mesh.now) }
     ensures not_built { result ≡ Err NotBuilt → is_built mesh.now ≡ false }
     ensures no_fault { (fault : ObjFault) → result ≢ Err (Obj fault) }
 {
@@ -59,15 +59,15 @@ fn refine_mesh(alloc: Global, mesh: &RawMesh) -> Result<Vec<u8>, RefineFault>
     if !is_closed_manifold(alloc, points.len(), &polygons)? {
         return Err(RefineFault::NotBuilt);
     }
-    let text = write_refined(alloc, points, mesh.scale(), &polygons)?;
-    Ok(text)
+    let refined = refine(alloc, points, mesh.scale(), &polygons)?;
+    Ok(refined)
 }
 
-// The text of the mesh after one step.
-fn refine_bytes(alloc: Global, bytes: &[u8]) -> Result<Vec<u8>, RefineFault>
+// The mesh of the bytes after one step.
+fn refine_bytes(alloc: Global, bytes: &[u8]) -> Result<Refined, RefineFault>
     requires { length bytes.now ≤ 2 ^ 28 }
     ensures good { OnOk result (refusal_of_obj bytes.now ≡ None) }
-    ensures refined { IfOk result (λ text. text.items ≡ built_text (read_obj_mesh bytes.now 0)) }
+    ensures refined { IfOk result (λ refined. refined ≡ built_text (read_obj_mesh bytes.now 0)) }
     ensures faulty { (fault : ObjFault) → result ≡ Err (Obj fault) →
         refusal_of_obj bytes.now ≡ Some (model.Obj (view.fault_of fault)) }
     ensures not_built { result ≡ Err NotBuilt → refusal_of_obj bytes.now ≡ Some (model.NotBuilt 0) }
@@ -85,7 +85,7 @@ fn refine_bytes(alloc: Global, bytes: &[u8]) -> Result<Vec<u8>, RefineFault>
 /// `refine depth=1`. The input is the OBJ text of a mesh (see `docs/formats.md`), and the answer is the
 /// text of that mesh after one Catmull-Clark step, each coordinate a fraction in lowest terms.
 ///
-/// Every refusal is found before anything is written. `Usage` comes exactly where the words are no
+/// Every refusal is found, and all memory is taken, before anything is written. `Usage` comes exactly where the words are no
 /// command. Of a source that tells its bytes, `Long` comes only where more than 2^28 bytes came, `Obj`
 /// only where a line is refused, with the least such line, counted from 1, and its cause, and
 /// `NotBuilt`, with line 0, only where a mesh that was read is not one of those that are built today:
@@ -116,8 +116,8 @@ pub fn run<S: Source, K: Sink, L: Ledger>(
         Err(InputFault::Long) => return Err(FarFault::Long),
         Err(InputFault::Memory) => return Err(FarFault::Memory),
     };
-    let text = match refine_bytes(alloc, &bytes) {
-        Ok(text) => text,
+    let refined = match refine_bytes(alloc, &bytes) {
+        Ok(refined) => refined,
         Err(RefineFault::Obj(ObjFault { line, cause })) => return Err(FarFault::Obj {
             line,
             cause,
@@ -125,7 +125,7 @@ pub fn run<S: Source, K: Sink, L: Ledger>(
         Err(RefineFault::NotBuilt) => return Err(FarFault::NotBuilt { line: 0 }),
         Err(RefineFault::Memory) => return Err(FarFault::Memory),
     };
-    match put_text(sink, &text) {
+    match put_refined(sink, &refined) {
         Ok(()) => Ok(()),
         Err(WriteFailed) => Err(FarFault::Write),
     }

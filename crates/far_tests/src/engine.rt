@@ -314,7 +314,7 @@ const FAILED_CALLS: &[FailedCalls] = &[
         "far: word 1 is not understood\n",
         "",
     ),
-    ("refine", 0, 0, 1, 4096, 2, "far: ", ""),
+    ("refine", 0, 0, 0, 4096, 2, "", ""),
 ];
 
 fn failed_calls() -> &'static [FailedCalls] {

@@ -130,29 +130,38 @@ fn names_faults_of_runs(rt: HostRuntime) -> Result<(), Fail> {
     Ok(())
 }
 
-// A fault, the call that fails, the answer, and what the sink holds. The last call is the flush, and the line stands whole
-// before it.
-type Report = (FarFault, u32, Result<(), WriteFailed>, &'static str);
+// A fault, the room of the sink, the call that fails, the answer, and what the sink holds. The line is handed on whole, and
+// the call after that is the flush.
+type Report = (FarFault, usize, u32, Result<(), WriteFailed>, &'static str);
 
 const REPORTS: &[Report] = &[
-    (FarFault::Read, 1, Err(WriteFailed), "far: "),
-    (FarFault::Read, 3, Err(WriteFailed), "far: reading failed\n"),
-    (FarFault::Read, 4, Ok(()), "far: reading failed\n"),
+    (FarFault::Read, 64, 0, Err(WriteFailed), ""),
+    (
+        FarFault::Read,
+        64,
+        1,
+        Err(WriteFailed),
+        "far: reading failed\n",
+    ),
+    (FarFault::Read, 64, 2, Ok(()), "far: reading failed\n"),
     (
         FarFault::Usage { word: 1 },
-        2,
+        9,
+        9,
         Err(WriteFailed),
-        "far: word ",
+        "far: word",
     ),
     (
         FarFault::Usage { word: 1 },
-        5,
+        64,
+        1,
         Err(WriteFailed),
         "far: word 1 is not understood\n",
     ),
     (
         FarFault::Usage { word: 1 },
-        6,
+        64,
+        2,
         Ok(()),
         "far: word 1 is not understood\n",
     ),
@@ -166,8 +175,8 @@ fn reports() -> &'static [Report] {
 fn reports_what_fails(rt: HostRuntime) -> Result<(), Fail> {
     let alloc = rt.alloc();
     for row in reports() {
-        let &(fault, call, answer, held) = row;
-        let mut errors = failing_sink(alloc, 64, call)?;
+        let &(fault, room, call, answer, held) = row;
+        let mut errors = failing_sink(alloc, room, call)?;
         expect_same(&rt, &report(&fault, &mut errors), &answer, row);
         expect_same(&rt, &errors.bytes(), &held.as_bytes(), row);
     }

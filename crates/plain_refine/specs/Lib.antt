@@ -1,2 +1,3 @@
 pub mod Mesh
 pub mod Values
+pub mod Lines

@@ -9,9 +9,9 @@
 mod children;
 mod edges;
 mod manifold;
-mod refine;
+mod step;
 mod text;
 mod values;
 
 pub use manifold::is_closed_manifold;
-pub use refine::write_refined;
+pub use step::{Refined, refine};

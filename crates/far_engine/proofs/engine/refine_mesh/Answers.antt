@@ -4,12 +4,12 @@ use Rattle.far_engine.specs.Built.{is_built}
 use Rattle.far_engine.proofs.BuiltLemmas.{short-points, built-common, closed-built, refined-mesh}
 use Rattle.far_engine.proofs.engine.refine_mesh.Goals as goal
 
-pub write_refined-requires-clause-short : goal.write_refined-requires-clause-short
-write_refined-requires-clause-short c = short-points c.args.mesh.now c.points-points.result.now c.points-points.ensures
+pub refine-requires-clause-short : goal.refine-requires-clause-short
+refine-requires-clause-short c = short-points c.args.mesh.now c.points-points.result.now c.points-points.ensures
     c.if-not-has_built_form.ensures
 
-pub write_refined-requires-clause-common : goal.write_refined-requires-clause-common
-write_refined-requires-clause-common c = built-common c.args.mesh.now c.scale.result c.scale.ensures c.if-not-has_built_form.ensures
+pub refine-requires-clause-common : goal.refine-requires-clause-common
+refine-requires-clause-common c = built-common c.args.mesh.now c.scale.result c.scale.ensures c.if-not-has_built_form.ensures
 
 pub returns-clause-refined : goal.returns-clause-refined
 returns-clause-refined c =
@@ -19,5 +19,5 @@ returns-clause-refined c =
     (rw c.deref.ensures.value at c.in_ok-is_closed_manifold.ensures)
     ∙ c.if-not-branch.false in
     refined-mesh c.args.mesh.now c.points-points.result.now (corners_of c.in_ok-polygons.polygons.items) c.scale.result
-    c.in_ok-text.text.items c.points-points.ensures c.in_ok-polygons.ensures c.scale.ensures built
-    (rw c.deref-2.ensures.value at c.in_ok-text.ensures)
+    c.in_ok-refined.refined c.points-points.ensures c.in_ok-polygons.ensures c.scale.ensures built
+    (rw c.deref-2.ensures.value at c.in_ok-refined.ensures)

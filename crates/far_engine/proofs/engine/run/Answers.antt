@@ -3,15 +3,15 @@ use Rattle.far_engine.proofs.WordsLemmas.{understood}
 use Rattle.far_engine.proofs.RunLemmas.{WasRead, runs_ok, runs_cut, runs_long, runs_text_refused}
 use Rattle.far_engine.proofs.engine.run.Goals as goal
 
-pub returns-in-Ok-put_text-clause-run : goal.returns-in-Ok-put_text-clause-run
-returns-in-Ok-put_text-clause-run g c =
+pub returns-in-Ok-put_refined-clause-run : goal.returns-in-Ok-put_refined-clause-run
+returns-in-Ok-put_refined-clause-run g c =
     let command = understood (map string_bytes c.args.words.now.items) _ _ c.read_built_words.ensures c.in-Ok.is in
     let read = c.in-Ok-read_all.ensures in
     let was : WasRead _ _ _ _ _ _ = record { command = command; took = read.all; dry = read.dry; short = read.short; later = read.later } in
     let good = rw c.deref.ensures.value at c.in-Ok-refine_bytes.ensures.good in
     let refined = rw c.deref.ensures.value at c.in-Ok-refine_bytes.ensures.refined in
-    let put = rw c.deref-2.ensures.value at c.in-Ok-put_text.ensures.ok in
-    runs_ok _ _ _ _ _ _ _ _ _ was _ _ _ good refined put c.put_text.ensures.later c.put_text.ensures.fixed
+    let put = c.in-Ok-put_refined.ensures.ok in
+    runs_ok _ _ _ _ _ _ _ _ _ was _ _ _ good refined put c.put_refined.ensures.later c.put_refined.ensures.fixed
 
 pub returns-clause-run : goal.returns-clause-run
 returns-clause-run g c =
@@ -20,8 +20,8 @@ returns-clause-run g c =
     let was : WasRead _ _ _ _ _ _ = record { command = command; took = read.all; dry = read.dry; short = read.short; later = read.later } in
     let good = rw c.deref.ensures.value at c.in-Ok-refine_bytes.ensures.good in
     let refined = rw c.deref.ensures.value at c.in-Ok-refine_bytes.ensures.refined in
-    let put = rw c.deref-2.ensures.value at c.in-Err-put_text.ensures.prefix in
-    runs_cut _ _ _ _ _ _ _ _ _ was _ _ _ good refined put c.in-Err-put_text.ensures.cause c.put_text.ensures.later c.put_text.ensures.fixed
+    let put = c.in-Err-put_refined.ensures.prefix in
+    runs_cut _ _ _ _ _ _ _ _ _ was _ _ _ good refined put c.in-Err-put_refined.ensures.cause c.put_refined.ensures.later c.put_refined.ensures.fixed
 
 pub returns-in-Err-Long-clause-run : goal.returns-in-Err-Long-clause-run
 returns-in-Err-Long-clause-run g c =

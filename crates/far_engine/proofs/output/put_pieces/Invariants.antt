@@ -1,12 +1,11 @@
-use Rattle.std.proofs.Common.{◌≡◌, ◌≤◌, take}
-use Rattle.far_io.specs.Bytes.{Added}
+use Rattle.std.proofs.Common.{◌≡◌, [], false, take, Ok}
+use Rattle.obj_out.specs.Puts.{Puts}
 use Rattle.far_engine.specs.Pieces.{pieces_text}
 use Rattle.far_engine.proofs.output.put_pieces.Given as goal
 
--- the pieces so far were added
+-- the pieces so far were put
 abbrev pub invariant-loop-piece : goal.invariant-loop-piece
 invariant-loop-piece g l = record {
-  added : Added (g.K.Sink.held l.fn.sink) (g.K.Sink.held l.sink) (pieces_text (take l.piece-index l.pieces));
-  later : g.K.Sink.faults l.fn.sink ≤ g.K.Sink.faults l.sink;
-  fixed : g.K.Sink.fixed l.sink ≡ g.K.Sink.fixed l.fn.sink;
+  same_reference : l.out.sink.ghost_name ≡ l.initial.out.sink.ghost_name;
+  puts : Puts g.K.Sink.held g.K.Sink.faults g.K.Sink.fixed l.fn.sink l.out.sink.now [] l.out.waiting false l.out.failed (pieces_text (take l.piece-index l.pieces)) (Ok tt);
 }

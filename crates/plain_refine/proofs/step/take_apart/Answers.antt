@@ -1,7 +1,7 @@
 use Rattle.std.proofs.Common.{rules, refl}
 use Rattle.std.proofs.lemmas.Iterator.{items_from_collect, YieldsList-from_map, YieldsList-from_slice}
 use Rattle.std.proofs.lemmas.Result.{IfOk-at_ok}
-use Rattle.plain_refine.proofs.refine.take_apart.Goals as goal
+use Rattle.plain_refine.proofs.step.take_apart.Goals as goal
 
 pub returns-clause-xs : goal.returns-clause-xs
 returns-clause-xs c =
