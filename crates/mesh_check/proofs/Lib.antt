@@ -1,0 +1,13 @@
+mod KeyLemmas
+mod PlaceLemmas
+mod SearchLemmas
+mod MarkLemmas
+mod EdgeFaultLemmas
+mod ChainLemmas
+mod WalkLemmas
+mod GroupLemmas
+mod GroupFanLemmas
+mod TurnLemmas
+mod CountLemmas
+mod GroupTurnLemmas
+mod FaultLemmas

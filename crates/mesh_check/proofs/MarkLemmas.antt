@@ -1,0 +1,115 @@
+-- A list whose numbers are marked as they are met has none twice where none was marked before.
+use Rattle.std.proofs.Common.{◌≡◌, ℕ, zero, suc, ◌+◌, ◌<◌, ◌≤◌, ◌≢◌, Bool, true, false, not, ◌&&◌, ◌||◌, nat_eq, List, [], ◌∷◌, ◌++◌, length, drop, replicate, get_or, slice_set, add-one, arith, refl, ap, sym, subst, ◌∙◌, get_or-set_other, get_or-set_same}
+use Rattle.std.specs.List.{All, list_all}
+use Rattle.std.proofs.lemmas.Bool.Decides.{nat_tests}
+use Rattle.std.proofs.lemmas.List.{length-set}
+use Rattle.std.proofs.lemmas.Option.{slice_get-get_or}
+use Rattle.subdiv_model.specs.Polygons.{is_among, is_distinct}
+use Rattle.mesh_laws.proofs.FaultLemmas.{all-always}
+use Rattle.mesh_check.proofs.PlaceLemmas.{drop-here, drop-all}
+use Rattle.mesh_check.specs.Marks.{is_new}
+
+-- one number more is marked
+marked-with : (marks : List ℕ) (v mark w : ℕ) → v < length marks → nat_eq (get_or (slice_set marks v mark) w 0) mark ≡ (nat_eq v w || nat_eq (get_or marks w 0) mark)
+marked-with marks v mark w h = go (nat_eq v w) refl
+  where
+    go : (b : Bool) → nat_eq v w ≡ b → nat_eq (get_or (slice_set marks v mark) w 0) mark ≡ (nat_eq v w || nat_eq (get_or marks w 0) mark)
+    go true e =
+        let same : v ≡ w = grind (arith, nat_tests) in
+        let at : get_or (slice_set marks v mark) w 0 ≡ mark = subst (λ k. get_or (slice_set marks v mark) k 0 ≡ mark) same (get_or-set_same marks v mark 0 h) in
+        grind (arith, nat_tests)
+    go false e =
+        let apart : w ≢ v = λ k. grind (arith, nat_tests) in
+        let at : get_or (slice_set marks v mark) w 0 ≡ get_or marks w 0 = get_or-set_other marks v w mark 0 apart in
+        grind (arith, nat_tests)
+
+marked-all : (marks : List ℕ) (v mark : ℕ) (rest : List ℕ) → v < length marks → list_all (λ w. not (nat_eq (get_or (slice_set marks v mark) w 0) mark)) rest ≡ (not (is_among rest v) && list_all (λ w. not (nat_eq (get_or marks w 0) mark)) rest)
+marked-all marks v mark [] h = refl
+marked-all marks v mark (w ∷ rest) h = rw (marked-with marks v mark w h, marked-all marks v mark rest h) (mixed (nat_eq v w) (nat_eq (get_or marks w 0) mark) (is_among rest v) (list_all (λ u. not (nat_eq (get_or marks u 0) mark)) rest))
+  where
+    mixed : (a b c d : Bool) → (not (a || b) && (not c && d)) ≡ (not (a || c) && (not b && d))
+    mixed true b c d = refl
+    mixed false true true d = refl
+    mixed false true false d = refl
+    mixed false false c d = refl
+
+-- the numbers differ, and none of them was marked
+new-split : (mark : ℕ) (marks rest : List ℕ) → All (λ v. v < length marks) rest → is_new mark marks rest ≡ (is_distinct rest && list_all (λ w. not (nat_eq (get_or marks w 0) mark)) rest)
+new-split mark marks [] inside = refl
+new-split mark marks (v ∷ rest) inside =
+    let here : v < length marks = inside 0 0 (omega arith) in
+    let behind = new-split mark (slice_set marks v mark) rest (λ k d h. omega (arith, inside (suc k) d (omega (arith, h)), length-set marks v mark)) in
+    rw (behind, marked-all marks v mark rest here) (mixed (nat_eq (get_or marks v 0) mark) (is_distinct rest) (is_among rest v) (list_all (λ u. not (nat_eq (get_or marks u 0) mark)) rest))
+  where
+    mixed : (a b c d : Bool) → (not a && (b && (not c && d))) ≡ ((not c && b) && (not a && d))
+    mixed true true true d = refl
+    mixed true true false d = refl
+    mixed true false true d = refl
+    mixed true false false d = refl
+    mixed false true true d = refl
+    mixed false true false d = refl
+    mixed false false true d = refl
+    mixed false false false d = refl
+
+-- where no number is marked, none stands twice exactly where each is new
+pub new-distinct : (mark : ℕ) (marks face : List ℕ) → All (λ v. v < length marks) face → ((v : ℕ) → get_or marks v 0 < mark) → is_new mark marks face ≡ is_distinct face
+new-distinct mark marks face inside fresh =
+    new-split mark marks face inside ∙ ap (λ b. is_distinct face && b) (all-always (λ w. not (nat_eq (get_or marks w 0) mark)) (λ w. below (get_or marks w 0) (fresh w)) face) ∙ and-true (is_distinct face)
+  where
+    below : (n : ℕ) → n < mark → not (nat_eq n mark) ≡ true
+    below n h = grind (arith, nat_tests)
+
+    and-true : (b : Bool) → (b && true) ≡ b
+    and-true true = refl
+    and-true false = refl
+
+dropped : (face : List ℕ) (i : ℕ) → i < length face → drop i face ≡ get_or face i 0 ∷ drop (i + 1) face
+dropped face i h = drop-here face i (get_or face i 0) (slice_get-get_or face i 0 h)
+
+-- a number that is marked already stands twice
+pub new-met : (mark : ℕ) (start marks face : List ℕ) (i : ℕ) → i < length face → is_new mark marks (drop i face) ≡ is_new mark start face → nat_eq (get_or marks (get_or face i 0) 0) mark ≡ true → is_new mark start face ≡ false
+new-met mark start marks face i h decides met =
+    sym decides ∙ ap (is_new mark marks) (dropped face i h) ∙ ap (λ b. not b && is_new mark (slice_set marks (get_or face i 0) mark) (drop (i + 1) face)) met
+
+-- a number that is new is marked, and the others decide
+pub new-passed : (mark : ℕ) (start marks face : List ℕ) (i : ℕ) → i < length face → is_new mark marks (drop i face) ≡ is_new mark start face → nat_eq (get_or marks (get_or face i 0) 0) mark ≡ false → is_new mark (slice_set marks (get_or face i 0) mark) (drop (i + 1) face) ≡ is_new mark start face
+new-passed mark start marks face i h decides met =
+    sym (ap (λ b. not b && is_new mark (slice_set marks (get_or face i 0) mark) (drop (i + 1) face)) met) ∙ sym (ap (is_new mark marks) (dropped face i h)) ∙ decides
+
+-- at the end all were new
+pub new-end : (mark : ℕ) (start marks face : List ℕ) (i : ℕ) → length face ≤ i → is_new mark marks (drop i face) ≡ is_new mark start face → is_new mark start face ≡ true
+new-end mark start marks face i h decides = sym decides ∙ ap (is_new mark marks) (drop-all face i h)
+
+-- no mark is above one that is set
+pub low-with : (marks : List ℕ) (v mark : ℕ) → ((w : ℕ) → get_or marks w 0 ≤ mark) → v < length marks → (w : ℕ) → get_or (slice_set marks v mark) w 0 ≤ mark
+low-with marks v mark low h w = go (nat_eq v w) refl
+  where
+    go : (b : Bool) → nat_eq v w ≡ b → get_or (slice_set marks v mark) w 0 ≤ mark
+    go true e =
+        let same : v ≡ w = grind (arith, nat_tests) in
+        let at : get_or (slice_set marks v mark) w 0 ≡ mark = subst (λ k. get_or (slice_set marks v mark) k 0 ≡ mark) same (get_or-set_same marks v mark 0 h) in
+        omega (arith, at)
+    go false e =
+        let apart : w ≢ v = λ k. grind (arith, nat_tests) in
+        omega (arith, get_or-set_other marks v w mark 0 apart, low w)
+
+-- one more of the same
+pub replicate-push : (n k : ℕ) → replicate (n + 1) k ≡ replicate n k ++ k ∷ []
+replicate-push n k = rw add-one (go n)
+  where
+    go : (n : ℕ) → replicate (suc n) k ≡ replicate n k ++ k ∷ []
+    go zero = refl
+    go (suc n) = ap (λ xs. k ∷ xs) (go n)
+
+abbrev no_marks : ℕ → List ℕ
+no_marks n = replicate n 0
+
+-- where nothing is marked, each number has no mark
+pub none-marked : (n v : ℕ) → get_or (no_marks n) v 0 ≡ 0
+none-marked zero v = refl
+none-marked (suc n) zero = refl
+none-marked (suc n) (suc v) = none-marked n v
+
+-- what is below one length is below an equal one
+pub inside-at : (face : List ℕ) (m n i : ℕ) → All (λ v. v < m) face → n ≡ m → i < length face → get_or face i 0 < n
+inside-at face m n i inside e h = omega (arith, inside i 0 h, e)

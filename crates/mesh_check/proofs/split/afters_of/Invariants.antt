@@ -1,0 +1,5 @@
+use Rattle.std.proofs.Common.{◌≡◌, map, take}
+use Rattle.mesh_check.proofs.split.afters_of.Given as goal
+
+abbrev pub invariant-loop-turn : goal.invariant-loop-turn
+invariant-loop-turn l = l.corners.items ≡ map (λ turn. turn.after) (take l.turn-index l.turns)

@@ -1,0 +1,17 @@
+-- The faces at a vertex, each with the corner before the vertex and the corner after it.
+use Rattle.std.specs.Prelude.{ℕ, ◌≡◌, ◌<◌, true, nat_eq, List, length, map, get_or}
+use Rattle.std.specs.List.{position_or_len}
+use Rattle.subdiv_model.specs.Polygons.{Polygon, has_side, has_corner, is_among, is_distinct, polygon_at}
+
+-- the lists tell of each face at the vertex, once, which corner comes before the vertex there, and which after it
+pub record IsGroup (polygons : List Polygon) (v : ℕ) (befores faces afters : List ℕ) : Type 0 where
+  pub same_befores : length befores ≡ length faces
+  pub same_afters : length afters ≡ length faces
+  pub leads : (i : ℕ) → i < length faces → has_side (get_or befores i 0, v) (polygon_at polygons (get_or faces i 0)) ≡ true
+  pub follows : (i : ℕ) → i < length faces → has_side (v, get_or afters i 0) (polygon_at polygons (get_or faces i 0)) ≡ true
+  pub once : is_distinct faces ≡ true
+  pub all : (f : ℕ) → is_among faces f ≡ has_corner v (polygon_at polygons f)
+
+-- for each face the place of the next one about the vertex, which is the one that comes from the corner to which this one goes
+abbrev pub next_places : List ℕ → List ℕ → List ℕ
+next_places befores afters = map (λ a. position_or_len (nat_eq a) befores) afters

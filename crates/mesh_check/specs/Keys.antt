@@ -1,0 +1,35 @@
+-- Sides and edges as numbers, and the numbers that stand often among numbers that ascend.
+use Rattle.std.specs.Prelude.{ℕ, ◌+◌, ◌*◌, ◌^◌, ◌<◌, Bool, ◌&&◌, nat_eq, nat_le, nat_lt, List, [], ◌∷◌, length, get_or, IsTrue, if◌then◌else◌}
+use Rattle.std.specs.List.{list_all}
+use Rattle.level_topology.specs.BuilderEdges.{low_first}
+
+-- both ends fit 32 bits
+abbrev pub IsWord : ℕ × ℕ → Type 0
+IsWord s = (s.0 < 2 ^ 32) × (s.1 < 2 ^ 32)
+
+-- each of the sides fits
+abbrev pub AreWords : List (ℕ × ℕ) → Type 0
+AreWords [] = Unit {0}
+AreWords (s ∷ sides) = IsWord s × AreWords sides
+
+-- a side as one number: its first end is the high half
+abbrev pub side_key : ℕ × ℕ → ℕ
+side_key s = s.0 * 2 ^ 32 + s.1
+
+-- an edge as one number, the same in both directions
+abbrev pub edge_key : ℕ × ℕ → ℕ
+edge_key s = side_key (low_first s)
+
+-- the numbers ascend, and some may be equal
+abbrev pub Rises : List ℕ → Type 0
+Rises [] = Unit {0}
+Rises (n ∷ numbers) = IsTrue (list_all (nat_le n) numbers) × Rises numbers
+
+-- the number stands so many places after the first as well
+abbrev pub is_again : ℕ → List ℕ → ℕ → Bool
+is_again gap numbers n = nat_lt gap (length numbers) && nat_eq (get_or numbers gap 0) n
+
+-- the numbers that stand so many places later again: of numbers that ascend, those that stand more often than that
+abbrev pub repeats : ℕ → List ℕ → List ℕ
+repeats gap [] = []
+repeats gap (n ∷ numbers) = if is_again gap (n ∷ numbers) n then n ∷ repeats gap numbers else repeats gap numbers

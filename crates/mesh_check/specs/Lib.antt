@@ -1,0 +1,9 @@
+pub mod View
+pub mod Faults
+pub mod Keys
+pub mod Marks
+pub mod Chain
+pub mod Group
+pub mod Turns
+pub mod Counts
+pub mod Checked

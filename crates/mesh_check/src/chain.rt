@@ -1,0 +1,81 @@
+//! Whether items that each lead to one other at most stand in one chain.
+
+ghost use Rattle.std.specs.Prelude.{◌≡◌, ℕ, ◌+◌, ◌^◌, ◌<◌, true, false, nat_eq, length, get_or, slice_set, IfOk, MatchOption};
+ghost use Rattle.subdiv_model.specs.Polygons.{is_among};
+ghost use Rattle.mesh_check.specs.Chain.{IsOneChain, IsStart, is_long_walk};
+
+use crate::marks::{mark_at, no_marks};
+use ratio128::Memory;
+use std::alloc::Global;
+
+// Sets the mark 1 at a place, where it is one.
+fn set_mark(marks: &mut Vec<u32>, place: u32)
+    ensures { marks.new.items ≡ slice_set marks.old.items place 1 }
+{
+    if (place as usize) < marks.len() {
+        marks[place as usize] = 1;
+    }
+}
+
+// The mark 1 at each item that one leads to.
+fn led_marks(alloc: Global, next: &[u32]) -> Result<Vec<u32>, Memory>
+    ensures size { IfOk result (λ led. length led.items ≡ length next.now) }
+    ensures led { IfOk result (λ led. (j : ℕ) → j < length next.now → nat_eq (get_or led.items j 0) 1 ≡ is_among next.now j) }
+{
+    let mut led = no_marks(alloc, next.len())?;
+    for i in 0..next.len() {
+        set_mark(&mut led, next[i]);
+    }
+    Ok(led)
+}
+
+// The first place without the mark 1.
+fn first_bare(marks: &[u32]) -> Option<usize>
+    ensures { MatchOption result ((j : ℕ) → j < length marks.now → nat_eq (get_or marks.now j 0) 1 ≡ true) (λ s. (s < length marks.now) × (nat_eq (get_or marks.now s 0) 1 ≡ false)) }
+{
+    for j in 0..marks.len() {
+        if marks[j] != 1 {
+            return Some(j);
+        }
+    }
+    None
+}
+
+// Where a chain of all items can begin.
+fn start_of(alloc: Global, next: &[u32]) -> Result<usize, Memory>
+    ensures { IfOk result (λ s. IsStart next.now s) }
+{
+    let led = led_marks(alloc, next)?;
+    Ok(first_bare(&led).unwrap_or(0))
+}
+
+// Whether a walk meets as many items as there are before it ends or comes to one again.
+fn is_long_walk(alloc: Global, next: &[u32], start: u32) -> Result<bool, Memory>
+    ensures { IfOk result (λ long. long ≡ is_long_walk next.now start) }
+{
+    let mut marks = no_marks(alloc, next.len())?;
+    let mut i = start;
+    let mut steps = next.len();
+    while steps > 0 {
+        if (i as usize) >= next.len() {
+            return Ok(false);
+        }
+        if mark_at(&mut marks, i, 1) {
+            return Ok(false);
+        }
+        i = next[i as usize];
+        steps -= 1;
+    }
+    Ok(true)
+}
+
+// Whether all items stand in one chain.
+pub(crate) fn is_one_chain(alloc: Global, next: &[u32]) -> Result<bool, Memory>
+    requires { length next.now < 2 ^ 32 }
+    ensures chain { IfOk result (λ is. is ≡ true → IsOneChain next.now) }
+    ensures broken { IfOk result (λ is. is ≡ false → IsOneChain next.now → ⊥) }
+{
+    let start = start_of(alloc, next)?;
+    let long = is_long_walk(alloc, next, start as u32)?;
+    Ok(long)
+}

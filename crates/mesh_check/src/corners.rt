@@ -1,0 +1,55 @@
+//! The corners of each face: three or more, and no vertex twice.
+
+ghost use Rattle.std.specs.Prelude.{◌≡◌, ℕ, ◌+◌, ◌<◌, ◌≤◌, length, get_or, IfOk, not};
+ghost use Rattle.std.specs.List.{All};
+ghost use Rattle.subdiv_model.specs.Lists.{first_of};
+ghost use Rattle.subdiv_model.specs.Polygons.{is_distinct};
+ghost use Rattle.subdiv_model.specs.MeshFault.{small_faces, repeating_faces};
+ghost use Rattle.obj_tags.specs.Laws.{IsWithin};
+
+use crate::marks::{mark_at, no_marks};
+use obj_tags::RawMesh;
+use ratio128::Memory;
+use std::alloc::Global;
+
+// The first face of fewer than three corners.
+pub(crate) fn small_face(raw: &RawMesh) -> Option<u32>
+    ensures { result ≡ first_of (small_faces raw.now.faces) }
+{
+    for f in 0..raw.faces() {
+        if raw.face(f).len() < 3 {
+            return Some(f);
+        }
+    }
+    None
+}
+
+// Whether a face has a vertex twice. The mark of the face is set at the vertices that are met.
+fn has_twice(face: &[u32], marks: &mut Vec<u32>, mark: u32) -> bool
+    requires inside { All (λ v. v < length marks.old.items) face.now }
+    requires fresh { (v : ℕ) → get_or marks.old.items v 0 < mark }
+    ensures twice { result ≡ not (is_distinct face.now) }
+    ensures marks { (v : ℕ) → get_or marks.new.items v 0 ≤ mark }
+    ensures size { length marks.new.items ≡ length marks.old.items }
+{
+    for i in 0..face.len() {
+        if mark_at(marks, face[i], mark) {
+            return true;
+        }
+    }
+    false
+}
+
+// The first face that has a vertex twice. A table holds for each vertex the last face that was met there.
+pub(crate) fn repeating_face(alloc: Global, raw: &RawMesh) -> Result<Option<u32>, Memory>
+    requires { IsWithin raw.now }
+    ensures { IfOk result (λ found. found ≡ first_of (repeating_faces raw.now.faces)) }
+{
+    let mut marks = no_marks(alloc, raw.points().len())?;
+    for f in 0..raw.faces() {
+        if has_twice(raw.face(f), &mut marks, f + 1) {
+            return Ok(Some(f));
+        }
+    }
+    Ok(None)
+}

@@ -1,0 +1,54 @@
+//! Whether the faces at a vertex are one fan.
+
+ghost use Rattle.std.specs.Prelude.{◌≡◌, ℕ, ◌^◌, ◌<◌, true, nat_eq, List, length, IfOk, IsTrue};
+ghost use Rattle.std.specs.List.{list_all, position_or_len};
+ghost use Rattle.subdiv_model.specs.Polygons.{Polygon, is_distinct, has_distinct_sides};
+ghost use Rattle.subdiv_model.specs.Edges.{all_sides};
+ghost use Rattle.subdiv_model.specs.Manifold.{is_simple, has_one_fan};
+ghost use Rattle.mesh_check.specs.Keys.{Rises};
+ghost use Rattle.mesh_check.specs.Group.{IsGroup, next_places};
+
+use crate::chain::is_one_chain;
+use ratio128::Memory;
+use std::alloc::Global;
+
+// The place of a corner among corners that ascend, and how many there are where it is none of them.
+fn place_in(corners: &[u32], corner: u32) -> u32
+    requires rises { Rises corners.now }
+    requires once { is_distinct corners.now ≡ true }
+    requires short { length corners.now < 2 ^ 32 }
+    ensures { result ≡ position_or_len (nat_eq corner) corners.now }
+{
+    match corners.binary_search(&corner) {
+        Ok(place) => place as u32,
+        Err(_) => corners.len() as u32,
+    }
+}
+
+// For each face at a vertex the place of the next one about it, from the corners before the vertex, which ascend, and
+// those after it.
+fn next_places(alloc: Global, befores: &[u32], afters: &[u32]) -> Result<Vec<u32>, Memory>
+    requires rises { Rises befores.now }
+    requires once { is_distinct befores.now ≡ true }
+    requires short { length befores.now < 2 ^ 32 }
+    ensures { IfOk result (λ next. next.items ≡ next_places befores.now afters.now) }
+{
+    let mut next = Vec::with_capacity(alloc, afters.len())?;
+    for corner in afters {
+        next.push(place_in(befores, *corner))?;
+    }
+    Ok(next)
+}
+
+// Whether the faces at a vertex are one fan, by the corners before it in each, which ascend, and those after it.
+pub(crate) fn is_fan(alloc: Global, befores: &[u32], afters: &[u32]) -> Result<bool, Memory>
+    requires rises { Rises befores.now }
+    requires once { is_distinct befores.now ≡ true }
+    requires short { length befores.now < 2 ^ 32 }
+    requires equal { length afters.now ≡ length befores.now }
+    ensures { (polygons : List Polygon) (v : ℕ) (faces : List ℕ) → IsGroup polygons v befores.now faces afters.now → IsTrue (list_all is_simple polygons) → IsTrue (has_distinct_sides (all_sides polygons)) → IfOk result (λ is. is ≡ has_one_fan polygons v) }
+{
+    let next = next_places(alloc, befores, afters)?;
+    let is = is_one_chain(alloc, &next)?;
+    Ok(is)
+}

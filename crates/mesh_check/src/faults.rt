@@ -1,0 +1,51 @@
+//! The first fault of a mesh, kind by kind.
+
+ghost use Rattle.std.specs.Prelude.{◌≡◌, IfOk};
+ghost use Rattle.obj_tags.specs.Laws.{IsWithin};
+ghost use Rattle.subdiv_model.specs.Lists.{first_of};
+ghost use Rattle.mesh_check.specs.View.{named};
+ghost use Rattle.mesh_check.specs.Faults.{corner_faults, edge_faults, edge_named};
+
+use crate::corners::{repeating_face, small_face};
+use crate::edges::{clashing_side, crowded_side};
+use crate::fault::MeshFault;
+use crate::sides::sides_of_faces;
+use obj_tags::RawMesh;
+use ratio128::Memory;
+use std::alloc::Global;
+
+// The first fault of the corners of faces.
+pub(crate) fn corner_fault(alloc: Global, raw: &RawMesh) -> Result<Option<MeshFault>, Memory>
+    requires { IsWithin raw.now }
+    ensures { IfOk result (λ found. named found ≡ first_of (corner_faults raw.now.faces)) }
+{
+    if let Some(f) = small_face(raw) {
+        return Ok(Some(MeshFault::FaceTooSmall(f)));
+    }
+    let found = repeating_face(alloc, raw)?;
+    match found {
+        Some(f) => Ok(Some(MeshFault::RepeatedVertex(f))),
+        None => Ok(None),
+    }
+}
+
+// The fault of a crowded edge, or else of a clashing one.
+fn edge_named(crowded: Option<(u32, u32)>, clashing: Option<(u32, u32)>) -> Option<MeshFault>
+    ensures { named result ≡ edge_named crowded clashing }
+{
+    match (crowded, clashing) {
+        (Some(edge), _) => Some(MeshFault::NonManifoldEdge(edge.0, edge.1)),
+        (None, Some(edge)) => Some(MeshFault::WindingClash(edge.0, edge.1)),
+        (None, None) => None,
+    }
+}
+
+// The first fault of the edges of faces.
+pub(crate) fn edge_fault(alloc: Global, raw: &RawMesh) -> Result<Option<MeshFault>, Memory>
+    ensures { IfOk result (λ found. named found ≡ first_of (edge_faults raw.now.faces)) }
+{
+    let sides = sides_of_faces(alloc, raw)?;
+    let crowded = crowded_side(alloc, &sides)?;
+    let clashing = clashing_side(alloc, &sides)?;
+    Ok(edge_named(crowded, clashing))
+}

@@ -1,0 +1,103 @@
+//! Numbers that stand often in a list, found by sorting.
+
+ghost use Rattle.std.specs.Prelude.{◌≡◌, ℕ, ◌+◌, ◌*◌, ◌^◌, ◌<◌, ◌≤◌, nat_eq, nat_lt, ◌&&◌, [], ◌∷◌, ◌++◌, length, get_or, map, IfOk, OnOk, if◌then◌else◌};
+ghost use Rattle.std.specs.List.{count_by};
+ghost use Rattle.subdiv_model.specs.Polygons.{is_among};
+ghost use Rattle.mesh_check.specs.Keys.{IsWord, AreWords, side_key, edge_key, Rises, is_again, repeats};
+
+use ratio128::Memory;
+use std::alloc::Global;
+
+// A side as one number.
+pub(crate) fn side_key(side: (u32, u32)) -> u64
+    ensures key { result ≡ side_key side }
+    ensures word { IsWord side }
+{
+    ((side.0 as u64) << 32) + side.1 as u64
+}
+
+// An edge as one number, the same in both directions.
+pub(crate) fn edge_key(side: (u32, u32)) -> u64
+    ensures key { result ≡ edge_key side }
+    ensures word { IsWord side }
+{
+    if side.0 <= side.1 {
+        side_key(side)
+    } else {
+        side_key((side.1, side.0))
+    }
+}
+
+// The numbers of all sides.
+pub(crate) fn side_keys(alloc: Global, sides: &[(u32, u32)]) -> Result<Vec<u64>, Memory>
+    ensures keys { IfOk result (λ keys. keys.items ≡ map side_key sides.now) }
+    ensures words { OnOk result (AreWords sides.now) }
+{
+    let mut keys = Vec::with_capacity(alloc, sides.len())?;
+    for side in sides {
+        keys.push(side_key(*side))?;
+    }
+    Ok(keys)
+}
+
+// The numbers of their edges.
+pub(crate) fn edge_keys(alloc: Global, sides: &[(u32, u32)]) -> Result<Vec<u64>, Memory>
+    ensures keys { IfOk result (λ keys. keys.items ≡ map edge_key sides.now) }
+    ensures words { OnOk result (AreWords sides.now) }
+{
+    let mut keys = Vec::with_capacity(alloc, sides.len())?;
+    for side in sides {
+        keys.push(edge_key(*side))?;
+    }
+    Ok(keys)
+}
+
+// Whether a number stands so many places after the first as well.
+fn is_again(keys: &[u64], gap: usize, key: u64) -> bool
+    ensures { result ≡ is_again gap keys.now key }
+{
+    gap < keys.len() && keys[gap] == key
+}
+
+// Puts a number behind the others, where it is said to.
+fn put_if(put: bool, found: &mut Vec<u64>, key: u64) -> Result<(), Memory>
+    ensures { OnOk result (found.new.items ≡ (if put then found.old.items ++ key ∷ [] else found.old.items)) }
+{
+    if put {
+        found.push(key)?;
+    }
+    Ok(())
+}
+
+// The numbers that stand so many places later again.
+fn repeats(alloc: Global, keys: &[u64], gap: usize) -> Result<Vec<u64>, Memory>
+    ensures { IfOk result (λ found. found.items ≡ repeats gap keys.now) }
+{
+    let mut found = Vec::new(alloc);
+    let mut rest = keys;
+    while let [key, others @ ..] = rest {
+        let again = is_again(rest, gap, *key);
+        put_if(again, &mut found, *key)?;
+        rest = others;
+    }
+    Ok(found)
+}
+
+// The numbers that stand in a list more often than the limit, ascending.
+pub(crate) fn frequent(alloc: Global, keys: Vec<u64>, limit: usize) -> Result<Vec<u64>, Memory>
+    ensures rises { IfOk result (λ found. Rises found.items) }
+    ensures often { IfOk result (λ found. (n : ℕ) → is_among found.items n ≡ nat_lt limit (count_by (nat_eq n) keys.items)) }
+{
+    let mut keys = keys;
+    keys.sort_unstable();
+    let found = repeats(alloc, &keys, limit)?;
+    Ok(found)
+}
+
+// Whether a number stands among numbers that ascend.
+pub(crate) fn is_known(keys: &[u64], key: u64) -> bool
+    requires { Rises keys.now }
+    ensures { result ≡ is_among keys.now key }
+{
+    keys.binary_search(&key).is_ok()
+}
