@@ -17,6 +17,8 @@ pub data Counted : Type 0 where
   LevelFaces : ℕ → ℕ → Counted
   -- a level whose table has too many entries
   Entries : ℕ → Counted
+  -- the rows of limit points, which have too many entries
+  LimitEntries : Counted
 
 -- the values that overflow
 pub data Track : Type 0 where
@@ -81,6 +83,7 @@ counted_text (FaceSize face size) = codes "face " ++ (number_text face ++ (codes
 counted_text (Valence v count) = codes "vertex " ++ (number_text v ++ (codes " has " ++ (number_text count ++ codes " edges")))
 counted_text (LevelFaces level count) = codes "level " ++ (number_text level ++ (codes " has " ++ (number_text count ++ codes " faces")))
 counted_text (Entries level) = codes "level " ++ (number_text level ++ codes " has too many entries")
+counted_text LimitEntries = codes "the limit rows have too many entries"
 
 abbrev pub track_text : Track → List ℕ
 track_text Positions = codes "positions"
