@@ -17,13 +17,13 @@ use Rattle.level_topology.specs.BuilderFan.{IsRow, AreRows}
 use Rattle.level_topology.proofs.BuilderPlaceLemmas.{joined-length}
 
 -- numbers below the next one
-below-more : (items : List ℕ) (v : ℕ) → count_by (λ x. nat_lt x (v + 1)) items ≡ count_by (λ x. nat_lt x v) items + count_by (nat_eq v) items
+pub below-more : (items : List ℕ) (v : ℕ) → count_by (λ x. nat_lt x (v + 1)) items ≡ count_by (λ x. nat_lt x v) items + count_by (nat_eq v) items
 below-more [] v = refl
 below-more (x ∷ items) v =
     let here : one_if (nat_lt x (v + 1)) ≡ one_if (nat_lt x v) + one_if (nat_eq v x) = grind (arith, nat_tests) in
     omega (arith, below-more items v, here, count-cons (λ y. nat_lt y (v + 1)) x items, count-cons (λ y. nat_lt y v) x items, count-cons (nat_eq v) x items)
 
-count-le : (test : ℕ → Bool) (items : List ℕ) → count_by test items ≤ length items
+pub count-le : (test : ℕ → Bool) (items : List ℕ) → count_by test items ≤ length items
 count-le test [] = omega arith
 count-le test (x ∷ items) =
     let here : one_if (test x) ≤ 1 = small (test x) in

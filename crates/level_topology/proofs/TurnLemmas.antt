@@ -113,7 +113,7 @@ none-listed : (xs : List ℕ) → ((n : ℕ) → is_among xs n ≡ true → ⊥)
 none-listed [] h = refl
 none-listed (x ∷ xs) h = let self = eq-eqb x x refl in absurd (h x (grind (arith, nat_tests)))
 
-edges-none : (polygons : List Polygon) (v : ℕ) → faces_of_point polygons v ≡ [] → edge_numbers_at polygons v ≡ []
+pub edges-none : (polygons : List Polygon) (v : ℕ) → faces_of_point polygons v ≡ [] → edge_numbers_at polygons v ≡ []
 edges-none polygons v none = none-listed (edge_numbers_at polygons v) (λ n there.
     let found = end-side polygons v n there in
     no-face found.face (way found.face found.side found.has (or_cases (nat_eq v found.side.0) (nat_eq v found.side.1) found.ends)))

@@ -88,8 +88,8 @@ impl Level {
         self.tables.faces.beside(f as usize)
     }
 
-    // How many corners the faces before each face have together, and at the end how many all have.
-    pub(crate) fn corner_starts(&self) -> &[u32]
+    /// How many corners the faces before each face have together, and at the end how many all have.
+    pub fn corner_starts(&self) -> &[u32]
         ensures gaps { gaps result.now ≡ map length self.now.level.polygons }
         ensures ascend { Ascend result.now (sum_by length self.now.level.polygons) }
     {

@@ -22,7 +22,7 @@ without-lt n [] h = absurd (cc)
 without-lt n (k ∷ numbers) h = grind (arith, nat_tests, without-le n numbers, without-lt n numbers)
 
 -- distinct numbers that are all in another list are no more than it has
-distinct-le : (xs ys : List ℕ) → is_distinct xs ≡ true → ((n : ℕ) → is_among xs n ≡ true → is_among ys n ≡ true) → length xs ≤ length ys
+pub distinct-le : (xs ys : List ℕ) → is_distinct xs ≡ true → ((n : ℕ) → is_among xs n ≡ true → is_among ys n ≡ true) → length xs ≤ length ys
 distinct-le [] ys d within = omega arith
 distinct-le (x ∷ xs) ys d within =
     let parts = and_parts (not (is_among xs x)) (is_distinct xs) d in
