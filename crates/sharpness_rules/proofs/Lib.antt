@@ -5,5 +5,6 @@ mod TotalLemmas
 mod RingLemmas
 mod EndedLemmas
 mod HalfLemmas
+mod HalvesLemmas
 mod WeightLemmas
 pub mod ViewLemmas

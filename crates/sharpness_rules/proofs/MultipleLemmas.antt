@@ -33,6 +33,14 @@ IsLcm-swap a b m is = record {
   least = λ n p q. is.least n q p;
 }
 
+-- a multiple of a number serves for both
+pub IsLcm-multiple : (a b : ℕ) → b ∣ a → IsLcm a b a
+IsLcm-multiple a b h = record {
+  first = dvd_refl a;
+  second = h;
+  least = λ n p q. p;
+}
+
 lcm_of-assoc : (a b c : ℕ) → lcm_of a (lcm_of b c) ≡ lcm_of (lcm_of a b) c
 lcm_of-assoc a b c =
     let all = lcm_of-is a (lcm_of b c) in
@@ -96,13 +104,7 @@ common_denominator-more xs ys bound positive passed =
 
 -- one value alone has a denominator that is not too great
 lcm_of-one : (n : ℕ) → lcm_of n 1 ≡ n
-lcm_of-one n =
-    IsLcm-unique n 1 (lcm_of n 1) n (lcm_of-is n 1)
-    (record {
-      first = dvd_refl n;
-      second = one-dvd n;
-      least = λ m p q. p;
-    })
+lcm_of-one n = IsLcm-unique n 1 (lcm_of n 1) n (lcm_of-is n 1) (IsLcm-multiple n 1 (one-dvd n))
 
 pub too_fine-some : (values : List (ℕ × ℕ)) → 2 ^ 60 < common_denominator values → 1 ≤ length values
 too_fine-some [] h = absurd (omega arith)

@@ -4,7 +4,7 @@ use Rattle.std.specs.Int.{◌∣◌}
 use Rattle.std.specs.List.{sum_by}
 use Rattle.std.proofs.lemmas.Nat.Gcd.{dvd_trans}
 use Rattle.std.proofs.lemmas.List.Sums.{sum_by-cons}
-use Rattle.std.proofs.Math.Nat.{mul_assoc, mul_comm, mul-div_assoc, div-mul_cancel, mul-le-mul_right}
+use Rattle.std.proofs.Math.Nat.{mul_assoc, mul_comm, mul-div_assoc, div-mul_cancel, mul-div-le, mul-le-mul_right}
 use Rattle.subdiv_model.specs.Fractions.{sum_of_fractions}
 use Rattle.subdiv_model.specs.Multiples.{common_denominator}
 use Rattle.sharpness_rules.specs.Totals.{parts_over}
@@ -32,11 +32,11 @@ sum-more (x ∷ xs) den more p q =
     omega (arith, sum_by-cons (parts_over more) x xs, sum_by-cons (parts_over den) x xs, ap (λ n. n * (more / den)) (sum_by-cons (parts_over den) x xs), here, rest)
 
 -- a value below 10 has at most 10 times the denominator
-pub parts-bounded : (x : ℕ × ℕ) (den : ℕ) → x.1 ∣ den → x.0 < 10 * x.1 → parts_over den x ≤ 10 * den
-parts-bounded x den p below =
-    let whole : den / x.1 * x.1 ≡ den = div-mul_cancel x.1 p in
+pub parts-bounded : (x : ℕ × ℕ) (den : ℕ) → x.0 < 10 * x.1 → parts_over den x ≤ 10 * den
+parts-bounded x den below =
+    let within : x.1 * (den / x.1) ≤ den = mul-div-le den x.1 in
     let most : x.0 * (den / x.1) ≤ 10 * x.1 * (den / x.1) = mul-le-mul_right (den / x.1) (omega arith) in
-    omega (arith, whole, most)
+    omega (arith, within, most)
 
 sum-step : (a b n d q s den : ℕ) → q * b ≡ den → n * den ≡ s * d → (a * d + n * b) * den ≡ (a * q + s) * (b * d)
 sum-step a b n d q s den whole rest =

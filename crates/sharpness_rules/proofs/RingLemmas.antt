@@ -2,7 +2,7 @@
 use Rattle.std.proofs.Common.{◌≡◌, ℕ, zero, suc, ◌+◌, ◌-◌, ◌*◌, ◌^◌, ◌<◌, ◌≤◌, arith, refl, subst, sym, ap, ◌∙◌, true, false, cond, List, [], ◌∷◌, ◌++◌, length, map, take, drop, get_or, append_assoc, length-append}
 use Rattle.std.specs.Int.{◌∣◌}
 use Rattle.std.specs.List.{flat_map, sum_by}
-use Rattle.std.proofs.lemmas.Bool.{cond-true, cond-false, and_from, le-leb, lt-ltb}
+use Rattle.std.proofs.lemmas.Bool.{cond-true, cond-false, lt-ltb}
 use Rattle.std.proofs.lemmas.List.{drop_more, get_or-map, length-map, take-map, take_more, flat_map_more}
 use Rattle.std.proofs.lemmas.List.Sums.{sum_by-append, sum_by_push}
 use Rattle.std.proofs.lemmas.Nat.Gcd.{dvd_trans}
@@ -150,11 +150,10 @@ edge-parts ring at d value den within read =
     let P : List (ℕ × ℕ) → Type 0 = λ values. parts_over den (value.num, value.den) ≤ sum_by (parts_over den) values in
     subst P (sym (edge-split ring at d value within read)) (middle-parts (flat_map semi_values (take at (map sharpness_of ring))) (flat_map semi_values (drop (suc at) (map sharpness_of ring))) (value.num, value.den) den)
 
--- where the ring is too fine, a semi-sharp edge of it has no half
-pub edge-overflows : (ring : List Sharpness) (at : ℕ) (d : Sharpness) (value : Semi) → at < length ring
-    → get_or ring at d ≡ variant.Semi value → 2 ^ 60 < common_denominator (ring_values ring)
-    → model.half_overflows (map sharpness_of ring) at ≡ true
-edge-overflows ring at d value within read passed =
+-- where the ring is too fine, its semi-sharp edges have no halves
+pub ring-overflows : (ring : List Sharpness) → 2 ^ 60 < common_denominator (ring_values ring)
+    → (2 ≤ length (ring_values ring)) × (model.is_too_fine (4 * (length (ring_values ring) - 1) * common_denominator (ring_values ring)) ≡ true)
+ring-overflows ring passed =
     let several : 2 ≤ length (ring_values ring) = too_fine-several (ring_values ring) (ring-proper ring) passed in
     let times : 1 * common_denominator (ring_values ring) ≤ 4 * (length (ring_values ring) - 1) * common_denominator (ring_values ring) = mul-le-mul_right (common_denominator (ring_values ring)) (omega arith) in
-    and_from _ _ (ap model.is_semi_sharp (edge-at ring at d value within read)) (and_from _ _ (le-leb 2 _ several) (lt-ltb (2 ^ 60) _ (omega arith)))
+    (several, lt-ltb (2 ^ 60) _ (omega arith))

@@ -1,14 +1,8 @@
-ghost use Rattle.std.specs.Prelude.{◌≡◌, ◌-◌, ◌+◌, ◌*◌, ◌^◌, ◌<◌, ◌≤◌, IfOk, IsErr, IsTrue, ◌↔◌, length, map};
-ghost use Rattle.std.specs.Int.{◌∣◌};
-ghost use Rattle.subdiv_model.specs.Sharpness.{sharpness_of_fraction, uniform_child, chaikin_child, half_overflows};
+ghost use Rattle.std.specs.Prelude.{◌≡◌, ◌^◌, ◌<◌, IfOk, IsErr, IsTrue, ◌↔◌, length, map};
+ghost use Rattle.subdiv_model.specs.Sharpness.{uniform_child, chaikin_child, half_overflows};
 ghost use Rattle.sharpness_rules.specs.View.{sharpness_of};
-ghost use Rattle.sharpness_rules.specs.Totals.{parts_over};
 
-use crate::sharpness::GREATEST_DENOMINATOR;
-use crate::sums::{parts_of, total_of_ring};
-use crate::total::Total;
-use crate::{Semi, SharpOverflow, Sharpness};
-use ratio128::times_within;
+use crate::{Halves, SharpOverflow, Sharpness};
 
 /// How the two halves of an edge get their sharpness.
 #[derive(Clone, Copy, Debug, PartialEq, Eq)]
@@ -46,34 +40,5 @@ pub fn chaikin_child(ring: &[Sharpness], at: usize) -> Result<Sharpness, SharpOv
     ensures overflow { IsErr result ↔ IsTrue (half_overflows (map sharpness_of ring.now) at) }
     ensures child { IfOk result (λ s. sharpness_of s ≡ chaikin_child (map sharpness_of ring.now) at) }
 {
-    let Sharpness::Semi(edge) = ring[at] else {
-        return Ok(ring[at]);
-    };
-    let total = total_of_ring(ring)?;
-    if total.count < 2 {
-        return Ok(uniform_child(ring[at]));
-    }
-    half_of(edge, total)
-}
-
-// The half of an edge that is one of the total's values, which are two or more: all is made over
-// 4(c - 1) times the common denominator.
-fn half_of(edge: Semi, total: Total) -> Result<Sharpness, SharpOverflow>
-    requires several { 2 ≤ total.count }
-    requires few { total.count ≤ 2 ^ 32 }
-    requires divides { edge.den ∣ total.den }
-    requires among { parts_over total.den (edge.num, edge.den) ≤ total.num }
-    ensures overflow { IsErr result ↔ (2 ^ 60 < 4 * (total.count - 1) * total.den) }
-    ensures half { let own = parts_over total.den (edge.num, edge.den) in
-        let whole = 4 * (total.count - 1) * total.den in
-        IfOk result (λ s. sharpness_of s
-        ≡ sharpness_of_fraction (3 * (total.count - 1) * own + (total.num - own) - whole, whole)) }
-{
-    let others = (total.count - 1) as u128;
-    let Some(den) = times_within(4 * others, total.den, GREATEST_DENOMINATOR) else {
-        return Err(SharpOverflow);
-    };
-    let own = parts_of(edge, total.den);
-    let sum = 3 * others * own + (total.num - own);
-    Ok(Sharpness::new(sum.saturating_sub(den) as u64, den as u64))
+    Halves::of(Method::Chaikin, ring).half(ring[at])
 }

@@ -7,14 +7,17 @@
 #![tactic(auto)]
 
 mod child;
+mod halves;
 mod overflow;
 mod rule;
+mod shares;
 mod sharpness;
 mod sums;
 mod total;
 mod weight;
 
 pub use child::{Method, chaikin_child, uniform_child};
+pub use halves::Halves;
 pub use overflow::SharpOverflow;
 pub use rule::{Rule, vertex_rule};
 pub use sharpness::{Semi, Sharpness};

@@ -1,4 +1,5 @@
 ghost use Rattle.std.specs.Prelude.{◌≡◌, ◌*◌, ◌^◌, ◌<◌, ◌≤◌};
+ghost use Rattle.std.specs.Int.{IsGcd};
 ghost use Rattle.subdiv_model.specs.Fractions.{gcd_of};
 
 use ratio128::gcd;
@@ -45,6 +46,17 @@ impl Semi {
     }
 }
 
+// The greatest common divisor of a numerator and a denominator. A whole number has it at once.
+fn common_divisor(num: u64, den: u64) -> u64
+    requires { 0 < den }
+    ensures { IsGcd num den result }
+{
+    if num % den == 0 {
+        return den;
+    }
+    gcd(num as u128, den as u128) as u64
+}
+
 impl Sharpness {
     ghost use Rattle.subdiv_model.specs.Sharpness.{sharpness_of_fraction, is_sharp};
     ghost use Rattle.sharpness_rules.specs.View.{sharpness_of};
@@ -61,7 +73,7 @@ impl Sharpness {
         if num >= 10 * den {
             return Sharpness::Infinite;
         }
-        let common = gcd(num as u128, den as u128) as u64;
+        let common = common_divisor(num, den);
         Sharpness::Semi(Semi {
             num: num / common,
             den: den / common,

@@ -1,6 +1,6 @@
-ghost use Rattle.std.specs.Prelude.{◌≡◌, ◌*◌, ◌^◌, ◌<◌, ◌≤◌, ℕ, List, ◌++◌, length, map};
-ghost use Rattle.std.specs.Int.{◌∣◌};
+ghost use Rattle.std.specs.Prelude.{◌≡◌, ◌*◌, ◌^◌, ◌<◌, ◌≤◌, ℕ, List, ◌++◌, IfNone, IfSome, length, map};
 ghost use Rattle.std.specs.List.{flat_map};
+ghost use Rattle.ratio128.specs.Ratio.{IsLcm};
 ghost use Rattle.subdiv_model.specs.Rule.{ended_value, ended_values};
 ghost use Rattle.subdiv_model.specs.Sharpness.{semi_values};
 ghost use Rattle.sharpness_rules.specs.Totals.{IsTotal, Sums, parts_over};
@@ -11,14 +11,29 @@ use crate::total::Total;
 use crate::{Semi, SharpOverflow, Sharpness};
 use ratio128::lcm_within;
 
-/// The value in parts of 1 over `den`, which its own denominator divides.
+/// The value in parts of 1 over `den`, exact where its own denominator divides `den`.
 pub fn parts_of(value: Semi, den: u128) -> u128
-    requires divides { value.den ∣ den }
     requires short { den ≤ 2 ^ 60 }
     ensures parts { result ≡ parts_over den (value.num, value.den) }
     ensures bounded { result ≤ 10 * den }
 {
     value.num() as u128 * (den / value.den() as u128)
+}
+
+// The least common multiple of two denominators, where it is at most 2^60. Whole values, and values of one
+// denominator, need no common divisor, which takes by far the most time.
+fn common_denominator(a: u128, b: u128) -> Option<u128>
+    requires a_positive { 0 < a }
+    requires b_positive { 0 < b }
+    requires short { a ≤ 2 ^ 60 }
+    ensures passed { IfNone result ((m : ℕ) → IsLcm a b m → 2 ^ 60 < m) }
+    ensures multiple { IfSome result (IsLcm a b) }
+    ensures within { IfSome result (λ m. m ≤ 2 ^ 60) }
+{
+    if b == 1 || a == b {
+        return Some(a);
+    }
+    lcm_within(a, b, GREATEST_DENOMINATOR)
 }
 
 // The total with one value more where `s` is semi-sharp, and else the same. `SharpOverflow` comes
@@ -31,7 +46,7 @@ fn plus(total: Total, s: Sharpness) -> Result<Total, SharpOverflow>
     let Sharpness::Semi(value) = s else {
         return Ok(total);
     };
-    let Some(den) = lcm_within(total.den, value.den() as u128, GREATEST_DENOMINATOR) else {
+    let Some(den) = common_denominator(total.den, value.den() as u128) else {
         return Err(SharpOverflow);
     };
     Ok(Total {

@@ -1,35 +1,23 @@
-use Rattle.std.proofs.Common.{◌∙◌, ◌<◌, ap, sym, arith, map}
-use Rattle.std.proofs.lemmas.Nat.Gcd.{dvd_trans}
+use Rattle.std.proofs.Common.{◌≡◌, ◌∙◌, ◌&&◌, ◌↔◌, sym, ap, subst, map, get_or, IsErr, IsTrue}
+use Rattle.std.proofs.lemmas.List.{get_or-map}
 use Rattle.std.proofs.lemmas.Result.{IfOk-weaker}
-use Rattle.subdiv_model.specs.Sharpness.{chaikin_child_of}
+use Rattle.subdiv_model.specs.Sharpness as model
+use Rattle.subdiv_model.specs.Sharpness.{Smooth, chaikin_child_of, chaikin_overflows, is_semi_sharp}
+use Rattle.sharpness_rules.specs.declared.child.Method.TheVariants.{Chaikin}
 use Rattle.sharpness_rules.specs.View.{sharpness_of}
-use Rattle.sharpness_rules.proofs.RingLemmas.{ring_values, ring-proper, length-ring, edge-at, edge-divides, edge-parts, edge-overflows}
-use Rattle.sharpness_rules.proofs.HalfLemmas.{half-value, total-common}
 use Rattle.sharpness_rules.proofs.child.chaikin_child.Goals as goal
 
-pub returns-in_err-total-clause-overflow : goal.returns-in_err-total-clause-overflow
-returns-in_err-total-clause-overflow c = (
-  λ _. edge-overflows c.args.ring.now c.args.at _ c.in-Semi.edge c.requires.in_range c.in-Semi.is c.in_err-total.ensures,
-  λ _. c.from_residual.ensures.0,
-)
-
-pub half_of-requires-clause-few : goal.half_of-requires-clause-few
-half_of-requires-clause-few c = omega (arith, c.in_ok-total.ensures.count, length-ring c.args.ring.now)
-
-pub half_of-requires-clause-divides : goal.half_of-requires-clause-divides
-half_of-requires-clause-divides c =
-    let edge = edge-divides c.args.ring.now c.args.at _ c.in-Semi.edge c.requires.in_range c.in-Semi.is in
-    dvd_trans c.in-Semi.edge.den edge (total-common (ring_values c.args.ring.now) c.in_ok-total.total c.in_ok-total.ensures)
-
-pub half_of-requires-clause-among : goal.half_of-requires-clause-among
-half_of-requires-clause-among c =
-    let part = edge-parts c.args.ring.now c.args.at _ c.in-Semi.edge c.in_ok-total.total.den c.requires.in_range c.in-Semi.is in omega (arith, part, c.in_ok-total.ensures.num)
+pub returns-clause-overflow : goal.returns-clause-overflow
+returns-clause-overflow c =
+    let ring = map sharpness_of c.args.ring.now in
+    let here : get_or ring c.args.at Smooth ≡ sharpness_of c.index-ring-at.result =
+    get_or-map sharpness_of c.args.ring.now c.args.at _ Smooth c.requires.in_range ∙ ap sharpness_of (sym c.index-ring-at.is) in
+    let P : model.Sharpness → Type 0 = λ s. IsErr c.half.result ↔ IsTrue (is_semi_sharp s && chaikin_overflows ring) in
+    subst P (sym here) (c.half.ensures.overflow Chaikin c.args.ring.now c.of.ensures)
 
 pub returns-clause-child : goal.returns-clause-child
 returns-clause-child c =
-    let edge = edge-divides c.args.ring.now c.args.at _ c.in-Semi.edge c.requires.in_range c.in-Semi.is in
-    let divides = dvd_trans c.in-Semi.edge.den edge (total-common (ring_values c.args.ring.now) c.in_ok-total.total c.in_ok-total.ensures) in
-    let positive : 0 < c.in-Semi.edge.den = omega arith in
-    let half = half-value (ring_values c.args.ring.now) (c.in-Semi.edge.num, c.in-Semi.edge.den) c.in_ok-total.total (ring-proper c.args.ring.now) positive divides c.in_ok-total.ensures c.if-total-lt2.false in
-    let there = ap (chaikin_child_of (map sharpness_of c.args.ring.now)) (edge-at c.args.ring.now c.args.at _ c.in-Semi.edge c.requires.in_range c.in-Semi.is) in
-    IfOk-weaker c.half_of.result _ _ (λ s made. made ∙ half ∙ sym there) c.half_of.ensures.half
+    let ring = map sharpness_of c.args.ring.now in
+    let here : get_or ring c.args.at Smooth ≡ sharpness_of c.index-ring-at.result =
+    get_or-map sharpness_of c.args.ring.now c.args.at _ Smooth c.requires.in_range ∙ ap sharpness_of (sym c.index-ring-at.is) in
+    IfOk-weaker c.half.result _ _ (λ s made. made ∙ sym (ap (chaikin_child_of ring) here)) (c.half.ensures.half Chaikin c.args.ring.now c.args.at c.of.ensures c.requires.in_range c.index-ring-at.is)

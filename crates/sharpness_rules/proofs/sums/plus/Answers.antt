@@ -3,19 +3,16 @@ use Rattle.sharpness_rules.proofs.MultipleLemmas.{IsLcm-positive}
 use Rattle.sharpness_rules.proofs.TotalLemmas.{IsTotal-push, scaled-bounded, product-bounded, push-too_fine}
 use Rattle.sharpness_rules.proofs.sums.plus.Goals as goal
 
-pub returns-in_default-lcm_within : goal.returns-in_default-lcm_within
-returns-in_default-lcm_within c = λ values is.
+pub returns-in_default-common_denominator : goal.returns-in_default-common_denominator
+returns-in_default-common_denominator c = λ values is.
     rw c.in-Semi.is
-    (push-too_fine values (c.in-Semi.value.num, c.in-Semi.value.den) c.args.total.den _ is.den (rw (← c.den.ensures) c.in_default-lcm_within.ensures.passed))
+    (push-too_fine values (c.in-Semi.value.num, c.in-Semi.value.den) c.args.total.den _ is.den (rw (← c.den.ensures) c.in_default-common_denominator.ensures.passed))
 
 pub overflow_mul-result : goal.overflow_mul-result
 overflow_mul-result c =
     let scaled = scaled-bounded c.args.total.num c.args.total.count c.args.total.den c.in-Some.den c.args.total.bounded c.in-Some.ensures.multiple.first in
     let product = product-bounded c.args.total.count c.in-Some.den (omega arith) c.in-Some.ensures.within in
     omega (arith, scaled, product)
-
-pub parts_of-requires-clause-divides : goal.parts_of-requires-clause-divides
-parts_of-requires-clause-divides c = rw (← c.den.ensures) c.in-Some.ensures.multiple.second
 
 pub overflow_add-result-2 : goal.overflow_add-result-2
 overflow_add-result-2 c =

@@ -1,0 +1,51 @@
+ghost use Rattle.std.specs.Prelude.{◌≡◌, ◌+◌, ◌-◌, ◌*◌, ◌^◌, ◌<◌, ◌≤◌, MatchOption};
+ghost use Rattle.subdiv_model.specs.Sharpness.{sharpness_of_fraction};
+ghost use Rattle.sharpness_rules.specs.Totals.{parts_over};
+
+use crate::sharpness::GREATEST_DENOMINATOR;
+use crate::sums::parts_of;
+use crate::total::Total;
+use crate::{Semi, Sharpness};
+use ratio128::times_within;
+
+/// The sum of two or more semi-sharp edges at a vertex, and what their halves are made over: 4(c - 1)
+/// times their common denominator.
+#[derive(Clone, Copy)]
+pub struct Shares {
+    pub total: Total,
+    pub den: u64,
+    ghost several: { 2 ≤ total.count },
+    ghost few: { total.count ≤ 2 ^ 32 },
+    ghost product: { den ≡ 4 * (total.count - 1) * total.den },
+    ghost short: { den ≤ 2 ^ 60 },
+}
+
+impl Shares {
+    ghost use Rattle.sharpness_rules.specs.View.{sharpness_of};
+
+    /// The shares of these edges. `None` comes exactly where their denominator passes 2^60.
+    pub fn of(total: Total) -> Option<Shares>
+        requires several { 2 ≤ total.count }
+        requires few { total.count ≤ 2 ^ 32 }
+        ensures { MatchOption result (2 ^ 60 < 4 * (total.count - 1) * total.den) (λ shares. shares.total ≡ total) }
+    {
+        let others = (total.count - 1) as u128;
+        let den = times_within(4 * others, total.den, GREATEST_DENOMINATOR)?;
+        Some(Shares {
+            total,
+            den: den as u64,
+        })
+    }
+
+    /// The half of one of the edges.
+    pub fn half_of(self, edge: Semi) -> Sharpness
+        ensures { let own = parts_over self.total.den (edge.num, edge.den) in
+            let whole = 4 * (self.total.count - 1) * self.total.den in
+            sharpness_of result ≡ sharpness_of_fraction (3 * (self.total.count - 1) * own + (self.total.num - own) - whole, whole) }
+    {
+        let others = (self.total.count - 1) as u128;
+        let own = parts_of(edge, self.total.den);
+        let sum = 3 * others * own + self.total.num.saturating_sub(own);
+        Sharpness::new(sum.saturating_sub(self.den as u128) as u64, self.den)
+    }
+}
