@@ -8,3 +8,4 @@ pub mod BoundLemmas
 pub mod VertexLemmas
 pub mod SharpLemmas
 pub mod EqualLemmas
+mod RoomLemmas

@@ -1,21 +1,19 @@
 -- The mask of a vertex, from what was put together for it.
-use Rattle.std.proofs.Common.{◌≡◌, ℕ, true, false, MatchResult, ◌-◌, ◌*◌, ◌/◌, ◌<◌, Result, Ok, Err, IfOk, List, [], length, get_or, refl, ap, sym, ◌∙◌, subst}
+use Rattle.std.proofs.Common.{◌≡◌, ℕ, true, false, MatchResult, ◌-◌, ◌*◌, ◌/◌, ◌<◌, Result, Ok, Err, IfOk, List, [], length, get_or, ap, sym, ◌∙◌, subst}
 use Rattle.subdiv_model.specs.Multiples.{lcm_of}
 use Rattle.subdiv_model.specs.Rule.{Rule}
 use Rattle.subdiv_model.specs.Sharpness.{Sharpness, Smooth, half_child}
 use Rattle.subdiv_model.specs.Rule.{vertex_rule, child_ring}
-use Rattle.subdiv_model.specs.Mask.{Mask, Linear, CatmullClark, mask_of_rule, blend, vertex_mask, corner_mask}
+use Rattle.subdiv_model.specs.Mask.{Mask, CatmullClark, mask_of_rule, blend, vertex_mask}
 use Rattle.subdiv_model.specs.Channel.{transition_overflows_at}
 use Rattle.sharpness_laws.specs.SameWeights.{is_joined}
 use Rattle.level_topology.specs.Topology.{Topology, IsTopology}
 use Rattle.level_topology.proofs.LawLemmas.{faces-once}
 use Rattle.std.proofs.lemmas.List.{length-map}
 use Rattle.sharpness_laws.proofs.MaskOrderLemmas.{same_weights-sym, same_weights-trans}
-use Rattle.mask_laws.proofs.MaskLemmas.{mean-corner}
 use Rattle.mask_rules.specs.declared.vertex.VertexMask.{VertexMask}
 use Rattle.mask_rules.specs.declared.mask.MaskFault.{MaskFault}
 use Rattle.mask_rules.specs.declared.mask.MaskFault.TheVariants as fault
-use Rattle.ratio128.specs.declared.memory.Memory as memory
 use Rattle.mask_rules.specs.View.{seen_vertex}
 use Rattle.mask_rules.specs.Masks.{IsMask, IsJoinedAs}
 use Rattle.mask_rules.specs.Around.{ends_in, faces_in, ring_in, end_of_edge, mask_in, is_refused_in, IsFaultWhere, HasSharpBoundaryAt}
@@ -89,11 +87,3 @@ module _ (t : Topology) (v : ℕ) (is : IsTopology t) (inside : v < t.level.poin
   by-rules (Ok m) h = (from-joined (seen_vertex m) h.0, sym (refused-same t v is inside) ∙ h.1)
   by-rules (Err fault.Transition) h = sym (refused-same t v is inside) ∙ h
   by-rules (Err fault.Memory) h = tt
-
--- the linear scheme
-pub by-corner : (t : Topology) (v : ℕ) (made : Result VertexMask memory.Memory) (r : Result VertexMask MaskFault)
-    → MatchResult made (λ m. r ≡ Ok m) (λ _. r ≡ Err fault.Memory) → IfOk made (λ m. IsJoinedAs (seen_vertex m) (corner_mask v))
-    → MatchResult r (λ m. IsMask (seen_vertex m) (vertex_mask t.level Linear v) × (transition_overflows_at t.level Linear v ≡ false))
-    (IsFaultWhere (transition_overflows_at t.level Linear v))
-by-corner t v (Ok m) r e h = rw e (is-mask (seen_vertex m) (corner_mask v) h.joined h.same (mean-corner v), refl)
-by-corner t v (Err x) r e h = rw e tt

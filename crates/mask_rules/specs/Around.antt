@@ -1,5 +1,5 @@
 -- What stands around a point of a level, in the order of the level's lists.
-use Rattle.std.specs.Prelude.{◌≡◌, ℕ, ◌<◌, Bool, true, not, ◌&&◌, IsTrue, List, [], length, map, get_or}
+use Rattle.std.specs.Prelude.{◌≡◌, ℕ, ◌+◌, ◌<◌, ◌≤◌, Bool, true, not, ◌&&◌, IsTrue, List, [], length, map, get_or}
 use Rattle.subdiv_model.specs.Polygons.{Polygon}
 use Rattle.subdiv_model.specs.Sharpness.{Sharpness, Smooth, Infinite, uniform_child}
 use Rattle.subdiv_model.specs.Rule.{child_ring, vertex_rule, same_mask, transition_overflows}
@@ -48,3 +48,7 @@ abbrev pub HasSharpBoundaryAt : Level → ℕ → Type 0
 HasSharpBoundaryAt level v =
     (e : ℕ) → e < length (edges_of level.polygons) → IsTrue (has_end v (edge_at level.polygons e)) → IsTrue (is_boundary level.polygons (edge_at level.polygons e))
     → get_or level.edge_sharpness e Smooth ≡ Infinite
+
+-- a point, its edges and its faces are at most 16 terms
+abbrev pub HasFewTerms : Topology → ℕ → Type 0
+HasFewTerms t v = 1 + length (get_or t.edges_at v []) + length (get_or t.faces_at v []) ≤ 16

@@ -2,3 +2,4 @@ pub mod View
 pub mod Masks
 pub mod Spread
 pub mod Around
+pub mod Room

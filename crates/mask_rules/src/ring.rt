@@ -1,13 +1,16 @@
 //! The sharpness of the edges at a vertex, in its level and in the next.
 
-ghost use Rattle.std.specs.Prelude.{◌≡◌, ◌<◌, ◌^◌, false, length, map, get_or};
-ghost use Rattle.subdiv_model.specs.Sharpness.{Smooth, Chaikin, half_child, chaikin_overflows};
+ghost use Rattle.std.specs.Prelude.{◌≡◌, ℕ, ◌<◌, ◌^◌, false, List, length, map, get_or};
+ghost use Rattle.subdiv_model.specs.Sharpness.{Chaikin, half_child, chaikin_overflows};
 ghost use Rattle.subdiv_model.specs.Rule.{child_ring, same_mask, is_smooth_or_dart, is_crease_of};
+ghost use Rattle.sharpness_rules.specs.declared.child.Method.{Method};
+ghost use Rattle.sharpness_rules.specs.declared.sharpness.Sharpness.{Sharpness};
 ghost use Rattle.sharpness_rules.specs.View.{sharpness_of, method_of, rule_of};
+ghost use Rattle.sharpness_rules.specs.Halves.{AreHalves, halves_overflow};
 ghost use Rattle.mask_rules.specs.Around.{ring_in};
 
 use level_topology::Level;
-use sharpness_rules::{Method, Rule, Sharpness, chaikin_child, uniform_child};
+use sharpness_rules::{Halves, Method, Rule, Sharpness};
 
 // The sharpness of the edges at a point.
 pub(crate) fn put_ring(level: &Level, v: u32, ring: &mut [Sharpness])
@@ -21,19 +24,14 @@ pub(crate) fn put_ring(level: &Level, v: u32, ring: &mut [Sharpness])
     }
 }
 
-// The half, at the vertex of a ring, of the edge at a place.
-fn half_child(method: Method, ring: &[Sharpness], place: usize) -> Sharpness
-    requires inside { place < length ring.now }
-    requires short { length ring.now < 2 ^ 32 }
-    requires fine { method_of method ≡ Chaikin → chaikin_overflows (map sharpness_of ring.now) ≡ false }
-    ensures { sharpness_of result ≡ half_child (method_of method) (map sharpness_of ring.now) (get_or (map sharpness_of ring.now) place Smooth) }
+// The half of an edge, by its sharpness, of a ring whose halves do not overflow.
+fn half_of(halves: Halves, s: Sharpness) -> Sharpness
+    ensures { (method : Method) (ring : List Sharpness) (at : ℕ) → AreHalves method ring halves → halves_overflow method ring ≡ false
+        → at < length ring → s ≡ get_or ring at s → sharpness_of result ≡ half_child (method_of method) (map sharpness_of ring) (sharpness_of s) }
 {
-    match method {
-        Method::Normal => uniform_child(ring[place]),
-        Method::Chaikin => match chaikin_child(ring, place) {
-            Ok(half) => half,
-            Err(_) => ring[place],
-        },
+    match halves.half(s) {
+        Ok(half) => half,
+        Err(_) => s,
     }
 }
 
@@ -44,8 +42,9 @@ pub(crate) fn put_child_ring(method: Method, ring: &[Sharpness], next: &mut [Sha
     requires fine { method_of method ≡ Chaikin → chaikin_overflows (map sharpness_of ring.now) ≡ false }
     ensures { map sharpness_of next.new ≡ child_ring (method_of method) (map sharpness_of ring.now) }
 {
-    for place in 0..ring.len() {
-        next[place] = half_child(method, ring, place);
+    let halves = Halves::of(method, ring);
+    for (place, s) in ring.iter().enumerate() {
+        next[place] = half_of(halves, *s);
     }
 }
 

@@ -1,6 +1,6 @@
 //! The mask of a vertex by its rules in its level and in the next.
 
-ghost use Rattle.std.specs.Prelude.{◌≡◌, ◌+◌, ◌<◌, ◌≤◌, ◌^◌, true, false, IsTrue, [], length, map, get_or, IfOk, MatchResult};
+ghost use Rattle.std.specs.Prelude.{◌≡◌, ◌+◌, ◌<◌, ◌≤◌, ◌^◌, true, false, IsTrue, [], length, map, get_or, IsOk, IfOk, IfErr, MatchResult};
 ghost use Rattle.subdiv_model.specs.Sharpness.{Chaikin, chaikin_overflows};
 ghost use Rattle.subdiv_model.specs.Rule.{child_ring};
 ghost use Rattle.subdiv_model.specs.Mask.{CatmullClark, mask_of_rule, transition_mask, vertex_mask};
@@ -9,11 +9,11 @@ ghost use Rattle.sharpness_rules.specs.View.{sharpness_of, rule_of};
 ghost use Rattle.mask_rules.specs.View.{scheme_of, seen_vertex};
 ghost use Rattle.mask_rules.specs.Spread.{IsRuleAmong};
 ghost use Rattle.mask_rules.specs.Masks.{IsMask, IsJoinedAs};
-ghost use Rattle.mask_rules.specs.Around.{ends_in, faces_in, ring_in, mask_in, is_refused_in, IsFaultWhere, HasSharpBoundaryAt};
+ghost use Rattle.mask_rules.specs.Around.{ends_in, faces_in, ring_in, mask_in, is_refused_in, IsFaultWhere, HasSharpBoundaryAt, HasFewTerms};
 
 use crate::mask::{MaskFault, Scheme};
 use crate::ring::{is_same_mask, put_child_ring, put_ring};
-use crate::vertex::{VertexMask, one_rule, two_rules, valence};
+use crate::vertex::{VertexMask, alone, one_rule, two_rules, valence};
 use level_topology::Level;
 use ratio128::Memory;
 use sharpness_rules::{Rule, Sharpness, Weight, transition_weight, uniform_child, vertex_rule};
@@ -36,9 +36,10 @@ fn weighed(
     requires child { IsRuleAmong (rule_of child) (length (ends_in level.now v)) }
     requires part { weight.num ≤ weight.den }
     requires short { weight.den ≤ 2 ^ 60 }
-    ensures { IfOk result (λ m. IsJoinedAs (seen_vertex m) (transition_mask (weight.num, weight.den)
+    ensures mask { IfOk result (λ m. IsJoinedAs (seen_vertex m) (transition_mask (weight.num, weight.den)
         (mask_of_rule v (ends_in level.now v) (faces_in level.now v) (rule_of parent))
         (mask_of_rule v (ends_in level.now v) (faces_in level.now v) (rule_of child)))) }
+    ensures few { HasFewTerms level.now v → IsOk result }
 {
     if weight.num == weight.den {
         one_rule(alloc, level, v, parent)
@@ -68,8 +69,9 @@ fn between(
     requires short { length ring.now < 2 ^ 32 }
     requires ring { map sharpness_of ring.now ≡ ring_in level.now v }
     requires next { map sharpness_of next.now ≡ child_ring level.now.level.method (ring_in level.now v) }
-    ensures { MatchResult result (λ m. IsJoinedAs (seen_vertex m) (mask_in level.now v) × (is_refused_in level.now v ≡ false))
+    ensures mask { MatchResult result (λ m. IsJoinedAs (seen_vertex m) (mask_in level.now v) × (is_refused_in level.now v ≡ false))
         (IsFaultWhere (is_refused_in level.now v)) }
+    ensures few { HasFewTerms level.now v → IfErr result (λ fault. fault ≡ MaskFault.Transition) }
 {
     let vertex = level.vertex_sharpness(v);
     let vertex_child = uniform_child(vertex);
@@ -97,8 +99,9 @@ fn from_rings(
     requires beside { length next.old ≡ length (ring_in level.now v) }
     requires short { length ring.old < 2 ^ 32 }
     requires fine { level.now.level.method ≡ Chaikin → chaikin_overflows (ring_in level.now v) ≡ false }
-    ensures { MatchResult result (λ m. IsJoinedAs (seen_vertex m) (mask_in level.now v) × (is_refused_in level.now v ≡ false))
+    ensures mask { MatchResult result (λ m. IsJoinedAs (seen_vertex m) (mask_in level.now v) × (is_refused_in level.now v ≡ false))
         (IsFaultWhere (is_refused_in level.now v)) }
+    ensures few { HasFewTerms level.now v → IfErr result (λ fault. fault ≡ MaskFault.Transition) }
 {
     put_ring(level, v, ring);
     put_child_ring(level.method(), ring, next);
@@ -109,8 +112,9 @@ fn from_rings(
 fn by_rules(alloc: Global, level: &Level, v: u32) -> Result<VertexMask, MaskFault>
     requires known { v < level.now.level.point_count }
     requires fine { level.now.level.method ≡ Chaikin → chaikin_overflows (ring_in level.now v) ≡ false }
-    ensures { MatchResult result (λ m. IsJoinedAs (seen_vertex m) (mask_in level.now v) × (is_refused_in level.now v ≡ false))
+    ensures mask { MatchResult result (λ m. IsJoinedAs (seen_vertex m) (mask_in level.now v) × (is_refused_in level.now v ≡ false))
         (IsFaultWhere (is_refused_in level.now v)) }
+    ensures few { HasFewTerms level.now v → IfErr result (λ fault. fault ≡ MaskFault.Transition) }
 {
     let count = valence(level, v) as usize;
     if count <= FEW {
@@ -135,10 +139,11 @@ fn rings(alloc: Global, count: usize) -> Result<Vec<Sharpness>, Memory>
 }
 
 /// The mask of a vertex whose lists are complete. Under Catmull and Clark's scheme each edge of one face there is infinitely
-/// sharp, and under the method chaikin no half of an edge there is refused. Up to 16 edges and 16 terms take no memory.
+/// sharp, and under the method chaikin no half of an edge there is refused.
 ///
 /// `Transition` comes exactly where the scheme is Catmull and Clark's, the rules in this level and in the next name two
-/// masks, and the denominator of the weight between them, before it is reduced, passes 2^60; `Memory` where there is none.
+/// masks, and the denominator of the weight between them, before it is reduced, passes 2^60. `Memory` never comes under the
+/// linear scheme, nor where the point, its edges and its faces are at most 16 together.
 pub fn vertex_mask(
     alloc: Global,
     level: &Level,
@@ -149,13 +154,14 @@ pub fn vertex_mask(
     requires complete { get_or level.now.complete v false ≡ true }
     requires boundary { scheme_of scheme ≡ CatmullClark → HasSharpBoundaryAt level.now.level v }
     requires fine { scheme_of scheme ≡ CatmullClark → chaikin_overflows_at level.now.level v ≡ false }
-    ensures { MatchResult result
+    ensures mask { MatchResult result
         (λ m. IsMask (seen_vertex m) (vertex_mask level.now.level (scheme_of scheme) v) × (transition_overflows_at level.now.level (scheme_of scheme) v ≡ false))
         (IsFaultWhere (transition_overflows_at level.now.level (scheme_of scheme) v)) }
+    ensures few { (scheme_of scheme ≡ CatmullClark → HasFewTerms level.now v) → IfErr result (λ fault. fault ≡ MaskFault.Transition) }
 {
     level.facts();
     match scheme {
         Scheme::CatmullClark => by_rules(alloc, level, v),
-        Scheme::Linear => or_fault(one_rule(alloc, level, v, Rule::Corner)),
+        Scheme::Linear => Ok(alone(alloc, v)),
     }
 }

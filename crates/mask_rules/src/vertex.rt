@@ -1,15 +1,17 @@
 //! The new point of a vertex.
 
-ghost use Rattle.std.specs.Prelude.{◌≡◌, ◌<◌, ◌≤◌, ◌+◌, ◌*◌, ◌^◌, true, IsTrue, [], ◌∷◌, ◌++◌, length, map, get_or, OnOk, IfOk};
+ghost use Rattle.std.specs.Prelude.{◌≡◌, ◌<◌, ◌≤◌, ◌+◌, ◌*◌, ◌^◌, true, IsTrue, [], ◌∷◌, ◌++◌, length, map, get_or, IsOk, OnOk, IfOk};
 ghost use Rattle.subdiv_model.specs.Edges.{edges_of};
 ghost use Rattle.subdiv_model.specs.Multiples.{lcm_of};
-ghost use Rattle.subdiv_model.specs.Mask.{weigh, weigh_faces, mask_of_rule, blend};
+ghost use Rattle.subdiv_model.specs.Mask.{weigh, weigh_faces, corner_mask, mask_of_rule, blend};
 ghost use Rattle.sharpness_rules.specs.View.{rule_of};
 ghost use Rattle.level_topology.specs.Topology.{edge_at};
 ghost use Rattle.mask_rules.specs.View.{source_of, terms_of, seen_vertex};
 ghost use Rattle.mask_rules.specs.Spread.{vertex_weight, end_weight, face_weight, rule_denominator, end_terms, positive, spread_mask, IsRuleAmong};
-ghost use Rattle.mask_rules.specs.Masks.{IsJoinedAs};
-ghost use Rattle.mask_rules.specs.Around.{end_of_edge, ends_in, faces_in};
+ghost use Rattle.mask_rules.specs.Masks.{IsMask, IsJoinedAs};
+ghost use Rattle.mask_rules.specs.Around.{end_of_edge, ends_in, faces_in, HasFewTerms};
+ghost use Rattle.mask_rules.specs.Room.{Grows};
+ghost use Rattle.smallvec.specs.SmallVec.{HasRoomFor};
 
 use crate::mask::{At, Term};
 use level_topology::Level;
@@ -127,7 +129,9 @@ impl Parts {
 
 // A term more, unless its weight is 0.
 fn put(terms: &mut SmallVec<Term, 16>, at: At, weight: u128) -> Result<(), Memory>
-    ensures { OnOk result (terms_of terms.new.items ≡ terms_of terms.old.items ++ positive (weigh weight (source_of at) ∷ [])) }
+    ensures terms { OnOk result (terms_of terms.new.items ≡ terms_of terms.old.items ++ positive (weigh weight (source_of at) ∷ [])) }
+    ensures grows { OnOk result (Grows terms.old 1 terms.new) }
+    ensures room { HasRoomFor terms.old 1 → IsOk result }
 {
     if weight > 0 {
         terms.push(Term { at, weight })?;
@@ -153,8 +157,10 @@ fn put_ends(
 ) -> Result<(), Memory>
     requires known { v < level.now.level.point_count }
     requires small { parts.by + parts.rest < 2 ^ 128 }
-    ensures { OnOk result (terms_of terms.new.items ≡ terms_of terms.old.items
+    ensures terms { OnOk result (terms_of terms.new.items ≡ terms_of terms.old.items
         ++ positive (end_terms (λ i. parts.by * end_weight (rule_of parts.parent) i + parts.rest * end_weight (rule_of parts.child) i) 0 (ends_in level.now v))) }
+    ensures grows { OnOk result (Grows terms.old (length (get_or level.now.edges_at v [])) terms.new) }
+    ensures room { HasRoomFor terms.old (length (get_or level.now.edges_at v [])) → IsOk result }
 {
     level.facts();
     for (place, e) in level.vertex_edges(v).iter().enumerate() {
@@ -175,7 +181,9 @@ fn put_faces(
     weight: u128,
 ) -> Result<(), Memory>
     requires { v < level.now.level.point_count }
-    ensures { OnOk result (terms_of terms.new.items ≡ terms_of terms.old.items ++ positive (weigh_faces weight (faces_in level.now v))) }
+    ensures terms { OnOk result (terms_of terms.new.items ≡ terms_of terms.old.items ++ positive (weigh_faces weight (faces_in level.now v))) }
+    ensures grows { OnOk result (Grows terms.old (length (faces_in level.now v)) terms.new) }
+    ensures room { HasRoomFor terms.old (length (faces_in level.now v)) → IsOk result }
 {
     for f in level.vertex_faces(v) {
         put(terms, At::FacePoint(*f), weight)?;
@@ -195,8 +203,9 @@ pub(crate) fn spread(
     requires fits { parts.by * rule_denominator (rule_of parts.parent) (length (ends_in level.now v))
         + parts.rest * rule_denominator (rule_of parts.child) (length (ends_in level.now v)) < 2 ^ 128 }
     requires small { parts.by + parts.rest < 2 ^ 128 }
-    ensures { IfOk result (λ m. seen_vertex m
+    ensures mask { IfOk result (λ m. seen_vertex m
         ≡ spread_mask (rule_of parts.parent) (rule_of parts.child) parts.by parts.rest denominator v (ends_in level.now v) (faces_in level.now v)) }
+    ensures few { HasFewTerms level.now v → IsOk result }
 {
     let mut terms = SmallVec::new(alloc);
     let valence = level.vertex_edges(v).len() as u64;
@@ -204,6 +213,21 @@ pub(crate) fn spread(
     put_ends(&mut terms, level, v, parts)?;
     put_faces(&mut terms, level, v, parts.of_face())?;
     Ok(VertexMask { terms, denominator })
+}
+
+// The vertex alone has all the weight.
+pub(crate) fn alone(alloc: Global, v: u32) -> VertexMask
+    ensures { IsMask (seen_vertex result) (corner_mask v) }
+{
+    let mut terms = SmallVec::new(alloc);
+    terms.push_reserved(Term {
+        at: At::Point(v),
+        weight: 1,
+    });
+    VertexMask {
+        terms,
+        denominator: 1,
+    }
 }
 
 // The mask of one rule.
@@ -215,9 +239,13 @@ pub(crate) fn one_rule(
 ) -> Result<VertexMask, Memory>
     requires known { v < level.now.level.point_count }
     requires among { IsRuleAmong (rule_of rule) (length (ends_in level.now v)) }
-    ensures { IfOk result (λ m. IsJoinedAs (seen_vertex m) (mask_of_rule v (ends_in level.now v) (faces_in level.now v) (rule_of rule))) }
+    ensures mask { IfOk result (λ m. IsJoinedAs (seen_vertex m) (mask_of_rule v (ends_in level.now v) (faces_in level.now v) (rule_of rule))) }
+    ensures few { HasFewTerms level.now v → IsOk result }
 {
     level.facts();
+    if rule == Rule::Corner {
+        return Ok(alone(alloc, v));
+    }
     let valence = level.vertex_edges(v).len() as u64;
     let parts = Parts {
         parent: rule,
@@ -251,9 +279,10 @@ pub(crate) fn two_rules(
     requires child { IsRuleAmong (rule_of child) (length (ends_in level.now v)) }
     requires part { weight.num ≤ weight.den }
     requires short { weight.den ≤ 2 ^ 60 }
-    ensures { IfOk result (λ m. IsJoinedAs (seen_vertex m) (blend (weight.num, weight.den)
+    ensures mask { IfOk result (λ m. IsJoinedAs (seen_vertex m) (blend (weight.num, weight.den)
         (mask_of_rule v (ends_in level.now v) (faces_in level.now v) (rule_of parent))
         (mask_of_rule v (ends_in level.now v) (faces_in level.now v) (rule_of child)))) }
+    ensures few { HasFewTerms level.now v → IsOk result }
 {
     level.facts();
     let valence = valence(level, v);

@@ -52,9 +52,9 @@ spread-requires-clause-small c =
     denominators (rule_of c.args.parent) (rule_of c.args.child) (length (ends_in c.args.level.now c.args.v)) c.valence-valence.result c.rule_denominator-p.result c.rule_denominator-r.result c.valence-valence.ensures (omega (arith, c.valence-valence.type_inv)) c.rule_denominator-p.ensures c.rule_denominator-r.ensures c.requires.parent c.requires.child in
     (amounts-fit c.args.weight.num c.args.weight.den c.rule_denominator-p.result c.rule_denominator-r.result c.common_multiple-multiple.result c.requires.part c.requires.short are.first are.second c.common_multiple-multiple.ensures (omega (arith, are.below, c.common_multiple-multiple.ensures))).small
 
-pub returns : goal.returns
-returns c =
+pub returns-clause-mask : goal.returns-clause-mask
+returns-clause-mask c =
     let p : c.rule_denominator-p.result ≡ rule_denominator (rule_of c.args.parent) (length (ends_in c.args.level.now c.args.v)) = c.rule_denominator-p.ensures ∙ ap (rule_denominator (rule_of c.args.parent)) c.valence-valence.ensures in
     let r : c.rule_denominator-r.result ≡ rule_denominator (rule_of c.args.child) (length (ends_in c.args.level.now c.args.v)) = c.rule_denominator-r.ensures ∙ ap (rule_denominator (rule_of c.args.child)) c.valence-valence.ensures in
     ok-weaker c.spread.result _ _ (λ m same. two-joined c.args.level.now c.args.v c.facts.ensures c.requires.known (c.args.weight.num, c.args.weight.den) (rule_of c.args.parent) (rule_of c.args.child)
-    c.rule_denominator-p.result c.rule_denominator-r.result c.common_multiple-multiple.result (seen_vertex m) p r c.common_multiple-multiple.ensures c.requires.parent c.requires.child same) c.spread.ensures
+    c.rule_denominator-p.result c.rule_denominator-r.result c.common_multiple-multiple.result (seen_vertex m) p r c.common_multiple-multiple.ensures c.requires.parent c.requires.child same) c.spread.ensures.mask
