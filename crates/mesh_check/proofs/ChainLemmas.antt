@@ -1,5 +1,5 @@
 -- A long walk from a start exists exactly where all items stand in one chain.
-use Rattle.std.proofs.Common.{◌≡◌, ℕ, zero, suc, ◌+◌, ◌<◌, ◌≤◌, Bool, true, false, not, ◌&&◌, nat_eq, nat_le, nat_lt, List, [], ◌∷◌, ◌++◌, length, get_or, arith, refl, ap, sym, subst, ◌∙◌, inl, inr}
+use Rattle.std.proofs.Common.{◌≡◌, ℕ, zero, suc, ◌+◌, ◌<◌, Bool, true, false, not, ◌&&◌, nat_eq, nat_le, nat_lt, List, [], ◌∷◌, ◌++◌, length, get_or, arith, refl, ap, sym, subst, ◌∙◌, inl, inr}
 use Rattle.std.specs.List.{list_all, range_with_len}
 use Rattle.std.proofs.lemmas.Bool.Decides.{nat_tests}
 use Rattle.std.proofs.lemmas.Bool.{and_parts, and_from, eqb-true, not-true}
@@ -8,40 +8,11 @@ use Rattle.std.proofs.lemmas.List.FromFn.{length-range_with_len}
 use Rattle.std.proofs.lemmas.List.Sorted.{IsPermutation-append_comm, list_any-IsPermutation}
 use Rattle.subdiv_model.specs.Polygons.{is_among, is_distinct}
 use Rattle.subdiv_model.specs.Lists.{last_of}
-use Rattle.subdiv_model.specs.Manifold.{without}
 use Rattle.mesh_laws.proofs.SideLemmas.{among-place}
+use Rattle.mesh_laws.proofs.WalkLemmas.{distinct-le}
 use Rattle.level_topology.proofs.FanOrderLemmas.{among-split, among-at}
 use Rattle.level_topology.proofs.PlaceLemmas.{distinct-permutation}
 use Rattle.mesh_check.specs.Chain.{Links, IsOneChain, walked, is_long_walk, IsStart}
-
-among-without : (n m : ℕ) (numbers : List ℕ) → is_among (without n numbers) m ≡ (not (nat_eq n m) && is_among numbers m)
-among-without n m [] = grind (arith, nat_tests)
-among-without n m (k ∷ numbers) = grind (arith, nat_tests, among-without n m numbers)
-
-without-le : (n : ℕ) (numbers : List ℕ) → length (without n numbers) ≤ length numbers
-without-le n [] = omega arith
-without-le n (k ∷ numbers) = grind (arith, nat_tests, without-le n numbers)
-
-without-lt : (n : ℕ) (numbers : List ℕ) → is_among numbers n ≡ true → length (without n numbers) < length numbers
-without-lt n [] h = absurd (cc)
-without-lt n (k ∷ numbers) h = grind (arith, nat_tests, without-le n numbers, without-lt n numbers)
-
--- distinct numbers that are all in another list are no more than it has
-distinct-le : (xs ys : List ℕ) → is_distinct xs ≡ true → ((n : ℕ) → is_among xs n ≡ true → is_among ys n ≡ true) → length xs ≤ length ys
-distinct-le [] ys d within = omega arith
-distinct-le (x ∷ xs) ys d within =
-    let parts = and_parts (not (is_among xs x)) (is_distinct xs) d in
-    let there : is_among ys x ≡ true = within x (grind (arith, nat_tests)) in
-    let less = without-lt x ys there in
-    let behind = distinct-le xs (without x ys) parts.1 (λ n h. among-without x n ys ∙ and_from _ _ (other n h parts.0) (within n (grind (arith, nat_tests)))) in
-    omega arith
-  where
-    other : (n : ℕ) → is_among xs n ≡ true → not (is_among xs x) ≡ true → not (nat_eq x n) ≡ true
-    other n h gone = here (nat_eq x n) refl
-      where
-        here : (b : Bool) → nat_eq x n ≡ b → not (nat_eq x n) ≡ true
-        here false e = ap not e
-        here true e = let same : is_among xs x ≡ true = ap (is_among xs) (eqb-true x n e) ∙ h in absurd (grind (arith, nat_tests))
 
 -- the numbers of a range
 among-range : (a n k : ℕ) → is_among (range_with_len a n) k ≡ (nat_le a k && nat_lt k (a + n))

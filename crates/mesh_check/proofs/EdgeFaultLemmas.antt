@@ -1,5 +1,5 @@
 -- The first edge that passes a test, in order of first appearance, is the first side that passes it.
-use Rattle.std.proofs.Common.{◌≡◌, ℕ, Bool, true, false, not, ◌&&◌, ◌||◌, nat_eq, nat_le, List, [], ◌∷◌, ◌++◌, map, arith, refl, ap, sym, ◌∙◌, Option, Some, None, ◌⊎◌, inl, inr}
+use Rattle.std.proofs.Common.{◌≡◌, ℕ, ◌+◌, ◌≤◌, Bool, true, false, not, ◌&&◌, ◌||◌, nat_eq, nat_le, List, [], ◌∷◌, ◌++◌, map, arith, refl, ap, sym, ◌∙◌, Option, Some, None, ◌⊎◌, inl, inr}
 use Rattle.std.specs.List.{filter, find, count_by}
 use Rattle.std.proofs.lemmas.Bool.Decides.{nat_tests}
 use Rattle.std.proofs.lemmas.Bool.{or_cases}
@@ -8,7 +8,7 @@ use Rattle.subdiv_model.specs.Polygons.{Polygon, same_edge, same_side}
 use Rattle.subdiv_model.specs.Edges.{all_sides, first_named, reversed, times_used}
 use Rattle.subdiv_model.specs.MeshFault.{NonManifoldEdge, WindingClash, is_crowded, is_clashing, crowded_edges, clashing_edges}
 use Rattle.number_laws.proofs.CountLemmas.{count-agree}
-use Rattle.mesh_laws.proofs.SideLemmas.{same_edge-alike, same_side-alike}
+use Rattle.mesh_laws.proofs.SideLemmas.{edge-count-le, same_edge-alike, same_side-alike}
 use Rattle.mesh_check.specs.Faults.{edge_faults, edge_named}
 
 -- the sides of an edge that does not pass may be left out
@@ -116,3 +116,20 @@ pub edge-first : (polygons : List Polygon) (crowded clashing : Option (ℕ × �
 edge-first polygons (Some edge) clashing h k = edge-crowded polygons edge h
 edge-first polygons None (Some edge) h k = edge-clashing polygons edge h k
 edge-first polygons None None h k = edge-fine polygons h k
+
+find-never : (test : ℕ × ℕ → Bool) → ((s : ℕ × ℕ) → test s ≡ false) → (sides : List (ℕ × ℕ)) → find test sides ≡ None
+find-never test never [] = refl
+find-never test never (s ∷ sides) = rw (never s) (find-never test never sides)
+
+-- where each side occurs at most once, no edge has a fault
+pub edge-once : (polygons : List Polygon) (sides slice : List (ℕ × ℕ)) → slice ≡ sides → sides ≡ all_sides polygons → ((s : ℕ × ℕ) → count_by (same_side s) slice ≤ 1) → None ≡ first_of (edge_faults polygons)
+edge-once polygons sides slice at is once =
+    edge-fine polygons
+    (crowded-first polygons sides slice None at is (sym (find-never (λ s. nat_le 3 (count_by (same_edge s) slice)) (λ s. few s (edge-count-le s slice)) slice)))
+    (clashing-first polygons sides slice None at is (sym (find-never (λ s. nat_le 2 (count_by (same_side s) slice) || nat_le 2 (count_by (same_side (reversed s)) slice)) (λ s. single (count_by (same_side s) slice) (count_by (same_side (reversed s)) slice) (once s) (once (reversed s))) slice)))
+  where
+    few : (s : ℕ × ℕ) → count_by (same_edge s) slice ≤ count_by (same_side s) slice + count_by (same_side (reversed s)) slice → nat_le 3 (count_by (same_edge s) slice) ≡ false
+    few s le = grind (arith, nat_tests, le, once s, once (reversed s))
+
+    single : (m n : ℕ) → m ≤ 1 → n ≤ 1 → (nat_le 2 m || nat_le 2 n) ≡ false
+    single m n h k = grind (arith, nat_tests)

@@ -18,7 +18,7 @@ use Rattle.mesh_check.specs.Turns.{turns_from, turns_of, turns_after, turns_at}
 use Rattle.mesh_check.specs.Group.{IsGroup}
 use Rattle.mesh_check.proofs.TurnLemmas.{is_turn, face-turns}
 
-abbrev no_turn : Turn
+abbrev pub no_turn : Turn
 no_turn = record { vertex = 0; before = 0; face = 0; after = 0 }
 
 -- the corner is at this vertex in this face

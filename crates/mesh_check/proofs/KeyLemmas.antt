@@ -45,7 +45,7 @@ none-below n m (x ∷ xs) h below =
     differ e = ap one_if e
 
 -- the least number stands at a place exactly where it stands more often than that
-again-count : (gap n : ℕ) (xs : List ℕ) → list_all (nat_le n) xs ≡ true → Rises xs → is_again gap xs n ≡ nat_lt gap (count_by (nat_eq n) xs)
+pub again-count : (gap n : ℕ) (xs : List ℕ) → list_all (nat_le n) xs ≡ true → Rises xs → is_again gap xs n ≡ nat_lt gap (count_by (nat_eq n) xs)
 again-count gap n [] below rises = grind (arith, nat_tests)
 again-count gap n (m ∷ ms) below rises = go gap (nat_eq n m) refl (λ g. again-count g n ms (and_parts (nat_le n m) (list_all (nat_le n) ms) below).1 rises.1)
   where

@@ -1,4 +1,5 @@
 mod KeyLemmas
+mod AloneLemmas
 mod PlaceLemmas
 mod SearchLemmas
 mod MarkLemmas
@@ -11,3 +12,13 @@ mod TurnLemmas
 mod CountLemmas
 mod GroupTurnLemmas
 mod FaultLemmas
+mod SplitLemmas
+mod VertexLemmas
+mod BoundaryLemmas
+mod HoleLemmas
+mod ValenceLemmas
+mod BaseFaceLemmas
+mod BaseMarkLemmas
+mod BaseTagLemmas
+mod BaseEdgeLemmas
+mod BaseLemmas

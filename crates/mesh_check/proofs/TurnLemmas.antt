@@ -1,13 +1,14 @@
 -- The corners of faces, one face after another.
-use Rattle.std.proofs.Common.{◌≡◌, ℕ, ◌+◌, ◌-◌, ◌<◌, ◌≤◌, Bool, true, false, ◌&&◌, ◌||◌, List, [], ◌∷◌, ◌++◌, length, map, get_or, drop, arith, refl, ap, sym, ◌∙◌, Some, append-nil, append_assoc}
+use Rattle.std.proofs.Common.{◌≡◌, ℕ, ◌+◌, ◌-◌, ◌*◌, ◌^◌, ◌%◌, ◌<◌, ◌≤◌, Bool, true, false, ◌&&◌, ◌||◌, List, [], ◌∷◌, ◌++◌, length, map, get_or, drop, arith, refl, ap, sym, ◌∙◌, Some, append-nil, append_assoc}
 use Rattle.std.specs.List.{slice_get, list_all, list_any}
+use Rattle.std.specs.List.Sorted.{IsNonDecreasingBy}
 use Rattle.std.proofs.lemmas.Bool.{and_from}
 use Rattle.subdiv_model.specs.Polygons.{Polygon, same_side, has_side, sides_back_to}
 use Rattle.subdiv_model.specs.Lists.{last_of}
 use Rattle.mesh_laws.proofs.SideLemmas.{same_side-refl}
 use Rattle.level_topology.proofs.FanOrderLemmas.{last-at}
 use Rattle.mesh_check.specs.declared.turns.Turn.{Turn}
-use Rattle.mesh_check.specs.Turns.{turns_from, turns_of, turns_after}
+use Rattle.mesh_check.specs.Turns.{turns_from, turns_of, turns_after, turn_key}
 use Rattle.mesh_check.proofs.PlaceLemmas.{drop-here, drop-all}
 
 -- the corners of one face more
@@ -62,3 +63,18 @@ path-vertices face first before (v ∷ rest) = ap (λ xs. v ∷ xs) (path-vertic
 -- the corners of a face, one for each
 pub face-vertices : (face : ℕ) (polygon : Polygon) → map (λ (t : Turn). t.vertex) (turns_of face polygon) ≡ polygon
 face-vertices face polygon = path-vertices face (get_or polygon 0 0) (get_or polygon (length polygon - 1) 0) polygon
+
+-- the key of a corner, where the corner before it is cut to 32 bits, so that the key tells the vertex in any case
+abbrev pub cut_key : Turn → ℕ
+cut_key t = t.vertex * 2 ^ 32 + t.before % 2 ^ 32
+
+-- where it fits, nothing is cut
+pub cut-same : (t : Turn) (key : ℕ) → key ≡ turn_key t → t.before < 2 ^ 32 → key ≡ cut_key t
+cut-same t key is short = omega arith
+
+-- corners that ascend by key ascend by vertex
+pub cut-vertices : (turns : List Turn) → IsNonDecreasingBy cut_key turns → IsNonDecreasingBy (λ t. t.vertex) turns
+cut-vertices turns sorted i j d h k = order (get_or turns i d) (get_or turns j d) (sorted i j d h k)
+  where
+    order : (s t : Turn) → cut_key s ≤ cut_key t → s.vertex ≤ t.vertex
+    order s t up = omega arith

@@ -1,5 +1,5 @@
 -- What a check of a mesh answers.
-use Rattle.std.specs.Prelude.{◌≡◌, true, Option, Some, None, length, replicate}
+use Rattle.std.specs.Prelude.{◌≡◌, true, Some, None, length, replicate}
 use Rattle.subdiv_model.specs.MeshFault.{first_mesh_fault}
 use Rattle.subdiv_model.specs.ObjMesh.{ObjMesh}
 use Rattle.subdiv_model.specs.Lists.{first_of}
@@ -7,7 +7,8 @@ use Rattle.subdiv_model.specs.Base.{base_level}
 use Rattle.subdiv_model.specs.Answer.{count_faults}
 use Rattle.subdiv_model.specs.Fault as run
 use Rattle.level_topology.specs.Topology.{Topology}
-use Rattle.mesh_check.specs.View.{mesh_fault_of, counted_of}
+use Rattle.level_topology.specs.CountedText.{counted_of}
+use Rattle.mesh_check.specs.View.{mesh_fault_of}
 use Rattle.mesh_check.specs.declared.fault.CheckFault.{CheckFault}
 use Rattle.mesh_check.specs.declared.fault.CheckFault.TheVariants.{Mesh, TooLarge, Memory}
 
@@ -19,11 +20,9 @@ pub record IsAccepted (mesh : ObjMesh) (level : Topology) : Type 0 where
   pub complete : level.complete ≡ replicate (length mesh.points) true
 
 -- the mesh is a manifold, and this is the first count that passes its limit
-pub record IsTooLarge (mesh : ObjMesh) (counted : Option run.Counted) : Type 0 where
+pub record IsTooLarge (mesh : ObjMesh) (counted : run.Counted) : Type 0 where
   pub manifold : first_mesh_fault (length mesh.points) mesh.faces ≡ None
-  pub first : run.Counted
-  pub is : counted ≡ Some first
-  pub named : first_of (count_faults mesh) ≡ Some (run.TooLarge first)
+  pub named : first_of (count_faults mesh) ≡ Some (run.TooLarge counted)
 
 -- the fault is the first one of the mesh, or else the first count that passes its limit; memory may run out at any mesh
 abbrev pub IsRefused : ObjMesh → CheckFault → Type 0

@@ -1,6 +1,6 @@
 -- Sides and edges as numbers, and the numbers that stand often among numbers that ascend.
-use Rattle.std.specs.Prelude.{ℕ, ◌+◌, ◌*◌, ◌^◌, ◌<◌, Bool, ◌&&◌, nat_eq, nat_le, nat_lt, List, [], ◌∷◌, length, get_or, IsTrue, if◌then◌else◌}
-use Rattle.std.specs.List.{list_all}
+use Rattle.std.specs.Prelude.{◌≡◌, ℕ, ◌+◌, ◌*◌, ◌^◌, ◌<◌, Bool, not, ◌&&◌, nat_eq, nat_le, nat_lt, List, [], ◌∷◌, length, map, get_or, IsTrue, if◌then◌else◌}
+use Rattle.std.specs.List.{list_all, count_by}
 use Rattle.level_topology.specs.BuilderEdges.{low_first}
 
 -- both ends fit 32 bits
@@ -33,3 +33,15 @@ is_again gap numbers n = nat_lt gap (length numbers) && nat_eq (get_or numbers g
 abbrev pub repeats : ℕ → List ℕ → List ℕ
 repeats gap [] = []
 repeats gap (n ∷ numbers) = if is_again gap (n ∷ numbers) n then n ∷ repeats gap numbers else repeats gap numbers
+
+-- the numbers that neither the one before nor the one behind is, where the first may be known to follow one that it is: of
+-- numbers that ascend, those that stand once
+abbrev pub alone_after : Bool → List ℕ → List ℕ
+alone_after again [] = []
+alone_after again (n ∷ numbers) = if not again && not (is_again 1 (n ∷ numbers) n) then n ∷ alone_after (is_again 1 (n ∷ numbers) n) numbers else alone_after (is_again 1 (n ∷ numbers) n) numbers
+
+-- the numbers of the edges of sides, ascending, each as often as sides are that edge
+pub record AreEdgeKeys (sides : List (ℕ × ℕ)) (keys : List ℕ) : Type 0 where
+  pub words : AreWords sides
+  pub rises : Rises keys
+  pub often : (n : ℕ) → count_by (nat_eq n) keys ≡ count_by (nat_eq n) (map edge_key sides)

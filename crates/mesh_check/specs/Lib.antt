@@ -6,4 +6,6 @@ pub mod Chain
 pub mod Group
 pub mod Turns
 pub mod Counts
+pub mod Base
 pub mod Checked
+pub mod Holes

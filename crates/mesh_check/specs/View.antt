@@ -2,8 +2,6 @@
 use Rattle.std.specs.Prelude.{ℕ, List, codes, Option, Some, None}
 use Rattle.subdiv_model.specs.MeshFault as model
 use Rattle.subdiv_model.specs.Fault as run
-use Rattle.level_topology.specs.declared.counted.Counted.{Counted}
-use Rattle.level_topology.specs.declared.counted.Counted.TheVariants as count
 use Rattle.level_topology.specs.CountedText.{text_of}
 use Rattle.mesh_check.specs.declared.fault.MeshFault.{MeshFault}
 use Rattle.mesh_check.specs.declared.fault.MeshFault.TheVariants as mesh
@@ -21,16 +19,6 @@ mesh_fault_of (mesh.SplitVertex v) = model.SplitVertex v
 abbrev pub named : Option MeshFault → Option model.MeshFault
 named None = None
 named (Some fault) = Some (mesh_fault_of fault)
-
--- what a mesh can have too much of; limit rows are no part of it
-abbrev pub counted_of : Counted → Option run.Counted
-counted_of (count.Points amount) = Some (run.Points amount)
-counted_of (count.Faces amount) = Some (run.Faces amount)
-counted_of (count.FaceSize face size) = Some (run.FaceSize face size)
-counted_of (count.Valence vertex amount) = Some (run.Valence vertex amount)
-counted_of (count.LevelFaces level amount) = Some (run.LevelFaces level amount)
-counted_of (count.Entries level) = Some (run.Entries level)
-counted_of count.LimitEntries = None
 
 abbrev pub check_text : CheckFault → List ℕ
 check_text (check.Mesh fault) = run.mesh_fault_text (mesh_fault_of fault)

@@ -1,33 +1,11 @@
 //! Whether items that each lead to one other at most stand in one chain.
 
-ghost use Rattle.std.specs.Prelude.{◌≡◌, ℕ, ◌+◌, ◌^◌, ◌<◌, true, false, nat_eq, length, get_or, slice_set, IfOk, MatchOption};
-ghost use Rattle.subdiv_model.specs.Polygons.{is_among};
+ghost use Rattle.std.specs.Prelude.{◌≡◌, ℕ, ◌+◌, ◌^◌, ◌<◌, true, false, nat_eq, length, get_or, IfOk, MatchOption};
 ghost use Rattle.mesh_check.specs.Chain.{IsOneChain, IsStart, is_long_walk};
 
-use crate::marks::{mark_at, no_marks};
+use crate::marks::{mark_at, marks_of, no_marks};
 use ratio128::Memory;
 use std::alloc::Global;
-
-// Sets the mark 1 at a place, where it is one.
-fn set_mark(marks: &mut Vec<u32>, place: u32)
-    ensures { marks.new.items ≡ slice_set marks.old.items place 1 }
-{
-    if (place as usize) < marks.len() {
-        marks[place as usize] = 1;
-    }
-}
-
-// The mark 1 at each item that one leads to.
-fn led_marks(alloc: Global, next: &[u32]) -> Result<Vec<u32>, Memory>
-    ensures size { IfOk result (λ led. length led.items ≡ length next.now) }
-    ensures led { IfOk result (λ led. (j : ℕ) → j < length next.now → nat_eq (get_or led.items j 0) 1 ≡ is_among next.now j) }
-{
-    let mut led = no_marks(alloc, next.len())?;
-    for i in 0..next.len() {
-        set_mark(&mut led, next[i]);
-    }
-    Ok(led)
-}
 
 // The first place without the mark 1.
 fn first_bare(marks: &[u32]) -> Option<usize>
@@ -45,7 +23,7 @@ fn first_bare(marks: &[u32]) -> Option<usize>
 fn start_of(alloc: Global, next: &[u32]) -> Result<usize, Memory>
     ensures { IfOk result (λ s. IsStart next.now s) }
 {
-    let led = led_marks(alloc, next)?;
+    let led = marks_of(alloc, next.len(), next)?;
     Ok(first_bare(&led).unwrap_or(0))
 }
 

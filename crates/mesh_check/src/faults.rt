@@ -1,15 +1,17 @@
 //! The first fault of a mesh, kind by kind.
 
-ghost use Rattle.std.specs.Prelude.{◌≡◌, IfOk};
+ghost use Rattle.std.specs.Prelude.{◌≡◌, length, IfOk};
 ghost use Rattle.obj_tags.specs.Laws.{IsWithin};
 ghost use Rattle.subdiv_model.specs.Lists.{first_of};
+ghost use Rattle.subdiv_model.specs.MeshFault.{first_mesh_fault};
 ghost use Rattle.mesh_check.specs.View.{named};
 ghost use Rattle.mesh_check.specs.Faults.{corner_faults, edge_faults, edge_named};
 
 use crate::corners::{repeating_face, small_face};
-use crate::edges::{clashing_side, crowded_side};
+use crate::edges::{clashing_side, crowded_side, occurs_twice};
 use crate::fault::MeshFault;
 use crate::sides::sides_of_faces;
+use crate::split::split_vertex;
 use obj_tags::RawMesh;
 use ratio128::Memory;
 use std::alloc::Global;
@@ -45,7 +47,29 @@ pub(crate) fn edge_fault(alloc: Global, raw: &RawMesh) -> Result<Option<MeshFaul
     ensures { IfOk result (λ found. named found ≡ first_of (edge_faults raw.now.faces)) }
 {
     let sides = sides_of_faces(alloc, raw)?;
+    let twice = occurs_twice(alloc, &sides)?;
+    if !twice {
+        return Ok(None);
+    }
     let crowded = crowded_side(alloc, &sides)?;
     let clashing = clashing_side(alloc, &sides)?;
     Ok(edge_named(crowded, clashing))
+}
+
+// The first fault of a mesh.
+pub(crate) fn mesh_fault(alloc: Global, raw: &RawMesh) -> Result<Option<MeshFault>, Memory>
+    requires { IsWithin raw.now }
+    ensures { IfOk result (λ found. named found ≡ first_mesh_fault (length raw.now.points) raw.now.faces) }
+{
+    if let Some(fault) = corner_fault(alloc, raw)? {
+        return Ok(Some(fault));
+    }
+    if let Some(fault) = edge_fault(alloc, raw)? {
+        return Ok(Some(fault));
+    }
+    let found = split_vertex(alloc, raw)?;
+    match found {
+        Some(v) => Ok(Some(MeshFault::SplitVertex(v))),
+        None => Ok(None),
+    }
 }

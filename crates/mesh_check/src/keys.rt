@@ -94,6 +94,24 @@ pub(crate) fn frequent(alloc: Global, keys: Vec<u64>, limit: usize) -> Result<Ve
     Ok(found)
 }
 
+// The numbers that stand once among numbers that ascend, ascending.
+pub(crate) fn alone(alloc: Global, keys: &[u64]) -> Result<Vec<u64>, Memory>
+    requires { Rises keys.now }
+    ensures rises { IfOk result (λ found. Rises found.items) }
+    ensures once { IfOk result (λ found. (n : ℕ) → is_among found.items n ≡ nat_eq (count_by (nat_eq n) keys.now) 1) }
+{
+    let mut found = Vec::new(alloc);
+    let mut again = false;
+    let mut rest = keys;
+    while let [key, others @ ..] = rest {
+        let next = is_again(rest, 1, *key);
+        put_if(!again && !next, &mut found, *key)?;
+        again = next;
+        rest = others;
+    }
+    Ok(found)
+}
+
 // Whether a number stands among numbers that ascend.
 pub(crate) fn is_known(keys: &[u64], key: u64) -> bool
     requires { Rises keys.now }

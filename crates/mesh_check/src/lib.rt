@@ -1,17 +1,23 @@
 //! The check of a mesh: what is wrong with it, or its level 0, in about the time that sorting its edges takes.
 #![tactic(auto)]
 
+mod base;
+mod base_corners;
+mod boundary;
 mod chain;
+mod check;
 mod corners;
 mod counts;
 mod edges;
 mod fan;
 mod fault;
 mod faults;
+mod holes;
 mod keys;
 mod marks;
 mod sides;
 mod split;
 mod turns;
 
+pub use check::check_mesh;
 pub use fault::{CheckFault, MeshFault};

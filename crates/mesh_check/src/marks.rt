@@ -1,6 +1,7 @@
 //! Marks at the places of a list.
 
-ghost use Rattle.std.specs.Prelude.{◌≡◌, ◌<◌, nat_eq, length, get_or, slice_set, replicate, IfOk};
+ghost use Rattle.std.specs.Prelude.{◌≡◌, ℕ, ◌<◌, nat_eq, length, get_or, slice_set, replicate, IfOk};
+ghost use Rattle.subdiv_model.specs.Polygons.{is_among};
 
 use ratio128::Memory;
 use std::alloc::Global;
@@ -25,4 +26,32 @@ pub(crate) fn mark_at(marks: &mut Vec<u32>, v: u32, mark: u32) -> bool
     let was = marks[v as usize] == mark;
     marks[v as usize] = mark;
     was
+}
+
+// Sets the mark 1 at a place, where it is one.
+pub(crate) fn set_mark(marks: &mut Vec<u32>, place: u32)
+    ensures { marks.new.items ≡ slice_set marks.old.items place 1 }
+{
+    if (place as usize) < marks.len() {
+        marks[place as usize] = 1;
+    }
+}
+
+// Of so many marks, the mark 1 at each of these places.
+pub(crate) fn marks_of(alloc: Global, count: usize, places: &[u32]) -> Result<Vec<u32>, Memory>
+    ensures size { IfOk result (λ marks. length marks.items ≡ count) }
+    ensures set { IfOk result (λ marks. (j : ℕ) → j < count → nat_eq (get_or marks.items j 0) 1 ≡ is_among places.now j) }
+{
+    let mut marks = no_marks(alloc, count)?;
+    for i in 0..places.len() {
+        set_mark(&mut marks, places[i]);
+    }
+    Ok(marks)
+}
+
+// Whether the mark 1 stands at a place.
+pub(crate) fn is_marked(marks: &[u32], place: u32) -> bool
+    ensures { result ≡ nat_eq (get_or marks.now place 0) 1 }
+{
+    (place as usize) < marks.len() && marks[place as usize] == 1
 }

@@ -1,9 +1,19 @@
-//! The corners at one vertex after another.
+//! The first vertex whose faces are more than one fan.
 
-ghost use Rattle.std.specs.Prelude.{◌≡◌, nat_eq, map, IfOk};
-ghost use Rattle.std.specs.List.{prefix_len};
+ghost use Rattle.std.specs.Prelude.{◌≡◌, ℕ, ◌^◌, ◌<◌, true, nat_eq, List, length, map, IfOk, IsTrue};
+ghost use Rattle.std.specs.List.{list_all, prefix_len};
+ghost use Rattle.obj_tags.specs.Laws.{IsWithin};
+ghost use Rattle.subdiv_model.specs.Lists.{first_of};
+ghost use Rattle.subdiv_model.specs.Polygons.{Polygon, is_distinct, has_distinct_sides};
+ghost use Rattle.subdiv_model.specs.Edges.{all_sides};
+ghost use Rattle.subdiv_model.specs.Manifold.{is_simple, has_one_fan};
+ghost use Rattle.subdiv_model.specs.MeshFault.{split_vertices};
+ghost use Rattle.mesh_check.specs.Keys.{Rises};
+ghost use Rattle.mesh_check.specs.Group.{IsGroup};
 
-use crate::turns::Turn;
+use crate::fan::is_fan;
+use crate::turns::{Turn, sort_turns, turns_of_faces};
+use obj_tags::RawMesh;
 use ratio128::Memory;
 use std::alloc::Global;
 
@@ -43,4 +53,38 @@ fn afters_of(alloc: Global, turns: &[Turn]) -> Result<Vec<u32>, Memory>
         corners.push(turn.after)?;
     }
     Ok(corners)
+}
+
+// Whether the faces at a vertex are one fan, by their corners there, which ascend by the corner before them.
+fn is_group_fan(alloc: Global, group: &[Turn]) -> Result<bool, Memory>
+    requires rises { Rises (map (λ turn. turn.before) group.now) }
+    requires once { is_distinct (map (λ turn. turn.before) group.now) ≡ true }
+    requires short { length group.now < 2 ^ 32 }
+    ensures { (polygons : List Polygon) (v : ℕ) (faces : List ℕ) → IsGroup polygons v (map (λ turn. turn.before) group.now) faces (map (λ turn. turn.after) group.now) → IsTrue (list_all is_simple polygons) → IsTrue (has_distinct_sides (all_sides polygons)) → IfOk result (λ is. is ≡ has_one_fan polygons v) }
+{
+    let befores = befores_of(alloc, group)?;
+    let afters = afters_of(alloc, group)?;
+    let is = is_fan(alloc, &befores, &afters)?;
+    Ok(is)
+}
+
+// The first vertex whose faces are more than one fan, where all faces are simple and no side occurs twice.
+pub(crate) fn split_vertex(alloc: Global, raw: &RawMesh) -> Result<Option<u32>, Memory>
+    requires within { IsWithin raw.now }
+    requires simple { IsTrue (list_all is_simple raw.now.faces) }
+    requires once { IsTrue (has_distinct_sides (all_sides raw.now.faces)) }
+    ensures { IfOk result (λ found. found ≡ first_of (split_vertices (length raw.now.points) raw.now.faces)) }
+{
+    let mut turns = turns_of_faces(alloc, raw)?;
+    sort_turns(&mut turns);
+    let mut rest = &turns[..];
+    while let [first, ..] = rest {
+        let v = first.vertex;
+        let (group, others) = rest.split_at(group_size(rest, v));
+        if !is_group_fan(alloc, group)? {
+            return Ok(Some(v));
+        }
+        rest = others;
+    }
+    Ok(None)
 }

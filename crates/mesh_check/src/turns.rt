@@ -56,6 +56,7 @@ pub(crate) fn turns_of_faces(alloc: Global, raw: &RawMesh) -> Result<Vec<Turn>, 
 pub(crate) fn sort_turns(turns: &mut Vec<Turn>)
     ensures moved { IsPermutation turns.old.items turns.new.items }
     ensures sorted { IsNonDecreasingBy turn_key turns.new.items }
+    ensures vertices { IsNonDecreasingBy (λ turn. turn.vertex) turns.new.items }
 {
     turns.sort_unstable_by_key(|turn| side_key((turn.vertex, turn.before)));
 }

@@ -1,0 +1,74 @@
+-- Numbers that ascend: those that stand once are those that neither the one before nor the one behind is.
+use Rattle.std.proofs.Common.{◌≡◌, ℕ, ◌+◌, ◌<◌, Bool, true, false, not, ◌&&◌, ◌||◌, nat_eq, nat_le, nat_lt, List, [], ◌∷◌, ◌++◌, length, append-nil, arith, refl, ap, sym, ◌∙◌, if◌then◌else◌}
+use Rattle.std.specs.List.{list_all, count_by}
+use Rattle.std.proofs.lemmas.Bool.Decides.{nat_tests}
+use Rattle.std.proofs.lemmas.Bool.{and_parts, and_from, eqb-true}
+use Rattle.subdiv_model.specs.Polygons.{is_among}
+use Rattle.number_laws.proofs.CountLemmas.{count-cons, one_if}
+use Rattle.mesh_check.specs.Keys.{Rises, is_again, alone_after}
+use Rattle.mesh_check.proofs.KeyLemmas.{again-count}
+
+-- a number that may be kept before others
+below-kept : (keep : Bool) (n x : ℕ) (xs : List ℕ) → nat_le n x ≡ true → list_all (nat_le n) xs ≡ true → list_all (nat_le n) (if keep then x ∷ xs else xs) ≡ true
+below-kept true n x xs first behind = and_from _ _ first behind
+below-kept false n x xs first behind = behind
+
+rise-kept : (keep : Bool) (x : ℕ) (xs : List ℕ) → list_all (nat_le x) xs ≡ true → Rises xs → Rises (if keep then x ∷ xs else xs)
+rise-kept true x xs below behind = (below, behind)
+rise-kept false x xs below behind = behind
+
+among-kept : (keep : Bool) (n x : ℕ) (xs : List ℕ) → is_among (if keep then x ∷ xs else xs) n ≡ ((keep && nat_eq n x) || is_among xs n)
+among-kept true n x xs = refl
+among-kept false n x xs = refl
+
+-- what is below all numbers is below those that stand once
+below-alone : (again : Bool) (n : ℕ) (xs : List ℕ) → list_all (nat_le n) xs ≡ true → list_all (nat_le n) (alone_after again xs) ≡ true
+below-alone again n [] h = refl
+below-alone again n (x ∷ xs) h =
+    let parts = and_parts (nat_le n x) (list_all (nat_le n) xs) h in
+    below-kept (not again && not (is_again 1 (x ∷ xs) x)) n x (alone_after (is_again 1 (x ∷ xs) x) xs) parts.0 (below-alone (is_again 1 (x ∷ xs) x) n xs parts.1)
+
+-- what is kept ascends
+pub alone-rise : (again : Bool) (xs : List ℕ) → Rises xs → Rises (alone_after again xs)
+alone-rise again [] h = h
+alone-rise again (x ∷ xs) h =
+    let next = is_again 1 (x ∷ xs) x in
+    rise-kept (not again && not next) x (alone_after next xs) (below-alone next x xs h.0) (alone-rise next xs h.1)
+
+-- what is kept stands once, and is not the first where that follows one that it is
+among-alone : (n : ℕ) (again : Bool) (xs : List ℕ) → Rises xs → is_among (alone_after again xs) n ≡ (nat_eq (count_by (nat_eq n) xs) 1 && not (again && is_again 0 xs n))
+among-alone n again [] h = grind (arith, nat_tests)
+among-alone n again (x ∷ xs) h =
+    among-kept (not again && not (is_again 1 (x ∷ xs) x)) n x (alone_after (is_again 1 (x ∷ xs) x) xs)
+    ∙ go (nat_eq n x) refl (again-count 0 x xs h.0 h.1) (among-alone n (is_again 1 (x ∷ xs) x) xs h.1)
+  where
+    next : is_again 1 (x ∷ xs) x ≡ is_again 0 xs x
+    next = grind (arith, nat_tests)
+
+    more : nat_eq n x ≡ true → count_by (nat_eq n) (x ∷ xs) ≡ 1 + count_by (nat_eq n) xs
+    more e = let first : one_if (nat_eq n x) ≡ 1 = ap one_if e in omega (arith, count-cons (nat_eq n) x xs, first)
+
+    apart : nat_eq n x ≡ false → count_by (nat_eq n) (x ∷ xs) ≡ count_by (nat_eq n) xs
+    apart e = let first : one_if (nat_eq n x) ≡ 0 = ap one_if e in omega (arith, count-cons (nat_eq n) x xs, first)
+
+    same : nat_eq n x ≡ true → count_by (nat_eq x) xs ≡ count_by (nat_eq n) xs
+    same e = ap (λ k. count_by (nat_eq k) xs) (sym (eqb-true n x e))
+
+    go : (b : Bool) → nat_eq n x ≡ b → is_again 0 xs x ≡ nat_lt 0 (count_by (nat_eq x) xs)
+        → is_among (alone_after (is_again 1 (x ∷ xs) x) xs) n ≡ (nat_eq (count_by (nat_eq n) xs) 1 && not (is_again 1 (x ∷ xs) x && is_again 0 xs n))
+        → (((not again && not (is_again 1 (x ∷ xs) x)) && nat_eq n x) || is_among (alone_after (is_again 1 (x ∷ xs) x) xs) n) ≡ (nat_eq (count_by (nat_eq n) (x ∷ xs)) 1 && not (again && is_again 0 (x ∷ xs) n))
+    go true e counted behind = let m = more e in let s = same e in grind (arith, nat_tests, next)
+    go false e counted behind = let m = apart e in grind (arith, nat_tests, next)
+
+-- what is kept is what stands once
+pub alone-count : (n : ℕ) (xs : List ℕ) → Rises xs → is_among (alone_after false xs) n ≡ nat_eq (count_by (nat_eq n) xs) 1
+alone-count n xs h = among-alone n false xs h ∙ whole (nat_eq (count_by (nat_eq n) xs) 1)
+  where
+    whole : (b : Bool) → (b && true) ≡ b
+    whole true = refl
+    whole false = refl
+
+-- where no number is left, what is found is all
+pub alone-end : (found rest keys : List ℕ) (again : Bool) → length rest < 1 → found ++ alone_after again rest ≡ alone_after false keys → found ≡ alone_after false keys
+alone-end found [] keys again h is = sym (append-nil found) ∙ is
+alone-end found (n ∷ rest) keys again h is = absurd (omega arith)

@@ -1,0 +1,201 @@
+//! Level 0 of a mesh that is a manifold.
+
+ghost use Rattle.std.specs.Prelude.{◌≡◌, ◌+◌, ◌^◌, ◌<◌, ◌≤◌, true, nat_lt, length, map, replicate, IfOk, OnOk, IsTrue};
+ghost use Rattle.std.specs.List.{list_all, list_any, filter, enumerate_from, sum_by};
+ghost use Rattle.subdiv_model.specs.Polygons.{same_edge};
+ghost use Rattle.subdiv_model.specs.Edges.{all_sides, edges_of, is_boundary};
+ghost use Rattle.subdiv_model.specs.Base.{base_level, is_base_hole};
+ghost use Rattle.obj_tags.specs.View.{crease_of, corner_tag_of};
+ghost use Rattle.level_topology.specs.Builder.{only_points};
+ghost use Rattle.mesh_check.specs.Base.{IsFit, AreEdges, smooth_built, with_edge_tag, with_edge_tags, with_vertex_tags, infinite, tagged_built, all_complete};
+
+use crate::base_corners::add_end_corners;
+use crate::keys::{edge_key, is_known};
+use level_topology::{Level, LevelBuilder};
+use obj_tags::{CornerTag, Crease, RawMesh};
+use ratio128::{Memory, Steps};
+use sharpness_rules::Sharpness;
+use std::alloc::Global;
+use std::hash::{DefaultHasher, Hasher};
+use std::sync::ledger::Ledger;
+
+// A face, hashed after what came before.
+fn hash_face(hasher: &mut DefaultHasher, face: &[u32]) {
+    hasher.write_usize(face.len());
+    for v in face {
+        hasher.write_u32(*v);
+    }
+}
+
+// Half of a key in which every corner of every face counts, and each size.
+fn half_key(raw: &RawMesh, half: u32) -> u64 {
+    let mut hasher = DefaultHasher::new();
+    hasher.write_u32(half);
+    for f in 0..raw.faces() {
+        hash_face(&mut hasher, raw.face(f));
+    }
+    hasher.finish()
+}
+
+// A key that whoever chooses the mesh cannot choose with it.
+fn key_of(raw: &RawMesh) -> u128 {
+    ((half_key(raw, 0) as u128) << 64) + half_key(raw, 1) as u128
+}
+
+// How many corners all faces have.
+fn corner_count(raw: &RawMesh) -> u32
+    requires { sum_by length raw.now.faces < 2 ^ 27 }
+    ensures { result ≡ sum_by length raw.now.faces }
+{
+    let mut count = 0;
+    for f in 0..raw.faces() {
+        count += raw.face(f).len() as u32;
+    }
+    count
+}
+
+// The points alone, with room for all that comes. Each boundary edge has one side, and any other has two.
+fn points_alone(alloc: Global, raw: &RawMesh, boundary: usize) -> Result<LevelBuilder, Memory>
+    requires { IsFit raw.now }
+    ensures { IfOk result (λ b. b ≡ only_points (length raw.now.points) raw.now.method) }
+{
+    let points = raw.points().len() as u32;
+    let corners = corner_count(raw);
+    let alone = boundary.min(corners as usize) as u32;
+    let edges = (corners + alone) / 2;
+    let key = key_of(raw);
+    LevelBuilder::with_key(
+        alloc,
+        points,
+        raw.faces(),
+        corners,
+        edges,
+        raw.method(),
+        key,
+    )
+}
+
+// Adds the faces with their marks.
+fn add_faces<L: Ledger>(
+    builder: &mut LevelBuilder,
+    raw: &RawMesh,
+    holes: &[bool],
+    steps: &mut Steps<L>,
+) -> Result<(), Memory>
+    requires fit { IsFit raw.now }
+    requires holes { length holes.now ≡ length raw.now.faces }
+    requires alone { builder.old ≡ only_points (length raw.now.points) raw.now.method }
+    ensures faces { OnOk result (builder.new ≡ smooth_built (length raw.now.points) raw.now.method raw.now.faces holes.now) }
+    ensures steps { steps.new ≤ steps.old + length raw.now.faces }
+    ensures later { steps.old ≤ steps.new }
+{
+    for f in 0..raw.faces() {
+        builder.add_face(raw.face(f), holes[f as usize], steps)?;
+    }
+    Ok(())
+}
+
+// Sets the sharpness of a crease, where its pair is an edge.
+fn add_crease(builder: &mut LevelBuilder, crease: Crease, edges: &[u64])
+    requires { AreEdges builder.old.level.polygons edges.now }
+    ensures { builder.new ≡ with_edge_tag (crease_of crease) builder.old }
+{
+    if is_known(edges, edge_key((crease.a, crease.b))) {
+        builder.add_sharp_edge(crease.a, crease.b, crease.sharpness);
+    }
+}
+
+// Sets the sharpness of the creases in their order.
+fn add_creases(builder: &mut LevelBuilder, creases: &[Crease], edges: &[u64])
+    requires { AreEdges builder.old.level.polygons edges.now }
+    ensures { builder.new ≡ with_edge_tags (map crease_of creases.now) builder.old }
+{
+    let mut rest = creases;
+    while let [crease, others @ ..] = rest {
+        add_crease(builder, *crease, edges);
+        rest = others;
+    }
+}
+
+// Makes each boundary edge infinitely sharp.
+fn add_boundary(builder: &mut LevelBuilder, boundary: &[(u32, u32)])
+    requires { IsTrue (list_all (λ s. list_any (same_edge s) (edges_of builder.old.level.polygons)) boundary.now) }
+    ensures { builder.new ≡ with_edge_tags (infinite boundary.now) builder.old }
+{
+    let mut rest = boundary;
+    while let [side, others @ ..] = rest {
+        builder.add_sharp_edge(side.0, side.1, Sharpness::Infinite);
+        rest = others;
+    }
+}
+
+// Sets the sharpness of the corner tags in their order.
+fn add_corner_tags(builder: &mut LevelBuilder, tags: &[CornerTag])
+    requires { IsTrue (list_all (λ tag. nat_lt tag.vertex builder.old.level.point_count) tags.now) }
+    ensures { builder.new ≡ with_vertex_tags (map corner_tag_of tags.now) builder.old }
+{
+    let mut rest = tags;
+    while let [tag, others @ ..] = rest {
+        builder.add_sharp_vertex(tag.vertex, tag.sharpness);
+        rest = others;
+    }
+}
+
+// Gives the edges and the vertices the sharpness of the mesh.
+fn add_tags(
+    alloc: Global,
+    raw: &RawMesh,
+    edges: &[u64],
+    boundary: &[(u32, u32)],
+    builder: &mut LevelBuilder,
+) -> Result<(), Memory>
+    requires fit { IsFit raw.now }
+    requires edges { AreEdges raw.now.faces edges.now }
+    requires boundary { boundary.now ≡ filter (is_boundary raw.now.faces) (all_sides raw.now.faces) }
+    requires smooth { builder.old ≡ smooth_built (length raw.now.points) raw.now.method raw.now.faces builder.old.level.holes }
+    ensures { OnOk result (builder.new ≡ tagged_built raw.now builder.old.level.holes) }
+{
+    add_creases(builder, raw.creases(), edges);
+    add_boundary(builder, boundary);
+    add_corner_tags(builder, raw.corner_tags());
+    add_end_corners(alloc, raw, builder)?;
+    Ok(())
+}
+
+// Marks all points as complete.
+fn mark_points(builder: &mut LevelBuilder, points: u32)
+    requires points { builder.old.level.point_count ≡ points }
+    requires marks { length builder.old.complete ≡ points }
+    ensures { builder.new ≡ all_complete builder.old }
+{
+    for v in 0..points {
+        builder.mark_complete(v);
+    }
+}
+
+// Level 0 of a mesh without fault, by the numbers of its edges, its boundary edges and the marks of its holes. Each face
+// takes a step.
+pub(crate) fn base_level<L: Ledger>(
+    alloc: Global,
+    raw: &RawMesh,
+    edges: &[u64],
+    boundary: &[(u32, u32)],
+    holes: &[bool],
+    steps: &mut Steps<L>,
+) -> Result<Level, Memory>
+    requires fit { IsFit raw.now }
+    requires edges { AreEdges raw.now.faces edges.now }
+    requires boundary { boundary.now ≡ filter (is_boundary raw.now.faces) (all_sides raw.now.faces) }
+    requires holes { holes.now ≡ map (is_base_hole raw.now) (enumerate_from 0 raw.now.faces) }
+    ensures level { IfOk result (λ level. level.level ≡ base_level raw.now) }
+    ensures complete { IfOk result (λ level. level.complete ≡ replicate (length raw.now.points) true) }
+    ensures steps { steps.new ≤ steps.old + length raw.now.faces }
+    ensures later { steps.old ≤ steps.new }
+{
+    let mut builder = points_alone(alloc, raw, boundary.len())?;
+    add_faces(&mut builder, raw, holes, steps)?;
+    add_tags(alloc, raw, edges, boundary, &mut builder)?;
+    mark_points(&mut builder, raw.points().len() as u32);
+    let level = builder.finish()?;
+    Ok(level)
+}

@@ -1,0 +1,85 @@
+//! The edges of the faces, and the sides whose edge no other side is.
+
+ghost use Rattle.std.specs.Prelude.{◌≡◌, ℕ, nat_eq, [], ◌∷◌, ◌++◌, length, IfOk, OnOk, None, if◌then◌else◌};
+ghost use Rattle.std.specs.List.{filter, list_any, count_by};
+ghost use Rattle.subdiv_model.specs.Polygons.{same_edge, is_among};
+ghost use Rattle.subdiv_model.specs.Edges.{all_sides, is_boundary};
+ghost use Rattle.subdiv_model.specs.MeshFault.{first_mesh_fault};
+ghost use Rattle.mesh_check.specs.Keys.{IsWord, edge_key, Rises, AreEdgeKeys};
+
+use crate::keys::{alone, edge_key, edge_keys, is_known};
+use obj_tags::RawMesh;
+use ratio128::Memory;
+use std::alloc::Global;
+
+// The edges of all sides as numbers, ascending, each as often as sides are that edge.
+pub(crate) fn known_edges(alloc: Global, sides: &[(u32, u32)]) -> Result<Vec<u64>, Memory>
+    ensures rises { IfOk result (λ edges. Rises edges.items) }
+    ensures known { IfOk result (λ edges. (s : ℕ × ℕ) → IsWord s → is_among edges.items (edge_key s) ≡ list_any (same_edge s) sides.now) }
+    ensures keys { IfOk result (λ edges. AreEdgeKeys sides.now edges.items) }
+{
+    let mut edges = edge_keys(alloc, sides)?;
+    edges.sort_unstable();
+    Ok(edges)
+}
+
+// Puts a side behind the others, where it is said to.
+fn put_if(put: bool, found: &mut Vec<(u32, u32)>, side: (u32, u32)) -> Result<(), Memory>
+    ensures { OnOk result (found.new.items ≡ (if put then found.old.items ++ side ∷ [] else found.old.items)) }
+{
+    if put {
+        found.push(side)?;
+    }
+    Ok(())
+}
+
+// The sides whose edge is one of these.
+fn sides_among(
+    alloc: Global,
+    sides: &[(u32, u32)],
+    edges: &[u64],
+) -> Result<Vec<(u32, u32)>, Memory>
+    requires { Rises edges.now }
+    ensures { IfOk result (λ found. found.items ≡ filter (λ s. is_among edges.now (edge_key s)) sides.now) }
+{
+    let mut found = Vec::new(alloc);
+    let mut rest = sides;
+    while let [side, others @ ..] = rest {
+        let known = is_known(edges, edge_key(*side));
+        put_if(known, &mut found, *side)?;
+        rest = others;
+    }
+    Ok(found)
+}
+
+// The sides whose edge no other side is.
+fn boundary_sides(
+    alloc: Global,
+    sides: &[(u32, u32)],
+    edges: &[u64],
+) -> Result<Vec<(u32, u32)>, Memory>
+    requires { AreEdgeKeys sides.now edges.now }
+    ensures { IfOk result (λ found. found.items ≡ filter (λ s. nat_eq (count_by (same_edge s) sides.now) 1) sides.now) }
+{
+    let once = alone(alloc, edges)?;
+    let found = sides_among(alloc, sides, &once)?;
+    Ok(found)
+}
+
+// The sides of a mesh without fault whose edge is of one face. All sides are handed over, so that their room is free again.
+// The mesh is there for the contract alone.
+pub(crate) fn mesh_boundary(
+    alloc: Global,
+    raw: &RawMesh,
+    sides: Vec<(u32, u32)>,
+    edges: &[u64],
+) -> Result<Vec<(u32, u32)>, Memory>
+    requires sound { first_mesh_fault (length raw.now.points) raw.now.faces ≡ None }
+    requires sides { sides.items ≡ all_sides raw.now.faces }
+    requires edges { AreEdgeKeys sides.items edges.now }
+    ensures { IfOk result (λ found. found.items ≡ filter (is_boundary raw.now.faces) (all_sides raw.now.faces)) }
+{
+    let _ = raw;
+    let found = boundary_sides(alloc, &sides, edges)?;
+    Ok(found)
+}

@@ -1,0 +1,75 @@
+//! The check of a mesh, and level 0.
+
+ghost use Rattle.std.specs.Prelude.{◌≡◌, ◌+◌, ◌≤◌, true, None, length, replicate, IfOk, MatchResult};
+ghost use Rattle.obj_tags.specs.Laws.{IsWithin};
+ghost use Rattle.subdiv_model.specs.Lists.{first_of};
+ghost use Rattle.subdiv_model.specs.MeshFault.{first_mesh_fault};
+ghost use Rattle.subdiv_model.specs.Base.{base_level};
+ghost use Rattle.mesh_check.specs.Counts.{size_faults};
+ghost use Rattle.mesh_check.specs.Checked.{IsAccepted, IsRefused};
+
+use crate::base::base_level;
+use crate::boundary::{known_edges, mesh_boundary};
+use crate::counts::{size_fault, valence_fault};
+use crate::fault::CheckFault;
+use crate::faults::mesh_fault;
+use crate::holes::hole_marks;
+use crate::sides::sides_of_faces;
+use level_topology::Level;
+use obj_tags::RawMesh;
+use ratio128::{Memory, Steps};
+use std::alloc::Global;
+use std::sync::ledger::Ledger;
+
+// Level 0 of a mesh without fault whose sizes are within their limits.
+fn level_of<L: Ledger>(alloc: Global, raw: &RawMesh, steps: &mut Steps<L>) -> Result<Level, Memory>
+    requires within { IsWithin raw.now }
+    requires sound { first_mesh_fault (length raw.now.points) raw.now.faces ≡ None }
+    requires small { first_of (size_faults raw.now) ≡ None }
+    ensures level { IfOk result (λ level. level.level ≡ base_level raw.now) }
+    ensures complete { IfOk result (λ level. level.complete ≡ replicate (length raw.now.points) true) }
+    ensures steps { steps.new ≤ steps.old + length raw.now.faces }
+    ensures later { steps.old ≤ steps.new }
+{
+    let sides = sides_of_faces(alloc, raw)?;
+    let edges = known_edges(alloc, &sides)?;
+    let boundary = mesh_boundary(alloc, raw, sides, &edges)?;
+    let holes = hole_marks(alloc, raw, &boundary)?;
+    let level = base_level(alloc, raw, &edges, &boundary, &holes, steps)?;
+    Ok(level)
+}
+
+/// Level 0 of a mesh: its faces, with the sharpness of its tags and of its boundary, and with its holes, each point
+/// complete.
+///
+/// `Mesh` comes exactly where the mesh is no manifold, with its first fault: over the whole mesh a face of fewer than three
+/// corners, a face that has a vertex twice, an edge of three or more faces, an edge that two faces have in one direction, and
+/// a vertex whose faces are more than one fan, and of one kind the least face, the edge that a face names first, or the least
+/// vertex. `TooLarge` comes exactly where it is a manifold and has more than 2^20 points, more than 2^20 faces, a face of more
+/// than 2^16 corners or a vertex of more than 2^16 edges, with the first of these, the least face or the least vertex.
+/// `Memory` may come at any time. It takes at most one step for each face, and about the time that sorting its edges takes,
+/// whatever the mesh. Source: this profile.
+pub fn check_mesh<L: Ledger>(
+    alloc: Global,
+    raw: &RawMesh,
+    steps: &mut Steps<L>,
+) -> Result<Level, CheckFault>
+    requires { IsWithin raw.now }
+    ensures checked { MatchResult result (λ level. IsAccepted raw.now level) (λ fault. IsRefused raw.now fault) }
+    ensures steps { steps.new ≤ steps.old + length raw.now.faces }
+    ensures later { steps.old ≤ steps.new }
+{
+    match mesh_fault(alloc, raw)? {
+        Some(fault) => return Err(CheckFault::Mesh(fault)),
+        None => {}
+    }
+    match size_fault(raw) {
+        Some(counted) => return Err(CheckFault::TooLarge(counted)),
+        None => {}
+    }
+    let level = level_of(alloc, raw, steps)?;
+    match valence_fault(&level) {
+        Some(counted) => Err(CheckFault::TooLarge(counted)),
+        None => Ok(level),
+    }
+}

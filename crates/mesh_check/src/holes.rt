@@ -1,0 +1,77 @@
+//! The faces of a mesh that are holes.
+
+ghost use Rattle.std.specs.Prelude.{◌≡◌, ℕ, ◌<◌, ◌||◌, nat_eq, length, map, get_or, IfOk};
+ghost use Rattle.std.specs.List.{filter, list_any, enumerate_from};
+ghost use Rattle.subdiv_model.specs.Edges.{all_sides, is_boundary, has_end};
+ghost use Rattle.subdiv_model.specs.Base.{is_base_hole};
+ghost use Rattle.obj_tags.specs.Laws.{IsWithin};
+ghost use Rattle.mesh_check.specs.Holes.{is_hiding};
+
+use crate::marks::{is_marked, marks_of, no_marks, set_mark};
+use obj_tags::{Boundary, RawMesh};
+use ratio128::Memory;
+use std::alloc::Global;
+
+// Of so many points, the mark 1 at each end of these sides.
+fn end_marks(alloc: Global, count: usize, sides: &[(u32, u32)]) -> Result<Vec<u32>, Memory>
+    ensures size { IfOk result (λ marks. length marks.items ≡ count) }
+    ensures ends { IfOk result (λ marks. (v : ℕ) → v < count → nat_eq (get_or marks.items v 0) 1 ≡ list_any (has_end v) sides.now) }
+{
+    let mut marks = no_marks(alloc, count)?;
+    for side in sides {
+        set_mark(&mut marks, side.0);
+        set_mark(&mut marks, side.1);
+    }
+    Ok(marks)
+}
+
+// The mark 1 at each point that hides its faces, by the sides at the boundary.
+fn hiding_points(alloc: Global, raw: &RawMesh, boundary: &[(u32, u32)]) -> Result<Vec<u32>, Memory>
+    ensures { IfOk result (λ marks. (v : ℕ) → v < length raw.now.points → nat_eq (get_or marks.items v 0) 1 ≡ is_hiding raw.now.boundary boundary.now v) }
+{
+    let points = raw.points().len();
+    match raw.boundary() {
+        Boundary::Hidden => end_marks(alloc, points, boundary),
+        Boundary::EdgeOnly | Boundary::EdgeAndCorner => no_marks(alloc, points),
+    }
+}
+
+// Whether the mark 1 stands at a corner of a face.
+fn has_marked(marks: &[u32], face: &[u32]) -> bool
+    ensures { result ≡ list_any (λ v. nat_eq (get_or marks.now v 0) 1) face.now }
+{
+    let mut rest = face;
+    while let [v, others @ ..] = rest {
+        if is_marked(marks, *v) {
+            return true;
+        }
+        rest = others;
+    }
+    false
+}
+
+// Whether a face is a hole, by the marks of the faces that tags name, and those of the points that hide their faces.
+fn is_hole(named: &[u32], hiding: &[u32], f: u32, face: &[u32]) -> bool
+    ensures { result ≡ (nat_eq (get_or named.now f 0) 1 || list_any (λ v. nat_eq (get_or hiding.now v 0) 1) face.now) }
+{
+    is_marked(named, f) || has_marked(hiding, face)
+}
+
+// Whether each face is a hole, from the sides at the boundary.
+pub(crate) fn hole_marks(
+    alloc: Global,
+    raw: &RawMesh,
+    boundary: &[(u32, u32)],
+) -> Result<Vec<bool>, Memory>
+    requires within { IsWithin raw.now }
+    requires boundary { boundary.now ≡ filter (is_boundary raw.now.faces) (all_sides raw.now.faces) }
+    ensures { IfOk result (λ marks. marks.items ≡ map (is_base_hole raw.now) (enumerate_from 0 raw.now.faces)) }
+{
+    let named = marks_of(alloc, raw.faces() as usize, raw.holes())?;
+    let hiding = hiding_points(alloc, raw, boundary)?;
+    let mut holes = Vec::with_capacity(alloc, raw.faces() as usize)?;
+    for f in 0..raw.faces() {
+        holes.push(is_hole(&named, &hiding, f, raw.face(f)))?;
+    }
+    Ok(holes)
+}
