@@ -1,0 +1,3 @@
+mod CountLemmas
+mod PointLemmas
+mod LineLemmas

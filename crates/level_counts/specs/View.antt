@@ -1,0 +1,15 @@
+-- The counts of this crate, seen as those of the definitions.
+use Rattle.level_counts.specs.declared.counts.LevelCounts.{LevelCounts}
+use Rattle.level_counts.specs.Counts.{Counts}
+
+abbrev pub seen_counts : LevelCounts → Counts
+seen_counts c = record {
+  points = c.points;
+  edges = c.edges;
+  faces = c.faces;
+  euler = c.euler;
+  boundary = c.boundary;
+  holes = c.holes;
+  sharp = c.sharp;
+  extraordinary = c.extraordinary;
+}

@@ -1,0 +1,51 @@
+ghost use Rattle.std.specs.Prelude.{◌≡◌, ◌+◌, pos, ◌-ℤ◌};
+ghost use Rattle.level_counts.specs.Counts.{counts_of};
+ghost use Rattle.level_counts.specs.View.{seen_counts};
+
+use crate::edges::{boundary_edges, sharp_edges};
+use crate::faces::hole_count;
+use crate::points::{extraordinary_points, used_points};
+use level_topology::Level;
+
+/// The counts of a level.
+#[derive(Clone, Copy, Debug, PartialEq, Eq)]
+pub struct LevelCounts {
+    /// All points, with those that have no face.
+    pub points: u32,
+    pub edges: u32,
+    pub faces: u32,
+    /// Euler's number: the points that have a face, less the edges, and the faces.
+    pub euler: i64,
+    /// The edges of one face.
+    pub boundary: u32,
+    pub holes: u32,
+    /// The edges of two faces that are sharp.
+    pub sharp: u32,
+    /// The points inside the mesh that have a face and not four edges.
+    pub extraordinary: u32,
+}
+
+// The points that have a face, less the edges, and the faces.
+fn euler_number(used: u32, edges: u32, faces: u32) -> i64
+    ensures { result ≡ pos (used + faces) -ℤ pos edges }
+{
+    used as i64 + faces as i64 - edges as i64
+}
+
+impl LevelCounts {
+    /// Counts in time linear in the level's tables. It takes no memory.
+    pub fn of(level: &Level) -> LevelCounts
+        ensures { seen_counts result ≡ counts_of level.now.level }
+    {
+        LevelCounts {
+            points: level.points(),
+            edges: level.edges(),
+            faces: level.faces(),
+            euler: euler_number(used_points(level), level.edges(), level.faces()),
+            boundary: boundary_edges(level),
+            holes: hole_count(level),
+            sharp: sharp_edges(level),
+            extraordinary: extraordinary_points(level),
+        }
+    }
+}
