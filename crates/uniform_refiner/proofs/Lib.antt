@@ -1,0 +1,17 @@
+pub mod SlotLemmas
+pub mod SlotTableLemmas
+pub mod SlotTellLemmas
+pub mod QuadLemmas
+pub mod WalkLemmas
+pub mod FaceWalkLemmas
+pub mod ChildEdgeLemmas
+pub mod PutFaceLemmas
+pub mod PutEdgeLemmas
+pub mod PointLemmas
+pub mod VertexLemmas
+pub mod VertexRowLemmas
+pub mod FacePointLemmas
+pub mod DirectionLemmas
+pub mod EdgePointLemmas
+pub mod EdgeRowLemmas
+pub mod EdgeWayLemmas

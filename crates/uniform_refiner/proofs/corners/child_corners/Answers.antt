@@ -1,0 +1,15 @@
+use Rattle.std.proofs.Common.{length, ap}
+use Rattle.uniform_refiner.proofs.SlotLemmas.{edge-there, edge-there-before}
+use Rattle.uniform_refiner.proofs.corners.child_corners.Goals as goal
+
+pub bounds-edges-c : goal.bounds-edges-c
+bounds-edges-c c = (edge-there c.args.level.now.level.polygons c.args.f c.args.c c.face_edges-edges.result.now c.face_edges-edges.ensures c.requires).0
+
+pub edge_point_of-requires : goal.edge_point_of-requires
+edge_point_of-requires c = (edge-there c.args.level.now.level.polygons c.args.f c.args.c c.face_edges-edges.result.now c.face_edges-edges.ensures c.requires).1
+
+pub bounds-edges-before : goal.bounds-edges-before
+bounds-edges-before c = (edge-there-before c.args.level.now.level.polygons c.args.f c.args.c c.before-before.result (length c.face_vertices-corners.result.now) c.face_edges-edges.result.now c.face_edges-edges.ensures (ap length c.face_vertices-corners.ensures) c.before-before.ensures c.requires).0
+
+pub edge_point_of-requires-2 : goal.edge_point_of-requires-2
+edge_point_of-requires-2 c = (edge-there-before c.args.level.now.level.polygons c.args.f c.args.c c.before-before.result (length c.face_vertices-corners.result.now) c.face_edges-edges.result.now c.face_edges-edges.ensures (ap length c.face_vertices-corners.ensures) c.before-before.ensures c.requires).1

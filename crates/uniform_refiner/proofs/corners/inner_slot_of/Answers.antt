@@ -1,0 +1,9 @@
+use Rattle.std.proofs.Common.{arith}
+use Rattle.uniform_refiner.proofs.SlotLemmas.{few-edges, first-below}
+use Rattle.uniform_refiner.proofs.corners.inner_slot_of.Goals as goal
+
+pub overflow_mul-result : goal.overflow_mul-result
+overflow_mul-result c = record { fits = omega (arith, few-edges c.args.level.now c.facts.ensures, c.edges.ensures) }
+
+pub overflow_add-result-2 : goal.overflow_add-result-2
+overflow_add-result-2 c = record { fits = omega (arith, few-edges c.args.level.now c.facts.ensures, c.edges.ensures, c.facts.ensures.small.corners, c.first_child_of.ensures, first-below c.args.level.now.level.polygons c.args.f c.args.c c.requires) }

@@ -1,0 +1,8 @@
+use Rattle.std.proofs.Common.{◌≡◌, take, map, get_or, []}
+use Rattle.uniform_refiner.specs.Slots.{half_slot}
+use Rattle.uniform_refiner.specs.Slotted.{number_at}
+use Rattle.uniform_refiner.proofs.vertices.put_halves_at.Given as goal
+
+-- those so far are put
+abbrev pub invariant-loop-i : goal.invariant-loop-i
+invariant-loop-i l = l.list.items ≡ map (λ e. number_at l.edges.slots (half_slot l.level.level.polygons l.v e)) (take l.i (get_or l.level.edges_at l.v []))

@@ -1,0 +1,5 @@
+pub mod FaultText
+pub mod Slots
+pub mod Slotted
+pub mod Walked
+pub mod Put

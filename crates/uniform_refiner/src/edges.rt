@@ -1,0 +1,55 @@
+//! The edges of the next level, put with their sharpness.
+
+ghost use Rattle.std.specs.Prelude.{◌≡◌, ◌<◌, ◌≤◌, length, get_or, map, IfSome};
+ghost use Rattle.subdiv_model.specs.Sharpness.{Smooth};
+ghost use Rattle.sharpness_rules.specs.View.{sharpness_of};
+ghost use Rattle.level_topology.specs.Topology.{Topology, IsTopology};
+ghost use Rattle.level_topology.specs.View.{listed, faces_of_pair};
+ghost use Rattle.uniform_refiner.specs.Put.{AreChildEdges, HasHalves, with_child_edges};
+
+use crate::numbering::SlotEdges;
+use level_topology::{EdgeFaces, Level, LevelRows};
+use sharpness_rules::Sharpness;
+
+// The faces of an edge from a pair of numbers, which are the same where there is one face.
+fn faces_from(pair: (u32, u32)) -> EdgeFaces
+    requires { pair.0 ≤ pair.1 }
+    ensures faces { listed result ≡ faces_of_pair pair }
+    ensures order { IfSome result.second (λ second. result.first < second) }
+{
+    let (first, last) = pair;
+    let second = if last == first { None } else { Some(last) };
+    EdgeFaces { first, second }
+}
+
+// The sharpness of the edge with a slot: inside a face it is smooth.
+fn sharpness_at(halves: &[Sharpness], slot: u32) -> Sharpness
+    ensures { sharpness_of result ≡ get_or (map sharpness_of halves.now) slot Smooth }
+{
+    if (slot as usize) < halves.len() {
+        halves[slot as usize]
+    } else {
+        Sharpness::Smooth
+    }
+}
+
+// Puts all edges, where `halves` has the sharpness of each half by its slot.
+pub(crate) fn put_edges(
+    level: &Level,
+    edges: &SlotEdges,
+    halves: &[Sharpness],
+    rows: &mut LevelRows,
+)
+    requires edges { AreChildEdges level.now.level edges.now }
+    requires halves { HasHalves level.now.level (map sharpness_of halves.now) }
+    requires count { rows.old.counts.edges ≡ length edges.now.ends }
+    requires none { rows.old ≡ with_child_edges level.now.level 0 rows.old }
+    ensures { rows.new ≡ with_child_edges level.now.level (length edges.now.ends) rows.old }
+{
+    level.facts();
+    for e in 0..edges.len() {
+        let (first, second) = edges.ends(e);
+        let s = sharpness_at(halves, edges.slot(e));
+        rows.put_edge(first, second, faces_from(edges.faces(e)), s);
+    }
+}

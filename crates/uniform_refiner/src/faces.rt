@@ -1,0 +1,72 @@
+//! The child faces, put with their edges.
+
+ghost use Rattle.std.specs.Prelude.{◌≡◌, ◌+◌, ◌*◌, ◌<◌, true, [], ◌∷◌, length, get_or};
+ghost use Rattle.std.specs.List.{All, sum_by};
+ghost use Rattle.subdiv_model.specs.Polygons.{polygon_at, is_among};
+ghost use Rattle.uniform_refiner.specs.Slots.{first_child};
+ghost use Rattle.uniform_refiner.specs.Slotted.{number_at};
+ghost use Rattle.uniform_refiner.specs.Put.{AreChildEdges, with_children};
+
+use crate::corners::{child_corners, child_slots};
+use crate::numbering::SlotEdges;
+use level_topology::{Level, LevelRows};
+use ratio128::Steps;
+use std::sync::ledger::Ledger;
+
+// The numbers of the edges with these slots.
+fn numbers_of(edges: &SlotEdges, slots: [u32; 4]) -> [u32; 4]
+    requires slots { All (λ slot. slot < edges.now.count) slots }
+    requires there { All (λ slot. is_among edges.now.slots slot ≡ true) slots }
+    ensures { result ≡ number_at edges.now.slots (get_or slots 0 0) ∷ number_at edges.now.slots (get_or slots 1 0) ∷ number_at edges.now.slots (get_or slots 2 0) ∷ number_at edges.now.slots (get_or slots 3 0) ∷ [] }
+{
+    [
+        edges.number(slots[0]),
+        edges.number(slots[1]),
+        edges.number(slots[2]),
+        edges.number(slots[3]),
+    ]
+}
+
+// Puts the child faces of a face. Each is one step.
+fn put_children<L: Ledger>(
+    level: &Level,
+    edges: &SlotEdges,
+    f: u32,
+    rows: &mut LevelRows,
+    steps: &mut Steps<L>,
+)
+    requires face { f < length level.now.level.polygons }
+    requires edges { AreChildEdges level.now.level edges.now }
+    requires faces { rows.old.counts.faces ≡ sum_by length level.now.level.polygons }
+    requires corners { rows.old.counts.corners ≡ 4 * sum_by length level.now.level.polygons }
+    requires before { rows.old ≡ with_children level.now.level (first_child level.now.level.polygons f) rows.old }
+    ensures put { rows.new ≡ with_children level.now.level (first_child level.now.level.polygons (f + 1)) rows.old }
+    ensures steps { steps.new ≡ steps.old + length (polygon_at level.now.level.polygons f) }
+{
+    level.facts();
+    let hole = level.is_hole(f);
+    for c in 0..level.face_vertices(f).len() {
+        let corners = child_corners(level, f, c);
+        let numbers = numbers_of(edges, child_slots(level, f, c));
+        rows.put_face(&corners, &numbers, hole, steps);
+    }
+}
+
+// Puts all child faces.
+pub(crate) fn put_faces<L: Ledger>(
+    level: &Level,
+    edges: &SlotEdges,
+    rows: &mut LevelRows,
+    steps: &mut Steps<L>,
+)
+    requires edges { AreChildEdges level.now.level edges.now }
+    requires faces { rows.old.counts.faces ≡ sum_by length level.now.level.polygons }
+    requires corners { rows.old.counts.corners ≡ 4 * sum_by length level.now.level.polygons }
+    requires none { rows.old ≡ with_children level.now.level 0 rows.old }
+    ensures put { rows.new ≡ with_children level.now.level (sum_by length level.now.level.polygons) rows.old }
+    ensures steps { steps.new ≡ steps.old + sum_by length level.now.level.polygons }
+{
+    for f in 0..level.faces() {
+        put_children(level, edges, f, rows, steps);
+    }
+}

@@ -1,0 +1,17 @@
+//! The next uniform level of a level, made from its tables without a map and without a scan.
+#![tactic(auto)]
+
+mod corners;
+mod count;
+mod edge_points;
+mod edges;
+mod face_points;
+mod faces;
+mod fault;
+mod numbering;
+mod row;
+mod vertices;
+mod walk;
+
+pub use count::next_faces;
+pub use fault::RefineFault;

@@ -1,0 +1,40 @@
+//! One walk over the child faces, which numbers their edges.
+
+ghost use Rattle.std.specs.Prelude.{◌+◌, ◌<◌, ◌≤◌, length, IfOk, OnOk};
+ghost use Rattle.std.specs.List.{sum_by};
+ghost use Rattle.uniform_refiner.specs.Slots.{first_child};
+ghost use Rattle.uniform_refiner.specs.Walked.{IsWalked};
+
+use crate::corners::{child_corners, child_slots, first_child_of};
+use crate::numbering::SlotEdges;
+use level_topology::Level;
+use ratio128::Memory;
+use std::alloc::Global;
+
+// The sides of the child faces of a face more.
+fn number_face(level: &Level, f: u32, edges: &mut SlotEdges) -> Result<(), Memory>
+    requires face { f < length level.now.level.polygons }
+    requires walked { IsWalked level.now.level.point_count level.now.level.polygons (first_child level.now.level.polygons f) edges.old }
+    ensures { OnOk result (IsWalked level.now.level.point_count level.now.level.polygons (first_child level.now.level.polygons (f + 1)) edges.new) }
+{
+    level.facts();
+    let first = first_child_of(level, f);
+    for c in 0..level.face_vertices(f).len() {
+        let face = first + c as u32;
+        edges.add_quad(child_slots(level, f, c), child_corners(level, f, c), face)?;
+    }
+    Ok(())
+}
+
+// The edges of the next level.
+pub(crate) fn number_edges(alloc: Global, level: &Level) -> Result<SlotEdges, Memory>
+    ensures { IfOk result (λ edges. IsWalked level.now.level.point_count level.now.level.polygons (sum_by length level.now.level.polygons) edges) }
+{
+    level.facts();
+    let count = 2 * level.edges() + first_child_of(level, level.faces());
+    let mut edges = SlotEdges::with_table(alloc, count)?;
+    for f in 0..level.faces() {
+        number_face(level, f, &mut edges)?;
+    }
+    Ok(edges)
+}
