@@ -1,5 +1,5 @@
 -- What the tests of a mesh say.
-use Rattle.std.proofs.Common.{◌≡◌, ℕ, ◌+◌, ◌^◌, ◌<◌, ◌≤◌, ℤ, Bool, true, false, cond, not, ◌&&◌, nat_eq, nat_le, List, [], ◌∷◌, ◌++◌, length, take, get_or, slice_get, Option, Some, None, Vec, arith, refl, ap, sym, ◌∙◌, map, append-nil}
+use Rattle.std.proofs.Common.{◌≡◌, ℕ, ◌+◌, ◌^◌, ◌<◌, ◌≤◌, ℤ, Bool, true, false, cond, not, ◌&&◌, nat_eq, nat_le, List, [], ◌∷◌, ◌++◌, length, take, get_or, slice_get, Option, Some, None, Vec, arith, refl, ap, sym, subst, ◌∙◌, map, append-nil}
 use Rattle.std.specs.Global.{Global}
 use Rattle.std.specs.List.{All, list_all}
 use Rattle.std.proofs.lemmas.Bool.{and_parts}
@@ -21,16 +21,25 @@ use Rattle.subdiv_model.specs.Level.{plain_level}
 use Rattle.subdiv_model.specs.Base.{base_level}
 use Rattle.subdiv_model.specs.Mask.{CatmullClark}
 use Rattle.subdiv_model.specs.Text.{refined_text}
-use Rattle.subdiv_model.specs.Fault.{NotBuilt}
+use Rattle.subdiv_model.specs.Fault.{Fault, Obj, NotBuilt}
+use Rattle.subdiv_model.specs.MeshFault.{MeshFault, first_mesh_fault}
+use Rattle.subdiv_model.specs.Command.{Command, Refine, Stencils, Levels, Gen}
+use Rattle.subdiv_model.specs.Answer.{answer_unless, answer_of_checked, count_faults, command_text}
+use Rattle.subdiv_model.specs.Lists.{first_of}
+use Rattle.subdiv_model.specs.LevelText.{level_line}
+use Rattle.level_topology.specs.Topology.{Topology}
+use Rattle.mesh_check.specs.Checked.{IsAccepted}
+use Rattle.level_counts.specs.Counts.{Counts, counts_of, counts_line}
 use Rattle.mesh_laws.proofs.Laws.{manifold-levels}
+use Rattle.mesh_laws.proofs.FaultLemmas.{fault-decides}
 use Rattle.mesh_laws.proofs.WalkLemmas.{manifold-decides}
 use Rattle.level_laws.proofs.PlainLemmas.{plain-base}
 use Rattle.obj_laws.proofs.ObjMeshLemmas.{faces-over}
 use Rattle.plain_refine.specs.Mesh.{IsShort, corners_of}
 use Rattle.obj_tags.specs.View.{point_of}
 use Rattle.far_engine.specs.Built.{is_built, has_built_form, is_closed_manifold, is_small, is_small_face, has_no_tags, has_default_modes, has_short_numbers, is_short, is_short_point, is_edge_only, is_normal}
-use Rattle.far_engine.specs.BuiltWords.{built_text}
-use Rattle.far_engine.specs.Outcome.{refusal_of_obj, refusal_of_text, level_of}
+use Rattle.far_engine.specs.BuiltWords.{IsBuiltCommand, built_command, written_text}
+use Rattle.far_engine.specs.Outcome.{refusal_of_mesh, refusal_of_obj, refusal_of_text, level_of}
 
 both : (a b : Bool) → a ≡ true → b ≡ true → (a && b) ≡ true
 both true b h k = k
@@ -157,8 +166,8 @@ without-texture false textured text h = append-nil text
 
 -- what the command writes of a mesh that is built
 text-built : (mesh : ObjMesh) → is_built mesh ≡ true →
-    built_text mesh ≡ refined_text (plain_level (length mesh.points) mesh.faces) CatmullClark mesh.common mesh.points 1
-unfolding built_text
+    written_text built_command mesh ≡ refined_text (plain_level (length mesh.points) mesh.faces) CatmullClark mesh.common mesh.points 1
+unfolding written_text
 text-built mesh built =
     let form = form-parts mesh (and_parts (has_built_form mesh) (is_closed_manifold mesh) built).0 in
     without-texture mesh.has_texture _ (refined_text (base_level mesh) CatmullClark mesh.common mesh.points 1) form.bare
@@ -178,7 +187,7 @@ closed-built mesh points polygons count closed same_points same_faces counted fo
 pub refined-mesh : (mesh : ObjMesh) (points : List Point3) (polygons : List Polygon) (common : ℕ) (text : List ℕ) →
     map point_of points ≡ mesh.points → polygons ≡ mesh.faces → common ≡ mesh.common → is_built mesh ≡ true →
     text ≡ refined_text (plain_level (length points) polygons) CatmullClark common (map point_of points) 1 →
-    text ≡ built_text mesh
+    text ≡ written_text built_command mesh
 refined-mesh mesh points polygons common text same_points same_faces same_common built refined =
     let many : length points ≡ length mesh.points = sym (length-map points _) ∙ ap length same_points in
     let level : plain_level (length points) polygons ≡ plain_level (length mesh.points) mesh.faces =
@@ -189,23 +198,83 @@ refined-mesh mesh points polygons common text same_points same_faces same_common
     ∙ ap (λ cs. refined_text (plain_level (length mesh.points) mesh.faces) CatmullClark mesh.common cs 1) same_points
     ∙ sym (text-built mesh built)
 
+-- the refusal of a refinement
+abbrev pub refusal_where : Bool → Option Fault
+refusal_where built = cond built None (Some (NotBuilt 0))
+
 built-of : (mesh : ObjMesh) (built : Bool) → is_built mesh ≡ built → cond built None (Some (NotBuilt 0)) ≡ None → is_built mesh ≡ true
 built-of mesh true e h = e
 built-of mesh false e h = cc
 
--- a text that is not refused has no fault, and a mesh that is built
-fine-text : (bytes : List ℕ) (fault : Option model.ObjFault) → read_obj_fault bytes 0 ≡ fault →
-    refusal_of_text fault (read_obj_mesh bytes 0) ≡ None →
-    (read_obj_fault bytes 0 ≡ None) × (is_built (read_obj_mesh bytes 0) ≡ true)
-fine-text bytes None e h = (e, built-of (read_obj_mesh bytes 0) (is_built (read_obj_mesh bytes 0)) refl h)
-fine-text bytes (Some fault) e h = cc
+-- a mesh that is refined is a manifold
+manifold-of-built : (mesh : ObjMesh) → is_built mesh ≡ true → is_manifold (length mesh.points) mesh.faces ≡ true
+manifold-of-built mesh built =
+    let closed = (and_parts (has_built_form mesh) (is_closed_manifold mesh) built).1 in
+    (and_parts (is_manifold (length mesh.points) mesh.faces) (is_closed mesh.faces) closed).0
+
+-- and so is one that is checked
+manifold-of-checked : (command : Command) (mesh : ObjMesh) (fault : Option MeshFault) → first_mesh_fault (length mesh.points) mesh.faces ≡ fault →
+    (answer_of_checked command fault mesh).refusal ≡ None → is_manifold (length mesh.points) mesh.faces ≡ true
+manifold-of-checked command mesh (Some fault) e h = absurd (cc)
+manifold-of-checked command mesh None e h = (fault-decides (length mesh.points) mesh.faces).0 e
+
+-- a mesh that is not refused is a manifold
+manifold-of-good : (command : Command) (mesh : ObjMesh) → refusal_of_mesh command mesh ≡ None → is_manifold (length mesh.points) mesh.faces ≡ true
+manifold-of-good (Refine depth decimals uv by tags) mesh h = manifold-of-built mesh (built-of mesh (is_built mesh) refl h)
+manifold-of-good (Stencils depth) mesh h = manifold-of-checked (Stencils depth) mesh (first_mesh_fault (length mesh.points) mesh.faces) refl h
+manifold-of-good (Levels depth) mesh h = manifold-of-checked (Levels depth) mesh (first_mesh_fault (length mesh.points) mesh.faces) refl h
+manifold-of-good (Gen seed size depth) mesh h = manifold-of-checked (Gen seed size depth) mesh (first_mesh_fault (length mesh.points) mesh.faces) refl h
+
+-- a text that is not refused has no fault, and neither has its mesh
+fine-text : (command : Command) (bytes : List ℕ) (fault : Option model.ObjFault) → read_obj_fault bytes 0 ≡ fault →
+    refusal_of_text command fault (read_obj_mesh bytes 0) ≡ None →
+    (read_obj_fault bytes 0 ≡ None) × (refusal_of_mesh command (read_obj_mesh bytes 0) ≡ None)
+fine-text command bytes None e h = (e, h)
+fine-text command bytes (Some fault) e h = cc
 
 -- so all of its levels are manifolds
-pub levels-manifold : (bytes : List ℕ) → refusal_of_obj bytes ≡ None → (n : ℕ) →
+pub levels-manifold : (command : Command) (bytes : List ℕ) → refusal_of_obj command bytes ≡ None → (n : ℕ) →
     IsManifold (level_of bytes n).point_count (level_of bytes n).polygons
-levels-manifold bytes h n =
+levels-manifold command bytes h n =
     let mesh = read_obj_mesh bytes 0 in
-    let good = fine-text bytes (read_obj_fault bytes 0) refl h in
-    let closed = (and_parts (has_built_form mesh) (is_closed_manifold mesh) good.1).1 in
-    let manifold = (and_parts (is_manifold (length mesh.points) mesh.faces) (is_closed mesh.faces) closed).0 in
+    let good = fine-text command bytes (read_obj_fault bytes 0) refl h in
+    let manifold = manifold-of-good command mesh good.1 in
     (manifold-levels (base_level mesh) n (faces-over bytes 0 good.0) ((manifold-decides (length mesh.points) mesh.faces).0 manifold)).1
+
+-- what a text without a fault is refused for is what its mesh is refused for
+pub good-text : (command : Command) (bytes : List ℕ) (mesh : ObjMesh) (refusal : Option Fault) → read_obj_fault bytes 0 ≡ None → mesh ≡ read_obj_mesh bytes 0 →
+    refusal_of_mesh command mesh ≡ refusal → refusal_of_obj command bytes ≡ refusal
+good-text command bytes mesh refusal none same is =
+    ap (λ fault. refusal_of_text command fault (read_obj_mesh bytes 0)) none ∙ ap (refusal_of_mesh command) (sym same) ∙ is
+
+pub faulty-text : (command : Command) (bytes : List ℕ) (fault : model.ObjFault) → read_obj_fault bytes 0 ≡ Some fault → refusal_of_obj command bytes ≡ Some (Obj fault)
+faulty-text command bytes fault is = ap (λ fault. refusal_of_text command fault (read_obj_mesh bytes 0)) is
+
+unless-refusal : (fault : Option Fault) (text : List ℕ) → (answer_unless fault text).refusal ≡ fault
+unless-refusal (Some fault) text = refl
+unless-refusal None text = refl
+
+-- a mesh that is accepted is not refused, and its level 0 is counted
+pub accepted-counts : (mesh : ObjMesh) (level : Topology) (counts : Counts) → IsAccepted mesh level → counts ≡ counts_of level.level →
+    (refusal_of_mesh (Levels 0) mesh ≡ None) × (counts ≡ counts_of (base_level mesh))
+accepted-counts mesh level counts accepted counted = (
+  ap (λ fault. (answer_of_checked (Levels 0) fault mesh).refusal) accepted.manifold
+      ∙ unless-refusal (first_of (count_faults mesh ++ [])) (command_text (Levels 0) mesh)
+      ∙ ap first_of (append-nil (count_faults mesh))
+      ∙ accepted.small,
+  counted ∙ ap counts_of accepted.level_is,
+)
+
+-- the line of the counts is what the command writes
+pub counted-text : (command : Command) (depth : ℕ) (mesh : ObjMesh) (counts : Counts) → command ≡ Levels depth → IsBuiltCommand command →
+    (refusal_of_mesh (Levels 0) mesh ≡ None) × (counts ≡ counts_of (base_level mesh)) →
+    (refusal_of_mesh command mesh ≡ None) × (counts_line 0 counts ≡ written_text command mesh)
+unfolding written_text
+counted-text command depth mesh counts is built counted =
+    let nought : depth ≡ 0 = subst IsBuiltCommand is built in
+    let says : command ≡ Levels 0 = is ∙ ap Levels nought in (
+      ap (λ c. refusal_of_mesh c mesh) says ∙ counted.0,
+      ap (counts_line 0) counted.1
+          ∙ sym (append-nil (level_line 0 (base_level mesh)))
+          ∙ ap (λ c. command_text c mesh) (sym says),
+    )

@@ -1,16 +1,16 @@
 -- What a run owes at each of its ends.
-use Rattle.std.proofs.Common.{◌≡◌, ◌≢◌, ℕ, ◌<◌, ◌≤◌, true, false, cond, List, [], ◌++◌, length, take, Option, Some, None, arith, append-nil, length-append, refl, ap, sym, ◌∙◌}
+use Rattle.std.proofs.Common.{◌≡◌, ◌≢◌, ℕ, ◌+◌, ◌<◌, ◌≤◌, true, false, cond, List, [], ◌++◌, length, take, Option, Some, None, arith, append-nil, length-append, refl, ap, sym, subst, ◌∙◌}
 use Rattle.far_io.specs.Bytes.{Rose, Took, Added, AddedPrefix, IsDry}
 use Rattle.subdiv_model.specs.Words.{usage_of}
 use Rattle.subdiv_model.specs.ReadObj.{read_obj_mesh}
-use Rattle.subdiv_model.specs.Fault.{Fault, Usage, Read, Long, Write, Memory}
+use Rattle.subdiv_model.specs.Command.{Command, command_of}
+use Rattle.subdiv_model.specs.Fault.{Fault, Usage, Read, Long, Obj, Mesh, TooLarge, Overflow, Write, Memory, NotBuilt}
 use Rattle.subdiv_model.specs.Answer.{byte_limit, command_text}
 use Rattle.far_words.specs.Built.{built_table}
-use Rattle.far_engine.specs.BuiltWords.{built_text}
-use Rattle.far_engine.specs.Outcome.{refusal_of, refusal_of_words, refusal_of_obj, text_of, IsAnswered, is_after_reading}
+use Rattle.far_engine.specs.BuiltWords.{written_text}
+use Rattle.far_engine.specs.Outcome.{refusal_of, refusal_of_words, refusal_of_obj, text_of, IsAnswered, IsFound, is_after_reading, step_limit}
 use Rattle.far_engine.specs.Runs.{Runs}
 use Rattle.far_engine.proofs.BuiltLemmas.{within, beyond, levels-manifold}
-use Rattle.far_engine.proofs.WordsLemmas.{says-built}
 
 -- what was taken to the end is what there was
 all_taken : (old new : Option (List ℕ)) (taken bytes : List ℕ) → Took old new taken → IsDry new → old ≡ Some bytes → taken ≡ bytes
@@ -28,32 +28,21 @@ taken_within None new taken told took e = absurd (cc)
 
 -- a command over an input that is not too long is refused where its text is
 by_text : (words : List (List ℕ)) (bytes : List ℕ) → usage_of built_table words ≡ None → length bytes ≤ byte_limit →
-    refusal_of words bytes ≡ refusal_of_obj bytes
+    refusal_of words bytes ≡ refusal_of_obj (command_of words) bytes
 by_text words bytes command short =
-    ap (λ place. refusal_of_words place bytes) command
-    ∙ ap (λ b. cond b (refusal_of_obj bytes) (Some Long)) (within (length bytes) byte_limit short)
+    ap (λ place. refusal_of_words place (command_of words) bytes) command
+    ∙ ap (λ b. cond b (refusal_of_obj (command_of words) bytes) (Some Long)) (within (length bytes) byte_limit short)
 
 -- a command over an input that is too long
 by_length : (words : List (List ℕ)) (bytes : List ℕ) → usage_of built_table words ≡ None → byte_limit < length bytes →
     refusal_of words bytes ≡ Some Long
 by_length words bytes command long =
-    ap (λ place. refusal_of_words place bytes) command
-    ∙ ap (λ b. cond b (refusal_of_obj bytes) (Some Long)) (beyond (length bytes) byte_limit long)
+    ap (λ place. refusal_of_words place (command_of words) bytes) command
+    ∙ ap (λ b. cond b (refusal_of_obj (command_of words) bytes) (Some Long)) (beyond (length bytes) byte_limit long)
 
 added_nothing : (o : Option (List ℕ)) → Added o o []
 added_nothing (Some old) = sym (append-nil old)
 added_nothing None = tt
-
--- a fault that is the refusal
-answered : (fault : Fault) (refusal : Option Fault) → fault ≢ Write → refusal ≡ Some fault → IsAnswered (Some fault) refusal
-answered Read refusal other is = tt
-answered Memory refusal other is = tt
-answered Write refusal other is = absurd (other refl)
-answered fault refusal other is = is
-
--- a fault that comes after reading is none of those that come before
-other_fault : (fault other : Fault) → is_after_reading (Some fault) ≡ true → is_after_reading (Some other) ≡ false → fault ≢ other
-other_fault fault other after before e = let same = ap (λ f. is_after_reading (Some f)) e in absurd (cc)
 
 -- the words are a command, and the input was read to its end
 pub record WasRead {S : Type 0} (left : S → Option (List ℕ)) (source_faults : S → ℕ) (words : List (List ℕ)) (s s' : S)
@@ -105,30 +94,46 @@ module _ {S K : Type 0} (left : S → Option (List ℕ)) (source_faults : S → 
       (λ bytes e. by_length words bytes command (omega (arith, long, taken_within _ _ taken bytes took e)))
       (λ word e. absurd (cc)) (λ e. absurd (cc)) (λ e. absurd (cc)) (λ e. long) (λ e. absurd (cc)) took source_later
 
-  module _ (bytes : List ℕ) (was : WasRead left source_faults words s s' bytes) where
-    refused_as : (other : List ℕ) (refusal : Option Fault) → left s ≡ Some other → refusal_of_obj bytes ≡ refusal →
+  module _ (bytes : List ℕ) (command : Command) (was : WasRead left source_faults words s s' bytes) (says : command ≡ command_of words) where
+    refused_as : (other : List ℕ) (refusal : Option Fault) → left s ≡ Some other → refusal_of_obj command bytes ≡ refusal →
         refusal_of words other ≡ refusal
     refused_as other refusal e is =
-        ap (refusal_of words) (sym (told left source_faults words s s' bytes other was e)) ∙ by_text words bytes was.command was.short ∙ is
+        ap (refusal_of words) (sym (told left source_faults words s s' bytes other was e)) ∙ by_text words bytes was.command was.short
+        ∙ ap (λ c. refusal_of_obj c bytes) (sym says) ∙ is
 
-    -- the text is refused
-    pub runs_text_refused : (k : K) (fault : Fault) → refusal_of_obj bytes ≡ Some fault → is_after_reading (Some fault) ≡ true →
-        fault ≢ Write → Runs left source_faults held sink_faults fixed words s s' k k (Some fault)
-    runs_text_refused k fault refused after not_write =
-        runs_refused k fault bytes was.command
-        (λ other e. answered fault (refusal_of words other) not_write (refused_as other (Some fault) e refused))
-        (λ word. other_fault fault (Usage word) after refl) (other_fault fault Read after refl) not_write
-        (λ e. absurd (other_fault fault Long after refl e)) (λ e. was.dry) was.took was.later
+    -- a fault that was found
+    pub runs_found : (k : K) (fault : Fault) → IsFound fault (refusal_of_obj command bytes) →
+        Runs left source_faults held sink_faults fixed words s s' k k (Some fault)
+    runs_found k Memory found =
+        runs_refused k Memory bytes was.command (λ other e. tt)
+        (λ word e. absurd (cc)) (λ e. absurd (cc)) (λ e. absurd (cc)) (λ e. absurd (cc)) (λ e. absurd (cc)) was.took was.later
+    runs_found k (Obj fault) found =
+        runs_refused k (Obj fault) bytes was.command (λ other e. refused_as other (Some (Obj fault)) e found)
+        (λ word e. absurd (cc)) (λ e. absurd (cc)) (λ e. absurd (cc)) (λ e. absurd (cc)) (λ e. was.dry) was.took was.later
+    runs_found k (Mesh fault) found =
+        runs_refused k (Mesh fault) bytes was.command (λ other e. refused_as other (Some (Mesh fault)) e found)
+        (λ word e. absurd (cc)) (λ e. absurd (cc)) (λ e. absurd (cc)) (λ e. absurd (cc)) (λ e. was.dry) was.took was.later
+    runs_found k (TooLarge counted) found =
+        runs_refused k (TooLarge counted) bytes was.command (λ other e. refused_as other (Some (TooLarge counted)) e found)
+        (λ word e. absurd (cc)) (λ e. absurd (cc)) (λ e. absurd (cc)) (λ e. absurd (cc)) (λ e. was.dry) was.took was.later
+    runs_found k (NotBuilt line) found =
+        runs_refused k (NotBuilt line) bytes was.command (λ other e. refused_as other (Some (NotBuilt line)) e found)
+        (λ word e. absurd (cc)) (λ e. absurd (cc)) (λ e. absurd (cc)) (λ e. absurd (cc)) (λ e. was.dry) was.took was.later
+    runs_found k (Usage word) found = absurd found
+    runs_found k Read found = absurd found
+    runs_found k Long found = absurd found
+    runs_found k (Overflow track level kind) found = absurd found
+    runs_found k Write found = absurd found
 
-    text_as : (other text : List ℕ) → left s ≡ Some other → text ≡ built_text (read_obj_mesh bytes 0) → text ≡ text_of words other
-    unfolding built_text
+    text_as : (other text : List ℕ) → left s ≡ Some other → text ≡ written_text command (read_obj_mesh bytes 0) → text ≡ text_of words other
+    unfolding written_text
     text_as other text e is =
         is
-        ∙ ap (λ command. command_text command (read_obj_mesh bytes 0)) (sym (says-built words was.command))
+        ∙ ap (λ c. command_text c (read_obj_mesh bytes 0)) says
         ∙ ap (text_of words) (told left source_faults words s s' bytes other was e)
 
     -- the text stands in the sink
-    pub runs_ok : (k k' : K) (text : List ℕ) → refusal_of_obj bytes ≡ None → text ≡ built_text (read_obj_mesh bytes 0) →
+    pub runs_ok : (k k' : K) (text : List ℕ) → refusal_of_obj command bytes ≡ None → text ≡ written_text command (read_obj_mesh bytes 0) →
         Added (held k) (held k') text → sink_faults k ≤ sink_faults k' → fixed k' ≡ fixed k →
         Runs left source_faults held sink_faults fixed words s s' k k' None
     runs_ok k k' text good defined added sink_later same = record {
@@ -137,7 +142,7 @@ module _ {S K : Type 0} (left : S → Option (List ℕ)) (source_faults : S → 
       answer = λ other e. refused_as other None e good;
       whole = λ e. was.dry;
       text = λ other e f. rw (← (text_as other text e defined)) added;
-      manifold = λ other e f. rw (← (told left source_faults words s s' bytes other was e)) (levels-manifold bytes good);
+      manifold = λ other e f. rw (← (told left source_faults words s s' bytes other was e)) (levels-manifold command bytes good);
       prefix = λ other e f. absurd (cc);
       kept = λ fault e f. absurd (cc);
       read = λ e. absurd (cc);
@@ -151,7 +156,7 @@ module _ {S K : Type 0} (left : S → Option (List ℕ)) (source_faults : S → 
     }
 
     -- a prefix of the text stands in the sink, whose count rose
-    pub runs_cut : (k k' : K) (text : List ℕ) → refusal_of_obj bytes ≡ None → text ≡ built_text (read_obj_mesh bytes 0) →
+    pub runs_cut : (k k' : K) (text : List ℕ) → refusal_of_obj command bytes ≡ None → text ≡ written_text command (read_obj_mesh bytes 0) →
         AddedPrefix (held k) (held k') text → Rose (sink_faults k) (sink_faults k') → sink_faults k ≤ sink_faults k' →
         fixed k' ≡ fixed k → Runs left source_faults held sink_faults fixed words s s' k k' (Some Write)
     runs_cut k k' text good defined prefix rose sink_later same = record {
@@ -172,3 +177,12 @@ module _ {S K : Type 0} (left : S → Option (List ℕ)) (source_faults : S → 
       sink_later = sink_later;
       sink_fixed = same;
     }
+
+-- the steps that are counted are those of what the source told
+pub steps_as : {S : Type 0} (left : S → Option (List ℕ)) (source_faults : S → ℕ) (words : List (List ℕ)) (s s' : S) (bytes other : List ℕ) (command : Command) (old new : ℕ) →
+    WasRead left source_faults words s s' bytes → command ≡ command_of words → new ≤ old + step_limit command (read_obj_mesh bytes 0) → left s ≡ Some other →
+    new ≤ old + step_limit (command_of words) (read_obj_mesh other 0)
+steps_as left source_faults words s s' bytes other command old new was says bound e =
+    let same = told left source_faults words s s' bytes other was e in
+    subst (λ b. new ≤ old + step_limit (command_of words) (read_obj_mesh b 0)) same
+    (subst (λ c. new ≤ old + step_limit c (read_obj_mesh bytes 0)) says bound)

@@ -1,43 +1,46 @@
 -- What a run answers and writes, by its words and the bytes of its input.
 -- Source: this profile.
-use Rattle.std.specs.Prelude.{ℕ, ◌≡◌, Bool, true, false, nat_le, List, length, Option, Some, None, if◌then◌else◌}
+use Rattle.std.specs.Prelude.{ℕ, ◌≡◌, ◌+◌, Bool, true, false, nat_le, List, length, Option, Some, None, if◌then◌else◌}
+use Rattle.std.specs.List.{sum_by, range_with_len}
 use Rattle.subdiv_model.specs.Words.{usage_of}
-use Rattle.subdiv_model.specs.Command.{command_of}
+use Rattle.subdiv_model.specs.Command.{Command, Refine, Stencils, Levels, Gen, command_of}
 use Rattle.subdiv_model.specs.ObjFault.{ObjFault}
 use Rattle.subdiv_model.specs.ObjMesh.{ObjMesh}
 use Rattle.subdiv_model.specs.ReadObj.{read_obj_fault, read_obj_mesh}
 use Rattle.subdiv_model.specs.Level.{Level}
 use Rattle.subdiv_model.specs.Base.{base_level}
-use Rattle.subdiv_model.specs.Child.{refined_level}
-use Rattle.subdiv_model.specs.Fault.{Fault, Usage, Read, Long, Obj, Write, Memory, NotBuilt}
-use Rattle.subdiv_model.specs.Answer.{byte_limit, command_text}
+use Rattle.subdiv_model.specs.Child.{refined_level, faces_after}
+use Rattle.subdiv_model.specs.MeshFault.{first_mesh_fault}
+use Rattle.subdiv_model.specs.Fault.{Fault, Usage, Read, Long, Obj, Mesh, TooLarge, Write, Memory, NotBuilt}
+use Rattle.subdiv_model.specs.Answer.{byte_limit, command_text, answer_of_checked}
 use Rattle.far_engine.specs.Built.{is_built}
 use Rattle.far_words.specs.Built.{built_table}
 
--- what is refused of a mesh that was read: all that is not built yet
-abbrev pub refusal_of_mesh : ObjMesh → Option Fault
-refusal_of_mesh mesh = if is_built mesh then None else Some (NotBuilt 0)
+-- what is refused of a mesh that was read: of a refinement all that is not built yet, and of other commands what is defined
+abbrev pub refusal_of_mesh : Command → ObjMesh → Option Fault
+refusal_of_mesh (Refine depth decimals uv by tags) mesh = if is_built mesh then None else Some (NotBuilt 0)
+refusal_of_mesh command mesh = (answer_of_checked command (first_mesh_fault (length mesh.points) mesh.faces) mesh).refusal
 
 -- what is refused of a text that is not too long, by its fault
-abbrev pub refusal_of_text : Option ObjFault → ObjMesh → Option Fault
-refusal_of_text (Some fault) mesh = Some (Obj fault)
-refusal_of_text None mesh = refusal_of_mesh mesh
+abbrev pub refusal_of_text : Command → Option ObjFault → ObjMesh → Option Fault
+refusal_of_text command (Some fault) mesh = Some (Obj fault)
+refusal_of_text command None mesh = refusal_of_mesh command mesh
 
 -- what is refused of an input that is not too long
-abbrev pub refusal_of_obj : List ℕ → Option Fault
-refusal_of_obj bytes = refusal_of_text (read_obj_fault bytes 0) (read_obj_mesh bytes 0)
+abbrev pub refusal_of_obj : Command → List ℕ → Option Fault
+refusal_of_obj command bytes = refusal_of_text command (read_obj_fault bytes 0) (read_obj_mesh bytes 0)
 
 -- what is refused of an input
-abbrev pub refusal_of_bytes : List ℕ → Option Fault
-refusal_of_bytes bytes = if nat_le (length bytes) byte_limit then refusal_of_obj bytes else Some Long
+abbrev pub refusal_of_bytes : Command → List ℕ → Option Fault
+refusal_of_bytes command bytes = if nat_le (length bytes) byte_limit then refusal_of_obj command bytes else Some Long
 
 -- the first refusal that applies, by the words' first fault and the bytes
-abbrev pub refusal_of_words : Option ℕ → List ℕ → Option Fault
-refusal_of_words (Some word) bytes = Some (Usage word)
-refusal_of_words None bytes = refusal_of_bytes bytes
+abbrev pub refusal_of_words : Option ℕ → Command → List ℕ → Option Fault
+refusal_of_words (Some word) command bytes = Some (Usage word)
+refusal_of_words None command bytes = refusal_of_bytes command bytes
 
 abbrev pub refusal_of : List (List ℕ) → List ℕ → Option Fault
-refusal_of words bytes = refusal_of_words (usage_of built_table words) bytes
+refusal_of words bytes = refusal_of_words (usage_of built_table words) (command_of words) bytes
 
 -- what the words say to write of the mesh of the bytes
 abbrev pub text_of : List (List ℕ) → List ℕ → List ℕ
@@ -46,6 +49,22 @@ text_of words bytes = command_text (command_of words) (read_obj_mesh bytes 0)
 -- the level of that mesh after k steps
 abbrev pub level_of : List ℕ → ℕ → Level
 level_of bytes k = refined_level (base_level (read_obj_mesh bytes 0)) k
+
+-- how many steps a command may take with a mesh: one for each face of the levels that it makes
+abbrev pub step_limit : Command → ObjMesh → ℕ
+step_limit (Refine depth decimals uv by tags) mesh = 0
+step_limit (Stencils depth) mesh = 0
+step_limit (Levels depth) mesh = sum_by (faces_after mesh.faces) (range_with_len 0 (depth + 1))
+step_limit (Gen seed size depth) mesh = 0
+
+-- a fault that is found after reading is the refusal that is defined; memory may run out at any input
+abbrev pub IsFound : Fault → Option Fault → Type 0
+IsFound Memory refusal = Unit {0}
+IsFound (Obj fault) refusal = refusal ≡ Some (Obj fault)
+IsFound (Mesh fault) refusal = refusal ≡ Some (Mesh fault)
+IsFound (TooLarge counted) refusal = refusal ≡ Some (TooLarge counted)
+IsFound (NotBuilt line) refusal = refusal ≡ Some (NotBuilt line)
+IsFound other refusal = ⊥
 
 -- the outcome is the refusal that is defined, or one of those that have a cause of their own; Write comes only where
 -- nothing is refused

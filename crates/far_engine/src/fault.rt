@@ -1,13 +1,18 @@
 ghost use Rattle.std.specs.Prelude.{◌≡◌, ◌≤◌, Some, OnOk, OnErr};
 ghost use Rattle.far_io.specs.Bytes.{Rose, Added, AddedPrefix};
-ghost use Rattle.subdiv_model.specs.Fault.{fault_text, fault_line, fault_status};
+ghost use Rattle.subdiv_model.specs.Fault.{fault_text, fault_line, fault_status, mesh_fault_text, counted_text};
+ghost use Rattle.level_topology.specs.CountedText.{counted_of};
+ghost use Rattle.mesh_check.specs.View.{mesh_fault_of};
 ghost use Rattle.far_engine.specs.Pieces.{pieces_text};
 ghost use Rattle.far_engine.specs.View.{fault_of};
 
-use crate::output::put_pieces;
-use crate::piece::Piece::{self, Number, Text};
+use crate::output::write_line;
+use crate::piece::{Piece, about, about_two, about_with, plain};
 use far_io::{Sink, WriteFailed};
+use level_topology::Counted;
+use mesh_check::MeshFault;
 use obj_tags::ObjCause;
+use ratio128::Memory;
 use std::fmt;
 
 /// Why a run gave up. Each has a status and a line on standard error.
@@ -22,12 +27,26 @@ pub enum FarFault {
     Long,
     /// A line of the input, counted from 1, is refused: the least such line, and why.
     Obj { line: u32, cause: ObjCause },
+    /// The mesh is no manifold: what is wrong with it first.
+    Mesh(MeshFault),
+    /// The mesh is a manifold, and a count passes its limit: the first one, with how much there is.
+    TooLarge(Counted),
     /// The mesh is one that is not built yet. `line` is 0: it is the mesh as a whole.
     NotBuilt { line: u32 },
     /// A write or a flush failed.
     Write,
     /// Memory ran out.
     Memory,
+}
+
+impl From<Memory> for FarFault {
+    ghost use Rattle.far_engine.specs.declared.fault.FarFault.TheVariants as fault;
+
+    ghost from_gives = { λ _ e. e ≡ fault.Memory };
+
+    fn from(_: Memory) -> FarFault {
+        FarFault::Memory
+    }
 }
 
 /// The exit status of a fault.
@@ -39,48 +58,77 @@ pub fn status(fault: &FarFault) -> u8
         FarFault::Read => 3,
         FarFault::Long => 4,
         FarFault::Obj { .. } => 5,
+        FarFault::Mesh(_) => 6,
+        FarFault::TooLarge(_) => 7,
         FarFault::NotBuilt { .. } => 12,
         FarFault::Write => 10,
         FarFault::Memory => 11,
     }
 }
 
-// What stands in the place of a piece where there are fewer than four.
-const NOTHING: Piece = Text("");
+// What is wrong with a mesh, in words.
+fn mesh_pieces(fault: MeshFault) -> [Piece; 5]
+    ensures { pieces_text result ≡ mesh_fault_text (mesh_fault_of fault) }
+{
+    match fault {
+        MeshFault::FaceTooSmall(face) => about(
+            "face ",
+            face as u64,
+            " has fewer than three corners",
+        ),
+        MeshFault::RepeatedVertex(face) => about("face ", face as u64, " repeats a vertex"),
+        MeshFault::NonManifoldEdge(a, b) => {
+            about_two("edge ", a as u64, " ", b as u64, " has more than two faces")
+        }
+        MeshFault::WindingClash(a, b) => {
+            about_two(
+                "edge ",
+                a as u64,
+                " ",
+                b as u64,
+                " is used twice in one direction",
+            )
+        }
+        MeshFault::SplitVertex(v) => about("vertex ", v as u64, " joins more than one fan"),
+    }
+}
+
+// What there is too much of, in words.
+fn counted_pieces(counted: Counted) -> [Piece; 5]
+    ensures { pieces_text result ≡ counted_text (counted_of counted) }
+{
+    match counted {
+        Counted::Points(count) => about("too many points: ", count, ""),
+        Counted::Faces(count) => about("too many faces: ", count, ""),
+        Counted::FaceSize { face, size } => {
+            about_two("face ", face as u64, " has ", size, " corners")
+        }
+        Counted::Valence { vertex, count } => {
+            about_two("vertex ", vertex as u64, " has ", count, " edges")
+        }
+        Counted::LevelFaces { level, count } => {
+            about_two("level ", level as u64, " has ", count, " faces")
+        }
+        Counted::Entries { level } => about("level ", level as u64, " has too many entries"),
+        Counted::LimitEntries => plain("the limit rows have too many entries"),
+    }
+}
 
 impl FarFault {
     // The fault in words.
-    fn pieces(&self) -> [Piece; 4]
+    fn pieces(&self) -> [Piece; 5]
         ensures { pieces_text result ≡ fault_text (fault_of self.now) }
     {
         match self {
-            FarFault::Usage { word } => [
-                Text("word "),
-                Number(*word),
-                Text(" is not understood"),
-                NOTHING,
-            ],
-            FarFault::Read => [Text("reading failed"), NOTHING, NOTHING, NOTHING],
-            FarFault::Long => [
-                Text("input is longer than 268435456 bytes"),
-                NOTHING,
-                NOTHING,
-                NOTHING,
-            ],
-            FarFault::Obj { line, cause } => [
-                Text("line "),
-                Number(*line),
-                Text(": "),
-                Text(cause.text()),
-            ],
-            FarFault::NotBuilt { line } => [
-                Text("line "),
-                Number(*line),
-                Text(" is not built yet"),
-                NOTHING,
-            ],
-            FarFault::Write => [Text("writing failed"), NOTHING, NOTHING, NOTHING],
-            FarFault::Memory => [Text("out of memory"), NOTHING, NOTHING, NOTHING],
+            FarFault::Usage { word } => about("word ", *word as u64, " is not understood"),
+            FarFault::Read => plain("reading failed"),
+            FarFault::Long => plain("input is longer than 268435456 bytes"),
+            FarFault::Obj { line, cause } => about_with("line ", *line as u64, ": ", cause.text()),
+            FarFault::Mesh(fault) => mesh_pieces(*fault),
+            FarFault::TooLarge(counted) => counted_pieces(*counted),
+            FarFault::NotBuilt { line } => about("line ", *line as u64, " is not built yet"),
+            FarFault::Write => plain("writing failed"),
+            FarFault::Memory => plain("out of memory"),
         }
     }
 }
@@ -89,8 +137,8 @@ impl fmt::Display for FarFault {
     ghost output = { λ fault. Some (fault_text (fault_of fault)) };
 
     fn fmt<W: fmt::Write>(&self, f: &mut fmt::Formatter<W>) -> fmt::Result {
-        let [a, b, c, d] = self.pieces();
-        write!(f, "{a}{b}{c}{d}")
+        let [a, b, c, d, e] = self.pieces();
+        write!(f, "{a}{b}{c}{d}{e}")
     }
 }
 
@@ -108,6 +156,5 @@ pub fn report<K: Sink>(fault: &FarFault, sink: &mut K) -> Result<(), WriteFailed
     ensures later { K.faults sink.old ≤ K.faults sink.new }
     ensures fixed { K.fixed sink.new ≡ K.fixed sink.old }
 {
-    let [a, b, c, d] = fault.pieces();
-    put_pieces(sink, &[Text("far: "), a, b, c, d, Text("\n")])
+    write_line(sink, &fault.pieces())
 }

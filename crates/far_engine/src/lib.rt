@@ -6,6 +6,7 @@ mod engine;
 mod fault;
 mod output;
 mod piece;
+mod reply;
 
 pub use engine::{program, run};
 pub use fault::{FarFault, report, status};

@@ -1,20 +1,24 @@
-ghost use Rattle.std.specs.Prelude.{◌≡◌, ◌≤◌, OnOk, OnErr};
+ghost use Rattle.std.specs.Prelude.{◌≡◌, ◌≤◌, ◌++◌, false, codes, OnOk, OnErr};
 ghost use Rattle.far_io.specs.Bytes.{Rose, Added, AddedPrefix};
 ghost use Rattle.obj_out.specs.Puts.{Puts};
 ghost use Rattle.far_engine.specs.Pieces.{piece_text, pieces_text};
+ghost use Rattle.far_engine.specs.View.{reply_text};
 
 use crate::piece::Piece;
+use crate::reply::Reply;
 use far_io::{Sink, WriteFailed};
 use itoa::Buffer;
 use obj_out::Out;
-use plain_refine::Refined;
 
-// Puts the mesh's text.
-fn put_mesh<K: Sink>(out: &mut Out<'_, K>, refined: &Refined) -> Result<(), WriteFailed>
+// Puts the text of a reply.
+fn put_text<K: Sink>(out: &mut Out<'_, K>, reply: &Reply) -> Result<(), WriteFailed>
     ensures same_reference { out.new.sink.ghost_name ≡ out.old.sink.ghost_name }
-    ensures puts { Puts K.held K.faults K.fixed out.old.sink.now out.new.sink.now out.old.waiting out.new.waiting out.old.failed out.new.failed refined.now result }
+    ensures puts { Puts K.held K.faults K.fixed out.old.sink.now out.new.sink.now out.old.waiting out.new.waiting out.old.failed out.new.failed (reply_text reply.now) result }
 {
-    refined.put(out)
+    match reply {
+        Reply::Refined(refined) => refined.put(out),
+        Reply::Counted(counts) => counts.put(0, out),
+    }
 }
 
 // Puts the text of a piece.
@@ -26,30 +30,50 @@ fn put_piece<K: Sink>(out: &mut Out<'_, K>, piece: &Piece) -> Result<(), WriteFa
     out.put_bytes(piece.text(&mut buffer).as_bytes())
 }
 
-// Adds the mesh's text and hands it on, or adds a prefix of it where the sink fails.
-pub(crate) fn put_refined<K: Sink>(sink: &mut K, refined: &Refined) -> Result<(), WriteFailed>
-    ensures ok { OnOk result (Added (K.held sink.old) (K.held sink.new) refined.now) }
-    ensures prefix { OnErr result (AddedPrefix (K.held sink.old) (K.held sink.new) refined.now) }
+// Adds the text of a reply and hands it on, or adds a prefix of it where the sink fails.
+pub(crate) fn put_reply<K: Sink>(sink: &mut K, reply: &Reply) -> Result<(), WriteFailed>
+    ensures ok { OnOk result (Added (K.held sink.old) (K.held sink.new) (reply_text reply.now)) }
+    ensures prefix { OnErr result (AddedPrefix (K.held sink.old) (K.held sink.new) (reply_text reply.now)) }
     ensures cause { OnErr result (Rose (K.faults sink.old) (K.faults sink.new)) }
     ensures later { K.faults sink.old ≤ K.faults sink.new }
     ensures fixed { K.fixed sink.new ≡ K.fixed sink.old }
 {
     let mut out = Out::new(sink);
-    put_mesh(&mut out, refined)?;
+    put_text(&mut out, reply)?;
     out.end()
 }
 
-// Adds the pieces and hands them on, or adds a prefix of their text where the sink fails.
-pub(crate) fn put_pieces<K: Sink>(sink: &mut K, pieces: &[Piece]) -> Result<(), WriteFailed>
-    ensures ok { OnOk result (Added (K.held sink.old) (K.held sink.new) (pieces_text pieces.now)) }
-    ensures prefix { OnErr result (AddedPrefix (K.held sink.old) (K.held sink.new) (pieces_text pieces.now)) }
+// Puts the pieces, one after another.
+fn put_pieces<K: Sink>(out: &mut Out<'_, K>, pieces: &[Piece]) -> Result<(), WriteFailed>
+    requires fine { out.old.failed ≡ false }
+    ensures same_reference { out.new.sink.ghost_name ≡ out.old.sink.ghost_name }
+    ensures puts { Puts K.held K.faults K.fixed out.old.sink.now out.new.sink.now out.old.waiting out.new.waiting out.old.failed out.new.failed (pieces_text pieces.now) result }
+{
+    for piece in pieces {
+        put_piece(out, piece)?;
+    }
+    Ok(())
+}
+
+// Puts the pieces as a line of the program.
+fn put_line<K: Sink>(out: &mut Out<'_, K>, pieces: &[Piece]) -> Result<(), WriteFailed>
+    ensures same_reference { out.new.sink.ghost_name ≡ out.old.sink.ghost_name }
+    ensures puts { Puts K.held K.faults K.fixed out.old.sink.now out.new.sink.now out.old.waiting out.new.waiting out.old.failed out.new.failed (codes "far: " ++ (pieces_text pieces.now ++ codes "\n")) result }
+{
+    put_piece(out, &Piece::Text("far: "))?;
+    put_pieces(out, pieces)?;
+    put_piece(out, &Piece::Text("\n"))
+}
+
+// Adds the pieces as a line and hands it on, or adds a prefix of it where the sink fails.
+pub(crate) fn write_line<K: Sink>(sink: &mut K, pieces: &[Piece]) -> Result<(), WriteFailed>
+    ensures ok { OnOk result (Added (K.held sink.old) (K.held sink.new) (codes "far: " ++ (pieces_text pieces.now ++ codes "\n"))) }
+    ensures prefix { OnErr result (AddedPrefix (K.held sink.old) (K.held sink.new) (codes "far: " ++ (pieces_text pieces.now ++ codes "\n"))) }
     ensures cause { OnErr result (Rose (K.faults sink.old) (K.faults sink.new)) }
     ensures later { K.faults sink.old ≤ K.faults sink.new }
     ensures fixed { K.fixed sink.new ≡ K.fixed sink.old }
 {
     let mut out = Out::new(sink);
-    for piece in pieces {
-        put_piece(&mut out, piece)?;
-    }
+    put_line(&mut out, pieces)?;
     out.end()
 }

@@ -1,8 +1,8 @@
 //! Texts in pieces, which take no memory.
 
-ghost use Rattle.std.specs.Prelude.{◌≡◌, Some};
+ghost use Rattle.std.specs.Prelude.{◌≡◌, ◌++◌, Some};
 ghost use Rattle.subdiv_model.specs.NumberText.{number_text};
-ghost use Rattle.far_engine.specs.Pieces.{piece_text};
+ghost use Rattle.far_engine.specs.Pieces.{piece_text, pieces_text};
 
 use itoa::Buffer;
 use std::fmt;
@@ -11,11 +11,16 @@ use std::fmt;
 #[derive(Clone, Copy)]
 pub(crate) enum Piece {
     Text(&'static str),
-    Number(u32),
+    Number(u64),
 }
 
+use Piece::{Number, Text};
+
+// What stands in the place of a piece where there are fewer than five.
+const NOTHING: Piece = Text("");
+
 // The number in decimal digits, which stand in the buffer.
-fn digits(number: u32, buffer: &mut Buffer) -> &str
+fn digits(number: u64, buffer: &mut Buffer) -> &str
     ensures { result.now ≡ number_text number }
 {
     buffer.format(number)
@@ -27,8 +32,8 @@ impl Piece {
         ensures { result.now ≡ piece_text self.now }
     {
         match self {
-            Piece::Text(text) => text,
-            Piece::Number(number) => digits(*number, buffer),
+            Text(text) => text,
+            Number(number) => digits(*number, buffer),
         }
     }
 }
@@ -39,4 +44,55 @@ impl fmt::Display for Piece {
     fn fmt<W: fmt::Write>(&self, f: &mut fmt::Formatter<W>) -> fmt::Result {
         f.write_str(self.text(&mut Buffer::new()))
     }
+}
+
+/// A text without numbers.
+pub(crate) fn plain(text: &'static str) -> [Piece; 5]
+    ensures { pieces_text result ≡ text.now }
+{
+    [Text(text), NOTHING, NOTHING, NOTHING, NOTHING]
+}
+
+/// A number in a text.
+pub(crate) fn about(before: &'static str, number: u64, after: &'static str) -> [Piece; 5]
+    ensures { pieces_text result ≡ before.now ++ (number_text number ++ after.now) }
+{
+    [Text(before), Number(number), Text(after), NOTHING, NOTHING]
+}
+
+/// Two numbers in a text.
+pub(crate) fn about_two(
+    before: &'static str,
+    first: u64,
+    middle: &'static str,
+    second: u64,
+    after: &'static str,
+) -> [Piece; 5]
+    ensures { pieces_text result ≡ before.now ++ (number_text first ++ (middle.now ++ (number_text second ++ after.now))) }
+{
+    [
+        Text(before),
+        Number(first),
+        Text(middle),
+        Number(second),
+        Text(after),
+    ]
+}
+
+/// A number in a text, and a text after it.
+pub(crate) fn about_with(
+    before: &'static str,
+    number: u64,
+    middle: &'static str,
+    after: &'static str,
+) -> [Piece; 5]
+    ensures { pieces_text result ≡ before.now ++ (number_text number ++ (middle.now ++ after.now)) }
+{
+    [
+        Text(before),
+        Number(number),
+        Text(middle),
+        Text(after),
+        NOTHING,
+    ]
 }

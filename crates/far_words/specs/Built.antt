@@ -4,4 +4,7 @@ use Rattle.subdiv_model.specs.Words.{CommandRule, required_option}
 
 -- the part of the whole table whose words are taken today
 abbrev pub built_table : List CommandRule
-built_table = record { name = codes "refine"; options = required_option (codes "depth") 1 1 ∷ [] } ∷ []
+built_table =
+    record { name = codes "refine"; options = required_option (codes "depth") 1 1 ∷ [] }
+    ∷ record { name = codes "levels"; options = required_option (codes "depth") 0 0 ∷ [] }
+    ∷ []

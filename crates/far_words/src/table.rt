@@ -79,10 +79,16 @@ const COMMANDS: &[CommandRule] = &[
     },
 ];
 
-const BUILT: &[CommandRule] = &[CommandRule {
-    name: "refine",
-    options: &[required_option!("depth", 1, 1)],
-}];
+const BUILT: &[CommandRule] = &[
+    CommandRule {
+        name: "refine",
+        options: &[required_option!("depth", 1, 1)],
+    },
+    CommandRule {
+        name: "levels",
+        options: &[required_option!("depth", 0, 0)],
+    },
+];
 
 /// The commands and their options.
 pub fn command_table() -> &'static [CommandRule]
