@@ -1,4 +1,1 @@
-pub mod ClosedLemmas
-mod KeptLemmas
-mod QuarterLemmas
 mod SureLemmas

@@ -7,6 +7,7 @@ ghost use Rattle.far_engine.specs.Outcome.{text_of};
 use crate::expect::expect_same;
 use far_engine::{FarFault, program, run};
 use far_io::{MemSink, MemSource, SureSink, SureSource};
+use mesh_check::MeshFault;
 use obj_tags::ObjCause;
 use ratio128::{Memory, Steps};
 use std::alloc::{AllocError, Global};
@@ -138,6 +139,11 @@ const SQUARE: &str = "v 0 0 0\nv 4 0 0\nv 4 4 0\nv 0 4 0\nf 1 2 3 4\n";
 
 const REFINE: &str = "refine depth=1";
 
+const LEVELS: &str = "levels depth=0";
+
+const CUBE_LEVEL: &str =
+    "level 0 points 8 edges 12 faces 6 euler 2 boundary 0 holes 0 sharp 0 extraordinary 8\n";
+
 const NOT_BUILT: FarFault = FarFault::NotBuilt { line: 0 };
 
 // Words, a mesh and a line after it, the answer, and what is written.
@@ -250,6 +256,61 @@ const RUNS: &[Run] = &[
         }),
         "",
     ),
+    ("levels", "", "", Err(FarFault::Usage { word: 1 }), ""),
+    (
+        "levels depth=1",
+        "",
+        "",
+        Err(FarFault::Usage { word: 1 }),
+        "",
+    ),
+    (
+        LEVELS,
+        "",
+        "",
+        Ok(()),
+        "level 0 points 0 edges 0 faces 0 euler 0 boundary 0 holes 0 sharp 0 extraordinary 0\n",
+    ),
+    (LEVELS, CUBE, "", Ok(()), CUBE_LEVEL),
+    (LEVELS, OTHER_CUBE, "", Ok(()), CUBE_LEVEL),
+    (
+        LEVELS,
+        CUBE,
+        "t crease 3/2/0 0 1 3 1 3\nt hole 1/0/0 0",
+        Ok(()),
+        "level 0 points 8 edges 12 faces 6 euler 2 boundary 0 holes 1 sharp 2 extraordinary 8\n",
+    ),
+    (
+        LEVELS,
+        SQUARE,
+        "t interpolateboundary 1/0/0 0",
+        Ok(()),
+        "level 0 points 4 edges 4 faces 1 euler 1 boundary 4 holes 1 sharp 0 extraordinary 0\n",
+    ),
+    (
+        LEVELS,
+        SQUARE,
+        "f 1 2",
+        Err(FarFault::Mesh(MeshFault::FaceTooSmall(1))),
+        "",
+    ),
+    (
+        LEVELS,
+        CUBE,
+        "f 1 2 3",
+        Err(FarFault::Mesh(MeshFault::NonManifoldEdge(0, 1))),
+        "",
+    ),
+    (
+        LEVELS,
+        SQUARE,
+        "f 1 x",
+        Err(FarFault::Obj {
+            line: 6,
+            cause: ObjCause::BadCorner,
+        }),
+        "",
+    ),
 ];
 
 fn runs() -> &'static [Run] {
@@ -315,6 +376,18 @@ const FAILED_CALLS: &[FailedCalls] = &[
         "",
     ),
     ("refine", 0, 0, 0, 4096, 2, "", ""),
+    (LEVELS, 0, 9, 9, 4096, 3, "far: reading failed\n", ""),
+    (LEVELS, 9, 0, 9, 4096, 10, "far: writing failed\n", ""),
+    (
+        LEVELS,
+        9,
+        9,
+        9,
+        13,
+        10,
+        "far: writing failed\n",
+        "level 0 point",
+    ),
 ];
 
 fn failed_calls() -> &'static [FailedCalls] {

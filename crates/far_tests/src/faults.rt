@@ -4,6 +4,8 @@ use crate::engine::failing_sink;
 use crate::expect::expect_same;
 use far_engine::{FarFault, report, status};
 use far_io::{SureSink, WriteFailed};
+use level_topology::Counted;
+use mesh_check::MeshFault;
 use obj_tags::ObjCause;
 use std::test::Fail;
 
@@ -101,6 +103,75 @@ const FAULTS: &[Fault] = &[
         },
         5,
         "far: line 4294967295: sharpness out of range\n",
+    ),
+    (
+        FarFault::Mesh(MeshFault::FaceTooSmall(7)),
+        6,
+        "far: face 7 has fewer than three corners\n",
+    ),
+    (
+        FarFault::Mesh(MeshFault::RepeatedVertex(0)),
+        6,
+        "far: face 0 repeats a vertex\n",
+    ),
+    (
+        FarFault::Mesh(MeshFault::NonManifoldEdge(12, 4)),
+        6,
+        "far: edge 12 4 has more than two faces\n",
+    ),
+    (
+        FarFault::Mesh(MeshFault::WindingClash(4, 12)),
+        6,
+        "far: edge 4 12 is used twice in one direction\n",
+    ),
+    (
+        FarFault::Mesh(MeshFault::SplitVertex(3)),
+        6,
+        "far: vertex 3 joins more than one fan\n",
+    ),
+    (
+        FarFault::TooLarge(Counted::Points(1048577)),
+        7,
+        "far: too many points: 1048577\n",
+    ),
+    (
+        FarFault::TooLarge(Counted::Faces(4294967296)),
+        7,
+        "far: too many faces: 4294967296\n",
+    ),
+    (
+        FarFault::TooLarge(Counted::FaceSize {
+            face: 0,
+            size: 65537,
+        }),
+        7,
+        "far: face 0 has 65537 corners\n",
+    ),
+    (
+        FarFault::TooLarge(Counted::Valence {
+            vertex: 1,
+            count: 65537,
+        }),
+        7,
+        "far: vertex 1 has 65537 edges\n",
+    ),
+    (
+        FarFault::TooLarge(Counted::LevelFaces {
+            level: 10,
+            count: 6291456,
+        }),
+        7,
+        "far: level 10 has 6291456 faces\n",
+    ),
+    (
+        FarFault::TooLarge(Counted::Entries { level: 2 }),
+        7,
+        "far: level 2 has too many entries\n",
+    ),
+    (
+        FarFault::TooLarge(Counted::LimitEntries),
+        7,
+        "far: the limit rows have too many entries\n",
     ),
     (
         FarFault::NotBuilt { line: 0 },

@@ -193,7 +193,10 @@ const BUILT: &[(&'static str, Result<Command, u32>)] = &[
     ("refine|depth=2", Err(1)),
     ("refine|depth=1|depth=1", Err(2)),
     ("refine|depth=1|uv=smooth", Err(2)),
-    ("levels|depth=1", Err(0)),
+    ("levels|depth=0", Ok(Command::Levels { depth: 0 })),
+    ("levels|depth=1", Err(1)),
+    ("levels", Err(1)),
+    ("stencils|depth=0", Err(0)),
     ("", Err(0)),
 ];
 

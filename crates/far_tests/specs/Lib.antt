@@ -1,3 +1,0 @@
-pub mod Closed
-pub mod Kept
-pub mod Squares

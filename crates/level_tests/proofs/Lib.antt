@@ -1,0 +1,4 @@
+mod KeptLemmas
+mod PlaceLemmas
+mod QuarterLemmas
+mod WheelLemmas

@@ -1,0 +1,5 @@
+use Rattle.level_tests.proofs.levels.joins_one_quarter_of_the_square.Given as goal
+
+-- the ledger of this one counter
+abbrev pub ghosts-quarter_counted : goal.ghosts-quarter_counted
+ghosts-quarter_counted g a = record { name = a.blank.name; parts = a.blank.parts }

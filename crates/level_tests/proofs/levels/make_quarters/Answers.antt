@@ -1,0 +1,10 @@
+use Rattle.std.proofs.Common.{sym, ap, ◌∙◌, subst}
+use Rattle.level_topology.specs.Rows.{Rows, AreOfLevel, topology_of}
+use Rattle.level_tests.proofs.QuarterLemmas.{quarters-of-level, quarters-is}
+use Rattle.level_tests.proofs.levels.make_quarters.Goals as goal
+
+pub finish-requires-clause-of_level : goal.finish-requires-clause-of_level
+finish-requires-clause-of_level g c = subst (λ (rows : Rows). AreOfLevel rows) (sym c.put_points.ensures) quarters-of-level
+
+pub returns : goal.returns
+returns g c = c.finish.ensures ∙ ap topology_of c.put_points.ensures ∙ sym quarters-is

@@ -1,0 +1,3 @@
+pub mod Kept
+pub mod Squares
+pub mod Wheel

@@ -1,0 +1,236 @@
+// What a face and a point must pass before a builder of levels may be told of them, by plain search.
+
+ghost use Rattle.std.specs.Prelude.{◌≡◌, ◌≤◌, ◌&&◌, IfOk, OnOk, Some, ◌∷◌, ◌++◌, [], not, length, nat_eq, if◌then◌else◌};
+ghost use Rattle.std.specs.List.{find, list_all, list_any};
+ghost use Rattle.subdiv_model.specs.Polygons.{sides_of, same_side, same_edge, has_side, has_corner, is_distinct, polygon_at};
+ghost use Rattle.subdiv_model.specs.Edges.{faces_of_point};
+ghost use Rattle.subdiv_model.specs.Manifold.{is_simple, is_successor, without, left_after, walk_meets_all, has_one_fan};
+ghost use Rattle.level_tests.specs.Kept.{corners_of};
+
+use ratio128::Memory;
+use std::alloc::Global;
+
+// Whether no number stands twice.
+fn is_distinct(numbers: &[u32]) -> bool
+    ensures { result ≡ is_distinct numbers.now }
+{
+    let mut rest = numbers;
+    while let [n, others @ ..] = rest {
+        if others.contains(n) {
+            return false;
+        }
+        rest = others;
+    }
+    true
+}
+
+// Whether a face has at least three corners, all distinct.
+pub fn is_simple(polygon: &[u32]) -> bool
+    ensures { result ≡ is_simple polygon.now }
+{
+    polygon.len() >= 3 && is_distinct(polygon)
+}
+
+// Whether the two ends are the same in the same direction.
+fn is_same_side(s: (u32, u32), t: (u32, u32)) -> bool
+    ensures { result ≡ same_side s t }
+{
+    s.0 == t.0 && s.1 == t.1
+}
+
+// Whether two pairs are the same two ends, in either direction.
+fn is_same_edge(s: (u32, u32), t: (u32, u32)) -> bool
+    ensures { result ≡ same_edge s t }
+{
+    (s.0 == t.0 && s.1 == t.1) || (s.0 == t.1 && s.1 == t.0)
+}
+
+// Whether the side stands among the others.
+fn is_among_sides(side: (u32, u32), sides: &[(u32, u32)]) -> bool
+    ensures { result ≡ list_any (same_side side) sides.now }
+{
+    sides.iter().any(|t| is_same_side(side, *t))
+}
+
+// Whether one of the sides has these ends, in either direction.
+pub fn is_edge_among(edge: (u32, u32), sides: &[(u32, u32)]) -> bool
+    ensures { result ≡ list_any (same_edge edge) sides.now }
+{
+    sides.iter().any(|t| is_same_edge(edge, *t))
+}
+
+// Whether none of the sides stands among the others.
+pub fn are_new(sides: &Vec<(u32, u32)>, others: &Vec<(u32, u32)>) -> bool
+    ensures { result ≡ list_all (λ side. not (list_any (same_side side) others.now.items)) sides.now.items }
+{
+    sides.iter().all(|side| !is_among_sides(*side, others))
+}
+
+// Puts the directed edges of a face after those that are there.
+pub fn add_sides(sides: &mut Vec<(u32, u32)>, polygon: &[u32]) -> Result<(), Memory>
+    ensures { OnOk result (sides.new.items ≡ sides.old.items ++ sides_of polygon.now) }
+{
+    let [first, ..] = polygon else {
+        return Ok(());
+    };
+    let mut rest = polygon;
+    while let [v, tail @ ..] = rest {
+        let next = tail.first().copied().unwrap_or(*first);
+        sides.push((*v, next))?;
+        rest = tail;
+    }
+    Ok(())
+}
+
+// The face with this number, and no corner where there is none.
+fn polygon_at(polygons: &[Vec<u32>], face: u32) -> &[u32]
+    ensures { result.now ≡ polygon_at (corners_of polygons.now) face }
+{
+    match polygons.get(face as usize) {
+        Some(polygon) => polygon,
+        None => &[],
+    }
+}
+
+// Whether the face has the directed edge.
+fn has_side(side: (u32, u32), polygon: &[u32]) -> bool
+    ensures { result ≡ has_side side polygon.now }
+{
+    let [first, ..] = polygon else {
+        return false;
+    };
+    let mut rest = polygon;
+    while let [v, tail @ ..] = rest {
+        let next = tail.first().copied().unwrap_or(*first);
+        if is_same_side(side, (*v, next)) {
+            return true;
+        }
+        rest = tail;
+    }
+    false
+}
+
+// Whether a corner follows v in the face from which the other leads back to v.
+fn leads_to(v: u32, polygon: &[u32], other: &[u32]) -> bool
+    ensures { result ≡ list_any (λ side. nat_eq v side.0 && has_side (side.1, v) other.now) (sides_of polygon.now) }
+{
+    let [first, ..] = polygon else {
+        return false;
+    };
+    let mut rest = polygon;
+    while let [corner, tail @ ..] = rest {
+        let next = tail.first().copied().unwrap_or(*first);
+        if v == *corner && has_side((next, v), other) {
+            return true;
+        }
+        rest = tail;
+    }
+    false
+}
+
+// Whether the next face is the successor of the face about v.
+fn is_successor(polygons: &[Vec<u32>], v: u32, face: u32, next: u32) -> bool
+    ensures { result ≡ is_successor (corners_of polygons.now) v face next }
+{
+    leads_to(v, polygon_at(polygons, face), polygon_at(polygons, next))
+}
+
+// The first of the faces that is the successor of the face about v.
+fn find_successor(polygons: &[Vec<u32>], v: u32, face: u32, faces: &[u32]) -> Option<u32>
+    ensures { result ≡ find (is_successor (corners_of polygons.now) v face) faces.now }
+{
+    let mut rest = faces;
+    while let [next, others @ ..] = rest {
+        if is_successor(polygons, v, face, *next) {
+            return Some(*next);
+        }
+        rest = others;
+    }
+    None
+}
+
+// Takes a number out.
+fn take_out(numbers: &mut Vec<u32>, n: u32)
+    ensures { numbers.new.items ≡ without n numbers.old.items }
+{
+    numbers.retain(|m| n != *m);
+}
+
+// What is left of the faces after a walk about v from one of them.
+fn faces_left(
+    alloc: Global,
+    polygons: &[Vec<u32>],
+    v: u32,
+    faces: &[u32],
+    start: u32,
+) -> Result<Vec<u32>, Memory>
+    ensures { IfOk result (λ left. left.items ≡ left_after (length faces.now) (corners_of polygons.now) v (Some start) faces.now) }
+{
+    let mut left = Vec::from_slice(alloc, faces)?;
+    let mut found = Some(start);
+    let mut steps = faces.len();
+    while steps > 0 {
+        let Some(face) = found else {
+            return Ok(left);
+        };
+        take_out(&mut left, face);
+        found = find_successor(polygons, v, face, &left);
+        steps -= 1;
+    }
+    Ok(left)
+}
+
+// Whether the walk about v from one of the faces leaves none.
+fn some_walk_meets_all(
+    alloc: Global,
+    polygons: &[Vec<u32>],
+    v: u32,
+    faces: &[u32],
+) -> Result<bool, Memory>
+    ensures { IfOk result (λ b. b ≡ list_any (walk_meets_all (corners_of polygons.now) v faces.now) faces.now) }
+{
+    for face in faces {
+        if faces_left(alloc, polygons, v, faces, *face)?.is_empty() {
+            return Ok(true);
+        }
+    }
+    Ok(false)
+}
+
+// Puts the number after the others, where it is wanted.
+fn push_where(numbers: &mut Vec<u32>, is_wanted: bool, number: u32) -> Result<(), Memory>
+    ensures { OnOk result (numbers.new.items ≡ (if is_wanted then numbers.old.items ++ number ∷ [] else numbers.old.items)) }
+{
+    if is_wanted {
+        numbers.push(number)?;
+    }
+    Ok(())
+}
+
+// Whether the face has a corner at the point.
+fn has_corner(v: u32, polygon: &[u32]) -> bool
+    ensures { result ≡ has_corner v polygon.now }
+{
+    polygon.contains(&v)
+}
+
+// The numbers of the faces that have a corner at the point, ascending.
+fn faces_of_point(alloc: Global, polygons: &[Vec<u32>], v: u32) -> Result<Vec<u32>, Memory>
+    requires { length polygons.now ≤ 1024 }
+    ensures { IfOk result (λ faces. faces.items ≡ faces_of_point (corners_of polygons.now) v) }
+{
+    let mut faces = Vec::new(alloc);
+    for (face, polygon) in polygons.iter().enumerate() {
+        push_where(&mut faces, has_corner(v, polygon), face as u32)?;
+    }
+    Ok(faces)
+}
+
+// Whether there is no face at v, or the walk from one of them meets all.
+pub fn has_one_fan(alloc: Global, polygons: &[Vec<u32>], v: u32) -> Result<bool, Memory>
+    requires { length polygons.now ≤ 1024 }
+    ensures { IfOk result (λ b. b ≡ has_one_fan (corners_of polygons.now) v) }
+{
+    let faces = faces_of_point(alloc, polygons, v)?;
+    Ok(faces.is_empty() || some_walk_meets_all(alloc, polygons, v, &faces)?)
+}

@@ -1,0 +1,27 @@
+//! Tests of levels, of sharpness and of masks, on meshes from tables.
+#![tactic(auto)]
+
+#[cfg(test)]
+mod built_levels;
+#[cfg(test)]
+mod checked;
+#[cfg(test)]
+mod colliding;
+#[cfg(test)]
+mod edge_rows;
+#[cfg(test)]
+mod expect;
+#[cfg(test)]
+mod fans;
+#[cfg(test)]
+mod levels;
+#[cfg(test)]
+mod mask_tables;
+#[cfg(test)]
+mod sharpness;
+#[cfg(test)]
+mod solids;
+#[cfg(test)]
+mod vertex_rows;
+#[cfg(test)]
+mod wheel;

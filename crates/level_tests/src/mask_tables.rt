@@ -1,0 +1,297 @@
+// Masks at closed meshes and at an open grid, row by row.
+
+ghost use Rattle.std.specs.Prelude.{◌≡◌, ◌<◌, true, false, IsTrue, length, get_or};
+ghost use Rattle.subdiv_model.specs.Edges.{edges_of, faces_of_edge, has_end, is_boundary};
+ghost use Rattle.subdiv_model.specs.Sharpness.{Smooth, Infinite, is_chaikin};
+ghost use Rattle.level_topology.specs.Topology.{edge_at};
+ghost use Rattle.mask_rules.specs.Around.{HasSharpBoundaryAt};
+
+use crate::checked::Checked;
+use crate::edge_rows::{EdgeRow, FaceRow, edges, faces};
+use crate::expect::expect_same;
+use crate::solids::{Fraction, Mesh, ZERO};
+use crate::vertex_rows::{VertexRow, corners, longest, open, refused, rules, transitions};
+use level_topology::Level;
+use mask_rules::{
+    At, EdgeMask, MaskFault, Scheme, Term, VertexMask, edge_mask, face_mask, vertex_mask,
+};
+use ratio128::{Memory, Steps};
+use sharpness_rules::{Method, Sharpness};
+use std::alloc::Global;
+use std::marker::Brand;
+use std::process::Abort;
+use std::sync::ledger::{Blank, Ledger};
+
+fn sharpness_of(rt: &impl Abort, (num, den): Fraction) -> Sharpness {
+    assert!(rt; 0 < den);
+    assert!(rt; den <= 1 << 60);
+    Sharpness::new(num, den)
+}
+
+fn with_faces<L: Ledger>(
+    rt: &impl Abort,
+    start: Checked,
+    faces: &[&[u32]],
+    steps: &mut Steps<L>,
+) -> Result<Checked, Memory> {
+    let mut builder = start;
+    for corners in faces {
+        builder = builder.add_face(rt, corners, false, steps)?;
+    }
+    Ok(builder)
+}
+
+fn build<L: Ledger>(
+    rt: &impl Abort,
+    alloc: Global,
+    mesh: Mesh,
+    steps: &mut Steps<L>,
+) -> Result<Level, Memory> {
+    let (solid, edges, vertex, sharpness) = mesh;
+    assert!(rt; solid.points < 100);
+    let start = Checked::new(alloc, solid.points, Method::Normal, None)?;
+    let mut builder = with_faces(rt, start, solid.faces, steps)?;
+    for (a, b, s) in edges {
+        builder.add_sharp_edge(rt, *a, *b, sharpness_of(rt, *s));
+    }
+    builder.add_sharp_vertex(rt, vertex, sharpness_of(rt, sharpness));
+    builder.mark_complete(rt, vertex);
+    builder.finish(rt)
+}
+
+fn build_counted<L: Ledger>(
+    rt: &impl Abort,
+    alloc: Global,
+    mesh: Mesh,
+    blank: Blank,
+) -> Result<Level, Memory>
+    requires name { blank.name ≡ L.name }
+    requires parts { blank.parts ≡ L.parts }
+    requires some { 0 < blank.parts }
+{
+    build(rt, alloc, mesh, &mut Steps::start(blank.open::<L>()))
+}
+
+// The level of a mesh.
+fn build_alone(rt: &impl Abort, alloc: Global, mesh: Mesh) -> Result<Level, MaskFault> {
+    match build_counted::<Brand>(rt, alloc, mesh, Blank::new(1)) {
+        Ok(level) => Ok(level),
+        Err(_) => Err(MaskFault::Memory),
+    }
+}
+
+// Whether an edge has two faces.
+fn has_two_faces(level: &Level, e: u32) -> bool
+    requires { e < length (edges_of level.now.level.polygons) }
+    ensures { result ≡ true → length (faces_of_edge level.now.level.polygons (edge_at level.now.level.polygons e)) ≡ 2 }
+{
+    match level.edge_faces(e).second {
+        Some(_) => true,
+        None => false,
+    }
+}
+
+// Whether an edge is infinitely sharp.
+fn is_infinite(level: &Level, e: u32) -> bool
+    requires { e < length (edges_of level.now.level.polygons) }
+    ensures { result ≡ true → get_or level.now.level.edge_sharpness e Smooth ≡ Infinite }
+{
+    match level.edge_sharpness(e) {
+        Sharpness::Infinite => true,
+        _ => false,
+    }
+}
+
+// Whether an edge has two faces or is infinitely sharp.
+fn is_inner_or_sharp(level: &Level, e: u32) -> bool
+    requires { e < length (edges_of level.now.level.polygons) }
+    ensures { result ≡ true → IsTrue (is_boundary level.now.level.polygons (edge_at level.now.level.polygons e))
+        → get_or level.now.level.edge_sharpness e Smooth ≡ Infinite }
+{
+    is_infinite(level, e) || has_two_faces(level, e)
+}
+
+// Whether an edge ends at a point.
+fn has_end(level: &Level, v: u32, e: u32) -> bool
+    requires { e < length (edges_of level.now.level.polygons) }
+    ensures { result ≡ has_end v (edge_at level.now.level.polygons e) }
+{
+    let (first, second) = level.edge_vertices(e);
+    v == first || v == second
+}
+
+// Asserts that each edge of one face at a point is infinitely sharp.
+fn assert_sharp_boundary(rt: &impl Abort, level: &Level, v: u32)
+    ensures { HasSharpBoundaryAt level.now.level v }
+{
+    for e in 0..level.edges() {
+        let is_fine = !has_end(level, v, e) || is_inner_or_sharp(level, e);
+        assert!(rt; is_fine, "at {e}");
+    }
+}
+
+// Whether the halves of edges go down by the uniform rule.
+fn is_uniform(level: &Level) -> bool
+    ensures { result ≡ true → is_chaikin level.now.level.method ≡ false }
+{
+    match level.method() {
+        Method::Normal => true,
+        Method::Chaikin => false,
+    }
+}
+
+// The mask of a vertex, after what it asks is tested.
+pub fn mask_of_vertex(
+    rt: &impl Abort,
+    alloc: Global,
+    level: &Level,
+    v: u32,
+    scheme: Scheme,
+) -> Result<VertexMask, MaskFault> {
+    assert!(rt; v < level.points());
+    assert!(rt; level.is_complete(v));
+    assert!(rt; is_uniform(level));
+    assert_sharp_boundary(rt, level, v);
+    vertex_mask(alloc, level, v, scheme)
+}
+
+// The mask of an edge, after what it asks is tested.
+fn mask_of_edge(rt: &impl Abort, level: &Level, e: u32, scheme: Scheme) -> EdgeMask {
+    assert!(rt; e < level.edges());
+    assert!(rt; has_two_faces(level, e) || is_infinite(level, e));
+    edge_mask(level, e, scheme)
+}
+
+fn has_term(terms: &[Term], at: At, weight: u128) -> bool {
+    terms
+        .iter()
+        .any(|term| term.at == at && term.weight == weight)
+}
+
+// These terms in any order and no other; each has a place of its own.
+fn expect_terms(rt: &impl Abort, terms: &[Term], points: &[(u32, u128)], faces: &[(u32, u128)]) {
+    expect_same(rt, &terms.len(), &(points.len() + faces.len()), &points);
+    for (v, weight) in points {
+        expect_same(rt, &has_term(terms, At::Point(*v), *weight), &true, v);
+    }
+    for (f, weight) in faces {
+        expect_same(rt, &has_term(terms, At::FacePoint(*f), *weight), &true, f);
+    }
+}
+
+// The linear scheme leaves a vertex where it is.
+fn expect_alone(rt: &impl Abort, alloc: Global, level: &Level, v: u32) -> Result<(), MaskFault> {
+    let mask = mask_of_vertex(rt, alloc, level, v, Scheme::Linear)?;
+    expect_terms(rt, mask.terms(), &[(v, 1)], &[]);
+    expect_same(rt, &mask.denominator(), &1, &v);
+    Ok(())
+}
+
+fn expect_vertex(rt: &impl Abort, alloc: Global, row: &VertexRow) -> Result<(), MaskFault> {
+    let level = build_alone(rt, alloc, row.mesh)?;
+    let mask = mask_of_vertex(rt, alloc, &level, row.mesh.2, Scheme::CatmullClark)?;
+    expect_terms(rt, mask.terms(), row.points, row.faces);
+    expect_same(rt, &mask.denominator(), &row.denominator, &row.points);
+    expect_alone(rt, alloc, &level, row.mesh.2)
+}
+
+fn expect_vertices(
+    rt: &impl Abort,
+    alloc: Global,
+    rows: &'static [VertexRow],
+) -> Result<(), MaskFault> {
+    for row in rows {
+        expect_vertex(rt, alloc, row)?;
+    }
+    Ok(())
+}
+
+fn is_refused(rt: &impl Abort, alloc: Global, level: &Level, v: u32) -> bool {
+    match mask_of_vertex(rt, alloc, level, v, Scheme::CatmullClark) {
+        Err(MaskFault::Transition) => true,
+        _ => false,
+    }
+}
+
+// Only the scheme of Catmull and Clark refuses.
+fn expect_refused(rt: &impl Abort, alloc: Global, mesh: Mesh) -> Result<(), MaskFault> {
+    let level = build_alone(rt, alloc, mesh)?;
+    expect_same(rt, &is_refused(rt, alloc, &level, mesh.2), &true, &mesh.1);
+    expect_alone(rt, alloc, &level, mesh.2)
+}
+
+// The linear scheme takes the middle of the two points.
+fn expect_middle(rt: &impl Abort, level: &Level, e: u32, points: &[(u32, u128)]) {
+    let mask = mask_of_edge(rt, level, e, Scheme::Linear);
+    expect_same(rt, &mask.terms().len(), &2, &points);
+    for (v, _) in points {
+        expect_same(rt, &has_term(mask.terms(), At::Point(*v), 1), &true, v);
+    }
+    expect_same(rt, &mask.denominator(), &2, &points);
+}
+
+fn expect_edge(rt: &impl Abort, alloc: Global, row: &EdgeRow) -> Result<(), MaskFault> {
+    let level = build_alone(rt, alloc, row.mesh)?;
+    let mask = mask_of_edge(rt, &level, row.edge, Scheme::CatmullClark);
+    expect_terms(rt, mask.terms(), row.points, row.faces);
+    expect_same(rt, &mask.denominator(), &row.denominator, &row.points);
+    expect_middle(rt, &level, row.edge, row.points);
+    Ok(())
+}
+
+fn expect_face(rt: &impl Abort, alloc: Global, row: &FaceRow) -> Result<(), MaskFault> {
+    let (solid, f, size) = *row;
+    let level = build_alone(rt, alloc, (solid, &[], 0, ZERO))?;
+    assert!(rt; f < level.faces());
+    expect_same(rt, &face_mask(&level, f).size(), &size, &size);
+    Ok(())
+}
+
+#[test]
+fn masks_a_vertex_that_is_sharp_itself(rt: HostRuntime) -> Result<(), MaskFault> {
+    expect_vertices(&rt, rt.alloc(), corners())
+}
+
+#[test]
+fn masks_a_vertex_by_its_sharp_edges(rt: HostRuntime) -> Result<(), MaskFault> {
+    expect_vertices(&rt, rt.alloc(), rules())
+}
+
+#[test]
+fn masks_a_vertex_of_an_open_grid(rt: HostRuntime) -> Result<(), MaskFault> {
+    expect_vertices(&rt, rt.alloc(), open())
+}
+
+#[test]
+fn masks_a_vertex_whose_rule_changes(rt: HostRuntime) -> Result<(), MaskFault> {
+    expect_vertices(&rt, rt.alloc(), transitions())
+}
+
+#[test]
+fn masks_a_vertex_up_to_the_greatest_denominator(rt: HostRuntime) -> Result<(), MaskFault> {
+    expect_vertices(&rt, rt.alloc(), longest())
+}
+
+#[test]
+fn refuses_a_weight_past_the_greatest_denominator(rt: HostRuntime) -> Result<(), MaskFault> {
+    for mesh in refused() {
+        expect_refused(&rt, rt.alloc(), *mesh)?;
+    }
+    Ok(())
+}
+
+#[test]
+fn masks_an_edge_by_its_sharpness(rt: HostRuntime) -> Result<(), MaskFault> {
+    for row in edges() {
+        expect_edge(&rt, rt.alloc(), row)?;
+    }
+    Ok(())
+}
+
+#[test]
+fn masks_a_face_by_its_corners(rt: HostRuntime) -> Result<(), MaskFault> {
+    for row in faces() {
+        expect_face(&rt, rt.alloc(), row)?;
+    }
+    Ok(())
+}

@@ -1,0 +1,105 @@
+// A vertex of as many edges as a face may have corners.
+
+ghost use Rattle.std.specs.Prelude.{◌≡◌, ◌+◌, ◌<◌, ◌≤◌, ◌^◌, [], OnOk};
+ghost use Rattle.level_tests.specs.Wheel.{open_wheel};
+
+use crate::expect::expect_same;
+use crate::mask_tables::mask_of_vertex;
+use level_topology::{Level, LevelBuilder};
+use mask_rules::{At, MaskFault, Scheme, Term};
+use ratio128::{Memory, Steps};
+use sharpness_rules::Method;
+use std::alloc::Global;
+use std::marker::Brand;
+use std::process::Abort;
+use std::sync::ledger::{Blank, Ledger};
+
+// Triangles about the point 0, one after another.
+fn add_triangles<L: Ledger>(
+    builder: &mut LevelBuilder,
+    count: u32,
+    steps: &mut Steps<L>,
+) -> Result<(), Memory>
+    requires none { builder.old.level.polygons ≡ [] }
+    requires few { count ≤ 2 ^ 20 }
+    requires points { count + 1 < builder.old.level.point_count }
+    ensures polygons { OnOk result (builder.new.level.polygons ≡ open_wheel count) }
+    ensures points { OnOk result (builder.new.level.point_count ≡ builder.old.level.point_count) }
+    ensures marks { OnOk result (builder.new.complete ≡ builder.old.complete) }
+{
+    for f in 0..count {
+        builder.add_face(&[0, f + 2, f + 1], false, steps)?;
+    }
+    Ok(())
+}
+
+// So many triangles about the point 0, which is complete, and one more that closes the ring.
+fn make_wheel<L: Ledger>(alloc: Global, count: u32, steps: &mut Steps<L>) -> Result<Level, Memory>
+    requires ring { 2 ≤ count }
+    requires few { count ≤ 2 ^ 20 }
+{
+    let mut builder = LevelBuilder::new(alloc, count + 2, Method::Normal)?;
+    add_triangles(&mut builder, count, steps)?;
+    builder.add_face(&[0, 1, count + 1], false, steps)?;
+    builder.mark_complete(0);
+    builder.finish()
+}
+
+fn wheel_counted<L: Ledger>(alloc: Global, count: u32, blank: Blank) -> Result<Level, Memory>
+    requires ring { 2 ≤ count }
+    requires few { count ≤ 2 ^ 20 }
+    requires name { blank.name ≡ L.name }
+    requires parts { blank.parts ≡ L.parts }
+    requires some { 0 < blank.parts }
+{
+    make_wheel(alloc, count, &mut Steps::start(blank.open::<L>()))
+}
+
+fn wheel_alone(rt: &impl Abort, alloc: Global, spokes: u32) -> Result<Level, MaskFault> {
+    assert!(rt; spokes >= 3);
+    assert!(rt; spokes <= 1 << 20);
+    match wheel_counted::<Brand>(alloc, spokes - 1, Blank::new(1)) {
+        Ok(level) => Ok(level),
+        Err(_) => Err(MaskFault::Memory),
+    }
+}
+
+// The sum of the weights; that of the vertex is given, and each other one is 1.
+fn sum_of_weights(rt: &impl Abort, terms: &[Term], vertex: u128) -> u128 {
+    let mut sum = 0;
+    for term in terms {
+        let want = if term.at == At::Point(0) { vertex } else { 1 };
+        expect_same(rt, &term.weight, &want, term);
+        assert!(rt; sum <= 1 << 100);
+        assert!(rt; term.weight <= 1 << 100);
+        sum += term.weight;
+    }
+    sum
+}
+
+fn expect_ring(rt: &impl Abort, alloc: Global, spokes: u32) -> Result<(), MaskFault> {
+    let level = wheel_alone(rt, alloc, spokes)?;
+    let mask = mask_of_vertex(rt, alloc, &level, 0, Scheme::CatmullClark)?;
+    assert!(rt; 3 <= spokes && spokes <= 1 << 20);
+    let n = spokes as u128;
+    expect_same(rt, &(mask.terms().len() as u128), &(1 + 2 * n), &n);
+    let sum = sum_of_weights(rt, mask.terms(), n * (n - 2));
+    expect_same(rt, &sum, &(n * n), &"sum");
+    expect_same(rt, &mask.denominator(), &(n * n), &"denominator");
+    Ok(())
+}
+
+// Around the numbers of edges up to which a mask and its rings take no memory, and the greatest.
+const SPOKES: &[u32] = &[3, 7, 8, 16, 17, 65_536];
+
+fn spokes() -> &'static [u32] {
+    SPOKES
+}
+
+#[test]
+fn masks_a_vertex_of_many_edges(rt: HostRuntime) -> Result<(), MaskFault> {
+    for n in spokes() {
+        expect_ring(&rt, rt.alloc(), *n)?;
+    }
+    Ok(())
+}
