@@ -1,11 +1,11 @@
 #!/usr/bin/env python3
 """Compares the built program with `tools/reference.py` on random OBJ texts.
 
-The texts are made of lines that are good, bad or nearly bad, and of the cube and the refined cube with a few
-changes. The same seed makes the same texts. A text on which the two differ is printed, and the exit status is
-then 1.
+Texts that are refined are made of lines that are good, bad or nearly bad, and of the cube and the refined cube with
+a few changes. Texts whose level 0 is counted are those of `tools/random_meshes.py`. The same seed makes the same
+texts. A text on which the two differ is printed, and the exit status is then 1.
 
-    tools/compare_random.py --seed 1 --count 3000
+    tools/compare_random.py --seed 1 --count 3000 --meshes 1500
 """
 
 import argparse
@@ -17,9 +17,11 @@ from collections import Counter
 from pathlib import Path
 
 import reference
+from random_meshes import Meshes
 
 TOP = Path(__file__).resolve().parent.parent
-WORDS = ["refine", "depth=1"]
+REFINE = ["refine", "depth=1"]
+LEVELS = ["levels", "depth=0"]
 CUBE = (TOP / "examples" / "cube.obj").read_bytes()
 NUMERALS = (
     ["1.", "-.5", ".", "+", "-", "nan", "0x1", "1e", "1e+", "--1", "-0", "00.10", "1e36", "1e37", "1e-37", "1e-38"]
@@ -60,16 +62,16 @@ TAGS = {
 }
 
 
-def expected(data):
+def expected(words, data):
     """The status and what is written on standard output and standard error, by the reference."""
     try:
-        text = reference.answer([word.encode() for word in WORDS], io.BytesIO(data))
+        text = reference.answer([word.encode() for word in words], io.BytesIO(data))
     except reference.Refusal as refusal:
         return refusal.status, b"", f"{refusal.line}\n".encode()
     return 0, text.encode(), b""
 
 
-_, REFINED_CUBE, _ = expected(CUBE)
+_, REFINED_CUBE, _ = expected(REFINE, CUBE)
 
 
 class Texts:
@@ -179,24 +181,31 @@ class Texts:
         return data
 
 
+def agree(program, words, texts):
+    """Whether the program answers as the reference does with these words on all texts; tells how it does not."""
+    statuses = Counter()
+    for data in texts:
+        run = subprocess.run([program] + words, input=data, capture_output=True)
+        given = run.returncode, run.stdout, run.stderr
+        statuses[run.returncode] += 1
+        if given != expected(words, data):
+            print(f"{' '.join(words)}: {data!r}\n  gives  {given}\n  wanted {expected(words, data)}")
+            return False
+    print(f"{sum(statuses.values())} texts agree on {' '.join(words)}; by status: {dict(sorted(statuses.items()))}")
+    return True
+
+
 def main():
     parser = argparse.ArgumentParser(description="Compares the program with the reference on random texts.")
     parser.add_argument("--program", default=TOP / "crates" / "far_cli" / "out" / "far_cli", help="the program to run")
     parser.add_argument("--seed", type=int, default=1, help="the seed of the texts")
-    parser.add_argument("--count", type=int, default=1000, help="how many texts")
+    parser.add_argument("--count", type=int, default=1000, help="how many texts are refined")
+    parser.add_argument("--meshes", type=int, default=500, help="how many meshes have their level 0 counted")
     arguments = parser.parse_args()
-    texts = Texts(arguments.seed)
-    statuses = Counter()
-    for _ in range(arguments.count):
-        data = texts.text()
-        run = subprocess.run([arguments.program] + WORDS, input=data, capture_output=True)
-        given = run.returncode, run.stdout, run.stderr
-        statuses[run.returncode] += 1
-        if given != expected(data):
-            print(f"{data!r}\n  gives  {given}\n  wanted {expected(data)}")
-            return 1
-    print(f"{arguments.count} texts agree; by status: {dict(sorted(statuses.items()))}")
-    return 0
+    texts, meshes = Texts(arguments.seed), Meshes(arguments.seed)
+    refined = agree(arguments.program, REFINE, (texts.text() for _ in range(arguments.count)))
+    counted = agree(arguments.program, LEVELS, (meshes.text() for _ in range(arguments.meshes)))
+    return 0 if refined and counted else 1
 
 
 if __name__ == "__main__":

@@ -1,13 +1,13 @@
 """A plain, slow reader of OBJ text with tags: its mesh, or the fault of its least bad line.
 
-It is written from docs/formats.md alone, and shares nothing with the program. `tools/reference.py` reads
-through it.
+It is written from docs/formats.md alone, and shares nothing with the program. `tools/reference.py` and
+`tools/level_reference.py` read through it.
 """
 
 import re
 import sys
 from collections import Counter
-from dataclasses import dataclass
+from dataclasses import dataclass, field
 from fractions import Fraction
 from math import gcd
 
@@ -22,6 +22,8 @@ LEAST_WORDS = {b"v": 3, b"vt": 1, b"f": 1, b"t": 2}
 MOST_DIGITS = 37
 GREATEST_COMMON = 10**37
 GREATEST_SEMI_SHARP_DENOMINATOR = 10**6
+# The boundary modes, by their numbers in tags.
+HIDDEN, EDGE_AND_CORNER, EDGE_ONLY = 0, 1, 2
 
 if hasattr(sys, "set_int_max_str_digits"):
     sys.set_int_max_str_digits(0)
@@ -38,16 +40,19 @@ class Fault(Exception):
 
 @dataclass
 class Mesh:
-    """Points are whole numbers over `common`, and faces count from 0. Of creases, corners and holes `tags` has the
-    names alone: their values, and those of texture, are checked and not kept."""
+    """Points are whole numbers over `common`, and points and faces count from 0. Creases (two vertices and their
+    sharpness), corner tags (a vertex and its sharpness) and holes (faces) are in the order of the text. Texture values
+    are checked and not kept."""
 
-    points: list
-    common: int
-    faces: list
-    has_texture: bool
-    tags: list
-    mode: int
-    method: bytes
+    points: list = field(default_factory=list)
+    common: int = 1
+    faces: list = field(default_factory=list)
+    has_texture: bool = False
+    creases: list = field(default_factory=list)
+    corner_tags: list = field(default_factory=list)
+    holes: list = field(default_factory=list)
+    mode: int = EDGE_ONLY
+    method: bytes = b"normal"
 
 
 def words_of(line):
@@ -130,12 +135,13 @@ def read_corner(corner, first, before, whole):
 # Tags
 
 
-def check_listed(word, count):
-    """Refuses what is no index from 0 to below the count."""
+def read_listed(word, count):
+    """An index from 0 to below the count."""
     if not INDEX.fullmatch(word):
         raise Fault("bad tag")
     if not 0 <= int(word) < count:
         raise Fault("tag index out of range")
+    return int(word)
 
 
 def is_fine_enough(word, value):
@@ -145,10 +151,12 @@ def is_fine_enough(word, value):
     return GREATEST_SEMI_SHARP_DENOMINATOR % value.denominator == 0
 
 
-def check_sharpness(word):
+def read_sharpness(word):
+    """A sharpness; one of 10 or more is infinite."""
     value = read_numeral(word)
     if value < 0 or (value < 10 and not is_fine_enough(word, value)):
         raise Fault("sharpness out of range")
+    return value
 
 
 def fits(name, wholes, numerals, strings):
@@ -166,6 +174,21 @@ def fits(name, wholes, numerals, strings):
     return name in DROPPED_TAGS
 
 
+def each(sharpness, count):
+    """One sharpness for each of so many things, where one alone may stand for all."""
+    return sharpness * count if len(sharpness) == 1 else sharpness
+
+
+def keep_listed(mesh, name, listed, sharpness):
+    """Keeps the pairs of a chain, the vertices or the faces that a tag names."""
+    if name == b"crease":
+        mesh.creases += zip(zip(listed, listed[1:]), each(sharpness, len(listed) - 1))
+    elif name == b"corner":
+        mesh.corner_tags += zip(listed, each(sharpness, len(listed)))
+    else:
+        mesh.holes += listed
+
+
 def read_tag(mesh, words, whole):
     name, values = words[1], words[3:]
     counts = COUNTS.fullmatch(words[2])
@@ -173,13 +196,10 @@ def read_tag(mesh, words, whole):
         raise Fault("bad tag")
     wholes = int(counts[1])
     if name in (b"crease", b"corner", b"hole"):
-        for word in values[:wholes]:
-            check_listed(word, whole[b"f" if name == b"hole" else b"v"])
-        for word in values[wholes:]:
-            check_sharpness(word)
-        mesh.tags.append(name)
+        listed = [read_listed(word, whole[b"f" if name == b"hole" else b"v"]) for word in values[:wholes]]
+        keep_listed(mesh, name, listed, [read_sharpness(word) for word in values[wholes:]])
     elif name == b"interpolateboundary":
-        if not INDEX.fullmatch(values[0]) or int(values[0]) not in (0, 1, 2):
+        if not INDEX.fullmatch(values[0]) or int(values[0]) not in (HIDDEN, EDGE_AND_CORNER, EDGE_ONLY):
             raise Fault("bad tag")
         mesh.mode = int(values[0])
     elif name == b"creasemethod":
@@ -230,7 +250,7 @@ def read_obj(data):
     whole = Counter(words[0] for words in lines if words)
     before, textured = Counter(), []
     channels = {b"v": [], b"vt": []}
-    mesh = Mesh([], 1, [], False, [], 2, b"normal")
+    mesh = Mesh()
     for number, words in enumerate(lines, start=1):
         if not words:
             continue

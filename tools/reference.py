@@ -1,5 +1,6 @@
 #!/usr/bin/env python3
-"""A plain, slow reference of `far refine depth=1`.
+"""A plain, slow reference of the program: of `far refine depth=1`, and through `tools/level_reference.py` of
+`far levels depth=0`.
 
 It is written from docs/formats.md and docs/rules.md alone, with whole lists that are scanned and
 `fractions.Fraction` for every value, and shares nothing with the program. It takes the program's words,
@@ -10,48 +11,14 @@ be tried on it:
     tools/run_cases.py --program tools/reference.py
 """
 
-import os
 import sys
 from fractions import Fraction
 
-from obj_reference import Fault, read_obj
+import level_reference
+from run_reference import NOT_BUILT, Refusal, check_words, read_mesh, run
 
-GREATEST_INPUT = 2**28
 GREATEST_COUNT = 1024
 GREATEST_NUMBER = 10**18
-NOT_UNDERSTOOD, TOO_LONG, BAD_LINE, NOT_BUILT = 2, 4, 5, 12
-
-
-class Refusal(Exception):
-    """A refusal: the status that the program ends with, and its line on standard error."""
-
-    def __init__(self, status, line):
-        super().__init__(line)
-        self.status = status
-        self.line = line
-
-
-# The words of the command line
-
-
-def check_words(words):
-    """Accepts `refine depth=1` alone; refuses other words by the place of the first bad one."""
-    for place, word in enumerate(words):
-        understood = word == b"refine" if place == 0 else word == b"depth=1" and place == 1
-        if not understood:
-            raise Refusal(NOT_UNDERSTOOD, f"far: word {place} is not understood")
-    if len(words) < 2:
-        raise Refusal(NOT_UNDERSTOOD, f"far: word {len(words)} is not understood")
-
-
-def are_text(words):
-    """Whether every word is UTF-8."""
-    try:
-        for word in words:
-            word.decode("utf-8")
-    except UnicodeDecodeError:
-        return False
-    return True
 
 
 # Meshes that are built today
@@ -63,7 +30,7 @@ def is_built(mesh):
         len(mesh.points) <= GREATEST_COUNT
         and len(mesh.faces) <= GREATEST_COUNT
         and all(len(face) in (3, 4) for face in mesh.faces)
-        and not mesh.tags
+        and not (mesh.creases or mesh.corner_tags or mesh.holes)
         and (mesh.mode, mesh.method) == (2, b"normal")
         and not mesh.has_texture
         and mesh.common <= GREATEST_NUMBER
@@ -177,34 +144,20 @@ def text_of(points, faces):
     return "".join(line + "\n" for line in lines)
 
 
-def answer(words, source):
-    """The text that the program writes for these words (a list of bytes) and this input, or a Refusal."""
-    check_words(words)
-    data = source.read(GREATEST_INPUT + 1)
-    if len(data) > GREATEST_INPUT:
-        raise Refusal(TOO_LONG, f"far: input is longer than {GREATEST_INPUT} bytes")
-    try:
-        mesh = read_obj(data)
-    except Fault as fault:
-        raise Refusal(BAD_LINE, f"far: line {fault.line}: {fault.cause}") from None
+def refined_text(mesh):
+    """The text of a mesh that was read, refined once, or its Refusal."""
     if not is_built(mesh) or not is_closed_manifold(len(mesh.points), mesh.faces):
         raise Refusal(NOT_BUILT, "far: line 0 is not built yet")
     points = [tuple(Fraction(number, mesh.common) for number in point) for point in mesh.points]
     return text_of(*refine(points, mesh.faces))
 
 
-def main():
-    words = [os.fsencode(word) for word in sys.argv[1:]]
-    try:
-        if not are_text(words):
-            raise Refusal(NOT_UNDERSTOOD, "far: word 0 is not understood")
-        text = answer(words, sys.stdin.buffer)
-    except Refusal as refusal:
-        sys.stderr.write(refusal.line + "\n")
-        return refusal.status
-    sys.stdout.write(text)
-    return 0
+def answer(words, source):
+    """The text that the program writes for these words (a list of bytes) and this input, or a Refusal."""
+    check_words(words)
+    mesh = read_mesh(source)
+    return level_reference.levels_text(mesh) if words[0] == b"levels" else refined_text(mesh)
 
 
 if __name__ == "__main__":
-    sys.exit(main())
+    sys.exit(run(answer))

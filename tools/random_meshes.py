@@ -1,0 +1,193 @@
+"""Random small meshes as OBJ texts: open and closed surfaces of several parts, with random tags, and with faces that are
+dropped, doubled, turned or spoilt. The same seed makes the same texts. `tools/compare_random.py` tries the program on
+them."""
+
+import random
+from itertools import product
+
+from make_examples import surface
+
+SHARPNESSES = ["0", "0/3", "1/2", "1", "3/2", "2.5", "0.000001", "19/2", "10", "1e9", "20000003/1000001"]
+
+
+def grid(rows, columns, closed_rows, closed_columns):
+    """Quads in rows and columns, which may close to a ring either way; then there are three or more."""
+    across = columns if closed_columns else columns + 1
+    down = rows if closed_rows else rows + 1
+
+    def point(row, column):
+        return row % down * across + column % across
+
+    faces = [
+        (point(row, column), point(row, column + 1), point(row + 1, column + 1), point(row + 1, column))
+        for row, column in product(range(rows), range(columns))
+    ]
+    return down * across, faces
+
+
+def fan(sizes, is_closed):
+    """Faces of these sizes round the point 0, which may close to a ring; then there are three or more."""
+    count, first, faces = 2, 1, []
+    for number, size in enumerate(sizes):
+        last = is_closed and number == len(sizes) - 1
+        added = list(range(count, count + size - (3 if last else 2)))
+        faces.append((0, first, *added, *([1] if last else [])))
+        count += len(added)
+        first = added[-1] if added else first
+    return count, faces
+
+
+def prism(size):
+    """Two faces of this size and a quad at each of their edges."""
+    top = tuple(range(size, 2 * size))
+    bottom = tuple(range(size - 1, -1, -1))
+    return 2 * size, [bottom, top] + [(a, (a + 1) % size, (a + 1) % size + size, a + size) for a in range(size)]
+
+
+def bipyramid(size):
+    """Two triangles at each edge of a ring, one at either pole."""
+    ring = [(corner, (corner + 1) % size) for corner in range(size)]
+    return size + 2, [(a, b, size) for a, b in ring] + [(b, a, size + 1) for a, b in ring]
+
+
+class Meshes:
+    """Random meshes from a seed. A mesh is the number of its points and its faces."""
+
+    def __init__(self, seed):
+        self.random = random.Random(seed)
+
+    def happens(self, chance):
+        return self.random.random() < chance
+
+    # Surfaces
+
+    def grid(self):
+        closed = [self.happens(0.4), self.happens(0.4)]
+        rows, columns = (self.random.randint(3 if is_closed else 1, 5) for is_closed in closed)
+        return grid(rows, columns, *closed)
+
+    def fan(self):
+        is_closed = self.happens(0.5)
+        sizes = [self.random.choice([3, 3, 3, 4, 4, 5, 6, 10]) for _ in range(self.random.randint(3, 8))]
+        return fan(sizes, is_closed)
+
+    def cubes(self):
+        """The outer faces of some unit cubes, which may meet at an edge or at a point alone."""
+        places = list(product(range(3), range(3), range(2)))
+        points, faces = surface(set(self.random.sample(places, self.random.choice([1, 2, 2, 3, 9, 14, 16, 17]))))
+        return len(points), [tuple(face) for face in faces]
+
+    def soup(self):
+        """Faces of random corners, that are mostly faulty."""
+        points = self.random.randint(3, 9)
+        sizes = [self.random.randint(3, min(points, 5)) for _ in range(self.random.randint(1, 4))]
+        return points, [tuple(self.random.sample(range(points), size)) for size in sizes]
+
+    def part(self):
+        kind = self.random.choice(["grid", "grid", "fan", "prism", "bipyramid", "cubes", "soup"])
+        if kind in ("prism", "bipyramid"):
+            return {"prism": prism, "bipyramid": bipyramid}[kind](self.random.randint(3, 7))
+        return getattr(self, kind)()
+
+    def split(self, face):
+        """A face, or two in its place with a new edge between two of its corners."""
+        if len(face) < 4 or self.happens(0.75):
+            return [face]
+        turn = self.random.randrange(len(face))
+        face = face[turn:] + face[:turn]
+        cut = self.random.randint(2, len(face) - 2)
+        return [face[: cut + 1], face[cut:] + face[:1]]
+
+    def parts(self):
+        """Parts that share nothing, of which some faces are split."""
+        count, faces = 0, []
+        for _ in range(self.random.choice([1, 1, 1, 2, 2, 3])):
+            points, part = self.part()
+            faces += [tuple(corner + count for corner in piece) for face in part for piece in self.split(face)]
+            count += points
+        return count, faces
+
+    # Changes
+
+    def drop(self, count, faces):
+        faces.pop(self.random.randrange(len(faces)))
+
+    def double(self, count, faces):
+        faces.append(self.random.choice(faces))
+
+    def turn(self, count, faces):
+        place = self.random.randrange(len(faces))
+        faces[place] = faces[place][::-1]
+
+    def shorten(self, count, faces):
+        place = self.random.randrange(len(faces))
+        faces[place] = faces[place][: self.random.randint(1, len(faces[place]))]
+
+    def move_corner(self, count, faces):
+        place = self.random.randrange(len(faces))
+        corner = self.random.randrange(len(faces[place]))
+        faces[place] = faces[place][:corner] + (self.random.randrange(count),) + faces[place][corner + 1 :]
+
+    def join(self, count, faces):
+        """Puts one point in the place of another."""
+        old, new = self.random.randrange(count), self.random.randrange(count)
+        faces[:] = [tuple(new if corner == old else corner for corner in face) for face in faces]
+
+    def change(self, count, faces):
+        changes = [self.drop, self.double, self.turn, self.shorten, self.move_corner, self.join]
+        for _ in range(self.random.choice([0, 0, 1, 1, 2, 4])):
+            if faces:
+                self.random.choices(changes, [8, 1, 1, 1, 1, 2])[0](count, faces)
+
+    def renamed(self, count, faces):
+        """The same faces over points with other numbers, and in another order and from other corners."""
+        names = list(range(count))
+        self.random.shuffle(names)
+        self.random.shuffle(faces)
+        turns = [self.random.randrange(len(face)) for face in faces]
+        return [tuple(names[corner] for corner in face[turn:] + face[:turn]) for face, turn in zip(faces, turns)]
+
+    def mesh(self):
+        count, faces = self.parts()
+        self.change(count, faces)
+        if self.happens(0.3):
+            count += self.random.randint(1, 3)
+        return count, self.renamed(count, faces) if self.happens(0.7) else faces
+
+    # Texts
+
+    def crease(self, count, faces):
+        """A crease along some corners of a face, or between any points."""
+        chain = self.random.choice(faces) if faces and self.happens(0.9) else ()
+        chain = chain[: self.random.randint(2, 5)]
+        if len(chain) < 2:
+            chain = [self.random.randrange(count) for _ in range(self.random.randint(2, 3))]
+        several = self.happens(0.3)
+        sharpness = self.random.choices(SHARPNESSES, k=len(chain) - 1 if several else 1)
+        return f"t crease {len(chain)}/{len(sharpness)}/0 {' '.join(map(str, chain))} {' '.join(sharpness)}"
+
+    def tag(self, count, faces):
+        kind = self.random.choice(["crease"] * 6 + ["corner", "hole", "hole", "mode", "mode", "method"])
+        if kind == "crease":
+            return self.crease(count, faces)
+        if kind == "corner":
+            return f"t corner 1/1/0 {self.random.randrange(count)} {self.random.choice(SHARPNESSES)}"
+        if kind == "hole":
+            # now and then the number is past the faces
+            return f"t hole 1/0/0 {self.random.randrange(len(faces)) if faces and self.happens(0.98) else len(faces)}"
+        if kind == "mode":
+            return f"t interpolateboundary 1/0/0 {self.random.randint(0, 2)}"
+        return f"t creasemethod 0/0/1 {self.random.choice(['normal', 'chaikin'])}"
+
+    def corner(self, vertex, textured):
+        return f"{vertex + 1}/{self.random.randint(1, 4)}" if textured else str(vertex + 1)
+
+    def text(self):
+        count, faces = self.mesh()
+        textured = self.happens(0.2)
+        lines = ["v " + " ".join(str(self.random.randint(-9, 9)) for _ in range(3)) for _ in range(count)]
+        lines += [f"vt 0 {number}" for number in range(4)] if textured else []
+        lines += ["f " + " ".join(self.corner(vertex, textured) for vertex in face) for face in faces]
+        for _ in range(self.random.choice([0, 1, 2, 4, 8])):
+            lines.insert(self.random.randint(0, len(lines)), self.tag(count, faces))
+        return "".join(line + "\n" for line in lines).encode()
