@@ -6,7 +6,7 @@ use Rattle.subdiv_model.specs.Polygons.{Polygon, has_distinct_sides}
 use Rattle.subdiv_model.specs.Lists.{first_of}
 use Rattle.subdiv_model.specs.Edges.{all_sides}
 use Rattle.subdiv_model.specs.Manifold.{is_simple, has_one_fan, is_manifold}
-use Rattle.subdiv_model.specs.MeshFault.{FaceTooSmall, RepeatedVertex, NonManifoldEdge, WindingClash, SplitVertex, small_faces, repeating_faces, crowded_edges, clashing_edges, split_vertices, mesh_faults, first_mesh_fault}
+use Rattle.subdiv_model.specs.MeshFault.{MeshFault, FaceTooSmall, RepeatedVertex, NonManifoldEdge, WindingClash, SplitVertex, small_faces, repeating_faces, crowded_edges, clashing_edges, split_vertices, mesh_faults, first_mesh_fault}
 use Rattle.mesh_laws.proofs.FaultLemmas.{fault-decides}
 use Rattle.mesh_check.specs.Faults.{corner_faults, edge_faults}
 
@@ -28,6 +28,13 @@ first-here (y ∷ xs) ys x h = h
 pub first-behind : {X : Type 0} (xs ys : List X) → first_of xs ≡ None → first_of (xs ++ ys) ≡ first_of ys
 first-behind [] ys h = refl
 first-behind (y ∷ xs) ys h = absurd (cc)
+
+-- where no face has a fault of its corners, the first fault of the edges is the first of all
+pub edge-before : (points : ℕ) (polygons : List Polygon) (fault : MeshFault) → first_of (corner_faults polygons) ≡ None → first_of (edge_faults polygons) ≡ Some fault → Some fault ≡ first_mesh_fault points polygons
+edge-before points polygons fault corners edges =
+    sym (ap first_of (mesh-joined points polygons)
+    ∙ first-behind (corner_faults polygons) (edge_faults polygons ++ map SplitVertex (split_vertices points polygons)) corners
+    ∙ first-here (edge_faults polygons) (map SplitVertex (split_vertices points polygons)) fault edges)
 
 -- faces without faults of corners and of edges are simple, and no side occurs twice
 pub simple-once : (polygons : List Polygon) → first_of (corner_faults polygons) ≡ None → first_of (edge_faults polygons) ≡ None → (list_all is_simple polygons ≡ true) × (has_distinct_sides (all_sides polygons) ≡ true)

@@ -14,8 +14,11 @@ mod GroupTurnLemmas
 mod FaultLemmas
 mod SplitLemmas
 mod VertexLemmas
+mod TurnSideLemmas
 mod BoundaryLemmas
 mod HoleLemmas
+mod OnceLemmas
+mod EndLemmas
 mod ValenceLemmas
 mod BaseFaceLemmas
 mod BaseMarkLemmas

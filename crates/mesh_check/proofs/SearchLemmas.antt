@@ -1,19 +1,16 @@
 -- Numbers that ascend, searched, and the first side that a search finds.
-use Rattle.std.proofs.Common.{◌≡◌, ℕ, zero, suc, ◌<◌, ◌≤◌, Bool, true, false, ◌||◌, nat_eq, nat_le, nat_lt, List, [], ◌∷◌, length, map, get_or, arith, refl, ap, sym, ◌∙◌, subst, ◌⊎◌, inl, inr, Result, Ok, Err}
-use Rattle.std.specs.List.{count_by, find, list_any}
+use Rattle.std.proofs.Common.{◌≡◌, ℕ, zero, suc, ◌<◌, ◌≤◌, Bool, true, false, ◌||◌, nat_eq, nat_le, nat_lt, List, [], ◌∷◌, length, map, get_or, arith, refl, ap, sym, ◌∙◌, Result, Ok, Err}
+use Rattle.std.specs.List.{count_by, find}
 use Rattle.std.specs.List.Sorted.{IsBinarySearchResult, IsPermutation, IsSorted}
 use Rattle.std.specs.Ordering.{nat_cmp}
 use Rattle.std.specs.Result.{MatchResult, is_ok}
 use Rattle.std.proofs.lemmas.Bool.Decides.{nat_tests}
-use Rattle.std.proofs.lemmas.Bool.{or_cases}
 use Rattle.std.proofs.lemmas.Grind.{get_or_default_zero}
 use Rattle.std.proofs.lemmas.List.Folds.{list_any_none}
 use Rattle.std.proofs.lemmas.List.Sums.{AllPass-from_list_all, list_all-from_AllPass}
 use Rattle.std.proofs.lemmas.List.Sorted.{searched, IsNonDecreasingBy-from_sort}
 use Rattle.subdiv_model.specs.Polygons.{same_side, same_edge, is_among}
 use Rattle.subdiv_model.specs.Edges.{reversed}
-use Rattle.number_laws.proofs.CountLemmas.{count-none}
-use Rattle.mesh_laws.proofs.ChildClosedLemmas.{same-pair}
 use Rattle.mesh_laws.proofs.SideLemmas.{among-place}
 use Rattle.mesh_check.specs.Keys.{IsWord, AreWords, side_key, edge_key, Rises, repeats}
 use Rattle.mesh_check.proofs.KeyLemmas.{side-key-same, edge-key-same, count-keys, find-agree, repeats-count, count-moved}
@@ -85,27 +82,6 @@ twice-side sides found keys words is often s word =
     ∙ ap (λ ks. nat_lt 1 (count_by (nat_eq (side_key s)) ks)) is
     ∙ ap (nat_lt 1) (count-keys side_key same_side (λ a b x y. side-key-same a b x.1 y.1) s word sides words)
     ∙ above 1 (count_by (same_side s) sides)
-
--- a side that occurs fits
-word-among : (s : ℕ × ℕ) (sides : List (ℕ × ℕ)) → AreWords sides → list_any (same_side s) sides ≡ true → IsWord s
-word-among s [] words h = absurd (cc)
-word-among s (t ∷ sides) words h = go (or_cases (same_side s t) (list_any (same_side s) sides) h) (λ behind. word-among s sides words.1 behind)
-  where
-    go : (same_side s t ≡ true) ⊎ (list_any (same_side s) sides ≡ true) → (list_any (same_side s) sides ≡ true → IsWord s) → IsWord s
-    go (inl same) later = subst IsWord (sym (same-pair s t same)) words.0
-    go (inr behind) later = later behind
-
--- where no number stands twice, each side occurs at most once
-pub once-found : (sides : List (ℕ × ℕ)) (found keys : List ℕ) → AreWords sides → keys ≡ map side_key sides → ((n : ℕ) → is_among found n ≡ nat_lt 1 (count_by (nat_eq n) keys)) → length found ≡ 0 → (s : ℕ × ℕ) → count_by (same_side s) sides ≤ 1
-once-found sides [] keys words is often none s = go (list_any (same_side s) sides) refl
-  where
-    low : (n : ℕ) → false ≡ nat_le 2 n → n ≤ 1
-    low n h = grind (arith, nat_tests)
-
-    go : (b : Bool) → list_any (same_side s) sides ≡ b → count_by (same_side s) sides ≤ 1
-    go false e = omega (arith, count-none (same_side s) sides e)
-    go true e = low (count_by (same_side s) sides) (twice-side sides [] keys words is often s (word-among s sides words e))
-once-found sides (n ∷ found) keys words is often none s = absurd (omega arith)
 
 -- the first side whose edge two sides are in one direction
 pub clashing-found : (sides : List (ℕ × ℕ)) (found keys : List ℕ) → AreWords sides → keys ≡ map side_key sides → ((n : ℕ) → is_among found n ≡ nat_lt 1 (count_by (nat_eq n) keys)) → find (λ s. is_among found (side_key s) || is_among found (side_key (reversed s))) sides ≡ find (λ s. nat_le 2 (count_by (same_side s) sides) || nat_le 2 (count_by (same_side (reversed s)) sides)) sides

@@ -2,7 +2,7 @@
 -- vertices.
 use Rattle.std.proofs.Common.{◌≡◌, ℕ, zero, suc, ◌<◌, ◌≤◌, Bool, true, false, not, ◌||◌, nat_eq, nat_le, List, [], ◌∷◌, length, map, get_or, take, drop, cond, arith, refl, ap, sym, subst, ◌∙◌, ◌⊎◌, inl, inr, Some, one-add}
 use Rattle.std.specs.List.{filter, list_all, prefix_len, find}
-use Rattle.std.specs.List.Sorted.{IsPermutation, IsNonDecreasingBy}
+use Rattle.std.specs.List.Sorted.{IsNonDecreasingBy}
 use Rattle.std.proofs.lemmas.Bool.Decides.{nat_tests}
 use Rattle.std.proofs.lemmas.Bool.{and_parts, and_from, or_cases, eqb-true, eq-eqb}
 use Rattle.std.proofs.lemmas.List.{length-map, get_or-map}
@@ -117,17 +117,13 @@ group-rises v (t ∷ turns) rises = go (nat_eq v t.vertex) refl (group-rises v t
     go true e behind = rw e (least turns (eqb-true v t.vertex e) rises.0, behind)
     go false e behind = rw e behind
 
--- what a sort leaves ascends, seen as a slice too
-pub slice-rises : (f : Turn → ℕ) (sorted slice : List Turn) → slice ≡ sorted → IsNonDecreasingBy f sorted → Rises (map f slice)
-slice-rises f sorted slice is h = subst (λ ts. Rises (map f ts)) (sym is) (rises-from (map f sorted) (λ i j low inside.
-    let within : j < length sorted = omega (arith, inside, length-map sorted f) in
-    let first : get_or (map f sorted) i 0 ≡ f (get_or sorted i no_turn) = get_or-map f sorted i no_turn 0 (omega arith) in
-    let second : get_or (map f sorted) j 0 ≡ f (get_or sorted j no_turn) = get_or-map f sorted j no_turn 0 within in
-    omega (arith, first, second, h i j no_turn low within)))
-
--- and is in another order than what was made
-pub slice-moved : (whole made sorted slice : List Turn) → made ≡ whole → IsPermutation made sorted → slice ≡ sorted → IsPermutation whole slice
-slice-moved whole made sorted slice is moved at = subst (λ ts. IsPermutation whole ts) (sym at) (subst (λ ts. IsPermutation ts sorted) is moved)
+-- what a sort leaves ascends
+pub turns-rise : (f : Turn → ℕ) (turns : List Turn) → IsNonDecreasingBy f turns → Rises (map f turns)
+turns-rise f turns h = rises-from (map f turns) (λ i j low inside.
+    let within : j < length turns = omega (arith, inside, length-map turns f) in
+    let first : get_or (map f turns) i 0 ≡ f (get_or turns i no_turn) = get_or-map f turns i no_turn 0 (omega arith) in
+    let second : get_or (map f turns) j 0 ≡ f (get_or turns j no_turn) = get_or-map f turns j no_turn 0 within in
+    omega (arith, first, second, h i j no_turn low within))
 
 -- the first vertex is one of them
 pub first-among : (turns : List Turn) → 1 ≤ length turns → is_among (vertices turns) (first_vertex turns) ≡ true

@@ -3,12 +3,10 @@ use Rattle.std.proofs.Common.{◌≡◌, ℕ, suc, ◌+◌, ◌-◌, ◌<◌, �
 use Rattle.std.specs.List.{All, filter, list_all, range_with_len, enumerate_from}
 use Rattle.std.proofs.lemmas.Bool.{and_from}
 use Rattle.std.proofs.lemmas.Bool.Decides.{nat_tests}
-use Rattle.std.proofs.lemmas.List.{length-map}
-use Rattle.std.proofs.lemmas.List.Sorted.{length_permutation}
 use Rattle.std.proofs.lemmas.List.Sums.{AllPass-from_list_all}
 use Rattle.subdiv_model.specs.Lists.{first_of}
 use Rattle.subdiv_model.specs.Polygons.{Polygon}
-use Rattle.subdiv_model.specs.Edges.{edge_number, edges_of_point}
+use Rattle.subdiv_model.specs.Edges.{edges_of_point}
 use Rattle.subdiv_model.specs.Level.{Level}
 use Rattle.subdiv_model.specs.ObjMesh.{ObjMesh}
 use Rattle.subdiv_model.specs.Base.{base_level}
@@ -16,19 +14,11 @@ use Rattle.subdiv_model.specs.MeshFault.{first_mesh_fault}
 use Rattle.subdiv_model.specs.Fault.{Fault, TooLarge, Points, Faces, FaceSize, Valence}
 use Rattle.subdiv_model.specs.Channel.{fault_where}
 use Rattle.subdiv_model.specs.Answer.{mesh_limit, size_limit, large_faces, count_faults}
-use Rattle.level_topology.specs.Topology.{Topology, IsTopology, edge_numbers_at}
 use Rattle.level_topology.specs.declared.counted.Counted.{Counted}
 use Rattle.level_topology.specs.CountedText.{counted_of}
 use Rattle.mesh_check.specs.Counts.{size_faults, valence_faults, count_named}
 use Rattle.mesh_check.specs.Checked.{IsTooLarge}
 use Rattle.mesh_check.proofs.FaultLemmas.{first-here, first-behind}
-
--- as many edges are handed out at a point as end there
-pub valence-is : (t : Topology) (v : ℕ) (edges : List ℕ) → IsTopology t → v < t.level.point_count → edges ≡ get_or t.edges_at v [] → length edges ≡ length (edges_of_point t.level.polygons v)
-valence-is t v edges is inside at =
-    ap length at
-    ∙ length_permutation (edge_numbers_at t.level.polygons v) (get_or t.edges_at v []) (is.listed v inside).edges
-    ∙ length-map (edges_of_point t.level.polygons v) (edge_number t.level.polygons)
 
 -- the vertices from one on
 abbrev pub valence_faults_from : Level → ℕ → List Fault
@@ -38,9 +28,6 @@ valence_faults_from level v =
 
 range-here : (v n : ℕ) → v < n → range_with_len v (n - v) ≡ v ∷ range_with_len (v + 1) (n - (v + 1))
 range-here v n h = let e : n - v ≡ suc (n - (v + 1)) = omega arith in ap (range_with_len v) e
-
-range-none : (v n : ℕ) → n ≤ v → range_with_len v (n - v) ≡ []
-range-none v n h = let e : n - v ≡ 0 = omega arith in ap (range_with_len v) e
 
 -- a vertex of too many edges is the first one from its place on
 pub valence-found : (level : Level) (v count : ℕ) → v < level.point_count → count ≡ length (edges_of_point level.polygons v) → 2 ^ 16 < count → first_of (valence_faults_from level v) ≡ Some (TooLarge (Valence v count))
@@ -59,10 +46,6 @@ valence-passed level v count h is small =
   where
     below : (n : ℕ) → n ≤ 2 ^ 16 → nat_lt size_limit n ≡ false
     below n k = grind (arith, nat_tests)
-
--- after the last vertex there is none
-pub valence-end : (level : Level) (v : ℕ) → level.point_count ≤ v → first_of (valence_faults_from level v) ≡ None
-valence-end level v h = rw (range-none v level.point_count h) refl
 
 -- the faults of the counts are those that the mesh tells, and then those that its level tells
 counts-joined : (mesh : ObjMesh) → count_faults mesh ≡ size_faults mesh ++ valence_faults (base_level mesh)
@@ -83,21 +66,21 @@ size-refused mesh found counted sound at first = record {
 }
 
 -- and where it has nothing else too much of, what its level has too much of
-pub valence-refused : (mesh : ObjMesh) (level : Level) (found : Option Counted) (counted : Counted) → first_mesh_fault (length mesh.points) mesh.faces ≡ None → first_of (size_faults mesh) ≡ None → level ≡ base_level mesh → found ≡ Some counted → count_named found ≡ first_of (valence_faults level) → IsTooLarge mesh (counted_of counted)
-valence-refused mesh level found counted sound few is at first = record {
+pub valence-refused : (mesh : ObjMesh) (found : Option Counted) (counted : Counted) → first_mesh_fault (length mesh.points) mesh.faces ≡ None → first_of (size_faults mesh) ≡ None → found ≡ Some counted → count_named found ≡ first_of (valence_faults (base_level mesh)) → IsTooLarge mesh (counted_of counted)
+valence-refused mesh found counted sound few at first = record {
   manifold = sound;
   named =
       ap first_of (counts-joined mesh)
       ∙ first-behind (size_faults mesh) (valence_faults (base_level mesh)) few
-      ∙ sym (ap (λ l. first_of (valence_faults l)) is) ∙ sym first ∙ ap count_named at;
+      ∙ sym first ∙ ap count_named at;
 }
 
 -- where neither has too much of anything, no count passes its limit
-pub counts-small : (mesh : ObjMesh) (level : Level) (found : Option Counted) → first_of (size_faults mesh) ≡ None → level ≡ base_level mesh → found ≡ None → count_named found ≡ first_of (valence_faults level) → first_of (count_faults mesh) ≡ None
-counts-small mesh level found few is at first =
+pub counts-small : (mesh : ObjMesh) (found : Option Counted) → first_of (size_faults mesh) ≡ None → found ≡ None → count_named found ≡ first_of (valence_faults (base_level mesh)) → first_of (count_faults mesh) ≡ None
+counts-small mesh found few at first =
     ap first_of (counts-joined mesh)
     ∙ first-behind (size_faults mesh) (valence_faults (base_level mesh)) few
-    ∙ sym (ap (λ l. first_of (valence_faults l)) is) ∙ sym first ∙ ap count_named at
+    ∙ sym first ∙ ap count_named at
 
 -- no fault of its counts was found in the mesh
 pub sizes-fine : (mesh : ObjMesh) (found : Option Counted) → found ≡ None → count_named found ≡ first_of (size_faults mesh) → first_of (size_faults mesh) ≡ None

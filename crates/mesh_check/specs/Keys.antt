@@ -1,5 +1,6 @@
 -- Sides and edges as numbers, and the numbers that stand often among numbers that ascend.
-use Rattle.std.specs.Prelude.{◌≡◌, ℕ, ◌+◌, ◌*◌, ◌^◌, ◌<◌, Bool, not, ◌&&◌, nat_eq, nat_le, nat_lt, List, [], ◌∷◌, length, map, get_or, IsTrue, if◌then◌else◌}
+use Rattle.std.specs.Prelude.{◌≡◌, ℕ, ◌+◌, ◌*◌, ◌^◌, ◌<◌, Bool, false, not, ◌&&◌, ◌||◌, nat_eq, nat_le, nat_lt, List, [], ◌∷◌, length, map, get_or, IsTrue, if◌then◌else◌}
+use Rattle.std.specs.Prelude.{◌≡◌, ℕ, ◌+◌, ◌*◌, ◌/◌, ◌%◌, ◌^◌, ◌<◌, Bool, not, ◌&&◌, nat_eq, nat_le, nat_lt, List, [], ◌∷◌, length, map, get_or, IsTrue, if◌then◌else◌}
 use Rattle.std.specs.List.{list_all, count_by}
 use Rattle.level_topology.specs.BuilderEdges.{low_first}
 
@@ -34,11 +35,30 @@ abbrev pub repeats : ℕ → List ℕ → List ℕ
 repeats gap [] = []
 repeats gap (n ∷ numbers) = if is_again gap (n ∷ numbers) n then n ∷ repeats gap numbers else repeats gap numbers
 
+-- one of the numbers is the one before it, where this one stands before the first
+abbrev pub has_equal_after : ℕ → List ℕ → Bool
+has_equal_after n [] = false
+has_equal_after n (m ∷ numbers) = nat_eq n m || has_equal_after m numbers
+
+-- two neighbours are equal: of numbers that ascend, one stands twice
+abbrev pub has_equal_neighbours : List ℕ → Bool
+has_equal_neighbours [] = false
+has_equal_neighbours (n ∷ numbers) = has_equal_after n numbers
+
 -- the numbers that neither the one before nor the one behind is, where the first may be known to follow one that it is: of
 -- numbers that ascend, those that stand once
 abbrev pub alone_after : Bool → List ℕ → List ℕ
 alone_after again [] = []
 alone_after again (n ∷ numbers) = if not again && not (is_again 1 (n ∷ numbers) n) then n ∷ alone_after (is_again 1 (n ∷ numbers) n) numbers else alone_after (is_again 1 (n ∷ numbers) n) numbers
+
+-- the ends of the edge that a number names
+abbrev pub ends_of_key : ℕ → List ℕ
+ends_of_key key = key / 2 ^ 32 ∷ key % 2 ^ 32 ∷ []
+
+-- the numbers that the one behind is not: of numbers that ascend, each once
+abbrev pub each_once : List ℕ → List ℕ
+each_once [] = []
+each_once (n ∷ numbers) = if is_again 1 (n ∷ numbers) n then each_once numbers else n ∷ each_once numbers
 
 -- the numbers of the edges of sides, ascending, each as often as sides are that edge
 pub record AreEdgeKeys (sides : List (ℕ × ℕ)) (keys : List ℕ) : Type 0 where

@@ -1,9 +1,10 @@
 -- Each corner of each face with the corners before and after it.
-use Rattle.std.specs.Prelude.{ℕ, ◌+◌, ◌-◌, nat_eq, List, [], ◌∷◌, ◌++◌, length, get_or}
+use Rattle.std.specs.Prelude.{ℕ, ◌+◌, ◌-◌, nat_eq, List, [], ◌∷◌, ◌++◌, length, map, get_or}
 use Rattle.std.specs.List.{filter}
+use Rattle.std.specs.List.Sorted.{IsPermutation}
 use Rattle.subdiv_model.specs.Polygons.{Polygon}
 use Rattle.mesh_check.specs.declared.turns.Turn.{Turn}
-use Rattle.mesh_check.specs.Keys.{side_key}
+use Rattle.mesh_check.specs.Keys.{side_key, Rises}
 
 -- the corners of a path in a face, where one stands before the path and `first` after it
 abbrev pub turns_from : ℕ → ℕ → ℕ → Polygon → List Turn
@@ -27,3 +28,9 @@ turn_key turn = side_key (turn.vertex, turn.before)
 -- the corners at a vertex
 abbrev pub turns_at : ℕ → List Turn → List Turn
 turns_at v turns = filter (λ turn. nat_eq v turn.vertex) turns
+
+-- all corners of all faces, which ascend by vertex, and at a vertex by the corner before it
+pub record AreSortedTurns (polygons : List Polygon) (turns : List Turn) : Type 0 where
+  pub moved : IsPermutation (turns_after 0 polygons) turns
+  pub keys : Rises (map turn_key turns)
+  pub vertices : Rises (map (λ (turn : Turn). turn.vertex) turns)

@@ -27,19 +27,15 @@ fn hash_face(hasher: &mut DefaultHasher, face: &[u32]) {
     }
 }
 
-// Half of a key in which every corner of every face counts, and each size.
-fn half_key(raw: &RawMesh, half: u32) -> u64 {
+// A key in which every corner of every face counts, and each size. Whoever chooses the mesh cannot choose its key with it.
+fn key_of(raw: &RawMesh) -> u128 {
     let mut hasher = DefaultHasher::new();
-    hasher.write_u32(half);
     for f in 0..raw.faces() {
         hash_face(&mut hasher, raw.face(f));
     }
-    hasher.finish()
-}
-
-// A key that whoever chooses the mesh cannot choose with it.
-fn key_of(raw: &RawMesh) -> u128 {
-    ((half_key(raw, 0) as u128) << 64) + half_key(raw, 1) as u128
+    let half = hasher.finish();
+    hasher.write_u64(half);
+    ((half as u128) << 64) + hasher.finish() as u128
 }
 
 // How many corners all faces have.

@@ -5,37 +5,72 @@ ghost use Rattle.obj_tags.specs.Laws.{IsWithin};
 ghost use Rattle.subdiv_model.specs.Lists.{first_of};
 ghost use Rattle.subdiv_model.specs.MeshFault.{first_mesh_fault};
 ghost use Rattle.subdiv_model.specs.Base.{base_level};
+ghost use Rattle.subdiv_model.specs.Edges.{all_sides};
+ghost use Rattle.mesh_check.specs.Keys.{AreEdgeKeys};
 ghost use Rattle.mesh_check.specs.Counts.{size_faults};
+ghost use Rattle.mesh_check.specs.Base.{AreEdges};
 ghost use Rattle.mesh_check.specs.Checked.{IsAccepted, IsRefused};
 
 use crate::base::base_level;
 use crate::boundary::{known_edges, mesh_boundary};
-use crate::counts::{size_fault, valence_fault};
+use crate::counts::size_fault;
 use crate::fault::CheckFault;
 use crate::faults::mesh_fault;
 use crate::holes::hole_marks;
 use crate::sides::sides_of_faces;
+use crate::valence::valence_fault;
 use level_topology::Level;
 use obj_tags::RawMesh;
 use ratio128::{Memory, Steps};
 use std::alloc::Global;
 use std::sync::ledger::Ledger;
 
-// Level 0 of a mesh without fault whose sizes are within their limits.
-fn level_of<L: Ledger>(alloc: Global, raw: &RawMesh, steps: &mut Steps<L>) -> Result<Level, Memory>
+// Level 0 of a mesh without fault whose sizes are within their limits, by its sides and the numbers of its edges.
+fn level_of<L: Ledger>(
+    alloc: Global,
+    raw: &RawMesh,
+    sides: Vec<(u32, u32)>,
+    edges: &[u64],
+    steps: &mut Steps<L>,
+) -> Result<Level, Memory>
     requires within { IsWithin raw.now }
     requires sound { first_mesh_fault (length raw.now.points) raw.now.faces ≡ None }
     requires small { first_of (size_faults raw.now) ≡ None }
+    requires sides { sides.items ≡ all_sides raw.now.faces }
+    requires keys { AreEdgeKeys (all_sides raw.now.faces) edges.now }
+    requires edges { AreEdges raw.now.faces edges.now }
     ensures level { IfOk result (λ level. level.level ≡ base_level raw.now) }
     ensures complete { IfOk result (λ level. level.complete ≡ replicate (length raw.now.points) true) }
     ensures steps { steps.new ≤ steps.old + length raw.now.faces }
     ensures later { steps.old ≤ steps.new }
 {
+    let boundary = mesh_boundary(alloc, raw, sides, edges)?;
+    let holes = hole_marks(alloc, raw, &boundary)?;
+    let level = base_level(alloc, raw, edges, &boundary, &holes, steps)?;
+    Ok(level)
+}
+
+// Level 0 of a mesh without fault whose sizes are within their limits, unless a vertex has too many edges. The edges are
+// counted first, so that no level is built in vain.
+fn small_level<L: Ledger>(
+    alloc: Global,
+    raw: &RawMesh,
+    steps: &mut Steps<L>,
+) -> Result<Level, CheckFault>
+    requires within { IsWithin raw.now }
+    requires sound { first_mesh_fault (length raw.now.points) raw.now.faces ≡ None }
+    requires small { first_of (size_faults raw.now) ≡ None }
+    ensures checked { MatchResult result (λ level. IsAccepted raw.now level) (λ fault. IsRefused raw.now fault) }
+    ensures steps { steps.new ≤ steps.old + length raw.now.faces }
+    ensures later { steps.old ≤ steps.new }
+{
     let sides = sides_of_faces(alloc, raw)?;
     let edges = known_edges(alloc, &sides)?;
-    let boundary = mesh_boundary(alloc, raw, sides, &edges)?;
-    let holes = hole_marks(alloc, raw, &boundary)?;
-    let level = base_level(alloc, raw, &edges, &boundary, &holes, steps)?;
+    match valence_fault(alloc, raw, &edges)? {
+        Some(counted) => return Err(CheckFault::TooLarge(counted)),
+        None => {}
+    }
+    let level = level_of(alloc, raw, sides, &edges, steps)?;
     Ok(level)
 }
 
@@ -67,9 +102,5 @@ pub fn check_mesh<L: Ledger>(
         Some(counted) => return Err(CheckFault::TooLarge(counted)),
         None => {}
     }
-    let level = level_of(alloc, raw, steps)?;
-    match valence_fault(&level) {
-        Some(counted) => Err(CheckFault::TooLarge(counted)),
-        None => Ok(level),
-    }
+    small_level(alloc, raw, steps)
 }

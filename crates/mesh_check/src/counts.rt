@@ -3,15 +3,15 @@
 ghost use Rattle.std.specs.Prelude.{◌≡◌, length, map};
 ghost use Rattle.subdiv_model.specs.Lists.{first_of};
 ghost use Rattle.subdiv_model.specs.Answer.{large_faces};
-ghost use Rattle.mesh_check.specs.Counts.{size_faults, valence_faults, count_named};
+ghost use Rattle.mesh_check.specs.Counts.{size_faults, count_named};
 
-use level_topology::{Counted, Level};
+use level_topology::Counted;
 use obj_tags::RawMesh;
 
 // How many points a mesh may have, how many faces, and a face how many corners or a vertex how many edges.
 const MESH_LIMIT: usize = 1 << 20;
 
-const SIZE_LIMIT: usize = 1 << 16;
+pub(crate) const SIZE_LIMIT: usize = 1 << 16;
 
 // The first face of too many corners, with how many it has.
 fn large_face(raw: &RawMesh) -> Option<(u32, u64)>
@@ -45,21 +45,4 @@ pub(crate) fn size_fault(raw: &RawMesh) -> Option<Counted>
         }),
         None => None,
     }
-}
-
-// The first vertex of too many edges.
-pub(crate) fn valence_fault(level: &Level) -> Option<Counted>
-    ensures { count_named result ≡ first_of (valence_faults level.now.level) }
-{
-    level.facts();
-    for v in 0..level.points() {
-        let count = level.vertex_edges(v).len();
-        if count > SIZE_LIMIT {
-            return Some(Counted::Valence {
-                vertex: v,
-                count: count as u64,
-            });
-        }
-    }
-    None
 }

@@ -1,6 +1,6 @@
 //! Edges that too many sides are, and edges that two sides are in one direction.
 
-ghost use Rattle.std.specs.Prelude.{◌≡◌, ℕ, ◌≤◌, false, ◌||◌, IfOk, nat_le};
+ghost use Rattle.std.specs.Prelude.{◌≡◌, ◌||◌, IfOk, nat_le};
 ghost use Rattle.std.specs.List.{count_by, find};
 ghost use Rattle.subdiv_model.specs.Polygons.{same_edge, same_side, is_among};
 ghost use Rattle.subdiv_model.specs.Edges.{reversed};
@@ -46,14 +46,6 @@ fn find_side(sides: &[(u32, u32)], known: &[u64]) -> Option<(u32, u32)>
         rest = others;
     }
     None
-}
-
-// Whether a side occurs twice in one direction. Where none does, no edge has a fault.
-pub(crate) fn occurs_twice(alloc: Global, sides: &[(u32, u32)]) -> Result<bool, Memory>
-    ensures { IfOk result (λ twice. twice ≡ false → (s : ℕ × ℕ) → count_by (same_side s) sides.now ≤ 1) }
-{
-    let twice = frequent(alloc, side_keys(alloc, sides)?, 1)?;
-    Ok(!twice.is_empty())
 }
 
 // The first side whose edge three or more sides are.

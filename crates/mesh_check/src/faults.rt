@@ -6,12 +6,14 @@ ghost use Rattle.subdiv_model.specs.Lists.{first_of};
 ghost use Rattle.subdiv_model.specs.MeshFault.{first_mesh_fault};
 ghost use Rattle.mesh_check.specs.View.{named};
 ghost use Rattle.mesh_check.specs.Faults.{corner_faults, edge_faults, edge_named};
+ghost use Rattle.mesh_check.specs.Turns.{AreSortedTurns};
 
 use crate::corners::{repeating_face, small_face};
-use crate::edges::{clashing_side, crowded_side, occurs_twice};
+use crate::edges::{clashing_side, crowded_side};
 use crate::fault::MeshFault;
 use crate::sides::sides_of_faces;
 use crate::split::split_vertex;
+use crate::turns::{Turn, has_equal_neighbours, sorted_turns};
 use obj_tags::RawMesh;
 use ratio128::Memory;
 use std::alloc::Global;
@@ -42,15 +44,15 @@ fn edge_named(crowded: Option<(u32, u32)>, clashing: Option<(u32, u32)>) -> Opti
     }
 }
 
-// The first fault of the edges of faces.
-pub(crate) fn edge_fault(alloc: Global, raw: &RawMesh) -> Result<Option<MeshFault>, Memory>
+// The first fault of the edges of faces. Where no side comes to two corners, no edge has one.
+fn edge_fault(alloc: Global, raw: &RawMesh, turns: &[Turn]) -> Result<Option<MeshFault>, Memory>
+    requires { AreSortedTurns raw.now.faces turns.now }
     ensures { IfOk result (λ found. named found ≡ first_of (edge_faults raw.now.faces)) }
 {
-    let sides = sides_of_faces(alloc, raw)?;
-    let twice = occurs_twice(alloc, &sides)?;
-    if !twice {
+    if !has_equal_neighbours(turns) {
         return Ok(None);
     }
+    let sides = sides_of_faces(alloc, raw)?;
     let crowded = crowded_side(alloc, &sides)?;
     let clashing = clashing_side(alloc, &sides)?;
     Ok(edge_named(crowded, clashing))
@@ -64,10 +66,11 @@ pub(crate) fn mesh_fault(alloc: Global, raw: &RawMesh) -> Result<Option<MeshFaul
     if let Some(fault) = corner_fault(alloc, raw)? {
         return Ok(Some(fault));
     }
-    if let Some(fault) = edge_fault(alloc, raw)? {
+    let turns = sorted_turns(alloc, raw)?;
+    if let Some(fault) = edge_fault(alloc, raw, &turns)? {
         return Ok(Some(fault));
     }
-    let found = split_vertex(alloc, raw)?;
+    let found = split_vertex(alloc, raw, &turns)?;
     match found {
         Some(v) => Ok(Some(MeshFault::SplitVertex(v))),
         None => Ok(None),

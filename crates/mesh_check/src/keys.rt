@@ -53,7 +53,7 @@ pub(crate) fn edge_keys(alloc: Global, sides: &[(u32, u32)]) -> Result<Vec<u64>,
 }
 
 // Whether a number stands so many places after the first as well.
-fn is_again(keys: &[u64], gap: usize, key: u64) -> bool
+pub(crate) fn is_again(keys: &[u64], gap: usize, key: u64) -> bool
     ensures { result ≡ is_again gap keys.now key }
 {
     gap < keys.len() && keys[gap] == key

@@ -18,6 +18,7 @@ mod marks;
 mod sides;
 mod split;
 mod turns;
+mod valence;
 
 pub use check::check_mesh;
 pub use fault::{CheckFault, MeshFault};

@@ -10,9 +10,10 @@ ghost use Rattle.subdiv_model.specs.Manifold.{is_simple, has_one_fan};
 ghost use Rattle.subdiv_model.specs.MeshFault.{split_vertices};
 ghost use Rattle.mesh_check.specs.Keys.{Rises};
 ghost use Rattle.mesh_check.specs.Group.{IsGroup};
+ghost use Rattle.mesh_check.specs.Turns.{AreSortedTurns};
 
 use crate::fan::is_fan;
-use crate::turns::{Turn, sort_turns, turns_of_faces};
+use crate::turns::Turn;
 use obj_tags::RawMesh;
 use ratio128::Memory;
 use std::alloc::Global;
@@ -68,16 +69,19 @@ fn is_group_fan(alloc: Global, group: &[Turn]) -> Result<bool, Memory>
     Ok(is)
 }
 
-// The first vertex whose faces are more than one fan, where all faces are simple and no side occurs twice.
-pub(crate) fn split_vertex(alloc: Global, raw: &RawMesh) -> Result<Option<u32>, Memory>
+// The first vertex whose faces are more than one fan, by the sorted corners, where all faces are simple and no side occurs twice.
+pub(crate) fn split_vertex(
+    alloc: Global,
+    raw: &RawMesh,
+    turns: &[Turn],
+) -> Result<Option<u32>, Memory>
     requires within { IsWithin raw.now }
     requires simple { IsTrue (list_all is_simple raw.now.faces) }
     requires once { IsTrue (has_distinct_sides (all_sides raw.now.faces)) }
+    requires sorted { AreSortedTurns raw.now.faces turns.now }
     ensures { IfOk result (λ found. found ≡ first_of (split_vertices (length raw.now.points) raw.now.faces)) }
 {
-    let mut turns = turns_of_faces(alloc, raw)?;
-    sort_turns(&mut turns);
-    let mut rest = &turns[..];
+    let mut rest = turns;
     while let [first, ..] = rest {
         let v = first.vertex;
         let (group, others) = rest.split_at(group_size(rest, v));

@@ -1,8 +1,9 @@
 //! Each corner of each face with the corners before and after it, sorted by vertex.
 
-ghost use Rattle.std.specs.Prelude.{◌≡◌, ◌++◌, IfOk, OnOk};
+ghost use Rattle.std.specs.Prelude.{◌≡◌, ◌++◌, map, IfOk, OnOk};
 ghost use Rattle.std.specs.List.Sorted.{IsPermutation, IsNonDecreasingBy};
-ghost use Rattle.mesh_check.specs.Turns.{turns_of, turns_after, turn_key};
+ghost use Rattle.mesh_check.specs.Keys.{has_equal_neighbours};
+ghost use Rattle.mesh_check.specs.Turns.{turns_of, turns_after, turn_key, AreSortedTurns};
 
 use crate::keys::side_key;
 use obj_tags::RawMesh;
@@ -42,7 +43,7 @@ fn add_turns(turns: &mut Vec<Turn>, face: u32, corners: &[u32]) -> Result<(), Me
 }
 
 // The corners of all faces.
-pub(crate) fn turns_of_faces(alloc: Global, raw: &RawMesh) -> Result<Vec<Turn>, Memory>
+fn turns_of_faces(alloc: Global, raw: &RawMesh) -> Result<Vec<Turn>, Memory>
     ensures { IfOk result (λ turns. turns.items ≡ turns_after 0 raw.now.faces) }
 {
     let mut turns = Vec::new(alloc);
@@ -53,10 +54,46 @@ pub(crate) fn turns_of_faces(alloc: Global, raw: &RawMesh) -> Result<Vec<Turn>, 
 }
 
 // Sorts corners by vertex, and those at a vertex by the corner before it.
-pub(crate) fn sort_turns(turns: &mut Vec<Turn>)
+fn sort_turns(turns: &mut Vec<Turn>)
     ensures moved { IsPermutation turns.old.items turns.new.items }
     ensures sorted { IsNonDecreasingBy turn_key turns.new.items }
     ensures vertices { IsNonDecreasingBy (λ turn. turn.vertex) turns.new.items }
 {
     turns.sort_unstable_by_key(|turn| side_key((turn.vertex, turn.before)));
+}
+
+// The corners of all faces, sorted.
+pub(crate) fn sorted_turns(alloc: Global, raw: &RawMesh) -> Result<Vec<Turn>, Memory>
+    ensures { IfOk result (λ turns. AreSortedTurns raw.now.faces turns.items) }
+{
+    let mut turns = turns_of_faces(alloc, raw)?;
+    sort_turns(&mut turns);
+    Ok(turns)
+}
+
+// The side that comes to a corner as one number.
+fn turn_key(turn: &Turn) -> u64
+    ensures { result ≡ turn_key turn.now }
+{
+    side_key((turn.vertex, turn.before))
+}
+
+// Whether the same side comes to two neighbours.
+pub(crate) fn has_equal_neighbours(turns: &[Turn]) -> bool
+    ensures { result ≡ has_equal_neighbours (map turn_key turns.now) }
+{
+    let [first, others @ ..] = turns else {
+        return false;
+    };
+    let mut key = turn_key(first);
+    let mut rest = others;
+    while let [turn, others @ ..] = rest {
+        let next = turn_key(turn);
+        if key == next {
+            return true;
+        }
+        key = next;
+        rest = others;
+    }
+    false
 }

@@ -1,7 +1,11 @@
-use Rattle.std.proofs.Common.{ap, sym, ◌∙◌}
+use Rattle.std.proofs.Common.{length, ap, sym, ◌∙◌}
 use Rattle.mesh_check.specs.View.{named}
-use Rattle.mesh_check.proofs.FaultLemmas.{simple-once}
+use Rattle.mesh_check.proofs.FaultLemmas.{edge-before, simple-once}
 use Rattle.mesh_check.proofs.faults.mesh_fault.Goals as goal
+
+pub returns-in-Some-2 : goal.returns-in-Some-2
+returns-in-Some-2 c =
+    edge-before (length c.args.raw.now.points) c.args.raw.now.faces _ (sym c.in_ok-fault.ensures ∙ ap named c.in_default.is) (sym c.in_ok-fault-2.ensures ∙ ap named c.in-Some-2.is)
 
 pub split_vertex-requires-clause-simple : goal.split_vertex-requires-clause-simple
 split_vertex-requires-clause-simple c =

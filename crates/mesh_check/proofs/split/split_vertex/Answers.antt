@@ -3,24 +3,23 @@ use Rattle.std.specs.List.{find}
 use Rattle.subdiv_model.specs.Polygons.{is_distinct}
 use Rattle.subdiv_model.specs.Manifold.{has_one_fan}
 use Rattle.mesh_check.specs.Keys.{Rises}
-use Rattle.mesh_check.specs.Turns.{turn_key, turns_after}
+use Rattle.mesh_check.specs.Turns.{turn_key}
 use Rattle.mesh_check.proofs.GroupTurnLemmas.{group-of}
 use Rattle.mesh_check.proofs.GroupFanLemmas.{befores-distinct}
-use Rattle.mesh_check.proofs.SplitLemmas.{IsGroupOf, first_vertex, slice-rises, slice-moved, first-among, first-found, front-within, front-is, back-is, group-rises, drop-rises, find-off, off-groups}
+use Rattle.mesh_check.proofs.SplitLemmas.{IsGroupOf, first_vertex, first-among, first-found, front-within, front-is, back-is, group-rises, drop-rises, find-off, off-groups}
 use Rattle.mesh_check.proofs.VertexLemmas.{first-split, moved-length}
 use Rattle.mesh_check.proofs.split.split_vertex.Goals as goal
 
 pub loop-rest-init : goal.loop-rest-init
 loop-rest-init c =
     let faces = c.args.raw.now.faces in
-    let moved = slice-moved (turns_after 0 faces) c.in_ok-turns.turns.items c.sort_turns.new.turns.items c.deref.result.now c.in_ok-turns.ensures c.sort_turns.ensures.moved c.deref.ensures.value in
-    let rises = slice-rises (λ t. t.vertex) c.sort_turns.new.turns.items c.deref.result.now c.deref.ensures.value c.sort_turns.ensures.vertices in
+    let turns = c.args.turns.now in
     record {
-      keys = slice-rises turn_key c.sort_turns.new.turns.items c.deref.result.now c.deref.ensures.value c.sort_turns.ensures.sorted;
-      vertices = rises;
-      short = omega (arith, moved-length faces c.deref.result.now moved);
-      groups = λ v there. group-of faces c.requires.simple v c.deref.result.now moved;
-      decides = first-split (length c.args.raw.now.points) faces c.deref.result.now c.requires.within.faces moved rises;
+      keys = c.requires.sorted.keys;
+      vertices = c.requires.sorted.vertices;
+      short = omega (arith, moved-length faces turns c.requires.sorted.moved);
+      groups = λ v there. group-of faces c.requires.simple v turns c.requires.sorted.moved;
+      decides = first-split (length c.args.raw.now.points) faces turns c.requires.within.faces c.requires.sorted.moved c.requires.sorted.vertices;
     }
 
 pub split_at-requires : goal.split_at-requires
