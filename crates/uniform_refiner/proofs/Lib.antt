@@ -15,3 +15,8 @@ pub mod DirectionLemmas
 pub mod EdgePointLemmas
 pub mod EdgeRowLemmas
 pub mod EdgeWayLemmas
+pub mod PutPointLemmas
+pub mod UniformLemmas
+pub mod WholeLemmas
+pub mod RefineLemmas
+pub mod HalfTableLemmas

@@ -73,7 +73,7 @@ module _ (points : ℕ) (polygons : List Polygon) (over : is_over points polygon
       go false h p q = let other : nat_eq v (edge_at polygons e).1 ≡ true = grind (arith, nat_tests) in omega (arith, eqb-true _ _ other)
 
   -- an end tells the point
-  end-tells : (e u v : ℕ) → has_end u (edge_at polygons e) ≡ true → has_end v (edge_at polygons e) ≡ true → end_of polygons u e ≡ end_of polygons v e → u ≡ v
+  pub end-tells : (e u v : ℕ) → has_end u (edge_at polygons e) ≡ true → has_end v (edge_at polygons e) ≡ true → end_of polygons u e ≡ end_of polygons v e → u ≡ v
   end-tells e u v h k same = go (nat_eq u (edge_at polygons e).0) (nat_eq v (edge_at polygons e).0) refl refl
     where
       go : (p q : Bool) → nat_eq u (edge_at polygons e).0 ≡ p → nat_eq v (edge_at polygons e).0 ≡ q → u ≡ v

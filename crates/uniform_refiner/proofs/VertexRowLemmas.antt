@@ -21,7 +21,7 @@ use Rattle.uniform_refiner.proofs.ChildEdgeLemmas.{ends-all}
 use Rattle.uniform_refiner.proofs.PointLemmas.{kids}
 use Rattle.uniform_refiner.proofs.VertexLemmas.{kid, kid-of, some-row, half-among}
 
-end-has : (v k : ℕ) (edge : ℕ × ℕ) → end_at edge k ≡ v → has_end v edge ≡ true
+pub end-has : (v k : ℕ) (edge : ℕ × ℕ) → end_at edge k ≡ v → has_end v edge ≡ true
 end-has v k edge same = go (nat_eq k 0) refl
   where
     go : (b : Bool) → nat_eq k 0 ≡ b → has_end v edge ≡ true

@@ -3,3 +3,7 @@ pub mod Slots
 pub mod Slotted
 pub mod Walked
 pub mod Put
+pub mod Points
+pub mod Uniform
+pub mod HalfTable
+pub mod Refined

@@ -1,6 +1,6 @@
 //! The child faces, put with their edges.
 
-ghost use Rattle.std.specs.Prelude.{◌≡◌, ◌+◌, ◌*◌, ◌<◌, true, [], ◌∷◌, length, get_or};
+ghost use Rattle.std.specs.Prelude.{◌≡◌, ◌+◌, ◌*◌, ◌<◌, true, false, [], ◌∷◌, length, get_or};
 ghost use Rattle.std.specs.List.{All, sum_by};
 ghost use Rattle.subdiv_model.specs.Polygons.{polygon_at, is_among};
 ghost use Rattle.uniform_refiner.specs.Slots.{first_child};
@@ -27,6 +27,14 @@ fn numbers_of(edges: &SlotEdges, slots: [u32; 4]) -> [u32; 4]
     ]
 }
 
+// A child face is a hole where its face is.
+fn is_child_hole(level: &Level, f: u32) -> bool
+    requires { f < length level.now.level.polygons }
+    ensures { result ≡ get_or level.now.level.holes f false }
+{
+    level.is_hole(f)
+}
+
 // Puts the child faces of a face. Each is one step.
 fn put_children<L: Ledger>(
     level: &Level,
@@ -44,7 +52,7 @@ fn put_children<L: Ledger>(
     ensures steps { steps.new ≡ steps.old + length (polygon_at level.now.level.polygons f) }
 {
     level.facts();
-    let hole = level.is_hole(f);
+    let hole = is_child_hole(level, f);
     for c in 0..level.face_vertices(f).len() {
         let corners = child_corners(level, f, c);
         let numbers = numbers_of(edges, child_slots(level, f, c));

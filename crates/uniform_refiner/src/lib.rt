@@ -8,10 +8,15 @@ mod edges;
 mod face_points;
 mod faces;
 mod fault;
+mod halves;
 mod numbering;
+mod origins;
+mod points;
 mod row;
+mod uniform;
 mod vertices;
 mod walk;
 
 pub use count::next_faces;
 pub use fault::RefineFault;
+pub use uniform::refine;

@@ -35,7 +35,7 @@ pub loop-c-preserved : goal.loop-c-preserved
 loop-c-preserved g c =
     let h : c.loop-c.c < length (polygon_at c.args.level.now.level.polygons c.args.f) = omega (arith, c.loop-c-test.true, ap length c.face_vertices-c-end.ensures) in
     record {
-      put = children-step c.args.level.now c.facts.ensures c.args.edges.now c.args.f c.loop-c.c c.args.rows.now c.loop-c.rows _ c.child_corners-corners.result c.child_slots.result c.numbers_of-numbers.result c.is_hole-hole.result c.requires.edges h c.loop-c.invariant.put
-          c.child_corners-corners.ensures c.child_slots.ensures c.numbers_of-numbers.ensures c.is_hole-hole.ensures c.put_face.ensures.put;
+      put = children-step c.args.level.now c.facts.ensures c.args.edges.now c.args.f c.loop-c.c c.args.rows.now c.loop-c.rows _ c.child_corners-corners.result c.child_slots.result c.numbers_of-numbers.result c.is_child_hole-hole.result c.requires.edges h c.loop-c.invariant.put
+          c.child_corners-corners.ensures c.child_slots.ensures c.numbers_of-numbers.ensures c.is_child_hole-hole.ensures c.put_face.ensures.put;
       steps = search rules;
     }

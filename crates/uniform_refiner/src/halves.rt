@@ -1,0 +1,93 @@
+//! The sharpness of the halves of all edges, by their slots. No half sees the order of the edges at its point.
+
+ghost use Rattle.std.specs.Prelude.{◌≡◌, ℕ, ◌+◌, ◌^◌, ◌<◌, ◌≤◌, false, List, length, map, get_or, IfOk, MatchResult, OnOk};
+ghost use Rattle.std.specs.List.{sum_by};
+ghost use Rattle.subdiv_model.specs.Sharpness.{half_child};
+ghost use Rattle.subdiv_model.specs.Channel.{chaikin_overflows_at};
+ghost use Rattle.sharpness_rules.specs.declared.child.Method.{Method};
+ghost use Rattle.sharpness_rules.specs.declared.sharpness.Sharpness.{Sharpness};
+ghost use Rattle.sharpness_rules.specs.View.{sharpness_of, method_of};
+ghost use Rattle.sharpness_rules.specs.Halves.{AreHalves, halves_overflow};
+ghost use Rattle.uniform_refiner.specs.Put.{HasHalves};
+ghost use Rattle.uniform_refiner.specs.HalfTable.{AreHalvesPut, ring_listed};
+ghost use Rattle.uniform_refiner.specs.Refined.{IsRefusal};
+
+use crate::corners::half_slot_of;
+use crate::fault::RefineFault;
+use level_topology::Level;
+use ratio128::Memory;
+use sharpness_rules::{Halves, Sharpness};
+use std::alloc::Global;
+
+// The sharpness of the edges at a point, in the order of its list. The room of the ring is kept.
+fn put_ring(level: &Level, v: u32, ring: &mut Vec<Sharpness>) -> Result<(), Memory>
+    requires known { v < level.now.level.point_count }
+    ensures { OnOk result (map sharpness_of ring.new.items ≡ ring_listed level.now v) }
+{
+    level.facts();
+    ring.clear();
+    let edges = level.vertex_edges(v);
+    for i in 0..edges.len() {
+        ring.push(level.edge_sharpness(edges[i]))?;
+    }
+    Ok(())
+}
+
+// The half of an edge, by its sharpness, of a ring whose halves do not overflow.
+fn half_of(around: Halves, s: Sharpness) -> Sharpness
+    ensures { (method : Method) (ring : List Sharpness) (at : ℕ) → AreHalves method ring around → halves_overflow method ring ≡ false
+        → at < length ring → s ≡ get_or ring at s → sharpness_of result ≡ half_child (method_of method) (map sharpness_of ring) (sharpness_of s) }
+{
+    match around.half(s) {
+        Ok(half) => half,
+        Err(_) => s,
+    }
+}
+
+// Puts the halves of the edges at a point, if they do not overflow.
+fn put_halves(
+    level: &Level,
+    v: u32,
+    ring: &[Sharpness],
+    halves: &mut [Sharpness],
+) -> Result<(), RefineFault>
+    requires known { v < level.now.level.point_count }
+    requires few { sum_by length level.now.level.polygons ≤ 2 ^ 22 }
+    requires ring { map sharpness_of ring.now ≡ ring_listed level.now v }
+    requires before { AreHalvesPut level.now v 0 (map sharpness_of halves.old) }
+    ensures { MatchResult result (λ _. AreHalvesPut level.now (v + 1) 0 (map sharpness_of halves.new)) (IsRefusal level.now) }
+{
+    level.facts();
+    let around = Halves::of(level.method(), ring);
+    if around.overflows() {
+        return Err(RefineFault::Chaikin(v));
+    }
+    let edges = level.vertex_edges(v);
+    for i in 0..edges.len() {
+        let slot = half_slot_of(level, v, edges[i]);
+        halves[slot as usize] = half_of(around, ring[i]);
+    }
+    Ok(())
+}
+
+// A table for so many halves.
+fn table_for(alloc: Global, count: usize) -> Result<Vec<Sharpness>, Memory>
+    ensures { IfOk result (λ halves. length halves.items ≡ count) }
+{
+    Ok(vec![in alloc; Sharpness::Smooth; count]?)
+}
+
+// The halves of all edges, or the first point at which they overflow.
+pub(crate) fn half_table(alloc: Global, level: &Level) -> Result<Vec<Sharpness>, RefineFault>
+    requires few { sum_by length level.now.level.polygons ≤ 2 ^ 22 }
+    ensures { MatchResult result (λ table. HasHalves level.now.level (map sharpness_of table.items) × ((v : ℕ) → v < level.now.level.point_count → chaikin_overflows_at level.now.level v ≡ false)) (IsRefusal level.now) }
+{
+    level.facts();
+    let mut table = table_for(alloc, 2 * level.edges() as usize)?;
+    let mut ring = Vec::new(alloc);
+    for v in 0..level.points() {
+        put_ring(level, v, &mut ring)?;
+        put_halves(level, v, &ring, &mut table)?;
+    }
+    Ok(table)
+}
