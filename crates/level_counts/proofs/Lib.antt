@@ -1,3 +1,5 @@
 mod CountLemmas
 mod PointLemmas
 mod LineLemmas
+mod LevelsLemmas
+mod SeriesLemmas

@@ -1,5 +1,6 @@
 -- The counts of a level, and their line.
 use Rattle.std.specs.Prelude.{ℕ, ℤ, List, [], ◌∷◌, length, codes}
+use Rattle.std.specs.List.{flat_map, enumerate_from}
 use Rattle.subdiv_model.specs.Edges.{edges_of}
 use Rattle.subdiv_model.specs.Level.{Level}
 use Rattle.subdiv_model.specs.NumberText.{number_text}
@@ -44,3 +45,10 @@ line_words k counts =
 
 abbrev pub counts_line : ℕ → Counts → List ℕ
 counts_line k counts = line_text (codes "level") (line_words k counts)
+
+abbrev pub numbered_line : ℕ × Counts → List ℕ
+numbered_line level = counts_line level.0 level.1
+
+-- the lines of levels with these counts, where the first of them has this number
+abbrev pub levels_lines : ℕ → List Counts → List ℕ
+levels_lines first counts = flat_map numbered_line (enumerate_from first counts)

@@ -1,3 +1,4 @@
 pub mod Counts
 pub mod View
 pub mod Words
+pub mod Series

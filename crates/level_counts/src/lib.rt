@@ -1,4 +1,4 @@
-//! The counts of a level, and the line that tells them.
+//! The counts of a level, the line that tells them, and the counts of all levels to a depth.
 #![tactic(auto)]
 
 mod counts;
@@ -7,5 +7,8 @@ mod faces;
 pub mod laws;
 mod line;
 mod points;
+mod series;
 
 pub use counts::LevelCounts;
+pub use line::put_levels;
+pub use series::{SeriesFault, count_levels};

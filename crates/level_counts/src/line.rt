@@ -1,10 +1,10 @@
-//! The line of a level's counts, put after what an [`Out`] already has.
+//! The lines of levels' counts, put after what an [`Out`] already has.
 
-ghost use Rattle.std.specs.Prelude.{◌≡◌, ◌++◌, codes};
+ghost use Rattle.std.specs.Prelude.{◌≡◌, ◌≤◌, ◌^◌, ◌++◌, false, length, map, codes};
 ghost use Rattle.subdiv_model.specs.NumberText.{number_text, sign_text};
 ghost use Rattle.subdiv_model.specs.LevelText.{whole_text};
 ghost use Rattle.obj_out.specs.Puts.{Puts};
-ghost use Rattle.level_counts.specs.Counts.{counts_line};
+ghost use Rattle.level_counts.specs.Counts.{counts_line, levels_lines};
 ghost use Rattle.level_counts.specs.View.{seen_counts};
 ghost use Rattle.level_counts.specs.Words.{size_words, kind_words};
 
@@ -29,12 +29,12 @@ fn put_number<K: Sink>(out: &mut Out<'_, K>, n: u64) -> Result<(), WriteFailed>
 }
 
 // Puts a name, with the spaces around it, and a count.
-fn put_count<K: Sink>(out: &mut Out<'_, K>, name: &[u8], n: u32) -> Result<(), WriteFailed>
+fn put_count<K: Sink>(out: &mut Out<'_, K>, name: &[u8], n: u64) -> Result<(), WriteFailed>
     ensures same_reference { out.new.sink.ghost_name ≡ out.old.sink.ghost_name }
     ensures puts { Puts K.held K.faults K.fixed out.old.sink.now out.new.sink.now out.old.waiting out.new.waiting out.old.failed out.new.failed (name.now ++ number_text n) result }
 {
     put_text(out, name)?;
-    put_number(out, n as u64)
+    put_number(out, n)
 }
 
 // Puts how many points, edges and faces there are.
@@ -42,9 +42,9 @@ fn put_sizes<K: Sink>(out: &mut Out<'_, K>, counts: &LevelCounts) -> Result<(), 
     ensures same_reference { out.new.sink.ghost_name ≡ out.old.sink.ghost_name }
     ensures puts { Puts K.held K.faults K.fixed out.old.sink.now out.new.sink.now out.old.waiting out.new.waiting out.old.failed out.new.failed (size_words (seen_counts counts.now)) result }
 {
-    put_count(out, b" points ", counts.points)?;
-    put_count(out, b" edges ", counts.edges)?;
-    put_count(out, b" faces ", counts.faces)
+    put_count(out, b" points ", counts.points as u64)?;
+    put_count(out, b" edges ", counts.edges as u64)?;
+    put_count(out, b" faces ", counts.faces as u64)
 }
 
 // Puts `-` where Euler's number is below 0, and nothing else.
@@ -70,15 +70,15 @@ fn put_kinds<K: Sink>(out: &mut Out<'_, K>, counts: &LevelCounts) -> Result<(), 
     ensures same_reference { out.new.sink.ghost_name ≡ out.old.sink.ghost_name }
     ensures puts { Puts K.held K.faults K.fixed out.old.sink.now out.new.sink.now out.old.waiting out.new.waiting out.old.failed out.new.failed (kind_words (seen_counts counts.now)) result }
 {
-    put_count(out, b" boundary ", counts.boundary)?;
-    put_count(out, b" holes ", counts.holes)?;
-    put_count(out, b" sharp ", counts.sharp)?;
-    put_count(out, b" extraordinary ", counts.extraordinary)
+    put_count(out, b" boundary ", counts.boundary as u64)?;
+    put_count(out, b" holes ", counts.holes as u64)?;
+    put_count(out, b" sharp ", counts.sharp as u64)?;
+    put_count(out, b" extraordinary ", counts.extraordinary as u64)
 }
 
 impl LevelCounts {
     /// Puts the line of the level with this number.
-    pub fn put<K: Sink>(&self, number: u32, out: &mut Out<'_, K>) -> Result<(), WriteFailed>
+    pub fn put<K: Sink>(&self, number: u64, out: &mut Out<'_, K>) -> Result<(), WriteFailed>
         ensures same_reference { out.new.sink.ghost_name ≡ out.old.sink.ghost_name }
         ensures puts { Puts K.held K.faults K.fixed out.old.sink.now out.new.sink.now out.old.waiting out.new.waiting out.old.failed out.new.failed (counts_line number (seen_counts self.now)) result }
     {
@@ -88,4 +88,16 @@ impl LevelCounts {
         put_kinds(out, self)?;
         put_text(out, b"\n")
     }
+}
+
+/// Puts the lines of levels with these counts, from level 0 on.
+pub fn put_levels<K: Sink>(out: &mut Out<'_, K>, counts: &[LevelCounts]) -> Result<(), WriteFailed>
+    requires fine { out.old.failed ≡ false }
+    ensures same_reference { out.new.sink.ghost_name ≡ out.old.sink.ghost_name }
+    ensures puts { Puts K.held K.faults K.fixed out.old.sink.now out.new.sink.now out.old.waiting out.new.waiting out.old.failed out.new.failed (levels_lines 0 (map seen_counts counts.now)) result }
+{
+    for k in 0..counts.len() {
+        counts[k].put(k as u64, out)?;
+    }
+    Ok(())
 }
