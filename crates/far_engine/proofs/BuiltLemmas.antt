@@ -24,12 +24,7 @@ use Rattle.subdiv_model.specs.Text.{refined_text}
 use Rattle.subdiv_model.specs.Fault.{Fault, Obj, NotBuilt}
 use Rattle.subdiv_model.specs.MeshFault.{MeshFault, first_mesh_fault}
 use Rattle.subdiv_model.specs.Command.{Command, Refine, Stencils, Levels, Gen}
-use Rattle.subdiv_model.specs.Answer.{answer_unless, answer_of_checked, count_faults, command_text}
-use Rattle.subdiv_model.specs.Lists.{first_of}
-use Rattle.subdiv_model.specs.LevelText.{level_line}
-use Rattle.level_topology.specs.Topology.{Topology}
-use Rattle.mesh_check.specs.Checked.{IsAccepted}
-use Rattle.level_counts.specs.Counts.{Counts, counts_of, counts_line}
+use Rattle.subdiv_model.specs.Answer.{answer_unless, answer_of_checked}
 use Rattle.mesh_laws.proofs.Laws.{manifold-levels}
 use Rattle.mesh_laws.proofs.FaultLemmas.{fault-decides}
 use Rattle.mesh_laws.proofs.WalkLemmas.{manifold-decides}
@@ -38,7 +33,7 @@ use Rattle.obj_laws.proofs.ObjMeshLemmas.{faces-over}
 use Rattle.plain_refine.specs.Mesh.{IsShort, corners_of}
 use Rattle.obj_tags.specs.View.{point_of}
 use Rattle.far_engine.specs.Built.{is_built, has_built_form, is_closed_manifold, is_small, is_small_face, has_no_tags, has_default_modes, has_short_numbers, is_short, is_short_point, is_edge_only, is_normal}
-use Rattle.far_engine.specs.BuiltWords.{IsBuiltCommand, built_command, written_text}
+use Rattle.far_engine.specs.BuiltWords.{built_command, written_text}
 use Rattle.far_engine.specs.Outcome.{refusal_of_mesh, refusal_of_obj, refusal_of_text, level_of}
 
 both : (a b : Bool) → a ≡ true → b ≡ true → (a && b) ≡ true
@@ -250,31 +245,6 @@ good-text command bytes mesh refusal none same is =
 pub faulty-text : (command : Command) (bytes : List ℕ) (fault : model.ObjFault) → read_obj_fault bytes 0 ≡ Some fault → refusal_of_obj command bytes ≡ Some (Obj fault)
 faulty-text command bytes fault is = ap (λ fault. refusal_of_text command fault (read_obj_mesh bytes 0)) is
 
-unless-refusal : (fault : Option Fault) (text : List ℕ) → (answer_unless fault text).refusal ≡ fault
+pub unless-refusal : (fault : Option Fault) (text : List ℕ) → (answer_unless fault text).refusal ≡ fault
 unless-refusal (Some fault) text = refl
 unless-refusal None text = refl
-
--- a mesh that is accepted is not refused, and its level 0 is counted
-pub accepted-counts : (mesh : ObjMesh) (level : Topology) (counts : Counts) → IsAccepted mesh level → counts ≡ counts_of level.level →
-    (refusal_of_mesh (Levels 0) mesh ≡ None) × (counts ≡ counts_of (base_level mesh))
-accepted-counts mesh level counts accepted counted = (
-  ap (λ fault. (answer_of_checked (Levels 0) fault mesh).refusal) accepted.manifold
-      ∙ unless-refusal (first_of (count_faults mesh ++ [])) (command_text (Levels 0) mesh)
-      ∙ ap first_of (append-nil (count_faults mesh))
-      ∙ accepted.small,
-  counted ∙ ap counts_of accepted.level_is,
-)
-
--- the line of the counts is what the command writes
-pub counted-text : (command : Command) (depth : ℕ) (mesh : ObjMesh) (counts : Counts) → command ≡ Levels depth → IsBuiltCommand command →
-    (refusal_of_mesh (Levels 0) mesh ≡ None) × (counts ≡ counts_of (base_level mesh)) →
-    (refusal_of_mesh command mesh ≡ None) × (counts_line 0 counts ≡ written_text command mesh)
-unfolding written_text
-counted-text command depth mesh counts is built counted =
-    let nought : depth ≡ 0 = subst IsBuiltCommand is built in
-    let says : command ≡ Levels 0 = is ∙ ap Levels nought in (
-      ap (λ c. refusal_of_mesh c mesh) says ∙ counted.0,
-      ap (counts_line 0) counted.1
-          ∙ sym (append-nil (level_line 0 (base_level mesh)))
-          ∙ ap (λ c. command_text c mesh) (sym says),
-    )

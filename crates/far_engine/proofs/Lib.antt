@@ -2,3 +2,5 @@ mod OutputLemmas
 mod BuiltLemmas
 mod WordsLemmas
 mod RunLemmas
+mod LevelLemmas
+mod SeriesLemmas

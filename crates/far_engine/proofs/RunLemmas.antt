@@ -122,7 +122,9 @@ module _ {S K : Type 0} (left : S → Option (List ℕ)) (source_faults : S → 
     runs_found k (Usage word) found = absurd found
     runs_found k Read found = absurd found
     runs_found k Long found = absurd found
-    runs_found k (Overflow track level kind) found = absurd found
+    runs_found k (Overflow track level kind) found =
+        runs_refused k (Overflow track level kind) bytes was.command (λ other e. refused_as other (Some (Overflow track level kind)) e found)
+        (λ word e. absurd (cc)) (λ e. absurd (cc)) (λ e. absurd (cc)) (λ e. absurd (cc)) (λ e. was.dry) was.took was.later
     runs_found k Write found = absurd found
 
     text_as : (other text : List ℕ) → left s ≡ Some other → text ≡ written_text command (read_obj_mesh bytes 0) → text ≡ text_of words other

@@ -82,8 +82,8 @@ says_refine options none =
     let tags = no_other (codes "refine") 1 1 options none (codes "tags") refl in
     rw (depth, decimals, texture, path, tags) refl
 
-says_levels : (options : List (List ℕ)) → usage_of_rule (Some (depth_rule (codes "levels") 0 0)) options ≡ None → required_number options (codes "depth") ≡ 0
-says_levels options none = let within = depth_of (codes "levels") 0 0 options none in omega (arith, within.0, within.1)
+says_levels : (options : List (List ℕ)) → usage_of_rule (Some (depth_rule (codes "levels") 0 10)) options ≡ None → required_number options (codes "depth") ≤ 10
+says_levels options none = (depth_of (codes "levels") 0 10 options none).1
 
 -- words that are a command say one of those that there are
 pub says-built : (words : List (List ℕ)) → usage_of built_table words ≡ None → IsBuiltCommand (command_of words)
@@ -91,7 +91,7 @@ says-built [] none = absurd (cc)
 says-built (name ∷ options) none = by_test (bytes_eq name (codes "refine")) (bytes_eq name (codes "levels")) refl refl none
   where
     by_test : (refined counted : Bool) → bytes_eq name (codes "refine") ≡ refined → bytes_eq name (codes "levels") ≡ counted →
-        usage_of_rule (cond refined (Some (depth_rule (codes "refine") 1 1)) (cond counted (Some (depth_rule (codes "levels") 0 0)) None)) options ≡ None →
+        usage_of_rule (cond refined (Some (depth_rule (codes "refine") 1 1)) (cond counted (Some (depth_rule (codes "levels") 0 10)) None)) options ≡ None →
         IsBuiltCommand (command_of (name ∷ options))
     by_test true counted is other none =
         subst IsBuiltCommand (sym (ap (λ n. command_of (n ∷ options)) ((bytes_eq-Decides name (codes "refine")).0 is))) (says_refine options none)

@@ -3,5 +3,6 @@ pub mod Pieces
 pub mod Built
 pub mod BuiltWords
 pub mod Outcome
+pub mod Levels
 pub mod Runs
 pub use Rattle.subdiv_model.specs.Words

@@ -11,7 +11,7 @@ use Rattle.subdiv_model.specs.Level.{Level}
 use Rattle.subdiv_model.specs.Base.{base_level}
 use Rattle.subdiv_model.specs.Child.{refined_level, faces_after}
 use Rattle.subdiv_model.specs.MeshFault.{first_mesh_fault}
-use Rattle.subdiv_model.specs.Fault.{Fault, Usage, Read, Long, Obj, Mesh, TooLarge, Write, Memory, NotBuilt}
+use Rattle.subdiv_model.specs.Fault.{Fault, Usage, Read, Long, Obj, Mesh, TooLarge, Overflow, Write, Memory, NotBuilt}
 use Rattle.subdiv_model.specs.Answer.{byte_limit, command_text, answer_of_checked}
 use Rattle.far_engine.specs.Built.{is_built}
 use Rattle.far_words.specs.Built.{built_table}
@@ -63,6 +63,7 @@ IsFound Memory refusal = Unit {0}
 IsFound (Obj fault) refusal = refusal ≡ Some (Obj fault)
 IsFound (Mesh fault) refusal = refusal ≡ Some (Mesh fault)
 IsFound (TooLarge counted) refusal = refusal ≡ Some (TooLarge counted)
+IsFound (Overflow track level kind) refusal = refusal ≡ Some (Overflow track level kind)
 IsFound (NotBuilt line) refusal = refusal ≡ Some (NotBuilt line)
 IsFound other refusal = ⊥
 

@@ -1,15 +1,29 @@
 -- The faults and the outcomes of the code, as those of the definitions.
-use Rattle.std.specs.Prelude.{ℕ, List, Option, Some, None, Result, Ok, Err}
+use Rattle.std.specs.Prelude.{ℕ, List, map, Option, Some, None, Result, Ok, Err}
 use Rattle.subdiv_model.specs.Fault as model
 use Rattle.obj_tags.specs.View.{cause_of}
 use Rattle.level_topology.specs.CountedText.{counted_of}
 use Rattle.mesh_check.specs.View.{mesh_fault_of}
-use Rattle.level_counts.specs.Counts.{counts_line}
+use Rattle.level_counts.specs.Counts.{levels_lines}
 use Rattle.level_counts.specs.View.{seen_counts}
 use Rattle.far_engine.specs.declared.reply.Reply.{Reply}
 use Rattle.far_engine.specs.declared.reply.Reply.TheVariants.{Refined, Counted}
+use Rattle.far_engine.specs.declared.overflow.Track.{Track}
+use Rattle.far_engine.specs.declared.overflow.Track.TheVariants.{Positions, Texture}
+use Rattle.far_engine.specs.declared.overflow.OverflowKind.{OverflowKind}
+use Rattle.far_engine.specs.declared.overflow.OverflowKind.TheVariants.{Chaikin, Transition, Denominator, Value}
 use Rattle.far_engine.specs.declared.fault.FarFault.{FarFault}
-use Rattle.far_engine.specs.declared.fault.FarFault.TheVariants.{Usage, Read, Long, Obj, Mesh, TooLarge, NotBuilt, Write, Memory}
+use Rattle.far_engine.specs.declared.fault.FarFault.TheVariants.{Usage, Read, Long, Obj, Mesh, TooLarge, Overflow, NotBuilt, Write, Memory}
+
+abbrev pub track_of : Track → model.Track
+track_of Positions = model.Positions
+track_of Texture = model.Texture
+
+abbrev pub kind_of : OverflowKind → model.OverflowKind
+kind_of Chaikin = model.ChaikinOverflow
+kind_of Transition = model.TransitionOverflow
+kind_of Denominator = model.DenominatorOverflow
+kind_of Value = model.ValueOverflow
 
 abbrev pub fault_of : FarFault → model.Fault
 fault_of (Usage word) = model.Usage word
@@ -18,6 +32,7 @@ fault_of Long = model.Long
 fault_of (Obj line cause) = model.Obj (record { line = line; cause = cause_of cause })
 fault_of (Mesh fault) = model.Mesh (mesh_fault_of fault)
 fault_of (TooLarge counted) = model.TooLarge (counted_of counted)
+fault_of (Overflow track level kind) = model.Overflow (track_of track) level (kind_of kind)
 fault_of (NotBuilt line) = model.NotBuilt line
 fault_of Write = model.Write
 fault_of Memory = model.Memory
@@ -25,7 +40,7 @@ fault_of Memory = model.Memory
 -- the text of a reply
 abbrev pub reply_text : Reply → List ℕ
 reply_text (Refined text) = text
-reply_text (Counted counts) = counts_line 0 (seen_counts counts)
+reply_text (Counted counts) = levels_lines 0 (map seen_counts counts.items)
 
 -- the fault of a run, where it has one
 abbrev pub outcome_of : Result (Unit {0}) FarFault → Option model.Fault

@@ -7,6 +7,7 @@ ghost use Rattle.far_engine.specs.Pieces.{pieces_text};
 ghost use Rattle.far_engine.specs.View.{fault_of};
 
 use crate::output::write_line;
+use crate::overflow::{OverflowKind, Track, kind_words, track_words};
 use crate::piece::{Piece, about, about_two, about_with, plain};
 use far_io::{Sink, WriteFailed};
 use level_topology::Counted;
@@ -20,19 +21,32 @@ use std::fmt;
 pub enum FarFault {
     /// The words are no command. `word` is the place of the first bad one, counted from 0, or the
     /// number of words where a required option is missing.
-    Usage { word: u32 },
+    Usage {
+        word: u32,
+    },
     /// A read failed.
     Read,
     /// The input has more than 2^28 bytes.
     Long,
     /// A line of the input, counted from 1, is refused: the least such line, and why.
-    Obj { line: u32, cause: ObjCause },
+    Obj {
+        line: u32,
+        cause: ObjCause,
+    },
     /// The mesh is no manifold: what is wrong with it first.
     Mesh(MeshFault),
     /// The mesh is a manifold, and a count passes its limit: the first one, with how much there is.
     TooLarge(Counted),
+    /// A number passes its bound: of which values, at which level, from 1, and which number.
+    Overflow {
+        track: Track,
+        level: u32,
+        kind: OverflowKind,
+    },
     /// The mesh is one that is not built yet. `line` is 0: it is the mesh as a whole.
-    NotBuilt { line: u32 },
+    NotBuilt {
+        line: u32,
+    },
     /// A write or a flush failed.
     Write,
     /// Memory ran out.
@@ -60,6 +74,7 @@ pub fn status(fault: &FarFault) -> u8
         FarFault::Obj { .. } => 5,
         FarFault::Mesh(_) => 6,
         FarFault::TooLarge(_) => 7,
+        FarFault::Overflow { .. } => 8,
         FarFault::NotBuilt { .. } => 12,
         FarFault::Write => 10,
         FarFault::Memory => 11,
@@ -126,6 +141,9 @@ impl FarFault {
             FarFault::Obj { line, cause } => about_with("line ", *line as u64, ": ", cause.text()),
             FarFault::Mesh(fault) => mesh_pieces(*fault),
             FarFault::TooLarge(counted) => counted_pieces(*counted),
+            FarFault::Overflow { track, level, kind } => {
+                about(track_words(*track), *level as u64, kind_words(*kind))
+            }
             FarFault::NotBuilt { line } => about("line ", *line as u64, " is not built yet"),
             FarFault::Write => plain("writing failed"),
             FarFault::Memory => plain("out of memory"),

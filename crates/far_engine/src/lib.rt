@@ -4,9 +4,12 @@
 mod built;
 mod engine;
 mod fault;
+mod levels;
 mod output;
+mod overflow;
 mod piece;
 mod reply;
 
 pub use engine::{program, run};
 pub use fault::{FarFault, report, status};
+pub use overflow::{OverflowKind, Track};

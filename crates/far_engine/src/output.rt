@@ -8,16 +8,18 @@ use crate::piece::Piece;
 use crate::reply::Reply;
 use far_io::{Sink, WriteFailed};
 use itoa::Buffer;
+use level_counts::put_levels;
 use obj_out::Out;
 
 // Puts the text of a reply.
 fn put_text<K: Sink>(out: &mut Out<'_, K>, reply: &Reply) -> Result<(), WriteFailed>
+    requires fine { out.old.failed ≡ false }
     ensures same_reference { out.new.sink.ghost_name ≡ out.old.sink.ghost_name }
     ensures puts { Puts K.held K.faults K.fixed out.old.sink.now out.new.sink.now out.old.waiting out.new.waiting out.old.failed out.new.failed (reply_text reply.now) result }
 {
     match reply {
         Reply::Refined(refined) => refined.put(out),
-        Reply::Counted(counts) => counts.put(0, out),
+        Reply::Counted(counts) => put_levels(out, counts),
     }
 }
 

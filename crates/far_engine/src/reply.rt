@@ -2,21 +2,17 @@
 
 ghost use Rattle.std.specs.Prelude.{◌≡◌, ◌+◌, ◌≤◌, ◌^◌, length, None, MatchResult};
 ghost use Rattle.obj_tags.specs.Laws.{IsWithin};
-ghost use Rattle.subdiv_model.specs.Base.{base_level};
-ghost use Rattle.subdiv_model.specs.Command.{Levels};
 ghost use Rattle.subdiv_model.specs.ReadObj.{read_obj_mesh};
 ghost use Rattle.far_words.specs.View.{command_of_code};
-ghost use Rattle.level_counts.specs.Counts.{counts_of};
-ghost use Rattle.level_counts.specs.View.{seen_counts};
 ghost use Rattle.far_engine.specs.BuiltWords.{IsBuiltCommand, built_command, written_text};
 ghost use Rattle.far_engine.specs.Outcome.{refusal_of_mesh, refusal_of_obj, step_limit, IsFound};
 ghost use Rattle.far_engine.specs.View.{fault_of, reply_text};
 
 use crate::built::{has_built_form, polygons_of};
 use crate::fault::FarFault;
+use crate::levels::count_levels;
 use far_words::Command;
 use level_counts::LevelCounts;
-use mesh_check::{CheckFault, check_mesh};
 use obj_tags::{ObjFault, RawMesh, ReadFault, read_obj};
 use plain_refine::{is_closed_manifold, refine};
 use ratio128::Steps;
@@ -28,8 +24,8 @@ use std::sync::ledger::Ledger;
 pub(crate) enum Reply {
     /// A refined mesh.
     Refined(plain_refine::Refined),
-    /// The counts of level 0.
-    Counted(LevelCounts),
+    /// The counts of the levels from 0 on.
+    Counted(Vec<LevelCounts>),
 }
 
 // A mesh that was read, after one step.
@@ -50,26 +46,6 @@ fn refine_mesh(alloc: Global, mesh: &RawMesh) -> Result<plain_refine::Refined, F
     Ok(refined)
 }
 
-// The counts of level 0 of a mesh that was read.
-fn count_level<L: Ledger>(
-    alloc: Global,
-    mesh: &RawMesh,
-    steps: &mut Steps<L>,
-) -> Result<LevelCounts, FarFault>
-    requires { IsWithin mesh.now }
-    ensures reply { MatchResult result (λ counts. (refusal_of_mesh (Levels 0) mesh.now ≡ None) × (seen_counts counts ≡ counts_of (base_level mesh.now)))
-        (λ fault. IsFound (fault_of fault) (refusal_of_mesh (Levels 0) mesh.now)) }
-    ensures steps { steps.new ≤ steps.old + length mesh.now.faces }
-    ensures later { steps.old ≤ steps.new }
-{
-    match check_mesh(alloc, mesh, steps) {
-        Ok(level) => Ok(LevelCounts::of(&level)),
-        Err(CheckFault::Mesh(fault)) => Err(FarFault::Mesh(fault)),
-        Err(CheckFault::TooLarge(counted)) => Err(FarFault::TooLarge(counted)),
-        Err(CheckFault::Memory) => Err(FarFault::Memory),
-    }
-}
-
 // What a command writes of a mesh that was read.
 fn reply_to_mesh<L: Ledger>(
     alloc: Global,
@@ -85,7 +61,7 @@ fn reply_to_mesh<L: Ledger>(
     ensures later { steps.old ≤ steps.new }
 {
     match command {
-        Command::Levels { .. } => Ok(Reply::Counted(count_level(alloc, mesh, steps)?)),
+        Command::Levels { depth } => Ok(Reply::Counted(count_levels(alloc, mesh, *depth, steps)?)),
         _ => Ok(Reply::Refined(refine_mesh(alloc, mesh)?)),
     }
 }

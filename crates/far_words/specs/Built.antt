@@ -6,5 +6,5 @@ use Rattle.subdiv_model.specs.Words.{CommandRule, required_option}
 abbrev pub built_table : List CommandRule
 built_table =
     record { name = codes "refine"; options = required_option (codes "depth") 1 1 ∷ [] }
-    ∷ record { name = codes "levels"; options = required_option (codes "depth") 0 0 ∷ [] }
+    ∷ record { name = codes "levels"; options = required_option (codes "depth") 0 10 ∷ [] }
     ∷ []

@@ -86,7 +86,7 @@ const BUILT: &[CommandRule] = &[
     },
     CommandRule {
         name: "levels",
-        options: &[required_option!("depth", 0, 0)],
+        options: &[required_option!("depth", 0, 10)],
     },
 ];
 

@@ -1,0 +1,22 @@
+-- The levels of a mesh that was checked.
+use Rattle.std.specs.Prelude.{ℕ, ◌≡◌, ◌+◌, ◌^◌, ◌<◌, ◌≤◌, true, List, None, length, map, replicate}
+use Rattle.std.specs.List.{sum_by, range_with_len}
+use Rattle.subdiv_model.specs.Base.{base_level}
+use Rattle.subdiv_model.specs.Child.{refined_level}
+use Rattle.subdiv_model.specs.Command.{Levels}
+use Rattle.subdiv_model.specs.ObjMesh.{ObjMesh}
+use Rattle.level_topology.specs.Topology.{Topology}
+use Rattle.level_counts.specs.declared.counts.LevelCounts.{LevelCounts}
+use Rattle.level_counts.specs.Counts.{counts_of}
+use Rattle.level_counts.specs.View.{seen_counts}
+use Rattle.far_engine.specs.Outcome.{refusal_of_mesh}
+
+-- all points are complete, and there are not too many of them
+pub record IsAcceptedLevel (level : Topology) : Type 0 where
+  pub points : level.level.point_count ≤ 2 ^ 20
+  pub whole : level.complete ≡ replicate level.level.point_count true
+
+-- the mesh is not refused, and these are the counts of its levels from 0 to a depth
+pub record AreCounted (mesh : ObjMesh) (depth : ℕ) (counts : List LevelCounts) : Type 0 where
+  pub good : refusal_of_mesh (Levels depth) mesh ≡ None
+  pub told : map seen_counts counts ≡ map (λ k. counts_of (refined_level (base_level mesh) k)) (range_with_len 0 (depth + 1))
