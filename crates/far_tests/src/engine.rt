@@ -7,6 +7,7 @@ ghost use Rattle.far_engine.specs.Outcome.{text_of};
 use crate::expect::expect_same;
 use far_engine::{FarFault, program, run};
 use far_io::{MemSink, MemSource, SureSink, SureSource};
+use level_topology::Counted;
 use mesh_check::MeshFault;
 use obj_tags::ObjCause;
 use ratio128::{Memory, Steps};
@@ -258,10 +259,37 @@ const RUNS: &[Run] = &[
     ),
     ("levels", "", "", Err(FarFault::Usage { word: 1 }), ""),
     (
-        "levels depth=1",
+        "levels depth=11",
         "",
         "",
         Err(FarFault::Usage { word: 1 }),
+        "",
+    ),
+    (
+        "levels depth=2",
+        CUBE,
+        "",
+        Ok(()),
+        "level 0 points 8 edges 12 faces 6 euler 2 boundary 0 holes 0 sharp 0 extraordinary 8\n\
+        level 1 points 26 edges 48 faces 24 euler 2 boundary 0 holes 0 sharp 0 extraordinary 8\n\
+        level 2 points 98 edges 192 faces 96 euler 2 boundary 0 holes 0 sharp 0 extraordinary 8\n",
+    ),
+    (
+        "levels depth=1",
+        SQUARE,
+        "t corner 1/1/0 0 3\nt hole 1/0/0 0",
+        Ok(()),
+        "level 0 points 4 edges 4 faces 1 euler 1 boundary 4 holes 1 sharp 0 extraordinary 0\n\
+        level 1 points 9 edges 12 faces 4 euler 1 boundary 8 holes 4 sharp 0 extraordinary 0\n",
+    ),
+    (
+        "levels depth=10",
+        CUBE,
+        "",
+        Err(FarFault::TooLarge(Counted::LevelFaces {
+            level: 10,
+            count: 6291456,
+        })),
         "",
     ),
     (

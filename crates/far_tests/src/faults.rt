@@ -2,7 +2,7 @@
 
 use crate::engine::failing_sink;
 use crate::expect::expect_same;
-use far_engine::{FarFault, report, status};
+use far_engine::{FarFault, OverflowKind, Track, report, status};
 use far_io::{SureSink, WriteFailed};
 use level_topology::Counted;
 use mesh_check::MeshFault;
@@ -172,6 +172,42 @@ const FAULTS: &[Fault] = &[
         FarFault::TooLarge(Counted::LimitEntries),
         7,
         "far: the limit rows have too many entries\n",
+    ),
+    (
+        FarFault::Overflow {
+            track: Track::Positions,
+            level: 3,
+            kind: OverflowKind::Chaikin,
+        },
+        8,
+        "far: positions level 3: chaikin overflow\n",
+    ),
+    (
+        FarFault::Overflow {
+            track: Track::Texture,
+            level: 1,
+            kind: OverflowKind::Transition,
+        },
+        8,
+        "far: texture level 1: transition overflow\n",
+    ),
+    (
+        FarFault::Overflow {
+            track: Track::Positions,
+            level: 10,
+            kind: OverflowKind::Denominator,
+        },
+        8,
+        "far: positions level 10: denominator overflow\n",
+    ),
+    (
+        FarFault::Overflow {
+            track: Track::Texture,
+            level: 4294967295,
+            kind: OverflowKind::Value,
+        },
+        8,
+        "far: texture level 4294967295: value overflow\n",
     ),
     (
         FarFault::NotBuilt { line: 0 },

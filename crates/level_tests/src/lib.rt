@@ -1,4 +1,4 @@
-//! Tests of levels, of sharpness and of masks, on meshes from tables.
+//! Tests of levels, of sharpness, of masks and of uniform refinement, on meshes from tables.
 #![tactic(auto)]
 
 #[cfg(test)]
@@ -17,6 +17,8 @@ mod fans;
 mod levels;
 #[cfg(test)]
 mod mask_tables;
+#[cfg(test)]
+mod refined;
 #[cfg(test)]
 mod sharpness;
 #[cfg(test)]

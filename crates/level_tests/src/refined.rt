@@ -1,0 +1,233 @@
+// The next levels of a cube and of an open grid: how many parts they have, where their sharp edges come from, and which
+// vertex is refused.
+
+ghost use Rattle.std.specs.Prelude.{◌≡◌, ℕ, ◌<◌, true, false, length, get_or};
+ghost use Rattle.subdiv_model.specs.Edges.{edges_of};
+
+use crate::checked::Checked;
+use crate::expect::expect_same;
+use crate::solids::{
+    CUBE, Fraction, GRID, HALF, INFINITE, SharpEdge, Solid, THREE_HALVES, TOP, ZERO,
+};
+use level_topology::{Child, Level, Origin};
+use ratio128::{Memory, Steps};
+use sharpness_rules::{Method, Sharpness};
+use std::alloc::Global;
+use std::marker::Brand;
+use std::process::Abort;
+use std::sync::ledger::{Blank, Ledger};
+use uniform_refiner::{RefineFault, refine};
+
+// A solid with its sharp edges.
+type Mesh = (&'static Solid, Method, &'static [SharpEdge]);
+
+// The origins of the ends of an edge that is sharp, in its direction, and its sharpness.
+type Sharp = ((Origin, Origin), Fraction);
+
+// A mesh; how many points, edges, faces and boundary edges its next level has; and its sharp edges in their order.
+type Case = (Mesh, (u32, u32, u32, usize), &'static [Sharp]);
+
+const FIVE_HALVES: Fraction = (5, 2);
+
+const CASES: &[Case] = &[
+    (
+        (CUBE, Method::Normal, &[(0, 1, THREE_HALVES)]),
+        (26, 48, 24, 0),
+        &[
+            ((Origin::Vertex(0), Origin::Edge(0)), HALF),
+            ((Origin::Edge(0), Origin::Vertex(1)), HALF),
+        ],
+    ),
+    (
+        (
+            GRID,
+            Method::Normal,
+            &[(1, 4, THREE_HALVES), (4, 7, THREE_HALVES)],
+        ),
+        (25, 40, 16, 16),
+        &[
+            ((Origin::Vertex(1), Origin::Edge(1)), HALF),
+            ((Origin::Edge(1), Origin::Vertex(4)), HALF),
+            ((Origin::Vertex(4), Origin::Edge(7)), HALF),
+            ((Origin::Edge(7), Origin::Vertex(7)), HALF),
+        ],
+    ),
+    (
+        (
+            GRID,
+            Method::Chaikin,
+            &[(1, 4, THREE_HALVES), (4, 7, FIVE_HALVES)],
+        ),
+        (25, 40, 16, 16),
+        &[
+            ((Origin::Vertex(1), Origin::Edge(1)), HALF),
+            ((Origin::Edge(1), Origin::Vertex(4)), (3, 4)),
+            ((Origin::Vertex(4), Origin::Edge(7)), (5, 4)),
+            ((Origin::Edge(7), Origin::Vertex(7)), THREE_HALVES),
+        ],
+    ),
+];
+
+fn cases() -> &'static [Case] {
+    CASES
+}
+
+// The halves overflow at 2 and at 3.
+const FINE: Mesh = (
+    CUBE,
+    Method::Chaikin,
+    &[(1, 3, (1, TOP)), (3, 2, (1, TOP)), (2, 0, (1, TOP))],
+);
+
+fn fine() -> Mesh {
+    FINE
+}
+
+fn sharpness_of(rt: &impl Abort, (num, den): Fraction) -> Sharpness {
+    assert!(rt; 0 < den);
+    assert!(rt; den <= TOP);
+    Sharpness::new(num, den)
+}
+
+fn fraction_of(s: Sharpness) -> Fraction {
+    match s {
+        Sharpness::Smooth => ZERO,
+        Sharpness::Semi(value) => (value.num(), value.den()),
+        Sharpness::Infinite => INFINITE,
+    }
+}
+
+// The level of a mesh, with all its points complete.
+fn build<L: Ledger>(
+    rt: &impl Abort,
+    alloc: Global,
+    mesh: Mesh,
+    steps: &mut Steps<L>,
+) -> Result<Level, Memory> {
+    let (solid, method, edges) = mesh;
+    assert!(rt; solid.points < 100);
+    let start = Checked::new(alloc, solid.points, method, None)?;
+    let mut builder = with_faces(rt, start, solid.faces, steps)?;
+    for (a, b, s) in edges {
+        builder.add_sharp_edge(rt, *a, *b, sharpness_of(rt, *s));
+    }
+    for v in 0..solid.points {
+        builder.mark_complete(rt, v);
+    }
+    builder.finish(rt)
+}
+
+fn with_faces<L: Ledger>(
+    rt: &impl Abort,
+    start: Checked,
+    faces: &[&[u32]],
+    steps: &mut Steps<L>,
+) -> Result<Checked, Memory> {
+    let mut builder = start;
+    for corners in faces {
+        builder = builder.add_face(rt, corners, false, steps)?;
+    }
+    Ok(builder)
+}
+
+// Asserts that each point is complete.
+fn assert_whole(rt: &impl Abort, level: &Level)
+    ensures { (v : ℕ) → v < level.now.level.point_count → get_or level.now.complete v false ≡ true }
+{
+    for v in 0..level.points() {
+        assert!(rt; level.is_complete(v), "at {v}");
+    }
+}
+
+fn refine_counted<L: Ledger>(
+    rt: &impl Abort,
+    alloc: Global,
+    mesh: Mesh,
+    blank: Blank,
+) -> Result<Child, RefineFault>
+    requires name { blank.name ≡ L.name }
+    requires parts { blank.parts ≡ L.parts }
+    requires some { 0 < blank.parts }
+{
+    let mut steps = Steps::start(blank.open::<L>());
+    let level = build(rt, alloc, mesh, &mut steps)?;
+    assert!(rt; level.points() < 100);
+    assert_whole(rt, &level);
+    refine(alloc, &level, &mut steps)
+}
+
+// The next level of a mesh.
+fn refine_alone(rt: &impl Abort, alloc: Global, mesh: Mesh) -> Result<Child, RefineFault> {
+    refine_counted::<Brand>(rt, alloc, mesh, Blank::new(1))
+}
+
+// The edges of one face.
+fn boundary_of(alloc: Global, level: &Level) -> Result<Vec<u32>, Memory> {
+    let mut edges = Vec::new(alloc);
+    for e in 0..level.edges() {
+        if level.edge_faces(e).second.is_none() {
+            edges.push(e)?;
+        }
+    }
+    Ok(edges)
+}
+
+fn expect_counts(
+    rt: &impl Abort,
+    alloc: Global,
+    level: &Level,
+    want: (u32, u32, u32, usize),
+) -> Result<(), Memory> {
+    let (points, edges, faces, boundary) = want;
+    expect_same(rt, &level.points(), &points, &"points");
+    expect_same(rt, &level.edges(), &edges, &"edges");
+    expect_same(rt, &level.faces(), &faces, &"faces");
+    expect_same(
+        rt,
+        &boundary_of(alloc, level)?.len(),
+        &boundary,
+        &"boundary",
+    );
+    Ok(())
+}
+
+// Where the ends of an edge come from.
+fn origins_of(rt: &impl Abort, child: &Child, e: u32) -> (Origin, Origin)
+    requires { e < length (edges_of child.now.topology.level.polygons) }
+{
+    let level = child.level();
+    let (a, b) = level.edge_vertices(e);
+    assert!(rt; a < level.points());
+    assert!(rt; b < level.points());
+    (child.origin(a), child.origin(b))
+}
+
+fn expect_sharp(rt: &impl Abort, child: &Child, want: &[Sharp]) {
+    let mut rest = want.iter();
+    let level = child.level();
+    for e in 0..level.edges() {
+        let s = fraction_of(level.edge_sharpness(e));
+        if s != ZERO {
+            let sharp = (origins_of(rt, child, e), s);
+            expect_same(rt, &Some(&sharp), &rest.next(), &e);
+        }
+    }
+    expect_same(rt, &rest.next(), &None, &"sharp edges");
+}
+
+#[test]
+fn refines_a_cube_and_a_grid(rt: HostRuntime) -> Result<(), RefineFault> {
+    for case in cases() {
+        let (mesh, counts, sharp) = *case;
+        let child = refine_alone(&rt, rt.alloc(), mesh)?;
+        expect_counts(&rt, rt.alloc(), child.level(), counts)?;
+        expect_sharp(&rt, &child, sharp);
+    }
+    Ok(())
+}
+
+#[test]
+fn refuses_the_first_vertex_whose_halves_overflow(rt: HostRuntime) {
+    let result = refine_alone(&rt, rt.alloc(), fine());
+    expect_same(&rt, &result.err(), &Some(RefineFault::Chaikin(2)), &"fault");
+}
