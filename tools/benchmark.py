@@ -1,16 +1,17 @@
 #!/usr/bin/env python3
-"""Times `far levels depth=0` of the built program on large meshes, those among them that are made to take long.
+"""Times `far levels` of the built program on large meshes, those among them made to take long, and to deep levels.
 
-Each mesh is made as a text in a temporary folder, at its full size and at a quarter of it. The status and the first line
-are checked; a wrong one is told, and the exit status is then 1. A row has, for both sizes, the least time of some runs
-(whole processes, reading included) and the greatest peak memory, and then the exponent with which the time grows
-between them: 1.0 is linear. The machine may be busy, so only large differences mean something; peaks below some 15 MB
-are those of Python.
+Each mesh is made as a text in a temporary folder, mostly at two sizes. The status and the first line are checked; a
+wrong one is told, and the exit status is then 1. A row has, for each size, the faces of level 0, the least time of some
+runs (whole processes, reading included) and the greatest peak memory, and then the exponent with which the time grows
+between the sizes: 1.0 is linear. The machine may be busy, so only large differences mean something; peaks below some
+15 MB are those of Python.
 
     tools/benchmark.py --runs 5 --only wheel
     tools/benchmark.py --divide 1000 --program PROGRAM   # small meshes, to try a program that is slow
 
-The last mesh has triangles that share nothing, each with an edge whose hash under the key 0 is near those of the others.
+The triangles with colliding edges share nothing, and each has an edge whose hash under the key 0 is near those of the
+others.
 """
 
 import argparse
@@ -26,7 +27,6 @@ from multiprocessing import Process
 from pathlib import Path
 
 TOP = Path(__file__).resolve().parent.parent
-WORDS = ["levels", "depth=0"]
 GREATEST_SIZE = 2**16
 GOOD, BAD_MESH, TOO_LARGE = 0, 6, 7
 
@@ -102,16 +102,26 @@ def turned_torus(size):
     return side * side, last_turned(torus_faces(side), side * side), [], answer
 
 
+def sheet_faces(side):
+    wide = side + 1
+    corners = (row * wide + column for row in range(side) for column in range(side))
+    return ((k, k + 1, k + wide + 1, k + wide) for k in corners)
+
+
+def sheet(size):
+    side = math.isqrt(size)
+    points = (side + 1) ** 2
+    return points, sheet_faces(side), [], counted(points, 2 * side * (side + 1), side * side, 1, 4 * side, 0, 0, 0)
+
+
 def creased_sheet(size):
     """An open sheet whose boundary is hidden, with a crease along each row of points."""
     side = math.isqrt(size)
     wide = side + 1
-    corners = (row * wide + column for row in range(side) for column in range(side))
-    faces = ((k, k + 1, k + wide + 1, k + wide) for k in corners)
     rows = (" ".join(str(row * wide + column) for column in range(wide)) for row in range(wide))
     tags = ["t interpolateboundary 1/0/0 0"] + [f"t crease {wide}/1/0 {row} 3/2" for row in rows]
     counts = (wide * wide, 2 * side * wide, side * side, 1, 4 * side, 4 * side - 4, side * (side - 1), 0)
-    return wide * wide, faces, tags, counted(*counts)
+    return wide * wide, sheet_faces(side), tags, counted(*counts)
 
 
 # Edges that collide: SipHash with one round a word and three at the end. All hashes of a list are computed at once, each
@@ -181,17 +191,23 @@ def colliding(size):
     return numbers + size, faces, [], counted(numbers + size, 3 * size, size, size, 3 * size, 0, 0, 0)
 
 
-# The name of a mesh, how it is made, and its size.
+def with_quarter(size):
+    return size, size // 4
+
+
+# The name of a mesh, how it is made, the depth, and its sizes.
 MESHES = [
-    ("faces at one vertex, in one fan", wheel, 10**6),
-    ("faces at one vertex, in two fans", two_wheels, 10**6),
-    ("faces over one edge", one_edge, 10**6),
-    ("one face, by its corners", one_face, 10**6),
-    ("wheel of triangles", wheel, 65537),
-    ("torus of quads", torus, 2**20),
-    ("torus of quads, the last turned over", turned_torus, 2**20),
-    ("creased sheet of quads, hidden boundary", creased_sheet, 1023**2),
-    ("triangles with colliding edges", colliding, 300000),
+    ("faces at one vertex, in one fan", wheel, 0, with_quarter(10**6)),
+    ("faces at one vertex, in two fans", two_wheels, 0, with_quarter(10**6)),
+    ("faces over one edge", one_edge, 0, with_quarter(10**6)),
+    ("one face, by its corners", one_face, 0, with_quarter(10**6)),
+    ("wheel of triangles", wheel, 0, with_quarter(65537)),
+    ("torus of quads", torus, 0, with_quarter(2**20)),
+    ("torus of quads, the last turned over", turned_torus, 0, with_quarter(2**20)),
+    ("creased sheet of quads, hidden boundary", creased_sheet, 0, with_quarter(1023**2)),
+    ("triangles with colliding edges", colliding, 0, with_quarter(300000)),
+    ("sheet of quads, to level 3", sheet, 3, (141**2, 64**2)),
+    ("one quad, to level 10", sheet, 10, (1,)),
 ]
 
 
@@ -219,11 +235,11 @@ def made(folder, maker, size):
     return path
 
 
-def run_once(program, path):
+def run_once(program, depth, path):
     """The seconds, the peak memory in megabytes, and the status with the first line that is written."""
     with open(path, "rb") as source, tempfile.TemporaryFile() as sink:
         start = time.perf_counter()
-        process = subprocess.Popen([program] + WORDS, stdin=source, stdout=sink, stderr=sink)
+        process = subprocess.Popen([program, "levels", f"depth={depth}"], stdin=source, stdout=sink, stderr=sink)
         _, status, use = os.wait4(process.pid, 0)
         seconds = time.perf_counter() - start
         process.returncode = status >> 8 if os.WIFEXITED(status) else -os.WTERMSIG(status)
@@ -232,29 +248,35 @@ def run_once(program, path):
     return seconds, use.ru_maxrss / 1024, f"{process.returncode} {line}"
 
 
-def measured(program, path, runs):
+def measured(program, depth, path, runs):
     """The least seconds, the greatest peak, and the status; None in its place where an answer is not the wanted one."""
     wanted = path.with_suffix(".wanted").read_text().rstrip("\n")
-    answers = [run_once(program, path) for _ in range(runs)]
+    answers = [run_once(program, depth, path) for _ in range(runs)]
     wrong = [answer for _, _, answer in answers if answer != wanted]
     if wrong:
         print(f"wanted {wanted}\n   got {wrong[0]}")
     return min(answer[0] for answer in answers), max(answer[1] for answer in answers), None if wrong else wanted.split()[0]
 
 
+def exponent(sizes, seconds):
+    """That with which the time grows between two sizes; nothing of one size."""
+    return f"{math.log(seconds[0] / seconds[1]) / math.log(sizes[0] / sizes[1]):.2f}" if len(sizes) == 2 else ""
+
+
 def row(program, mesh, options):
     """Prints the row of a mesh, and tells whether all answers were the wanted ones."""
-    name, maker, size = mesh
-    sizes = [size // options.divide, size // options.divide // 4]
+    name, maker, depth, full_sizes = mesh
+    sizes = [max(size // options.divide, 1) for size in full_sizes]
     cells, seconds, good = [], [], True
     for faces in sizes:
         with tempfile.TemporaryDirectory() as folder:
-            least, peak, status = measured(program, made(folder, maker, faces), options.runs)
+            least, peak, status = measured(program, depth, made(folder, maker, faces), options.runs)
         good = good and status is not None
         seconds.append(least)
         cells.append(f"{faces:,} | {status or 'wrong'} | {least:.3f} | {peak:.0f}")
-    exponent = math.log(seconds[0] / seconds[1]) / math.log(sizes[0] / sizes[1])
-    print(f"| {name} | {' | '.join(cells)} | {exponent:.2f} |", flush=True)
+    if len(sizes) == 1:
+        cells.append(" | | |")
+    print(f"| {name} | {' | '.join(cells)} | {exponent(sizes, seconds)} |", flush=True)
     return good
 
 

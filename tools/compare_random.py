@@ -2,8 +2,8 @@
 """Compares the built program with `tools/reference.py` on random OBJ texts.
 
 Texts that are refined are made of lines that are good, bad or nearly bad, and of the cube and the refined cube with
-a few changes. Texts whose level 0 is counted are those of `tools/random_meshes.py`. The same seed makes the same
-texts. A text on which the two differ is printed, and the exit status is then 1.
+a few changes. Meshes whose levels are counted, to a depth from 0 to 3, are those of `tools/random_meshes.py`. The same
+seed makes the same texts and depths. A text on which the two differ is printed, and the exit status is then 1.
 
     tools/compare_random.py --seed 1 --count 3000 --meshes 1500
 """
@@ -21,7 +21,7 @@ from random_meshes import Meshes
 
 TOP = Path(__file__).resolve().parent.parent
 REFINE = ["refine", "depth=1"]
-LEVELS = ["levels", "depth=0"]
+GREATEST_DEPTH = 3
 CUBE = (TOP / "examples" / "cube.obj").read_bytes()
 NUMERALS = (
     ["1.", "-.5", ".", "+", "-", "nan", "0x1", "1e", "1e+", "--1", "-0", "00.10", "1e36", "1e37", "1e-37", "1e-38"]
@@ -181,17 +181,23 @@ class Texts:
         return data
 
 
-def agree(program, words, texts):
-    """Whether the program answers as the reference does with these words on all texts; tells how it does not."""
+def levels_of(depths, meshes):
+    """The words for a random mesh with a random depth, and its text."""
+    return ["levels", f"depth={depths.randint(0, GREATEST_DEPTH)}"], meshes.text()
+
+
+def agree(program, command, runs):
+    """Whether the program answers as the reference does in all runs of a command, each its words and its text; tells
+    how it does not."""
     statuses = Counter()
-    for data in texts:
+    for words, data in runs:
         run = subprocess.run([program] + words, input=data, capture_output=True)
         given = run.returncode, run.stdout, run.stderr
         statuses[run.returncode] += 1
         if given != expected(words, data):
             print(f"{' '.join(words)}: {data!r}\n  gives  {given}\n  wanted {expected(words, data)}")
             return False
-    print(f"{sum(statuses.values())} texts agree on {' '.join(words)}; by status: {dict(sorted(statuses.items()))}")
+    print(f"{sum(statuses.values())} texts agree on {command}; by status: {dict(sorted(statuses.items()))}")
     return True
 
 
@@ -200,11 +206,12 @@ def main():
     parser.add_argument("--program", default=TOP / "crates" / "far_cli" / "out" / "far_cli", help="the program to run")
     parser.add_argument("--seed", type=int, default=1, help="the seed of the texts")
     parser.add_argument("--count", type=int, default=1000, help="how many texts are refined")
-    parser.add_argument("--meshes", type=int, default=500, help="how many meshes have their level 0 counted")
+    parser.add_argument("--meshes", type=int, default=500, help="how many meshes have their levels counted")
     arguments = parser.parse_args()
     texts, meshes = Texts(arguments.seed), Meshes(arguments.seed)
-    refined = agree(arguments.program, REFINE, (texts.text() for _ in range(arguments.count)))
-    counted = agree(arguments.program, LEVELS, (meshes.text() for _ in range(arguments.meshes)))
+    depths = random.Random(f"depths of {arguments.seed}")
+    refined = agree(arguments.program, "refine", ((REFINE, texts.text()) for _ in range(arguments.count)))
+    counted = agree(arguments.program, "levels", (levels_of(depths, meshes) for _ in range(arguments.meshes)))
     return 0 if refined and counted else 1
 
 

@@ -1,21 +1,26 @@
 #!/usr/bin/env python3
-"""A plain, slow reference of `far levels depth=0`: what is wrong with a mesh, or the counts of its level 0.
+"""A plain, slow reference of `far levels`: what is wrong with a mesh or its levels, or the counts of each level.
 
-It is written from the definitions of `subdiv_model` (MeshFault, Manifold, Edges, Base, LevelText and Answer), and
-shares nothing with the program. `tools/reference.py` answers these words through it; alone it takes a mesh on
-standard input and no words.
+It is written from the definitions of `subdiv_model` (MeshFault, Manifold, Edges, Base, Child, Sharpness, Channel,
+LevelText and Answer), with `fractions.Fraction` for every sharpness, and shares nothing with the program.
+`tools/reference.py` answers these words through it; alone it takes the depth, and a mesh on standard input.
 
-    tools/level_reference.py < examples/cube.obj
+    tools/level_reference.py depth=2 < examples/cube.obj
 """
 
 import sys
 from collections import Counter, defaultdict
+from dataclasses import dataclass
+from math import inf, lcm
 
 from obj_reference import HIDDEN
-from run_reference import BAD_MESH, TOO_LARGE, Refusal, read_mesh, run
+from run_reference import BAD_MESH, OVERFLOW, TOO_LARGE, Refusal, check_words, depth_of, read_mesh, run
 
 GREATEST_COUNT = 2**20
 GREATEST_SIZE = 2**16
+GREATEST_LEVEL = 2**22
+GREATEST_DENOMINATOR = 2**60
+LEAST_INFINITE = 10
 
 
 # Sides, edges, and the faces that meet
@@ -69,6 +74,15 @@ class Faces:
 
     def is_boundary(self, edge):
         return len(self.faces_of_edge(edge)) == 1
+
+    def boundary(self):
+        return [edge for edge in self.edges if self.is_boundary(edge)]
+
+    def used_points(self):
+        return [point for point, faces in self.of_point.items() if faces]
+
+    def points_at_boundary(self):
+        return {end for edge in self.boundary() for end in edge}
 
 
 # What is wrong with a mesh
@@ -153,46 +167,162 @@ def check(points, mesh):
             raise Refusal(status, f"far: {fault}")
 
 
-# Level 0
+# Levels
 
 
-def sharp_edges(obj, mesh):
-    """The edges of two faces that are sharp; of the tags that name an edge, in either direction, the last counts."""
-    tagged = {unordered(pair): sharpness for pair, sharpness in obj.creases}
-    inner = [edge for edge in mesh.edges if len(mesh.faces_of_edge(edge)) == 2]
-    return [edge for edge in inner if tagged.get(unordered(edge), 0) > 0]
+@dataclass
+class Level:
+    """The number of points, the faces with what meets, the numbers of the faces that are holes, and the sharpness of
+    the edges that are sharp, by `unordered`. No count depends on the sharpness of vertices, which is left out."""
+
+    points: int
+    mesh: Faces
+    holes: set
+    sharpness: dict
+    method: bytes
 
 
-def holes(obj, mesh, at_boundary):
+def sharpness_of(value):
+    """A sharpness is a fraction below 10, or infinite."""
+    return value if value < LEAST_INFINITE else inf
+
+
+def base_sharpness(obj, mesh):
+    """Of the tags that name an edge, in either direction, the last counts; boundary edges are infinitely sharp."""
+    tagged = {unordered(pair): sharpness_of(value) for pair, value in obj.creases}
+    sharpness = {unordered(edge): tagged.get(unordered(edge), 0) for edge in mesh.edges}
+    sharpness.update((unordered(edge), inf) for edge in mesh.edges if mesh.is_boundary(edge))
+    return {edge: value for edge, value in sharpness.items() if value > 0}
+
+
+def base_holes(obj, mesh):
     """The faces that a tag names and, where the mode hides them, those with a point at the boundary."""
+    at_boundary = mesh.points_at_boundary()
     hidden = [number for number, face in enumerate(mesh.faces) if obj.mode == HIDDEN and at_boundary & set(face)]
     return set(obj.holes) | set(hidden)
 
 
-def extraordinary(points, mesh, at_boundary):
+def base_level(obj, mesh):
+    return Level(len(obj.points), mesh, base_holes(obj, mesh), base_sharpness(obj, mesh), obj.method)
+
+
+# The next level
+
+
+def child_faces(level):
+    """The faces of the next level, by face and then by corner: from the corner to the point of the edge after it, to
+    the face point, and to the point of the edge before it. Face points follow the points, and edge points come last."""
+    first_edge_point = level.points + len(level.mesh.faces)
+    place = {unordered(edge): first_edge_point + number for number, edge in enumerate(level.mesh.edges)}
+    return [
+        (corner, place[unordered((corner, after))], level.points + number, place[unordered((before, corner))])
+        for number, face in enumerate(level.mesh.faces)
+        for before, corner, after in zip(face[-1:] + face[:-1], face, face[1:] + face[:1])
+    ]
+
+
+def child_holes(level):
+    """The faces of the next level whose parents are holes."""
+    parents = [number for number, face in enumerate(level.mesh.faces) for _ in face]
+    return {child for child, parent in enumerate(parents) if parent in level.holes}
+
+
+def semi_sharp_at(level):
+    """The values of the semi-sharp edges at each point that has some."""
+    values = defaultdict(list)
+    for edge, value in level.sharpness.items():
+        if value < inf:
+            for end in edge:
+                values[end].append(value)
+    return values
+
+
+def overflows(values):
+    """Whether the chaikin halves of the semi-sharp edges at a point are over too great a denominator."""
+    denominators = [value.denominator for value in values]
+    return len(values) >= 2 and 4 * (len(values) - 1) * lcm(*denominators) > GREATEST_DENOMINATOR
+
+
+def half_sharpness(method, value, values):
+    """The sharpness of the half of an edge at a point, where `values` are those of all semi-sharp edges there."""
+    if value == inf:
+        return inf
+    if method == b"chaikin" and len(values) >= 2:
+        value = value * 3 / 4 + (sum(values) - value) / (4 * (len(values) - 1))
+    return sharpness_of(max(value - 1, 0))
+
+
+def child_sharpness(level):
+    """The sharpness of the halves that are sharp; the edges inside the faces are smooth. An edge point has a greater
+    number than the ends of its edge, so that the key of a half is in order."""
+    first_edge_point = level.points + len(level.mesh.faces)
+    values, halves = semi_sharp_at(level), {}
+    for number, edge in enumerate(level.mesh.edges):
+        value = level.sharpness.get(unordered(edge), 0)
+        for end in edge if value > 0 else ():
+            halves[end, first_edge_point + number] = half_sharpness(level.method, value, values[end])
+    return {half: value for half, value in halves.items() if value > 0}
+
+
+def child_level(level, number):
+    """The next level, which has this number, or the Refusal of a denominator that is too great for it."""
+    if level.method == b"chaikin" and any(map(overflows, semi_sharp_at(level).values())):
+        raise Refusal(OVERFLOW, f"far: positions level {number}: chaikin overflow")
+    points = level.points + len(level.mesh.faces) + len(level.mesh.edges)
+    return Level(points, Faces(child_faces(level)), child_holes(level), child_sharpness(level), level.method)
+
+
+# Texts
+
+
+def check_depth(faces, depth):
+    """Refuses a depth by the first level after level 0 that has too many faces."""
+    count = sum(map(len, faces))
+    for number in range(1, depth + 1):
+        if count > GREATEST_LEVEL:
+            raise Refusal(TOO_LARGE, f"far: level {number} has {count} faces")
+        count *= 4
+
+
+def sharp_edges(level):
+    """The edges of two faces that are sharp."""
+    return [edge for edge in level.sharpness if len(level.mesh.faces_of_edge(edge)) == 2]
+
+
+def extraordinary(level):
     """The points inside the mesh that have faces and another number of edges than four."""
-    inside = [vertex for vertex in range(points) if mesh.of_point[vertex] and vertex not in at_boundary]
-    return [vertex for vertex in inside if len(mesh.edges_of_point[vertex]) != 4]
+    mesh, at_boundary = level.mesh, level.mesh.points_at_boundary()
+    return [point for point in mesh.used_points() if point not in at_boundary and len(mesh.edges_of_point[point]) != 4]
 
 
-def level_line(obj, mesh):
-    points, faces, edges = len(obj.points), len(mesh.faces), len(mesh.edges)
-    used = sum(1 for vertex in range(points) if mesh.of_point[vertex])
-    boundary = [edge for edge in mesh.edges if mesh.is_boundary(edge)]
-    at_boundary = {end for edge in boundary for end in edge}
+def level_line(number, level):
+    mesh = level.mesh
+    faces, edges, used = len(mesh.faces), len(mesh.edges), len(mesh.used_points())
     return (
-        f"level 0 points {points} edges {edges} faces {faces} euler {used + faces - edges} boundary {len(boundary)}"
-        f" holes {len(holes(obj, mesh, at_boundary))} sharp {len(sharp_edges(obj, mesh))}"
-        f" extraordinary {len(extraordinary(points, mesh, at_boundary))}\n"
+        f"level {number} points {level.points} edges {edges} faces {faces} euler {used + faces - edges}"
+        f" boundary {len(mesh.boundary())} holes {len(level.holes)} sharp {len(sharp_edges(level))}"
+        f" extraordinary {len(extraordinary(level))}\n"
     )
 
 
-def levels_text(obj):
+def levels_text(obj, depth):
     """The text of a mesh that was read, or its Refusal."""
     mesh = Faces(obj.faces)
     check(len(obj.points), mesh)
-    return level_line(obj, mesh)
+    check_depth(obj.faces, depth)
+    level = base_level(obj, mesh)
+    lines = [level_line(0, level)]
+    for number in range(1, depth + 1):
+        level = child_level(level, number)
+        lines.append(level_line(number, level))
+    return "".join(lines)
+
+
+def answer(words, source):
+    """The text for the words that follow `levels`, or a Refusal."""
+    check_words([b"levels", *words])
+    return levels_text(read_mesh(source), depth_of(words[0]))
 
 
 if __name__ == "__main__":
-    sys.exit(run(lambda words, source: levels_text(read_mesh(source))))
+    sys.exit(run(answer))

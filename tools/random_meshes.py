@@ -8,6 +8,9 @@ from itertools import product
 from make_examples import surface
 
 SHARPNESSES = ["0", "0/3", "1/2", "1", "3/2", "2.5", "0.000001", "19/2", "10", "1e9", "20000003/1000001"]
+# Where edges at a point have all three, their common denominator is too great at level 1, or only at level 2.
+TOO_FINE_AT_ONCE = ["1/999999", "1/999998", "999996/999997"]
+TOO_FINE_LATER = ["1500006/300001", "1500001/300000", "1499996/299999"]
 
 
 def grid(rows, columns, closed_rows, closed_columns):
@@ -166,10 +169,25 @@ class Meshes:
         sharpness = self.random.choices(SHARPNESSES, k=len(chain) - 1 if several else 1)
         return f"t crease {len(chain)}/{len(sharpness)}/0 {' '.join(map(str, chain))} {' '.join(sharpness)}"
 
+    def spokes(self, count, faces):
+        """A crease that goes to and fro between a point and its neighbours, and so gives several edges there their own
+        sharpness; where there is no face, a crease between any points."""
+        if not faces:
+            return self.crease(count, faces)
+        center = self.random.choice(self.random.choice(faces))
+        ends = sorted({face[face.index(center) - 1] for face in faces if center in face})
+        self.random.shuffle(ends)
+        chain = [center] + [point for end in ends[:6] for point in (end, center)]
+        values = self.random.choice([SHARPNESSES, SHARPNESSES, TOO_FINE_AT_ONCE, TOO_FINE_LATER])
+        sharpness = self.random.choices(values, k=len(chain) - 1)
+        return f"t crease {len(chain)}/{len(sharpness)}/0 {' '.join(map(str, chain))} {' '.join(sharpness)}"
+
     def tag(self, count, faces):
-        kind = self.random.choice(["crease"] * 6 + ["corner", "hole", "hole", "mode", "mode", "method"])
+        kind = self.random.choice(["crease", "spokes", "method"] * 3 + ["corner", "hole", "hole", "mode", "mode"])
         if kind == "crease":
             return self.crease(count, faces)
+        if kind == "spokes":
+            return self.spokes(count, faces)
         if kind == "corner":
             return f"t corner 1/1/0 {self.random.randrange(count)} {self.random.choice(SHARPNESSES)}"
         if kind == "hole":
@@ -177,7 +195,7 @@ class Meshes:
             return f"t hole 1/0/0 {self.random.randrange(len(faces)) if faces and self.happens(0.98) else len(faces)}"
         if kind == "mode":
             return f"t interpolateboundary 1/0/0 {self.random.randint(0, 2)}"
-        return f"t creasemethod 0/0/1 {self.random.choice(['normal', 'chaikin'])}"
+        return f"t creasemethod 0/0/1 {self.random.choice(['normal', 'chaikin', 'chaikin'])}"
 
     def corner(self, vertex, textured):
         return f"{vertex + 1}/{self.random.randint(1, 4)}" if textured else str(vertex + 1)

@@ -1,6 +1,6 @@
 #!/usr/bin/env python3
 """A plain, slow reference of the program: of `far refine depth=1`, and through `tools/level_reference.py` of
-`far levels depth=0`.
+`far levels`.
 
 It is written from docs/formats.md and docs/rules.md alone, with whole lists that are scanned and
 `fractions.Fraction` for every value, and shares nothing with the program. It takes the program's words,
@@ -155,8 +155,9 @@ def refined_text(mesh):
 def answer(words, source):
     """The text that the program writes for these words (a list of bytes) and this input, or a Refusal."""
     check_words(words)
-    mesh = read_mesh(source)
-    return level_reference.levels_text(mesh) if words[0] == b"levels" else refined_text(mesh)
+    if words[0] == b"levels":
+        return level_reference.answer(words[1:], source)
+    return refined_text(read_mesh(source))
 
 
 if __name__ == "__main__":

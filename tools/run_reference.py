@@ -6,9 +6,10 @@ import sys
 from obj_reference import Fault, read_obj
 
 GREATEST_INPUT = 2**28
-NOT_UNDERSTOOD, TOO_LONG, BAD_LINE, BAD_MESH, TOO_LARGE, NOT_BUILT = 2, 4, 5, 6, 7, 12
-# The one option that each command has today, with its value; it must be there.
-COMMANDS = {b"refine": b"depth=1", b"levels": b"depth=0"}
+NOT_UNDERSTOOD, TOO_LONG, BAD_LINE, BAD_MESH, TOO_LARGE, OVERFLOW, NOT_BUILT = 2, 4, 5, 6, 7, 8, 12
+GREATEST_DEPTH = 10
+# The one option that each command has today, with its values; it must be there.
+COMMANDS = {b"refine": [b"depth=1"], b"levels": [b"depth=%d" % depth for depth in range(GREATEST_DEPTH + 1)]}
 
 
 class Refusal(Exception):
@@ -23,11 +24,16 @@ class Refusal(Exception):
 def check_words(words):
     """Accepts a command with its option; refuses other words by the place of the first bad one."""
     for place, word in enumerate(words):
-        understood = word in COMMANDS if place == 0 else place == 1 and word == COMMANDS[words[0]]
+        understood = word in COMMANDS if place == 0 else place == 1 and word in COMMANDS[words[0]]
         if not understood:
             raise Refusal(NOT_UNDERSTOOD, f"far: word {place} is not understood")
     if len(words) < 2:
         raise Refusal(NOT_UNDERSTOOD, f"far: word {len(words)} is not understood")
+
+
+def depth_of(word):
+    """The number of a word such as depth=2."""
+    return int(word.removeprefix(b"depth="))
 
 
 def are_text(words):
