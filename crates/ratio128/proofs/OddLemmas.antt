@@ -5,7 +5,7 @@ use Rattle.std.proofs.lemmas.Bool.{cases_lt}
 use Rattle.std.proofs.lemmas.Nat.{pow_pos, pow-add, shr-shr}
 use Rattle.std.proofs.lemmas.Nat.Bits.{bit_at-suc, bit_at_lowest, bit_at-trailing_zeros}
 use Rattle.std.proofs.lemmas.Nat.Gcd.{dvd_trans, dvd_of_mod-eq-zero, mod-eq-zero_of_dvd, le_of_dvd, IsGcd-swap}
-use Rattle.std.proofs.Math.Nat.{mul_comm, mul_assoc, dvd-mul_left, dvd-mul_right, dvd-sub, pow-suc, mul-one, div-one, min-eq_left, min-eq_right}
+use Rattle.std.proofs.Math.Nat.{mul_comm, mul_assoc, div-div-eq-div-mul, dvd-mul_left, dvd-mul_right, dvd-sub, pow-suc, mul-one, div-one, min-eq_left, min-eq_right}
 use Rattle.ratio128.proofs.LcmLemmas.{IsGcd-scaled}
 
 -- a number whose lowest bits are 0 is a multiple of that power of two
@@ -95,3 +95,13 @@ gcd-from-odds a b p q i j g m some fits one two left right is least =
     let within : g * 2 ^ m ≤ a = le_of_dvd some both.0 in
     let same : g * 2 ^ m % 2 ^ 128 ≡ g * 2 ^ m = omega arith in
     subst (λ (n : ℕ). IsGcd a b n) (sym same) both
+
+-- a divisor may give up its factors of two, and what it divides as many
+pub quotient-without-twos : (a b : ℕ) → 0 < b → b < 2 ^ 128 → a / 2 ^ trailing_zeros w128 b / (b / 2 ^ trailing_zeros w128 b) ≡ a / b
+quotient-without-twos a b some fits =
+    let twos = trailing_zeros w128 b in
+    div-div-eq-div-mul a (2 ^ twos) (b / 2 ^ twos)
+    ∙ ap (λ n. a / n) (mul_comm (2 ^ twos) (b / 2 ^ twos) ∙ odd-part-whole b some fits)
+
+pub odd-part-positive : (b : ℕ) → 0 < b → b < 2 ^ 128 → 0 < b / 2 ^ trailing_zeros w128 b
+odd-part-positive b some fits = let odd = odd-part b some fits in omega (arith, odd)

@@ -1,1 +1,2 @@
 pub mod Ratio
+pub mod Numbers

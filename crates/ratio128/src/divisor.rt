@@ -3,6 +3,7 @@ ghost use Rattle.std.specs.Int.{IsGcd};
 ghost use Rattle.ratio128.specs.Ratio.{signed_like};
 
 use crate::euclid::{gcd_of_wide, odd_part};
+use crate::quotient;
 
 /// The greatest common divisor: the one that every common divisor divides. It is 0 for two zeros.
 pub fn gcd(a: u128, b: u128) -> u128
@@ -39,8 +40,8 @@ pub fn lowest(num: i128, den: u128) -> Frac
     let amount = num.unsigned_abs();
     let common = gcd(amount, den);
     Frac {
-        num: with_sign_of(num, amount / common),
-        den: den / common,
+        num: with_sign_of(num, quotient(amount, common)),
+        den: quotient(den, common),
     }
 }
 

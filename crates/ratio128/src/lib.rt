@@ -1,16 +1,20 @@
-//! Whole numbers of 128 bits: divisors and multiples, fractions in lowest terms, points, and
-//! a counter of steps. No call takes memory.
+//! Whole numbers of 128 bits: quotients, divisors and multiples, fractions in lowest terms, points, lists
+//! of numbers that are refined as one, and a counter of steps. No call takes memory.
 #![tactic(auto)]
 
+mod division;
 mod divisor;
 mod euclid;
 mod memory;
 mod multiple;
 mod point;
+mod primvar;
 mod steps;
 
+pub use division::quotient;
 pub use divisor::{Frac, gcd, lowest};
 pub use memory::Memory;
 pub use multiple::{lcm_within, times_within};
 pub use point::{Point2, Point3};
+pub use primvar::Primvar;
 pub use steps::Steps;

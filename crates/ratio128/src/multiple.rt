@@ -1,7 +1,7 @@
 ghost use Rattle.std.specs.Prelude.{◌≡◌, ℕ, ◌*◌, ◌<◌, ◌≤◌, IsNone, IfSome, IfNone, ◌↔◌};
 ghost use Rattle.ratio128.specs.Ratio.{IsLcm};
 
-use crate::gcd;
+use crate::{gcd, quotient};
 
 /// The product, where it is at most the bound. `None` comes exactly where it passes the bound.
 pub fn times_within(a: u128, b: u128, bound: u128) -> Option<u128>
@@ -22,5 +22,5 @@ pub fn lcm_within(a: u128, b: u128, bound: u128) -> Option<u128>
     ensures within { IfSome result (λ m. m ≤ bound) }
 {
     let common = gcd(a, b);
-    times_within(a, b / common, bound)
+    times_within(a, quotient(b, common), bound)
 }
