@@ -9,3 +9,4 @@ pub mod VertexLemmas
 pub mod SharpLemmas
 pub mod EqualLemmas
 mod RoomLemmas
+pub mod SmoothLemmas

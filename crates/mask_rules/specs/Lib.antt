@@ -3,3 +3,4 @@ pub mod Masks
 pub mod Spread
 pub mod Around
 pub mod Room
+pub mod Smooth

@@ -10,6 +10,7 @@ mod face;
 pub mod laws;
 mod mask;
 mod ring;
+mod smooth;
 mod transition;
 mod vertex;
 

@@ -1,0 +1,61 @@
+//! A vertex at which nothing is sharp, as most are: its mask needs no rings.
+
+ghost use Rattle.std.specs.Prelude.{◌≡◌, ◌<◌, true, false, IfErr, MatchResult};
+ghost use Rattle.std.specs.List.{list_any};
+ghost use Rattle.subdiv_model.specs.Sharpness.{Smooth, is_sharp};
+ghost use Rattle.sharpness_rules.specs.View.{sharpness_of};
+ghost use Rattle.mask_rules.specs.View.{seen_vertex};
+ghost use Rattle.mask_rules.specs.Masks.{IsJoinedAs};
+ghost use Rattle.mask_rules.specs.Around.{ring_in, mask_in, is_refused_in, IsFaultWhere, HasFewTerms};
+ghost use Rattle.mask_rules.specs.Smooth.{IsSmoothAt};
+
+use crate::mask::MaskFault;
+use crate::vertex::{VertexMask, one_rule};
+use level_topology::Level;
+use sharpness_rules::{Rule, Sharpness};
+use std::alloc::Global;
+
+fn is_smooth(s: Sharpness) -> bool
+    ensures { result ≡ true → sharpness_of s ≡ Smooth }
+{
+    matches!(s, Sharpness::Smooth)
+}
+
+// Whether no edge at the vertex is sharp.
+fn are_smooth(level: &Level, v: u32) -> bool
+    requires { v < level.now.level.point_count }
+    ensures { result ≡ true → list_any is_sharp (ring_in level.now v) ≡ false }
+{
+    level.facts();
+    for e in level.vertex_edges(v) {
+        if !is_smooth(level.edge_sharpness(*e)) {
+            return false;
+        }
+    }
+    true
+}
+
+/// Whether the vertex has edges, and neither it nor one of them is sharp.
+pub(crate) fn is_smooth_at(level: &Level, v: u32) -> bool
+    requires { v < level.now.level.point_count }
+    ensures { result ≡ true → IsSmoothAt level.now v }
+{
+    level.facts();
+    !level.vertex_edges(v).is_empty()
+        && is_smooth(level.vertex_sharpness(v))
+        && are_smooth(level, v)
+}
+
+/// The mask of such a vertex, in the order of the level's lists.
+pub(crate) fn smooth_mask(alloc: Global, level: &Level, v: u32) -> Result<VertexMask, MaskFault>
+    requires known { v < level.now.level.point_count }
+    requires smooth { IsSmoothAt level.now v }
+    ensures mask { MatchResult result (λ m. IsJoinedAs (seen_vertex m) (mask_in level.now v) × (is_refused_in level.now v ≡ false))
+        (IsFaultWhere (is_refused_in level.now v)) }
+    ensures few { HasFewTerms level.now v → IfErr result (λ fault. fault ≡ MaskFault.Transition) }
+{
+    match one_rule(alloc, level, v, Rule::Smooth) {
+        Ok(mask) => Ok(mask),
+        Err(_) => Err(MaskFault::Memory),
+    }
+}
