@@ -1,0 +1,16 @@
+//! Laws of what is read of an OBJ text.
+//!
+//! Each public function here takes nothing, does nothing and returns nothing: its clauses are the laws.
+#![tactic(auto)]
+
+ghost use Rattle.std.specs.Prelude.{◌≡◌, ℕ, ◌≤◌, ◌^◌, List, None};
+ghost use Rattle.std.specs.List.{All};
+ghost use Rattle.subdiv_model.specs.ReadObj.{read_obj_fault, read_obj_mesh};
+ghost use Rattle.reading_laws.specs.Short.{IsShortPoint};
+
+/// The coordinates of a text without fault are less than 10^37 in amount over their common denominator, where that is at
+/// most 10^37.
+pub fn coordinates_are_short()
+    ensures { (text : List ℕ) (least : ℕ) → read_obj_fault text least ≡ None → (read_obj_mesh text least).common ≤ 10 ^ 37
+        → All IsShortPoint (read_obj_mesh text least).points }
+{}
