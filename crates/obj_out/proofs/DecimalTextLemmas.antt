@@ -1,42 +1,39 @@
 -- The digits of a number, the highest first, and the text of a number with decimals.
-use Rattle.std.proofs.Common.{◌≡◌, ◌≢◌, ℕ, zero, suc, ◌+◌, ◌-◌, ◌*◌, ◌/◌, ◌%◌, ◌^◌, ◌<◌, ◌≤◌, ℤ, List, [], ◌∷◌, ◌++◌, unsigned_abs, arith, lit<, refl, append_assoc, ap, sym, ◌∙◌}
-use Rattle.std.specs.Prelude.{codes}
-use Rattle.std.proofs.Math.Nat.{mul_assoc, mul_comm, div-one, pow-suc, div-div-eq-div-mul, one-le-pow, mul-div_cancel}
+use Rattle.std.proofs.Common.{◌≡◌, ◌≢◌, ℕ, zero, suc, ◌+◌, ◌*◌, ◌/◌, ◌%◌, ◌^◌, ◌<◌, ◌≤◌, ℤ, List, [], ◌∷◌, ◌++◌, length, length-append, unsigned_abs, arith, lit<, refl, append_assoc, ap, sym, ◌∙◌}
+use Rattle.std.specs.Prelude.{codes, decimal}
+use Rattle.std.proofs.Math.Nat.{mul_assoc, pow-suc, one-le-pow, pow-le-pow_right}
 use Rattle.std.proofs.lemmas.Nat.{div-mul-add}
+use Rattle.number_laws.proofs.DecimalLemmas.{number_text-step, decimal-number_text}
 use Rattle.subdiv_model.specs.NumberText.{number_text, last_digits, decimal_text, half_to_even, rounded_sign, rounded_text}
 
--- a tenth of a power of ten
-pub tenth : (left unit : ℕ) → 0 < left → unit ≡ 10 ^ left → unit / 10 ≡ 10 ^ (left - 1)
-tenth zero unit some e = absurd (omega arith)
-tenth (suc k) unit some e =
-    let same : suc k - 1 ≡ k = omega arith in
-    ap (λ m. m / 10) (e ∙ pow-suc 10 k) ∙ mul-div_cancel (10 ^ k) (lit< tt) ∙ ap (λ m. 10 ^ m) (sym same)
+-- a power of ten and less than that is a 1 before the last digits
+one-before : (d n : ℕ) → n < 10 ^ d → number_text (10 ^ d + n) ≡ 49 ∷ last_digits d n
+one-before zero n below = let one : 10 ^ zero + n ≡ 1 = omega arith in ap number_text one
+one-before (suc d) n below =
+    let ten = pow-suc 10 d in
+    let some : 1 ≤ 10 ^ d = one-le-pow d 10 (lit< tt) in
+    let high : (10 ^ suc d + n) / 10 ≡ 10 ^ d + n / 10 = omega (arith, ten) in
+    let low : (10 ^ suc d + n) % 10 ≡ n % 10 = omega (arith, ten) in
+    number_text-step (10 ^ suc d + n) (omega (arith, ten, some))
+    ∙ ap (λ m. number_text m ++ (((10 ^ suc d + n) % 10 + 48) ∷ [])) high
+    ∙ ap (λ ds. ds ++ (((10 ^ suc d + n) % 10 + 48) ∷ [])) (one-before d (n / 10) (omega (arith, ten, below)))
+    ∙ ap (λ m. (49 ∷ last_digits d (n / 10)) ++ ((m + 48) ∷ [])) low
 
-pub tenth-positive : (left unit : ℕ) → 0 < left → unit ≡ 10 ^ left → 0 < unit / 10
-tenth-positive left unit some e =
-    let one : 1 ≤ 10 ^ (left - 1) = one-le-pow (left - 1) 10 (lit< tt) in
-    let same : unit / 10 ≡ 10 ^ (left - 1) = tenth left unit some e in omega arith
+length-last_digits : (d n : ℕ) → length (last_digits d n) ≡ d
+length-last_digits zero n = refl
+length-last_digits (suc d) n =
+    length-append (last_digits d (n / 10)) ((n % 10 + 48) ∷ []) ∙ omega (arith, length-last_digits d (n / 10))
 
--- the highest of the last digits stands before the others
-highest-first : (k n : ℕ) → last_digits (suc k) n ≡ (n / 10 ^ k % 10 + 48) ∷ last_digits k n
-highest-first zero n = ap (λ m. (m % 10 + 48) ∷ []) (sym (div-one n))
-highest-first (suc k) n =
-    let deeper : n / 10 / 10 ^ k ≡ n / 10 ^ suc k =
-    div-div-eq-div-mul n 10 (10 ^ k) ∙ ap (λ m. n / m) (mul_comm 10 (10 ^ k) ∙ sym (pow-suc 10 k)) in
-    ap (λ ds. ds ++ ((n % 10 + 48) ∷ [])) (highest-first k (n / 10)) ∙ ap (λ m. (m % 10 + 48) ∷ (last_digits k (n / 10) ++ ((n % 10 + 48) ∷ []))) deeper
+pub power-short : (digits n : ℕ) → digits ≤ 18 → n < 10 ^ digits → 10 ^ digits + n < 2000000000000000000
+power-short digits n few below = let most : 10 ^ digits ≤ 10 ^ 18 = pow-le-pow_right (lit< tt) few in omega arith
 
-pub digit-more : (old now new : List ℕ) (left unit n digits : ℕ) → 0 < left → unit ≡ 10 ^ left → new ≡ now ++ ((n / (unit / 10) % 10 + 48) ∷ []) →
-    now ++ last_digits left n ≡ old ++ last_digits digits n → new ++ last_digits (left - 1) n ≡ old ++ last_digits digits n
-digit-more old now new zero unit n digits some e h p = absurd (omega arith)
-digit-more old now new (suc k) unit n digits some e h p =
-    let same : suc k - 1 ≡ k = omega arith in
-    let power : unit / 10 ≡ 10 ^ k = tenth (suc k) unit some e ∙ ap (λ m. 10 ^ m) same in
-    ap (λ m. new ++ last_digits m n) same
-    ∙ ap (λ r. r ++ last_digits k n) h
-    ∙ append_assoc now ((n / (unit / 10) % 10 + 48) ∷ []) (last_digits k n)
-    ∙ ap (λ m. now ++ ((n / m % 10 + 48) ∷ last_digits k n)) power
-    ∙ ap (λ r. now ++ r) (sym (highest-first k n))
-    ∙ p
+-- what is written of it, and how long that is
+pub written-with-one : (digits n p : ℕ) (text : List ℕ) → digits ≤ 18 → n < 10 ^ digits → p ≡ 10 ^ digits → text ≡ decimal (p + n) → text ≡ 49 ∷ last_digits digits n
+written-with-one digits n p text few below e is =
+    is ∙ ap (λ m. decimal (m + n)) e ∙ decimal-number_text (10 ^ digits + n) (omega (arith, power-short digits n few below)) ∙ one-before digits n below
+
+pub length-with-one : (digits n : ℕ) (text : List ℕ) → text ≡ 49 ∷ last_digits digits n → length text ≡ digits + 1
+length-with-one digits n text is = ap length is ∙ omega (arith, length-last_digits digits n)
 
 -- the last digits do not see what stands before them
 last-digits-rest : (d whole units : ℕ) → last_digits d (whole * 10 ^ d + units) ≡ last_digits d units

@@ -1,6 +1,6 @@
 -- Division to so many decimals, and rounding half to even.
-use Rattle.std.proofs.Common.{◌≡◌, ◌≢◌, ℕ, zero, suc, ◌+◌, ◌*◌, ◌/◌, ◌%◌, ◌^◌, ◌<◌, ◌≤◌, Bool, true, false, ◌&&◌, ◌||◌, nat_eq, nat_lt, if◌then◌else◌, arith, lit<, refl, ap, sym, ◌∙◌}
-use Rattle.std.proofs.Math.Nat.{mul_assoc, pow-suc, pow-le-pow_right, mod-add-div'}
+use Rattle.std.proofs.Common.{◌≡◌, ◌≢◌, ℕ, zero, suc, ◌+◌, ◌-◌, ◌*◌, ◌/◌, ◌%◌, ◌^◌, ◌<◌, ◌≤◌, Bool, true, false, ◌&&◌, ◌||◌, nat_eq, nat_lt, if◌then◌else◌, arith, lit<, refl, ap, sym, ◌∙◌}
+use Rattle.std.proofs.Math.Nat.{mul_assoc, pow-suc, pow-le-pow_right, one-le-pow, mod-add-div', mod-eq-sub-div-mul, div-mul-le_self, mul-lt-mul_of_pos_right, lt_of_mul-lt-mul_right}
 use Rattle.std.proofs.lemmas.Grind.{pow_more}
 use Rattle.std.proofs.lemmas.Nat.{div-mul-add, mod-mul-add}
 use Rattle.subdiv_model.specs.NumberText.{goes_up, half_to_even}
@@ -44,18 +44,36 @@ chosen n den q r last up quotient rest odd e =
     ∙ ap (λ m. if goes_up q m den then q + 1 else q) rest
     ∙ ap (λ b. if b then q + 1 else q) (sym (goes-up-same last q r den odd) ∙ sym e)
 
--- a quotient that goes up, and one that stays
-pub rounded-up : (amount den d q r last : ℕ) (up : Bool) → r < den → q * den + r ≡ amount % den * 10 ^ d → last % 2 ≡ (amount / den * 10 ^ d + q) % 2 →
-    up ≡ goes_up last r den → up ≡ true → amount / den * 10 ^ d + q + 1 ≡ half_to_even (amount * 10 ^ d) den
-rounded-up amount den d q r last up below whole odd e is =
-    sym (chosen (amount * 10 ^ d) den (amount / den * 10 ^ d + q) r last true (quotient-units amount den (10 ^ d) q r below whole)
-    (rest-units amount den (10 ^ d) q r below whole) odd (sym is ∙ e))
+-- what is left of the amount, from its whole part
+left-over : (amount den whole t q r : ℕ) → whole ≡ amount / den → q * den + r ≡ (amount - whole * den) * t → q * den + r ≡ amount % den * t
+left-over amount den whole t q r is e =
+    e ∙ ap (λ w. (amount - w * den) * t) is ∙ ap (λ m. m * t) (sym (mod-eq-sub-div-mul amount den))
 
-pub rounded-down : (amount den d q r last : ℕ) (up : Bool) → r < den → q * den + r ≡ amount % den * 10 ^ d → last % 2 ≡ (amount / den * 10 ^ d + q) % 2 →
-    up ≡ goes_up last r den → up ≡ false → amount / den * 10 ^ d + q ≡ half_to_even (amount * 10 ^ d) den
-rounded-down amount den d q r last up below whole odd e is =
-    sym (chosen (amount * 10 ^ d) den (amount / den * 10 ^ d + q) r last false (quotient-units amount den (10 ^ d) q r below whole)
-    (rest-units amount den (10 ^ d) q r below whole) odd (sym is ∙ e))
+-- a quotient that goes up, and one that stays
+pub rounded-up : (amount den d q r last whole : ℕ) (up : Bool) → whole ≡ amount / den → r < den → q * den + r ≡ (amount - whole * den) * 10 ^ d →
+    last % 2 ≡ (whole * 10 ^ d + q) % 2 → up ≡ goes_up last r den → up ≡ true → whole * 10 ^ d + q + 1 ≡ half_to_even (amount * 10 ^ d) den
+rounded-up amount den d q r last whole up is below cut odd e goes =
+    let low = left-over amount den whole (10 ^ d) q r is cut in
+    ap (λ w. w * 10 ^ d + q + 1) is
+    ∙ sym (chosen (amount * 10 ^ d) den (amount / den * 10 ^ d + q) r last true (quotient-units amount den (10 ^ d) q r below low)
+    (rest-units amount den (10 ^ d) q r below low) (odd ∙ ap (λ w. (w * 10 ^ d + q) % 2) is) (sym goes ∙ e))
+
+pub rounded-down : (amount den d q r last whole : ℕ) (up : Bool) → whole ≡ amount / den → r < den → q * den + r ≡ (amount - whole * den) * 10 ^ d →
+    last % 2 ≡ (whole * 10 ^ d + q) % 2 → up ≡ goes_up last r den → up ≡ false → whole * 10 ^ d + q ≡ half_to_even (amount * 10 ^ d) den
+rounded-down amount den d q r last whole up is below cut odd e stays =
+    let low = left-over amount den whole (10 ^ d) q r is cut in
+    ap (λ w. w * 10 ^ d + q) is
+    ∙ sym (chosen (amount * 10 ^ d) den (amount / den * 10 ^ d + q) r last false (quotient-units amount den (10 ^ d) q r below low)
+    (rest-units amount den (10 ^ d) q r below low) (odd ∙ ap (λ w. (w * 10 ^ d + q) % 2) is) (sym stays ∙ e))
+
+-- the decimals of a fraction below 1 are below their unit
+pub units-below : (rest den d t units : ℕ) → rest < den → t ≡ 10 ^ d → units ≡ rest * t / den → units < 10 ^ d
+units-below rest den d t units below e is =
+    let some : 1 ≤ 10 ^ d = one-le-pow d 10 (lit< tt) in
+    let less : rest * t < den * t = mul-lt-mul_of_pos_right {m = rest} {n = den} {k = t} below (omega (arith, e, some)) in
+    let most : rest * t / den * den ≤ rest * t = div-mul-le_self (rest * t) den in
+    let turned : units * den < t * den = omega (arith, less, most, ap (λ u. u * den) is) in
+    omega (arith, e, lt_of_mul-lt-mul_right den {m = units} {n = t} turned)
 
 -- the number in units of the last decimal is odd where its last decimal is, or the whole number where there are none
 pub odd-none : (d whole units : ℕ) → d ≡ 0 → units < 10 ^ d → whole % 2 ≡ (whole * 10 ^ d + units) % 2

@@ -1,6 +1,6 @@
 //! The texts of numbers, put behind what waits.
 
-ghost use Rattle.std.specs.Prelude.{◌≡◌, ℕ, ◌+◌, ◌*◌, ◌/◌, ◌%◌, ◌<◌, ◌≤◌, ◌^◌, ℤ, unsigned_abs, [], ◌∷◌, ◌++◌, length};
+ghost use Rattle.std.specs.Prelude.{◌≡◌, ℕ, ◌+◌, ◌*◌, ◌/◌, ◌%◌, ◌<◌, ◌≤◌, ◌^◌, ℤ, unsigned_abs, [], ◌∷◌, ◌++◌, drop, length};
 ghost use Rattle.subdiv_model.specs.NumberText.{number_text, sign_text, ratio_text, fraction_text, last_digits, decimal_text, rounded_sign, rounded_text};
 
 use crate::rounding::{Decimal, rounded};
@@ -110,39 +110,26 @@ impl Waiting {
         }
     }
 
-    // The last digits of a number, so many, the highest first.
+    // So many last digits, the highest first, of a number that has no more: those of the number with a 1 before them.
     fn push_last_digits(&mut self, n: u64, digits: u32)
         requires room { length self.old + digits ≤ 4096 }
         requires few { digits ≤ 18 }
+        requires below { n < 10 ^ digits }
         ensures { self.new ≡ self.old ++ last_digits digits n }
     {
-        let mut left = digits;
-        let mut unit = 10u64.pow(digits);
-        while left > 0 {
-            left -= 1;
-            unit /= 10;
-            let digit = digit_at(n, unit);
-            self.push_digit(digit);
+        let mut buffer = Buffer::new();
+        self.push_behind_first(buffer.format(10u64.pow(digits) + n).as_bytes());
+    }
+
+    // A text without its first byte.
+    fn push_behind_first(&mut self, text: &[u8])
+        requires room { length self.old + length text.now ≤ 4097 }
+        ensures { self.new ≡ self.old ++ drop 1 text.now }
+    {
+        if let [_, rest @ ..] = text {
+            self.push(rest);
         }
     }
-
-    // One digit.
-    fn push_digit(&mut self, digit: u64)
-        requires room { length self.old + 1 ≤ 4096 }
-        requires digit { digit < 10 }
-        ensures { self.new ≡ self.old ++ ((digit + 48) ∷ []) }
-    {
-        self.push(&[b'0' + digit as u8]);
-    }
-}
-
-// The digit of a number that counts units of this size.
-fn digit_at(n: u64, unit: u64) -> u64
-    requires { 0 < unit }
-    ensures value { result ≡ n / unit % 10 }
-    ensures digit { result < 10 }
-{
-    n / unit % 10
 }
 
 // The fraction in lowest terms.

@@ -1,6 +1,8 @@
 ghost use Rattle.std.specs.Prelude.{◌≡◌, ℕ, ◌+◌, ◌*◌, ◌%◌, ◌<◌, ◌≤◌, ◌^◌};
 ghost use Rattle.subdiv_model.specs.NumberText.{goes_up, half_to_even};
 
+use ratio128::quotient;
+
 // A number of so many decimals: its whole part, and units of the last decimal.
 #[derive(Drop)]
 pub(crate) struct Decimal {
@@ -24,8 +26,9 @@ pub(crate) fn rounded(amount: u128, den: u128, digits: u32) -> Decimal
     ensures value { result.whole * 10 ^ digits + result.units ≡ half_to_even (amount * 10 ^ digits) den }
     ensures units { result.units < 10 ^ digits }
 {
-    let whole = amount / den;
-    let cut = decimals_of(amount % den, den, digits);
+    let whole = quotient(amount, den);
+    let rest = amount - whole * den;
+    let cut = decimals_of(rest, den, digits);
     let last = last_place(whole, cut.quotient, digits);
     let up = rounds_up(last, cut.rest, den);
     if up {
@@ -77,8 +80,42 @@ fn rounds_up(last: u128, rest: u128, den: u128) -> bool
     den < 2 * rest || (den == 2 * rest && last % 2 == 1)
 }
 
-// So many decimals of a fraction below 1, and what is left after them.
+// So many decimals of a fraction below 1, and what is left after them. Where the denominator has at most 64 bits, all of them
+// fit into 128 bits at once.
 fn decimals_of(rest: u128, den: u128, digits: u32) -> Division
+    requires bounded { den < 2 ^ 126 }
+    requires below { rest < den }
+    requires few { digits ≤ 18 }
+    ensures whole { result.quotient * den + result.rest ≡ rest * 10 ^ digits }
+    ensures below { result.rest < den }
+    ensures units { result.quotient < 10 ^ digits }
+{
+    if den <= u64::MAX as u128 {
+        decimals_at_once(rest, den, digits)
+    } else {
+        decimals_in_turn(rest, den, digits)
+    }
+}
+
+// The decimals by one division.
+fn decimals_at_once(rest: u128, den: u128, digits: u32) -> Division
+    requires short { den < 2 ^ 64 }
+    requires below { rest < den }
+    requires few { digits ≤ 18 }
+    ensures whole { result.quotient * den + result.rest ≡ rest * 10 ^ digits }
+    ensures below { result.rest < den }
+    ensures units { result.quotient < 10 ^ digits }
+{
+    let scaled = rest * 10u64.pow(digits) as u128;
+    let units = quotient(scaled, den);
+    Division {
+        quotient: units as u64,
+        rest: scaled - units * den,
+    }
+}
+
+// The decimals one after another.
+fn decimals_in_turn(rest: u128, den: u128, digits: u32) -> Division
     requires bounded { den < 2 ^ 126 }
     requires below { rest < den }
     requires few { digits ≤ 18 }

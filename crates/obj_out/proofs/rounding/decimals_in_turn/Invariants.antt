@@ -1,5 +1,5 @@
 use Rattle.std.proofs.Common.{◌≡◌, ◌+◌, ◌*◌, ◌<◌, ◌^◌}
-use Rattle.obj_out.proofs.rounding.decimals_of.Given as goal
+use Rattle.obj_out.proofs.rounding.decimals_in_turn.Given as goal
 
 -- the decimals so far are the quotient, and what is left is its remainder
 abbrev pub invariant-loop : goal.invariant-loop

@@ -1,6 +1,6 @@
 use Rattle.std.proofs.Common.{◌≤◌, ◌+◌, arith}
 use Rattle.obj_out.proofs.RoundingLemmas.{next-whole, next-units, next-small}
-use Rattle.obj_out.proofs.rounding.decimals_of.Goals as goal
+use Rattle.obj_out.proofs.rounding.decimals_in_turn.Goals as goal
 
 pub loop-preserved : goal.loop-preserved
 loop-preserved c =
