@@ -1,0 +1,381 @@
+-- What is asked for the value of each point is there.
+use Rattle.std.proofs.Common.{◌≡◌, ◌≢◌, ℕ, ◌+◌, ◌-◌, ◌*◌, ◌<◌, ◌≤◌, Bool, true, false, ◌&&◌, nat_lt, nat_le, List, [], ◌∷◌, length, map, get_or, arith, refl, ap, sym, ◌∙◌, subst, inl, inr, ◌⊎◌, length-append}
+use Rattle.std.specs.List.{All, AllByRecursion, list_any}
+use Rattle.std.proofs.lemmas.Bool.{cases_lt, and_parts, leb-true}
+use Rattle.std.proofs.lemmas.Bool.Decides.{nat_tests}
+use Rattle.std.proofs.lemmas.List.{get_or-map, length-map, get_or_past, get_or_append_left, get_or-append-add}
+use Rattle.std.proofs.lemmas.List.Elements.{All-from_recursion}
+use Rattle.subdiv_model.specs.Polygons.{polygon_at, is_distinct, is_over}
+use Rattle.subdiv_model.specs.Edges.{edges_of}
+use Rattle.subdiv_model.specs.Manifold.{is_simple}
+use Rattle.subdiv_model.specs.Level.{Level}
+use Rattle.subdiv_model.specs.Mask.{Scheme, CatmullClark, SourcePoint, OfPoint, OfFace, Term, Mask, same_source, has_source, is_source_of, face_mask}
+use Rattle.subdiv_model.specs.Refined.{mask_denominator, source_denominator}
+use Rattle.subdiv_model.specs.Channel.{number_bound}
+use Rattle.number_laws.proofs.MultipleLemmas.{lcm_of_all-positive, product-positive}
+use Rattle.sharpness_laws.proofs.JoinedWeightLemmas.{source-refl}
+use Rattle.mask_laws.proofs.ListLemmas.{each-passes}
+use Rattle.level_topology.specs.Topology.{Topology, IsTopology}
+use Rattle.level_topology.specs.Child.{PointOrigin, FromVertex, FromFace, FromEdge, IsOriginWithin, ChildTopology, HasParent, same_origin}
+use Rattle.level_topology.proofs.ChildLemmas.{same_origin-refl}
+use Rattle.primvar_refine.specs.Rows.{Row, row_at, dens_of, AreGood, least_bound}
+use Rattle.primvar_refine.specs.Step.{mask_from, masks_from, has_origin, CanRefine}
+use Rattle.primvar_refine.specs.Sums.{source_row, HasRow}
+use Rattle.primvar_refine.specs.Made.{IsRowOf, IsMade, AreHeld, CanMake, is_from_face, origin_at, IsPut, CanMakeFaces, AreFacesMade, AreOthersMade, AreHiddenMade, KeepDens}
+use Rattle.primvar_refine.specs.Places.{all_origins}
+use Rattle.primvar_refine.specs.Ready.{CanPut, IsReady}
+use Rattle.primvar_refine.proofs.MadeLemmas.{point-row}
+use Rattle.primvar_refine.proofs.SourceLemmas.{mask-inside, corners-only, face-row, test-at}
+use Rattle.primvar_refine.proofs.PlaceLemmas.{any-at}
+
+abbrev blank : Row
+blank = record { numbers = []; den = 1 }
+
+-- all denominators are at least 1
+pub dens-positive : (rows : List Row) → AreGood rows → (v : ℕ) → 0 < get_or (dens_of rows) v 1
+dens-positive rows good v = at (cases_lt v (length rows))
+  where
+    den : Row → ℕ
+    den r = r.den
+
+    at : (v < length rows) ⊎ (length rows ≤ v) → 0 < get_or (dens_of rows) v 1
+    at (inl inside) = subst (λ n. 0 < n) (sym (get_or-map (λ (r : Row). r.den) rows v blank 1 inside)) (good.positive v blank inside)
+    at (inr past) =
+        let gone : get_or (dens_of rows) v 1 ≡ 1 = get_or_past (dens_of rows) v 1 (rw length-map past) in omega (arith, gone)
+
+-- and so is that of a face
+pub face-positive : (level : Level) (rows : List Row) (f : ℕ) → AreGood rows → 0 < length (polygon_at level.polygons f)
+    → 0 < mask_denominator (source_denominator level (dens_of rows)) (face_mask level f)
+face-positive level rows f good some =
+    product-positive (length (polygon_at level.polygons f)) _ some
+    (lcm_of_all-positive _ (of-terms (face_mask level f).terms
+    (corners-only level f (λ s. 0 < source_denominator level (dens_of rows) s) (λ v. dens-positive rows good v))))
+  where
+    of-terms : (terms : List Term) → AllByRecursion (λ t. 0 < source_denominator level (dens_of rows) t.source) terms
+        → AllByRecursion (λ a. 0 < a) (map (λ t. source_denominator level (dens_of rows) t.source) terms)
+    of-terms [] h = tt
+    of-terms (t ∷ terms) h = (h.0, of-terms terms h.1)
+
+-- a face has corners
+pub some-corners : (parent : Topology) → IsTopology parent → (f : ℕ) → f < length parent.level.polygons → 0 < length (polygon_at parent.level.polygons f)
+some-corners parent is f inside =
+    let polygon = polygon_at parent.level.polygons f in
+    let simple : is_simple polygon ≡ true = test-at is_simple parent.level.polygons f [] is.simple inside in
+    let long : 3 ≤ length polygon = leb-true 3 (length polygon) (and_parts (nat_le 3 (length polygon)) (is_distinct polygon) simple).0 in
+    omega (arith, long)
+
+-- the corners of polygons are points
+pub is-over : (parent : Topology) → IsTopology parent → is_over parent.level.point_count parent.level.polygons ≡ true
+is-over parent is = first (is_over parent.level.point_count parent.level.polygons) _ _ _ _ _ is.formed
+  where
+    first : (a b c d e f : Bool) → (a && b && c && d && e && f) ≡ true → a ≡ true
+    first a b c d e f h = grind (arith, nat_tests)
+
+-- a source has its own row
+record Holds (level : Level) (rows made : List Row) (places : List ℕ) (s : SourcePoint) : Type 0 where
+  there : HasRow rows made places s
+  held : IsRowOf level rows s (source_row rows made places s)
+  positive : 0 < (source_row rows made places s).den
+
+-- all sources of terms
+hold-all : (level : Level) (rows made : List Row) (places : List ℕ) (terms : List Term) → All (λ t. Holds level rows made places t.source) terms
+    → AreHeld level rows made places terms
+hold-all level rows made places terms h = record {
+  there = λ i d inside. (h i d inside).there;
+  held = λ i d inside. (h i d inside).held;
+  positive = λ i d inside. (h i d inside).positive;
+}
+
+-- a point of the level
+point-held : (level : Level) (rows made : List Row) (places : List ℕ) (v : ℕ) → AreGood rows → length rows ≡ level.point_count → nat_lt v level.point_count ≡ true
+    → Holds level rows made places (OfPoint v)
+point-held level rows made places v good count h =
+    let below : v < length rows = lower v (length rows) (ap (nat_lt v) count ∙ h) in
+    record {
+      there = below;
+      held = point-row level rows v good below;
+      positive = good.positive v blank below;
+    }
+  where
+    lower : (a b : ℕ) → nat_lt a b ≡ true → a < b
+    lower a b e = grind (arith, nat_tests, e)
+
+-- the corners of a face
+pub face-can : (parent : Topology) (rows : List Row) (f den : ℕ) → IsTopology parent → AreGood rows → length rows ≡ parent.level.point_count → f < length parent.level.polygons
+    → den ≡ mask_denominator (source_denominator parent.level (dens_of rows)) (face_mask parent.level f) → den ≤ number_bound → den * least_bound rows ≤ number_bound
+    → CanMake parent.level rows [] [] (face_mask parent.level f) den
+face-can parent rows f den is good count inside den_is short kept = record {
+  good = good;
+  den_is = den_is;
+  short = short;
+  kept = kept;
+  sources =
+      hold-all parent.level rows [] [] (face_mask parent.level f).terms
+      (All-from_recursion _ (face_mask parent.level f).terms (both (face_mask parent.level f).terms
+      (each-passes (λ (t : Term). is_source_of parent.level t.source) (face_mask parent.level f).terms (mask-inside parent.level (is-over parent is) CatmullClark (FromFace f) inside))
+      (corners-only parent.level f (λ s. is_source_of parent.level s ≡ true → Holds parent.level rows [] [] s)
+      (λ v h. point-held parent.level rows [] [] v good count h))));
+}
+  where
+    both : (terms : List Term) → AllByRecursion (λ t. is_source_of parent.level t.source ≡ true) terms
+        → AllByRecursion (λ t. is_source_of parent.level t.source ≡ true → Holds parent.level rows [] [] t.source) terms
+        → AllByRecursion (λ t. Holds parent.level rows [] [] t.source) terms
+    both [] p q = tt
+    both (t ∷ terms) p q = (q.0 p.0, both terms p.1 q.1)
+
+module _ (parent : Topology) (child : ChildTopology) (scheme : Scheme) (rows : List Row) (named : List Bool) (hidden places : List ℕ) (is : IsTopology parent) where
+  abbrev all : List PointOrigin
+  all = all_origins child.origins hidden
+
+  abbrev Ready : List Row → Type 0
+  Ready made = IsReady parent child scheme rows named hidden places made
+
+  -- some mask names a source of a point's mask
+  named-at : (p f : ℕ) → p < length child.origins → has_source (mask_from parent.level scheme (origin_at child.origins p)).terms (OfFace f) ≡ true
+      → list_any (λ mask. has_source mask.terms (OfFace f)) (masks_from parent.level scheme child.origins) ≡ true
+  named-at p f inside h =
+      let none : Mask = record { terms = []; denominator = 0 } in
+      let here : get_or (masks_from parent.level scheme child.origins) p none ≡ mask_from parent.level scheme (origin_at child.origins p) =
+      get_or-map (mask_from parent.level scheme) child.origins p (FromVertex 0) none inside in
+      any-at (λ mask. has_source mask.terms (OfFace f)) (masks_from parent.level scheme child.origins) p none (rw length-map inside)
+      (ap (λ (m : Mask). has_source m.terms (OfFace f)) here ∙ h)
+
+  module _ (made : List Row) (ready : Ready made) (faces : AreFacesMade parent.level rows all (length all) made) where
+    face-held : (f : ℕ) → f < length parent.level.polygons → get_or named f false ≡ true → Holds parent.level rows made places (OfFace f)
+    face-held f inside name =
+        let at = ready.find.each f inside in
+        let p = get_or places f 0 in
+        let row = face-row parent.level f rows (row_at made p) (faces.each p f (at.inside name) (at.inside name) (at.there name)) in
+        let some = face-positive parent.level rows f ready.good (some-corners parent is f inside) in
+        let den = (faces.each p f (at.inside name) (at.inside name) (at.there name)).den_is in
+        record {
+          there = (omega (arith, inside, ready.find.counted), omega (arith, at.inside name, ready.each));
+          held = row;
+          positive = omega (arith, some, den);
+        }
+
+    -- any source of a point that is named
+    source-held : (p : ℕ) → p < length child.origins → (s : SourcePoint) → is_source_of parent.level s ≡ true
+        → has_source (mask_from parent.level scheme (origin_at child.origins p)).terms s ≡ true → Holds parent.level rows made places s
+    source-held p inside (OfPoint v) within has = point-held parent.level rows made places v ready.good ready.counted within
+    source-held p inside (OfFace f) within has =
+        let below : f < length parent.level.polygons = lower f (length parent.level.polygons) within in
+        face-held f below (ready.names.each f below ∙ named-at p f inside has)
+      where
+        lower : (a b : ℕ) → nat_lt a b ≡ true → a < b
+        lower a b e = grind (arith, nat_tests, e)
+
+    -- all sources of a point's mask
+    all-held : (p : ℕ) → p < length child.origins → IsOriginWithin parent.level.point_count (length parent.level.polygons) (length (edges_of parent.level.polygons)) (origin_at child.origins p)
+        → AreHeld parent.level rows made places (mask_from parent.level scheme (origin_at child.origins p)).terms
+    all-held p inside within =
+        let terms = (mask_from parent.level scheme (origin_at child.origins p)).terms in
+        let passed = mask-inside parent.level (is-over parent is) scheme (origin_at child.origins p) within in
+        hold-all parent.level rows made places terms
+        (λ i d below. source-held p inside (get_or terms i d).source
+        (test-at (λ (t : Term). is_source_of parent.level t.source) terms i d passed below)
+        (any-at (λ (t : Term). same_source (get_or terms i d).source t.source) terms i d below (source-refl (get_or terms i d).source)))
+
+    -- so that its mask can be summed
+    all-can : (p : ℕ) → p < length child.origins → IsOriginWithin parent.level.point_count (length parent.level.polygons) (length (edges_of parent.level.polygons)) (origin_at child.origins p)
+        → CanMake parent.level rows made places (mask_from parent.level scheme (origin_at child.origins p)) (row_at made p).den
+    all-can p inside within =
+        let among : p < length all = omega (arith, inside, length-append child.origins (map FromFace hidden)) in
+        let same : origin_at all p ≡ origin_at child.origins p = get_or_append_left child.origins (map FromFace hidden) (FromVertex 0) p inside in
+        record {
+          good = ready.good;
+          den_is = ready.dens.are p among ∙ ap (λ o. mask_denominator (source_denominator parent.level (dens_of rows)) (mask_from parent.level scheme o)) same;
+          short = ready.dens.short p among;
+          kept = ready.dens.kept p among;
+          sources = all-held p inside within;
+        }
+
+    -- and its value put
+    pub can-put : (p : ℕ) (origin : PointOrigin) → origin ≡ origin_at child.origins p → p < length child.origins
+        → IsOriginWithin parent.level.point_count (length parent.level.polygons) (length (edges_of parent.level.polygons)) origin
+        → CanPut parent scheme rows made places (row_at made p).den origin
+    can-put p (FromFace f) e inside within = tt
+    can-put p (FromVertex v) e inside within =
+        let has : has_origin child.origins (FromVertex v) ≡ true =
+        any-at (same_origin (FromVertex v)) child.origins p (FromVertex 0) inside (ap (same_origin (FromVertex v)) (sym e) ∙ same_origin-refl (FromVertex v)) in
+        let Make : PointOrigin → Type 0 = λ o. CanMake parent.level rows made places (mask_from parent.level scheme o) (row_at made p).den in
+        let Within : PointOrigin → Type 0 = IsOriginWithin parent.level.point_count (length parent.level.polygons) (length (edges_of parent.level.polygons)) in (
+          record {
+            known = within;
+            complete = ready.can.complete v has;
+            boundary = λ cc_scheme. ready.can.boundary cc_scheme v has;
+            fine = λ cc_scheme. ready.can.fine cc_scheme v has;
+            allowed = ready.allowed v has;
+          },
+          subst Make (sym e) (all-can p inside (subst Within e within)),
+        )
+    can-put p (FromEdge d) e inside within =
+        let has : has_origin child.origins (FromEdge d) ≡ true =
+        any-at (same_origin (FromEdge d)) child.origins p (FromVertex 0) inside (ap (same_origin (FromEdge d)) (sym e) ∙ same_origin-refl (FromEdge d)) in
+        let Make : PointOrigin → Type 0 = λ o. CanMake parent.level rows made places (mask_from parent.level scheme o) (row_at made p).den in
+        let Within : PointOrigin → Type 0 = IsOriginWithin parent.level.point_count (length parent.level.polygons) (length (edges_of parent.level.polygons)) in (
+          record {
+            known = within;
+            inside = λ cc_scheme. ready.can.inside cc_scheme d has;
+          },
+          subst Make (sym e) (all-can p inside (subst Within e within)),
+        )
+
+-- the parts that points come from are parts of the parent
+pub origin-within : (parent : Topology) (child : ChildTopology) (scheme : Scheme) → HasParent child → CanRefine parent child scheme → (p : ℕ) → p < length child.origins
+    → IsOriginWithin parent.level.point_count (length parent.level.polygons) (length (edges_of parent.level.polygons)) (origin_at child.origins p)
+origin-within parent child scheme has can p inside =
+    let own = has.parent in
+    let points : own.level.point_count ≡ parent.level.point_count = sym (ap (λ (t : ChildTopology). t.parent_points) has.of) ∙ can.vertices in
+    let faces : length own.level.polygons ≡ length parent.level.polygons =
+    sym (ap (λ (t : ChildTopology). length t.parent_sizes) has.of ∙ length-map own.level.polygons length) ∙ can.faces in
+    let edges : length (edges_of own.level.polygons) ≡ length (edges_of parent.level.polygons) = sym (ap (λ (t : ChildTopology). t.parent_edges) has.of) ∙ can.edges in
+    let O : PointOrigin = origin_at child.origins p in
+    subst (λ n. IsOriginWithin n (length parent.level.polygons) (length (edges_of parent.level.polygons)) O) points
+    (subst (λ n. IsOriginWithin own.level.point_count n (length (edges_of parent.level.polygons)) O) faces
+    (subst (λ n. IsOriginWithin own.level.point_count (length own.level.polygons) n O) edges (has.is.origins_within p (FromVertex 0) inside)))
+
+-- denominators that stay are as good
+pub ready-kept : (parent : Topology) (child : ChildTopology) (scheme : Scheme) (rows : List Row) (named : List Bool) (hidden places : List ℕ) (before after : List Row)
+    → IsReady parent child scheme rows named hidden places before → KeepDens before after → IsReady parent child scheme rows named hidden places after
+ready-kept parent child scheme rows named hidden places before after ready keep = record {
+  can = ready.can;
+  allowed = ready.allowed;
+  good = ready.good;
+  counted = ready.counted;
+  names = ready.names;
+  find = ready.find;
+  inside = ready.inside;
+  each = keep.count ∙ ready.each;
+  dens = record {
+    are = λ p inside. keep.dens p ∙ ready.dens.are p inside;
+    short = λ p inside. subst (λ n. n ≤ number_bound) (sym (keep.dens p)) (ready.dens.short p inside);
+    kept = λ p inside. subst (λ n. n * least_bound rows ≤ number_bound) (sym (keep.dens p)) (ready.dens.kept p inside);
+  };
+}
+
+-- the values of faces stay where that of a point is put that comes from none
+pub faces-stay : (level : Level) (rows : List Row) (origins : List PointOrigin) (hidden : List ℕ) (count p : ℕ) (before after : List Row) (origin : PointOrigin)
+    → origin ≡ origin_at origins p → p < length origins → (is_from_face origin ≡ true → after ≡ before) → IsPut before p after
+    → AreFacesMade level rows (all_origins origins hidden) count before → AreFacesMade level rows (all_origins origins hidden) count after
+faces-stay level rows origins hidden count p before after origin e inside same put faces = at (is_from_face origin) refl
+  where
+    different : (o : PointOrigin) (f : ℕ) → o ≡ FromFace f → is_from_face o ≡ false → ⊥
+    different o f e n = grind (arith, ap is_from_face e, n)
+
+    at : (b : Bool) → is_from_face origin ≡ b → AreFacesMade level rows (all_origins origins hidden) count after
+    at true h = subst (λ l. AreFacesMade level rows (all_origins origins hidden) count l) (sym (same h)) faces
+    at false h = record {
+      each = λ q f below there from.
+          let here : origin_at (all_origins origins hidden) p ≡ origin_at origins p = get_or_append_left origins (map FromFace hidden) (FromVertex 0) p inside in
+          let apart : q ≢ p = λ k. different origin f (e ∙ sym here ∙ ap (origin_at (all_origins origins hidden)) (sym k) ∙ from) h in
+          subst (IsMade level rows (face_mask level f)) (sym (put.others q apart)) (faces.each q f below there from);
+    }
+
+-- one more point
+pub others-put : (level : Level) (scheme : Scheme) (rows : List Row) (origins : List PointOrigin) (p : ℕ) (before after : List Row) (origin : PointOrigin)
+    → origin ≡ origin_at origins p → IsPut before p after
+    → (is_from_face origin ≡ false → IsMade level rows (mask_from level scheme origin) (row_at after p))
+    → AreOthersMade level scheme rows origins p before → AreOthersMade level scheme rows origins (p + 1) after
+others-put level scheme rows origins p before after origin e put new made = record { each = λ q below inside other. at q below inside other (cases_lt q p) }
+  where
+    at : (q : ℕ) → q < p + 1 → q < length origins → is_from_face (origin_at origins q) ≡ false → (q < p) ⊎ (p ≤ q)
+        → IsMade level rows (mask_from level scheme (origin_at origins q)) (row_at after q)
+    at q below inside other (inl less) =
+        subst (IsMade level rows (mask_from level scheme (origin_at origins q))) (sym (put.others q (λ k. omega (arith, less, k)))) (made.each q less inside other)
+    at q below inside other (inr more_than) =
+        let same : q ≡ p = omega (arith, below, more_than) in
+        let is : origin_at origins q ≡ origin = ap (origin_at origins) same ∙ sym e in
+        subst (λ o. IsMade level rows (mask_from level scheme o) (row_at after q)) (sym is)
+        (subst (λ k. IsMade level rows (mask_from level scheme origin) (row_at after k)) (sym same) (new (ap is_from_face (sym is) ∙ other)))
+
+-- what the faces of child points and the hidden ones ask
+module _ (parent : Topology) (child : ChildTopology) (scheme : Scheme) (rows : List Row) (named : List Bool) (hidden places : List ℕ) (made : List Row)
+    (is : IsTopology parent) (ready : IsReady parent child scheme rows named hidden places made) where
+  abbrev all-of : List PointOrigin
+  all-of = all_origins child.origins hidden
+
+  -- a face with a place
+  face-at : (p f : ℕ) → p < length all-of → origin_at all-of p ≡ FromFace f → f < length parent.level.polygons
+      → CanMake parent.level rows [] [] (face_mask parent.level f) (row_at made p).den
+  face-at p f among from inside =
+      face-can parent rows f (row_at made p).den is ready.good ready.counted inside
+      (ready.dens.are p among ∙ ap (λ o. mask_denominator (source_denominator parent.level (dens_of rows)) (mask_from parent.level scheme o)) from)
+      (ready.dens.short p among) (ready.dens.kept p among)
+
+  -- the faces of child points
+  pub faces-can : HasParent child → CanMakeFaces parent.level rows child.origins made
+  faces-can has p f inside from =
+      let among : p < length all-of = omega (arith, inside, length-append child.origins (map FromFace hidden)) in
+      let same : origin_at all-of p ≡ origin_at child.origins p = get_or_append_left child.origins (map FromFace hidden) (FromVertex 0) p inside in
+      let Within : PointOrigin → Type 0 = IsOriginWithin parent.level.point_count (length parent.level.polygons) (length (edges_of parent.level.polygons)) in
+      let below : f < length parent.level.polygons = subst Within from (origin-within parent child scheme has ready.can p inside) in
+      face-at p f among (same ∙ from) below
+
+  -- there are as many places as child points
+  pub room : length child.origins ≤ length made
+  room = omega (arith, ready.each, length-append child.origins (map FromFace hidden))
+
+  -- the hidden faces come after them
+  origin-of-hidden : (i : ℕ) → i < length hidden → origin_at all-of (length child.origins + i) ≡ FromFace (get_or hidden i 0)
+  origin-of-hidden i inside =
+      get_or-append-add child.origins (map FromFace hidden) i (FromVertex 0) ∙ get_or-map FromFace hidden i 0 (FromVertex 0) inside
+
+  -- and can be summed
+  pub hidden-can : (i : ℕ) → i < length hidden → CanMake parent.level rows [] [] (face_mask parent.level (get_or hidden i 0)) (row_at made (length child.origins + i)).den
+  hidden-can i inside =
+      face-at (length child.origins + i) (get_or hidden i 0)
+      (omega (arith, inside, length-append child.origins (map FromFace hidden), length-map hidden FromFace)) (origin-of-hidden i inside) (ready.inside i 0 inside)
+
+-- the values of faces and of hidden faces are those of all faces
+pub faces-together : (parent : Topology) (child : ChildTopology) (rows : List Row) (hidden : List ℕ) (before after : List Row)
+    → AreFacesMade parent.level rows child.origins (length child.origins) before
+    → ((q : ℕ) → q < length child.origins → row_at after q ≡ row_at before q)
+    → AreHiddenMade parent.level rows (length child.origins) hidden (length hidden) after
+    → AreFacesMade parent.level rows (all_origins child.origins hidden) (length (all_origins child.origins hidden)) after
+faces-together parent child rows hidden before after faces kept others = record { each = λ p f below inside from. at p f inside from (cases_lt p (length child.origins)) }
+  where
+    face-number : (f g : ℕ) → FromFace g ≡ FromFace f → g ≡ f
+    face-number f g e = cc
+
+    at : (p f : ℕ) → p < length (all_origins child.origins hidden) → origin_at (all_origins child.origins hidden) p ≡ FromFace f → (p < length child.origins) ⊎ (length child.origins ≤ p)
+        → IsMade parent.level rows (face_mask parent.level f) (row_at after p)
+    at p f inside from (inl first) =
+        let same : origin_at (all_origins child.origins hidden) p ≡ origin_at child.origins p = get_or_append_left child.origins (map FromFace hidden) (FromVertex 0) p first in
+        subst (IsMade parent.level rows (face_mask parent.level f)) (sym (kept p first)) (faces.each p f first first (sym same ∙ from))
+    at p f inside from (inr past) =
+        let i : ℕ = p - length child.origins in
+        let place : p ≡ length child.origins + i = omega (arith, past) in
+        let below : i < length hidden = omega (arith, place, inside, length-append child.origins (map FromFace hidden), length-map hidden FromFace) in
+        let own : origin_at (all_origins child.origins hidden) (length child.origins + i) ≡ FromFace (get_or hidden i 0) =
+        get_or-append-add child.origins (map FromFace hidden) i (FromVertex 0) ∙ get_or-map FromFace hidden i 0 (FromVertex 0) below in
+        let face : get_or hidden i 0 ≡ f = face-number f (get_or hidden i 0) (sym own ∙ ap (origin_at (all_origins child.origins hidden)) (sym place) ∙ from) in
+        subst (λ k. IsMade parent.level rows (face_mask parent.level k) (row_at after p)) face
+        (subst (λ q. IsMade parent.level rows (face_mask parent.level (get_or hidden i 0)) (row_at after q)) (sym place) (others.each i below below))
+
+-- denominators that stay twice
+pub keeps : (first second third : List Row) → KeepDens first second → KeepDens second third → KeepDens first third
+keeps first second third p q = record { count = q.count ∙ p.count; dens = λ k. q.dens k ∙ p.dens k }
+
+-- the same of a list and of a first place that are these
+pub first-hidden-can : (parent : Topology) (child : ChildTopology) (scheme : Scheme) (rows : List Row) (named : List Bool) (hidden places : List ℕ) (before after : List Row)
+    → IsTopology parent → IsReady parent child scheme rows named hidden places before → KeepDens before after
+    → (list : List ℕ) (first : ℕ) → list ≡ hidden → first ≡ length child.origins
+    → (i : ℕ) → i < length list → CanMake parent.level rows [] [] (face_mask parent.level (get_or list i 0)) (row_at after (first + i)).den
+first-hidden-can parent child scheme rows named hidden places before after is ready keep list first same at =
+    subst (λ l. (i : ℕ) → i < length l → CanMake parent.level rows [] [] (face_mask parent.level (get_or l i 0)) (row_at after (first + i)).den) (sym same)
+    (subst (λ n. (i : ℕ) → i < length hidden → CanMake parent.level rows [] [] (face_mask parent.level (get_or hidden i 0)) (row_at after (n + i)).den) (sym at)
+    (hidden-can parent child scheme rows named hidden places after is (ready-kept parent child scheme rows named hidden places before after ready keep)))
+
+-- the values of all faces
+pub first-together : (parent : Topology) (child : ChildTopology) (rows : List Row) (hidden : List ℕ) (before after : List Row)
+    (list : List ℕ) (first : ℕ) → list ≡ hidden → first ≡ length child.origins
+    → AreFacesMade parent.level rows child.origins (length child.origins) before
+    → ((q : ℕ) → q < first → row_at after q ≡ row_at before q)
+    → AreHiddenMade parent.level rows first list (length list) after
+    → AreFacesMade parent.level rows (all_origins child.origins hidden) (length (all_origins child.origins hidden)) after
+first-together parent child rows hidden before after list first same at faces kept others =
+    faces-together parent child rows hidden before after faces
+    (subst (λ n. (q : ℕ) → q < n → row_at after q ≡ row_at before q) at kept)
+    (subst (λ l. AreHiddenMade parent.level rows (length child.origins) l (length l) after) same
+    (subst (λ n. AreHiddenMade parent.level rows n list (length list) after) at others))

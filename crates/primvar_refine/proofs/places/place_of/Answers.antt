@@ -1,0 +1,16 @@
+use Rattle.std.proofs.Common.{sym, ◌∙◌}
+use Rattle.primvar_refine.proofs.PlaceLemmas.{place-found, kept-found, kept-none}
+use Rattle.primvar_refine.proofs.places.place_of.Goals as goal
+
+pub returns-in-Some-clause-hidden : goal.returns-in-Some-clause-hidden
+returns-in-Some-clause-hidden c =
+    kept-found c.args.child.now.origins c.args.hidden.now.items c.args.f c.in-Some.p c.args.named (sym c.face_point.ensures ∙ c.in-Some.is)
+
+pub returns-in-Some-clause-place : goal.returns-in-Some-clause-place
+returns-in-Some-clause-place c =
+    place-found c.args.child.now.origins c.args.hidden.now.items c.args.f c.in-Some.p c.args.named (sym c.face_point.ensures ∙ c.in-Some.is)
+
+pub returns-in_ok-push-in-None-clause-hidden : goal.returns-in_ok-push-in-None-clause-hidden
+returns-in_ok-push-in-None-clause-hidden c =
+    kept-none c.args.child.now.origins c.args.hidden.now.items c.push.new.self.items c.args.f c.args.named (sym c.face_point.ensures ∙ c.in-None.is)
+    c.if-not-named.false c.in_ok-push-in-None.ensures.items

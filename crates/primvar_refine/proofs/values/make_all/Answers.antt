@@ -1,0 +1,70 @@
+use Rattle.std.proofs.Common.{◌≡◌, ◌+◌, ◌<◌, ◌≤◌, ◌++◌, ℕ, length, map, take, drop, get_or, ap, sym, ◌∙◌, subst}
+use Rattle.std.specs.List.{All, take-map}
+use Rattle.std.proofs.lemmas.List.{length-map}
+use Rattle.mask_rules.specs.View.{scheme_of}
+use Rattle.primvar_refine.specs.Rows.{dens_of}
+use Rattle.primvar_refine.specs.View.{rows_of, row_of}
+use Rattle.primvar_refine.specs.Ready.{IsReady}
+use Rattle.primvar_refine.proofs.LaidLemmas.{hidden-inside, laid, dens-counted, first-room, terms-all-made}
+use Rattle.primvar_refine.proofs.FinalLemmas.{cut-refined, cut-back}
+use Rattle.primvar_refine.proofs.values.make_all.Goals as goal
+
+pub push_hidden-requires : goal.push_hidden-requires
+push_hidden-requires g c =
+    subst (λ xs. All (λ f. f < length xs) c.deref-3.result.now) (sym c.deref-2.ensures.value)
+    (subst (λ ys. All (λ f. f < length c.args.survey.now.faces.items) ys) (sym c.deref-3.ensures.value)
+    (subst (λ n. All (λ f. f < n) c.in_ok-places.places.hidden.items) (sym c.requires.survey.face_count)
+    (hidden-inside c.args.parent.now c.args.child.now (scheme_of c.args.scheme) (rows_of g.P.Primvar.numbers c.args.values.now) c.args.survey.now c.facts.ensures c.facts-2.ensures
+    c.requires.child c.requires.good c.requires.survey c.requires.kept c.in_ok-places.places.hidden.items c.in_ok-places.ensures.hidden)))
+
+pub put_all-requires-clause-ready : goal.put_all-requires-clause-ready
+put_all-requires-clause-ready g c =
+    let dens = c.args.survey.now.dens.items in
+    let dens_is : dens_of (rows_of g.P.Primvar.numbers c.push_hidden.new.made.items) ≡ dens ++ map (λ f. get_or c.args.survey.now.faces.items f 0) c.in_ok-places.places.hidden.items =
+    c.in_ok-push_hidden.ensures
+    ∙ ap (λ l. l ++ map (λ f. get_or c.deref-2.result.now f 0) c.deref-3.result.now) (c.in_ok-made.ensures ∙ c.deref.ensures.value)
+    ∙ ap (λ xs. dens ++ map (λ f. get_or xs f 0) c.deref-3.result.now) c.deref-2.ensures.value
+    ∙ ap (λ ys. dens ++ map (λ f. get_or c.args.survey.now.faces.items f 0) ys) c.deref-3.ensures.value in
+    subst (λ l. IsReady c.args.parent.now c.args.child.now (scheme_of c.args.scheme) (rows_of g.P.Primvar.numbers c.args.values.now) c.args.survey.now.named.items
+    c.in_ok-places.places.hidden.items c.in_ok-places.places.of_faces.items (rows_of g.P.Primvar.numbers l)) (sym c.deref_mut.ensures.value)
+    (laid c.args.parent.now c.args.child.now (scheme_of c.args.scheme) (rows_of g.P.Primvar.numbers c.args.values.now) c.args.survey.now c.facts.ensures c.facts-2.ensures
+    c.requires.child c.requires.good c.requires.survey c.requires.kept c.in_ok-places.places.hidden.items c.in_ok-places.ensures.hidden
+    (rows_of g.P.Primvar.numbers c.push_hidden.new.made.items) c.in_ok-places.places.of_faces.items
+    (length-map c.args.values.now (row_of g.P.Primvar.numbers) ∙ c.requires.each) c.in_ok-places.ensures.places dens_is)
+
+pub returns-in_err-put_all-clause-steps : goal.returns-in_err-put_all-clause-steps
+returns-in_err-put_all-clause-steps g c =
+    let terms = terms-all-made c.args.parent.now c.args.child.now (scheme_of c.args.scheme) (rows_of g.P.Primvar.numbers c.args.values.now) c.args.survey.now c.facts.ensures c.facts-2.ensures
+    c.requires.child c.requires.good c.requires.survey c.requires.kept c.in_ok-places.places.hidden.items c.in_ok-places.ensures.hidden in
+    subst (λ n. c.put_all.new.steps ≤ c.args.steps.now + n) terms c.in_err-put_all.ensures.steps
+
+pub returns-clause-refined : goal.returns-clause-refined
+returns-clause-refined g c =
+    let rows = rows_of g.P.Primvar.numbers c.args.values.now in
+    let after = rows_of g.P.Primvar.numbers c.put_all.new.made in
+    let n : ℕ = c.len.result in
+    let many : n ≡ length c.args.survey.now.dens.items = c.len.ensures ∙ sym c.deref.ensures.len ∙ ap length c.deref.ensures.value in
+    let cut : c.truncate.new.self.items ≡ take n c.put_all.new.made =
+    cut-back n c.push_hidden.new.made.len c.put_all.new.made (drop (length c.put_all.new.made) c.push_hidden.new.made.items) c.truncate.new.self.items
+    (c.put_all.auto.made ∙ c.deref_mut.ensures.len) c.truncate.ensures.items in
+    let count : length after ≡ length (rows_of g.P.Primvar.numbers c.push_hidden.new.made.items) =
+    c.in_ok-put_all.ensures.dens.count ∙ ap (λ l. length (rows_of g.P.Primvar.numbers l)) c.deref_mut.ensures.value in
+    let counted = dens-counted c.args.parent.now c.args.child.now (scheme_of c.args.scheme) rows c.args.survey.now c.facts.ensures c.facts-2.ensures
+    c.requires.child c.requires.good c.requires.survey c.requires.kept in
+    cut-refined c.args.parent.now c.args.child.now (scheme_of c.args.scheme) rows c.args.survey.now c.in_ok-places.places.hidden.items after (rows_of g.P.Primvar.numbers c.truncate.new.self.items) n
+    c.requires.survey c.requires.kept c.in_ok-put_all.ensures.made (many ∙ counted)
+    (first-room (rows_of g.P.Primvar.numbers c.push_hidden.new.made.items) after (dens_of (rows_of g.P.Primvar.numbers c.in_ok-made.made.items)) _ n c.in_ok-push_hidden.ensures count
+    (many ∙ ap length (sym (c.in_ok-made.ensures ∙ c.deref.ensures.value))))
+    (ap (rows_of g.P.Primvar.numbers) cut ∙ sym (take-map (row_of g.P.Primvar.numbers) n c.put_all.new.made))
+
+pub returns-clause-taken : goal.returns-clause-taken
+returns-clause-taken g c =
+    let terms = terms-all-made c.args.parent.now c.args.child.now (scheme_of c.args.scheme) (rows_of g.P.Primvar.numbers c.args.values.now) c.args.survey.now c.facts.ensures c.facts-2.ensures
+    c.requires.child c.requires.good c.requires.survey c.requires.kept c.in_ok-places.places.hidden.items c.in_ok-places.ensures.hidden in
+    c.in_ok-put_all.ensures.taken ∙ ap (λ n. c.args.steps.now + n) terms
+
+pub returns-clause-steps : goal.returns-clause-steps
+returns-clause-steps g c =
+    let terms = terms-all-made c.args.parent.now c.args.child.now (scheme_of c.args.scheme) (rows_of g.P.Primvar.numbers c.args.values.now) c.args.survey.now c.facts.ensures c.facts-2.ensures
+    c.requires.child c.requires.good c.requires.survey c.requires.kept c.in_ok-places.places.hidden.items c.in_ok-places.ensures.hidden in
+    subst (λ n. c.put_all.new.steps ≤ c.args.steps.now + n) terms c.in_ok-put_all.ensures.steps

@@ -1,0 +1,10 @@
+pub mod Rows
+pub mod View
+pub mod Step
+pub mod Survey
+pub mod Found
+pub mod Greatest
+pub mod Sums
+pub mod Made
+pub mod Places
+pub mod Ready

@@ -1,0 +1,97 @@
+-- Rows that have the values of sources and of masks.
+use Rattle.std.specs.Prelude.{ℕ, ◌≡◌, ◌≢◌, ◌+◌, ◌*◌, ◌<◌, ◌≤◌, Bool, true, false, pos, List, [], length, get_or}
+use Rattle.std.specs.List.{All}
+use Rattle.subdiv_model.specs.Level.{Level}
+use Rattle.subdiv_model.specs.Value.{Value}
+use Rattle.subdiv_model.specs.Mask.{Scheme, SourcePoint, Term, Mask, face_mask, edge_mask, vertex_mask}
+use Rattle.subdiv_model.specs.Refined.{mask_value, source_value, mask_denominator, source_denominator}
+use Rattle.subdiv_model.specs.Channel.{number_bound}
+use Rattle.mask_laws.proofs.SumLemmas.{IsOver}
+use Rattle.ratio128.specs.Numbers.{greatest_amount}
+use Rattle.level_topology.specs.Topology.{edge_at}
+use Rattle.level_topology.specs.Child.{PointOrigin, FromVertex, FromFace, FromEdge}
+use Rattle.primvar_refine.specs.Rows.{Row, row_at, dens_of, StandFor, AreWithin, AreGood, least_bound}
+use Rattle.primvar_refine.specs.Step.{mask_from}
+use Rattle.primvar_refine.specs.Sums.{source_row, HasRow}
+
+-- Over this denominator the row has the values that follow from those of the level, and none is above a whole number in amount
+-- where none of the level's is.
+pub record HasValues (rows : List Row) (value : List Value → Value) (den : ℕ) (row : Row) : Type 0 where
+  pub den_is : row.den ≡ den
+  pub over : (column : ℕ) (values : List Value) → StandFor rows column values → IsOver row.den (value values) (get_or row.numbers column (pos 0))
+  pub within : (most : ℕ) → AreWithin most rows → greatest_amount row.numbers ≤ row.den * most
+  pub alike : length row.numbers ≡ length (row_at rows 0).numbers
+
+-- the row of a source of the level, and that of a mask over its sources
+abbrev pub IsRowOf : Level → List Row → SourcePoint → Row → Type 0
+IsRowOf level rows source row = HasValues rows (λ values. source_value level values source) (source_denominator level (dens_of rows) source) row
+
+abbrev pub IsMade : Level → List Row → Mask → Row → Type 0
+IsMade level rows mask row =
+    HasValues rows (λ values. mask_value (source_value level values) mask) (mask_denominator (source_denominator level (dens_of rows)) mask) row
+
+abbrev pub is_from_face : PointOrigin → Bool
+is_from_face (FromVertex v) = false
+is_from_face (FromFace f) = true
+is_from_face (FromEdge e) = false
+
+abbrev pub origin_at : List PointOrigin → ℕ → PointOrigin
+origin_at origins p = get_or origins p (FromVertex 0)
+
+-- each source of the terms has a row that is its own
+pub record AreHeld (level : Level) (rows made : List Row) (places : List ℕ) (terms : List Term) : Type 0 where
+  pub there : All (λ t. HasRow rows made places t.source) terms
+  pub held : All (λ t. IsRowOf level rows t.source (source_row rows made places t.source)) terms
+  pub positive : All (λ t. 0 < (source_row rows made places t.source).den) terms
+
+-- a mask can be summed: its common denominator, and all numbers over it, are short
+pub record CanMake (level : Level) (rows made : List Row) (places : List ℕ) (mask : Mask) (den : ℕ) : Type 0 where
+  pub good : AreGood rows
+  pub den_is : den ≡ mask_denominator (source_denominator level (dens_of rows)) mask
+  pub short : den ≤ number_bound
+  pub kept : den * least_bound rows ≤ number_bound
+  pub sources : AreHeld level rows made places mask.terms
+
+-- a row has other numbers over its denominator, and all others stay
+pub record IsPut (before : List Row) (p : ℕ) (after : List Row) : Type 0 where
+  pub count : length after ≡ length before
+  pub den : (row_at after p).den ≡ (row_at before p).den
+  pub others : (q : ℕ) → q ≢ p → row_at after q ≡ row_at before q
+
+-- the faces can be summed over these denominators, which stand from a place on
+abbrev pub CanMakeFaces : Level → List Row → List PointOrigin → List Row → Type 0
+CanMakeFaces level rows origins made =
+    (p f : ℕ) → p < length origins → origin_at origins p ≡ FromFace f → CanMake level rows [] [] (face_mask level f) (row_at made p).den
+
+-- of so many points the values of those that come from a face are made
+pub record AreFacesMade (level : Level) (rows : List Row) (origins : List PointOrigin) (count : ℕ) (made : List Row) : Type 0 where
+  pub each : (p f : ℕ) → p < count → p < length origins → origin_at origins p ≡ FromFace f → IsMade level rows (face_mask level f) (row_at made p)
+
+-- and of so many those of the others
+pub record AreOthersMade (level : Level) (scheme : Scheme) (rows : List Row) (origins : List PointOrigin) (count : ℕ) (made : List Row) : Type 0 where
+  pub each : (p : ℕ) → p < count → p < length origins → is_from_face (origin_at origins p) ≡ false
+      → IsMade level rows (mask_from level scheme (origin_at origins p)) (row_at made p)
+
+-- the values of hidden faces are made, from a place on
+pub record AreHiddenMade (level : Level) (rows : List Row) (first : ℕ) (hidden : List ℕ) (count : ℕ) (made : List Row) : Type 0 where
+  pub each : (i : ℕ) → i < count → i < length hidden → IsMade level rows (face_mask level (get_or hidden i 0)) (row_at made (first + i))
+
+-- the denominators stay
+pub record KeepDens (before after : List Row) : Type 0 where
+  pub count : length after ≡ length before
+  pub dens : (p : ℕ) → (row_at after p).den ≡ (row_at before p).den
+
+-- the terms of a point that comes from a face, and of one that comes from none
+abbrev pub terms_of_face : Level → PointOrigin → ℕ
+terms_of_face level (FromVertex v) = 0
+terms_of_face level (FromFace f) = length (face_mask level f).terms
+terms_of_face level (FromEdge e) = 0
+
+abbrev pub terms_of_other : Level → Scheme → PointOrigin → ℕ
+terms_of_other level scheme (FromVertex v) = length (vertex_mask level scheme v).terms
+terms_of_other level scheme (FromFace f) = 0
+terms_of_other level scheme (FromEdge e) = length (edge_mask level scheme (edge_at level.polygons e)).terms
+
+-- and those of a face
+abbrev pub terms_of_hidden : Level → ℕ → ℕ
+terms_of_hidden level f = length (face_mask level f).terms

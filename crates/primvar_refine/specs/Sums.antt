@@ -1,0 +1,39 @@
+-- Weighted sums of rows, number by number.
+use Rattle.std.specs.Prelude.{ℕ, ◌≡◌, ◌*◌, ◌/◌, ◌<◌, ◌≤◌, ℤ, pos, List, length, get_or}
+use Rattle.std.specs.List.{All, fold}
+use Rattle.std.specs.Int.{◌∣◌}
+use Rattle.subdiv_model.specs.Mask.{SourcePoint, OfPoint, OfFace, Term, total_weight}
+use Rattle.subdiv_model.specs.Channel.{number_bound}
+use Rattle.ratio128.specs.Numbers.{plus_times, greatest_amount}
+use Rattle.primvar_refine.specs.Rows.{Row, row_at}
+
+-- the row of a source: a point's own, or that in the list of what is made, at the place of a face
+abbrev pub source_row : List Row → List Row → List ℕ → SourcePoint → Row
+source_row rows made places (OfPoint v) = row_at rows v
+source_row rows made places (OfFace f) = row_at made (get_or places f 0)
+
+-- the weight of a term over m, where its source has a denominator of its own
+abbrev pub weight_over : ℕ → (SourcePoint → Row) → Term → ℕ
+weight_over m row t = t.weight * (m / (row t.source).den)
+
+-- the numbers so far, and those of each term's source by its weight over m
+abbrev pub term_sums : ℕ → (SourcePoint → Row) → List ℤ → List Term → List ℤ
+term_sums m row start terms = fold (λ sums t. plus_times (pos (weight_over m row t)) sums (row t.source).numbers) start terms
+
+-- the source has a row
+abbrev pub HasRow : List Row → List Row → List ℕ → SourcePoint → Type 0
+HasRow rows made places (OfPoint v) = v < length rows
+HasRow rows made places (OfFace f) = (f < length places) × (get_or places f 0 < length made)
+
+-- a row of so many numbers, whole over m and within a bound
+pub record IsSummand (m most size : ℕ) (row : Row) : Type 0 where
+  pub positive : 0 < row.den
+  pub divides : row.den ∣ m
+  pub within : greatest_amount row.numbers ≤ row.den * most
+  pub alike : length row.numbers ≡ size
+
+-- the terms can be summed over m
+pub record CanSum (m most size : ℕ) (row : SourcePoint → Row) (terms : List Term) : Type 0 where
+  pub each : All (λ t. IsSummand m most size (row t.source)) terms
+  pub short : total_weight terms * m ≤ number_bound
+  pub kept : total_weight terms * (m * most) ≤ number_bound

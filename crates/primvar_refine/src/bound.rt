@@ -1,0 +1,66 @@
+//! The greatest denominator, and a bound of all values.
+
+ghost use Rattle.std.specs.Prelude.{◌≡◌, ℕ, ◌<◌, ◌≤◌, ◌^◌, List, [], ◌∷◌, ◌++◌, length};
+ghost use Rattle.subdiv_model.specs.Channel.{number_bound};
+ghost use Rattle.primvar_refine.specs.Rows.{AreGood, rounded_up, least_bound};
+ghost use Rattle.primvar_refine.specs.View.{rows_of};
+ghost use Rattle.primvar_refine.specs.Greatest.{IsGreatestAt};
+
+use crate::valued::Valued;
+use ratio128::{Primvar, quotient};
+use std::sync::ledger::Ledger;
+
+/// The greatest of some denominators, and the first place that has it; 1 where there is none.
+#[derive(Clone, Copy)]
+pub(crate) struct Greatest {
+    pub(crate) den: u128,
+    pub(crate) place: u32,
+}
+
+impl Greatest {
+    // With one denominator more, at the next place.
+    fn with(self, den: u128, place: u32) -> Greatest
+        ensures { (dens : List ℕ) → place ≡ length dens → IsGreatestAt dens self.den self.place → IsGreatestAt (dens ++ den ∷ []) result.den result.place }
+    {
+        if den > self.den {
+            Greatest { den, place }
+        } else {
+            self
+        }
+    }
+}
+
+/// The greatest denominator.
+pub(crate) fn greatest_of(dens: &Vec<u128>) -> Greatest
+    requires { length dens.now.items < 2 ^ 32 }
+    ensures { IsGreatestAt dens.now.items result.den result.place }
+{
+    let mut greatest = Greatest { den: 1, place: 0 };
+    for p in 0..dens.len() as u32 {
+        greatest = greatest.with(dens[p as usize], p);
+    }
+    greatest
+}
+
+// The least whole number that a fraction does not pass.
+fn rounded_up(num: u128, den: u128) -> u128
+    requires positive { 0 < den }
+    requires num { num ≤ number_bound }
+    requires den { den ≤ number_bound }
+    ensures { result ≡ rounded_up num den }
+{
+    quotient(num + (den - 1), den)
+}
+
+/// The least whole number that no value passes in amount.
+pub(crate) fn least_bound<P: Primvar<L>, L: Ledger>(values: &[Valued<P>]) -> u128
+    requires { AreGood (rows_of P.numbers values.now) }
+    ensures exact { result ≡ least_bound (rows_of P.numbers values.now) }
+    ensures short { result ≤ number_bound }
+{
+    let mut bound = 0;
+    for value in values {
+        bound = bound.max(rounded_up(value.value.greatest(), value.den));
+    }
+    bound
+}

@@ -1,0 +1,45 @@
+//! The values of the new points of faces, put where they are kept.
+
+ghost use Rattle.std.specs.Prelude.{◌≡◌, ◌+◌, ◌<◌, ◌≤◌, [], length, get_or, map};
+ghost use Rattle.subdiv_model.specs.Mask.{face_mask};
+ghost use Rattle.primvar_refine.specs.Rows.{row_at};
+ghost use Rattle.primvar_refine.specs.View.{rows_of};
+ghost use Rattle.primvar_refine.specs.Made.{IsPut, IsMade, CanMake};
+
+use crate::mask_values::face_value;
+use crate::valued::Valued;
+use level_topology::Level;
+use ratio128::{Primvar, Steps};
+use std::sync::ledger::Ledger;
+
+/// Puts a value over the denominator that is there.
+pub(crate) fn put_value<P: Primvar<L>, L: Ledger>(made: &mut [Valued<P>], p: usize, value: P)
+    requires { p < length made.old }
+    ensures put { IsPut (rows_of P.numbers made.old) p (rows_of P.numbers made.new) }
+    ensures there { row_at (rows_of P.numbers made.new) p ≡ record { numbers = P.numbers value; den = (row_at (rows_of P.numbers made.old) p).den } }
+{
+    made[p].value = value;
+}
+
+/// Puts the value of the new point of a face.
+pub(crate) fn put_face<P: Primvar<L>, L: Ledger>(
+    parent: &Level,
+    f: u32,
+    p: usize,
+    values: &[Valued<P>],
+    zero: &P,
+    made: &mut [Valued<P>],
+    steps: &mut Steps<L>,
+)
+    requires known { f < length parent.now.level.polygons }
+    requires inside { p < length made.old }
+    requires can { CanMake parent.now.level (rows_of P.numbers values.now) [] [] (face_mask parent.now.level f) (row_at (rows_of P.numbers made.old) p).den }
+    requires alike { length (P.numbers zero.now) ≡ length (row_at (rows_of P.numbers values.now) 0).numbers }
+    ensures put { IsPut (rows_of P.numbers made.old) p (rows_of P.numbers made.new) }
+    ensures made { IsMade parent.now.level (rows_of P.numbers values.now) (face_mask parent.now.level f) (row_at (rows_of P.numbers made.new) p) }
+    ensures steps { steps.new ≡ steps.old + length (face_mask parent.now.level f).terms }
+{
+    let den = made[p].den;
+    let value = face_value(parent, f, den, values, zero, steps);
+    put_value(made, p, value);
+}

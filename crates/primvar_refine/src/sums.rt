@@ -1,0 +1,115 @@
+//! Weighted sums of values.
+
+ghost use Rattle.std.specs.Prelude.{◌≡◌, ◌+◌, ◌*◌, ◌/◌, ◌<◌, ◌≤◌, pos, [], length};
+ghost use Rattle.std.specs.List.{All};
+ghost use Rattle.subdiv_model.specs.Mask.{weigh_points};
+ghost use Rattle.subdiv_model.specs.Channel.{number_bound};
+ghost use Rattle.ratio128.specs.Numbers.{plus_times, CanAdd, zeros};
+ghost use Rattle.mask_rules.specs.View.{source_of, terms_of};
+ghost use Rattle.primvar_refine.specs.Rows.{least_bound};
+ghost use Rattle.primvar_refine.specs.View.{row_of, rows_of};
+ghost use Rattle.primvar_refine.specs.Sums.{source_row, HasRow, CanSum, term_sums};
+
+use crate::valued::Valued;
+use mask_rules::{At, Term};
+use ratio128::{Primvar, Steps, quotient};
+use std::sync::ledger::Ledger;
+
+// A weight over a multiple of a denominator. Where both are one number nothing is divided.
+fn weight_over(weight: u128, multiple: u128, den: u128) -> u128
+    requires positive { 0 < den }
+    requires small { weight * (multiple / den) ≤ number_bound }
+    ensures { result ≡ weight * (multiple / den) }
+{
+    if den == multiple {
+        return weight;
+    }
+    weight * quotient(multiple, den)
+}
+
+// Adds a value by a weight, with numbers over a multiple of its denominator.
+fn add_over<P: Primvar<L>, L: Ledger>(
+    sum: &mut P,
+    weight: u128,
+    multiple: u128,
+    source: &Valued<P>,
+    steps: &mut Steps<L>,
+)
+    requires positive { 0 < source.now.den }
+    requires same_length { length (P.numbers sum.old) ≡ length (P.numbers source.now.value) }
+    requires small { weight * (multiple / source.now.den) ≤ number_bound }
+    requires fits { CanAdd (pos (weight * (multiple / source.now.den))) (P.numbers sum.old) (P.numbers source.now.value) }
+    ensures added { P.numbers sum.new ≡ plus_times (pos (weight * (multiple / source.now.den))) (P.numbers sum.old) (P.numbers source.now.value) }
+    ensures step { steps.new ≡ steps.old + 1 }
+{
+    let factor = weight_over(weight, multiple, source.den);
+    sum.add_with_weight(factor as i128, &source.value, steps);
+}
+
+// The value of a source: a point's own, or that at the place of a face.
+fn source<'a, P: Primvar<L>, L: Ledger>(
+    at: At,
+    values: &'a [Valued<P>],
+    made: &'a [Valued<P>],
+    places: &[u32],
+) -> &'a Valued<P>
+    requires { HasRow (rows_of P.numbers values.now) (rows_of P.numbers made.now) places.now (source_of at) }
+    ensures { row_of P.numbers result.now ≡ source_row (rows_of P.numbers values.now) (rows_of P.numbers made.now) places.now (source_of at) }
+{
+    match at {
+        At::Point(v) => &values[v as usize],
+        At::FacePoint(f) => &made[places[f as usize] as usize],
+    }
+}
+
+/// The sum of the terms over a multiple of the denominators of all their sources. It is one step for each term.
+pub(crate) fn sum_of_terms<P: Primvar<L>, L: Ledger>(
+    terms: &[Term],
+    multiple: u128,
+    values: &[Valued<P>],
+    made: &[Valued<P>],
+    places: &[u32],
+    zero: &P,
+    steps: &mut Steps<L>,
+) -> P
+    requires there { All (λ t. HasRow (rows_of P.numbers values.now) (rows_of P.numbers made.now) places.now (source_of t.at)) terms.now }
+    requires can { CanSum multiple (least_bound (rows_of P.numbers values.now)) (length (P.numbers zero.now))
+        (source_row (rows_of P.numbers values.now) (rows_of P.numbers made.now) places.now) (terms_of terms.now) }
+    ensures sum { P.numbers result ≡ term_sums multiple (source_row (rows_of P.numbers values.now) (rows_of P.numbers made.now) places.now)
+        (zeros (P.numbers zero.now)) (terms_of terms.now) }
+    ensures steps { steps.new ≡ steps.old + length terms.now }
+{
+    let mut sum = zero.cleared();
+    for term in terms {
+        add_over(
+            &mut sum,
+            term.weight,
+            multiple,
+            source(term.at, values, made, places),
+            steps,
+        );
+    }
+    sum
+}
+
+/// The sum of the corners of a face over a multiple of their denominators. It is one step for each corner.
+pub(crate) fn sum_of_corners<P: Primvar<L>, L: Ledger>(
+    corners: &[u32],
+    multiple: u128,
+    values: &[Valued<P>],
+    zero: &P,
+    steps: &mut Steps<L>,
+) -> P
+    requires there { All (λ v. v < length values.now) corners.now }
+    requires can { CanSum multiple (least_bound (rows_of P.numbers values.now)) (length (P.numbers zero.now))
+        (source_row (rows_of P.numbers values.now) [] []) (weigh_points 1 corners.now) }
+    ensures sum { P.numbers result ≡ term_sums multiple (source_row (rows_of P.numbers values.now) [] [])
+        (zeros (P.numbers zero.now)) (weigh_points 1 corners.now) }
+    ensures steps { steps.new ≡ steps.old + length corners.now }
+{
+    let mut sum = zero.cleared();
+    for v in corners {
+        add_over(&mut sum, 1, multiple, &values[*v as usize], steps);
+    }
+    sum
+}
