@@ -2,4 +2,4 @@ mod CountLemmas
 mod PointLemmas
 mod LineLemmas
 mod LevelsLemmas
-mod SeriesLemmas
+pub mod SeriesLemmas

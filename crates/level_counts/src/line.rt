@@ -1,6 +1,6 @@
 //! The lines of levels' counts, put after what an [`Out`] already has.
 
-ghost use Rattle.std.specs.Prelude.{◌≡◌, ◌≤◌, ◌^◌, ◌++◌, false, length, map, codes};
+ghost use Rattle.std.specs.Prelude.{◌≡◌, ◌++◌, false, map, codes};
 ghost use Rattle.subdiv_model.specs.NumberText.{number_text, sign_text};
 ghost use Rattle.subdiv_model.specs.LevelText.{whole_text};
 ghost use Rattle.obj_out.specs.Puts.{Puts};

@@ -1,0 +1,5 @@
+mod OriginLemmas
+pub mod FaultLemmas
+mod StepLemmas
+mod DenominatorLemmas
+mod ChannelLemmas

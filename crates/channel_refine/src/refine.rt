@@ -1,0 +1,64 @@
+//! A channel refined to a depth.
+
+ghost use Rattle.std.specs.Prelude.{◌≡◌, ◌+◌, ◌^◌, ◌≤◌, length, max, MatchResult, OnOk};
+ghost use Rattle.subdiv_model.specs.Channel.{number_bound};
+ghost use Rattle.mask_rules.specs.View.{scheme_of};
+ghost use Rattle.level_counts.specs.Series.{faces_to};
+ghost use Rattle.primvar_refine.specs.View.{rows_of};
+ghost use Rattle.channel_refine.specs.Refined.{IsBase, AreControls, IsRefinedTo, IsChannelFault, channel_of, terms_to};
+
+use crate::fault::ChannelFault;
+use crate::step::next;
+use level_topology::Level;
+use mask_rules::Scheme;
+use primvar_refine::Valued;
+use ratio128::{Primvar, Steps};
+use std::alloc::Global;
+use std::sync::ledger::Ledger;
+
+/// A level and the value of each of its points.
+#[derive(Drop)]
+pub struct RefinedChannel<P> {
+    pub level: Level,
+    pub values: Vec<Valued<P>>,
+}
+
+/// A channel refined to a depth of at most 10, level by level, of which two are kept at a time: level 0 and the control values
+/// of its points, each over 1 and of at most `greatest` in amount; `common` is the denominator that all of them stand over.
+/// Both are at most 2^126 - 1. It is one step for each face of the levels after the first, and one for each mask term.
+///
+/// A fault is that of the first level that cannot be made: too many faces (`TooLarge`), and then the first number that passes
+/// its bound, in the order of the variants of [`ChannelFault`].
+pub fn refine_channel<P: Primvar<L>, L: Ledger>(
+    alloc: Global,
+    base: Level,
+    controls: Vec<Valued<P>>,
+    greatest: u128,
+    common: u128,
+    scheme: Scheme,
+    depth: u32,
+    steps: &mut Steps<L>,
+) -> Result<RefinedChannel<P>, ChannelFault>
+    requires depth { depth ≤ 10 }
+    requires base { IsBase base }
+    requires each { length controls.items ≡ base.level.point_count }
+    requires controls { AreControls greatest (rows_of P.numbers controls.items) }
+    requires short { max greatest common ≤ number_bound }
+    ensures refined { MatchResult result
+        (λ refined. IsRefinedTo (channel_of base.level (scheme_of scheme) greatest common) (rows_of P.numbers controls.items) depth refined.level (rows_of P.numbers refined.values.items))
+        (λ fault. IsChannelFault (channel_of base.level (scheme_of scheme) greatest common) depth fault) }
+    ensures taken { OnOk result (steps.old + terms_to base.level (scheme_of scheme) depth ≤ steps.new) }
+    ensures steps { steps.new ≤ steps.old + faces_to base.level depth + terms_to base.level (scheme_of scheme) depth }
+    ensures later { steps.old ≤ steps.new }
+{
+    base.facts();
+    let most = greatest.max(common);
+    let mut refined = RefinedChannel {
+        level: base,
+        values: controls,
+    };
+    for k in 0..depth {
+        refined = next(alloc, &refined, most, scheme, k + 1, steps)?;
+    }
+    Ok(refined)
+}
