@@ -1,0 +1,6 @@
+mod LineLemmas
+mod ListLemmas
+mod PartsLemmas
+mod NumberedLemmas
+mod RoundingLemmas
+pub mod SameTextLemmas

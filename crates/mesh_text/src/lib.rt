@@ -1,0 +1,15 @@
+//! The text of a refined mesh: its points, its faces and its tags, put after what an [`obj_out::Out`] already has.
+#![tactic(auto)]
+
+mod corner_tags;
+mod creases;
+mod faces;
+mod holes;
+mod mesh;
+mod points;
+mod sharpness;
+mod tags;
+mod words;
+
+pub use mesh::put_mesh;
+pub use tags::put_tags;

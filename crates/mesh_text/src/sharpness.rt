@@ -1,0 +1,69 @@
+//! The texts of sharpness.
+
+ghost use Rattle.std.specs.Prelude.{◌≡◌, ◌∷◌, ◌++◌, codes};
+ghost use Rattle.subdiv_model.specs.Sharpness.{is_sharp};
+ghost use Rattle.subdiv_model.specs.NumberText.{number_text, ratio_text};
+ghost use Rattle.subdiv_model.specs.Text.{sharpness_text};
+ghost use Rattle.sharpness_rules.specs.View.{sharpness_of};
+ghost use Rattle.obj_out.specs.Puts.{Puts};
+
+use crate::words::{put_number, put_text};
+use far_io::{Sink, WriteFailed};
+use obj_out::Out;
+use sharpness_rules::Sharpness;
+
+// Whether a sharpness is above 0.
+pub(crate) fn is_sharp(sharpness: Sharpness) -> bool
+    ensures { result ≡ is_sharp (sharpness_of sharpness) }
+{
+    match sharpness {
+        Sharpness::Smooth => false,
+        Sharpness::Semi(_) | Sharpness::Infinite => true,
+    }
+}
+
+// Puts two numbers with a slash between them.
+fn put_terms<K: Sink>(out: &mut Out<'_, K>, num: u64, den: u64) -> Result<(), WriteFailed>
+    ensures same_reference { out.new.sink.ghost_name ≡ out.old.sink.ghost_name }
+    ensures puts { Puts K.held K.faults K.fixed out.old.sink.now out.new.sink.now out.old.waiting out.new.waiting out.old.failed out.new.failed (number_text num ++ (codes "/" ++ number_text den)) result }
+{
+    put_number(out, num)?;
+    put_text(out, b"/")?;
+    put_number(out, den)
+}
+
+// Puts the numerator, and the denominator after it where that is not 1.
+fn put_ratio<K: Sink>(out: &mut Out<'_, K>, num: u64, den: u64) -> Result<(), WriteFailed>
+    ensures same_reference { out.new.sink.ghost_name ≡ out.old.sink.ghost_name }
+    ensures puts { Puts K.held K.faults K.fixed out.old.sink.now out.new.sink.now out.old.waiting out.new.waiting out.old.failed out.new.failed (ratio_text (num, den)) result }
+{
+    if den == 1 {
+        put_number(out, num)
+    } else {
+        put_terms(out, num, den)
+    }
+}
+
+// Puts a sharpness in lowest terms, in which it is kept, and 10 where it is infinite.
+fn put_sharpness<K: Sink>(out: &mut Out<'_, K>, sharpness: Sharpness) -> Result<(), WriteFailed>
+    ensures same_reference { out.new.sink.ghost_name ≡ out.old.sink.ghost_name }
+    ensures puts { Puts K.held K.faults K.fixed out.old.sink.now out.new.sink.now out.old.waiting out.new.waiting out.old.failed out.new.failed (sharpness_text (sharpness_of sharpness)) result }
+{
+    match sharpness {
+        Sharpness::Smooth => put_text(out, b"0"),
+        Sharpness::Semi(value) => put_ratio(out, value.num(), value.den()),
+        Sharpness::Infinite => put_text(out, b"10"),
+    }
+}
+
+// Puts a space and a sharpness.
+pub(crate) fn put_sharpness_word<K: Sink>(
+    out: &mut Out<'_, K>,
+    sharpness: Sharpness,
+) -> Result<(), WriteFailed>
+    ensures same_reference { out.new.sink.ghost_name ≡ out.old.sink.ghost_name }
+    ensures puts { Puts K.held K.faults K.fixed out.old.sink.now out.new.sink.now out.old.waiting out.new.waiting out.old.failed out.new.failed (32 ∷ sharpness_text (sharpness_of sharpness)) result }
+{
+    put_text(out, b" ")?;
+    put_sharpness(out, sharpness)
+}
