@@ -1,6 +1,6 @@
 -- The faults of levels, level by level.
-use Rattle.std.proofs.Common.{◌≡◌, ℕ, zero, suc, ◌+◌, ◌*◌, ◌<◌, ◌≤◌, ◌^◌, Bool, true, false, nat_lt, ◌||◌, List, [], ◌∷◌, ◌++◌, length, Option, Some, None, arith, refl, ap, sym, subst, ◌∙◌}
-use Rattle.std.specs.List.{flat_map, list_any, sum_by, range_with_len}
+use Rattle.std.proofs.Common.{◌≡◌, ℕ, zero, suc, ◌+◌, ◌*◌, ◌<◌, ◌≤◌, ◌^◌, Bool, true, false, nat_lt, List, [], ◌∷◌, ◌++◌, length, Option, Some, None, arith, refl, ap, sym, subst, ◌∙◌}
+use Rattle.std.specs.List.{flat_map, sum_by, range_with_len}
 use Rattle.std.proofs.lemmas.Bool.Decides.{nat_tests}
 use Rattle.std.proofs.lemmas.List.Sums.{sum_by-cons}
 use Rattle.subdiv_model.specs.Lists.{first_of}
@@ -9,54 +9,16 @@ use Rattle.subdiv_model.specs.Level.{Level}
 use Rattle.subdiv_model.specs.Base.{base_level}
 use Rattle.subdiv_model.specs.Child.{refined_level, faces_after}
 use Rattle.subdiv_model.specs.ObjMesh.{ObjMesh}
-use Rattle.subdiv_model.specs.Command.{Levels}
+use Rattle.subdiv_model.specs.Command.{Command, Levels}
 use Rattle.subdiv_model.specs.Fault.{Fault, TooLarge, LevelFaces, Overflow, Track, Positions, ChaikinOverflow}
-use Rattle.subdiv_model.specs.Channel.{Channel, Sharpnesses, fault_where, chaikin_overflows_at, has_chaikin_overflow, level_faults, channel_faults}
-use Rattle.subdiv_model.specs.Answer.{face_limit, mesh_limit, level_count_faults, count_faults, command_faults, command_text, positions_of, answer_of_checked}
+use Rattle.subdiv_model.specs.Channel.{Channel, Sharpnesses, fault_where, chaikin_overflows_at, has_chaikin_overflow, channel_faults}
+use Rattle.subdiv_model.specs.Answer.{face_limit, mesh_limit, level_count_faults, count_faults, positions_of}
 use Rattle.level_laws.proofs.FaceLemmas.{faces-after, child_polygons-length}
 use Rattle.level_topology.specs.Topology.{Topology}
 use Rattle.mesh_check.specs.Checked.{IsAccepted}
+use Rattle.channel_refine.proofs.FaultLemmas.{first-here, first-behind, flat-none, first-from-0, none-of-levels, first-of-levels, any-none, any-from-0}
 use Rattle.far_engine.specs.Outcome.{refusal_of_mesh}
-use Rattle.far_engine.proofs.BuiltLemmas.{unless-refusal}
-
--- the first of two lists, one after the other
-pub first-here : {X : Type 0} (xs ys : List X) (x : X) → first_of xs ≡ Some x → first_of (xs ++ ys) ≡ Some x
-first-here [] ys x h = absurd (cc)
-first-here (y ∷ xs) ys x h = h
-
-first-behind : {X : Type 0} (xs ys : List X) → first_of xs ≡ None → first_of (xs ++ ys) ≡ first_of ys
-first-behind [] ys h = refl
-first-behind (y ∷ xs) ys h = absurd (cc)
-
--- what is listed of each number of a range, where nothing is
-flat-none : {X : Type 0} (f : ℕ → List X) (a n : ℕ) → ((k : ℕ) → k < a + n → f k ≡ []) → flat_map f (range_with_len a n) ≡ []
-flat-none f a zero none = refl
-flat-none f a (suc n) none =
-    ap (λ xs. xs ++ flat_map f (range_with_len (a + 1) n)) (none a (omega arith)) ∙ flat-none f (a + 1) n (λ k h. none k (omega (arith, h)))
-
--- and where something is of one number, and nothing of those before it
-flat-first : {X : Type 0} (f : ℕ → List X) (a n gap : ℕ) (x : X) → gap < n → ((j : ℕ) → j < a + gap → f j ≡ []) → f (a + gap) ≡ x ∷ [] →
-    first_of (flat_map f (range_with_len a n)) ≡ Some x
-flat-first f a zero gap x within none here = absurd (omega (arith, within))
-flat-first f a (suc n) zero x within none here =
-    ap (λ k. first_of (f k ++ flat_map f (range_with_len (a + 1) n))) (plus-none a) ∙ ap (λ xs. first_of (xs ++ flat_map f (range_with_len (a + 1) n))) here
-  where
-    plus-none : (n : ℕ) → n ≡ n + 0
-    plus-none n = omega arith
-flat-first f a (suc n) (suc gap) x within none here =
-    ap (λ xs. first_of (xs ++ flat_map f (range_with_len (a + 1) n))) (none a (omega arith))
-    ∙ flat-first f (a + 1) n gap x (omega (arith, within)) (λ j h. none j (omega (arith, h))) (ap f (moved a gap) ∙ here)
-  where
-    moved : (a gap : ℕ) → a + 1 + gap ≡ a + suc gap
-    moved a gap = omega arith
-
-zero-plus : (k : ℕ) → 0 + k ≡ k
-zero-plus k = omega arith
-
--- the same from 0 on
-first-from-0 : {X : Type 0} (f : ℕ → List X) (n k : ℕ) (x : X) → k < n → ((j : ℕ) → j < k → f j ≡ []) → f k ≡ x ∷ [] →
-    first_of (flat_map f (range_with_len 0 n)) ≡ Some x
-first-from-0 f n k x within none here = flat-first f 0 n k x within (λ j h. none j (omega (arith, h))) (ap f (zero-plus k) ∙ here)
+use Rattle.far_engine.proofs.RefusalLemmas.{built_faults, refusal-of-manifold}
 
 -- of the halves at a level
 overflow-where : (b : Bool) (fault : Fault) → b ≡ false → fault_where b fault ++ [] ≡ []
@@ -70,14 +32,14 @@ overflow-here false fault h = absurd (cc)
 pub no-overflows : (channel : Channel) (track : Track) (depth : ℕ) → ((k : ℕ) → k < depth → has_chaikin_overflow channel k ≡ false) →
     channel_faults Sharpnesses channel track depth ≡ []
 no-overflows channel track depth none =
-    flat-none (level_faults Sharpnesses channel track) 0 depth (λ k h. overflow-where (has_chaikin_overflow channel k) (Overflow track (suc k) ChaikinOverflow) (none k (omega (arith, h))))
+    none-of-levels Sharpnesses channel track depth (λ k h. overflow-where (has_chaikin_overflow channel k) (Overflow track (suc k) ChaikinOverflow) (none k h))
 
 pub first-overflow : (channel : Channel) (track : Track) (k depth : ℕ) → k < depth → ((j : ℕ) → j < k → has_chaikin_overflow channel j ≡ false) →
     has_chaikin_overflow channel k ≡ true → first_of (channel_faults Sharpnesses channel track depth) ≡ Some (Overflow track (suc k) ChaikinOverflow)
 first-overflow channel track k depth within none here =
-    first-from-0 (level_faults Sharpnesses channel track) depth k (Overflow track (suc k) ChaikinOverflow) within
+    first-of-levels Sharpnesses channel track k depth (Overflow track (suc k) ChaikinOverflow) within
     (λ j h. overflow-where (has_chaikin_overflow channel j) (Overflow track (suc j) ChaikinOverflow) (none j h))
-    (overflow-here (has_chaikin_overflow channel k) (Overflow track (suc k) ChaikinOverflow) here)
+    (ap first_of (overflow-here (has_chaikin_overflow channel k) (Overflow track (suc k) ChaikinOverflow) here))
 
 -- of the faces of levels
 face-where : (n : ℕ) (fault : Fault) → n ≤ 2 ^ 22 → fault_where (nat_lt face_limit n) fault ≡ []
@@ -105,30 +67,35 @@ first-large polygons k depth within small here =
     first-from-0 (λ k. fault_where (nat_lt face_limit (faces_after polygons (suc k))) (TooLarge (LevelFaces (suc k) (faces_after polygons (suc k))))) depth k
     (TooLarge (LevelFaces (suc k) (faces_after polygons (suc k)))) within
     (λ j h. face-where (faces_after polygons (suc j)) (TooLarge (LevelFaces (suc j) (faces_after polygons (suc j)))) (small j h))
-    (face-here (faces_after polygons (suc k)) (TooLarge (LevelFaces (suc k) (faces_after polygons (suc k)))) here)
+    (ap first_of (face-here (faces_after polygons (suc k)) (TooLarge (LevelFaces (suc k) (faces_after polygons (suc k)))) here))
 
--- a test over a range
-any-none : (test : ℕ → Bool) (a n : ℕ) → ((v : ℕ) → v < a + n → test v ≡ false) → list_any test (range_with_len a n) ≡ false
-any-none test a zero none = refl
-any-none test a (suc n) none =
-    ap (λ b. b || list_any test (range_with_len (a + 1) n)) (none a (omega arith)) ∙ any-none test (a + 1) n (λ v h. none v (omega (arith, h)))
+-- where no level has too many faces, this one has not
+first-none : {X : Type 0} (xs ys : List X) → first_of (xs ++ ys) ≡ None → (xs ≡ []) × (first_of ys ≡ None)
+first-none [] ys h = (refl, h)
+first-none (x ∷ xs) ys h = absurd (cc)
 
-any-here : (test : ℕ → Bool) (a n gap : ℕ) → gap < n → test (a + gap) ≡ true → list_any test (range_with_len a n) ≡ true
-any-here test a zero gap within here = absurd (omega (arith, within))
-any-here test a (suc n) zero within here =
-    ap (λ k. test k || list_any test (range_with_len (a + 1) n)) (plus-none a) ∙ ap (λ b. b || list_any test (range_with_len (a + 1) n)) here
+none-each : {X : Type 0} (f : ℕ → List X) (a n gap : ℕ) → gap < n → first_of (flat_map f (range_with_len a n)) ≡ None → f (a + gap) ≡ []
+none-each f a zero gap within none = absurd (omega (arith, within))
+none-each f a (suc n) zero within none = ap f (plus-none a) ∙ (first-none (f a) (flat_map f (range_with_len (a + 1) n)) none).0
   where
-    plus-none : (n : ℕ) → n ≡ n + 0
+    plus-none : (n : ℕ) → n + 0 ≡ n
     plus-none n = omega arith
-any-here test a (suc n) (suc gap) within here =
-    either (test a) (list_any test (range_with_len (a + 1) n)) (any-here test (a + 1) n gap (omega (arith, within)) (ap test (moved a gap) ∙ here))
+none-each f a (suc n) (suc gap) within none =
+    ap f (moved a gap) ∙ none-each f (a + 1) n gap (omega (arith, within)) (first-none (f a) (flat_map f (range_with_len (a + 1) n)) none).1
   where
-    moved : (a gap : ℕ) → a + 1 + gap ≡ a + suc gap
+    moved : (a gap : ℕ) → a + suc gap ≡ a + 1 + gap
     moved a gap = omega arith
 
-    either : (b c : Bool) → c ≡ true → (b || c) ≡ true
-    either true c h = refl
-    either false c h = h
+pub few-not-large : (polygons : List Polygon) (depth k : ℕ) → k < depth → first_of (level_count_faults polygons depth) ≡ None → 2 ^ 22 < faces_after polygons (suc k) → ⊥
+few-not-large polygons depth k within few large =
+    let f : ℕ → List Fault = λ j. fault_where (nat_lt face_limit (faces_after polygons (suc j))) (TooLarge (LevelFaces (suc j) (faces_after polygons (suc j)))) in
+    absurd (one-none _ (f k) (face-here (faces_after polygons (suc k)) (TooLarge (LevelFaces (suc k) (faces_after polygons (suc k)))) large) (ap f (sym (zero-plus k)) ∙ none-each f 0 depth k within few))
+  where
+    zero-plus : (k : ℕ) → 0 + k ≡ k
+    zero-plus k = omega arith
+
+    one-none : (fault : Fault) (xs : List Fault) → xs ≡ fault ∷ [] → xs ≡ [] → ⊥
+    one-none fault xs e h = cc
 
 -- where halves overflow at no point of the levels before a depth
 pub levels-fine : (mesh : ObjMesh) (depth : ℕ) →
@@ -140,46 +107,51 @@ levels-fine mesh depth fine k h =
 pub level-overflows : (mesh : ObjMesh) (k v : ℕ) → v < (refined_level (base_level mesh) k).point_count →
     chaikin_overflows_at (refined_level (base_level mesh) k) v ≡ true → has_chaikin_overflow (positions_of mesh) k ≡ true
 level-overflows mesh k v within here =
-    any-here (chaikin_overflows_at (refined_level (base_level mesh) k)) 0 (refined_level (base_level mesh) k).point_count v within
-    (ap (chaikin_overflows_at (refined_level (base_level mesh) k)) (zero-plus v) ∙ here)
+    any-from-0 (chaikin_overflows_at (refined_level (base_level mesh) k)) (refined_level (base_level mesh) k).point_count v within here
 
 -- how many faces the next level has
 pub next-count : (level : Level) (k : ℕ) → sum_by length (refined_level level k).polygons ≡ faces_after level.polygons (suc k)
 next-count level k =
     sym (child_polygons-length (refined_level level k).point_count (refined_level level k).polygons) ∙ faces-after level (suc k)
 
--- the refusal of a mesh that was accepted is that of its levels
-pub refusal-of-levels : (mesh : ObjMesh) (level : Topology) (depth : ℕ) (fault : Option Fault) → IsAccepted mesh level →
-    first_of (command_faults (Levels depth) mesh) ≡ fault → refusal_of_mesh (Levels depth) mesh ≡ fault
-refusal-of-levels mesh level depth fault accepted is =
-    ap (λ f. (answer_of_checked (Levels depth) f mesh).refusal) accepted.manifold
-    ∙ unless-refusal (first_of (count_faults mesh ++ command_faults (Levels depth) mesh)) (command_text (Levels depth) mesh)
-    ∙ first-behind (count_faults mesh) (command_faults (Levels depth) mesh) accepted.small
+-- the refusal of a mesh that was accepted is that of the command
+refusal-of-accepted : (command : Command) (mesh : ObjMesh) (level : Topology) (fault : Option Fault) → IsAccepted mesh level →
+    first_of (built_faults command mesh) ≡ fault → refusal_of_mesh command mesh ≡ fault
+refusal-of-accepted command mesh level fault accepted is =
+    refusal-of-manifold command mesh accepted.manifold
+    ∙ first-behind (count_faults mesh) (built_faults command mesh) accepted.small
     ∙ is
 
 -- a level that cannot be made for its faces
-pub refusal-of-faces : (mesh : ObjMesh) (level : Topology) (depth : ℕ) (fault : Fault) → IsAccepted mesh level →
-    first_of (level_count_faults mesh.faces depth) ≡ Some fault → refusal_of_mesh (Levels depth) mesh ≡ Some fault
-refusal-of-faces mesh level depth fault accepted is =
-    refusal-of-levels mesh level depth (Some fault) accepted
-    (first-here (level_count_faults mesh.faces depth) (channel_faults Sharpnesses (positions_of mesh) Positions depth) fault is)
+pub refusal-of-faces : (command : Command) (mesh : ObjMesh) (level : Topology) (depth : ℕ) (others : List Fault) (fault : Fault) → IsAccepted mesh level →
+    built_faults command mesh ≡ level_count_faults mesh.faces depth ++ others → first_of (level_count_faults mesh.faces depth) ≡ Some fault →
+    refusal_of_mesh command mesh ≡ Some fault
+refusal-of-faces command mesh level depth others fault accepted split is =
+    refusal-of-accepted command mesh level (Some fault) accepted
+    (ap first_of split ∙ first-here (level_count_faults mesh.faces depth) others fault is)
+
+-- where no level has too many faces, what comes after
+pub refusal-of-others : (command : Command) (mesh : ObjMesh) (level : Topology) (depth : ℕ) (others : List Fault) (fault : Option Fault) → IsAccepted mesh level →
+    built_faults command mesh ≡ level_count_faults mesh.faces depth ++ others → first_of (level_count_faults mesh.faces depth) ≡ None → first_of others ≡ fault →
+    refusal_of_mesh command mesh ≡ fault
+refusal-of-others command mesh level depth others fault accepted split few is =
+    refusal-of-accepted command mesh level fault accepted
+    (ap first_of split ∙ first-behind (level_count_faults mesh.faces depth) others few ∙ is)
 
 -- a level at which halves overflow, where those before it are made
 pub refusal-of-halves : (mesh : ObjMesh) (level : Topology) (k depth : ℕ) → IsAccepted mesh level → first_of (level_count_faults mesh.faces depth) ≡ None →
     k < depth → ((j : ℕ) → j < k → has_chaikin_overflow (positions_of mesh) j ≡ false) → has_chaikin_overflow (positions_of mesh) k ≡ true →
     refusal_of_mesh (Levels depth) mesh ≡ Some (Overflow Positions (suc k) ChaikinOverflow)
 refusal-of-halves mesh level k depth accepted few within none here =
-    refusal-of-levels mesh level depth (Some (Overflow Positions (suc k) ChaikinOverflow)) accepted
-    (first-behind (level_count_faults mesh.faces depth) (channel_faults Sharpnesses (positions_of mesh) Positions depth) few
-    ∙ first-overflow (positions_of mesh) Positions k depth within none here)
+    refusal-of-others (Levels depth) mesh level depth (channel_faults Sharpnesses (positions_of mesh) Positions depth) (Some (Overflow Positions (suc k) ChaikinOverflow))
+    accepted refl few (first-overflow (positions_of mesh) Positions k depth within none here)
 
 -- no refusal, where all levels are made
 pub no-refusal : (mesh : ObjMesh) (level : Topology) (depth : ℕ) → IsAccepted mesh level → first_of (level_count_faults mesh.faces depth) ≡ None →
     ((k : ℕ) → k < depth → has_chaikin_overflow (positions_of mesh) k ≡ false) → refusal_of_mesh (Levels depth) mesh ≡ None
 no-refusal mesh level depth accepted few none =
-    refusal-of-levels mesh level depth None accepted
-    (first-behind (level_count_faults mesh.faces depth) (channel_faults Sharpnesses (positions_of mesh) Positions depth) few
-    ∙ ap first_of (no-overflows (positions_of mesh) Positions depth none))
+    refusal-of-others (Levels depth) mesh level depth (channel_faults Sharpnesses (positions_of mesh) Positions depth) None
+    accepted refl few (ap first_of (no-overflows (positions_of mesh) Positions depth none))
 
 -- a mesh that was accepted has few points
 stands-not : (stands : Bool) (fault : Fault) (rest : List Fault) → first_of (fault_where stands fault ++ rest) ≡ None → stands ≡ false

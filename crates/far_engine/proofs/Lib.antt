@@ -1,6 +1,8 @@
 mod OutputLemmas
-mod BuiltLemmas
+mod RefusalLemmas
 mod WordsLemmas
 mod RunLemmas
 mod LevelLemmas
 mod SeriesLemmas
+mod PointLemmas
+mod RefineLemmas

@@ -1,5 +1,5 @@
 -- What a sink has got when a buffer over it is dropped, or ended.
-use Rattle.std.proofs.Common.{◌≡◌, ℕ, ◌+◌, ◌<◌, ◌≤◌, ◌⊎◌, inl, inr, Bool, true, false, List, [], arith, Option, Result, Ok, Err, IsTrue, OnOk, OnErr, refl, sym, ◌∙◌, subst}
+use Rattle.std.proofs.Common.{◌≡◌, ℕ, ◌≤◌, ◌⊎◌, inl, inr, Bool, false, List, [], arith, Option, Result, Ok, Err, IsTrue, OnOk, OnErr, refl, subst}
 use Rattle.far_io.specs.Bytes.{Rose, Added, AddedPrefix}
 use Rattle.far_io.specs.declared.sink.WriteFailed.{WriteFailed}
 use Rattle.obj_out.specs.Puts.{Puts}

@@ -1,16 +1,18 @@
 -- What a run owes at each of its ends.
-use Rattle.std.proofs.Common.{◌≡◌, ◌≢◌, ℕ, ◌+◌, ◌<◌, ◌≤◌, true, false, cond, List, [], ◌++◌, length, take, Option, Some, None, arith, append-nil, length-append, refl, ap, sym, subst, ◌∙◌}
+use Rattle.std.proofs.Common.{◌≡◌, ◌≢◌, ℕ, ◌+◌, ◌<◌, ◌≤◌, true, cond, List, [], ◌++◌, length, take, Option, Some, None, Result, Ok, Err, OnOk, arith, append-nil, length-append, refl, ap, sym, subst, ◌∙◌}
 use Rattle.far_io.specs.Bytes.{Rose, Took, Added, AddedPrefix, IsDry}
 use Rattle.subdiv_model.specs.Words.{usage_of}
 use Rattle.subdiv_model.specs.ReadObj.{read_obj_mesh}
 use Rattle.subdiv_model.specs.Command.{Command, command_of}
-use Rattle.subdiv_model.specs.Fault.{Fault, Usage, Read, Long, Obj, Mesh, TooLarge, Overflow, Write, Memory, NotBuilt}
+use Rattle.subdiv_model.specs.Fault.{Fault, Usage, Read, Long, Obj, Mesh, TooLarge, Overflow, Write, Memory, NotBuilt, fault_status, outcome_status}
 use Rattle.subdiv_model.specs.Answer.{byte_limit, command_text}
 use Rattle.far_words.specs.Built.{built_table}
 use Rattle.far_engine.specs.BuiltWords.{written_text}
-use Rattle.far_engine.specs.Outcome.{refusal_of, refusal_of_words, refusal_of_obj, text_of, IsAnswered, IsFound, is_after_reading, step_limit}
+use Rattle.far_engine.specs.Outcome.{refusal_of, refusal_of_words, refusal_of_obj, text_of, IsAnswered, IsFound, is_after_reading, step_limit, least_steps}
 use Rattle.far_engine.specs.Runs.{Runs}
-use Rattle.far_engine.proofs.BuiltLemmas.{within, beyond, levels-manifold}
+use Rattle.far_engine.specs.View.{fault_of, outcome_of}
+use Rattle.far_engine.specs.declared.fault.FarFault.{FarFault}
+use Rattle.far_engine.proofs.RefusalLemmas.{within, beyond, levels-manifold}
 
 -- what was taken to the end is what there was
 all_taken : (old new : Option (List ℕ)) (taken bytes : List ℕ) → Took old new taken → IsDry new → old ≡ Some bytes → taken ≡ bytes
@@ -188,3 +190,28 @@ steps_as left source_faults words s s' bytes other command old new was says boun
     let same = told left source_faults words s s' bytes other was e in
     subst (λ b. new ≤ old + step_limit (command_of words) (read_obj_mesh b 0)) same
     (subst (λ c. new ≤ old + step_limit c (read_obj_mesh bytes 0)) says bound)
+
+pub taken_as : {S : Type 0} (left : S → Option (List ℕ)) (source_faults : S → ℕ) (words : List (List ℕ)) (s s' : S) (bytes other : List ℕ) (command : Command) (old new : ℕ) →
+    WasRead left source_faults words s s' bytes → command ≡ command_of words → old + least_steps command (read_obj_mesh bytes 0) ≤ new → left s ≡ Some other →
+    old + least_steps (command_of words) (read_obj_mesh other 0) ≤ new
+taken_as left source_faults words s s' bytes other command old new was says bound e =
+    let same = told left source_faults words s s' bytes other was e in
+    subst (λ b. old + least_steps (command_of words) (read_obj_mesh b 0) ≤ new) same
+    (subst (λ c. old + least_steps c (read_obj_mesh bytes 0) ≤ new) says bound)
+
+-- a status of 0 is that of a run without a fault
+status_not_0 : (fault : Fault) → fault_status fault ≡ 0 → ⊥
+status_not_0 (Usage word) e = cc
+status_not_0 Read e = cc
+status_not_0 Long e = cc
+status_not_0 (Obj fault) e = cc
+status_not_0 (Mesh fault) e = cc
+status_not_0 (TooLarge counted) e = cc
+status_not_0 (Overflow track level kind) e = cc
+status_not_0 Write e = cc
+status_not_0 Memory e = cc
+status_not_0 (NotBuilt line) e = cc
+
+pub taken_by_status : (r : Result (Unit {0}) FarFault) (least new : ℕ) → OnOk r (least ≤ new) → outcome_status (outcome_of r) ≡ 0 → least ≤ new
+taken_by_status (Ok done) least new taken zero = taken
+taken_by_status (Err fault) least new taken zero = absurd (status_not_0 (fault_of fault) zero)

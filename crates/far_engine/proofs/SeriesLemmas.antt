@@ -6,39 +6,34 @@ use Rattle.subdiv_model.specs.Polygons.{Polygon}
 use Rattle.subdiv_model.specs.Level.{Level}
 use Rattle.subdiv_model.specs.Base.{base_level}
 use Rattle.subdiv_model.specs.Child.{refined_level, faces_after}
-use Rattle.subdiv_model.specs.MeshFault.{MeshFault, first_mesh_fault}
 use Rattle.subdiv_model.specs.ObjMesh.{ObjMesh}
 use Rattle.subdiv_model.specs.Command.{Command, Levels}
-use Rattle.subdiv_model.specs.Fault.{Fault, Mesh, TooLarge, LevelFaces, Overflow, Positions, ChaikinOverflow}
+use Rattle.subdiv_model.specs.Fault.{Fault, TooLarge, LevelFaces, Overflow, Positions, ChaikinOverflow}
 use Rattle.subdiv_model.specs.Fault as run
-use Rattle.subdiv_model.specs.Answer.{level_count_faults, answer_of_checked, count_faults, command_faults, command_text}
+use Rattle.subdiv_model.specs.Answer.{level_count_faults, count_faults, command_text}
 use Rattle.level_topology.specs.Topology.{Topology}
 use Rattle.level_topology.specs.declared.counted.Counted.{Counted}
 use Rattle.level_topology.specs.CountedText.{counted_of}
 use Rattle.mesh_check.specs.Counts.{count_named}
 use Rattle.mesh_check.specs.Checked.{IsAccepted, IsTooLarge}
+use Rattle.channel_refine.proofs.FaultLemmas.{first-here}
 use Rattle.level_counts.specs.declared.counts.LevelCounts.{LevelCounts}
 use Rattle.level_counts.specs.Counts.{counts_of, levels_lines}
 use Rattle.level_counts.specs.View.{seen_counts}
-use Rattle.level_counts.specs.Series.{AreMade, IsFirstFault, IsStepFault, Overflows, faces_to}
+use Rattle.level_counts.specs.Series.{AreMade, IsFirstFault, Overflows, faces_to}
 use Rattle.level_counts.specs.declared.series.SeriesFault.TheVariants as series
 use Rattle.subdiv_model.specs.LevelText.{level_line, levels_text}
-use Rattle.far_engine.specs.BuiltWords.{IsBuiltCommand, written_text}
+use Rattle.far_engine.specs.BuiltWords.{IsBuiltCommand, IsWritten, written_text}
 use Rattle.far_engine.specs.Levels.{IsAcceptedLevel, AreCounted}
 use Rattle.far_engine.specs.Outcome.{refusal_of_mesh, step_limit}
-use Rattle.far_engine.proofs.BuiltLemmas.{unless-refusal}
-use Rattle.far_engine.proofs.LevelLemmas.{first-here, first-large, levels-fine, level-overflows, next-count, refusal-of-faces, refusal-of-halves, no-refusal, few-points, steps-of-levels}
+use Rattle.far_engine.proofs.RefusalLemmas.{built_faults, refusal-of-manifold}
+use Rattle.far_engine.proofs.LevelLemmas.{first-large, levels-fine, level-overflows, next-count, refusal-of-faces, refusal-of-halves, no-refusal, few-points, steps-of-levels}
 
--- a mesh that is no manifold, and one of which there is too much
-pub refusal-of-mesh : (mesh : ObjMesh) (depth : ℕ) (fault : MeshFault) → first_mesh_fault (length mesh.points) mesh.faces ≡ Some fault →
-    refusal_of_mesh (Levels depth) mesh ≡ Some (Mesh fault)
-refusal-of-mesh mesh depth fault is = ap (λ f. (answer_of_checked (Levels depth) f mesh).refusal) is
-
-pub refusal-of-counts : (mesh : ObjMesh) (depth : ℕ) (counted : run.Counted) → IsTooLarge mesh counted → refusal_of_mesh (Levels depth) mesh ≡ Some (TooLarge counted)
-refusal-of-counts mesh depth counted large =
-    ap (λ f. (answer_of_checked (Levels depth) f mesh).refusal) large.manifold
-    ∙ unless-refusal (first_of (count_faults mesh ++ command_faults (Levels depth) mesh)) (command_text (Levels depth) mesh)
-    ∙ first-here (count_faults mesh) (command_faults (Levels depth) mesh) (TooLarge counted) large.named
+-- a mesh of which there is too much
+pub refusal-of-counts : (command : Command) (mesh : ObjMesh) (counted : run.Counted) → IsTooLarge mesh counted → refusal_of_mesh command mesh ≡ Some (TooLarge counted)
+refusal-of-counts command mesh counted large =
+    refusal-of-manifold command mesh large.manifold
+    ∙ first-here (count_faults mesh) (built_faults command mesh) (TooLarge counted) large.named
 
 -- the levels of a mesh that were made
 made-of : (mesh : ObjMesh) (level : Topology) (n : ℕ) → IsAccepted mesh level → AreMade level.level n → AreMade (base_level mesh) n
@@ -119,11 +114,12 @@ pub few-levels : (mesh : ObjMesh) (level : Topology) (depth first : ℕ) (found 
 few-levels mesh level depth first found accepted sum tells none =
     sym (tells mesh.faces (sum ∙ ap (λ l. sum_by length l.polygons) accepted.level_is)) ∙ ap count_named none
 
-pub large-level : (mesh : ObjMesh) (level : Topology) (depth first : ℕ) (found : Option Counted) (counted : Counted) → IsAccepted mesh level → first ≡ sum_by length level.level.polygons →
+pub large-level : (command : Command) (mesh : ObjMesh) (level : Topology) (depth : ℕ) (others : List Fault) (first : ℕ) (found : Option Counted) (counted : Counted) → IsAccepted mesh level →
+    built_faults command mesh ≡ level_count_faults mesh.faces depth ++ others → first ≡ sum_by length level.level.polygons →
     ((polygons : List Polygon) → first ≡ sum_by length polygons → count_named found ≡ first_of (level_count_faults polygons depth)) → found ≡ Some counted →
-    refusal_of_mesh (Levels depth) mesh ≡ Some (TooLarge (counted_of counted))
-large-level mesh level depth first found counted accepted sum tells some =
-    refusal-of-faces mesh level depth (TooLarge (counted_of counted)) accepted
+    refusal_of_mesh command mesh ≡ Some (TooLarge (counted_of counted))
+large-level command mesh level depth others first found counted accepted split sum tells some =
+    refusal-of-faces command mesh level depth others (TooLarge (counted_of counted)) accepted split
     (sym (tells mesh.faces (sum ∙ ap (λ l. sum_by length l.polygons) accepted.level_is)) ∙ ap count_named some)
 
 -- the lines of levels are those of their counts
@@ -137,14 +133,15 @@ lines-of-levels base depth = lines-from base 0 (depth + 1)
 
 -- their lines are what the command writes
 pub counted-text : (command : Command) (depth : ℕ) (mesh : ObjMesh) (counts : List LevelCounts) → command ≡ Levels depth → AreCounted mesh depth counts →
-    (refusal_of_mesh command mesh ≡ None) × (levels_lines 0 (map seen_counts counts) ≡ written_text command mesh)
+    IsWritten command mesh (levels_lines 0 (map seen_counts counts))
 unfolding written_text
-counted-text command depth mesh counts is counted = (
-  ap (λ c. refusal_of_mesh c mesh) is ∙ counted.good,
-  ap (levels_lines 0) counted.told
+counted-text command depth mesh counts is counted = record {
+  good = ap (λ c. refusal_of_mesh c mesh) is ∙ counted.good;
+  says =
+      ap (levels_lines 0) counted.told
       ∙ sym (lines-of-levels (base_level mesh) depth)
-      ∙ ap (λ c. command_text c mesh) (sym is),
-)
+      ∙ ap (λ c. command_text c mesh) (sym is);
+}
 
 pub small-depth : (command : Command) (depth : ℕ) → command ≡ Levels depth → IsBuiltCommand command → depth ≤ 10
 small-depth command depth is built = subst IsBuiltCommand is built

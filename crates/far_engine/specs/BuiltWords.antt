@@ -1,17 +1,14 @@
 -- What the words that are taken today mean.
 -- Source: this profile.
-use Rattle.std.specs.Prelude.{ℕ, ◌≡◌, ◌≤◌, List, None}
-use Rattle.subdiv_model.specs.Command.{Command, Refine, Stencils, Levels, Gen, SmoothUv, ByTable, NoTags}
+use Rattle.std.specs.Prelude.{ℕ, ◌≡◌, ◌≤◌, List, None, IfSome}
+use Rattle.subdiv_model.specs.Command.{Command, Refine, Stencils, Levels, Gen}
 use Rattle.subdiv_model.specs.ObjMesh.{ObjMesh}
 use Rattle.subdiv_model.specs.Answer.{command_text}
+use Rattle.far_engine.specs.Outcome.{refusal_of_mesh}
 
--- the refinement that there is: one step, with all else left out
-abbrev pub built_command : Command
-built_command = Refine 1 None SmoothUv ByTable NoTags
-
--- the commands that there are: that one, and the counts of the levels to a depth
+-- the commands that there are: refinement and the counts of levels, each to a depth of at most 10
 abbrev pub IsBuiltCommand : Command → Type 0
-IsBuiltCommand (Refine depth decimals uv by tags) = Refine depth decimals uv by tags ≡ built_command
+IsBuiltCommand (Refine depth decimals uv by tags) = (depth ≤ 10) × IfSome decimals (λ digits. digits ≤ 18)
 IsBuiltCommand (Stencils depth) = ⊥
 IsBuiltCommand (Levels depth) = depth ≤ 10
 IsBuiltCommand (Gen seed size depth) = ⊥
@@ -19,3 +16,8 @@ IsBuiltCommand (Gen seed size depth) = ⊥
 -- what a command writes of a mesh
 unfoldable pub written_text : Command → ObjMesh → List ℕ
 written_text command mesh = command_text command mesh
+
+-- the command does not refuse the mesh, and this is what it writes of it
+pub record IsWritten (command : Command) (mesh : ObjMesh) (text : List ℕ) : Type 0 where
+  pub good : refusal_of_mesh command mesh ≡ None
+  pub says : text ≡ written_text command mesh

@@ -1,6 +1,6 @@
 -- The levels of a mesh that was checked.
-use Rattle.std.specs.Prelude.{ℕ, ◌≡◌, ◌+◌, ◌^◌, ◌<◌, ◌≤◌, true, List, None, length, map, replicate}
-use Rattle.std.specs.List.{sum_by, range_with_len}
+use Rattle.std.specs.Prelude.{ℕ, ◌≡◌, ◌+◌, ◌^◌, ◌≤◌, true, List, None, map, replicate}
+use Rattle.std.specs.List.{range_with_len}
 use Rattle.subdiv_model.specs.Base.{base_level}
 use Rattle.subdiv_model.specs.Child.{refined_level}
 use Rattle.subdiv_model.specs.Command.{Levels}

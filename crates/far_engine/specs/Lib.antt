@@ -1,8 +1,8 @@
 pub mod View
 pub mod Pieces
-pub mod Built
 pub mod BuiltWords
 pub mod Outcome
 pub mod Levels
+pub mod Refine
 pub mod Runs
 pub use Rattle.subdiv_model.specs.Words

@@ -6,6 +6,7 @@ use Rattle.level_topology.specs.CountedText.{counted_of}
 use Rattle.mesh_check.specs.View.{mesh_fault_of}
 use Rattle.level_counts.specs.Counts.{levels_lines}
 use Rattle.level_counts.specs.View.{seen_counts}
+use Rattle.far_engine.specs.Refine.{CanBePut, refined_text}
 use Rattle.far_engine.specs.declared.reply.Reply.{Reply}
 use Rattle.far_engine.specs.declared.reply.Reply.TheVariants.{Refined, Counted}
 use Rattle.far_engine.specs.declared.overflow.Track.{Track}
@@ -39,8 +40,13 @@ fault_of Memory = model.Memory
 
 -- the text of a reply
 abbrev pub reply_text : Reply → List ℕ
-reply_text (Refined text) = text
+reply_text (Refined refined) = refined_text refined
 reply_text (Counted counts) = levels_lines 0 (map seen_counts counts.items)
+
+-- all of it can be written
+abbrev pub CanPut : Reply → Type 0
+CanPut (Refined refined) = CanBePut refined
+CanPut (Counted counts) = Unit {0}
 
 -- the fault of a run, where it has one
 abbrev pub outcome_of : Result (Unit {0}) FarFault → Option model.Fault

@@ -1,8 +1,8 @@
-ghost use Rattle.std.specs.Prelude.{◌≡◌, ◌+◌, ◌≤◌, List, ℕ, map, Option, Some, string_bytes};
+ghost use Rattle.std.specs.Prelude.{◌≡◌, ◌+◌, ◌≤◌, List, ℕ, map, Option, Some, OnOk, string_bytes};
 ghost use Rattle.subdiv_model.specs.Command.{command_of};
 ghost use Rattle.subdiv_model.specs.ReadObj.{read_obj_mesh};
 ghost use Rattle.subdiv_model.specs.Fault.{Fault, outcome_status};
-ghost use Rattle.far_engine.specs.Outcome.{step_limit};
+ghost use Rattle.far_engine.specs.Outcome.{step_limit, least_steps};
 ghost use Rattle.far_engine.specs.Runs.{Runs, Reports};
 ghost use Rattle.far_engine.specs.View.{outcome_of};
 
@@ -20,21 +20,30 @@ const LIMIT: usize = 1 << 28;
 
 /// Does what the words ask for: reads the source to its end, and writes the answer into the sink.
 ///
-/// `words` are the words after the program's name; today they are a command exactly where they are `refine depth=1` or
-/// `levels depth=0`. The input is the OBJ text of a mesh (see `docs/formats.md`). `refine` answers the text of that mesh
-/// after one Catmull-Clark step, each coordinate a fraction in lowest terms, and `levels` the line with the counts of
-/// level 0.
+/// `words` are the words after the program's name, and the input is the OBJ text of a mesh (see `docs/formats.md`). Today
+/// two commands are built: `refine` with all its options, of a mesh without texture, and `levels`, each to a depth of at
+/// most 10. `refine` goes level by level by Catmull and Clark's scheme, whatever `by` says. It answers the points and faces
+/// of the last level, each coordinate a fraction in lowest terms or rounded to the decimals that are asked for, and under
+/// `tags=yes` the tags that give this level again. `levels` answers a line with the counts of each level.
 ///
 /// Every refusal is found, and all memory is taken, before anything is written. `Usage` comes exactly where the words are no
 /// command. Of a source that tells its bytes, `Long` comes only where more than 2^28 bytes came, and `Obj` only where a line
-/// is refused, with the least such line, counted from 1, and its cause. After them `levels` answers `Mesh` exactly where the
-/// mesh is no manifold, with its first fault, and `TooLarge` exactly where it is one and a count of it passes its limit, with
-/// the first such count. `refine` answers `NotBuilt`, with line 0, exactly where the mesh is not one of those that are built
-/// today: closed manifolds of at most 1,024 points and 1,024 faces of three or four corners, with coordinates of at most
-/// 10^18 in amount over at most 10^18, and without creases, corner tags, holes, texture or other modes than the usual. Such
-/// words and bytes are answered so, unless `Read` or `Memory` comes first. `Read` and `Write` come only where the count of
-/// faults of the source or the sink rose, and `Memory` may come at any time after good words. After `Write` the sink holds
-/// what it held and a prefix of the answer. It takes at most one step for each face of the levels that it makes.
+/// is refused, with the least such line, counted from 1, and its cause. After them come, each exactly where nothing before
+/// it does:
+///
+/// - `Mesh` where the mesh is no manifold, with its first fault;
+/// - `TooLarge` where a count of it passes its limit, or else a level up to the depth would have more than 2^22 faces, with
+///   the first such count;
+/// - under `refine`, `NotBuilt` with line 0 where the mesh has texture;
+/// - `Overflow` of the positions, with the first level, from 1, at which a number passes its bound, and the first such
+///   number there: the denominator of the half of an edge under `chaikin`, and under `refine` after it that of the weight
+///   between two rules, the common denominator of a point, and the greatest one times the greatest control numerator or the
+///   channel's own denominator.
+///
+/// Such words and bytes are answered so, unless `Read` or `Memory` comes first. `Read` and `Write` come only where the count
+/// of faults of the source or the sink rose, and `Memory` may come at any time after good words. After `Write` the sink holds
+/// what it held and a prefix of the answer. It takes at most one step for each face of the levels that it makes, and under
+/// `refine` one more for each mask term and for each control point; a refinement that is answered took one for each mask term.
 pub fn run<S: Source, K: Sink, L: Ledger>(
     alloc: Global,
     words: &Vec<String>,
@@ -46,6 +55,8 @@ pub fn run<S: Source, K: Sink, L: Ledger>(
         source.old source.new sink.old sink.new (outcome_of result) }
     ensures steps { (bytes : List ℕ) → S.left source.old ≡ Some bytes
         → steps.new ≤ steps.old + step_limit (command_of (map string_bytes words.now.items)) (read_obj_mesh bytes 0) }
+    ensures taken { (bytes : List ℕ) → S.left source.old ≡ Some bytes
+        → OnOk result (steps.old + least_steps (command_of (map string_bytes words.now.items)) (read_obj_mesh bytes 0) ≤ steps.new) }
     ensures later { steps.old ≤ steps.new }
 {
     let command = match read_built_words(words) {
@@ -108,6 +119,8 @@ pub fn program<S: Source, K: Sink, E: Sink, L: Ledger>(
     ensures fixed { E.fixed errors.new ≡ E.fixed errors.old }
     ensures steps { (bytes : List ℕ) → S.left source.old ≡ Some bytes
         → steps.new ≤ steps.old + step_limit (command_of (map string_bytes words.now.items)) (read_obj_mesh bytes 0) }
+    ensures taken { (bytes : List ℕ) → S.left source.old ≡ Some bytes → result ≡ 0
+        → steps.old + least_steps (command_of (map string_bytes words.now.items)) (read_obj_mesh bytes 0) ≤ steps.new }
     ensures steps_later { steps.old ≤ steps.new }
 {
     conclude(run(alloc, words, source, sink, steps), errors)

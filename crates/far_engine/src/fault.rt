@@ -43,7 +43,7 @@ pub enum FarFault {
         level: u32,
         kind: OverflowKind,
     },
-    /// The mesh is one that is not built yet. `line` is 0: it is the mesh as a whole.
+    /// The mesh has texture, which is not refined yet. `line` is 0: it is the mesh as a whole.
     NotBuilt {
         line: u32,
     },

@@ -5,7 +5,7 @@ ghost use Rattle.std.specs.List.{sum_by};
 ghost use Rattle.obj_tags.specs.Laws.{IsWithin};
 ghost use Rattle.subdiv_model.specs.Polygons.{Polygon};
 ghost use Rattle.subdiv_model.specs.Lists.{first_of};
-ghost use Rattle.subdiv_model.specs.Command.{Levels};
+ghost use Rattle.subdiv_model.specs.Command.{Command, Levels};
 ghost use Rattle.subdiv_model.specs.ObjMesh.{ObjMesh};
 ghost use Rattle.subdiv_model.specs.Answer.{level_count_faults};
 ghost use Rattle.mesh_check.specs.Checked.{IsAccepted};
@@ -30,8 +30,8 @@ use uniform_refiner::next_faces;
 // How many faces a level after the first may have.
 const MOST_FACES: u64 = 1 << 22;
 
-// The first level up to the depth that would have too many faces, where level 1 has so many.
-fn level_fault(first: u64, depth: u32) -> Option<Counted>
+/// The first level up to the depth that would have too many faces, where level 1 has so many.
+pub(crate) fn level_fault(first: u64, depth: u32) -> Option<Counted>
     requires { first < 2 ^ 28 }
     ensures { (polygons : List Polygon) → first ≡ sum_by length polygons → count_named result ≡ first_of (level_count_faults polygons depth) }
 {
@@ -48,15 +48,15 @@ fn level_fault(first: u64, depth: u32) -> Option<Counted>
     None
 }
 
-// Level 0 of a mesh that was read.
-fn level_0<L: Ledger>(
+/// Level 0 of a mesh that was read.
+pub(crate) fn level_0<L: Ledger>(
     alloc: Global,
     mesh: &RawMesh,
     steps: &mut Steps<L>,
 ) -> Result<Level, FarFault>
     requires { IsWithin mesh.now }
     ensures checked { MatchResult result (λ level. IsAccepted mesh.now level)
-        (λ fault. (depth : ℕ) → IsFound (fault_of fault) (refusal_of_mesh (Levels depth) mesh.now)) }
+        (λ fault. (command : Command) → IsFound (fault_of fault) (refusal_of_mesh command mesh.now)) }
     ensures steps { steps.new ≤ steps.old + length mesh.now.faces }
     ensures later { steps.old ≤ steps.new }
 {
@@ -124,6 +124,8 @@ pub(crate) fn count_levels<L: Ledger>(
     ensures steps { steps.new ≤ steps.old + step_limit (Levels depth) mesh.now }
     ensures later { steps.old ≤ steps.new }
 {
-    let level = level_0(alloc, mesh, steps)?;
-    counts_from(alloc, level, depth, steps)
+    match level_0(alloc, mesh, steps) {
+        Ok(level) => counts_from(alloc, level, depth, steps),
+        Err(fault) => Err(fault),
+    }
 }

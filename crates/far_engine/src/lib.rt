@@ -1,13 +1,13 @@
 //! The program `far` as a library: its words, its faults, and the call that does all its work.
 #![tactic(auto)]
 
-mod built;
 mod engine;
 mod fault;
 mod levels;
 mod output;
 mod overflow;
 mod piece;
+mod refine;
 mod reply;
 
 pub use engine::{program, run};

@@ -2,23 +2,69 @@ ghost use Rattle.std.specs.Prelude.{◌≡◌, ◌≤◌, ◌++◌, false, codes
 ghost use Rattle.far_io.specs.Bytes.{Rose, Added, AddedPrefix};
 ghost use Rattle.obj_out.specs.Puts.{Puts};
 ghost use Rattle.far_engine.specs.Pieces.{piece_text, pieces_text};
-ghost use Rattle.far_engine.specs.View.{reply_text};
+ghost use Rattle.subdiv_model.specs.Answer.{with_holes, written_tags};
+ghost use Rattle.far_words.specs.View.{tags_of_code};
+ghost use Rattle.far_engine.specs.Refine.{CanBePut, refined_text};
+ghost use Rattle.far_engine.specs.View.{CanPut, reply_text};
 
 use crate::piece::Piece;
+use crate::refine::Refined;
 use crate::reply::Reply;
 use far_io::{Sink, WriteFailed};
+use far_words::Tags;
 use itoa::Buffer;
 use level_counts::put_levels;
+use mesh_text::{put_mesh, put_tags};
 use obj_out::Out;
+
+// Whether faces that are holes are written: where the tags are.
+fn has_holes(tags: Tags) -> bool
+    ensures { result ≡ with_holes (tags_of_code tags) }
+{
+    match tags {
+        Tags::No => false,
+        Tags::Yes => true,
+    }
+}
+
+// Puts the tags of a refined mesh, where they are asked for.
+fn put_tags_of<K: Sink>(out: &mut Out<'_, K>, refined: &Refined) -> Result<(), WriteFailed>
+    requires fine { out.old.failed ≡ false }
+    ensures same_reference { out.new.sink.ghost_name ≡ out.old.sink.ghost_name }
+    ensures puts { Puts K.held K.faults K.fixed out.old.sink.now out.new.sink.now out.old.waiting out.new.waiting out.old.failed out.new.failed (written_tags (tags_of_code refined.now.tags) refined.now.level.level) result }
+{
+    match refined.tags {
+        Tags::No => Ok(()),
+        Tags::Yes => put_tags(out, &refined.level),
+    }
+}
+
+// Puts a refined mesh.
+fn put_refined<K: Sink>(out: &mut Out<'_, K>, refined: &Refined) -> Result<(), WriteFailed>
+    requires written { CanBePut refined.now }
+    ensures same_reference { out.new.sink.ghost_name ≡ out.old.sink.ghost_name }
+    ensures puts { Puts K.held K.faults K.fixed out.old.sink.now out.new.sink.now out.old.waiting out.new.waiting out.old.failed out.new.failed (refined_text refined.now) result }
+{
+    put_mesh(
+        out,
+        &refined.level,
+        &refined.values,
+        refined.common,
+        refined.decimals,
+        has_holes(refined.tags),
+    )?;
+    put_tags_of(out, refined)
+}
 
 // Puts the text of a reply.
 fn put_text<K: Sink>(out: &mut Out<'_, K>, reply: &Reply) -> Result<(), WriteFailed>
     requires fine { out.old.failed ≡ false }
+    requires written { CanPut reply.now }
     ensures same_reference { out.new.sink.ghost_name ≡ out.old.sink.ghost_name }
     ensures puts { Puts K.held K.faults K.fixed out.old.sink.now out.new.sink.now out.old.waiting out.new.waiting out.old.failed out.new.failed (reply_text reply.now) result }
 {
     match reply {
-        Reply::Refined(refined) => refined.put(out),
+        Reply::Refined(refined) => put_refined(out, refined),
         Reply::Counted(counts) => put_levels(out, counts),
     }
 }
@@ -34,6 +80,7 @@ fn put_piece<K: Sink>(out: &mut Out<'_, K>, piece: &Piece) -> Result<(), WriteFa
 
 // Adds the text of a reply and hands it on, or adds a prefix of it where the sink fails.
 pub(crate) fn put_reply<K: Sink>(sink: &mut K, reply: &Reply) -> Result<(), WriteFailed>
+    requires written { CanPut reply.now }
     ensures ok { OnOk result (Added (K.held sink.old) (K.held sink.new) (reply_text reply.now)) }
     ensures prefix { OnErr result (AddedPrefix (K.held sink.old) (K.held sink.new) (reply_text reply.now)) }
     ensures cause { OnErr result (Rose (K.faults sink.old) (K.faults sink.new)) }

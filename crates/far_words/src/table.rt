@@ -82,7 +82,13 @@ const COMMANDS: &[CommandRule] = &[
 const BUILT: &[CommandRule] = &[
     CommandRule {
         name: "refine",
-        options: &[required_option!("depth", 1, 1)],
+        options: &[
+            required_option!("depth", 0, 10),
+            number_option!("decimals", 0, 18),
+            name_option!("uv", &["smooth", "corners", "boundaries", "linear"]),
+            name_option!("by", &["table", "level"]),
+            name_option!("tags", &["no", "yes"]),
+        ],
     },
     CommandRule {
         name: "levels",

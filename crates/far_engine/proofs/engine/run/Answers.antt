@@ -1,7 +1,7 @@
 use Rattle.std.proofs.Common.{map, string_bytes, Err, ap, sym, subst}
 use Rattle.far_engine.specs.BuiltWords.{IsBuiltCommand}
 use Rattle.far_engine.proofs.WordsLemmas.{understood, said, says-built}
-use Rattle.far_engine.proofs.RunLemmas.{WasRead, runs_ok, runs_cut, runs_long, runs_found, steps_as}
+use Rattle.far_engine.proofs.RunLemmas.{WasRead, runs_ok, runs_cut, runs_long, runs_found, steps_as, taken_as}
 use Rattle.far_engine.proofs.engine.run.Goals as goal
 
 pub returns-in-Ok-put_reply-clause-run : goal.returns-in-Ok-put_reply-clause-run
@@ -68,3 +68,12 @@ returns-clause-steps g c = λ other e.
     let was : WasRead g.S.Source.left g.S.Source.faults (map string_bytes c.args.words.now.items) c.args.source.now c.read_all.new.source c.in-Ok-read_all.bytes.items = record { command = command; took = read.all; dry = read.dry; short = read.short; later = read.later } in
     let bound = rw c.deref.ensures.value at c.reply_to.ensures.steps in
     steps_as g.S.Source.left g.S.Source.faults (map string_bytes c.args.words.now.items) c.args.source.now c.read_all.new.source c.in-Ok-read_all.bytes.items other _ _ _ was says bound e
+
+pub returns-in-Ok-put_reply-clause-taken : goal.returns-in-Ok-put_reply-clause-taken
+returns-in-Ok-put_reply-clause-taken g c = λ other e.
+    let command = understood (map string_bytes c.args.words.now.items) _ _ c.read_built_words.ensures c.in-Ok.is in
+    let says = said (map string_bytes c.args.words.now.items) _ _ c.read_built_words.ensures c.in-Ok.is in
+    let read = c.in-Ok-read_all.ensures in
+    let was : WasRead g.S.Source.left g.S.Source.faults (map string_bytes c.args.words.now.items) c.args.source.now c.read_all.new.source c.in-Ok-read_all.bytes.items = record { command = command; took = read.all; dry = read.dry; short = read.short; later = read.later } in
+    let bound = rw c.deref.ensures.value at c.in-Ok-reply_to.ensures.taken in
+    taken_as g.S.Source.left g.S.Source.faults (map string_bytes c.args.words.now.items) c.args.source.now c.read_all.new.source c.in-Ok-read_all.bytes.items other _ _ _ was says bound e

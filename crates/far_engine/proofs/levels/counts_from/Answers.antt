@@ -1,9 +1,15 @@
+use Rattle.std.proofs.Common.{refl}
+use Rattle.subdiv_model.specs.Command.{Levels}
+use Rattle.subdiv_model.specs.Fault.{Positions}
+use Rattle.subdiv_model.specs.Channel.{Sharpnesses, channel_faults}
+use Rattle.subdiv_model.specs.Answer.{positions_of}
 use Rattle.far_engine.proofs.SeriesLemmas.{counted-levels, few-levels, large-level, steps-alone, steps-fit}
 use Rattle.far_engine.proofs.levels.counts_from.Goals as goal
 
 pub returns-in-Some-clause-counted : goal.returns-in-Some-clause-counted
 returns-in-Some-clause-counted g c = λ mesh accepted.
-    large-level mesh c.args.level c.args.depth c.next_faces.result c.level_fault.result c.in-Some.counted accepted c.next_faces.ensures c.level_fault.ensures c.in-Some.is
+    large-level (Levels c.args.depth) mesh c.args.level c.args.depth (channel_faults Sharpnesses (positions_of mesh) Positions c.args.depth)
+    c.next_faces.result c.level_fault.result c.in-Some.counted accepted refl c.next_faces.ensures c.level_fault.ensures c.in-Some.is
 
 pub returns-in-Some-clause-steps : goal.returns-in-Some-clause-steps
 returns-in-Some-clause-steps g c = λ mesh accepted. steps-alone mesh c.args.depth c.args.steps.now

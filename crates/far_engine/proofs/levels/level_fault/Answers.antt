@@ -1,5 +1,4 @@
 use Rattle.std.proofs.Common.{arith}
-use Rattle.subdiv_model.specs.Child.{faces_after}
 use Rattle.far_engine.proofs.LevelLemmas.{level-found, level-next, few-next, level-none}
 use Rattle.far_engine.proofs.levels.level_fault.Goals as goal
 

@@ -1,7 +1,0 @@
-use Rattle.subdiv_model.specs.Polygons.{has_corner}
-use Rattle.plain_refine.proofs.EdgesLemmas.{places-step}
-use Rattle.plain_refine.proofs.edges.faces_of_point.Goals as goal
-
-pub loop-face-preserved : goal.loop-face-preserved
-loop-face-preserved c =
-    places-step (has_corner c.args.v) _ _ c.index-polygons-face.result _ _ _ _ c.loop-face-test.true c.index-polygons-face.is c.deref.ensures.value c.has_corner.ensures c.loop-face.invariant c.in_ok-push_where.ensures

@@ -1,3 +1,0 @@
-pub mod Mesh
-pub mod Values
-pub mod Lines
