@@ -1,1 +1,2 @@
 mod SureLemmas
+mod ControlLemmas

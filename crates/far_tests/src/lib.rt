@@ -2,6 +2,8 @@
 #![tactic(auto)]
 
 #[cfg(test)]
+mod channels;
+#[cfg(test)]
 mod checks;
 #[cfg(test)]
 mod engine;
@@ -9,6 +11,8 @@ mod engine;
 mod expect;
 #[cfg(test)]
 mod faults;
+#[cfg(test)]
+mod inputs;
 #[cfg(test)]
 mod io;
 #[cfg(test)]
@@ -19,6 +23,10 @@ mod meshes;
 mod numbers;
 #[cfg(test)]
 mod numerals;
+#[cfg(test)]
+mod refined;
+#[cfg(test)]
+mod runs;
 #[cfg(test)]
 mod texts;
 #[cfg(test)]

@@ -2,3 +2,4 @@ mod KeptLemmas
 mod PlaceLemmas
 mod QuarterLemmas
 mod WheelLemmas
+mod ValueLemmas

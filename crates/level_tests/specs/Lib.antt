@@ -1,3 +1,4 @@
 pub mod Kept
 pub mod Squares
 pub mod Wheel
+pub mod Values

@@ -1,4 +1,4 @@
-//! Tests of levels, of sharpness, of masks and of uniform refinement, on meshes from tables.
+//! Tests of levels, of sharpness, of masks, of uniform refinement and of one step of values, on meshes from tables.
 #![tactic(auto)]
 
 #[cfg(test)]
@@ -23,6 +23,8 @@ mod refined;
 mod sharpness;
 #[cfg(test)]
 mod solids;
+#[cfg(test)]
+mod values;
 #[cfg(test)]
 mod vertex_rows;
 #[cfg(test)]

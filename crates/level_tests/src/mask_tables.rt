@@ -81,7 +81,7 @@ fn build_alone(rt: &impl Abort, alloc: Global, mesh: Mesh) -> Result<Level, Mask
 }
 
 // Whether an edge has two faces.
-fn has_two_faces(level: &Level, e: u32) -> bool
+pub fn has_two_faces(level: &Level, e: u32) -> bool
     requires { e < length (edges_of level.now.level.polygons) }
     ensures { result ≡ true → length (faces_of_edge level.now.level.polygons (edge_at level.now.level.polygons e)) ≡ 2 }
 {

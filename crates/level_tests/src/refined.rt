@@ -19,7 +19,7 @@ use std::sync::ledger::{Blank, Ledger};
 use uniform_refiner::{RefineFault, refine};
 
 // A solid with its sharp edges.
-type Mesh = (&'static Solid, Method, &'static [SharpEdge]);
+pub type Mesh = (&'static Solid, Method, &'static [SharpEdge]);
 
 // The origins of the ends of an edge that is sharp, in its direction, and its sharpness.
 type Sharp = ((Origin, Origin), Fraction);
@@ -98,7 +98,7 @@ fn fraction_of(s: Sharpness) -> Fraction {
 }
 
 // The level of a mesh, with all its points complete.
-fn build<L: Ledger>(
+pub fn build<L: Ledger>(
     rt: &impl Abort,
     alloc: Global,
     mesh: Mesh,
@@ -131,7 +131,7 @@ fn with_faces<L: Ledger>(
 }
 
 // Asserts that each point is complete.
-fn assert_whole(rt: &impl Abort, level: &Level)
+pub fn assert_whole(rt: &impl Abort, level: &Level)
     ensures { (v : ℕ) → v < level.now.level.point_count → get_or level.now.complete v false ≡ true }
 {
     for v in 0..level.points() {

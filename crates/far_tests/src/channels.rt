@@ -1,0 +1,205 @@
+// A channel refined to a depth, and the first level whose numbers pass their bounds.
+
+ghost use Rattle.std.specs.Prelude.{◌≡◌, ◌<◌, ◌≤◌, ◌^◌, true};
+ghost use Rattle.std.specs.List.{All};
+ghost use Rattle.obj_tags.specs.Laws.{IsWithin};
+ghost use Rattle.far_tests.specs.Controls.{IsControl};
+
+use crate::expect::expect_same;
+use crate::inputs::TRIANGLES;
+use channel_refine::{ChannelFault, RefinedChannel, refine_channel};
+use level_topology::Level;
+use mask_rules::Scheme;
+use mesh_check::check_mesh;
+use obj_tags::{RawMesh, read_obj};
+use primvar_refine::Valued;
+use ratio128::{Point3, Steps};
+use std::alloc::Global;
+use std::marker::Brand;
+use std::process::Abort;
+use std::sync::ledger::{Blank, Ledger};
+use std::test::Fail;
+
+// The greatest denominator, and the greatest numerator over it.
+const NUMBER_BOUND: u128 = (1 << 126) - 1;
+
+// The greatest amount of the controls and the denominator that they stand over, the scheme, and the depth.
+type Asked = (u128, u128, Scheme, u32);
+
+// The points of the triangles back to back, and those of the next level, each with its denominator.
+const POINTS: &str = "1 0 0 0\n1 12 0 0\n1 0 12 0";
+
+const POINTS_REFINED: &str = "\
+12 60 60 0\n\
+12 24 60 0\n\
+12 60 24 0\n\
+3 12 12 0\n\
+3 12 12 0\n\
+12 60 24 0\n\
+12 60 60 0\n\
+12 24 60 0";
+
+// A line for each point: its denominator and its numerators.
+fn points_of(alloc: Global, text: &str) -> Result<Vec<Valued<Point3>>, Fail> {
+    let mut points = Vec::new(alloc);
+    for line in text.lines() {
+        let mut words = line.split(' ');
+        let den = words.next().ok_or("a denominator")?.parse::<u128>()?;
+        let x = words.next().ok_or("x")?.parse::<i128>()?;
+        let y = words.next().ok_or("y")?.parse::<i128>()?;
+        let z = words.next().ok_or("z")?.parse::<i128>()?;
+        points.push(Valued {
+            value: Point3 { x, y, z },
+            den,
+        })?;
+    }
+    Ok(points)
+}
+
+// Whether a point is a control of at most this amount.
+fn is_control(p: &Valued<Point3>, greatest: u128) -> bool
+    ensures { result ≡ true → IsControl greatest p.now }
+{
+    p.den == 1
+        && p.value.x.unsigned_abs() <= greatest
+        && p.value.y.unsigned_abs() <= greatest
+        && p.value.z.unsigned_abs() <= greatest
+}
+
+// Asserts that a level has few points.
+fn assert_few(rt: &impl Abort, level: &Level)
+    ensures { level.now.level.point_count ≤ 2 ^ 20 }
+{
+    assert!(rt; level.points() <= 1 << 20);
+}
+
+// Asserts that each point is a control.
+fn assert_controls(rt: &impl Abort, points: &[Valued<Point3>], greatest: u128)
+    ensures { All (IsControl greatest) points.now }
+{
+    let are_controls = points.iter().all(|p| is_control(p, greatest));
+    assert!(rt; are_controls);
+}
+
+fn refine_by<L: Ledger>(
+    rt: &impl Abort,
+    alloc: Global,
+    mesh: &RawMesh,
+    controls: Vec<Valued<Point3>>,
+    asked: Asked,
+    blank: Blank,
+) -> Result<RefinedChannel<Point3>, ChannelFault>
+    requires name { blank.name ≡ L.name }
+    requires parts { blank.parts ≡ L.parts }
+    requires some { 0 < blank.parts }
+    requires within { IsWithin mesh.now }
+{
+    let mut steps = Steps::start(blank.open::<L>());
+    let (greatest, common, scheme, depth) = asked;
+    let level = match check_mesh(alloc, mesh, &mut steps) {
+        Ok(level) => level,
+        Err(_) => return Err(ChannelFault::Memory),
+    };
+    assert!(rt; controls.len() == level.points() as usize);
+    assert!(rt; greatest <= NUMBER_BOUND);
+    assert!(rt; common <= NUMBER_BOUND);
+    assert!(rt; depth <= 10);
+    assert_few(rt, &level);
+    assert_controls(rt, &controls, greatest);
+    refine_channel(
+        alloc, level, controls, greatest, common, scheme, depth, &mut steps,
+    )
+}
+
+fn refine_mesh(
+    rt: &impl Abort,
+    alloc: Global,
+    mesh: &RawMesh,
+    controls: Vec<Valued<Point3>>,
+    asked: Asked,
+) -> Result<RefinedChannel<Point3>, ChannelFault>
+    requires { IsWithin mesh.now }
+{
+    refine_by::<Brand>(rt, alloc, mesh, controls, asked, Blank::new(1))
+}
+
+// The triangles with their points as controls.
+fn refine_triangles(
+    rt: &impl Abort,
+    alloc: Global,
+    asked: Asked,
+) -> Result<Result<RefinedChannel<Point3>, ChannelFault>, Fail> {
+    let controls = points_of(alloc, POINTS)?;
+    let mesh = read_obj(alloc, TRIANGLES.as_bytes(), 0)?;
+    Ok(refine_mesh(rt, alloc, &mesh, controls, asked))
+}
+
+#[test]
+fn refines_the_points_of_triangles(rt: HostRuntime) -> Result<(), Fail> {
+    let asked = (12, 1, Scheme::CatmullClark, 1);
+    let refined = refine_triangles(&rt, rt.alloc(), asked)??;
+    let want = points_of(rt.alloc(), POINTS_REFINED)?;
+    expect_same(&rt, &refined.level.points(), &8, &"points");
+    expect_same(&rt, &refined.level.faces(), &6, &"faces");
+    expect_same(&rt, &refined.values.as_slice(), &want.as_slice(), &"values");
+    Ok(())
+}
+
+// What is asked, and the fault or none. The greatest denominators are 12 and 768.
+const BOUNDS: &[(Asked, Option<ChannelFault>)] = &[
+    ((12, 1, Scheme::CatmullClark, 0), None),
+    (
+        (
+            7089215977519551322153637654828504405,
+            1,
+            Scheme::CatmullClark,
+            1,
+        ),
+        None,
+    ),
+    (
+        (
+            7089215977519551322153637654828504406,
+            1,
+            Scheme::CatmullClark,
+            1,
+        ),
+        Some(ChannelFault::Value { level: 1 }),
+    ),
+    (
+        (
+            12,
+            7089215977519551322153637654828504406,
+            Scheme::CatmullClark,
+            3,
+        ),
+        Some(ChannelFault::Value { level: 1 }),
+    ),
+    (
+        (
+            7089215977519551322153637654828504405,
+            1,
+            Scheme::CatmullClark,
+            2,
+        ),
+        Some(ChannelFault::Value { level: 2 }),
+    ),
+    (
+        (7089215977519551322153637654828504406, 1, Scheme::Linear, 1),
+        None,
+    ),
+];
+
+fn bounds() -> &'static [(Asked, Option<ChannelFault>)] {
+    BOUNDS
+}
+
+#[test]
+fn names_the_first_level_of_great_values(rt: HostRuntime) -> Result<(), Fail> {
+    for row in bounds() {
+        let &(asked, want) = row;
+        let given = refine_triangles(&rt, rt.alloc(), asked)?;
+        expect_same(&rt, &given.err(), &want, row);
+    }
+    Ok(())
+}

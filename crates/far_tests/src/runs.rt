@@ -1,0 +1,269 @@
+// Runs that are refused, and those that count levels.
+
+use crate::engine::run_alone;
+use crate::expect::expect_same;
+use crate::inputs::{
+    CUBE, CUBE_LEVEL, GREAT_CUBE, GREATER_CUBE, LEVELS, OTHER_CUBE, REFINE, SQUARE,
+    TEXTURED_TRIANGLES, TRIANGLES,
+};
+use far_engine::{FarFault, OverflowKind, Track};
+use level_topology::Counted;
+use mesh_check::MeshFault;
+use obj_tags::ObjCause;
+use std::process::Abort;
+use std::test::Fail;
+
+const NOT_BUILT: FarFault = FarFault::NotBuilt { line: 0 };
+
+// What passes its bound at a level of the positions.
+macro_rules! overflow {
+    ($level:literal, $kind:ident) => {
+        FarFault::Overflow { track: Track::Positions, level: $level, kind: OverflowKind::$kind }
+    };
+}
+
+// Words, a mesh and a line after it, the answer, and what is written.
+pub type Run = (
+    &'static str,
+    &'static str,
+    &'static str,
+    Result<(), FarFault>,
+    &'static str,
+);
+
+const REFUSED: &[Run] = &[
+    ("", "", "", Err(FarFault::Usage { word: 0 }), ""),
+    ("refine", "", "", Err(FarFault::Usage { word: 1 }), ""),
+    (
+        "refine depth=11",
+        "",
+        "",
+        Err(FarFault::Usage { word: 1 }),
+        "",
+    ),
+    (
+        "refine depth=1 x",
+        "",
+        "",
+        Err(FarFault::Usage { word: 2 }),
+        "",
+    ),
+    (
+        "refine tags=yes decimals=2",
+        "",
+        "",
+        Err(FarFault::Usage { word: 3 }),
+        "",
+    ),
+    (
+        "stencils depth=1",
+        "",
+        "",
+        Err(FarFault::Usage { word: 0 }),
+        "",
+    ),
+    (
+        REFINE,
+        "v 0 0 0.5\n\n",
+        "v 0 nan",
+        Err(FarFault::Obj {
+            line: 3,
+            cause: ObjCause::ShortLine,
+        }),
+        "",
+    ),
+    (
+        REFINE,
+        TRIANGLES,
+        "t corner 1/1/0 3 2",
+        Err(FarFault::Obj {
+            line: 6,
+            cause: ObjCause::TagIndex,
+        }),
+        "",
+    ),
+    (
+        REFINE,
+        TRIANGLES,
+        "f 1 2 4",
+        Err(FarFault::Obj {
+            line: 6,
+            cause: ObjCause::IndexRange,
+        }),
+        "",
+    ),
+    (REFINE, TEXTURED_TRIANGLES, "", Err(NOT_BUILT), ""),
+    (
+        "refine depth=0 uv=linear",
+        TEXTURED_TRIANGLES,
+        "",
+        Err(NOT_BUILT),
+        "",
+    ),
+    (
+        REFINE,
+        TEXTURED_TRIANGLES,
+        "f 1/1 2/1 1/1",
+        Err(FarFault::Mesh(MeshFault::RepeatedVertex(2))),
+        "",
+    ),
+    (
+        REFINE,
+        CUBE,
+        "f 1 2 3",
+        Err(FarFault::Mesh(MeshFault::NonManifoldEdge(0, 1))),
+        "",
+    ),
+    (
+        "refine depth=10",
+        CUBE,
+        "",
+        Err(FarFault::TooLarge(Counted::LevelFaces {
+            level: 10,
+            count: 6291456,
+        })),
+        "",
+    ),
+    (REFINE, GREATER_CUBE, "", Err(overflow!(1, Value)), ""),
+    (
+        "refine depth=2 tags=yes",
+        GREAT_CUBE,
+        "",
+        Err(overflow!(2, Value)),
+        "",
+    ),
+    (
+        REFINE,
+        CUBE,
+        "t crease 4/3/0 1 0 2 0 1/1000000 1/999994 1/999994\nt crease 2/1/0 0 6 1/768619\nt creasemethod 0/0/1 chaikin",
+        Err(overflow!(1, Chaikin)),
+        "",
+    ),
+    (
+        REFINE,
+        CUBE,
+        "t crease 4/3/0 1 0 2 0 1/1000000 1/999994 1/999994\nt crease 2/1/0 0 6 1/768619",
+        Err(overflow!(1, Transition)),
+        "",
+    ),
+    (
+        "refine depth=3",
+        CUBE,
+        "t crease 5/4/0 0 1 3 2 0 1/719989 1/719981 1/719959 1/719951\nt crease 2/1/0 0 6 1/719947\nt crease 2/1/0 1 7 1/719941\nt crease 2/1/0 3 5 1/719911\nt crease 2/1/0 2 4 1/719903",
+        Err(overflow!(2, Denominator)),
+        "",
+    ),
+];
+
+fn refused() -> &'static [Run] {
+    REFUSED
+}
+
+const COUNTED: &[Run] = &[
+    ("levels", "", "", Err(FarFault::Usage { word: 1 }), ""),
+    (
+        "levels depth=11",
+        "",
+        "",
+        Err(FarFault::Usage { word: 1 }),
+        "",
+    ),
+    (
+        "levels depth=2",
+        CUBE,
+        "",
+        Ok(()),
+        "level 0 points 8 edges 12 faces 6 euler 2 boundary 0 holes 0 sharp 0 extraordinary 8\n\
+        level 1 points 26 edges 48 faces 24 euler 2 boundary 0 holes 0 sharp 0 extraordinary 8\n\
+        level 2 points 98 edges 192 faces 96 euler 2 boundary 0 holes 0 sharp 0 extraordinary 8\n",
+    ),
+    (
+        "levels depth=1",
+        SQUARE,
+        "t corner 1/1/0 0 3\nt hole 1/0/0 0",
+        Ok(()),
+        "level 0 points 4 edges 4 faces 1 euler 1 boundary 4 holes 1 sharp 0 extraordinary 0\n\
+        level 1 points 9 edges 12 faces 4 euler 1 boundary 8 holes 4 sharp 0 extraordinary 0\n",
+    ),
+    (
+        "levels depth=10",
+        CUBE,
+        "",
+        Err(FarFault::TooLarge(Counted::LevelFaces {
+            level: 10,
+            count: 6291456,
+        })),
+        "",
+    ),
+    (
+        LEVELS,
+        "",
+        "",
+        Ok(()),
+        "level 0 points 0 edges 0 faces 0 euler 0 boundary 0 holes 0 sharp 0 extraordinary 0\n",
+    ),
+    (LEVELS, CUBE, "", Ok(()), CUBE_LEVEL),
+    (LEVELS, OTHER_CUBE, "", Ok(()), CUBE_LEVEL),
+    (
+        LEVELS,
+        CUBE,
+        "t crease 3/2/0 0 1 3 1 3\nt hole 1/0/0 0",
+        Ok(()),
+        "level 0 points 8 edges 12 faces 6 euler 2 boundary 0 holes 1 sharp 2 extraordinary 8\n",
+    ),
+    (
+        LEVELS,
+        SQUARE,
+        "t interpolateboundary 1/0/0 0",
+        Ok(()),
+        "level 0 points 4 edges 4 faces 1 euler 1 boundary 4 holes 1 sharp 0 extraordinary 0\n",
+    ),
+    (
+        LEVELS,
+        SQUARE,
+        "f 1 2",
+        Err(FarFault::Mesh(MeshFault::FaceTooSmall(1))),
+        "",
+    ),
+    (
+        LEVELS,
+        CUBE,
+        "f 1 2 3",
+        Err(FarFault::Mesh(MeshFault::NonManifoldEdge(0, 1))),
+        "",
+    ),
+    (
+        LEVELS,
+        SQUARE,
+        "f 1 x",
+        Err(FarFault::Obj {
+            line: 6,
+            cause: ObjCause::BadCorner,
+        }),
+        "",
+    ),
+];
+
+fn counted() -> &'static [Run] {
+    COUNTED
+}
+
+pub fn expect_runs(rt: &(impl Abort + AllocGlobal), runs: &[Run]) -> Result<(), Fail> {
+    for row in runs {
+        let &(text, mesh, line, answer, written) = row;
+        let (given, sink) = run_alone(rt.alloc(), text, mesh, line)?;
+        expect_same(rt, &given, &answer, row);
+        expect_same(rt, &sink.bytes(), &written.as_bytes(), row);
+    }
+    Ok(())
+}
+
+#[test]
+fn refuses_words_and_texts(rt: HostRuntime) -> Result<(), Fail> {
+    expect_runs(&rt, refused())
+}
+
+#[test]
+fn counts_levels(rt: HostRuntime) -> Result<(), Fail> {
+    expect_runs(&rt, counted())
+}
