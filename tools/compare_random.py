@@ -1,9 +1,10 @@
 #!/usr/bin/env python3
 """Compares the built program with `tools/reference.py` on random OBJ texts.
 
-Texts that are refined are made of lines that are good, bad or nearly bad, and of the cube and the refined cube with
-a few changes. Meshes whose levels are counted, to a depth from 0 to 3, are those of `tools/random_meshes.py`. The same
-seed makes the same texts and depths. A text on which the two differ is printed, and the exit status is then 1.
+Texts are made of lines that are good, bad or nearly bad, and of the cube and the refined cube with a few changes; they
+are refined to depth 1 at most. Meshes are those of `tools/random_meshes.py`; they are refined, or have their levels
+counted, to depth 3 at most. The options are random too. The same seed makes the same words and texts. A text on which
+the two differ is printed, and the exit status is then 1.
 
     tools/compare_random.py --seed 1 --count 3000 --meshes 1500
 """
@@ -22,6 +23,15 @@ from random_meshes import Meshes
 TOP = Path(__file__).resolve().parent.parent
 REFINE = ["refine", "depth=1"]
 GREATEST_DEPTH = 3
+# How many faces the last level of a mesh that is refined has at most, so that the reference does not take long.
+MOST_FACES = 1200
+OPTIONS = {
+    "decimals": ["0", "1", "2", "3", "6", "17", "18"],
+    "uv": ["smooth", "corners", "boundaries", "linear"],
+    "by": ["table", "level"],
+    "tags": ["yes", "yes", "no"],
+}
+BAD_OPTIONS = ["depth=1", "depth=01", "depth=11", "decimals=19", "decimals=-1", "uv=", "by=tables", "tags", "=1", "x=1"]
 CUBE = (TOP / "examples" / "cube.obj").read_bytes()
 NUMERALS = (
     ["1.", "-.5", ".", "+", "-", "nan", "0x1", "1e", "1e+", "--1", "-0", "00.10", "1e36", "1e37", "1e-37", "1e-38"]
@@ -181,14 +191,35 @@ class Texts:
         return data
 
 
-def levels_of(depths, meshes):
-    """The words for a random mesh with a random depth, and its text."""
-    return ["levels", f"depth={depths.randint(0, GREATEST_DEPTH)}"], meshes.text()
+class Words:
+    """Random words of command lines from a seed."""
+
+    def __init__(self, seed):
+        self.random = random.Random(f"words of {seed}")
+
+    def options(self, depth):
+        """The depth among other options, in any order, and now and then a bad one."""
+        kept = [name for name in OPTIONS if self.random.random() < 0.4]
+        options = [f"depth={depth}"] + [f"{name}={self.random.choice(OPTIONS[name])}" for name in kept]
+        options += [self.random.choice(BAD_OPTIONS)] if self.random.random() < 0.01 else []
+        self.random.shuffle(options)
+        return options
+
+    def for_text(self):
+        return ["refine", *self.options(self.random.choice([0, 1, 1, 1]))]
+
+    def for_mesh(self, data):
+        """The words by which a mesh is refined, not too far for its corners, or has its levels counted."""
+        if self.random.random() < 0.4:
+            return ["levels", f"depth={self.random.randint(0, GREATEST_DEPTH)}"]
+        corners = sum(len(line.split()) - 1 for line in data.split(b"\n") if line.startswith(b"f"))
+        depths = [depth for depth in range(1, GREATEST_DEPTH + 1) if corners * 4 ** (depth - 1) <= MOST_FACES]
+        return ["refine", *self.options(self.random.choice([0, 1] + depths * 2))]
 
 
-def agree(program, command, runs):
-    """Whether the program answers as the reference does in all runs of a command, each its words and its text; tells
-    how it does not."""
+def agree(program, kind, runs):
+    """Whether the program answers as the reference does in all runs of a kind, each its words and its text; tells how
+    it does not."""
     statuses = Counter()
     for words, data in runs:
         run = subprocess.run([program] + words, input=data, capture_output=True)
@@ -197,7 +228,7 @@ def agree(program, command, runs):
         if given != expected(words, data):
             print(f"{' '.join(words)}: {data!r}\n  gives  {given}\n  wanted {expected(words, data)}")
             return False
-    print(f"{sum(statuses.values())} texts agree on {command}; by status: {dict(sorted(statuses.items()))}")
+    print(f"{sum(statuses.values())} {kind} agree; by status: {dict(sorted(statuses.items()))}")
     return True
 
 
@@ -206,13 +237,13 @@ def main():
     parser.add_argument("--program", default=TOP / "crates" / "far_cli" / "out" / "far_cli", help="the program to run")
     parser.add_argument("--seed", type=int, default=1, help="the seed of the texts")
     parser.add_argument("--count", type=int, default=1000, help="how many texts are refined")
-    parser.add_argument("--meshes", type=int, default=500, help="how many meshes have their levels counted")
+    parser.add_argument("--meshes", type=int, default=1000, help="how many meshes are refined or counted")
     arguments = parser.parse_args()
-    texts, meshes = Texts(arguments.seed), Meshes(arguments.seed)
-    depths = random.Random(f"depths of {arguments.seed}")
-    refined = agree(arguments.program, "refine", ((REFINE, texts.text()) for _ in range(arguments.count)))
-    counted = agree(arguments.program, "levels", (levels_of(depths, meshes) for _ in range(arguments.meshes)))
-    return 0 if refined and counted else 1
+    texts, meshes, words = Texts(arguments.seed), Meshes(arguments.seed), Words(arguments.seed)
+    mesh_texts = (meshes.text() for _ in range(arguments.meshes))
+    lines = agree(arguments.program, "texts", ((words.for_text(), texts.text()) for _ in range(arguments.count)))
+    surfaces = agree(arguments.program, "meshes", ((words.for_mesh(data), data) for data in mesh_texts))
+    return 0 if lines and surfaces else 1
 
 
 if __name__ == "__main__":

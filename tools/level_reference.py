@@ -1,9 +1,9 @@
 #!/usr/bin/env python3
-"""A plain, slow reference of `far levels`: what is wrong with a mesh or its levels, or the counts of each level.
+"""A plain, slow reference of levels and of `far levels`: what is wrong with a mesh or its levels, or their counts.
 
 It is written from the definitions of `subdiv_model` (MeshFault, Manifold, Edges, Base, Child, Sharpness, Channel,
 LevelText and Answer), with `fractions.Fraction` for every sharpness, and shares nothing with the program.
-`tools/reference.py` answers these words through it; alone it takes the depth, and a mesh on standard input.
+`tools/reference.py` has its levels from here; alone this takes the depth, and a mesh on standard input.
 
     tools/level_reference.py depth=2 < examples/cube.obj
 """
@@ -13,8 +13,8 @@ from collections import Counter, defaultdict
 from dataclasses import dataclass
 from math import inf, lcm
 
-from obj_reference import HIDDEN
-from run_reference import BAD_MESH, OVERFLOW, TOO_LARGE, Refusal, check_words, depth_of, read_mesh, run
+from obj_reference import EDGE_AND_CORNER, HIDDEN
+from run_reference import BAD_MESH, OVERFLOW, TOO_LARGE, Refusal, read_mesh, run, understood
 
 GREATEST_COUNT = 2**20
 GREATEST_SIZE = 2**16
@@ -173,13 +173,17 @@ def check(points, mesh):
 @dataclass
 class Level:
     """The number of points, the faces with what meets, the numbers of the faces that are holes, and the sharpness of
-    the edges that are sharp, by `unordered`. No count depends on the sharpness of vertices, which is left out."""
+    the edges that are sharp, by `unordered`, and of the points that are."""
 
     points: int
     mesh: Faces
     holes: set
     sharpness: dict
+    vertex_sharpness: dict
     method: bytes
+
+    def edge_sharpness(self, edge):
+        return self.sharpness.get(unordered(edge), 0)
 
 
 def sharpness_of(value):
@@ -195,6 +199,15 @@ def base_sharpness(obj, mesh):
     return {edge: value for edge, value in sharpness.items() if value > 0}
 
 
+def base_vertex_sharpness(obj, mesh):
+    """Of the tags that name a point the last counts; where the mode says so, the points of one face are infinitely
+    sharp."""
+    sharpness = {vertex: sharpness_of(value) for vertex, value in obj.corner_tags}
+    if obj.mode == EDGE_AND_CORNER:
+        sharpness.update((point, inf) for point in mesh.used_points() if len(mesh.of_point[point]) == 1)
+    return {vertex: value for vertex, value in sharpness.items() if value > 0}
+
+
 def base_holes(obj, mesh):
     """The faces that a tag names and, where the mode hides them, those with a point at the boundary."""
     at_boundary = mesh.points_at_boundary()
@@ -203,7 +216,8 @@ def base_holes(obj, mesh):
 
 
 def base_level(obj, mesh):
-    return Level(len(obj.points), mesh, base_holes(obj, mesh), base_sharpness(obj, mesh), obj.method)
+    holes, sharpness = base_holes(obj, mesh), base_sharpness(obj, mesh)
+    return Level(len(obj.points), mesh, holes, sharpness, base_vertex_sharpness(obj, mesh), obj.method)
 
 
 # The next level
@@ -237,19 +251,29 @@ def semi_sharp_at(level):
     return values
 
 
-def overflows(values):
+def is_too_fine(denominator):
+    """Whether a denominator is too great for a sharpness or a weight."""
+    return denominator > GREATEST_DENOMINATOR
+
+
+def common_denominator(values):
+    return lcm(*(value.denominator for value in values))
+
+
+def has_fine_halves(values):
     """Whether the chaikin halves of the semi-sharp edges at a point are over too great a denominator."""
-    denominators = [value.denominator for value in values]
-    return len(values) >= 2 and 4 * (len(values) - 1) * lcm(*denominators) > GREATEST_DENOMINATOR
+    return len(values) >= 2 and is_too_fine(4 * (len(values) - 1) * common_denominator(values))
+
+
+def uniform_child(value):
+    return value if value == inf else max(value - 1, 0)
 
 
 def half_sharpness(method, value, values):
     """The sharpness of the half of an edge at a point, where `values` are those of all semi-sharp edges there."""
-    if value == inf:
-        return inf
-    if method == b"chaikin" and len(values) >= 2:
+    if method == b"chaikin" and 0 < value < inf and len(values) >= 2:
         value = value * 3 / 4 + (sum(values) - value) / (4 * (len(values) - 1))
-    return sharpness_of(max(value - 1, 0))
+    return sharpness_of(uniform_child(value))
 
 
 def child_sharpness(level):
@@ -258,18 +282,29 @@ def child_sharpness(level):
     first_edge_point = level.points + len(level.mesh.faces)
     values, halves = semi_sharp_at(level), {}
     for number, edge in enumerate(level.mesh.edges):
-        value = level.sharpness.get(unordered(edge), 0)
+        value = level.edge_sharpness(edge)
         for end in edge if value > 0 else ():
             halves[end, first_edge_point + number] = half_sharpness(level.method, value, values[end])
     return {half: value for half, value in halves.items() if value > 0}
 
 
+def child_vertex_sharpness(level):
+    """The sharpness of the points that stay sharp; face points and edge points are smooth."""
+    return {vertex: value - 1 for vertex, value in level.vertex_sharpness.items() if value > 1}
+
+
+def overflow(number, kind):
+    """The Refusal of the level with this number for what passes its bound."""
+    return Refusal(OVERFLOW, f"far: positions level {number}: {kind} overflow")
+
+
 def child_level(level, number):
     """The next level, which has this number, or the Refusal of a denominator that is too great for it."""
-    if level.method == b"chaikin" and any(map(overflows, semi_sharp_at(level).values())):
-        raise Refusal(OVERFLOW, f"far: positions level {number}: chaikin overflow")
+    if level.method == b"chaikin" and any(map(has_fine_halves, semi_sharp_at(level).values())):
+        raise overflow(number, "chaikin")
     points = level.points + len(level.mesh.faces) + len(level.mesh.edges)
-    return Level(points, Faces(child_faces(level)), child_holes(level), child_sharpness(level), level.method)
+    faces, holes, sharpness = Faces(child_faces(level)), child_holes(level), child_sharpness(level)
+    return Level(points, faces, holes, sharpness, child_vertex_sharpness(level), level.method)
 
 
 # Texts
@@ -285,8 +320,9 @@ def check_depth(faces, depth):
 
 
 def sharp_edges(level):
-    """The edges of two faces that are sharp."""
-    return [edge for edge in level.sharpness if len(level.mesh.faces_of_edge(edge)) == 2]
+    """The edges of two faces that are sharp, in their order."""
+    mesh = level.mesh
+    return [edge for edge in mesh.edges if level.edge_sharpness(edge) > 0 and not mesh.is_boundary(edge)]
 
 
 def extraordinary(level):
@@ -305,12 +341,17 @@ def level_line(number, level):
     )
 
 
-def levels_text(obj, depth):
-    """The text of a mesh that was read, or its Refusal."""
+def accepted(obj, depth):
+    """Level 0 of a mesh that was read, or the first Refusal of the mesh, of its counts or of those of its levels."""
     mesh = Faces(obj.faces)
     check(len(obj.points), mesh)
     check_depth(obj.faces, depth)
-    level = base_level(obj, mesh)
+    return base_level(obj, mesh)
+
+
+def levels_text(obj, depth):
+    """The text of a mesh that was read, or its Refusal."""
+    level = accepted(obj, depth)
     lines = [level_line(0, level)]
     for number in range(1, depth + 1):
         level = child_level(level, number)
@@ -320,8 +361,8 @@ def levels_text(obj, depth):
 
 def answer(words, source):
     """The text for the words that follow `levels`, or a Refusal."""
-    check_words([b"levels", *words])
-    return levels_text(read_mesh(source), depth_of(words[0]))
+    _, options = understood([b"levels", *words])
+    return levels_text(read_mesh(source), int(options[b"depth"]))
 
 
 if __name__ == "__main__":

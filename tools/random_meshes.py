@@ -1,6 +1,6 @@
-"""Random small meshes as OBJ texts: open and closed surfaces of several parts, with random tags, and with faces that are
-dropped, doubled, turned or spoilt. The same seed makes the same texts. `tools/compare_random.py` tries the program on
-them."""
+"""Random small meshes as OBJ texts: open and closed surfaces of several parts, with random tags and numbers, and with
+faces that are dropped, doubled, turned or spoilt. The same seed makes the same texts. `tools/compare_random.py` tries
+the program on them."""
 
 import random
 from itertools import product
@@ -11,6 +11,10 @@ SHARPNESSES = ["0", "0/3", "1/2", "1", "3/2", "2.5", "0.000001", "19/2", "10", "
 # Where edges at a point have all three, their common denominator is too great at level 1, or only at level 2.
 TOO_FINE_AT_ONCE = ["1/999999", "1/999998", "999996/999997"]
 TOO_FINE_LATER = ["1500006/300001", "1500001/300000", "1499996/299999"]
+# Where all three end at a point at once, the weight of its transition is too fine.
+TOO_FINE_TO_END = TOO_FINE_AT_ONCE + ["1/1000000", "3/999983"]
+# Round a point that has faces of nearly all of these sizes the denominator is too great.
+PRIMES = [number for number in range(3, 100) if all(number % least for least in range(2, number))]
 
 
 def grid(rows, columns, closed_rows, closed_columns):
@@ -73,6 +77,10 @@ class Meshes:
         is_closed = self.happens(0.5)
         sizes = [self.random.choice([3, 3, 3, 4, 4, 5, 6, 10]) for _ in range(self.random.randint(3, 8))]
         return fan(sizes, is_closed)
+
+    def wheel(self):
+        """Faces of many sizes round a point."""
+        return fan(self.random.sample(PRIMES, self.random.randint(len(PRIMES) - 2, len(PRIMES))), True)
 
     def cubes(self):
         """The outer faces of some unit cubes, which may meet at an edge or at a point alone."""
@@ -138,7 +146,7 @@ class Meshes:
 
     def change(self, count, faces):
         changes = [self.drop, self.double, self.turn, self.shorten, self.move_corner, self.join]
-        for _ in range(self.random.choice([0, 0, 1, 1, 2, 4])):
+        for _ in range(self.random.choice([0, 0, 0, 0, 1, 1, 2, 4])):
             if faces:
                 self.random.choices(changes, [8, 1, 1, 1, 1, 2])[0](count, faces)
 
@@ -151,6 +159,8 @@ class Meshes:
         return [tuple(names[corner] for corner in face[turn:] + face[:turn]) for face, turn in zip(faces, turns)]
 
     def mesh(self):
+        if self.happens(0.03):
+            return self.wheel()
         count, faces = self.parts()
         self.change(count, faces)
         if self.happens(0.3):
@@ -178,18 +188,24 @@ class Meshes:
         ends = sorted({face[face.index(center) - 1] for face in faces if center in face})
         self.random.shuffle(ends)
         chain = [center] + [point for end in ends[:6] for point in (end, center)]
-        values = self.random.choice([SHARPNESSES, SHARPNESSES, TOO_FINE_AT_ONCE, TOO_FINE_LATER])
+        values = self.random.choice([SHARPNESSES, SHARPNESSES, TOO_FINE_AT_ONCE, TOO_FINE_LATER, TOO_FINE_TO_END])
         sharpness = self.random.choices(values, k=len(chain) - 1)
         return f"t crease {len(chain)}/{len(sharpness)}/0 {' '.join(map(str, chain))} {' '.join(sharpness)}"
 
+    def corner_tag(self, count):
+        """A corner tag for some points, all of one sharpness or each of its own."""
+        named = [self.random.randrange(count) for _ in range(self.random.randint(1, 3))]
+        sharpness = self.random.choices(SHARPNESSES, k=len(named) if self.happens(0.5) else 1)
+        return f"t corner {len(named)}/{len(sharpness)}/0 {' '.join(map(str, named))} {' '.join(sharpness)}"
+
     def tag(self, count, faces):
-        kind = self.random.choice(["crease", "spokes", "method"] * 3 + ["corner", "hole", "hole", "mode", "mode"])
+        kind = self.random.choice(["crease", "spokes", "method"] * 3 + ["corner", "corner", "hole", "hole", "mode", "mode"])
         if kind == "crease":
             return self.crease(count, faces)
         if kind == "spokes":
             return self.spokes(count, faces)
         if kind == "corner":
-            return f"t corner 1/1/0 {self.random.randrange(count)} {self.random.choice(SHARPNESSES)}"
+            return self.corner_tag(count)
         if kind == "hole":
             # now and then the number is past the faces
             return f"t hole 1/0/0 {self.random.randrange(len(faces)) if faces and self.happens(0.98) else len(faces)}"
@@ -200,10 +216,24 @@ class Meshes:
     def corner(self, vertex, textured):
         return f"{vertex + 1}/{self.random.randint(1, 4)}" if textured else str(vertex + 1)
 
+    def coordinates(self):
+        """What makes the coordinates of a mesh: small whole numbers, mostly, or fractions, or numbers that are great or
+        fine, with which values overflow sooner or later."""
+        digits = self.random.randint(26, 37)
+        return self.random.choices(
+            [
+                lambda: str(self.random.randint(-9, 9)),
+                lambda: f"{self.random.randint(-99, 99)}/{self.random.choice([1, 2, 3, 7, 12])}",
+                lambda: str(self.random.randint(-(10**digits) + 1, 10**digits - 1)),
+                lambda: f"{self.random.randint(-9, 9)}/{10 ** (digits - 1)}",
+            ],
+            [5, 1, 1, 1],
+        )[0]
+
     def text(self):
         count, faces = self.mesh()
-        textured = self.happens(0.2)
-        lines = ["v " + " ".join(str(self.random.randint(-9, 9)) for _ in range(3)) for _ in range(count)]
+        textured, coordinate = self.happens(0.1), self.coordinates()
+        lines = [f"v {coordinate()} {coordinate()} {coordinate()}" for _ in range(count)]
         lines += [f"vt 0 {number}" for number in range(4)] if textured else []
         lines += ["f " + " ".join(self.corner(vertex, textured) for vertex in face) for face in faces]
         for _ in range(self.random.choice([0, 1, 2, 4, 8])):

@@ -7,9 +7,25 @@ from obj_reference import Fault, read_obj
 
 GREATEST_INPUT = 2**28
 NOT_UNDERSTOOD, TOO_LONG, BAD_LINE, BAD_MESH, TOO_LARGE, OVERFLOW, NOT_BUILT = 2, 4, 5, 6, 7, 8, 12
-GREATEST_DEPTH = 10
-# The one option that each command has today, with its values; it must be there.
-COMMANDS = {b"refine": [b"depth=1"], b"levels": [b"depth=%d" % depth for depth in range(GREATEST_DEPTH + 1)]}
+
+
+def numbers(most):
+    """The values of an option that is a whole number from 0 to the most."""
+    return [b"%d" % number for number in range(most + 1)]
+
+
+# The commands that are built, each with its options and their values. The depth must be there.
+DEPTH = {b"depth": numbers(10)}
+OPTIONS = {
+    b"refine": {
+        **DEPTH,
+        b"decimals": numbers(18),
+        b"uv": [b"smooth", b"corners", b"boundaries", b"linear"],
+        b"by": [b"table", b"level"],
+        b"tags": [b"no", b"yes"],
+    },
+    b"levels": DEPTH,
+}
 
 
 class Refusal(Exception):
@@ -21,19 +37,24 @@ class Refusal(Exception):
         self.line = line
 
 
-def check_words(words):
-    """Accepts a command with its option; refuses other words by the place of the first bad one."""
-    for place, word in enumerate(words):
-        understood = word in COMMANDS if place == 0 else place == 1 and word in COMMANDS[words[0]]
-        if not understood:
-            raise Refusal(NOT_UNDERSTOOD, f"far: word {place} is not understood")
-    if len(words) < 2:
-        raise Refusal(NOT_UNDERSTOOD, f"far: word {len(words)} is not understood")
+def refuse_word(place):
+    raise Refusal(NOT_UNDERSTOOD, f"far: word {place} is not understood")
 
 
-def depth_of(word):
-    """The number of a word such as depth=2."""
-    return int(word.removeprefix(b"depth="))
+def understood(words):
+    """The command that the words say, and the values of its options by their names; or the Refusal of the first bad
+    word, and of the place after the last where the depth is missing."""
+    if not words or words[0] not in OPTIONS:
+        refuse_word(0)
+    options = {}
+    for place, word in enumerate(words[1:], start=1):
+        name, _, value = word.partition(b"=")
+        if name in options or value not in OPTIONS[words[0]].get(name, []):
+            refuse_word(place)
+        options[name] = value
+    if b"depth" not in options:
+        refuse_word(len(words))
+    return words[0], options
 
 
 def are_text(words):
@@ -62,7 +83,7 @@ def run(answer):
     words = [os.fsencode(word) for word in sys.argv[1:]]
     try:
         if not are_text(words):
-            raise Refusal(NOT_UNDERSTOOD, "far: word 0 is not understood")
+            refuse_word(0)
         text = answer(words, sys.stdin.buffer)
     except Refusal as refusal:
         sys.stderr.write(refusal.line + "\n")

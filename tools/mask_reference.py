@@ -1,0 +1,161 @@
+"""A plain, slow reference of masks and refined values: the rules, the masks and their transitions, and one step.
+
+It is written from the definitions of `subdiv_model` (Rule, Mask, Refined and Channel), with `fractions.Fraction` for
+every weight and value, and shares nothing with the program. `tools/reference.py` refines through it.
+"""
+
+from dataclasses import dataclass
+from fractions import Fraction
+from math import inf, lcm
+
+from level_reference import child_level, common_denominator, half_sharpness, is_too_fine, overflow, uniform_child
+
+GREATEST_NUMBER = 2**126 - 1
+# The rule of a vertex: smooth, which a dart is like; corner; or a crease, by the places of its two edges in the ring.
+SMOOTH, CORNER = "smooth", "corner"
+
+
+@dataclass
+class Mask:
+    """Weights above 0 by their sources, over a denominator that is not reduced. A source has the number of a point of
+    the next level: a point of the level, or the new point of a face."""
+
+    weights: dict
+    denominator: int
+
+
+@dataclass
+class Point:
+    """The value of a point, a coordinate for each axis, and the denominator over which it is whole for all controls."""
+
+    value: tuple
+    denominator: int
+
+
+def mask_of(terms, denominator):
+    """The mask of some sources with their weights; those of one source are joined, and those of weight 0 left out."""
+    weights = {}
+    for source, weight in terms:
+        weights[source] = weights.get(source, 0) + weight
+    return Mask({source: weight for source, weight in weights.items() if weight > 0}, denominator)
+
+
+def each(weight, sources):
+    return [(source, weight) for source in sources]
+
+
+# Rules
+
+
+def rule(vertex, ring):
+    """The rule of a vertex by its own sharpness and those of the edges at it."""
+    sharp = [place for place, value in enumerate(ring) if value > 0]
+    if vertex > 0 or not ring or len(sharp) > 2:
+        return CORNER
+    return tuple(sharp) if len(sharp) == 2 else SMOOTH
+
+
+def ended(vertex, ring, ring_child):
+    """The values of a vertex and of the edges at it that are above 0 and are 0 in the next level."""
+    pairs = [(vertex, uniform_child(vertex)), *zip(ring, ring_child)]
+    return [value for value, after in pairs if value > 0 and after == 0]
+
+
+# Masks
+
+
+def face_mask(face):
+    return mask_of(each(1, face), len(face))
+
+
+def edge_mask(level, edge):
+    """The mask of the new point of an edge, where one of sharpness 0 is a blend that has nothing of the sharp mask."""
+    sharpness, faces = level.edge_sharpness(edge), level.mesh.faces_of_edge(edge)
+    if sharpness >= 1:
+        return mask_of(each(1, edge), 2)
+    x, y = Fraction(sharpness).as_integer_ratio()
+    return mask_of(each(y + x, edge) + each(y - x, [level.points + face for face in faces]), 4 * y)
+
+
+def rule_mask(named, vertex, ends, faces):
+    """The mask of a vertex by its rule, from the other ends of its edges and its faces."""
+    count = len(ends)
+    if named == CORNER:
+        return mask_of([(vertex, 1)], 1)
+    if named == SMOOTH:
+        return mask_of([(vertex, count * (count - 2)), *each(1, ends), *each(1, faces)], count * count)
+    return mask_of([(vertex, 6), *each(1, [ends[place] for place in named])], 8)
+
+
+def blend(weight, parent, child):
+    """So much of the one mask, and the rest of the other, over the least common multiple of their denominators."""
+    multiple = lcm(parent.denominator, child.denominator)
+    x, y = weight.as_integer_ratio()
+    terms = [(source, x * (multiple // parent.denominator) * part) for source, part in parent.weights.items()]
+    terms += [(source, (y - x) * (multiple // child.denominator) * part) for source, part in child.weights.items()]
+    return mask_of(terms, y * multiple)
+
+
+def vertex_mask(level, vertex, number):
+    """The mask of a vertex for the next level, which has this number, or the Refusal of a weight that is too fine."""
+    edges = level.mesh.edges_of_point[vertex]
+    ends = [a + b - vertex for a, b in edges]
+    faces = [level.points + face for face in level.mesh.of_point[vertex]]
+    sharpness, ring = level.vertex_sharpness.get(vertex, 0), [level.edge_sharpness(edge) for edge in edges]
+    semi_sharp = [value for value in ring if 0 < value < inf]
+    ring_child = [half_sharpness(level.method, value, semi_sharp) for value in ring]
+    rules = rule(sharpness, ring), rule(uniform_child(sharpness), ring_child)
+    parent, child = (rule_mask(named, vertex, ends, faces) for named in rules)
+    if rules[0] == rules[1]:
+        return parent
+    values = ended(sharpness, ring, ring_child)
+    if is_too_fine(len(values) * common_denominator(values)):
+        raise overflow(number, "transition")
+    weight = sum(values) / Fraction(len(values))
+    return blend(weight, parent, child) if weight < 1 else parent
+
+
+# Steps
+
+
+def mean(weights, values, denominator):
+    """The sum of weight times value, divided by the denominator."""
+    common = common_denominator(values)
+    total = sum(weight * value.numerator * (common // value.denominator) for weight, value in zip(weights, values))
+    return Fraction(total, common * denominator)
+
+
+def masked(mask, points):
+    """The point that a mask makes of its sources."""
+    sources, weights = [points[source] for source in mask.weights], mask.weights.values()
+    value = tuple(mean(weights, axis, mask.denominator) for axis in zip(*(source.value for source in sources)))
+    return Point(value, mask.denominator * lcm(*(source.denominator for source in sources)))
+
+
+def child_points(level, points, number):
+    """The points of the next level, which has this number: of vertices, then of faces, then of edges."""
+    sources = points + [masked(face_mask(face), points) for face in level.mesh.faces]
+    vertices = [masked(vertex_mask(level, vertex, number), sources) for vertex in range(level.points)]
+    edges = [masked(edge_mask(level, edge), sources) for edge in level.mesh.edges]
+    return vertices + sources[level.points :] + edges
+
+
+def check_numbers(points, greatest, number):
+    """Refuses a level by its denominators and then by its values, where the greatest control or the common denominator
+    has this amount."""
+    if any(point.denominator > GREATEST_NUMBER for point in points):
+        raise overflow(number, "denominator")
+    if max((point.denominator for point in points), default=1) * greatest > GREATEST_NUMBER:
+        raise overflow(number, "value")
+
+
+def refined(level, obj, depth):
+    """The level after so many steps from level 0 of a mesh that was read, and its values, or a Refusal."""
+    points = [Point(tuple(Fraction(axis, obj.common) for axis in point), 1) for point in obj.points]
+    greatest = max([obj.common] + [abs(axis) for point in obj.points for axis in point])
+    for number in range(1, depth + 1):
+        child = child_level(level, number)
+        points = child_points(level, points, number)
+        check_numbers(points, greatest, number)
+        level = child
+    return level, [point.value for point in points]
