@@ -1,5 +1,5 @@
 -- At a vertex at which nothing is sharp both rules are the smooth one.
-use Rattle.std.proofs.Common.{◌≡◌, ℕ, ◌+◌, ◌<◌, ◌||◌, ◌&&◌, nat_eq, Bool, true, false, not, List, [], ◌∷◌, length, map, arith, refl, ap, ◌∙◌, if◌then◌else◌}
+use Rattle.std.proofs.Common.{◌≡◌, ℕ, ◌+◌, ◌<◌, ◌||◌, ◌&&◌, nat_eq, Bool, true, false, not, List, [], ◌∷◌, length, map, arith, refl, ap, sym, subst, ◌∙◌, if◌then◌else◌, Result, Ok, Err, IfOk, IfErr, MatchResult}
 use Rattle.std.specs.List.{list_any}
 use Rattle.std.proofs.lemmas.Bool.Decides.{nat_tests}
 use Rattle.std.proofs.lemmas.List.{length-map}
@@ -9,7 +9,12 @@ use Rattle.subdiv_model.specs.Rule.{SmoothRule, CornerRule, vertex_rule, rule_of
 use Rattle.subdiv_model.specs.Level.{vertex_sharpness_of}
 use Rattle.subdiv_model.specs.Mask.{mask_of_rule}
 use Rattle.level_topology.specs.Topology.{Topology}
-use Rattle.mask_rules.specs.Around.{ring_in, mask_in, is_refused_in, ends_in, faces_in}
+use Rattle.mask_rules.specs.declared.vertex.VertexMask.{VertexMask}
+use Rattle.mask_rules.specs.declared.mask.MaskFault.{MaskFault}
+use Rattle.mask_rules.specs.declared.mask.MaskFault.TheVariants as fault
+use Rattle.mask_rules.specs.View.{seen_vertex}
+use Rattle.mask_rules.specs.Masks.{IsJoinedAs}
+use Rattle.mask_rules.specs.Around.{ring_in, mask_in, is_refused_in, IsFaultWhere, ends_in, faces_in}
 use Rattle.mask_rules.specs.Smooth.{IsSmoothAt}
 
 neither : (b c : Bool) → (b || c) ≡ false → (b ≡ false) × (c ≡ false)
@@ -76,3 +81,10 @@ module _ (t : Topology) (v : ℕ) (is : IsSmoothAt t v) where
 
   pub smooth-fine : is_refused_in t v ≡ false
   smooth-fine = needless _ _ same
+
+  -- what was made as the mask of the smooth rule, or failed for want of memory, answers for the vertex
+  pub smooth-made : (r : Result VertexMask MaskFault) → IfOk r (λ m. IsJoinedAs (seen_vertex m) (mask_of_rule v (ends_in t v) (faces_in t v) SmoothRule))
+      → IfErr r (λ f. f ≡ fault.Memory)
+      → MatchResult r (λ m. IsJoinedAs (seen_vertex m) (mask_in t v) × (is_refused_in t v ≡ false)) (IsFaultWhere (is_refused_in t v))
+  smooth-made (Ok m) made none = (subst (IsJoinedAs (seen_vertex m)) (sym smooth-mask) made, smooth-fine)
+  smooth-made (Err f) made is-memory = subst (IsFaultWhere (is_refused_in t v)) (sym is-memory) tt

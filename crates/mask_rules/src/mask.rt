@@ -1,5 +1,6 @@
 //! What a mask is made of.
 
+use ratio128::Memory;
 use std::fmt;
 
 /// How a level is refined.
@@ -32,6 +33,17 @@ pub enum MaskFault {
     Transition,
     /// There is no memory for a long mask.
     Memory,
+}
+
+impl From<Memory> for MaskFault {
+    ghost use Rattle.std.specs.Prelude.{◌≡◌};
+    ghost use Rattle.mask_rules.specs.declared.mask.MaskFault.TheVariants as fault;
+
+    ghost from_gives = { λ _ e. e ≡ fault.Memory };
+
+    fn from(_: Memory) -> MaskFault {
+        MaskFault::Memory
+    }
 }
 
 impl fmt::Display for MaskFault {

@@ -54,8 +54,5 @@ pub(crate) fn smooth_mask(alloc: Global, level: &Level, v: u32) -> Result<Vertex
         (IsFaultWhere (is_refused_in level.now v)) }
     ensures few { HasFewTerms level.now v → IfErr result (λ fault. fault ≡ MaskFault.Transition) }
 {
-    match one_rule(alloc, level, v, Rule::Smooth) {
-        Ok(mask) => Ok(mask),
-        Err(_) => Err(MaskFault::Memory),
-    }
+    one_rule(alloc, level, v, Rule::Smooth)
 }

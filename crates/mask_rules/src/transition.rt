@@ -31,7 +31,7 @@ fn weighed(
     parent: Rule,
     child: Rule,
     weight: Weight,
-) -> Result<VertexMask, Memory>
+) -> Result<VertexMask, MaskFault>
     requires known { v < level.now.level.point_count }
     requires parent { IsRuleAmong (rule_of parent) (length (ends_in level.now v)) }
     requires child { IsRuleAmong (rule_of child) (length (ends_in level.now v)) }
@@ -40,21 +40,13 @@ fn weighed(
     ensures mask { IfOk result (λ m. IsJoinedAs (seen_vertex m) (transition_mask (weight.num, weight.den)
         (mask_of_rule v (ends_in level.now v) (faces_in level.now v) (rule_of parent))
         (mask_of_rule v (ends_in level.now v) (faces_in level.now v) (rule_of child)))) }
+    ensures fault { IfErr result (λ fault. fault ≡ MaskFault.Memory) }
     ensures few { HasFewTerms level.now v → IsOk result }
 {
     if weight.num == weight.den {
         one_rule(alloc, level, v, parent)
     } else {
         two_rules(alloc, level, v, parent, child, weight)
-    }
-}
-
-fn or_fault(made: Result<VertexMask, Memory>) -> Result<VertexMask, MaskFault>
-    ensures { MatchResult made (λ m. result ≡ Ok m) (λ _. result ≡ Err MaskFault.Memory) }
-{
-    match made {
-        Ok(mask) => Ok(mask),
-        Err(_) => Err(MaskFault::Memory),
     }
 }
 
@@ -79,10 +71,10 @@ fn between(
     let parent = vertex_rule(vertex, ring);
     let child = vertex_rule(vertex_child, next);
     if is_same_mask(parent, child) {
-        return or_fault(one_rule(alloc, level, v, parent));
+        return one_rule(alloc, level, v, parent);
     }
     match transition_weight(vertex, vertex_child, ring, next) {
-        Ok(weight) => or_fault(weighed(alloc, level, v, parent, child, weight)),
+        Ok(weight) => weighed(alloc, level, v, parent, child, weight),
         Err(_) => Err(MaskFault::Transition),
     }
 }
@@ -126,9 +118,7 @@ fn by_rules(alloc: Global, level: &Level, v: u32) -> Result<VertexMask, MaskFaul
         let mut next = [Sharpness::Smooth; FEW];
         return from_rings(alloc, level, v, &mut ring[..count], &mut next[..count]);
     }
-    let Ok(mut ring) = rings(alloc, count) else {
-        return Err(MaskFault::Memory);
-    };
+    let mut ring = rings(alloc, count)?;
     let (ring, next) = ring.split_at_mut(count);
     from_rings(alloc, level, v, ring, next)
 }

@@ -1,6 +1,6 @@
 //! The new point of a vertex.
 
-ghost use Rattle.std.specs.Prelude.{◌≡◌, ◌<◌, ◌≤◌, ◌+◌, ◌*◌, ◌^◌, true, IsTrue, [], ◌∷◌, ◌++◌, length, map, get_or, IsOk, OnOk, IfOk};
+ghost use Rattle.std.specs.Prelude.{◌≡◌, ◌<◌, ◌≤◌, ◌+◌, ◌*◌, ◌^◌, true, IsTrue, [], ◌∷◌, ◌++◌, length, map, get_or, IsOk, OnOk, IfOk, IfErr};
 ghost use Rattle.subdiv_model.specs.Edges.{edges_of};
 ghost use Rattle.subdiv_model.specs.Multiples.{lcm_of};
 ghost use Rattle.subdiv_model.specs.Mask.{weigh, weigh_faces, corner_mask, mask_of_rule, blend};
@@ -13,7 +13,7 @@ ghost use Rattle.mask_rules.specs.Around.{end_of_edge, ends_in, faces_in, HasFew
 ghost use Rattle.mask_rules.specs.Room.{Grows};
 ghost use Rattle.smallvec.specs.SmallVec.{HasRoomFor};
 
-use crate::mask::{At, Term};
+use crate::mask::{At, MaskFault, Term};
 use level_topology::Level;
 use ratio128::{Memory, gcd};
 use sharpness_rules::{Rule, Weight};
@@ -198,13 +198,14 @@ pub(crate) fn spread(
     v: u32,
     parts: Parts,
     denominator: u128,
-) -> Result<VertexMask, Memory>
+) -> Result<VertexMask, MaskFault>
     requires known { v < level.now.level.point_count }
     requires fits { parts.by * rule_denominator (rule_of parts.parent) (length (ends_in level.now v))
         + parts.rest * rule_denominator (rule_of parts.child) (length (ends_in level.now v)) < 2 ^ 128 }
     requires small { parts.by + parts.rest < 2 ^ 128 }
     ensures mask { IfOk result (λ m. seen_vertex m
         ≡ spread_mask (rule_of parts.parent) (rule_of parts.child) parts.by parts.rest denominator v (ends_in level.now v) (faces_in level.now v)) }
+    ensures fault { IfErr result (λ fault. fault ≡ MaskFault.Memory) }
     ensures few { HasFewTerms level.now v → IsOk result }
 {
     let mut terms = SmallVec::new(alloc);
@@ -236,10 +237,11 @@ pub(crate) fn one_rule(
     level: &Level,
     v: u32,
     rule: Rule,
-) -> Result<VertexMask, Memory>
+) -> Result<VertexMask, MaskFault>
     requires known { v < level.now.level.point_count }
     requires among { IsRuleAmong (rule_of rule) (length (ends_in level.now v)) }
     ensures mask { IfOk result (λ m. IsJoinedAs (seen_vertex m) (mask_of_rule v (ends_in level.now v) (faces_in level.now v) (rule_of rule))) }
+    ensures fault { IfErr result (λ fault. fault ≡ MaskFault.Memory) }
     ensures few { HasFewTerms level.now v → IsOk result }
 {
     level.facts();
@@ -273,7 +275,7 @@ pub(crate) fn two_rules(
     parent: Rule,
     child: Rule,
     weight: Weight,
-) -> Result<VertexMask, Memory>
+) -> Result<VertexMask, MaskFault>
     requires known { v < level.now.level.point_count }
     requires parent { IsRuleAmong (rule_of parent) (length (ends_in level.now v)) }
     requires child { IsRuleAmong (rule_of child) (length (ends_in level.now v)) }
@@ -282,6 +284,7 @@ pub(crate) fn two_rules(
     ensures mask { IfOk result (λ m. IsJoinedAs (seen_vertex m) (blend (weight.num, weight.den)
         (mask_of_rule v (ends_in level.now v) (faces_in level.now v) (rule_of parent))
         (mask_of_rule v (ends_in level.now v) (faces_in level.now v) (rule_of child)))) }
+    ensures fault { IfErr result (λ fault. fault ≡ MaskFault.Memory) }
     ensures few { HasFewTerms level.now v → IsOk result }
 {
     level.facts();
