@@ -1,3 +1,4 @@
+pub mod ResultLemmas
 pub mod WithinLemmas
 pub mod FoldLemmas
 pub mod TermLemmas

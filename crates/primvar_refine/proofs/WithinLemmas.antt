@@ -53,6 +53,22 @@ pub joined-absorbs : (m c a b : ℕ) → 0 < m → 0 < c → c ∣ m → m ≡ w
 joined-absorbs m c a b first second divides h k =
     h ∙ ap within_bound (sym (absorbed m c a b second divides (within-some m a first h) (within-some c b second k)))
 
+-- the defined least common multiple is one
+least : (a b : ℕ) → 0 < b → IsLcm a b (lcm_of a b)
+least a b some = record { first = lcm-first a b; second = lcm-second a b; least = λ n. lcm-least a b n some }
+
+-- a divisor is taken in by its multiple
+taken-in : (a b : ℕ) → 0 < b → a ∣ b → lcm_of a b ≡ b
+taken-in a b some divides =
+    sym (IsLcm-unique a b b (lcm_of a b) (record { first = divides; second = dvd_refl b; least = λ n first second. second }) (least a b some))
+
+pub joined-taken_in : (m c a b : ℕ) → 0 < m → 0 < c → m ∣ c → m ≡ within_bound a → c ≡ within_bound b → c ≡ within_bound (lcm_of a b)
+joined-taken_in m c a b first second divides h k =
+    let here = within-some m a first h in
+    let there = within-some c b second k in
+    k ∙ ap within_bound
+    (sym (taken-in a b (omega (arith, there)) (subst (λ (n : ℕ). a ∣ n) there (subst (λ (d : ℕ). d ∣ c) here divides))))
+
 -- neither does the same number, within the bound or over it
 pub joined-same : (m c a b : ℕ) → 0 < a → 0 < b → c ≡ m → m ≡ within_bound a → c ≡ within_bound b → m ≡ within_bound (lcm_of a b)
 joined-same zero c a b first second e h k = joined-first a b first second h
@@ -69,10 +85,6 @@ joined-one m c a b e h k =
 pub joined-exact : (m c a b r : ℕ) → 0 < m → 0 < c → r ≡ within_bound (lcm_of m c) → m ≡ within_bound a → c ≡ within_bound b → r ≡ within_bound (lcm_of a b)
 joined-exact m c a b r first second is h k =
     is ∙ ap (λ n. within_bound (lcm_of n c)) (within-some m a first h) ∙ ap (λ n. within_bound (lcm_of a n)) (within-some c b second k)
-
--- the defined least common multiple is one
-least : (a b : ℕ) → 0 < b → IsLcm a b (lcm_of a b)
-least a b some = record { first = lcm-first a b; second = lcm-second a b; least = λ n. lcm-least a b n some }
 
 -- a least common multiple where it is within the bound, and 0 where there is none
 pub multiple-within : (a b : ℕ) (r : Option ℕ) → 0 < b → IfNone r ((n : ℕ) → IsLcm a b n → number_bound < n) → IfSome r (IsLcm a b)

@@ -42,6 +42,9 @@ pub(crate) fn joined(m: u128, c: u128) -> u128
     if is_shift(c, m) {
         return m;
     }
+    if is_shift(m, c) {
+        return c;
+    }
     multiple(m, c)
 }
 

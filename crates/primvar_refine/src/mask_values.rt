@@ -8,8 +8,8 @@ ghost use Rattle.subdiv_model.specs.Sharpness.{Smooth};
 ghost use Rattle.subdiv_model.specs.Mask.{CatmullClark, face_mask, edge_mask, vertex_mask};
 ghost use Rattle.subdiv_model.specs.Channel.{chaikin_overflows_at, transition_overflows_at};
 ghost use Rattle.level_topology.specs.Topology.{edge_at};
-ghost use Rattle.mask_rules.specs.View.{scheme_of, seen_vertex};
-ghost use Rattle.mask_rules.specs.Masks.{IsMask, is_at_least_one};
+ghost use Rattle.mask_rules.specs.View.{scheme_of};
+ghost use Rattle.mask_rules.specs.Masks.{is_at_least_one};
 ghost use Rattle.mask_rules.specs.Around.{HasSharpBoundaryAt};
 ghost use Rattle.primvar_refine.specs.Rows.{row_at};
 ghost use Rattle.primvar_refine.specs.View.{rows_of};
@@ -18,7 +18,7 @@ ghost use Rattle.primvar_refine.specs.Made.{IsMade, CanMake};
 use crate::sums::{sum_of_corners, sum_of_terms};
 use crate::valued::Valued;
 use level_topology::Level;
-use mask_rules::{Scheme, VertexMask, edge_mask, face_mask, vertex_mask};
+use mask_rules::{Scheme, edge_mask, face_mask, vertex_mask};
 use ratio128::{Memory, Primvar, Steps, quotient};
 use std::alloc::Global;
 use std::sync::ledger::Ledger;
@@ -72,26 +72,6 @@ pub(crate) fn edge_value<P: Primvar<L>, L: Ledger>(
     sum_of_terms(mask.terms(), multiple, values, made, places, zero, steps)
 }
 
-// The mask of a vertex at which no weight is refused.
-fn mask_of_vertex(
-    alloc: Global,
-    parent: &Level,
-    v: u32,
-    scheme: Scheme,
-) -> Result<VertexMask, Memory>
-    requires known { v < parent.now.level.point_count }
-    requires complete { get_or parent.now.complete v false ≡ true }
-    requires boundary { scheme_of scheme ≡ CatmullClark → HasSharpBoundaryAt parent.now.level v }
-    requires fine { scheme_of scheme ≡ CatmullClark → chaikin_overflows_at parent.now.level v ≡ false }
-    requires allowed { transition_overflows_at parent.now.level (scheme_of scheme) v ≡ false }
-    ensures { IfOk result (λ m. IsMask (seen_vertex m) (vertex_mask parent.now.level (scheme_of scheme) v)) }
-{
-    match vertex_mask(alloc, parent, v, scheme) {
-        Ok(mask) => Ok(mask),
-        Err(_) => Err(Memory),
-    }
-}
-
 /// The value of the new point of a vertex over its common denominator. The faces that it names have their values in `made`.
 pub(crate) fn vertex_value<P: Primvar<L>, L: Ledger>(
     alloc: Global,
@@ -118,7 +98,11 @@ pub(crate) fn vertex_value<P: Primvar<L>, L: Ledger>(
     ensures taken { OnOk result (steps.new ≡ steps.old + length (vertex_mask parent.now.level (scheme_of scheme) v).terms) }
     ensures none { OnErr result (steps.new ≡ steps.old) }
 {
-    let mask = mask_of_vertex(alloc, parent, v, scheme)?;
-    let multiple = quotient(den, mask.denominator());
-    Ok(sum_of_terms(mask.terms(), multiple, values, made, places, zero, steps))
+    match &vertex_mask(alloc, parent, v, scheme) {
+        Ok(mask) => {
+            let multiple = quotient(den, mask.denominator());
+            Ok(sum_of_terms(mask.terms(), multiple, values, made, places, zero, steps))
+        }
+        Err(_) => Err(Memory),
+    }
 }

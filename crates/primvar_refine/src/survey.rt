@@ -93,7 +93,7 @@ impl Survey {
             (IsPointFault parent.now.level (scheme_of scheme) (FromVertex v)) }
     {
         parent.facts();
-        match vertex_mask(alloc, parent, v, scheme) {
+        match &vertex_mask(alloc, parent, v, scheme) {
             Ok(mask) => {
                 self.add_mask(dens, mask.terms(), mask.denominator())?;
                 Ok(())

@@ -1,5 +1,5 @@
 use Rattle.std.proofs.Common.{arith, sym, ◌∙◌}
-use Rattle.primvar_refine.proofs.WithinLemmas.{joined-same, joined-one, joined-first, joined-second, joined-absorbs, joined-exact}
+use Rattle.primvar_refine.proofs.WithinLemmas.{joined-same, joined-one, joined-first, joined-second, joined-absorbs, joined-taken_in, joined-exact}
 use Rattle.primvar_refine.proofs.common.joined.Goals.{then-c-m-via-then-c-m, then-c-m-via-else-c-m+then-c-eq1, then-m-eq0-via-then-m-eq0, then-m-eq0-via-else-m-eq0+then-c-eq0}
 use Rattle.primvar_refine.proofs.common.joined.Goals as goal
 
@@ -18,6 +18,10 @@ returns-then-m-eq0 c a b first second h k = elim c.then-m-eq0.branch [
 pub returns-then-is_shift : goal.returns-then-is_shift
 returns-then-is_shift c a b first second h k =
     joined-absorbs _ _ a b (omega arith) (omega arith) (c.is_shift.ensures c.if-is_shift.true) h k
+
+pub returns-then-is_shift-2 : goal.returns-then-is_shift-2
+returns-then-is_shift-2 c a b first second h k =
+    joined-taken_in _ _ a b (omega arith) (omega arith) (c.is_shift-2.ensures c.if-is_shift-2.true) h k
 
 pub returns : goal.returns
 returns c a b first second h k = joined-exact _ _ a b _ (omega arith) (omega arith) c.multiple.ensures h k
