@@ -7,7 +7,7 @@ ghost use Rattle.obj_out.specs.Puts.{Puts};
 ghost use Rattle.mesh_text.specs.Lines.{corner_tag, corner_where_sharp};
 
 use crate::sharpness::{is_sharp, put_sharpness_word};
-use crate::words::{put_number_word, put_text};
+use crate::words::{put_byte, put_number_word, put_text};
 use far_io::{Sink, WriteFailed};
 use level_topology::Level;
 use obj_out::Out;
@@ -25,7 +25,7 @@ fn put_corner<K: Sink>(
     put_text(out, b"t corner 1/1/0")?;
     put_number_word(out, v as u64)?;
     put_sharpness_word(out, sharpness)?;
-    put_text(out, b"\n")
+    put_byte(out, b'\n')
 }
 
 // Puts the line of a vertex that is sharp, and nothing for another.

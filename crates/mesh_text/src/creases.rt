@@ -11,7 +11,7 @@ ghost use Rattle.obj_out.specs.Puts.{Puts};
 ghost use Rattle.mesh_text.specs.Lines.{crease_tag, crease_where_sharp};
 
 use crate::sharpness::{is_sharp, put_sharpness_word};
-use crate::words::{put_number_word, put_text};
+use crate::words::{put_byte, put_number_word, put_text};
 use far_io::{Sink, WriteFailed};
 use level_topology::Level;
 use obj_out::Out;
@@ -47,7 +47,7 @@ fn put_crease<K: Sink>(
     put_number_word(out, first as u64)?;
     put_number_word(out, second as u64)?;
     put_sharpness_word(out, sharpness)?;
-    put_text(out, b"\n")
+    put_byte(out, b'\n')
 }
 
 // Puts the line of an edge that has two faces and is sharp, and nothing for another.

@@ -6,7 +6,7 @@ ghost use Rattle.subdiv_model.specs.Text.{face_line};
 ghost use Rattle.obj_out.specs.Puts.{Puts};
 ghost use Rattle.mesh_text.specs.Lines.{corner_word, shown_face};
 
-use crate::words::{put_number_word, put_text};
+use crate::words::{put_byte, put_number_word};
 use far_io::{Sink, WriteFailed};
 use level_topology::Level;
 use obj_out::Out;
@@ -36,9 +36,9 @@ fn put_face<K: Sink>(out: &mut Out<'_, K>, corners: &[u32]) -> Result<(), WriteF
     ensures same_reference { out.new.sink.ghost_name ≡ out.old.sink.ghost_name }
     ensures puts { Puts K.held K.faults K.fixed out.old.sink.now out.new.sink.now out.old.waiting out.new.waiting out.old.failed out.new.failed (face_line corners.now) result }
 {
-    put_text(out, b"f")?;
+    put_byte(out, b'f')?;
     put_corners(out, corners)?;
-    put_text(out, b"\n")
+    put_byte(out, b'\n')
 }
 
 // Puts the line of a face, unless it is a hole and holes are left out.

@@ -6,7 +6,7 @@ ghost use Rattle.subdiv_model.specs.Text.{hole_line};
 ghost use Rattle.obj_out.specs.Puts.{Puts};
 ghost use Rattle.mesh_text.specs.Lines.{hole_where_marked};
 
-use crate::words::{put_number_word, put_text};
+use crate::words::{put_byte, put_number_word, put_text};
 use far_io::{Sink, WriteFailed};
 use level_topology::Level;
 use obj_out::Out;
@@ -18,7 +18,7 @@ fn put_hole<K: Sink>(out: &mut Out<'_, K>, f: u32) -> Result<(), WriteFailed>
 {
     put_text(out, b"t hole 1/0/0")?;
     put_number_word(out, f as u64)?;
-    put_text(out, b"\n")
+    put_byte(out, b'\n')
 }
 
 // Puts the line of a face that is a hole, and nothing for another.

@@ -8,13 +8,13 @@ ghost use Rattle.obj_out.specs.Puts.{Puts};
 ghost use Rattle.mesh_text.specs.Points.{CanBeWritten};
 ghost use Rattle.mesh_text.specs.Lines.{value_over, point_over, valued_line};
 
-use crate::words::{put_text, put_value};
+use crate::words::put_byte;
 use far_io::{Sink, WriteFailed};
 use obj_out::Out;
 use primvar_refine::Valued;
-use ratio128::Point3;
+use ratio128::{Frac, Point3};
 
-// Puts a space and a coordinate.
+// Puts a space and a coordinate, in lowest terms, or rounded where decimals are given.
 fn put_coordinate<K: Sink>(
     out: &mut Out<'_, K>,
     num: &i128,
@@ -28,8 +28,11 @@ fn put_coordinate<K: Sink>(
     ensures same_reference { out.new.sink.ghost_name ≡ out.old.sink.ghost_name }
     ensures puts { Puts K.held K.faults K.fixed out.old.sink.now out.new.sink.now out.old.waiting out.new.waiting out.old.failed out.new.failed (32 ∷ value_text_with decimals (value_over den num.now)) result }
 {
-    put_text(out, b" ")?;
-    put_value(out, num, den, decimals)
+    let f = Frac { num: *num, den };
+    match decimals {
+        Some(digits) => out.put_decimal_after(b' ', &f, digits),
+        None => out.put_frac_after(b' ', &f),
+    }
 }
 
 // Puts the line of a point, whose coordinates are all over one denominator.
@@ -48,11 +51,11 @@ fn put_point<K: Sink>(
     ensures same_reference { out.new.sink.ghost_name ≡ out.old.sink.ghost_name }
     ensures puts { Puts K.held K.faults K.fixed out.old.sink.now out.new.sink.now out.old.waiting out.new.waiting out.old.failed out.new.failed (point_line decimals (point_over den point.now)) result }
 {
-    put_text(out, b"v")?;
+    put_byte(out, b'v')?;
     put_coordinate(out, &point.x, den, decimals)?;
     put_coordinate(out, &point.y, den, decimals)?;
     put_coordinate(out, &point.z, den, decimals)?;
-    put_text(out, b"\n")
+    put_byte(out, b'\n')
 }
 
 // Puts the line of a point over its own denominator times the common one.

@@ -7,7 +7,7 @@ ghost use Rattle.subdiv_model.specs.Text.{sharpness_text};
 ghost use Rattle.sharpness_rules.specs.View.{sharpness_of};
 ghost use Rattle.obj_out.specs.Puts.{Puts};
 
-use crate::words::{put_number, put_text};
+use crate::words::{put_byte, put_number, put_text};
 use far_io::{Sink, WriteFailed};
 use obj_out::Out;
 use sharpness_rules::Sharpness;
@@ -28,7 +28,7 @@ fn put_terms<K: Sink>(out: &mut Out<'_, K>, num: u64, den: u64) -> Result<(), Wr
     ensures puts { Puts K.held K.faults K.fixed out.old.sink.now out.new.sink.now out.old.waiting out.new.waiting out.old.failed out.new.failed (number_text num ++ (codes "/" ++ number_text den)) result }
 {
     put_number(out, num)?;
-    put_text(out, b"/")?;
+    put_byte(out, b'/')?;
     put_number(out, den)
 }
 
@@ -50,7 +50,7 @@ fn put_sharpness<K: Sink>(out: &mut Out<'_, K>, sharpness: Sharpness) -> Result<
     ensures puts { Puts K.held K.faults K.fixed out.old.sink.now out.new.sink.now out.old.waiting out.new.waiting out.old.failed out.new.failed (sharpness_text (sharpness_of sharpness)) result }
 {
     match sharpness {
-        Sharpness::Smooth => put_text(out, b"0"),
+        Sharpness::Smooth => put_byte(out, b'0'),
         Sharpness::Semi(value) => put_ratio(out, value.num(), value.den()),
         Sharpness::Infinite => put_text(out, b"10"),
     }
@@ -64,6 +64,6 @@ pub(crate) fn put_sharpness_word<K: Sink>(
     ensures same_reference { out.new.sink.ghost_name ≡ out.old.sink.ghost_name }
     ensures puts { Puts K.held K.faults K.fixed out.old.sink.now out.new.sink.now out.old.waiting out.new.waiting out.old.failed out.new.failed (32 ∷ sharpness_text (sharpness_of sharpness)) result }
 {
-    put_text(out, b" ")?;
+    put_byte(out, b' ')?;
     put_sharpness(out, sharpness)
 }

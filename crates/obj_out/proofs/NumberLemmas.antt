@@ -1,16 +1,7 @@
--- Texts of fractions and signs.
-use Rattle.std.proofs.Common.{◌≡◌, ◌≢◌, ℕ, zero, suc, ◌+◌, ◌*◌, ◌^◌, ◌<◌, ◌≤◌, ℤ, pos, ◌*ℤ◌, unsigned_abs, arith, lit<, refl, ap, sym, ◌∙◌, ◌++◌}
-use Rattle.std.specs.Int.{IsGcd}
+-- Texts of signs.
+use Rattle.std.proofs.Common.{◌≡◌, ◌≢◌, ℕ, zero, suc, ◌+◌, ◌*◌, ◌^◌, ◌<◌, ◌≤◌, ℤ, arith, lit<, refl}
 use Rattle.std.proofs.Math.Nat.{one-le-pow}
-use Rattle.subdiv_model.specs.NumberText.{sign_text, ratio_text, fraction_text, rounded_sign}
-use Rattle.number_laws.proofs.CoprimeLemmas.{lowest-stays}
-use Rattle.number_laws.proofs.TextLemmas.{fraction_text-same}
-
--- a fraction's text, from its lowest terms
-pub reduced-text : (m n : ℤ) (d e : ℕ) → 0 < d → 0 < e → m *ℤ pos e ≡ n *ℤ pos d → IsGcd (unsigned_abs n) e 1 →
-    sign_text n ++ ratio_text (unsigned_abs n, e) ≡ fraction_text m d
-reduced-text m n d e hd he same is =
-    sym (ap (λ x. sign_text n ++ ratio_text x) (lowest-stays (unsigned_abs n) e is)) ∙ sym (fraction_text-same m n d e hd he same)
+use Rattle.subdiv_model.specs.NumberText.{sign_text, rounded_sign}
 
 signed-some : (num : ℤ) (n : ℕ) → 0 < n → rounded_sign num n ≡ sign_text num
 signed-some num zero some = absurd (omega arith)

@@ -8,6 +8,7 @@ pub mod laws;
 mod numbers;
 mod put;
 mod rounding;
+mod terms;
 mod waiting;
 
 pub use put::Out;

@@ -4,9 +4,10 @@ ghost use Rattle.std.specs.Prelude.{◌≡◌, ℕ, ◌+◌, ◌*◌, ◌/◌, �
 ghost use Rattle.subdiv_model.specs.NumberText.{number_text, sign_text, ratio_text, fraction_text, last_digits, decimal_text, rounded_sign, rounded_text};
 
 use crate::rounding::{Decimal, rounded};
+use crate::terms::lowest_terms;
 use crate::waiting::Waiting;
 use itoa::Buffer;
-use ratio128::{Frac, lowest};
+use ratio128::Frac;
 
 impl Waiting {
     // A whole number.
@@ -15,12 +16,33 @@ impl Waiting {
         ensures text { self.new ≡ self.old ++ number_text n }
         ensures short { length self.new ≤ length self.old + 40 }
     {
-        let mut buffer = Buffer::new();
-        self.push(buffer.format(n).as_bytes());
+        self.push_digits(n);
     }
 
-    // A whole number of up to 128 bits.
+    // A byte, and a whole number after it.
+    pub(crate) fn push_number_after(&mut self, byte: u8, n: u64)
+        requires room { length self.old + 41 ≤ 4096 }
+        ensures { self.new ≡ self.old ++ (byte ∷ number_text n) }
+    {
+        self.push_byte(byte);
+        self.push_number(n);
+    }
+
+    // A whole number of up to 128 bits, of which most fit into 64.
     pub(crate) fn push_wide(&mut self, n: u128)
+        requires room { length self.old + 40 ≤ 4096 }
+        ensures text { self.new ≡ self.old ++ number_text n }
+        ensures short { length self.new ≤ length self.old + 40 }
+    {
+        if n <= u64::MAX as u128 {
+            self.push_number(n as u64);
+        } else {
+            self.push_long(n);
+        }
+    }
+
+    // A whole number of up to 128 bits, in arithmetic of 128 bits.
+    fn push_long(&mut self, n: u128)
         requires room { length self.old + 40 ≤ 4096 }
         ensures text { self.new ≡ self.old ++ number_text n }
         ensures short { length self.new ≤ length self.old + 40 }
@@ -36,7 +58,7 @@ impl Waiting {
     {
         self.push_wide(num);
         if den != 1 {
-            self.push(b"/");
+            self.push_byte(b'/');
             self.push_wide(den);
         }
     }
@@ -48,17 +70,8 @@ impl Waiting {
         ensures short { length self.new ≤ length self.old + 1 }
     {
         if num < 0 {
-            self.push(b"-");
+            self.push_byte(b'-');
         }
-    }
-
-    // A fraction in the terms that it is kept in.
-    fn push_terms(&mut self, f: &Frac)
-        requires room { length self.old + 82 ≤ 4096 }
-        ensures { self.new ≡ self.old ++ (sign_text f.now.num ++ ratio_text (unsigned_abs f.now.num, f.now.den)) }
-    {
-        self.push_sign(f.num);
-        self.push_ratio(f.num.unsigned_abs(), f.den);
     }
 
     // A fraction in lowest terms, whatever terms it is kept in.
@@ -68,7 +81,20 @@ impl Waiting {
         requires kept { unsigned_abs f.now.num < 2 ^ 127 }
         ensures { self.new ≡ self.old ++ fraction_text f.now.num f.now.den }
     {
-        self.push_terms(&in_lowest_terms(f));
+        self.push_sign(f.num);
+        let (num, den) = lowest_terms(f.num.unsigned_abs(), f.den);
+        self.push_ratio(num, den);
+    }
+
+    // A byte, and a fraction in lowest terms after it.
+    pub(crate) fn push_frac_after(&mut self, byte: u8, f: &Frac)
+        requires room { length self.old + 83 ≤ 4096 }
+        requires positive { 0 < f.now.den }
+        requires kept { unsigned_abs f.now.num < 2 ^ 127 }
+        ensures { self.new ≡ self.old ++ (byte ∷ fraction_text f.now.num f.now.den) }
+    {
+        self.push_byte(byte);
+        self.push_frac(f);
     }
 
     // A fraction rounded to so many decimals, half to even.
@@ -83,6 +109,19 @@ impl Waiting {
         let number = rounded(f.num.unsigned_abs(), f.den, digits);
         self.push_rounded_sign(f.num, &number, digits);
         self.push_decimal(&number, digits);
+    }
+
+    // A byte, and a rounded fraction after it.
+    pub(crate) fn push_rounded_after(&mut self, byte: u8, f: &Frac, digits: u32)
+        requires room { length self.old + 61 ≤ 4096 }
+        requires positive { 0 < f.now.den }
+        requires kept { unsigned_abs f.now.num < 2 ^ 127 }
+        requires bounded { f.now.den < 2 ^ 126 }
+        requires few { digits ≤ 18 }
+        ensures { self.new ≡ self.old ++ (byte ∷ rounded_text digits f.now.num f.now.den) }
+    {
+        self.push_byte(byte);
+        self.push_rounded(f, digits);
     }
 
     // `-` for a number below 0 that is not rounded to 0.
@@ -105,7 +144,7 @@ impl Waiting {
     {
         self.push_wide(number.whole);
         if digits != 0 {
-            self.push(b".");
+            self.push_byte(b'.');
             self.push_last_digits(number.units, digits);
         }
     }
@@ -130,13 +169,4 @@ impl Waiting {
             self.push(rest);
         }
     }
-}
-
-// The fraction in lowest terms.
-fn in_lowest_terms(f: &Frac) -> Frac
-    requires positive { 0 < f.now.den }
-    requires kept { unsigned_abs f.now.num < 2 ^ 127 }
-    ensures { sign_text result.num ++ ratio_text (unsigned_abs result.num, result.den) ≡ fraction_text f.now.num f.now.den }
-{
-    lowest(f.num, f.den)
 }

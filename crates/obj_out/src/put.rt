@@ -1,4 +1,4 @@
-ghost use Rattle.std.specs.Prelude.{◌≡◌, ℕ, ◌+◌, ◌<◌, ◌≤◌, ◌^◌, ◌⊎◌, ◌↔◌, [], ◌++◌, false, unsigned_abs, IsTrue, IsErr, OnOk, OnErr, length};
+ghost use Rattle.std.specs.Prelude.{◌≡◌, ℕ, ◌+◌, ◌<◌, ◌≤◌, ◌^◌, ◌⊎◌, ◌↔◌, [], ◌∷◌, ◌++◌, false, unsigned_abs, IsTrue, IsErr, OnOk, OnErr, length};
 ghost use Rattle.far_io.specs.Bytes.{Added, AddedPrefix, Rose};
 ghost use Rattle.subdiv_model.specs.NumberText.{number_text, fraction_text, rounded_text};
 ghost use Rattle.obj_out.specs.TextSoFar.{IsTextSoFar, IsPut};
@@ -58,6 +58,24 @@ impl<'a, K: Sink> Out<'a, K> {
         self.put_first(text)
     }
 
+    /// Puts one byte.
+    #[inline]
+    pub fn put_byte(&mut self, byte: u8) -> Result<(), WriteFailed>
+        ensures same_reference { self.new.sink.ghost_name ≡ self.old.sink.ghost_name }
+        ensures put { IsPut (K.held self.old.sink.now) self.old.waiting (byte ∷ []) result (K.held self.new.sink.now) self.new.waiting }
+        ensures failed { IsErr result ↔ IsTrue self.new.failed }
+        ensures cause { OnErr result (IsTrue self.old.failed ⊎ Rose (K.faults self.old.sink.now) (K.faults self.new.sink.now)) }
+        ensures stuck { IsTrue self.old.failed → IsErr result × (self.new.sink.now ≡ self.old.sink.now) }
+        ensures later { K.faults self.old.sink.now ≤ K.faults self.new.sink.now }
+        ensures fixed { K.fixed self.new.sink.now ≡ K.fixed self.old.sink.now }
+    {
+        if self.failed || self.waiting.room() == 0 {
+            return self.put_bytes(&[byte]);
+        }
+        self.waiting.push_byte(byte);
+        Ok(())
+    }
+
     /// Puts a whole number in decimal digits.
     pub fn put_number(&mut self, n: u64) -> Result<(), WriteFailed>
         ensures same_reference { self.new.sink.ghost_name ≡ self.old.sink.ghost_name }
@@ -70,6 +88,21 @@ impl<'a, K: Sink> Out<'a, K> {
     {
         self.make_room()?;
         self.waiting.push_number(n);
+        Ok(())
+    }
+
+    /// Puts a byte, and a whole number in decimal digits after it.
+    pub fn put_number_after(&mut self, byte: u8, n: u64) -> Result<(), WriteFailed>
+        ensures same_reference { self.new.sink.ghost_name ≡ self.old.sink.ghost_name }
+        ensures put { IsPut (K.held self.old.sink.now) self.old.waiting (byte ∷ number_text n) result (K.held self.new.sink.now) self.new.waiting }
+        ensures failed { IsErr result ↔ IsTrue self.new.failed }
+        ensures cause { OnErr result (IsTrue self.old.failed ⊎ Rose (K.faults self.old.sink.now) (K.faults self.new.sink.now)) }
+        ensures stuck { IsTrue self.old.failed → IsErr result × (self.new.sink.now ≡ self.old.sink.now) }
+        ensures later { K.faults self.old.sink.now ≤ K.faults self.new.sink.now }
+        ensures fixed { K.fixed self.new.sink.now ≡ K.fixed self.old.sink.now }
+    {
+        self.make_room()?;
+        self.waiting.push_number_after(byte, n);
         Ok(())
     }
 
@@ -108,6 +141,25 @@ impl<'a, K: Sink> Out<'a, K> {
         Ok(())
     }
 
+    /// Puts a byte, and after it a fraction in lowest terms, as `put_frac` does.
+    ///
+    /// The denominator is at least 1, and the numerator is not the least `i128`.
+    pub fn put_frac_after(&mut self, byte: u8, f: &Frac) -> Result<(), WriteFailed>
+        requires positive { 0 < f.now.den }
+        requires kept { unsigned_abs f.now.num < 2 ^ 127 }
+        ensures same_reference { self.new.sink.ghost_name ≡ self.old.sink.ghost_name }
+        ensures put { IsPut (K.held self.old.sink.now) self.old.waiting (byte ∷ fraction_text f.now.num f.now.den) result (K.held self.new.sink.now) self.new.waiting }
+        ensures failed { IsErr result ↔ IsTrue self.new.failed }
+        ensures cause { OnErr result (IsTrue self.old.failed ⊎ Rose (K.faults self.old.sink.now) (K.faults self.new.sink.now)) }
+        ensures stuck { IsTrue self.old.failed → IsErr result × (self.new.sink.now ≡ self.old.sink.now) }
+        ensures later { K.faults self.old.sink.now ≤ K.faults self.new.sink.now }
+        ensures fixed { K.fixed self.new.sink.now ≡ K.fixed self.old.sink.now }
+    {
+        self.make_room()?;
+        self.waiting.push_frac_after(byte, f);
+        Ok(())
+    }
+
     /// Puts a fraction rounded to so many decimals, half to even. Where `digits` is 0 there is no
     /// point, and what is rounded to 0 has no sign.
     ///
@@ -128,6 +180,28 @@ impl<'a, K: Sink> Out<'a, K> {
     {
         self.make_room()?;
         self.waiting.push_rounded(f, digits);
+        Ok(())
+    }
+
+    /// Puts a byte, and after it a fraction rounded to so many decimals, as `put_decimal` does.
+    ///
+    /// There are at most 18 digits, the denominator is at least 1 and below 2^126, and the numerator
+    /// is not the least `i128`.
+    pub fn put_decimal_after(&mut self, byte: u8, f: &Frac, digits: u32) -> Result<(), WriteFailed>
+        requires few { digits ≤ 18 }
+        requires positive { 0 < f.now.den }
+        requires bounded { f.now.den < 2 ^ 126 }
+        requires kept { unsigned_abs f.now.num < 2 ^ 127 }
+        ensures same_reference { self.new.sink.ghost_name ≡ self.old.sink.ghost_name }
+        ensures put { IsPut (K.held self.old.sink.now) self.old.waiting (byte ∷ rounded_text digits f.now.num f.now.den) result (K.held self.new.sink.now) self.new.waiting }
+        ensures failed { IsErr result ↔ IsTrue self.new.failed }
+        ensures cause { OnErr result (IsTrue self.old.failed ⊎ Rose (K.faults self.old.sink.now) (K.faults self.new.sink.now)) }
+        ensures stuck { IsTrue self.old.failed → IsErr result × (self.new.sink.now ≡ self.old.sink.now) }
+        ensures later { K.faults self.old.sink.now ≤ K.faults self.new.sink.now }
+        ensures fixed { K.fixed self.new.sink.now ≡ K.fixed self.old.sink.now }
+    {
+        self.make_room()?;
+        self.waiting.push_rounded_after(byte, f, digits);
         Ok(())
     }
 

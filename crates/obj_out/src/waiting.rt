@@ -1,5 +1,6 @@
-ghost use Rattle.std.specs.Prelude.{◌≡◌, ℕ, ◌+◌, ◌≤◌, [], ◌++◌, length, take};
+ghost use Rattle.std.specs.Prelude.{◌≡◌, ℕ, ◌+◌, ◌≤◌, [], ◌∷◌, ◌++◌, decimal, length, take};
 
+use itoa::write_digits;
 use std::marker::Model;
 
 // Up to 4,096 bytes of a text, which wait to be handed on.
@@ -30,6 +31,7 @@ impl Waiting {
     }
 
     // How many more bytes fit.
+    #[inline]
     pub(crate) fn room(&self) -> usize
         ensures { result + length self.now ≡ 4096 }
     {
@@ -55,6 +57,36 @@ impl Waiting {
         copy_behind(&mut self.bytes, self.len, text);
         self.len += text.len();
     }
+
+    #[inline]
+    pub(crate) fn push_byte(&mut self, byte: u8)
+        requires { length self.old + 1 ≤ 4096 }
+        ensures { self.new ≡ self.old ++ (byte ∷ []) }
+    {
+        self.bytes[self.len] = byte;
+        self.len += 1;
+    }
+
+    // The digits of a number, which are written straight to their place.
+    pub(crate) fn push_digits(&mut self, n: u64)
+        requires { length self.old + 20 ≤ 4096 }
+        ensures { self.new ≡ self.old ++ decimal n }
+    {
+        let end = self.len + digits_of(n);
+        write_digits(n, &mut self.bytes, end);
+        self.len = end;
+    }
+}
+
+// How many digits a number has.
+fn digits_of(n: u64) -> usize
+    ensures count { result ≡ length (decimal n) }
+    ensures few { result ≤ 20 }
+{
+    if n < 10 {
+        return 1;
+    }
+    n.ilog10() as usize + 1
 }
 
 // Copies the text behind so many bytes of a buffer.

@@ -26,4 +26,4 @@ returns-in_err-put_sharpness_word-clause-puts g c =
 pub returns-clause-puts : goal.returns-clause-puts
 returns-clause-puts g c =
     puts-same _ _ _ _ _ _ _ _ _ _ _ _ (crease-by-words c.args.ends (sharpness_of c.args.sharpness))
-    (puts-after _ _ _ _ _ _ _ _ _ _ _ _ _ _ _ c.in_ok-put_text.ensures.puts (puts-after _ _ _ _ _ _ _ _ _ _ _ _ _ _ _ c.in_ok-put_number_word.ensures.puts (puts-after _ _ _ _ _ _ _ _ _ _ _ _ _ _ _ c.in_ok-put_number_word-2.ensures.puts (puts-after _ _ _ _ _ _ _ _ _ _ _ _ _ _ _ c.in_ok-put_sharpness_word.ensures.puts (c.put_text-2.ensures.puts)))))
+    (puts-after _ _ _ _ _ _ _ _ _ _ _ _ _ _ _ c.in_ok-put_text.ensures.puts (puts-after _ _ _ _ _ _ _ _ _ _ _ _ _ _ _ c.in_ok-put_number_word.ensures.puts (puts-after _ _ _ _ _ _ _ _ _ _ _ _ _ _ _ c.in_ok-put_number_word-2.ensures.puts (puts-after _ _ _ _ _ _ _ _ _ _ _ _ _ _ _ c.in_ok-put_sharpness_word.ensures.puts (c.put_byte.ensures.puts)))))

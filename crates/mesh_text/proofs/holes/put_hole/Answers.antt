@@ -15,4 +15,4 @@ returns-in_err-put_number_word-clause-puts g c =
 pub returns-clause-puts : goal.returns-clause-puts
 returns-clause-puts g c =
     puts-same _ _ _ _ _ _ _ _ _ _ _ _ (hole-by-words c.args.f)
-    (puts-after _ _ _ _ _ _ _ _ _ _ _ _ _ _ _ c.in_ok-put_text.ensures.puts (puts-after _ _ _ _ _ _ _ _ _ _ _ _ _ _ _ c.in_ok-put_number_word.ensures.puts (c.put_text-2.ensures.puts)))
+    (puts-after _ _ _ _ _ _ _ _ _ _ _ _ _ _ _ c.in_ok-put_text.ensures.puts (puts-after _ _ _ _ _ _ _ _ _ _ _ _ _ _ _ c.in_ok-put_number_word.ensures.puts (c.put_byte.ensures.puts)))

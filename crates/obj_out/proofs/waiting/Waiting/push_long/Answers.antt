@@ -1,6 +1,6 @@
 use Rattle.std.proofs.Common.{arith, ap, ◌∙◌, ◌++◌}
 use Rattle.number_laws.proofs.DecimalLemmas.{decimal-number_text}
-use Rattle.obj_out.proofs.waiting.Waiting.push_wide.Goals as goal
+use Rattle.obj_out.proofs.waiting.Waiting.push_long.Goals as goal
 
 pub returns-clause-text : goal.returns-clause-text
 returns-clause-text c =
