@@ -1,0 +1,143 @@
+-- A row more, and room for it.
+use Rattle.std.proofs.Common.{◌≡◌, ℕ, suc, ◌+◌, ◌-◌, ◌^◌, ◌<◌, ◌≤◌, max, List, [], ◌∷◌, ◌++◌, length, map, arith, refl, ap, sym, ◌∙◌, length-append}
+use Rattle.std.specs.List.{zip, fold}
+use Rattle.std.proofs.lemmas.List.{length-map, map-append}
+use Rattle.std.proofs.lemmas.List.Elements.{All-push}
+use Rattle.std.proofs.lemmas.List.Sums.{fold_push, sum_by_push}
+use Rattle.stencil_apply.specs.Table.{Row, Table, IsRow, IsTable, entries_of, greatest_of}
+use Rattle.stencil_apply.specs.Arrays.{shares_in, table_of, AreTied, shares_of, row_of}
+use Rattle.stencil_apply.specs.Built.{with_row, HaveRoom, HaveSpace, IsGrown, IsPushed}
+use Rattle.stencil_apply.specs.declared.arrays.Arrays.{Arrays}
+use Rattle.stencil_apply.specs.declared.entry.Entry.{Entry}
+use Rattle.stencil_apply.proofs.ArrayLemmas.{Ascend-push, rows_from-push}
+use Rattle.stencil_apply.proofs.TableLemmas.{length-shares, ascend-shares, entries_are}
+
+-- pairs of two lists one after another
+zip-append : {A B : Type 0} (xs ys : List A) (us vs : List B) → length us ≡ length xs → zip (xs ++ ys) (us ++ vs) ≡ zip xs us ++ zip ys vs
+zip-append [] ys [] vs e = refl
+zip-append [] ys (u ∷ us) vs e = absurd (omega (arith, e))
+zip-append (x ∷ xs) ys [] vs e = absurd (omega (arith, e))
+zip-append (x ∷ xs) ys (u ∷ us) vs e = ap (λ ps. (x, u) ∷ ps) (zip-append xs ys us vs (omega (arith, e)))
+
+-- the control points and numerators of entries are their shares
+zip-entries : (row : List Entry) → zip (map (λ entry. entry.index) row) (map (λ entry. entry.numerator) row) ≡ shares_of row
+zip-entries [] = refl
+zip-entries (entry ∷ row) = ap (λ ps. (entry.index, entry.numerator) ∷ ps) (zip-entries row)
+
+length-shares_of : (row : List Entry) → length (shares_of row) ≡ length row
+length-shares_of [] = refl
+length-shares_of (entry ∷ row) = ap suc (length-shares_of row)
+
+-- arrays that hold what they held are those of the same table
+pub table-grown : (old new : Arrays) → IsGrown old new → table_of new ≡ table_of old
+table-grown old new g = rw (g.controls, g.ends, g.denominators, g.indices, g.numerators) refl
+
+-- they are tied
+pub AreTied-grown : (old new : Arrays) → IsGrown old new → AreTied old → AreTied new
+AreTied-grown old new g is =
+    let same = table-grown old new g in
+    record {
+      table = rw same is.table;
+      ascend = rw (g.ends, g.indices) is.ascend;
+      numerators = rw (g.numerators, g.indices) is.numerators;
+      denominators = rw (g.denominators, g.ends) is.denominators;
+      greatest = g.greatest ∙ is.greatest ∙ sym (ap greatest_of same);
+    }
+
+-- they have the room that they had
+pub HaveRoom-grown : (old new : Arrays) (rows entries : ℕ) → IsGrown old new → HaveRoom old rows entries → HaveRoom new rows entries
+HaveRoom-grown old new rows entries g have = record {
+  tied = AreTied-grown old new g have.tied;
+  end_room = omega (arith, ap length g.ends, have.end_room, g.capacity.ends);
+  den_room = omega (arith, ap length g.denominators, have.den_room, g.capacity.denominators);
+  index_room = omega (arith, ap length g.indices, have.index_room, g.capacity.indices);
+  numerator_room = omega (arith, ap length g.numerators, have.numerator_room, g.capacity.numerators);
+}
+
+-- where there is room for a row and its entries, the arrays have the capacity
+pub HaveSpace-from_room : (arrays : Arrays) (rows entries n : ℕ) → HaveRoom arrays rows entries → 0 < rows → n ≤ entries → HaveSpace arrays n
+HaveSpace-from_room arrays rows entries n have some short = record {
+  ends = omega (arith, have.end_room);
+  denominators = omega (arith, have.den_room);
+  indices = omega (arith, have.index_room);
+  numerators = omega (arith, have.numerator_room);
+}
+
+-- the greatest denominator with a row more
+greatest-with_row : (row : Row) (table : Table) → greatest_of (with_row row table) ≡ max (greatest_of table) row.den
+greatest-with_row row table =
+    ap (fold max 1) (map-append (λ (r : Row). r.den) table.rows (row ∷ [])) ∙ fold_push max 1 (map (λ (r : Row). r.den) table.rows) row.den
+
+-- a table stays one with a row more
+IsTable-with_row : (row : Row) (table : Table) → IsTable table → IsRow table.controls row → length table.rows < 2 ^ 27 → entries_of table.rows + length row.shares ≤ 2 ^ 27 → IsTable (with_row row table)
+IsTable-with_row row table is good few short = record {
+  rows = All-push (IsRow table.controls) table.rows row is.rows good;
+  controls_few = is.controls_few;
+  rows_few = omega (arith, few, length-append table.rows (row ∷ []));
+  entries_few = omega (arith, short, sum_by_push (λ (r : Row). length r.shares) table.rows row);
+}
+
+abbrev made_table : ℕ → List Row → Table
+made_table controls rows = record { controls = controls; rows = rows }
+
+module _ (old new : Arrays) (den : ℕ) (row : List Entry) (pushed : IsPushed old new den row) (is : AreTied old) where
+  -- the shares are those before and those of the row
+  shares-pushed : shares_in new ≡ shares_in old ++ shares_of row
+  shares-pushed =
+      rw (pushed.indices, pushed.numerators)
+      (zip-append old.indices.items (map (λ (entry : Entry). entry.index) row) old.numerators.items (map (λ (entry : Entry). entry.numerator) row) is.numerators
+      ∙ ap (λ ps. shares_in old ++ ps) (zip-entries row))
+
+  -- the row ends where the shares do
+  end-pushed : length old.indices.items + length row ≡ length (shares_in old) + length (shares_of row)
+  end-pushed = omega (arith, length-shares old is, length-shares_of row)
+
+  -- arrays with a row more are those of the table with a row more
+  pub table-pushed : table_of new ≡ with_row (row_of den row) (table_of old)
+  table-pushed =
+      rw (pushed.controls, pushed.ends, pushed.denominators, shares-pushed, end-pushed)
+      (ap (made_table old.controls) (rows_from-push 0 old.ends.items old.denominators.items den (shares_in old) (shares_of row) (ascend-shares old is) is.denominators))
+
+  -- they are tied
+  pub AreTied-pushed : IsRow (table_of old).controls (row_of den row) → length (table_of old).rows < 2 ^ 27 → entries_of (table_of old).rows + length row ≤ 2 ^ 27 → AreTied new
+  AreTied-pushed good few short = record {
+    table = rw table-pushed (IsTable-with_row (row_of den row) (table_of old) is.table good few (omega (arith, short, length-shares_of row)));
+    ascend = rw (pushed.ends, pushed.indices, length-append old.indices.items (map (λ (entry : Entry). entry.index) row), length-map row (λ (entry : Entry). entry.index)) (Ascend-push 0 old.ends.items (length old.indices.items) (length row) is.ascend);
+    numerators = rw (pushed.indices, pushed.numerators) (omega (arith, is.numerators, length-append old.indices.items (map (λ (entry : Entry). entry.index) row), length-append old.numerators.items (map (λ (entry : Entry). entry.numerator) row), length-map row (λ (entry : Entry). entry.index), length-map row (λ (entry : Entry). entry.numerator)));
+    denominators = rw (pushed.ends, pushed.denominators) (omega (arith, is.denominators, length-append old.denominators.items (den ∷ []), length-append old.ends.items ((length old.indices.items + length row) ∷ [])));
+    greatest = pushed.greatest ∙ ap (λ g. max g den) is.greatest ∙ sym (ap greatest_of table-pushed ∙ greatest-with_row (row_of den row) (table_of old));
+  }
+
+  -- one row less, and its entries less, have room
+  pub HaveRoom-pushed : (rows entries : ℕ) → HaveRoom old rows entries → HaveSpace old (length row) → AreTied new → HaveRoom new (rows - 1) (entries - length row)
+  HaveRoom-pushed rows entries have space tied = record {
+    tied = tied;
+    end_room = omega (arith, ap length pushed.ends, have.end_room, space.ends, pushed.capacity.ends, length-append old.ends.items ((length old.indices.items + length row) ∷ []));
+    den_room = omega (arith, ap length pushed.denominators, have.den_room, space.denominators, pushed.capacity.denominators, length-append old.denominators.items (den ∷ []));
+    index_room = omega (arith, ap length pushed.indices, have.index_room, space.indices, pushed.capacity.indices, length-append old.indices.items (map (λ (entry : Entry). entry.index) row), length-map row (λ (entry : Entry). entry.index));
+    numerator_room = omega (arith, ap length pushed.numerators, have.numerator_room, space.numerators, pushed.capacity.numerators, length-append old.numerators.items (map (λ (entry : Entry). entry.numerator) row), length-map row (λ (entry : Entry). entry.numerator));
+  }
+
+-- room was made, and then a row was pushed
+module _ (old grown : Arrays) (g : IsGrown old grown) (table : Table) (same : table_of old ≡ table) (rows entries : ℕ) (have : HaveRoom old rows entries) (n : ℕ) (few : length table.rows < 2 ^ 27) (short : entries_of table.rows + n ≤ 2 ^ 27) where
+  grown-same : table_of grown ≡ table
+  grown-same = table-grown old grown g ∙ same
+
+  -- the end of the row is a number of 32 bits
+  pub end-short : length grown.indices.items + n < 2 ^ 32
+  end-short = omega (arith, short, entries_are grown (AreTied-grown old grown g have.tied), ap (λ (t : Table). entries_of t.rows) grown-same)
+
+  -- the table has the row at its end
+  pub table-added : (new : Arrays) (den : ℕ) (row : List Entry) → IsPushed grown new den row → table_of new ≡ with_row (row_of den row) table
+  table-added new den row pushed =
+      table-pushed grown new den row pushed (AreTied-grown old grown g have.tied) ∙ ap (with_row (row_of den row)) grown-same
+
+  -- the arrays are tied, and have room for one row less and its entries less
+  pub room-added : (new : Arrays) (den : ℕ) (row : List Entry) → IsPushed grown new den row → n ≡ length row → IsRow table.controls (row_of den row) → HaveSpace grown (length row) → HaveRoom new (rows - 1) (entries - length row)
+  room-added new den row pushed e good space =
+      let tied = AreTied-grown old grown g have.tied in
+      HaveRoom-pushed grown new den row pushed tied rows entries (HaveRoom-grown old grown rows entries g have) space
+      (AreTied-pushed grown new den row pushed tied
+      (rw (ap (λ (t : Table). t.controls) grown-same) good)
+      (omega (arith, few, ap (λ (t : Table). length t.rows) grown-same))
+      (omega (arith, short, e, ap (λ (t : Table). entries_of t.rows) grown-same)))

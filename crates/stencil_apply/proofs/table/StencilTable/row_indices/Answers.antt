@@ -1,0 +1,17 @@
+use Rattle.std.proofs.Common.{◌<◌, arith, length, ap}
+use Rattle.stencil_apply.specs.Table.{Table}
+use Rattle.stencil_apply.specs.Arrays.{table_of}
+use Rattle.stencil_apply.proofs.TableLemmas.{rows_are, indices_at, part_few}
+use Rattle.stencil_apply.proofs.table.StencilTable.row_indices.Goals as goal
+
+pub part-requires-clause-inside : goal.part-requires-clause-inside
+part-requires-clause-inside c =
+    rw c.deref.ensures.value (omega (arith, c.requires, ap (λ (t : Table). length t.rows) c.self.view_is, rows_are c.self.inside.arrays c.self.invariant))
+
+pub returns-clause-indices : goal.returns-clause-indices
+returns-clause-indices c =
+    let inside : c.args.row < length (table_of c.self.inside.arrays).rows = omega (arith, c.requires, ap (λ (t : Table). length t.rows) c.self.view_is) in
+    rw (← c.self.view_is, c.part.ensures, c.deref.ensures.value, c.deref-2.ensures.value) (indices_at c.self.inside.arrays c.self.invariant c.args.row inside)
+
+pub returns-clause-few : goal.returns-clause-few
+returns-clause-few c = rw (c.part.ensures, c.deref-2.ensures.value) (part_few c.self.inside.arrays c.self.invariant _ _)

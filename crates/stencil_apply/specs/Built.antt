@@ -1,0 +1,62 @@
+-- A table that is being put together, and the room that it has for more.
+use Rattle.std.specs.Prelude.{ℕ, ◌≡◌, ◌+◌, ◌≤◌, List, [], ◌∷◌, ◌++◌, length, map, max}
+use Rattle.std.specs.Vec.{vec_capacity}
+use Rattle.stencil_apply.specs.Table.{Row, Table}
+use Rattle.stencil_apply.specs.Arrays.{AreTied}
+use Rattle.stencil_apply.specs.declared.arrays.Arrays.{Arrays}
+use Rattle.stencil_apply.specs.declared.entry.Entry.{Entry}
+
+-- so many rows more, and so many entries more in all, take no memory
+pub record Built : Type 0 where
+  pub table : Table
+  pub room_rows : ℕ
+  pub room_entries : ℕ
+
+abbrev pub no_rows : ℕ → Table
+no_rows controls = record { controls = controls; rows = [] }
+
+-- the table with a row more
+abbrev pub with_row : Row → Table → Table
+with_row row table = record { controls = table.controls; rows = table.rows ++ row ∷ [] }
+
+-- the arrays are tied, and have capacity for so many rows and entries more
+pub record HaveRoom (arrays : Arrays) (rows entries : ℕ) : Type 0 where
+  pub tied : AreTied arrays
+  pub end_room : length arrays.ends.items + rows ≤ vec_capacity arrays.ends
+  pub den_room : length arrays.denominators.items + rows ≤ vec_capacity arrays.denominators
+  pub index_room : length arrays.indices.items + entries ≤ vec_capacity arrays.indices
+  pub numerator_room : length arrays.numerators.items + entries ≤ vec_capacity arrays.numerators
+
+-- the arrays have capacity for a row of so many entries
+pub record HaveSpace (arrays : Arrays) (entries : ℕ) : Type 0 where
+  pub ends : length arrays.ends.items + 1 ≤ vec_capacity arrays.ends
+  pub denominators : length arrays.denominators.items + 1 ≤ vec_capacity arrays.denominators
+  pub indices : length arrays.indices.items + entries ≤ vec_capacity arrays.indices
+  pub numerators : length arrays.numerators.items + entries ≤ vec_capacity arrays.numerators
+
+-- no array has less capacity than before
+pub record KeepsCapacity (old new : Arrays) : Type 0 where
+  pub ends : vec_capacity old.ends ≤ vec_capacity new.ends
+  pub denominators : vec_capacity old.denominators ≤ vec_capacity new.denominators
+  pub indices : vec_capacity old.indices ≤ vec_capacity new.indices
+  pub numerators : vec_capacity old.numerators ≤ vec_capacity new.numerators
+
+-- the arrays hold what they held
+pub record IsGrown (old new : Arrays) : Type 0 where
+  pub controls : new.controls ≡ old.controls
+  pub greatest : new.greatest ≡ old.greatest
+  pub ends : new.ends.items ≡ old.ends.items
+  pub denominators : new.denominators.items ≡ old.denominators.items
+  pub indices : new.indices.items ≡ old.indices.items
+  pub numerators : new.numerators.items ≡ old.numerators.items
+  pub capacity : KeepsCapacity old new
+
+-- the arrays hold a row more
+pub record IsPushed (old new : Arrays) (den : ℕ) (row : List Entry) : Type 0 where
+  pub controls : new.controls ≡ old.controls
+  pub greatest : new.greatest ≡ max old.greatest den
+  pub ends : new.ends.items ≡ old.ends.items ++ (length old.indices.items + length row) ∷ []
+  pub denominators : new.denominators.items ≡ old.denominators.items ++ den ∷ []
+  pub indices : new.indices.items ≡ old.indices.items ++ map (λ entry. entry.index) row
+  pub numerators : new.numerators.items ≡ old.numerators.items ++ map (λ entry. entry.numerator) row
+  pub capacity : KeepsCapacity old new

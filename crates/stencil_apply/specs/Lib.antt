@@ -1,0 +1,4 @@
+pub mod Table
+pub mod Arrays
+pub mod Built
+pub mod Means

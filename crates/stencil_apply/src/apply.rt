@@ -1,0 +1,98 @@
+//! The evaluation of a table of stencils.
+
+ghost use Rattle.std.specs.Prelude.{◌≡◌, ℕ, ◌+◌, ◌-◌, ◌*◌, ◌<◌, ◌≤◌, length, map, slice_index_or, nat_le};
+ghost use Rattle.std.specs.List.{All, zip};
+ghost use Rattle.subdiv_model.specs.Channel.{number_bound};
+ghost use Rattle.ratio128.specs.Numbers.{zeros, greatest_amount};
+ghost use Rattle.stencil_apply.specs.Table.{row_at, entries_of, greatest_of, rows_in, sum_of_shares, sum_of_row};
+ghost use Rattle.stencil_apply.specs.Means.{CanSum};
+
+use crate::table::StencilTable;
+use ratio128::{Primvar, Steps, times_within};
+use std::sync::ledger::Ledger;
+
+// The greatest denominator, and the greatest numerator over it.
+const NUMBER_BOUND: u128 = (1 << 126) - 1;
+
+/// Whether the greatest denominator times an amount is at most 2^126 - 1, as [`apply_range`] asks of each control.
+pub fn scale_fits(table: &StencilTable, greatest: u128) -> bool
+    ensures { result ≡ nat_le (greatest_of table.now * greatest) number_bound }
+{
+    times_within(table.greatest(), greatest, NUMBER_BOUND).is_some()
+}
+
+// The sum of a row's numerators times its controls, as long as the place that it is for, in one step for each entry.
+fn sum_row<P: Primvar<L>, L: Ledger>(
+    indices: &[u32],
+    numerators: &[u128],
+    controls: &[P],
+    place: &P,
+    steps: &mut Steps<L>,
+) -> P
+    requires equal { length numerators.now ≡ length indices.now }
+    requires fits { CanSum (zip indices.now numerators.now) (map P.numbers controls.now) }
+    requires same_length { All (λ control. length (P.numbers control) ≡ length (P.numbers place.now)) controls.now }
+    ensures sum { P.numbers result ≡ sum_of_shares (zeros (P.numbers place.now)) (map P.numbers controls.now) (zip indices.now numerators.now) }
+    ensures steps { steps.new ≡ steps.old + length indices.now }
+{
+    let mut sum = place.cleared();
+    for at in 0..indices.len() {
+        let control = &controls[indices[at] as usize];
+        sum.add_with_weight(numerators[at] as i128, control, steps);
+    }
+    sum
+}
+
+// The sum of a row of a table.
+fn sum_at<P: Primvar<L>, L: Ledger>(
+    table: &StencilTable,
+    row: u32,
+    controls: &[P],
+    place: &P,
+    steps: &mut Steps<L>,
+) -> P
+    requires inside { row < length table.now.rows }
+    requires controls { length controls.now ≡ table.now.controls }
+    requires same_length { All (λ control. length (P.numbers control) ≡ length (P.numbers place.now)) controls.now }
+    requires fits { All (λ control. greatest_of table.now * greatest_amount (P.numbers control) ≤ number_bound) controls.now }
+    ensures sum { P.numbers result ≡ sum_of_row (zeros (P.numbers place.now)) (map P.numbers controls.now) (row_at table.now row) }
+    ensures steps { steps.new ≡ steps.old + length (row_at table.now row).shares }
+{
+    table.facts();
+    sum_row(
+        table.row_indices(row),
+        table.row_numerators(row),
+        controls,
+        place,
+        steps,
+    )
+}
+
+/// Puts the sums of the rows from `from` up to `to` into `out`, in one step for each of their entries. A row's sum is that of
+/// its numerators times the numbers of their controls; over the row's denominator it is the mean of those controls.
+///
+/// There is a control for each control point of the table and a place for each row of the range, all lists of one length. The
+/// greatest denominator of the table times each amount in the controls is at most 2^126 - 1, as [`scale_fits`] tells. It takes
+/// no memory.
+pub fn apply_range<P: Primvar<L>, L: Ledger>(
+    table: &StencilTable,
+    controls: &[P],
+    from: u32,
+    to: u32,
+    out: &mut [P],
+    steps: &mut Steps<L>,
+)
+    requires controls { length controls.now ≡ table.now.controls }
+    requires forward { from ≤ to }
+    requires inside { to ≤ length table.now.rows }
+    requires places { length out.old ≡ to - from }
+    requires same_length { All (λ place. All (λ control. length (P.numbers control) ≡ length (P.numbers place)) controls.now) out.old }
+    requires fits { All (λ control. greatest_of table.now * greatest_amount (P.numbers control) ≤ number_bound) controls.now }
+    ensures sums { (k : ℕ) (d : P) → k < length out.old → P.numbers (slice_index_or out.new k d) ≡ sum_of_row (zeros (P.numbers (slice_index_or out.old k d))) (map P.numbers controls.now) (row_at table.now (from + k)) }
+    ensures len { length out.new ≡ length out.old }
+    ensures steps { steps.new ≡ steps.old + entries_of (rows_in table.now from to) }
+{
+    for k in 0..out.len() {
+        out[k] = sum_at(table, from + k as u32, controls, &out[k], steps);
+    }
+}

@@ -1,0 +1,28 @@
+//! What is true of all tables and rows.
+//!
+//! Each public function here takes nothing, does nothing and returns nothing: its clauses are the laws.
+
+ghost use Rattle.std.specs.Prelude.{◌≡◌, ℕ, ◌+◌, ◌≤◌, ℤ, pos, ◌*ℤ◌, List, length, map};
+ghost use Rattle.std.specs.List.{All, range_with_len};
+ghost use Rattle.ratio128.specs.Numbers.{zeros};
+ghost use Rattle.stencil_apply.specs.Table.{Row, Table, IsRow, entries_of, rows_in, sum_of_row};
+ghost use Rattle.stencil_apply.specs.Means.{moved, unit_numbers, numerator_of};
+
+/// Two ranges of rows that meet have as many entries as both together, and all rows have those of the table. So ranges that
+/// cover each row once take as many steps as the table has entries, in whatever order.
+pub fn ranges_cover_the_table()
+    ensures together { (table : Table) (from between to : ℕ) → from ≤ between → between ≤ to → entries_of (rows_in table from between) + entries_of (rows_in table between to) ≡ entries_of (rows_in table from to) }
+    ensures whole { (table : Table) → entries_of (rows_in table 0 (length table.rows)) ≡ entries_of table.rows }
+{}
+
+/// With each number of each control moved by one whole number, each number of a row's sum moves by the row's denominator times
+/// that number. So its value over the denominator moves as the controls do.
+pub fn rows_are_means()
+    ensures { (row : Row) (controls : List (List ℤ)) (start : List ℤ) (by : ℤ) → IsRow (length controls) row → All (λ numbers. length numbers ≡ length start) controls → sum_of_row start (map (moved by) controls) row ≡ moved (pos row.den *ℤ by) (sum_of_row start controls row) }
+{}
+
+/// Over controls of as many numbers as there are controls, each with 1 at its own place and 0 at the others, the sum of a row is
+/// its numerators, each at the place of its control, and 0 where a control does not stand in the row.
+pub fn rows_of_the_identity()
+    ensures { (row : Row) (place : List ℤ) → IsRow (length place) row → sum_of_row (zeros place) (map (unit_numbers (length place)) (range_with_len 0 (length place))) row ≡ map (λ v. pos (numerator_of row.shares v)) (range_with_len 0 (length place)) }
+{}

@@ -1,0 +1,113 @@
+//! A table of stencils, row by row.
+
+ghost use Rattle.std.specs.Prelude.{◌≡◌, ◌^◌, ◌<◌, ◌≤◌, length, map, get_or};
+ghost use Rattle.stencil_apply.specs.Table.{IsTable, row_at, entries_of, greatest_of};
+
+use crate::arrays::{Arrays, part, start};
+use std::marker::Model;
+
+/// Rows of whole numerators above 0, each row over a denominator from 1 to 2^126 - 1 that its numerators sum to. A row has each
+/// of its control points once, ascending. There are at most 2^27 control points, 2^27 rows and 2^27 entries in all.
+#[derive(Drop)]
+pub struct StencilTable {
+    pub(crate) arrays: Arrays,
+}
+
+impl Model for StencilTable {
+    ghost use Rattle.stencil_apply.specs.Table.{Table};
+    ghost use Rattle.stencil_apply.specs.Arrays.{table_of, AreTied};
+
+    ghost Value = { Table };
+
+    ghost view = { λ t. table_of t.arrays };
+
+    ghost invariant = { λ t. AreTied t.arrays };
+}
+
+impl StencilTable {
+    /// What is true of each table. It does nothing.
+    pub fn facts(&self)
+        ensures { IsTable self.now }
+    {
+        let _ = &self.arrays;
+    }
+
+    /// How many control points there are.
+    pub fn controls(&self) -> u32
+        ensures { result ≡ self.now.controls }
+    {
+        self.arrays.controls
+    }
+
+    /// How many rows there are.
+    pub fn rows(&self) -> u32
+        ensures { result ≡ length self.now.rows }
+    {
+        self.arrays.ends.len() as u32
+    }
+
+    /// How many entries there are in all rows.
+    pub fn entries(&self) -> u64
+        ensures { result ≡ entries_of self.now.rows }
+    {
+        self.arrays.indices.len() as u64
+    }
+
+    /// How many entries a row has.
+    pub fn row_len(&self, row: u32) -> u32
+        requires { row < length self.now.rows }
+        ensures { result ≡ length (row_at self.now row).shares }
+    {
+        self.row_indices(row).len() as u32
+    }
+
+    /// The control point of an entry of a row.
+    pub fn index(&self, row: u32, at: u32) -> u32
+        requires row { row < length self.now.rows }
+        requires at { at < length (row_at self.now row).shares }
+        ensures { result ≡ (get_or (row_at self.now row).shares at (0, 0)).0 }
+    {
+        self.row_indices(row)[at as usize]
+    }
+
+    /// The numerator of an entry of a row.
+    pub fn numerator(&self, row: u32, at: u32) -> u128
+        requires row { row < length self.now.rows }
+        requires at { at < length (row_at self.now row).shares }
+        ensures { result ≡ (get_or (row_at self.now row).shares at (0, 0)).1 }
+    {
+        self.row_numerators(row)[at as usize]
+    }
+
+    /// The denominator of a row.
+    pub fn denominator(&self, row: u32) -> u128
+        requires { row < length self.now.rows }
+        ensures { result ≡ (row_at self.now row).den }
+    {
+        self.arrays.denominators[row as usize]
+    }
+
+    /// The greatest denominator, and 1 of a table without rows.
+    pub fn greatest(&self) -> u128
+        ensures { result ≡ greatest_of self.now }
+    {
+        self.arrays.greatest
+    }
+
+    // The control points of a row's entries.
+    pub(crate) fn row_indices(&self, row: u32) -> &[u32]
+        requires { row < length self.now.rows }
+        ensures indices { result.now ≡ map (λ share. share.0) (row_at self.now row).shares }
+        ensures few { length result.now ≤ 2 ^ 27 }
+    {
+        part(&self.arrays.ends, &self.arrays.indices, row)
+    }
+
+    // The numerators of a row's entries.
+    pub(crate) fn row_numerators(&self, row: u32) -> &[u128]
+        requires { row < length self.now.rows }
+        ensures { result.now ≡ map (λ share. share.1) (row_at self.now row).shares }
+    {
+        part(&self.arrays.ends, &self.arrays.numerators, row)
+    }
+}
