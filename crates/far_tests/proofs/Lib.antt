@@ -1,2 +1,3 @@
 mod SureLemmas
 mod ControlLemmas
+mod RowLemmas
