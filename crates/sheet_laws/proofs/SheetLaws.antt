@@ -1,0 +1,45 @@
+-- A sheet is a manifold, and so nothing is wrong with it.
+use Rattle.std.proofs.Common.{◌≡◌, ℕ, ◌+◌, ◌*◌, ◌<◌, [], None, length, ap, sym, ◌∙◌, subst, IsTrue}
+use Rattle.std.proofs.lemmas.List.Sums.{list_all-from_AllPass}
+use Rattle.subdiv_model.specs.Polygons.{has_side, polygon_at}
+use Rattle.subdiv_model.specs.Edges.{all_sides}
+use Rattle.subdiv_model.specs.Manifold.{IsManifold, is_simple}
+use Rattle.subdiv_model.specs.MeshFault.{first_mesh_fault}
+use Rattle.subdiv_model.specs.Generator.{sheet_faces, generated_mesh, draws_of}
+use Rattle.mesh_laws.proofs.SideLemmas.{distinct-from_count}
+use Rattle.mesh_laws.proofs.ChildCornerLemmas.{corner-place}
+use Rattle.mesh_laws.proofs.FanLemmas.{side-start}
+use Rattle.mesh_laws.proofs.WalkLemmas.{manifold-decides}
+use Rattle.mesh_laws.proofs.FaultLemmas.{fault-decides}
+use Rattle.sheet_laws.proofs.GridLemmas.{cell-of, each-face, points-length}
+use Rattle.sheet_laws.proofs.QuadLemmas.{quad-simple, side-owner}
+use Rattle.sheet_laws.proofs.OnceLemmas.{HasOneOwner, owner-count}
+use Rattle.sheet_laws.proofs.SheetFanLemmas.{sheet-fans}
+
+-- no two faces share a side: it tells the row and the column
+one-owner : (size : ℕ) (s : ℕ × ℕ) → 0 < size → HasOneOwner (sheet_faces size) s
+one-owner size s some f g h k =
+    let at_f = cell-of size f (corner-place (sheet_faces size) f s.0 (side-start (polygon_at (sheet_faces size) f) s h)) in
+    let at_g = cell-of size g (corner-place (sheet_faces size) g s.0 (side-start (polygon_at (sheet_faces size) g) s k)) in
+    let same = side-owner size at_f.row at_f.column at_g.row at_g.column s some at_f.column_inside at_g.column_inside (ap (has_side s) (sym (at_f.quad [])) ∙ h) (ap (has_side s) (sym (at_g.quad [])) ∙ k) in
+    sym at_f.is ∙ ap (λ (n : ℕ). n * size + at_f.column) same.0 ∙ ap (λ (n : ℕ). at_g.row * size + n) same.1 ∙ at_g.is
+
+-- the sheet is a manifold over its points
+pub sheet-manifold : (size : ℕ) → 0 < size → IsManifold ((size + 1) * (size + 1)) (sheet_faces size)
+sheet-manifold size some =
+    let simple = each-face (λ polygon. IsTrue (is_simple polygon)) size (λ i j _ _. quad-simple size i j some) in
+    record {
+      simple = simple;
+      sides_once = distinct-from_count (all_sides (sheet_faces size)) (λ s. owner-count s (sheet_faces size) (list_all-from_AllPass is_simple (sheet_faces size) simple) (one-owner size s some));
+      fans = λ v h. sheet-fans size v some h;
+    }
+
+-- and so is the mesh that is made from a seed
+pub generated-manifold : (seed size : ℕ) → 0 < size → IsManifold (length (generated_mesh seed size).points) (generated_mesh seed size).faces
+generated-manifold seed size some = subst (λ (n : ℕ). IsManifold n (sheet_faces size)) (sym (points-length size (draws_of seed size))) (sheet-manifold size some)
+
+-- with which nothing is wrong
+pub generated-fine : (seed size : ℕ) → 0 < size → first_mesh_fault (length (generated_mesh seed size).points) (generated_mesh seed size).faces ≡ None
+generated-fine seed size some =
+    let points : ℕ = length (generated_mesh seed size).points in
+    (fault-decides points (sheet_faces size)).1 ((manifold-decides points (sheet_faces size)).1 (generated-manifold seed size some))
