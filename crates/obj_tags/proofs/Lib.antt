@@ -13,6 +13,7 @@ pub mod LateLemmas
 pub mod PointLemmas
 pub mod LineLemmas
 pub mod PiecesLemmas
+pub mod QuadLemmas
 pub mod TagLemmas
 pub mod TagKindLemmas
 pub mod DraftLemmas

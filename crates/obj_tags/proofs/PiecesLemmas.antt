@@ -64,7 +64,8 @@ sum_by-pieces s (t ∷ starts) xs a =
 cons-parts : {X : Type 0} (x y : X) (xs ys : List X) → x ∷ xs ≡ y ∷ ys → (x ≡ y) × (xs ≡ ys)
 cons-parts x y xs ys e = (cc, cc)
 
-join-cons : {p q : List ℕ} {ps qs : List (List ℕ)} → p ≡ q → ps ≡ qs → (p ∷ ps) ≡ (q ∷ qs)
+-- the same head before the same lists
+pub join-cons : {p q : List ℕ} {ps qs : List (List ℕ)} → p ≡ q → ps ≡ qs → (p ∷ ps) ≡ (q ∷ qs)
 join-cons e f = cc
 
 range-middle : (prefix ys zs : List ℕ) (s t : ℕ) → s ≡ length prefix → t ≡ length prefix + length ys

@@ -9,6 +9,7 @@ pub mod Survey
 pub mod Plain
 pub mod Channel
 pub mod Mesh
+pub mod Made
 pub mod TagView
 pub mod TagAdded
 pub mod Keyword

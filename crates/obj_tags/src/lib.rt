@@ -8,6 +8,7 @@ mod draft;
 mod face;
 mod fault;
 mod line;
+mod made;
 mod mesh;
 mod number;
 mod plain;

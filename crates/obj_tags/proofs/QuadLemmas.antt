@@ -1,0 +1,74 @@
+-- Quads whose corners lie one after the other.
+use Rattle.std.proofs.Common.{◌≡◌, ℕ, zero, suc, ◌+◌, ◌-◌, ◌*◌, ◌/◌, ◌%◌, ◌^◌, ◌<◌, ◌≤◌, false, List, [], ◌∷◌, length, map, take, drop, arith, refl, ap, sym, ◌∙◌, add-one}
+use Rattle.std.specs.List.{All, range_with_len}
+use Rattle.std.proofs.lemmas.List.{drop-drop, drop_all, length-drop}
+use Rattle.std.proofs.lemmas.List.Elements.{All-nil}
+use Rattle.std.proofs.lemmas.List.FromFn.{length-map-range_with_len}
+use Rattle.std.proofs.Math.Nat.{div-add-mod}
+use Rattle.ratio128.specs.declared.point.Point2.{Point2}
+use Rattle.ratio128.specs.declared.point.Point3.{Point3}
+use Rattle.obj_tags.specs.Mesh.{pieces, Ascend, IsWhole, mesh_of}
+use Rattle.obj_tags.specs.Made.{quads_of, AreQuads, AreCreases, mesh_of_quads}
+use Rattle.obj_tags.specs.declared.mesh.Crease.{Crease}
+use Rattle.obj_tags.proofs.PiecesLemmas.{join-cons}
+use Rattle.obj_tags.specs.declared.mesh.Faces.{Faces}
+use Rattle.obj_tags.specs.declared.mesh.Tags.{Tags}
+
+-- the next four corners are a face
+first-quad : (xs : List ℕ) → 4 ≤ length xs → quads_of xs ≡ take 4 xs ∷ quads_of (drop 4 xs)
+first-quad [] h = absurd (omega arith)
+first-quad (a ∷ []) h = absurd (omega arith)
+first-quad (a ∷ (b ∷ [])) h = absurd (omega arith)
+first-quad (a ∷ (b ∷ (c ∷ []))) h = absurd (omega arith)
+first-quad (a ∷ (b ∷ (c ∷ (d ∷ xs)))) h = refl
+
+-- the pieces between the places of the quads from quad a on are the quads
+pieces-from : (a n : ℕ) (xs : List ℕ) → length xs ≡ 4 * a + 4 * n
+    → pieces (map (λ k. 4 * k) (range_with_len a (suc n))) xs ≡ quads_of (drop (4 * a) xs)
+pieces-from a zero xs e = sym (ap quads_of (drop_all (4 * a) xs (omega (arith, e))))
+pieces-from a (suc n) xs e =
+    let four : 4 * (a + 1) - 4 * a ≡ 4 = omega arith in
+    let next : 4 * a + 4 ≡ 4 * (a + 1) = omega arith in
+    join-cons (ap (λ k. take k (drop (4 * a) xs)) four)
+    (pieces-from (a + 1) n xs (omega (arith, e)) ∙ ap (λ k. quads_of (drop k xs)) (sym next) ∙ ap quads_of (sym (drop-drop 4 (4 * a) xs)))
+    ∙ sym (first-quad (drop (4 * a) xs) (omega (arith, e, length-drop (4 * a) xs)))
+
+-- they ascend to the end of the corners
+ascend-from : (a n end : ℕ) → end ≡ 4 * a + 4 * n → Ascend (map (λ k. 4 * k) (range_with_len a (suc n))) end
+ascend-from a zero end e = omega (arith, e)
+ascend-from a (suc n) end e = (omega arith, ascend-from (a + 1) n end (omega (arith, e)))
+
+-- four corners for each quad
+four-each : (corners : List ℕ) → length corners % 4 ≡ 0 → length corners ≡ 4 * 0 + 4 * (length corners / 4)
+four-each corners fours = omega (arith, fours, div-add-mod (length corners) 4)
+
+-- the places with the one after the last, as a successor says it
+counted : (quads : ℕ) → map (λ k. 4 * k) (range_with_len 0 (quads + 1)) ≡ map (λ k. 4 * k) (range_with_len 0 (suc quads))
+counted quads = ap (λ n. map (λ k. 4 * k) (range_with_len 0 n)) (add-one quads)
+
+-- a mesh of quads with creases is whole
+pub quads-whole : (points values : ℕ) (corners : List ℕ) (creases : List Crease) (faces : Faces) (tags : Tags) → AreQuads corners faces → AreCreases creases tags
+    → length corners % 4 ≡ 0 → length corners < 2 ^ 27 → All (λ v. v < points) corners
+    → All (λ c. (c.a < points) × (c.b < points)) creases → IsWhole points values false faces tags
+quads-whole points values corners creases faces tags are only fours short vertices ends =
+    let quads = length corners / 4 in
+    let four = four-each corners fours in
+    record {
+      ascend = rw (are.starts, are.corners, counted quads) (ascend-from 0 quads (length corners) four);
+      few = omega (arith, ap length are.starts, length-map-range_with_len (λ k. 4 * k) 0 (quads + 1), four, short);
+      short = rw are.corners short;
+      same = λ e. cc;
+      vertices = rw are.corners vertices;
+      texture = rw are.texture (All-nil (λ t. t < values));
+      crease_ends = rw only.creases ends;
+      corner_vertices = rw only.corners (All-nil _);
+      hole_faces = rw only.holes (All-nil _);
+    }
+
+-- and it is the mesh of its quads
+pub quads-mesh : (points : List Point3) (texture : List Point2) (corners : List ℕ) (creases : List Crease) (faces : Faces) (tags : Tags)
+    → texture ≡ [] → AreQuads corners faces → AreCreases creases tags → length corners % 4 ≡ 0
+    → mesh_of points 1 texture 1 faces false tags ≡ mesh_of_quads points corners creases
+quads-mesh points texture corners creases faces tags none are only fours =
+    let quads = length corners / 4 in
+    rw (none, are.starts, are.corners, counted quads, pieces-from 0 quads corners (four-each corners fours), only.creases, only.corners, only.holes, only.boundary, only.method) refl

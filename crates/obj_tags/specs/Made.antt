@@ -1,0 +1,52 @@
+-- A mesh of quads that a program makes itself.
+use Rattle.std.specs.Prelude.{ℕ, ◌≡◌, ◌+◌, ◌*◌, ◌/◌, false, List, [], ◌∷◌, length, map}
+use Rattle.std.specs.List.{range_with_len}
+use Rattle.ratio128.specs.declared.point.Point3.{Point3}
+use Rattle.subdiv_model.specs.Polygons.{Polygon}
+use Rattle.subdiv_model.specs.Sharpness.{Normal}
+use Rattle.subdiv_model.specs.Boundary.{EdgeOnly}
+use Rattle.subdiv_model.specs.ObjMesh.{ObjMesh}
+use Rattle.sharpness_rules.specs.View.{method_of}
+use Rattle.obj_tags.specs.View.{boundary_of, crease_of, point_of}
+use Rattle.obj_tags.specs.declared.mesh.Crease.{Crease}
+use Rattle.obj_tags.specs.declared.mesh.Faces.{Faces}
+use Rattle.obj_tags.specs.declared.mesh.Tags.{Tags}
+
+-- each next four corners as a face, while there are four
+abbrev pub quads_of : List ℕ → List Polygon
+quads_of [] = []
+quads_of (a ∷ []) = []
+quads_of (a ∷ (b ∷ [])) = []
+quads_of (a ∷ (b ∷ (c ∷ []))) = []
+quads_of (a ∷ (b ∷ (c ∷ (d ∷ corners)))) = (a ∷ b ∷ c ∷ d ∷ []) ∷ quads_of corners
+
+-- the mesh of these points over 1, of these quads, with these creases and nothing else
+abbrev pub mesh_of_quads : List Point3 → List ℕ → List Crease → ObjMesh
+mesh_of_quads points corners creases = record {
+  points = map point_of points;
+  common = 1;
+  texture = [];
+  texture_common = 1;
+  faces = quads_of corners;
+  has_texture = false;
+  texture_corners = [];
+  creases = map crease_of creases;
+  corner_tags = [];
+  holes = [];
+  boundary = EdgeOnly;
+  method = Normal;
+}
+
+-- these corners as quads, one after the other, without texture
+pub record AreQuads (given : List ℕ) (faces : Faces) : Type 0 where
+  pub starts : faces.starts.items ≡ map (λ k. 4 * k) (range_with_len 0 (length given / 4 + 1))
+  pub corners : faces.corners.items ≡ given
+  pub texture : faces.texture_corners.items ≡ []
+
+-- these creases, and no other tag
+pub record AreCreases (given : List Crease) (tags : Tags) : Type 0 where
+  pub creases : tags.creases.items ≡ given
+  pub corners : tags.corners.items ≡ []
+  pub holes : tags.holes.items ≡ []
+  pub boundary : boundary_of tags.boundary ≡ EdgeOnly
+  pub method : method_of tags.method ≡ Normal

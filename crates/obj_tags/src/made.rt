@@ -1,0 +1,80 @@
+//! Meshes that a program makes itself.
+
+ghost use Rattle.std.specs.Prelude.{◌≡◌, ◌+◌, ◌*◌, ◌%◌, ◌^◌, ◌<◌, ◌≤◌, length, map, IfOk};
+ghost use Rattle.std.specs.List.{All, range_with_len};
+ghost use Rattle.obj_tags.specs.Laws.{IsWithin};
+ghost use Rattle.obj_tags.specs.Made.{AreQuads, AreCreases, mesh_of_quads};
+
+use crate::mesh::{Boundary, Crease, Faces, RawMesh, Tags};
+use ratio128::{Memory, Point3};
+use sharpness_rules::Method;
+use std::alloc::Global;
+
+// Where each of so many quads begins among the corners, and where the last one ends.
+fn quad_starts(alloc: Global, quads: usize) -> Result<Vec<u32>, Memory>
+    requires few { quads < 2 ^ 25 }
+    ensures { IfOk result (λ starts. starts.items ≡ map (λ k. 4 * k) (range_with_len 0 (quads + 1))) }
+{
+    let mut starts = Vec::with_capacity(alloc, quads + 1)?;
+    for k in 0..quads + 1 {
+        starts.push(4 * k as u32)?;
+    }
+    Ok(starts)
+}
+
+// The quads of these corners.
+fn quads(alloc: Global, corners: Vec<u32>) -> Result<Faces, Memory>
+    requires short { length corners.items < 2 ^ 27 }
+    ensures { IfOk result (λ faces. AreQuads corners.items faces) }
+{
+    Ok(Faces {
+        starts: quad_starts(alloc, corners.len() / 4)?,
+        corners,
+        texture_corners: Vec::new(alloc),
+    })
+}
+
+// These creases, and no other tag.
+fn tags(alloc: Global, creases: Vec<Crease>) -> Tags
+    ensures { AreCreases creases.items result }
+{
+    Tags {
+        creases,
+        corners: Vec::new(alloc),
+        holes: Vec::new(alloc),
+        boundary: Boundary::EdgeOnly,
+        method: Method::Normal,
+    }
+}
+
+impl RawMesh {
+    /// The mesh of these points, over 1, whose faces are quads: each next four of `corners` are the vertices of
+    /// one, counted from 0. It has these creases, no texture, no corner tag and no hole; its boundary mode is
+    /// [`Boundary::EdgeOnly`] and its method [`Method::Normal`].
+    ///
+    /// There are a multiple of four corners, fewer than 2^27. Each of them and each end of a crease is below the
+    /// number of points. The error is `Memory`, where memory ran out.
+    pub fn of_quads(
+        alloc: Global,
+        points: Vec<Point3>,
+        corners: Vec<u32>,
+        creases: Vec<Crease>,
+    ) -> Result<RawMesh, Memory>
+        requires quads { length corners.items % 4 ≡ 0 }
+        requires short { length corners.items < 2 ^ 27 }
+        requires vertices { All (λ v. v < length points.items) corners.items }
+        requires crease_ends { All (λ c. (c.a < length points.items) × (c.b < length points.items)) creases.items }
+        ensures mesh { IfOk result (λ mesh. mesh ≡ mesh_of_quads points.items corners.items creases.items) }
+        ensures laws { IfOk result (λ mesh. IsWithin mesh) }
+    {
+        Ok(RawMesh {
+            points,
+            common: 1,
+            texture: Vec::new(alloc),
+            texture_common: 1,
+            faces: quads(alloc, corners)?,
+            has_texture: false,
+            tags: tags(alloc, creases),
+        })
+    }
+}
