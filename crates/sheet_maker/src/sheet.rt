@@ -1,0 +1,36 @@
+//! A sheet of quads.
+
+ghost use Rattle.std.specs.Prelude.{◌≡◌, ◌≤◌, IfOk};
+ghost use Rattle.std.specs.List.{All};
+ghost use Rattle.obj_tags.specs.Laws.{IsWithin};
+ghost use Rattle.reading_laws.specs.Short.{IsShortPoint};
+ghost use Rattle.subdiv_model.specs.Generator.{generated_mesh};
+
+use crate::creases::creases_of_rows;
+use crate::draws::draws_of_seed;
+use crate::points::points_of_rows;
+use crate::quads::corners_of_quads;
+use obj_tags::RawMesh;
+use ratio128::Memory;
+use std::alloc::Global;
+
+/// A sheet of `size` times `size` quads, from 1 to 256: its points stand 10 apart in rows and columns, each at a height that the
+/// seed draws, and each inner row of edges is a crease of a sharpness that it draws.
+///
+/// The error is `Memory`, where memory ran out.
+pub fn make_sheet(alloc: Global, seed: u32, size: u32) -> Result<RawMesh, Memory>
+    requires some { 1 ≤ size }
+    requires few { size ≤ 256 }
+    ensures sheet { IfOk result (λ mesh. mesh ≡ generated_mesh seed size) }
+    ensures within { IfOk result (λ mesh. IsWithin mesh) }
+    ensures short { IfOk result (λ mesh. All IsShortPoint mesh.points) }
+{
+    let points = (size + 1) * (size + 1);
+    let draws = draws_of_seed(alloc, seed, points + size)?;
+    RawMesh::of_quads(
+        alloc,
+        points_of_rows(alloc, &draws, size)?,
+        corners_of_quads(alloc, size)?,
+        creases_of_rows(alloc, &draws, size)?,
+    )
+}
