@@ -1,9 +1,16 @@
 -- The rows of flat arrays.
-use Rattle.std.proofs.Common.{◌≡◌, ℕ, zero, suc, ◌+◌, ◌<◌, ◌≤◌, List, [], ◌∷◌, ◌++◌, length, get_or, arith, refl, ap, slice_range}
+use Rattle.std.proofs.Common.{◌≡◌, ℕ, zero, suc, ◌+◌, ◌<◌, ◌≤◌, List, [], ◌∷◌, ◌++◌, length, map, get_or, arith, refl, ap, slice_range}
 use Rattle.std.proofs.lemmas.Grind.{common_steps}
 use Rattle.std.proofs.lemmas.List.Sums.{sum_by-cons}
 use Rattle.stencil_apply.specs.Table.{Share, Row, entries_of}
 use Rattle.stencil_apply.specs.Arrays.{rows_from, Ascend}
+
+-- the denominators are those that were given
+pub dens-rows_from : (from : ℕ) (ends dens : List ℕ) (shares : List Share) → length dens ≡ length ends → map (λ (r : Row). r.den) (rows_from from ends dens shares) ≡ dens
+dens-rows_from from [] [] shares h = refl
+dens-rows_from from [] (den ∷ dens) shares h = absurd (omega (arith, h))
+dens-rows_from from (end ∷ ends) [] shares h = absurd (omega (arith, h))
+dens-rows_from from (end ∷ ends) (den ∷ dens) shares h = ap (λ xs. den ∷ xs) (dens-rows_from end ends dens shares (omega (arith, h)))
 
 -- a row for each end
 pub length-rows_from : (from : ℕ) (ends dens : List ℕ) (shares : List Share) → length dens ≡ length ends → length (rows_from from ends dens shares) ≡ length ends

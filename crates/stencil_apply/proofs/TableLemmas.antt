@@ -5,7 +5,7 @@ use Rattle.std.proofs.lemmas.Slice.Zip.{length-zip, firsts-zip, seconds-zip}
 use Rattle.stencil_apply.specs.Table.{Share, Row, entries_of, row_at}
 use Rattle.stencil_apply.specs.Arrays.{Ascend, table_of, shares_in, AreTied}
 use Rattle.stencil_apply.specs.declared.arrays.Arrays.{Arrays}
-use Rattle.stencil_apply.proofs.ArrayLemmas.{length-rows_from, row_from-at, entries-whole}
+use Rattle.stencil_apply.proofs.ArrayLemmas.{length-rows_from, dens-rows_from, row_from-at, entries-whole}
 
 range-map : {X Y : Type 0} (f : X → Y) (xs : List X) (a b : ℕ) → map f (slice_range xs a b) ≡ slice_range (map f xs) a b
 range-map f xs a b = sym (take-map f (b - a) (drop a xs)) ∙ ap (take (b - a)) (sym (drop-map f a xs))
@@ -47,6 +47,10 @@ module _ (arrays : Arrays) (is : AreTied arrays) where
   -- the denominator of a row
   pub den_at : (row n : ℕ) → row < length (table_of arrays).rows → get_or arrays.denominators.items row n ≡ (row_at (table_of arrays) row).den
   den_at row n h = sym (ap (λ (r : Row). r.den) (row_is row n h))
+
+  -- and those of all rows
+  pub dens_are : arrays.denominators.items ≡ map (λ (r : Row). r.den) (table_of arrays).rows
+  dens_are = sym (dens-rows_from 0 arrays.ends.items arrays.denominators.items (shares_in arrays) is.denominators)
 
   -- the control points of a row
   pub indices_at : (row : ℕ) → row < length (table_of arrays).rows → slice_range arrays.indices.items (get_or (0 ∷ arrays.ends.items) row 0) (get_or arrays.ends.items row 0) ≡ map (λ share. share.0) (row_at (table_of arrays) row).shares

@@ -94,8 +94,15 @@ impl StencilTable {
         self.arrays.greatest
     }
 
-    // The control points of a row's entries.
-    pub(crate) fn row_indices(&self, row: u32) -> &[u32]
+    /// The denominators of all rows, in their order.
+    pub fn denominators(&self) -> &[u128]
+        ensures { result.now ≡ map (λ row. row.den) self.now.rows }
+    {
+        &self.arrays.denominators
+    }
+
+    /// The control points of a row's entries.
+    pub fn row_indices(&self, row: u32) -> &[u32]
         requires { row < length self.now.rows }
         ensures indices { result.now ≡ map (λ share. share.0) (row_at self.now row).shares }
         ensures few { length result.now ≤ 2 ^ 27 }
@@ -103,8 +110,8 @@ impl StencilTable {
         part(&self.arrays.ends, &self.arrays.indices, row)
     }
 
-    // The numerators of a row's entries.
-    pub(crate) fn row_numerators(&self, row: u32) -> &[u128]
+    /// The numerators of a row's entries.
+    pub fn row_numerators(&self, row: u32) -> &[u128]
         requires { row < length self.now.rows }
         ensures { result.now ≡ map (λ share. share.1) (row_at self.now row).shares }
     {
