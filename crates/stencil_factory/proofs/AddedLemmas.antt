@@ -1,0 +1,129 @@
+-- Amounts added one after another, from the first of a slice on.
+use Rattle.std.proofs.Common.{◌≡◌, ℕ, ◌-◌, ◌*◌, ◌/◌, ◌<◌, ◌≤◌, List, [], ◌∷◌, ◌++◌, length, get_or, take, drop, arith, refl, ap, sym, ◌∙◌, subst}
+use Rattle.std.specs.List.{All, AllByRecursion}
+use Rattle.std.proofs.lemmas.List.{take_all, get_or_default}
+use Rattle.std.proofs.lemmas.List.Elements.{recursion_from_All, All-from_recursion}
+use Rattle.std.proofs.lemmas.List.Sums.{sum_by-append}
+use Rattle.subdiv_model.specs.Level.{Level}
+use Rattle.mask_rules.specs.declared.mask.At.TheVariants.{Point}
+use Rattle.mask_rules.specs.declared.mask.Term.{Term}
+use Rattle.mask_rules.specs.View.{source_of, terms_of}
+use Rattle.stencil_apply.specs.Table.{Share}
+use Rattle.stencil_factory.specs.Scratch.{added_at, added_shares}
+use Rattle.stencil_factory.specs.Flat.{corner_shares, source_shares, flat_shares, CanAddAll, CanWeighTerm}
+use Rattle.stencil_factory.proofs.ScratchLemmas.{length-added_shares, sum-added_shares}
+
+-- a slice is its first element and the others
+first-and-others : {X : Type 0} (xs : List X) (d : X) → 1 ≤ length xs → xs ≡ get_or xs 0 d ∷ take (length xs - 1) (drop 1 xs)
+first-and-others [] d some = absurd (omega arith)
+first-and-others (x ∷ xs) d some = ap (λ l. x ∷ l) (sym (take_all (length (x ∷ xs) - 1) xs (omega arith)))
+
+-- one share is an amount at its place
+added-one : (place amount : ℕ) (sums : List ℕ) → added_shares 1 ((place, amount) ∷ []) sums ≡ added_at place amount sums
+added-one place amount sums = let once : 1 * amount ≡ amount = omega arith in ap (λ n. added_at place n sums) once
+
+-- shares after others
+added-append : (xs ys : List Share) (sums : List ℕ) → added_shares 1 (xs ++ ys) sums ≡ added_shares 1 ys (added_shares 1 xs sums)
+added-append [] ys sums = refl
+added-append (x ∷ xs) ys sums = added-append xs ys (added_at x.0 (1 * x.1) sums)
+
+-- what holds of joined lists holds of each
+all-first : {X : Type 0} (P : X → Type 0) (xs ys : List X) → AllByRecursion P (xs ++ ys) → AllByRecursion P xs
+all-first P [] ys h = tt
+all-first P (x ∷ xs) ys h = (h.0, all-first P xs ys h.1)
+
+all-second : {X : Type 0} (P : X → Type 0) (xs ys : List X) → AllByRecursion P (xs ++ ys) → AllByRecursion P ys
+all-second P [] ys h = h
+all-second P (x ∷ xs) ys h = all-second P xs ys h.1
+
+-- where all can be added, the first can, and then the rest
+module _ (all xs ys : List Share) (split : all ≡ xs ++ ys) (sums : List ℕ) (can : CanAddAll all sums) where
+  here : CanAddAll (xs ++ ys) sums
+  here = subst (λ l. CanAddAll l sums) split can
+
+  can-first : CanAddAll xs sums
+  can-first = record {
+    inside = all-first (λ share. share.0 < length sums) xs ys here.inside;
+    each = all-first (λ share. 0 < share.1) xs ys here.each;
+    fits = omega (arith, here.fits, sum_by-append (λ (share : Share). share.1) xs ys);
+  }
+
+  can-rest : CanAddAll ys (added_shares 1 xs sums)
+  can-rest = record {
+    inside = subst (λ n. AllByRecursion (λ share. share.0 < n) ys) (sym (length-added_shares 1 xs sums)) (all-second (λ share. share.0 < length sums) xs ys here.inside);
+    each = all-second (λ share. 0 < share.1) xs ys here.each;
+    fits = omega (arith, here.fits, sum_by-append (λ (share : Share). share.1) xs ys, sum-added_shares 1 xs sums (all-first (λ share. share.0 < length sums) xs ys here.inside));
+  }
+
+  module _ (new : List ℕ) (added : new ≡ added_shares 1 xs sums) where
+    can-next : CanAddAll ys new
+    can-next = subst (CanAddAll ys) (sym added) can-rest
+
+    same-next : added_shares 1 ys new ≡ added_shares 1 all sums
+    same-next = ap (added_shares 1 ys) added ∙ sym (added-append xs ys sums) ∙ ap (λ l. added_shares 1 l sums) (sym split)
+
+-- the first corner of some, and the others
+module _ (dens : List ℕ) (factor multiple : ℕ) (corners : List ℕ) (some : 1 ≤ length corners) (within : All (λ v. v < length dens) corners) where
+  abbrev corner : ℕ
+  corner = get_or corners 0 0
+
+  abbrev others : List ℕ
+  others = take (length corners - 1) (drop 1 corners)
+
+  abbrev first : Share
+  first = (corner, factor * (multiple / get_or dens corner 1))
+
+  pub within-next : All (λ v. v < length dens) others
+  within-next =
+      All-from_recursion (λ v. v < length dens) others
+      (subst (AllByRecursion (λ v. v < length dens)) (first-and-others corners 0 some) (recursion_from_All (λ v. v < length dens) corners within)).1
+
+  corners-split : corner_shares dens factor multiple corners ≡ (first ∷ []) ++ corner_shares dens factor multiple others
+  corners-split = ap (corner_shares dens factor multiple) (first-and-others corners 0 some)
+
+  -- once the first is added
+  module _ (sums new : List ℕ) (can : CanAddAll (corner_shares dens factor multiple corners) sums) (amount : ℕ)
+      (is : amount ≡ factor * (multiple / get_or dens corner 0)) (added : new ≡ added_at corner amount sums) where
+    corner-added : new ≡ added_shares 1 (first ∷ []) sums
+    corner-added =
+        let same : get_or dens corner 0 ≡ get_or dens corner 1 = get_or_default dens corner 0 1 (within 0 0 (omega (arith, some))) in
+        added ∙ ap (λ n. added_at corner n sums) (is ∙ ap (λ d. factor * (multiple / d)) same) ∙ sym (added-one corner (factor * (multiple / get_or dens corner 1)) sums)
+
+    pub corners-can : CanAddAll (corner_shares dens factor multiple others) new
+    corners-can = can-next _ (first ∷ []) (corner_shares dens factor multiple others) corners-split sums can new corner-added
+
+    pub corners-same : added_shares 1 (corner_shares dens factor multiple others) new ≡ added_shares 1 (corner_shares dens factor multiple corners) sums
+    corners-same = same-next _ (first ∷ []) (corner_shares dens factor multiple others) corners-split sums can new corner-added
+
+-- a term
+abbrev none : Term
+none = record { at = Point 0; weight = 0 }
+
+-- the first term of some, and the others
+module _ (level : Level) (dens faces : List ℕ) (m : ℕ) (terms : List Term) (some : 1 ≤ length terms) where
+  abbrev own : Term
+  own = get_or terms 0 none
+
+  abbrev later : List Term
+  later = take (length terms - 1) (drop 1 terms)
+
+  abbrev own_shares : List Share
+  own_shares = source_shares level dens faces m own.weight (source_of own.at)
+
+  pub weigh-next : AllByRecursion (CanWeighTerm level dens faces m) (terms_of terms) → AllByRecursion (CanWeighTerm level dens faces m) (terms_of later)
+  weigh-next h = (subst (λ l. AllByRecursion (CanWeighTerm level dens faces m) (terms_of l)) (first-and-others terms none some) h).1
+
+  terms-split : flat_shares level dens faces m (terms_of terms) ≡ own_shares ++ flat_shares level dens faces m (terms_of later)
+  terms-split = ap (λ l. flat_shares level dens faces m (terms_of l)) (first-and-others terms none some)
+
+  -- the first can be added, and then the others
+  module _ (sums : List ℕ) (can : CanAddAll (flat_shares level dens faces m (terms_of terms)) sums) where
+    pub term-can : CanAddAll own_shares sums
+    term-can = can-first _ own_shares (flat_shares level dens faces m (terms_of later)) terms-split sums can
+
+    module _ (new : List ℕ) (added : new ≡ added_shares 1 own_shares sums) where
+      pub terms-can : CanAddAll (flat_shares level dens faces m (terms_of later)) new
+      terms-can = can-next _ own_shares (flat_shares level dens faces m (terms_of later)) terms-split sums can new added
+
+      pub terms-same : added_shares 1 (flat_shares level dens faces m (terms_of later)) new ≡ added_shares 1 (flat_shares level dens faces m (terms_of terms)) sums
+      terms-same = same-next _ own_shares (flat_shares level dens faces m (terms_of later)) terms-split sums can new added

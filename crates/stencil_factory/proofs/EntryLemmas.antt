@@ -1,0 +1,38 @@
+-- The shares of two arrays from a place on, added one after another.
+use Rattle.std.proofs.Common.{◌≡◌, ℕ, ◌+◌, ◌*◌, ◌<◌, ◌≤◌, List, ◌∷◌, length, get_or, drop, arith, ap, sym, ◌∙◌}
+use Rattle.std.specs.List.{zip}
+use Rattle.std.proofs.lemmas.List.{drop_more, at_drop_all}
+use Rattle.subdiv_model.specs.Channel.{number_bound}
+use Rattle.stencil_apply.specs.Table.{Share, total_of}
+use Rattle.stencil_factory.specs.Scratch.{added_at, added_shares, sum_of}
+use Rattle.stencil_factory.proofs.ScratchLemmas.{sum-added_at, total-first}
+
+module _ (factor : ℕ) (indices numerators : List ℕ) (equal : length numerators ≡ length indices) where
+  -- the shares from a place on
+  abbrev pub left : ℕ → List Share
+  left i = zip (drop i indices) (drop i numerators)
+
+  left-more : (i : ℕ) → i < length indices → left i ≡ (get_or indices i 0, get_or numerators i 0) ∷ left (i + 1)
+  left-more i h =
+      ap (λ xs. zip xs (drop i numerators)) (drop_more indices i 0 h)
+      ∙ ap (zip (get_or indices i 0 ∷ drop (i + 1) indices)) (drop_more numerators i 0 (omega (arith, equal)))
+
+  -- a share is added
+  pub left-sums : (i : ℕ) (sums after whole : List ℕ) → i < length indices → after ≡ added_at (get_or indices i 0) (factor * get_or numerators i 0) sums → added_shares factor (left i) sums ≡ whole → added_shares factor (left (i + 1)) after ≡ whole
+  left-sums i sums after whole h is e = ap (added_shares factor (left (i + 1))) is ∙ sym (ap (λ ss. added_shares factor ss sums) (left-more i h)) ∙ e
+
+  left-total : (i : ℕ) → i < length indices → factor * total_of (left i) ≡ factor * get_or numerators i 0 + factor * total_of (left (i + 1))
+  left-total i h = ap (λ ss. factor * total_of ss) (left-more i h) ∙ total-first factor (get_or indices i 0, get_or numerators i 0) (left (i + 1))
+
+  -- what is still to come fits with what is there
+  pub left-fits : (i : ℕ) (sums after : List ℕ) → i < length indices → get_or indices i 0 < length sums → after ≡ added_at (get_or indices i 0) (factor * get_or numerators i 0) sums → sum_of sums + factor * total_of (left i) ≤ number_bound → sum_of after + factor * total_of (left (i + 1)) ≤ number_bound
+  left-fits i sums after h inside is fits =
+      omega (arith, ap sum_of is, sum-added_at (get_or indices i 0) (factor * get_or numerators i 0) sums inside, left-total i h, fits)
+
+  -- and so does the next share
+  pub next-fits : (i : ℕ) (sums : List ℕ) → i < length indices → sum_of sums + factor * total_of (left i) ≤ number_bound → sum_of sums + factor * get_or numerators i 0 ≤ number_bound
+  next-fits i sums h fits = omega (arith, left-total i h, fits)
+
+  -- at the end all are added
+  pub left-none : (i : ℕ) (sums whole : List ℕ) → length indices ≤ i → added_shares factor (left i) sums ≡ whole → sums ≡ whole
+  left-none i sums whole h e = sym (at_drop_all (λ xs. added_shares factor (zip xs (drop i numerators)) sums) indices i h) ∙ e

@@ -1,0 +1,16 @@
+pub mod ScratchLemmas
+pub mod TouchedLemmas
+pub mod EntryLemmas
+pub mod AddedLemmas
+pub mod FlatLemmas
+pub mod WeightLemmas
+pub mod KnownLemmas
+pub mod FoundLemmas
+pub mod ControlLemmas
+pub mod RowSumLemmas
+pub mod SupportLemmas
+pub mod RowLemmas
+pub mod PositiveLemmas
+pub mod SurveyLemmas
+pub mod ComposedLemmas
+pub mod MarkLemmas

@@ -1,0 +1,93 @@
+-- The common denominators of child points are above 0.
+use Rattle.std.proofs.Common.{◌≡◌, ℕ, zero, suc, ◌*◌, ◌<◌, true, false, nat_lt, nat_le, List, [], ◌∷◌, length, map, arith, refl, sym, subst}
+use Rattle.std.specs.List.{AllByRecursion}
+use Rattle.std.proofs.lemmas.Bool.{cond_both}
+use Rattle.std.proofs.lemmas.Bool.Decides.{nat_tests}
+use Rattle.subdiv_model.specs.Edges.{edges_of, faces_of_edge}
+use Rattle.subdiv_model.specs.Sharpness.{Sharpness, Smooth, Semi, Infinite}
+use Rattle.subdiv_model.specs.Level.{Level, edge_sharpness_of}
+use Rattle.subdiv_model.specs.Multiples.{lcm_of_all}
+use Rattle.subdiv_model.specs.Mask.{Scheme, CatmullClark, Linear, SourcePoint, OfPoint, OfFace, Term, is_source_of, edge_mask, vertex_mask, mask_of_edge, sharp_edge_mask, blended_edge_mask}
+use Rattle.subdiv_model.specs.Refined.{mask_denominator, source_denominator}
+use Rattle.number_laws.proofs.MultipleLemmas.{lcm_of_all-positive, product-positive}
+use Rattle.mask_laws.proofs.ListLemmas.{each-passes}
+use Rattle.mask_rules.specs.Around.{HasSharpBoundaryAt}
+use Rattle.mask_rules.proofs.SharpLemmas.{vertex-mean}
+use Rattle.level_topology.specs.Topology.{Topology, IsTopology, edge_at}
+use Rattle.level_topology.specs.Child.{PointOrigin, FromVertex, FromFace, FromEdge, IsOriginWithin, ChildTopology, HasParent, same_origin}
+use Rattle.level_topology.proofs.ChildLemmas.{same_origin-refl}
+use Rattle.primvar_refine.specs.Rows.{Row, dens_of, AreGood}
+use Rattle.primvar_refine.specs.Step.{mask_from, has_origin, CanRefine}
+use Rattle.primvar_refine.specs.Made.{origin_at}
+use Rattle.primvar_refine.proofs.MadeLemmas.{mean-positive}
+use Rattle.primvar_refine.proofs.SourceLemmas.{mask-inside, corner-dens}
+use Rattle.primvar_refine.proofs.PlaceLemmas.{any-at}
+use Rattle.primvar_refine.proofs.ReadyLemmas.{dens-positive, face-positive, some-corners, is-over, origin-within}
+
+-- the denominators of masks are above 0
+vertex-positive : (parent : Topology) (scheme : Scheme) (v : ℕ) → IsTopology parent → (scheme ≡ CatmullClark → HasSharpBoundaryAt parent.level v)
+    → 0 < (vertex_mask parent.level scheme v).denominator
+vertex-positive parent CatmullClark v is h = mean-positive (vertex_mask parent.level CatmullClark v) (vertex-mean parent v is (h refl))
+vertex-positive parent Linear v is h = omega arith
+
+-- of an edge, by its sharpness
+mask-of-edge-positive : (s : Sharpness) (edge : ℕ × ℕ) (faces : List ℕ) → 0 < (mask_of_edge s edge faces).denominator
+mask-of-edge-positive Smooth edge faces = omega arith
+mask-of-edge-positive (Semi x y) edge faces =
+    cond_both (nat_le y x) (sharp_edge_mask edge) (blended_edge_mask x y edge faces) (λ m. 0 < m.denominator) (λ _. omega arith) (λ h. above x y h)
+  where
+    above : (x y : ℕ) → nat_le y x ≡ false → 0 < 4 * y
+    above x zero h = grind (arith, nat_tests, h)
+    above x (suc y) h = omega arith
+mask-of-edge-positive Infinite edge faces = omega arith
+
+-- of an edge by either scheme
+edge-positive : (level : Level) (scheme : Scheme) (edge : ℕ × ℕ) → 0 < (edge_mask level scheme edge).denominator
+edge-positive level CatmullClark edge = mask-of-edge-positive (edge_sharpness_of level edge) edge (faces_of_edge level.polygons edge)
+edge-positive level Linear edge = omega arith
+
+module _ (parent : Topology) (child : ChildTopology) (scheme : Scheme) (rows : List Row) (is : IsTopology parent) (has : HasParent child)
+    (can : CanRefine parent child scheme) (good : AreGood rows) where
+  abbrev den_of : PointOrigin → ℕ
+  den_of origin = mask_denominator (source_denominator parent.level (dens_of rows)) (mask_from parent.level scheme origin)
+
+  abbrev Within : PointOrigin → Type 0
+  Within = IsOriginWithin parent.level.point_count (length parent.level.polygons) (length (edges_of parent.level.polygons))
+
+  -- of each part that a point comes from
+  mask-positive : (origin : PointOrigin) → has_origin child.origins origin ≡ true → Within origin → 0 < (mask_from parent.level scheme origin).denominator
+  mask-positive (FromVertex v) there within = vertex-positive parent scheme v is (λ e. can.boundary e v there)
+  mask-positive (FromFace f) there within = some-corners parent is f within
+  mask-positive (FromEdge e) there within = edge-positive parent.level scheme (edge_at parent.level.polygons e)
+
+  -- a point comes from its origin
+  there-at : (p : ℕ) → p < length child.origins → has_origin child.origins (origin_at child.origins p) ≡ true
+  there-at p inside = any-at (same_origin (origin_at child.origins p)) child.origins p (FromVertex 0) inside (same_origin-refl (origin_at child.origins p))
+
+  -- the denominators of sources are above 0
+  source-positive : (s : SourcePoint) → is_source_of parent.level s ≡ true → 0 < source_denominator parent.level (dens_of rows) s
+  source-positive (OfPoint v) h = dens-positive rows good v
+  source-positive (OfFace f) h =
+      let below : f < length parent.level.polygons = lower f (length parent.level.polygons) h in
+      let same = corner-dens parent.level f (dens_of rows) in
+      let positive = face-positive parent.level rows f good (some-corners parent is f below) in
+      subst (λ n. 0 < n) (sym same) positive
+    where
+      lower : (a b : ℕ) → nat_lt a b ≡ true → a < b
+      lower a b e = grind (arith, nat_tests, e)
+
+  -- and so are those of all terms
+  positive-terms : (terms : List Term) → AllByRecursion (λ t. is_source_of parent.level t.source ≡ true) terms
+      → AllByRecursion (λ a. 0 < a) (map (λ t. source_denominator parent.level (dens_of rows) t.source) terms)
+  positive-terms [] h = tt
+  positive-terms (t ∷ terms) h = (source-positive t.source h.0, positive-terms terms h.1)
+
+  -- the denominator of each child point is above 0
+  pub den-positive : (p : ℕ) → p < length child.origins → 0 < den_of (origin_at child.origins p)
+  den-positive p inside =
+      let origin = origin_at child.origins p in
+      let within : Within origin = origin-within parent child scheme has can p inside in
+      let mask = mask_from parent.level scheme origin in
+      let passed = each-passes (λ (t : Term). is_source_of parent.level t.source) mask.terms (mask-inside parent.level (is-over parent is) scheme origin within) in
+      product-positive mask.denominator (lcm_of_all (map (λ t. source_denominator parent.level (dens_of rows) t.source) mask.terms)) (mask-positive origin (there-at p inside) within)
+      (lcm_of_all-positive (map (λ t. source_denominator parent.level (dens_of rows) t.source) mask.terms) (positive-terms mask.terms passed))

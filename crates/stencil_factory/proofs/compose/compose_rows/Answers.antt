@@ -1,0 +1,72 @@
+use Rattle.std.proofs.Common.{◌+◌, ◌∙◌, ◌<◌, ◌≤◌, arith, sym, ap, subst, length, get_or, take}
+use Rattle.std.proofs.lemmas.List.{length-map}
+use Rattle.level_topology.specs.Topology.{Topology}
+use Rattle.level_topology.specs.Child.{FromVertex}
+use Rattle.mask_rules.specs.View.{scheme_of}
+use Rattle.primvar_refine.specs.Step.{mask_from, masks_from}
+use Rattle.stencil_apply.specs.Table.{Share, Table, IsRow}
+use Rattle.stencil_apply.specs.Arrays.{row_of}
+use Rattle.stencil_apply.specs.declared.entry.Entry.{Entry}
+use Rattle.stencil_factory.specs.Rows.{dens_of}
+use Rattle.stencil_factory.specs.Composing.{IsComposedRow, AreComposedRows}
+use Rattle.stencil_factory.proofs.SurveyLemmas.{found-fine}
+use Rattle.stencil_factory.proofs.ComposedLemmas.{row-read, next-rows, next-entries, next-count, are-composed}
+use Rattle.stencil_factory.proofs.compose.compose_rows.Goals as goal
+
+inside : (c : goal.After-deref) → c.loop-p.p < length c.args.child.now.origins
+inside c =
+    let points = c.points-points.ensures ∙ ap (λ (t : Topology). t.level.point_count) c.level.ensures in
+    omega (arith, c.loop-p-test.true, points, c.facts-2.ensures.is.each_point)
+
+-- the row of this point
+row : (c : goal.After-deref)
+    → IsComposedRow c.args.parent.now.level c.args.table.now (mask_from c.args.parent.now.level (scheme_of c.args.scheme) (get_or c.args.child.now.origins c.loop-p.p (FromVertex 0))) (row_of c.index.result.now c.deref.result.now)
+row c =
+    row-read c.args.parent.now.level c.args.table.now (scheme_of c.args.scheme) c.args.child.now.origins c.args.survey.now c.loop-p.p c.index.result.now c.compose_row.new.room.entries.items c.deref.result.now
+    c.requires.survey (inside c) c.in_ok-compose_row.ensures.row c.index.ensures c.deref.ensures.value
+
+pub add_row-requires-clause-row : goal.add_row-requires-clause-row
+add_row-requires-clause-row c = subst (λ n. IsRow n (row_of c.index.result.now c.deref.result.now)) (sym c.loop-p.invariant.same) (row c).is
+
+pub add_row-requires-clause-rows : goal.add_row-requires-clause-rows
+add_row-requires-clause-rows c =
+    next-count c.args.parent.now.level c.args.table.now (scheme_of c.args.scheme) c.args.child.now.origins c.loop-p.p c.loop-p.builder.table.rows (row_of c.index.result.now c.deref.result.now)
+    (inside c) c.loop-p.invariant.rows (row c) (omega (arith, c.requires.counted, c.requires.few))
+
+pub add_row-requires-clause-entries : goal.add_row-requires-clause-entries
+add_row-requires-clause-entries c =
+    let room = next-entries c.args.parent.now.level c.args.table.now (scheme_of c.args.scheme) c.args.child.now.origins c.loop-p.p c.loop-p.builder.table.rows (row_of c.index.result.now c.deref.result.now)
+    (inside c) c.loop-p.invariant.rows (row c) (omega (arith, c.requires.counted, c.requires.few)) in
+    omega (arith, room, length-map {B = Share} c.deref.result.now (λ (e : Entry). (e.index, e.numerator)))
+
+pub loop-p-preserved : goal.loop-p-preserved
+loop-p-preserved c =
+    let level = c.args.parent.now.level in
+    let table = c.args.table.now in
+    let scheme = scheme_of c.args.scheme in
+    let origins = c.args.child.now.origins in
+    let points = c.points-points.ensures ∙ ap (λ (t : Topology). t.level.point_count) c.level.ensures in
+    let below : c.loop-p.p < length origins = omega (arith, c.loop-p-test.true, points, c.facts-2.ensures.is.each_point) in
+    let own = row-read level table scheme origins c.args.survey.now c.loop-p.p c.index.result.now c.compose_row.new.room.entries.items c.deref.result.now
+    c.requires.survey below c.in_ok-compose_row.ensures.row c.index.ensures c.deref.ensures.value in
+    let added = c.in_ok-add_row.ensures.added in
+    record {
+      points = c.in_ok-compose_row.ensures.points;
+      controls = c.in_ok-compose_row.ensures.controls;
+      same = ap (λ (t : Table). t.controls) added ∙ c.loop-p.invariant.same;
+      rows =
+          subst (λ (t : Table). AreComposedRows level table (masks_from level scheme (take (c.loop-p.p + 1) origins)) t.rows) (sym added)
+          (next-rows level table scheme origins c.loop-p.p c.loop-p.builder.table.rows (row_of c.index.result.now c.deref.result.now) below c.loop-p.invariant.rows own);
+    }
+
+pub returns : goal.returns
+returns c =
+    let level = c.args.parent.now.level in
+    let table = c.args.table.now in
+    let scheme = scheme_of c.args.scheme in
+    let origins = c.args.child.now.origins in
+    let points = c.points-points.ensures ∙ ap (λ (t : Topology). t.level.point_count) c.level.ensures in
+    let past : length origins ≤ c.loop-p.p = omega (arith, c.loop-p-test.false, points, c.facts-2.ensures.is.each_point) in
+    are-composed level table scheme origins c.loop-p.p c.finish.result past (ap (λ (t : Table). t.controls) c.finish.ensures ∙ c.loop-p.invariant.same)
+    (subst (λ (t : Table). AreComposedRows level table (masks_from level scheme (take c.loop-p.p origins)) t.rows) (sym c.finish.ensures) c.loop-p.invariant.rows)
+    (found-fine level scheme origins (dens_of table) c.args.survey.now c.requires.survey)

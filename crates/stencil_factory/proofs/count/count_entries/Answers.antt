@@ -1,0 +1,40 @@
+use Rattle.std.proofs.Common.{◌+◌, ◌<◌, ◌∙◌, arith, ap, length, get_or}
+use Rattle.level_topology.specs.Topology.{Topology}
+use Rattle.level_topology.specs.Child.{FromVertex}
+use Rattle.mask_rules.specs.View.{scheme_of}
+use Rattle.primvar_refine.specs.Step.{mask_from}
+use Rattle.subdiv_model.specs.Support.{source_support}
+use Rattle.stencil_factory.specs.Rows.{supports_of}
+use Rattle.stencil_factory.proofs.ComposedLemmas.{entries-less, entries-more}
+use Rattle.stencil_factory.proofs.MarkLemmas.{support-few}
+use Rattle.stencil_factory.proofs.count.count_entries.Goals as goal
+
+pub overflow_add-count : goal.overflow_add-count
+overflow_add-count c =
+    let table = c.args.table.now in
+    let few = support-few table.controls (source_support table.controls c.args.parent.now.level (supports_of table)) (mask_from c.args.parent.now.level (scheme_of c.args.scheme) (get_or c.args.child.now.origins c.loop-p.p (FromVertex 0))) in
+    record { fits = omega (arith, c.loop-p.invariant.few, few, c.in_ok-count.ensures.count, c.facts-3.ensures.controls_few) }
+
+pub returns-then-count-gt-ENTRY_BOUND : goal.returns-then-count-gt-ENTRY_BOUND
+returns-then-count-gt-ENTRY_BOUND c =
+    let level = c.args.parent.now.level in
+    let scheme = scheme_of c.args.scheme in
+    let points = c.points-p-end.ensures ∙ ap (λ (t : Topology). t.level.point_count) c.level.ensures in
+    let below : c.loop-p.p < length c.args.child.now.origins = omega (arith, c.loop-p-test.true, points, c.facts-2.ensures.is.each_point) in
+    let more = entries-more level c.args.table.now scheme c.args.child.now.origins c.loop-p.p below in
+    omega (arith, entries-less level c.args.table.now scheme c.args.child.now.origins (c.loop-p.p + 1), more, c.loop-p.invariant.counted, c.in_ok-count.ensures.count, c.if-count-gt-ENTRY_BOUND.true)
+
+pub loop-p-preserved : goal.loop-p-preserved
+loop-p-preserved c =
+    let level = c.args.parent.now.level in
+    let scheme = scheme_of c.args.scheme in
+    let points = c.points-p-end.ensures ∙ ap (λ (t : Topology). t.level.point_count) c.level.ensures in
+    let below : c.loop-p.p < length c.args.child.now.origins = omega (arith, c.loop-p-test.true, points, c.facts-2.ensures.is.each_point) in
+    let more = entries-more level c.args.table.now scheme c.args.child.now.origins c.loop-p.p below in
+    record {
+      points = c.in_ok-count.ensures.points;
+      marks = c.in_ok-count.ensures.marks;
+      counted = omega (arith, more, c.loop-p.invariant.counted, c.in_ok-count.ensures.count);
+      some = omega (arith, c.loop-p.invariant.some, c.in_ok-count.ensures.some);
+      few = c.if-count-gt-ENTRY_BOUND.false;
+    }

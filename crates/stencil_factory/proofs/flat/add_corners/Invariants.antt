@@ -1,0 +1,16 @@
+use Rattle.std.proofs.Common.{◌≡◌, ◌<◌, length}
+use Rattle.std.specs.List.{All}
+use Rattle.stencil_factory.specs.Scratch.{added_shares}
+use Rattle.stencil_factory.specs.Flat.{corner_shares, CanAddAll}
+use Rattle.stencil_factory.proofs.flat.add_corners.Given as goal
+
+-- the corners from here on, added to what is there, are all corners added to what was there
+abbrev pub invariant-loop-rest : goal.invariant-loop-rest
+invariant-loop-rest l = record {
+  within : All (λ v. v < length l.dens) l.rest;
+  can : CanAddAll (corner_shares l.dens l.factor l.multiple l.rest) l.scratch;
+  same : added_shares 1 (corner_shares l.dens l.factor l.multiple l.rest) l.scratch ≡ added_shares 1 (corner_shares l.dens l.factor l.multiple l.corners) l.fn.scratch;
+}
+
+abbrev pub decreases-loop-rest : goal.decreases-loop-rest
+decreases-loop-rest l = length l.rest

@@ -1,0 +1,22 @@
+use Rattle.std.proofs.Common.{◌∙◌}
+use Rattle.stencil_factory.proofs.AddedLemmas.{weigh-next, term-can, terms-can, terms-same}
+use Rattle.stencil_factory.proofs.flat.add_terms.Goals as goal
+
+pub add_term-requires-clause-can : goal.add_term-requires-clause-can
+add_term-requires-clause-can c =
+    term-can c.args.parent.now.level c.args.dens.now c.args.faces.now c.args.multiple c.loop-rest.rest.now c.in-len1-up.len_at_least
+    c.loop-rest.scratch c.loop-rest.invariant.can
+
+pub loop-rest-preserved : goal.loop-rest-preserved
+loop-rest-preserved c =
+    let level = c.args.parent.now.level in
+    let dens = c.args.dens.now in
+    let faces = c.args.faces.now in
+    let rest = c.loop-rest.rest.now in
+    let some = c.in-len1-up.len_at_least in
+    let before = c.loop-rest.invariant in
+    record {
+      weigh = weigh-next level dens faces c.args.multiple rest some before.weigh;
+      can = terms-can level dens faces c.args.multiple rest some c.loop-rest.scratch before.can c.add_term.new.scratch c.in_ok-add_term.ensures;
+      same = terms-same level dens faces c.args.multiple rest some c.loop-rest.scratch before.can c.add_term.new.scratch c.in_ok-add_term.ensures ∙ before.same;
+    }

@@ -1,0 +1,53 @@
+use Rattle.std.proofs.Common.{arith, ap, sym, subst, ◌∙◌, ◌≤◌}
+use Rattle.subdiv_model.specs.Refined.{mask_denominator, source_denominator}
+use Rattle.subdiv_model.specs.Channel.{number_bound}
+use Rattle.mask_rules.specs.View.{scheme_of}
+use Rattle.primvar_refine.specs.Step.{mask_from}
+use Rattle.primvar_refine.specs.Found.{AreFaceDenominators}
+use Rattle.stencil_factory.proofs.FoundLemmas.{found-inside, found-den, found-short, found-faces}
+use Rattle.stencil_factory.proofs.weigh.weigh_point.Goals as goal
+
+pub index-den-requires : goal.index-den-requires
+index-den-requires c =
+    let inside = found-inside c.args.parent.now.level (scheme_of c.args.scheme) c.args.child.now.origins c.args.dens.now c.args.survey.now c.requires.survey c.args.p c.requires.known in
+    omega (arith, inside, c.args.survey.now.dens.ok.0)
+
+pub weigh_vertex-requires-clause-faces : goal.weigh_vertex-requires-clause-faces
+weigh_vertex-requires-clause-faces c =
+    subst (AreFaceDenominators c.args.parent.now.level c.args.dens.now) (sym c.deref.ensures.value)
+    (found-faces c.args.parent.now.level (scheme_of c.args.scheme) c.args.child.now.origins c.args.dens.now c.args.survey.now c.requires.survey)
+
+pub weigh_vertex-requires-clause-den : goal.weigh_vertex-requires-clause-den
+weigh_vertex-requires-clause-den c =
+    c.index-den.ensures ∙ found-den c.args.parent.now.level (scheme_of c.args.scheme) c.args.child.now.origins c.args.dens.now c.args.survey.now c.requires.survey c.args.p c.index-den.result.now c.requires.known
+    ∙ ap (λ o. mask_denominator (source_denominator c.args.parent.now.level c.args.dens.now) (mask_from c.args.parent.now.level (scheme_of c.args.scheme) o)) (sym c.in-Vertex.ensures)
+
+pub weigh_vertex-requires-clause-short : goal.weigh_vertex-requires-clause-short
+weigh_vertex-requires-clause-short c =
+    subst (λ n. n ≤ number_bound) (sym c.index-den.ensures)
+    (found-short c.args.parent.now.level (scheme_of c.args.scheme) c.args.child.now.origins c.args.dens.now c.args.survey.now c.requires.survey c.args.p c.index-den.result.now c.requires.known)
+
+pub weigh_face-requires-clause-den : goal.weigh_face-requires-clause-den
+weigh_face-requires-clause-den c =
+    c.index-den.ensures ∙ found-den c.args.parent.now.level (scheme_of c.args.scheme) c.args.child.now.origins c.args.dens.now c.args.survey.now c.requires.survey c.args.p c.index-den.result.now c.requires.known
+    ∙ ap (λ o. mask_denominator (source_denominator c.args.parent.now.level c.args.dens.now) (mask_from c.args.parent.now.level (scheme_of c.args.scheme) o)) (sym c.in-Face.ensures)
+
+pub weigh_face-requires-clause-short : goal.weigh_face-requires-clause-short
+weigh_face-requires-clause-short c =
+    subst (λ n. n ≤ number_bound) (sym c.index-den.ensures)
+    (found-short c.args.parent.now.level (scheme_of c.args.scheme) c.args.child.now.origins c.args.dens.now c.args.survey.now c.requires.survey c.args.p c.index-den.result.now c.requires.known)
+
+pub weigh_edge-requires-clause-faces : goal.weigh_edge-requires-clause-faces
+weigh_edge-requires-clause-faces c =
+    subst (AreFaceDenominators c.args.parent.now.level c.args.dens.now) (sym c.deref-in-Edge.ensures.value)
+    (found-faces c.args.parent.now.level (scheme_of c.args.scheme) c.args.child.now.origins c.args.dens.now c.args.survey.now c.requires.survey)
+
+pub weigh_edge-requires-clause-den : goal.weigh_edge-requires-clause-den
+weigh_edge-requires-clause-den c =
+    c.index-den.ensures ∙ found-den c.args.parent.now.level (scheme_of c.args.scheme) c.args.child.now.origins c.args.dens.now c.args.survey.now c.requires.survey c.args.p c.index-den.result.now c.requires.known
+    ∙ ap (λ o. mask_denominator (source_denominator c.args.parent.now.level c.args.dens.now) (mask_from c.args.parent.now.level (scheme_of c.args.scheme) o)) (sym c.in-Edge.ensures)
+
+pub weigh_edge-requires-clause-short : goal.weigh_edge-requires-clause-short
+weigh_edge-requires-clause-short c =
+    subst (λ n. n ≤ number_bound) (sym c.index-den.ensures)
+    (found-short c.args.parent.now.level (scheme_of c.args.scheme) c.args.child.now.origins c.args.dens.now c.args.survey.now c.requires.survey c.args.p c.index-den.result.now c.requires.known)

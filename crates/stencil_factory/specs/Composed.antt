@@ -1,0 +1,53 @@
+-- One step of a table: the rows of the points of a child, each by the mask of the part of the level that it comes from.
+-- Source: this profile; the words are those of OpenSubdiv's Far layer.
+use Rattle.std.specs.Prelude.{ℕ, ◌≡◌, ◌<◌, ◌≤◌, ℤ, List, [], ◌∷◌, length, map}
+use Rattle.std.specs.List.{All, sum_by, range_with_len}
+use Rattle.subdiv_model.specs.Level.{Level}
+use Rattle.subdiv_model.specs.Value.{Value}
+use Rattle.subdiv_model.specs.Mask.{Scheme}
+use Rattle.subdiv_model.specs.Support.{mask_support, source_support}
+use Rattle.subdiv_model.specs.Channel.{number_bound, entry_bound}
+use Rattle.level_topology.specs.Child.{PointOrigin}
+use Rattle.primvar_refine.specs.Step.{masks_from, values_from, HasNoTransition, IsFirstTransition, IsFirstDenominator}
+use Rattle.primvar_refine.specs.Found.{dens_from}
+use Rattle.stencil_apply.specs.Table.{Table}
+use Rattle.stencil_factory.specs.Rows.{supports_of, dens_of, row_values, AreSameValues}
+use Rattle.stencil_factory.specs.declared.fault.TableFault.{TableFault}
+use Rattle.stencil_factory.specs.declared.fault.TableFault.TheVariants.{Transition, Denominator, TooManyEntries, Memory}
+
+-- each point is itself, 1 over 1
+abbrev pub identity_table : ℕ → Table
+identity_table points = record {
+  controls = points;
+  rows = map (λ v. record { den = 1; shares = (v, 1) ∷ [] }) (range_with_len 0 points);
+}
+
+-- the controls of the points, from those of the level's
+abbrev pub supports_from : ℕ → Level → Scheme → List (List ℕ) → List PointOrigin → List (List ℕ)
+supports_from controls level scheme supports origins =
+    map (mask_support controls (source_support controls level supports)) (masks_from level scheme origins)
+
+-- how many entries the rows of the points have
+abbrev pub entries_from : Level → Scheme → List PointOrigin → Table → ℕ
+entries_from level scheme origins table =
+    sum_by length (supports_from table.controls level scheme (supports_of table) origins)
+
+-- Each row has the controls of its point and the point's common denominator, and makes the point's value of all controls: of
+-- those values of the level that the rows of the table make of the same controls. No weight is refused.
+pub record IsComposed (level : Level) (scheme : Scheme) (origins : List PointOrigin) (table composed : Table) : Type 0 where
+  pub controls : composed.controls ≡ table.controls
+  pub dens : dens_of composed ≡ dens_from level scheme (dens_of table) origins
+  pub supports : supports_of composed ≡ supports_from table.controls level scheme (supports_of table) origins
+  pub values : (numbers : List ℤ) (values : List Value) → AreSameValues values (row_values table numbers)
+      → AreSameValues (values_from level scheme origins values) (row_values composed numbers)
+  pub fine : HasNoTransition level scheme origins
+
+-- the first fault of the step, each kind over the whole level; memory may run out at any step
+abbrev pub IsTableFault : Level → Scheme → List PointOrigin → Table → TableFault → Type 0
+IsTableFault level scheme origins table (Transition point) = IsFirstTransition level scheme origins point
+IsTableFault level scheme origins table (Denominator point) =
+    HasNoTransition level scheme origins × IsFirstDenominator (dens_from level scheme (dens_of table) origins) point
+IsTableFault level scheme origins table TooManyEntries =
+    HasNoTransition level scheme origins × All (λ den. den ≤ number_bound) (dens_from level scheme (dens_of table) origins)
+    × (entry_bound < entries_from level scheme origins table)
+IsTableFault level scheme origins table Memory = Unit {0}

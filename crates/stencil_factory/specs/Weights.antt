@@ -1,0 +1,34 @@
+-- A child point as weights of the level's points alone: the new points of faces are taken apart into their corners.
+use Rattle.std.specs.Prelude.{ℕ, ◌≡◌, ◌*◌, ◌<◌, ℤ, nat_eq, Bool, List, length}
+use Rattle.std.specs.List.{All, list_any, sum_by}
+use Rattle.std.specs.List.Sorted.{IsStrictlyIncreasing}
+use Rattle.std.specs.Prelude.{get_or}
+use Rattle.subdiv_model.specs.Polygons.{is_among, polygon_at}
+use Rattle.subdiv_model.specs.Level.{Level}
+use Rattle.subdiv_model.specs.Value.{Value}
+use Rattle.subdiv_model.specs.Mask.{SourcePoint, OfPoint, OfFace, Mask}
+use Rattle.subdiv_model.specs.Refined.{mask_value, source_value, mask_denominator, source_denominator}
+use Rattle.mask_laws.proofs.SumLemmas.{IsOver}
+use Rattle.stencil_apply.specs.Table.{Share}
+use Rattle.stencil_factory.specs.Rows.{support_of, share_sum, values_over, AreSameValues}
+
+-- the point is the source, or a corner of the face whose new point it is
+abbrev pub names_point : Level → ℕ → SourcePoint → Bool
+names_point level v (OfPoint u) = nat_eq u v
+names_point level v (OfFace f) = is_among (polygon_at level.polygons f) v
+
+-- some source of the mask names the point
+abbrev pub is_named : Level → Mask → ℕ → Bool
+is_named level mask v = list_any (λ t. names_point level v t.source) mask.terms
+
+-- Each point that the mask names stands once, ascending, with a weight above 0. The weights times the numerators of the points
+-- sum to that of the mask's value over its common denominator, whatever values the points have; so the weights times the
+-- denominators sum to that denominator.
+pub record AreWeights (level : Level) (dens : List ℕ) (mask : Mask) (shares : List Share) : Type 0 where
+  pub ascending : IsStrictlyIncreasing (support_of shares)
+  pub inside : All (λ share. share.0 < level.point_count) shares
+  pub each : All (λ share. 0 < share.1) shares
+  pub total : sum_by (λ share. share.1 * get_or dens share.0 1) shares ≡ mask_denominator (source_denominator level dens) mask
+  pub named : (v : ℕ) → is_among (support_of shares) v ≡ is_named level mask v
+  pub value : (numbers : List ℤ) (values : List Value) → length numbers ≡ length dens → AreSameValues values (values_over dens numbers)
+      → IsOver (mask_denominator (source_denominator level dens) mask) (mask_value (source_value level values) mask) (share_sum numbers shares)

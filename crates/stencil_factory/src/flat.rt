@@ -1,0 +1,102 @@
+//! The terms of a mask, added as amounts at points of the level: the new points of faces are taken apart into their corners.
+
+ghost use Rattle.std.specs.Prelude.{◌≡◌, ◌*◌, ◌/◌, ◌<◌, ◌≤◌, length, OnOk};
+ghost use Rattle.std.specs.List.{All, AllByRecursion};
+ghost use Rattle.subdiv_model.specs.Channel.{number_bound};
+ghost use Rattle.mask_rules.specs.View.{source_of, terms_of};
+ghost use Rattle.primvar_refine.specs.Found.{ArePointDenominators};
+ghost use Rattle.stencil_factory.specs.Scratch.{added_shares};
+ghost use Rattle.stencil_factory.specs.Flat.{corner_shares, source_shares, flat_shares, CanAddAll, CanWeigh, CanWeighTerm};
+
+use crate::scratch::Scratch;
+use level_topology::Level;
+use mask_rules::{At, Term};
+use ratio128::{Memory, quotient};
+
+// A weight over a multiple of a denominator. Where both are one number nothing is divided.
+fn weight_over(weight: u128, multiple: u128, den: u128) -> u128
+    requires positive { 0 < den }
+    requires small { weight * (multiple / den) ≤ number_bound }
+    ensures { result ≡ weight * (multiple / den) }
+{
+    if den == multiple {
+        return weight;
+    }
+    weight * quotient(multiple, den)
+}
+
+/// Adds a factor at each corner, over a multiple of the corners' denominators.
+pub(crate) fn add_corners(
+    scratch: &mut Scratch,
+    corners: &[u32],
+    factor: u128,
+    multiple: u128,
+    dens: &[u128],
+) -> Result<(), Memory>
+    requires within { All (λ v. v < length dens.now) corners.now }
+    requires positive { All (λ den. 0 < den) dens.now }
+    requires can { CanAddAll (corner_shares dens.now factor multiple corners.now) scratch.old }
+    ensures { OnOk result (scratch.new ≡ added_shares 1 (corner_shares dens.now factor multiple corners.now) scratch.old) }
+{
+    let mut rest = corners;
+    while let [v, others @ ..] = rest {
+        let amount = weight_over(factor, multiple, dens[*v as usize]);
+        scratch.add(*v, amount)?;
+        rest = others;
+    }
+    Ok(())
+}
+
+// Adds a term over a multiple of its source's denominator.
+fn add_term(
+    scratch: &mut Scratch,
+    parent: &Level,
+    term: &Term,
+    multiple: u128,
+    dens: &[u128],
+    faces: &[u128],
+) -> Result<(), Memory>
+    requires dens { ArePointDenominators parent.now.level dens.now }
+    requires weigh { CanWeigh parent.now.level dens.now faces.now multiple term.now.weight (source_of term.now.at) }
+    requires can { CanAddAll (source_shares parent.now.level dens.now faces.now multiple term.now.weight (source_of term.now.at)) scratch.old }
+    ensures { OnOk result (scratch.new ≡ added_shares 1 (source_shares parent.now.level dens.now faces.now multiple term.now.weight (source_of term.now.at)) scratch.old) }
+{
+    match term.at {
+        At::Point(v) => scratch.add(v, weight_over(term.weight, multiple, dens[v as usize])),
+        At::FacePoint(f) => {
+            parent.facts();
+            let corners = parent.face_vertices(f);
+            let den = faces[f as usize];
+            let factor = weight_over(term.weight, multiple, den);
+            add_corners(
+                scratch,
+                corners,
+                factor,
+                quotient(den, corners.len() as u128),
+                dens,
+            )
+        }
+    }
+}
+
+/// Adds the terms of a mask over a multiple of the denominators of all their sources.
+pub(crate) fn add_terms(
+    scratch: &mut Scratch,
+    parent: &Level,
+    terms: &[Term],
+    multiple: u128,
+    dens: &[u128],
+    faces: &[u128],
+) -> Result<(), Memory>
+    requires dens { ArePointDenominators parent.now.level dens.now }
+    requires weigh { AllByRecursion (CanWeighTerm parent.now.level dens.now faces.now multiple) (terms_of terms.now) }
+    requires can { CanAddAll (flat_shares parent.now.level dens.now faces.now multiple (terms_of terms.now)) scratch.old }
+    ensures { OnOk result (scratch.new ≡ added_shares 1 (flat_shares parent.now.level dens.now faces.now multiple (terms_of terms.now)) scratch.old) }
+{
+    let mut rest = terms;
+    while let [term, others @ ..] = rest {
+        add_term(scratch, parent, term, multiple, dens, faces)?;
+        rest = others;
+    }
+    Ok(())
+}

@@ -1,0 +1,16 @@
+//! Tables of stencils: composed from the masks of a step, and the table of the control points themselves.
+//!
+//! Source: OpenSubdiv's Far layer for stencil tables; exact numerators over a common denominator are this profile's.
+#![tactic(auto)]
+
+mod compose;
+mod controls;
+mod count;
+mod fault;
+mod flat;
+mod scratch;
+mod weigh;
+
+pub use compose::compose_level;
+pub use controls::identity;
+pub use fault::TableFault;
