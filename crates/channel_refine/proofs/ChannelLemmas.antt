@@ -1,8 +1,7 @@
 -- The levels of a channel from 0 on, each made from the one before it.
-use Rattle.std.proofs.Common.{◌≡◌, ℕ, zero, suc, ◌+◌, ◌-◌, ◌*◌, ◌^◌, ◌<◌, ◌≤◌, Bool, true, false, nat_lt, max, pos, ◌*ℤ◌, List, [], ◌∷◌, length, map, get_or, Some, arith, refl, ap, sym, ◌∙◌, subst, IsTrue}
+use Rattle.std.proofs.Common.{◌≡◌, ℕ, zero, suc, ◌+◌, ◌-◌, ◌*◌, ◌<◌, ◌≤◌, Bool, true, false, nat_lt, max, pos, ◌*ℤ◌, List, [], ◌∷◌, length, map, get_or, arith, refl, ap, sym, ◌∙◌, subst, IsTrue}
 use Rattle.std.specs.List.{All, AllByRecursion, list_any, sum_by, range_with_len}
 use Rattle.std.proofs.Math.Nat.{mul-le-mul_left, mul-le-mul_right}
-use Rattle.std.proofs.lemmas.Bool.{le-ltb, lt-ltb}
 use Rattle.std.proofs.lemmas.Bool.Decides.{nat_tests}
 use Rattle.std.proofs.lemmas.List.{length-map}
 use Rattle.std.proofs.lemmas.List.Sums.{sum_by-append, sum_by-cons}
@@ -11,30 +10,28 @@ use Rattle.subdiv_model.specs.Level.{Level}
 use Rattle.subdiv_model.specs.Child.{refined_level}
 use Rattle.subdiv_model.specs.Mask.{Scheme, child_masks, mask_terms}
 use Rattle.subdiv_model.specs.Value.{IsSameValue}
-use Rattle.subdiv_model.specs.Refined.{point_value, child_values, child_denominators, refined_values, control_values}
-use Rattle.subdiv_model.specs.Fault.{Overflow, ChaikinOverflow, TransitionOverflow, DenominatorOverflow, ValueOverflow}
-use Rattle.subdiv_model.specs.Channel.{Channel, Values, number_bound, chaikin_overflows_at, transition_overflows_at, at_some_point, channel_level, denominators_after, greatest_denominator, channel_faults}
+use Rattle.subdiv_model.specs.Refined.{point_value, child_values, refined_values, control_values}
+use Rattle.subdiv_model.specs.Channel.{Channel, Values, number_bound, chaikin_overflows_at, denominators_after}
 use Rattle.ratio128.specs.Numbers.{greatest_amount}
 use Rattle.mask_laws.specs.SharpBoundary.{has_sharp_boundary}
 use Rattle.mask_laws.proofs.BoundaryLemmas.{sharp-levels}
 use Rattle.level_topology.specs.Topology.{Topology, IsTopology}
-use Rattle.level_counts.specs.Series.{Overflows, IsNext, faces_to}
+use Rattle.level_counts.specs.Series.{IsNext, faces_to}
 use Rattle.level_counts.proofs.SeriesLemmas as series
 use Rattle.primvar_refine.specs.Rows.{Row, row_at, dens_of, value_at, StandFor, AreWithin, greatest_of}
 use Rattle.channel_refine.specs.declared.fault.ChannelFault.{ChannelFault}
-use Rattle.channel_refine.specs.declared.fault.ChannelFault.TheVariants.{TooLarge, Chaikin, Transition, Denominator, Value as ValueFault, Memory}
-use Rattle.channel_refine.specs.Refined.{IsBase, AreControls, IsRefinedTo, IsTooLarge, IsChannelFault, channel_of, column_of, terms_to}
+use Rattle.channel_refine.specs.Refined.{IsBase, AreControls, IsRefinedTo, IsChannelFault, channel_of, column_of, terms_to}
 use Rattle.channel_refine.specs.Step.{IsReady, IsStep, IsStepFault}
-use Rattle.channel_refine.proofs.FaultLemmas.{HasNoOverflow, no-faults, any-from-0, chaikin-first, transition-first, denominator-first, value-first}
+use Rattle.channel_refine.proofs.FaultLemmas.{HasNoFault, no-faults, any-from-0}
+use Rattle.channel_refine.proofs.FirstLemmas as first
 use Rattle.channel_refine.proofs.OriginLemmas.{count-masks, range-append}
-use Rattle.channel_refine.proofs.StepLemmas.{none-passes}
 use Rattle.channel_refine.proofs.DenominatorLemmas.{IsSound, sharp-base, all-positive, each-below}
 
 -- the level after k steps with its values, where no number of the levels so far passes its bound
 pub record IsReached (channel : Channel) (controls : List Row) (k : ℕ) (t : Topology) (rows : List Row) : Type 0 where
   pub base : IsSound channel.base
   pub level : series.IsReached channel.base k t
-  pub none : (j : ℕ) → j < k → HasNoOverflow channel j
+  pub none : (j : ℕ) → j < k → HasNoFault Values channel j
   pub dens : dens_of rows ≡ denominators_after channel k
   pub values : (column : ℕ) → StandFor rows column (refined_values channel.base channel.scheme (control_values (column_of column controls)) k)
   pub within : AreWithin channel.greatest rows
@@ -48,8 +45,16 @@ pub record IsReached (channel : Channel) (controls : List Row) (k : ℕ) (t : To
 plus-one : (k : ℕ) → k + 1 ≡ suc k
 plus-one k = omega arith
 
+-- what holds of k levels and of the next holds of one level more
+pub none-more : (P : ℕ → Type 0) (k : ℕ) → ((j : ℕ) → j < k → P j) → P k → (j : ℕ) → j < k + 1 → P j
+none-more P k before here j h = go (nat_lt j k) refl
+  where
+    go : (b : Bool) → nat_lt j k ≡ b → P j
+    go true e = before j (grind (arith, nat_tests))
+    go false e = let same : k ≡ j = grind (arith, nat_tests) in subst P same here
+
 -- what holds of all denominators
-from-dens : (P : ℕ → Type 0) (rows : List Row) → AllByRecursion P (dens_of rows) → All (λ row. P row.den) rows
+pub from-dens : (P : ℕ → Type 0) (rows : List Row) → AllByRecursion P (dens_of rows) → All (λ row. P row.den) rows
 from-dens P rows all = All-from_recursion (λ row. P row.den) rows (go rows all)
   where
     go : (some : List Row) → AllByRecursion P (dens_of some) → AllByRecursion (λ row. P row.den) some
@@ -96,7 +101,7 @@ reached-none base scheme greatest common controls is level each are short =
     room den most one h = subst (λ n. n * most ≤ number_bound) (sym one) (omega (arith, h))
 
 -- where a test holds at no point
-unless-some : (test : ℕ → Bool) (n v : ℕ) → v < n → list_any test (range_with_len 0 n) ≡ false → test v ≡ false
+pub unless-some : (test : ℕ → Bool) (n v : ℕ) → v < n → list_any test (range_with_len 0 n) ≡ false → test v ≡ false
 unless-some test n v h none = go (test v) refl
   where
     go : (b : Bool) → test v ≡ b → test v ≡ false
@@ -138,9 +143,9 @@ module _ (channel : Channel) (controls : List Row) (k : ℕ) (t : Topology) (row
       below amount den greatest most h more = omega (arith, h, mul-le-mul_left den more)
 
   -- these are the last level and its values
-  pub reached-end : IsRefinedTo channel controls k t rows
+  pub reached-end : IsRefinedTo Values channel controls k t rows
   reached-end = record {
-    fine = λ track. no-faults channel track k is.none;
+    fine = λ track. no-faults Values tt channel track k is.none;
     few = λ j h. (is.level.made j h).few;
     level_is = is.level.level;
     dens = is.dens;
@@ -161,19 +166,13 @@ module _ (channel : Channel) (controls : List Row) (k : ℕ) (t : Topology) (row
     }
 
     next-dens : dens_of next_rows ≡ denominators_after channel (suc k)
-    next-dens =
-        step.values.dens ∙ ap (λ level. child_denominators level channel.scheme (dens_of rows)) is.level.level
-        ∙ ap (child_denominators (refined_level channel.base k) channel.scheme) is.dens
+    next-dens = step.values.dens ∙ sym (first.dens-after Values tt channel k is.none t.level is.level.level (dens_of rows) is.dens)
 
-    none-here : HasNoOverflow channel k
-    none-here = record {
-      chaikin = subst (λ level. at_some_point (chaikin_overflows_at level) level ≡ false) is.level.level step.chaikin;
-      transition = subst (λ level. at_some_point (transition_overflows_at level channel.scheme) level ≡ false) is.level.level step.values.transition;
-      denominator = ap (list_any (nat_lt number_bound)) (sym next-dens) ∙ none-passes (dens_of next_rows) step.values.short;
-      value =
-          le-ltb number_bound (greatest_denominator channel (suc k) * max channel.greatest channel.common)
-          (subst (λ dens. greatest_of dens * max channel.greatest channel.common ≤ number_bound) next-dens step.values.fits);
-    }
+    none-here : HasNoFault Values channel k
+    none-here =
+        first.none-here Values tt channel k is.none t.level is.level.level (dens_of rows) is.dens step.chaikin step.values.transition
+        (subst (All (λ den. den ≤ number_bound)) step.values.dens step.values.short) refl
+        (subst (λ dens. greatest_of dens * max channel.greatest channel.common ≤ number_bound) step.values.dens step.values.fits)
 
     next-each : length next_rows ≡ next.level.point_count
     next-each =
@@ -184,7 +183,7 @@ module _ (channel : Channel) (controls : List Row) (k : ℕ) (t : Topology) (row
     reached-next = record {
       base = is.base;
       level = series.reached-next channel.base k t next is.level next-level;
-      none = λ j h. go j h (nat_lt j k) refl;
+      none = none-more (HasNoFault Values channel) k is.none none-here;
       dens = next-dens ∙ ap (denominators_after channel) (sym (plus-one k));
       values = λ column.
           subst (λ n. StandFor next_rows column (refined_values channel.base channel.scheme (control_values (column_of column controls)) n)) (sym (plus-one k))
@@ -203,64 +202,10 @@ module _ (channel : Channel) (controls : List Row) (k : ℕ) (t : Topology) (row
         times : (den great most : ℕ) → den ≤ great → great * most ≤ number_bound → den * most ≤ number_bound
         times den great most h fits = omega (arith, fits, mul-le-mul_right most h)
 
-        go : (j : ℕ) → j < k + 1 → (b : Bool) → nat_lt j k ≡ b → HasNoOverflow channel j
-        go j h true e = is.none j (grind (arith, nat_tests))
-        go j h false e = let same : k ≡ j = grind (arith, nat_tests) in subst (HasNoOverflow channel) same none-here
-
   -- the first number that passes its bound is one of the next level
-  module _ (depth number : ℕ) (within : k < depth) (same : number ≡ k + 1) where
-    named : (n : ℕ) → n ≡ number → suc k ≡ n
-    named n e = omega (arith, e, same)
-
-    large : (n count : ℕ) → n ≡ number → count ≡ sum_by length t.level.polygons → 2 ^ 22 < count → IsTooLarge channel depth n count
-    large n count e is_count many =
-        let before : k ≡ n - 1 = omega (arith, e, same) in
-        record {
-          after_level_0 = omega (arith, e, same);
-          within = omega (arith, e, same, within);
-          fine = λ track. subst (λ m. channel_faults Values channel track m ≡ []) before (no-faults channel track k is.none);
-          count_is = is_count ∙ ap (λ (level : Level). sum_by length level.polygons) (is.level.level ∙ ap (refined_level channel.base) before);
-          many = many;
-        }
-
-    chaikin-none : at_some_point (chaikin_overflows_at t.level) t.level ≡ false → at_some_point (chaikin_overflows_at (channel_level channel k)) (channel_level channel k) ≡ false
-    chaikin-none h = subst (λ level. at_some_point (chaikin_overflows_at level) level ≡ false) is.level.level h
-
-    chaikin-some : Overflows t.level → at_some_point (chaikin_overflows_at (channel_level channel k)) (channel_level channel k) ≡ true
-    chaikin-some over =
-        subst (λ level. at_some_point (chaikin_overflows_at level) level ≡ true) is.level.level
-        (any-from-0 (chaikin_overflows_at t.level) t.level.point_count over.v over.exists over.overflows)
-
-    transition-none : at_some_point (transition_overflows_at t.level channel.scheme) t.level ≡ false
-        → at_some_point (transition_overflows_at (channel_level channel k) channel.scheme) (channel_level channel k) ≡ false
-    transition-none h = subst (λ level. at_some_point (transition_overflows_at level channel.scheme) level ≡ false) is.level.level h
-
-    transition-some : at_some_point (transition_overflows_at t.level channel.scheme) t.level ≡ true
-        → at_some_point (transition_overflows_at (channel_level channel k) channel.scheme) (channel_level channel k) ≡ true
-    transition-some h = subst (λ level. at_some_point (transition_overflows_at level channel.scheme) level ≡ true) is.level.level h
-
-    dens-after : denominators_after channel (suc k) ≡ child_denominators t.level channel.scheme (dens_of rows)
-    dens-after =
-        ap (child_denominators (refined_level channel.base k) channel.scheme) (sym is.dens)
-        ∙ ap (λ level. child_denominators level channel.scheme (dens_of rows)) (sym is.level.level)
-
-    pub fault-first : (fault : ChannelFault) → IsStepFault (max channel.greatest channel.common) t.level channel.scheme (dens_of rows) number fault → IsChannelFault channel depth fault
-    fault-first (TooLarge n count) s = large n count s.0 s.1 s.2
-    fault-first (Chaikin n) s = λ track.
-        chaikin-first channel track k depth within is.none (chaikin-some s.1)
-        ∙ ap (λ m. Some (Overflow track m ChaikinOverflow)) (named n s.0)
-    fault-first (Transition n) s = λ track.
-        transition-first channel track k depth within is.none (chaikin-none s.0) (transition-some s.1.1)
-        ∙ ap (λ m. Some (Overflow track m TransitionOverflow)) (named n s.1.0)
-    fault-first (Denominator n) s = λ track.
-        denominator-first channel track k depth within is.none (chaikin-none s.0) (transition-none s.1.1) (ap (list_any (nat_lt number_bound)) dens-after ∙ s.1.2)
-        ∙ ap (λ m. Some (Overflow track m DenominatorOverflow)) (named n s.1.0)
-    fault-first (ValueFault n) s = λ track.
-        value-first channel track k depth within is.none (chaikin-none s.0) (transition-none s.1.1) (ap (list_any (nat_lt number_bound)) dens-after ∙ s.1.2)
-        (lt-ltb number_bound (greatest_denominator channel (suc k) * max channel.greatest channel.common)
-        (subst (λ dens. number_bound < greatest_of dens * max channel.greatest channel.common) (sym dens-after) s.1.3))
-        ∙ ap (λ m. Some (Overflow track m ValueOverflow)) (named n s.1.0)
-    fault-first Memory s = tt
+  pub fault-first : (depth number : ℕ) → k < depth → number ≡ k + 1 → (fault : ChannelFault) → IsStepFault (max channel.greatest channel.common) t.level channel.scheme (dens_of rows) number fault
+      → IsChannelFault Values channel depth fault
+  fault-first depth number within same fault s = first.first-of-step Values tt channel k is.none t.level is.level.level (dens_of rows) is.dens depth number within same fault (λ v. refl) s
 
 -- The terms of one level more, and those of more levels are no fewer.
 

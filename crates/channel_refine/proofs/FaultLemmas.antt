@@ -1,9 +1,9 @@
 -- The faults of the levels of a channel: the first of all is the first of the first level that has one.
-use Rattle.std.proofs.Common.{◌≡◌, ℕ, zero, suc, ◌+◌, ◌<◌, Bool, true, false, ◌||◌, List, [], ◌∷◌, ◌++◌, Some, None, arith, refl, ap, ◌∙◌}
-use Rattle.std.specs.List.{flat_map, list_any, range_with_len}
+use Rattle.std.proofs.Common.{◌≡◌, ℕ, zero, suc, ◌+◌, ◌<◌, Bool, true, false, ◌||◌, List, [], ◌∷◌, ◌++◌, get_or, Some, None, arith, refl, ap, ◌∙◌}
+use Rattle.std.specs.List.{AllByRecursion, flat_map, list_any, range_with_len}
 use Rattle.subdiv_model.specs.Lists.{first_of}
-use Rattle.subdiv_model.specs.Fault.{Fault, Overflow, Track, OverflowKind, ChaikinOverflow, TransitionOverflow, DenominatorOverflow, ValueOverflow}
-use Rattle.subdiv_model.specs.Channel.{Channel, Asked, Values, fault_where, has_chaikin_overflow, has_transition_overflow, has_denominator_overflow, has_value_overflow, level_faults, channel_faults}
+use Rattle.subdiv_model.specs.Fault.{Fault, TooLarge, Entries, Overflow, Track, ChaikinOverflow, TransitionOverflow, DenominatorOverflow, ValueOverflow}
+use Rattle.subdiv_model.specs.Channel.{Channel, Asked, Sharpnesses, Values, Tables, fault_where, has_chaikin_overflow, has_transition_overflow, has_denominator_overflow, has_many_entries, has_value_overflow, level_faults, channel_faults}
 
 -- the first of two lists, one after the other
 pub first-here : {X : Type 0} (xs ys : List X) (x : X) → first_of xs ≡ Some x → first_of (xs ++ ys) ≡ Some x
@@ -79,77 +79,98 @@ any-here test a (suc n) (suc gap) within here =
 pub any-from-0 : (test : ℕ → Bool) (n v : ℕ) → v < n → test v ≡ true → list_any test (range_with_len 0 n) ≡ true
 any-from-0 test n v within here = any-here test 0 n v within (ap test (zero-plus v) ∙ here)
 
--- four faults, each where it stands: there is none, and each in turn is the first
-abbrev four : Bool → Bool → Bool → Bool → Fault → Fault → Fault → Fault → List Fault
-four a b c d w x y z = fault_where a w ++ (fault_where b x ++ (fault_where c y ++ ([] ++ fault_where d z)))
+-- tests, each with the fault that stands where it holds
+abbrev pub held_faults : List (Bool × Fault) → List Fault
+held_faults [] = []
+held_faults (test ∷ []) = fault_where test.0 test.1
+held_faults (test ∷ next ∷ tests) = fault_where test.0 test.1 ++ held_faults (next ∷ tests)
 
-four-none : (a b c d : Bool) (w x y z : Fault) → a ≡ false → b ≡ false → c ≡ false → d ≡ false → four a b c d w x y z ≡ []
-four-none a b c d w x y z e f g h = rw (e, f, g, h) refl
+-- the test at a place holds, and none before it
+abbrev pub IsFirstHeld : List (Bool × Fault) → ℕ → Type 0
+IsFirstHeld [] at = ⊥
+IsFirstHeld (test ∷ tests) zero = test.0 ≡ true
+IsFirstHeld (test ∷ tests) (suc at) = (test.0 ≡ false) × IsFirstHeld tests at
 
-first-of-four : (a b c d : Bool) (w x y z : Fault) → a ≡ true → first_of (four a b c d w x y z) ≡ Some w
-first-of-four a b c d w x y z e = rw e refl
+-- where no test holds there is no fault, and else the first is that of the first test that does
+none-held : (tests : List (Bool × Fault)) → AllByRecursion (λ test. test.0 ≡ false) tests → held_faults tests ≡ []
+none-held [] all = refl
+none-held ((b, fault) ∷ []) all = rw all.0 refl
+none-held ((b, fault) ∷ next ∷ tests) all = rw all.0 (none-held (next ∷ tests) all.1)
 
-second-of-four : (a b c d : Bool) (w x y z : Fault) → a ≡ false → b ≡ true → first_of (four a b c d w x y z) ≡ Some x
-second-of-four a b c d w x y z e f = rw (e, f) refl
+first-held : (tests : List (Bool × Fault)) (at : ℕ) (none : Bool × Fault) → IsFirstHeld tests at → first_of (held_faults tests) ≡ Some (get_or tests at none).1
+first-held [] at none is = absurd is
+first-held ((b, fault) ∷ []) zero none is = rw is refl
+first-held ((b, fault) ∷ []) (suc at) none is = absurd is.1
+first-held ((b, fault) ∷ next ∷ tests) zero none is = rw is refl
+first-held ((b, fault) ∷ next ∷ tests) (suc at) none is = rw is.0 (first-held (next ∷ tests) at none is.1)
 
-third-of-four : (a b c d : Bool) (w x y z : Fault) → a ≡ false → b ≡ false → c ≡ true → first_of (four a b c d w x y z) ≡ Some y
-third-of-four a b c d w x y z e f g = rw (e, f, g) refl
+-- values are asked for, with or without tables
+abbrev pub AsksValues : Asked → Type 0
+AsksValues Sharpnesses = ⊥
+AsksValues Values = Unit {0}
+AsksValues Tables = Unit {0}
 
-fourth-of-four : (a b c d : Bool) (w x y z : Fault) → a ≡ false → b ≡ false → c ≡ false → d ≡ true → first_of (four a b c d w x y z) ≡ Some z
-fourth-of-four a b c d w x y z e f g h = rw (e, f, g, h) refl
+-- a table is asked for that has too many entries
+abbrev pub has_entry_fault : Asked → Channel → ℕ → Bool
+has_entry_fault Sharpnesses channel k = false
+has_entry_fault Values channel k = false
+has_entry_fault Tables channel k = has_many_entries channel k
 
--- no number of the level after k + 1 steps passes its bound
-pub record HasNoOverflow (channel : Channel) (k : ℕ) : Type 0 where
+-- the level after k + 1 steps has no fault of those that are asked for
+pub record HasNoFault (asked : Asked) (channel : Channel) (k : ℕ) : Type 0 where
   pub chaikin : has_chaikin_overflow channel k ≡ false
   pub transition : has_transition_overflow channel k ≡ false
   pub denominator : has_denominator_overflow channel k ≡ false
+  pub entries : has_entry_fault asked channel k ≡ false
   pub value : has_value_overflow channel k ≡ false
 
-module _ (channel : Channel) (track : Track) where
-  none-of-level : (k : ℕ) → HasNoOverflow channel k → level_faults Values channel track k ≡ []
-  none-of-level k is =
-      four-none (has_chaikin_overflow channel k) (has_transition_overflow channel k) (has_denominator_overflow channel k) (has_value_overflow channel k)
-      (Overflow track (suc k) ChaikinOverflow) (Overflow track (suc k) TransitionOverflow) (Overflow track (suc k) DenominatorOverflow) (Overflow track (suc k) ValueOverflow)
-      is.chaikin is.transition is.denominator is.value
+-- the tests of the level after k + 1 steps, in the order of its faults
+abbrev tests : Asked → Channel → Track → ℕ → List (Bool × Fault)
+tests asked channel track k =
+    (has_chaikin_overflow channel k, Overflow track (suc k) ChaikinOverflow)
+    ∷ (has_transition_overflow channel k, Overflow track (suc k) TransitionOverflow)
+    ∷ (has_denominator_overflow channel k, Overflow track (suc k) DenominatorOverflow)
+    ∷ (has_entry_fault asked channel k, TooLarge (Entries (suc k)))
+    ∷ (has_value_overflow channel k, Overflow track (suc k) ValueOverflow)
+    ∷ []
+
+tests-are : (asked : Asked) → AsksValues asked → (channel : Channel) (track : Track) (k : ℕ) → level_faults asked channel track k ≡ held_faults (tests asked channel track k)
+tests-are Sharpnesses is channel track k = absurd is
+tests-are Values is channel track k = refl
+tests-are Tables is channel track k = refl
+
+module _ (asked : Asked) (values : AsksValues asked) (channel : Channel) (track : Track) where
+  none-of-level : (k : ℕ) → HasNoFault asked channel k → level_faults asked channel track k ≡ []
+  none-of-level k is = tests-are asked values channel track k ∙ none-held (tests asked channel track k) (is.chaikin, (is.transition, (is.denominator, (is.entries, (is.value, tt)))))
 
   -- no level has a fault
-  pub no-faults : (depth : ℕ) → ((k : ℕ) → k < depth → HasNoOverflow channel k) → channel_faults Values channel track depth ≡ []
-  no-faults depth none = none-of-levels Values channel track depth (λ k h. none-of-level k (none k h))
+  pub no-faults : (depth : ℕ) → ((k : ℕ) → k < depth → HasNoFault asked channel k) → channel_faults asked channel track depth ≡ []
+  no-faults depth none = none-of-levels asked channel track depth (λ k h. none-of-level k (none k h))
 
   -- the first level that has one, and which is its first
-  module _ (k depth : ℕ) (within : k < depth) (before : (j : ℕ) → j < k → HasNoOverflow channel j) where
-    first-of-level : (kind : OverflowKind) → first_of (level_faults Values channel track k) ≡ Some (Overflow track (suc k) kind)
-        → first_of (channel_faults Values channel track depth) ≡ Some (Overflow track (suc k) kind)
-    first-of-level kind here =
-        first-of-levels Values channel track k depth (Overflow track (suc k) kind) within (λ j h. none-of-level j (before j h)) here
+  module _ (k depth : ℕ) (within : k < depth) (before : (j : ℕ) → j < k → HasNoFault asked channel j) where
+    first-of-level : (at : ℕ) → IsFirstHeld (tests asked channel track k) at
+        → first_of (channel_faults asked channel track depth) ≡ Some (get_or (tests asked channel track k) at (false, Overflow track 0 ChaikinOverflow)).1
+    first-of-level at is =
+        first-of-levels asked channel track k depth (get_or (tests asked channel track k) at (false, Overflow track 0 ChaikinOverflow)).1 within (λ j h. none-of-level j (before j h))
+        (ap first_of (tests-are asked values channel track k) ∙ first-held (tests asked channel track k) at (false, Overflow track 0 ChaikinOverflow) is)
 
-    pub chaikin-first : has_chaikin_overflow channel k ≡ true → first_of (channel_faults Values channel track depth) ≡ Some (Overflow track (suc k) ChaikinOverflow)
-    chaikin-first chaikin =
-        first-of-level ChaikinOverflow
-        (first-of-four (has_chaikin_overflow channel k) (has_transition_overflow channel k) (has_denominator_overflow channel k) (has_value_overflow channel k)
-        (Overflow track (suc k) ChaikinOverflow) (Overflow track (suc k) TransitionOverflow) (Overflow track (suc k) DenominatorOverflow) (Overflow track (suc k) ValueOverflow)
-        chaikin)
+    pub chaikin-first : has_chaikin_overflow channel k ≡ true → first_of (channel_faults asked channel track depth) ≡ Some (Overflow track (suc k) ChaikinOverflow)
+    chaikin-first chaikin = first-of-level 0 chaikin
 
     pub transition-first : has_chaikin_overflow channel k ≡ false → has_transition_overflow channel k ≡ true
-        → first_of (channel_faults Values channel track depth) ≡ Some (Overflow track (suc k) TransitionOverflow)
-    transition-first chaikin transition =
-        first-of-level TransitionOverflow
-        (second-of-four (has_chaikin_overflow channel k) (has_transition_overflow channel k) (has_denominator_overflow channel k) (has_value_overflow channel k)
-        (Overflow track (suc k) ChaikinOverflow) (Overflow track (suc k) TransitionOverflow) (Overflow track (suc k) DenominatorOverflow) (Overflow track (suc k) ValueOverflow)
-        chaikin transition)
+        → first_of (channel_faults asked channel track depth) ≡ Some (Overflow track (suc k) TransitionOverflow)
+    transition-first chaikin transition = first-of-level 1 (chaikin, transition)
 
     pub denominator-first : has_chaikin_overflow channel k ≡ false → has_transition_overflow channel k ≡ false → has_denominator_overflow channel k ≡ true
-        → first_of (channel_faults Values channel track depth) ≡ Some (Overflow track (suc k) DenominatorOverflow)
-    denominator-first chaikin transition denominator =
-        first-of-level DenominatorOverflow
-        (third-of-four (has_chaikin_overflow channel k) (has_transition_overflow channel k) (has_denominator_overflow channel k) (has_value_overflow channel k)
-        (Overflow track (suc k) ChaikinOverflow) (Overflow track (suc k) TransitionOverflow) (Overflow track (suc k) DenominatorOverflow) (Overflow track (suc k) ValueOverflow)
-        chaikin transition denominator)
+        → first_of (channel_faults asked channel track depth) ≡ Some (Overflow track (suc k) DenominatorOverflow)
+    denominator-first chaikin transition denominator = first-of-level 2 (chaikin, (transition, denominator))
+
+    pub entries-first : has_chaikin_overflow channel k ≡ false → has_transition_overflow channel k ≡ false → has_denominator_overflow channel k ≡ false
+        → has_entry_fault asked channel k ≡ true → first_of (channel_faults asked channel track depth) ≡ Some (TooLarge (Entries (suc k)))
+    entries-first chaikin transition denominator entries = first-of-level 3 (chaikin, (transition, (denominator, entries)))
 
     pub value-first : has_chaikin_overflow channel k ≡ false → has_transition_overflow channel k ≡ false → has_denominator_overflow channel k ≡ false
-        → has_value_overflow channel k ≡ true → first_of (channel_faults Values channel track depth) ≡ Some (Overflow track (suc k) ValueOverflow)
-    value-first chaikin transition denominator value =
-        first-of-level ValueOverflow
-        (fourth-of-four (has_chaikin_overflow channel k) (has_transition_overflow channel k) (has_denominator_overflow channel k) (has_value_overflow channel k)
-        (Overflow track (suc k) ChaikinOverflow) (Overflow track (suc k) TransitionOverflow) (Overflow track (suc k) DenominatorOverflow) (Overflow track (suc k) ValueOverflow)
-        chaikin transition denominator value)
+        → has_entry_fault asked channel k ≡ false → has_value_overflow channel k ≡ true
+        → first_of (channel_faults asked channel track depth) ≡ Some (Overflow track (suc k) ValueOverflow)
+    value-first chaikin transition denominator entries value = first-of-level 4 (chaikin, (transition, (denominator, (entries, value))))

@@ -1,5 +1,6 @@
-mod OriginLemmas
+pub mod OriginLemmas
 pub mod FaultLemmas
-mod StepLemmas
-mod DenominatorLemmas
-mod ChannelLemmas
+pub mod StepLemmas
+pub mod DenominatorLemmas
+pub mod FirstLemmas
+pub mod ChannelLemmas

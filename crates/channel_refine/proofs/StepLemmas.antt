@@ -29,7 +29,7 @@ use Rattle.primvar_refine.specs.declared.valued.Valued.{Valued}
 use Rattle.primvar_refine.specs.Rows.{Row, dens_of, StandFor, AreWithin, rounded_up, least_bound, greatest_of}
 use Rattle.primvar_refine.specs.Step.{masks_from, has_origin, step_terms, CanRefine, AreRefined, IsFirstTransition, IsFirstDenominator, IsTooBig, HasNoTransition}
 use Rattle.channel_refine.specs.declared.fault.ChannelFault.{ChannelFault}
-use Rattle.channel_refine.specs.declared.fault.ChannelFault.TheVariants.{TooLarge, Chaikin, Transition, Denominator, Value as ValueFault, Memory}
+use Rattle.channel_refine.specs.declared.fault.ChannelFault.TheVariants.{TooLarge, Chaikin, Transition, Denominator, Entries, Value as ValueFault, Memory}
 use Rattle.channel_refine.specs.Step.{IsReady, AreNextValues, IsStep, IsToldAt, IsValueFault, IsStepFault}
 use Rattle.channel_refine.proofs.FaultLemmas.{any-none, any-from-0}
 use Rattle.channel_refine.proofs.OriginLemmas.{masks-of-all, terms-of-all, has-vertex, vertex-within, edge-within}
@@ -61,14 +61,14 @@ module _ (parent : Topology) (child : ChildTopology) (refined : IsRefined parent
       (ap (λ origins. has_origin origins (FromEdge e)) (sym origins-are) ∙ h)
 
   -- each mask of the child can be had
-  pub can-refine : (scheme : Scheme) (most : ℕ) (rows : List Row) → IsTopology parent → IsReady most parent rows → CanRefine parent child scheme
-  can-refine scheme most rows is ready = record {
+  pub can-refine : (scheme : Scheme) → IsTopology parent → parent.complete ≡ replicate parent.level.point_count true → IsTrue (has_sharp_boundary parent.level) → CanRefine parent child scheme
+  can-refine scheme is complete boundary = record {
     vertices = ap (λ (c : ChildTopology). c.parent_points) refined.uniform.of;
     faces = ap (λ (c : ChildTopology). length c.parent_sizes) refined.uniform.of ∙ length-map parent.level.polygons length;
     edges = ap (λ (c : ChildTopology). c.parent_edges) refined.uniform.of;
-    complete = λ v h. ap (λ marks. get_or marks v false) ready.complete ∙ get_or-replicate parent.level.point_count v true false (vertex-of v h);
+    complete = λ v h. ap (λ marks. get_or marks v false) complete ∙ get_or-replicate parent.level.point_count v true false (vertex-of v h);
     inside = λ same e h. inside e (edge-of e h);
-    boundary = λ same v h e within ends alone. infinite-at parent is ready.boundary e within alone;
+    boundary = λ same v h e within ends alone. infinite-at parent is boundary e within alone;
     fine = λ same v h. refined.fine v (vertex-of v h);
   }
     where
@@ -79,31 +79,31 @@ module _ (parent : Topology) (child : ChildTopology) (refined : IsRefined parent
           go : (b : Bool) → is_boundary parent.level.polygons (edge_at parent.level.polygons e) ≡ b
               → (1 ≤ length (faces_of_edge parent.level.polygons (edge_at parent.level.polygons e))) × (length (faces_of_edge parent.level.polygons (edge_at parent.level.polygons e)) ≤ 2)
               → (length (faces_of_edge parent.level.polygons (edge_at parent.level.polygons e)) ≡ 2) ⊎ IsTrue (is_at_least_one (get_or parent.level.edge_sharpness e Smooth))
-          go true alone few = inr (ap is_at_least_one (infinite-at parent is ready.boundary e within alone))
+          go true alone few = inr (ap is_at_least_one (infinite-at parent is boundary e within alone))
           go false alone few = inl (two_faces (length (faces_of_edge parent.level.polygons (edge_at parent.level.polygons e))) alone few.0 few.1)
 
   -- the masks and their terms are those of the next level
-  masks-are : (scheme : Scheme) → masks_from parent.level scheme child.origins ≡ child_masks parent.level scheme
+  pub masks-are : (scheme : Scheme) → masks_from parent.level scheme child.origins ≡ child_masks parent.level scheme
   masks-are scheme = ap (masks_from parent.level scheme) origins-are ∙ masks-of-all parent.level scheme
 
   pub terms-are : (scheme : Scheme) → step_terms parent.level scheme child.origins ≡ mask_terms parent.level scheme
   terms-are scheme = ap (step_terms parent.level scheme) origins-are ∙ terms-of-all parent.level scheme
 
   -- halves overflow at no point, and where no weight is refused none is at any point
-  no-chaikin : at_some_point (chaikin_overflows_at parent.level) parent.level ≡ false
+  pub no-chaikin : at_some_point (chaikin_overflows_at parent.level) parent.level ≡ false
   no-chaikin = any-none (chaikin_overflows_at parent.level) 0 parent.level.point_count (λ v h. refined.fine v (omega (arith, h)))
 
-  no-transition : (scheme : Scheme) → HasNoTransition parent.level scheme child.origins → at_some_point (transition_overflows_at parent.level scheme) parent.level ≡ false
+  pub no-transition : (scheme : Scheme) → HasNoTransition parent.level scheme child.origins → at_some_point (transition_overflows_at parent.level scheme) parent.level ≡ false
   no-transition scheme none =
       any-none (transition_overflows_at parent.level scheme) 0 parent.level.point_count (λ v h.
       none v (ap (λ origins. has_origin origins (FromVertex v)) origins-are
       ∙ has-vertex parent.level.point_count (length parent.level.polygons) (length (edges_of parent.level.polygons)) v (omega (arith, h))))
 
-  some-transition : (scheme : Scheme) (v : ℕ) → IsFirstTransition parent.level scheme child.origins v
+  pub some-transition : (scheme : Scheme) (v : ℕ) → IsFirstTransition parent.level scheme child.origins v
       → at_some_point (transition_overflows_at parent.level scheme) parent.level ≡ true
   some-transition scheme v is = any-from-0 (transition_overflows_at parent.level scheme) parent.level.point_count v (vertex-of v is.has) is.refused
 
-  dens-are : (scheme : Scheme) (dens : List ℕ)
+  pub dens-are : (scheme : Scheme) (dens : List ℕ)
       → map (mask_denominator (source_denominator parent.level dens)) (masks_from parent.level scheme child.origins) ≡ child_denominators parent.level scheme dens
   dens-are scheme dens = ap (map (mask_denominator (source_denominator parent.level dens))) (masks-are scheme)
 
@@ -122,7 +122,7 @@ module _ (parent : Topology) (child : ChildTopology) (refined : IsRefined parent
   }
 
   -- a denominator that passes its bound
-  denominator-passes : (scheme : Scheme) (dens : List ℕ) (p : ℕ) → HasNoTransition parent.level scheme child.origins
+  pub denominator-passes : (scheme : Scheme) (dens : List ℕ) (p : ℕ) → HasNoTransition parent.level scheme child.origins
       → IsFirstDenominator (map (mask_denominator (source_denominator parent.level dens)) (masks_from parent.level scheme child.origins)) p
       → (at_some_point (transition_overflows_at parent.level scheme) parent.level ≡ false) × (list_any (nat_lt number_bound) (child_denominators parent.level scheme dens) ≡ true)
   denominator-passes scheme dens p none is = (
@@ -182,6 +182,7 @@ value-told parent child scheme most rows number (Chaikin k) refined ready is = a
 value-told parent child scheme most rows number (Transition k) refined ready is = (is.0, some-transition parent child refined scheme is.1.0 is.1.1)
 value-told parent child scheme most rows number (Denominator k) refined ready is =
     let passes = denominator-passes parent child refined scheme (dens_of rows) is.2.0 is.1 is.2.1 in (is.0, passes.0, passes.1)
+value-told parent child scheme most rows number (Entries k) refined ready is = absurd is
 value-told parent child scheme most rows number (ValueFault k) refined ready is =
     let passes = value-passes parent child refined scheme most rows is.2.0 ready is.1 is.2.1 in (is.0, passes.0, passes.1, passes.2)
 value-told parent child scheme most rows number Memory refined ready is = tt
@@ -241,6 +242,7 @@ step-fault parent child most scheme dens number (TooLarge k count) refined is = 
 step-fault parent child most scheme dens number (Chaikin k) refined is = absurd is
 step-fault parent child most scheme dens number (Transition k) refined is = (no-chaikin parent child refined, is)
 step-fault parent child most scheme dens number (Denominator k) refined is = (no-chaikin parent child refined, is)
+step-fault parent child most scheme dens number (Entries k) refined is = absurd is
 step-fault parent child most scheme dens number (ValueFault k) refined is = (no-chaikin parent child refined, is)
 step-fault parent child most scheme dens number Memory refined is = tt
 

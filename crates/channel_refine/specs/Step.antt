@@ -15,7 +15,7 @@ use Rattle.level_counts.specs.Series.{Overflows}
 use Rattle.primvar_refine.specs.Rows.{Row, row_at, dens_of, StandFor, AreGood, AreWithin, least_bound, greatest_of}
 use Rattle.primvar_refine.specs.Step.{IsFirstTransition, IsFirstDenominator, IsTooBig, HasNoTransition, refined_dens}
 use Rattle.channel_refine.specs.declared.fault.ChannelFault.{ChannelFault}
-use Rattle.channel_refine.specs.declared.fault.ChannelFault.TheVariants.{TooLarge, Chaikin, Transition, Denominator, Value as ValueFault, Memory}
+use Rattle.channel_refine.specs.declared.fault.ChannelFault.TheVariants.{TooLarge, Chaikin, Transition, Denominator, Entries, Value as ValueFault, Memory}
 
 -- a level and the values of its points, of at most so much in amount, from which a step can be made
 pub record IsReady (most : ℕ) (t : Topology) (rows : List Row) : Type 0 where
@@ -52,6 +52,7 @@ IsToldAt level scheme origins rows number (Transition k) =
     (k ≡ number) × ((v : ℕ) × IsFirstTransition level scheme origins v)
 IsToldAt level scheme origins rows number (Denominator k) =
     (k ≡ number) × HasNoTransition level scheme origins × ((p : ℕ) × IsFirstDenominator (refined_dens level scheme origins rows) p)
+IsToldAt level scheme origins rows number (Entries k) = ⊥
 IsToldAt level scheme origins rows number (ValueFault k) =
     (k ≡ number) × HasNoTransition level scheme origins × ((p : ℕ) × IsTooBig (refined_dens level scheme origins rows) (least_bound rows) p)
 IsToldAt level scheme origins rows number Memory = Unit {0}
@@ -65,6 +66,7 @@ IsValueFault most level scheme dens number (Transition k) =
 IsValueFault most level scheme dens number (Denominator k) =
     (k ≡ number) × (at_some_point (transition_overflows_at level scheme) level ≡ false)
     × (list_any (nat_lt number_bound) (child_denominators level scheme dens) ≡ true)
+IsValueFault most level scheme dens number (Entries k) = ⊥
 IsValueFault most level scheme dens number (ValueFault k) =
     (k ≡ number) × (at_some_point (transition_overflows_at level scheme) level ≡ false)
     × (list_any (nat_lt number_bound) (child_denominators level scheme dens) ≡ false)
@@ -81,6 +83,7 @@ IsStepFault most level scheme dens number (Transition k) =
     (at_some_point (chaikin_overflows_at level) level ≡ false) × IsValueFault most level scheme dens number (Transition k)
 IsStepFault most level scheme dens number (Denominator k) =
     (at_some_point (chaikin_overflows_at level) level ≡ false) × IsValueFault most level scheme dens number (Denominator k)
+IsStepFault most level scheme dens number (Entries k) = ⊥
 IsStepFault most level scheme dens number (ValueFault k) =
     (at_some_point (chaikin_overflows_at level) level ≡ false) × IsValueFault most level scheme dens number (ValueFault k)
 IsStepFault most level scheme dens number Memory = Unit {0}

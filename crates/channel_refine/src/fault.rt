@@ -13,6 +13,8 @@ pub enum ChannelFault {
     Transition { level: u32 },
     /// The common denominator of a point passes 2^126 - 1.
     Denominator { level: u32 },
+    /// The table of the level would have more than 2^27 entries: only where the level has a table.
+    Entries { level: u32 },
     /// The greatest common denominator times the greatest control numerator, or times the channel's own denominator, does.
     Value { level: u32 },
     /// Memory ran out.

@@ -1,7 +1,7 @@
 //! A channel refined to a depth.
 
 ghost use Rattle.std.specs.Prelude.{◌≡◌, ◌+◌, ◌^◌, ◌≤◌, length, max, MatchResult, OnOk};
-ghost use Rattle.subdiv_model.specs.Channel.{number_bound};
+ghost use Rattle.subdiv_model.specs.Channel.{Values, number_bound};
 ghost use Rattle.mask_rules.specs.View.{scheme_of};
 ghost use Rattle.level_counts.specs.Series.{faces_to};
 ghost use Rattle.primvar_refine.specs.View.{rows_of};
@@ -45,8 +45,8 @@ pub fn refine_channel<P: Primvar<L>, L: Ledger>(
     requires controls { AreControls greatest (rows_of P.numbers controls.items) }
     requires short { max greatest common ≤ number_bound }
     ensures refined { MatchResult result
-        (λ refined. IsRefinedTo (channel_of base.level (scheme_of scheme) greatest common) (rows_of P.numbers controls.items) depth refined.level (rows_of P.numbers refined.values.items))
-        (λ fault. IsChannelFault (channel_of base.level (scheme_of scheme) greatest common) depth fault) }
+        (λ refined. IsRefinedTo Values (channel_of base.level (scheme_of scheme) greatest common) (rows_of P.numbers controls.items) depth refined.level (rows_of P.numbers refined.values.items))
+        (λ fault. IsChannelFault Values (channel_of base.level (scheme_of scheme) greatest common) depth fault) }
     ensures taken { OnOk result (steps.old + terms_to base.level (scheme_of scheme) depth ≤ steps.new) }
     ensures steps { steps.new ≤ steps.old + faces_to base.level depth + terms_to base.level (scheme_of scheme) depth }
     ensures later { steps.old ≤ steps.new }

@@ -1,5 +1,6 @@
 use Rattle.std.proofs.Common.{◌≡◌, ◌+◌, arith, refl, ◌∙◌, sym, subst}
 use Rattle.std.proofs.lemmas.List.{length-map}
+use Rattle.subdiv_model.specs.Channel.{Values}
 use Rattle.mask_rules.specs.View.{scheme_of}
 use Rattle.primvar_refine.specs.Rows.{dens_of}
 use Rattle.primvar_refine.specs.View.{row_of, rows_of}
@@ -52,7 +53,7 @@ loop-k-preserved g c = record {
 pub returns-clause-refined : goal.returns-clause-refined
 returns-clause-refined g c =
     let end : c.loop-k.k ≡ c.args.depth = omega (arith, c.loop-k.auto.k-end, c.loop-k-test.false) in
-    subst (λ k. IsRefinedTo (channel_of c.args.base.level (scheme_of c.args.scheme) c.args.greatest c.args.common) (rows_of g.P.Primvar.numbers c.args.controls.items) k c.loop-k.refined.level (rows_of g.P.Primvar.numbers c.loop-k.refined.values.items))
+    subst (λ k. IsRefinedTo Values (channel_of c.args.base.level (scheme_of c.args.scheme) c.args.greatest c.args.common) (rows_of g.P.Primvar.numbers c.args.controls.items) k c.loop-k.refined.level (rows_of g.P.Primvar.numbers c.loop-k.refined.values.items))
     end
     (reached-end (channel_of c.args.base.level (scheme_of c.args.scheme) c.args.greatest c.args.common) (rows_of g.P.Primvar.numbers c.args.controls.items) c.loop-k.k
     c.loop-k.refined.level (rows_of g.P.Primvar.numbers c.loop-k.refined.values.items) c.loop-k.invariant.reached)

@@ -4,7 +4,7 @@ use Rattle.channel_refine.proofs.StepLemmas.{can-refine, terms-are, value-told, 
 use Rattle.channel_refine.proofs.values.next_values.Goals as goal
 
 pub refine_values-requires-clause-child : goal.refine_values-requires-clause-child
-refine_values-requires-clause-child g c = can-refine c.args.level.now c.args.child.now c.requires.child _ c.args.most _ c.facts.ensures c.requires.ready
+refine_values-requires-clause-child g c = can-refine c.args.level.now c.args.child.now c.requires.child _ c.facts.ensures c.requires.ready.complete c.requires.ready.boundary
 
 pub returns-in-Err-clause-refined : goal.returns-in-Err-clause-refined
 returns-in-Err-clause-refined g c =
