@@ -1,0 +1,7 @@
+mod IdentityLemmas
+mod StepLemmas
+mod ComposedLemmas
+mod PlaceLemmas
+mod SumLemmas
+pub mod EvaluatedLemmas
+pub mod NumeratorLemmas
