@@ -8,5 +8,5 @@ mod read;
 mod table;
 
 pub use command::{By, Command, Tags, Uv};
-pub use read::{read_built_words, read_words, read_words_by};
-pub use table::{CommandRule, OptionRule, ValueKind, built_table, command_table};
+pub use read::{read_words, read_words_by};
+pub use table::{CommandRule, OptionRule, ValueKind, command_table};

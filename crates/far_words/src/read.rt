@@ -7,12 +7,11 @@ ghost use Rattle.subdiv_model.specs.Words as words;
 ghost use Rattle.subdiv_model.specs.Command.{read_or};
 ghost use Rattle.subdiv_model.specs.Command as model;
 ghost use Rattle.far_words.specs.View.{table_of_code, rule_of_code, uv_of_code, by_of_code, tags_of_code, command_of_code, result_of_code};
-ghost use Rattle.far_words.specs.Built as built;
 ghost use Rattle.far_words.specs.Table.{AreNumbersU32, is_u32_rule, is_u32_table, u32_of_option};
 
 use crate::command::{By, Command, Tags, Uv};
 use crate::options::{first_bad_option, has_required, number_of, value_of};
-use crate::table::{CommandRule, built_table, command_table};
+use crate::table::{CommandRule, command_table};
 
 fn uv_named(name: &str) -> Uv
     ensures { uv_of_code result ≡ model.uv_of name.now }
@@ -134,11 +133,4 @@ pub fn read_words(words: &Vec<String>) -> Result<Command, u32>
     ensures { result_of_code result ≡ model.read_words (map string_bytes words.now.items) }
 {
     read_words_by(command_table(), words)
-}
-
-/// The same of the commands and options that are built so far.
-pub fn read_built_words(words: &Vec<String>) -> Result<Command, u32>
-    ensures { result_of_code result ≡ model.read_words_by built.built_table (map string_bytes words.now.items) }
-{
-    read_words_by(built_table(), words)
 }

@@ -3,7 +3,6 @@
 ghost use Rattle.std.specs.Prelude.{◌≡◌};
 ghost use Rattle.subdiv_model.specs.Words as model;
 ghost use Rattle.far_words.specs.View.{table_of_code};
-ghost use Rattle.far_words.specs.Built as built;
 
 /// What the value of an option may be.
 #[derive(Clone, Copy, Debug)]
@@ -79,33 +78,9 @@ const COMMANDS: &[CommandRule] = &[
     },
 ];
 
-const BUILT: &[CommandRule] = &[
-    CommandRule {
-        name: "refine",
-        options: &[
-            required_option!("depth", 0, 10),
-            number_option!("decimals", 0, 18),
-            name_option!("uv", &["smooth", "corners", "boundaries", "linear"]),
-            name_option!("by", &["table", "level"]),
-            name_option!("tags", &["no", "yes"]),
-        ],
-    },
-    CommandRule {
-        name: "levels",
-        options: &[required_option!("depth", 0, 10)],
-    },
-];
-
 /// The commands and their options.
 pub fn command_table() -> &'static [CommandRule]
     ensures { table_of_code result.now ≡ model.command_table }
 {
     COMMANDS
-}
-
-/// The commands and options that are built so far.
-pub fn built_table() -> &'static [CommandRule]
-    ensures { table_of_code result.now ≡ built.built_table }
-{
-    BUILT
 }
