@@ -6,3 +6,5 @@ mod LevelLemmas
 mod SeriesLemmas
 mod PointLemmas
 mod RefineLemmas
+mod TableLemmas
+mod SummaryLemmas

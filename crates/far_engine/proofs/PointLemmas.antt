@@ -19,6 +19,7 @@ use Rattle.primvar_refine.specs.Rows.{Row, row_at, dens_of, value_at, AreWithin}
 use Rattle.primvar_refine.specs.View.{rows_of}
 use Rattle.mesh_text.specs.Points.{points_of, CanBeWritten, IsSamePoint, HasDenominators}
 use Rattle.channel_refine.specs.Refined.{AreControls, column_of}
+use Rattle.channel_tables.specs.Evaluated.{control_rows}
 use Rattle.far_engine.specs.Refine.{control_of}
 
 -- the numbers of a point
@@ -176,6 +177,11 @@ are-controls points greatest is =
       within = All-from_recursion (λ row. primvar.greatest_amount row.numbers ≤ row.den * greatest) rows (within-by 0 points greatest (omega (arith, is)));
       alike = All-from_recursion (λ row. length row.numbers ≡ length (row_at rows 0).numbers) rows (first-three (map control_of points));
     }
+
+-- points that are controls of a table are the same rows
+pub control-rows : (points : List Point3) → control_rows (map numbers points) ≡ rows_of numbers (map control_of points)
+control-rows [] = refl
+control-rows (p ∷ points) = ap (λ rows. record { numbers = numbers p; den = 1 } ∷ rows) (control-rows points)
 
 -- the greatest amount of short coordinates
 short-by : (points : List (ℤ × ℤ × ℤ)) → AllByRecursion IsShortPoint points → AllByRecursion (λ x. x ≤ 10 ^ 37) (map unsigned_abs (point_numbers points))

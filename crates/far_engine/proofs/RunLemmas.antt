@@ -1,18 +1,22 @@
 -- What a run owes at each of its ends.
-use Rattle.std.proofs.Common.{◌≡◌, ◌≢◌, ℕ, ◌+◌, ◌<◌, ◌≤◌, true, cond, List, [], ◌++◌, length, take, Option, Some, None, Result, Ok, Err, OnOk, arith, append-nil, length-append, refl, ap, sym, subst, ◌∙◌}
-use Rattle.far_io.specs.Bytes.{Rose, Took, Added, AddedPrefix, IsDry}
-use Rattle.subdiv_model.specs.Words.{usage_of}
+use Rattle.std.proofs.Common.{◌≡◌, ℕ, ◌+◌, ◌≤◌, false, true, List, [], ◌++◌, length, take, Option, Some, None, Result, Ok, Err, IfOk, MatchResult, OnOk, arith, append-nil, length-append, refl, ap, sym, subst, ◌∙◌}
+use Rattle.far_io.specs.Bytes.{Rose, Took, TookPrefix, TookMore, Added, AddedPrefix, IsDry}
+use Rattle.subdiv_model.specs.Polygons.{is_over}
+use Rattle.subdiv_model.specs.Manifold.{IsManifold}
+use Rattle.subdiv_model.specs.Words.{command_table, usage_of}
 use Rattle.subdiv_model.specs.ReadObj.{read_obj_mesh}
-use Rattle.subdiv_model.specs.Command.{Command, command_of}
+use Rattle.subdiv_model.specs.Command.{Command, Gen, command_of}
+use Rattle.subdiv_model.specs.Generator.{generated_mesh}
 use Rattle.subdiv_model.specs.Fault.{Fault, Usage, Read, Long, Obj, Mesh, TooLarge, Overflow, Write, Memory, NotBuilt, fault_status, outcome_status}
-use Rattle.subdiv_model.specs.Answer.{byte_limit, command_text}
-use Rattle.far_words.specs.Built.{built_table}
+use Rattle.subdiv_model.specs.Answer.{byte_limit}
 use Rattle.far_engine.specs.BuiltWords.{written_text}
-use Rattle.far_engine.specs.Outcome.{refusal_of, refusal_of_words, refusal_of_obj, text_of, IsAnswered, IsFound, is_after_reading, step_limit, least_steps}
+use Rattle.far_engine.specs.Outcome.{refusal_of, refusal_of_words, refusal_of_command, refusal_of_obj, refusal_of_made, text_of, mesh_of, is_made, input_of, IsAnswered, IsFound, step_limit}
+use Rattle.far_engine.specs.Replies.{Called, HasManifolds, IsReady, IsRefused}
 use Rattle.far_engine.specs.Runs.{Runs}
-use Rattle.far_engine.specs.View.{fault_of, outcome_of}
+use Rattle.far_engine.specs.View.{fault_of, outcome_of, reply_text}
 use Rattle.far_engine.specs.declared.fault.FarFault.{FarFault}
-use Rattle.far_engine.proofs.RefusalLemmas.{within, beyond, levels-manifold}
+use Rattle.far_engine.specs.declared.reply.Reply.{Reply}
+use Rattle.far_engine.proofs.RefusalLemmas.{levels-manifold, mesh-of-read, read-manifold, refused-by-length, refused-by-text}
 
 -- what was taken to the end is what there was
 all_taken : (old new : Option (List ℕ)) (taken bytes : List ℕ) → Took old new taken → IsDry new → old ≡ Some bytes → taken ≡ bytes
@@ -28,176 +32,260 @@ taken_within (Some old) (Some new) taken told took e =
 taken_within (Some old) None taken told took e = absurd took
 taken_within None new taken told took e = absurd (cc)
 
--- a command over an input that is not too long is refused where its text is
-by_text : (words : List (List ℕ)) (bytes : List ℕ) → usage_of built_table words ≡ None → length bytes ≤ byte_limit →
-    refusal_of words bytes ≡ refusal_of_obj (command_of words) bytes
-by_text words bytes command short =
-    ap (λ place. refusal_of_words place (command_of words) bytes) command
-    ∙ ap (λ b. cond b (refusal_of_obj (command_of words) bytes) (Some Long)) (within (length bytes) byte_limit short)
-
--- a command over an input that is too long
-by_length : (words : List (List ℕ)) (bytes : List ℕ) → usage_of built_table words ≡ None → byte_limit < length bytes →
-    refusal_of words bytes ≡ Some Long
-by_length words bytes command long =
-    ap (λ place. refusal_of_words place (command_of words) bytes) command
-    ∙ ap (λ b. cond b (refusal_of_obj (command_of words) bytes) (Some Long)) (beyond (length bytes) byte_limit long)
-
 added_nothing : (o : Option (List ℕ)) → Added o o []
 added_nothing (Some old) = sym (append-nil old)
 added_nothing None = tt
 
--- the words are a command, and the input was read to its end
-pub record WasRead {S : Type 0} (left : S → Option (List ℕ)) (source_faults : S → ℕ) (words : List (List ℕ)) (s s' : S)
-    (bytes : List ℕ) : Type 0 where
-  pub command : usage_of built_table words ≡ None
-  pub took : Took (left s) (left s') bytes
-  pub dry : IsDry (left s')
-  pub short : length bytes ≤ byte_limit
-  pub later : source_faults s ≤ source_faults s'
+-- nothing was taken
+took_nothing : (o : Option (List ℕ)) → Took o o []
+took_nothing (Some old) = refl
+took_nothing None = tt
 
--- what was read is what the source told
-pub told : {S : Type 0} (left : S → Option (List ℕ)) (source_faults : S → ℕ) (words : List (List ℕ)) (s s' : S) (bytes other : List ℕ) →
-    WasRead left source_faults words s s' bytes → left s ≡ Some other → bytes ≡ other
-told left source_faults words s s' bytes other read e = all_taken (left s) (left s') bytes other read.took read.dry e
+-- a fault that was found is an answer
+found_answers : (fault : Fault) (refusal : Option Fault) → IsFound fault refusal → IsAnswered (Some fault) refusal
+found_answers Memory refusal found = tt
+found_answers (Obj fault) refusal found = found
+found_answers (Mesh fault) refusal found = found
+found_answers (TooLarge counted) refusal found = found
+found_answers (Overflow track level kind) refusal found = found
+found_answers (NotBuilt line) refusal found = found
+found_answers (Usage word) refusal found = absurd found
+found_answers Read refusal found = absurd found
+found_answers Long refusal found = absurd found
+found_answers Write refusal found = absurd found
 
-module _ {S K : Type 0} (left : S → Option (List ℕ)) (source_faults : S → ℕ) (held : K → Option (List ℕ))
-    (sink_faults fixed : K → ℕ) (words : List (List ℕ)) (s s' : S) where
-  -- a fault that came before anything was written, and is neither of the words nor of a call
-  pub runs_refused : (k : K) (fault : Fault) (taken : List ℕ) → usage_of built_table words ≡ None →
-      ((bytes : List ℕ) → left s ≡ Some bytes → IsAnswered (Some fault) (refusal_of words bytes)) →
-      ((word : ℕ) → fault ≢ Usage word) → fault ≢ Read → fault ≢ Write → (fault ≡ Long → byte_limit < length taken) →
-      (is_after_reading (Some fault) ≡ true → IsDry (left s')) → Took (left s) (left s') taken →
-      source_faults s ≤ source_faults s' → Runs left source_faults held sink_faults fixed words s s' k k (Some fault)
-  runs_refused k fault taken command answer not_usage not_read not_write long dry took source_later = record {
-    usage = λ word. (λ e. absurd (not_usage word (cc)), λ e. absurd (cc));
-    uncalled = λ word e. absurd (not_usage word (cc));
-    answer = answer;
-    whole = dry;
-    text = λ bytes e f. absurd (cc);
-    manifold = λ bytes e f. absurd (cc);
-    prefix = λ bytes e f. absurd (not_write (cc));
-    kept = λ other e f. refl;
-    read = λ e. absurd (not_read (cc));
-    write = λ e. absurd (not_write (cc));
-    long = λ e. (taken, took, long (cc));
-    taken = (taken, took);
-    added = ([], added_nothing (held k));
-    source_later = source_later;
-    sink_later = omega arith;
-    sink_fixed = refl;
+module _ {S : Type 0} (left : S → Option (List ℕ)) (faults : S → ℕ) where
+  -- a fault that was found of the whole input
+  found_refused : (command : Command) (s s' : S) (fault : Fault) (refusal : Option Fault) → Called left faults command s s' →
+      (is_made command ≡ false → IsDry (left s')) →
+      ((bytes : List ℕ) → input_of (is_made command) (left s) ≡ Some bytes → refusal_of_command command bytes ≡ refusal) →
+      IsFound fault refusal → IsRefused left faults command s s' fault
+  found_refused command s s' fault refusal called dry same found = record {
+    called = called;
+    whole = λ e read. dry read;
+    answer = λ bytes e. subst (IsAnswered (Some fault)) (sym (same bytes e)) (found_answers fault refusal found);
+    not_usage = λ word e. subst (λ f. IsFound f refusal) e found;
+    not_write = λ e. subst (λ f. IsFound f refusal) e found;
+    read = λ e. absurd (subst (λ f. IsFound f refusal) e found);
+    long = λ e. absurd (subst (λ f. IsFound f refusal) e found);
   }
 
-  -- too much came
-  pub runs_long : (k : K) (taken : List ℕ) → usage_of built_table words ≡ None → Took (left s) (left s') taken →
-      byte_limit < length taken → source_faults s ≤ source_faults s' →
-      Runs left source_faults held sink_faults fixed words s s' k k (Some Long)
-  runs_long k taken command took long source_later =
-      runs_refused k Long taken command
-      (λ bytes e. by_length words bytes command (omega (arith, long, taken_within _ _ taken bytes took e)))
-      (λ word e. absurd (cc)) (λ e. absurd (cc)) (λ e. absurd (cc)) (λ e. long) (λ e. absurd (cc)) took source_later
+  -- of a mesh that the program makes
+  module _ (seed size depth : ℕ) (s : S) where
+    called_made : Called left faults (Gen seed size depth) s s
+    called_made = record { unread = λ e. refl; taken = ([], took_nothing (left s)); later = omega arith }
 
-  module _ (bytes : List ℕ) (command : Command) (was : WasRead left source_faults words s s' bytes) (says : command ≡ command_of words) where
-    refused_as : (other : List ℕ) (refusal : Option Fault) → left s ≡ Some other → refusal_of_obj command bytes ≡ refusal →
-        refusal_of words other ≡ refusal
-    refused_as other refusal e is =
-        ap (refusal_of words) (sym (told left source_faults words s s' bytes other was e)) ∙ by_text words bytes was.command was.short
-        ∙ ap (λ c. refusal_of_obj c bytes) (sym says) ∙ is
-
-    -- a fault that was found
-    pub runs_found : (k : K) (fault : Fault) → IsFound fault (refusal_of_obj command bytes) →
-        Runs left source_faults held sink_faults fixed words s s' k k (Some fault)
-    runs_found k Memory found =
-        runs_refused k Memory bytes was.command (λ other e. tt)
-        (λ word e. absurd (cc)) (λ e. absurd (cc)) (λ e. absurd (cc)) (λ e. absurd (cc)) (λ e. absurd (cc)) was.took was.later
-    runs_found k (Obj fault) found =
-        runs_refused k (Obj fault) bytes was.command (λ other e. refused_as other (Some (Obj fault)) e found)
-        (λ word e. absurd (cc)) (λ e. absurd (cc)) (λ e. absurd (cc)) (λ e. absurd (cc)) (λ e. was.dry) was.took was.later
-    runs_found k (Mesh fault) found =
-        runs_refused k (Mesh fault) bytes was.command (λ other e. refused_as other (Some (Mesh fault)) e found)
-        (λ word e. absurd (cc)) (λ e. absurd (cc)) (λ e. absurd (cc)) (λ e. absurd (cc)) (λ e. was.dry) was.took was.later
-    runs_found k (TooLarge counted) found =
-        runs_refused k (TooLarge counted) bytes was.command (λ other e. refused_as other (Some (TooLarge counted)) e found)
-        (λ word e. absurd (cc)) (λ e. absurd (cc)) (λ e. absurd (cc)) (λ e. absurd (cc)) (λ e. was.dry) was.took was.later
-    runs_found k (NotBuilt line) found =
-        runs_refused k (NotBuilt line) bytes was.command (λ other e. refused_as other (Some (NotBuilt line)) e found)
-        (λ word e. absurd (cc)) (λ e. absurd (cc)) (λ e. absurd (cc)) (λ e. absurd (cc)) (λ e. was.dry) was.took was.later
-    runs_found k (Usage word) found = absurd found
-    runs_found k Read found = absurd found
-    runs_found k Long found = absurd found
-    runs_found k (Overflow track level kind) found =
-        runs_refused k (Overflow track level kind) bytes was.command (λ other e. refused_as other (Some (Overflow track level kind)) e found)
-        (λ word e. absurd (cc)) (λ e. absurd (cc)) (λ e. absurd (cc)) (λ e. absurd (cc)) (λ e. was.dry) was.took was.later
-    runs_found k Write found = absurd found
-
-    text_as : (other text : List ℕ) → left s ≡ Some other → text ≡ written_text command (read_obj_mesh bytes 0) → text ≡ text_of words other
-    unfolding written_text
-    text_as other text e is =
-        is
-        ∙ ap (λ c. command_text c (read_obj_mesh bytes 0)) says
-        ∙ ap (text_of words) (told left source_faults words s s' bytes other was e)
-
-    -- the text stands in the sink
-    pub runs_ok : (k k' : K) (text : List ℕ) → refusal_of_obj command bytes ≡ None → text ≡ written_text command (read_obj_mesh bytes 0) →
-        Added (held k) (held k') text → sink_faults k ≤ sink_faults k' → fixed k' ≡ fixed k →
-        Runs left source_faults held sink_faults fixed words s s' k k' None
-    runs_ok k k' text good defined added sink_later same = record {
-      usage = λ word. (λ e. absurd (cc), λ e. absurd (cc));
-      uncalled = λ word e. absurd (cc);
-      answer = λ other e. refused_as other None e good;
-      whole = λ e. was.dry;
-      text = λ other e f. rw (← (text_as other text e defined)) added;
-      manifold = λ other e f. rw (← (told left source_faults words s s' bytes other was e)) (levels-manifold command bytes good);
-      prefix = λ other e f. absurd (cc);
-      kept = λ fault e f. absurd (cc);
-      read = λ e. absurd (cc);
-      write = λ e. absurd (cc);
-      long = λ e. absurd (cc);
-      taken = (bytes, was.took);
-      added = (text, added);
-      source_later = was.later;
-      sink_later = sink_later;
-      sink_fixed = same;
+    pub made_ready : (text : List ℕ) → refusal_of_made seed size depth ≡ None → text ≡ written_text (Gen seed size depth) (generated_mesh seed size) →
+        is_over (length (generated_mesh seed size).points) (generated_mesh seed size).faces ≡ true →
+        IsManifold (length (generated_mesh seed size).points) (generated_mesh seed size).faces →
+        IsReady left faults (Gen seed size depth) s s text
+    made_ready text good says over is = record {
+      called = called_made;
+      whole = λ e. absurd (cc);
+      good = λ bytes e. good;
+      says = λ bytes e. says;
+      manifold = λ bytes e. levels-manifold (generated_mesh seed size) over is;
     }
 
-    -- a prefix of the text stands in the sink, whose count rose
-    pub runs_cut : (k k' : K) (text : List ℕ) → refusal_of_obj command bytes ≡ None → text ≡ written_text command (read_obj_mesh bytes 0) →
-        AddedPrefix (held k) (held k') text → Rose (sink_faults k) (sink_faults k') → sink_faults k ≤ sink_faults k' →
-        fixed k' ≡ fixed k → Runs left source_faults held sink_faults fixed words s s' k k' (Some Write)
-    runs_cut k k' text good defined prefix rose sink_later same = record {
-      usage = λ word. (λ e. absurd (cc), λ e. absurd (cc));
-      uncalled = λ word e. absurd (cc);
-      answer = λ other e. refused_as other None e good;
-      whole = λ e. was.dry;
-      text = λ other e f. absurd (cc);
-      manifold = λ other e f. absurd (cc);
-      prefix = λ other e f. rw (← (text_as other text e defined)) prefix;
-      kept = λ fault e f. absurd (f (cc));
+    pub made_refused : (fault : Fault) → IsFound fault (refusal_of_made seed size depth) → IsRefused left faults (Gen seed size depth) s s fault
+    made_refused fault found =
+        found_refused (Gen seed size depth) s s fault (refusal_of_made seed size depth) called_made (λ e. absurd (cc)) (λ bytes e. refl) found
+
+    -- the same of whichever comes
+    pub made_reply : (r : Result Reply FarFault) →
+        MatchResult r
+        (λ reply. (refusal_of_made seed size depth ≡ None) × (reply_text reply ≡ written_text (Gen seed size depth) (generated_mesh seed size)))
+        (λ fault. IsFound (fault_of fault) (refusal_of_made seed size depth)) →
+        IfOk r (λ _. is_over (length (generated_mesh seed size).points) (generated_mesh seed size).faces ≡ true) →
+        IfOk r (λ _. IsManifold (length (generated_mesh seed size).points) (generated_mesh seed size).faces) →
+        MatchResult r (λ reply. IsReady left faults (Gen seed size depth) s s (reply_text reply))
+        (λ fault. IsRefused left faults (Gen seed size depth) s s (fault_of fault))
+    made_reply (Ok reply) found over is = made_ready (reply_text reply) found.0 found.1 over is
+    made_reply (Err fault) found over is = made_refused (fault_of fault) found
+
+  -- of a source that is read
+  module _ (command : Command) (s s' : S) (read : is_made command ≡ false) (later : faults s ≤ faults s') where
+    called_read : (taken : List ℕ) → Took (left s) (left s') taken → Called left faults command s s'
+    called_read taken took = record { unread = λ e. absurd (cc); taken = (taken, took); later = later }
+
+    -- its bytes are the input
+    told : (bytes : List ℕ) → input_of (is_made command) (left s) ≡ Some bytes → left s ≡ Some bytes
+    told bytes e = sym (ap (λ made. input_of made (left s)) read) ∙ e
+
+    -- too much came
+    pub read_long : TookMore byte_limit (left s) (left s') → IsRefused left faults command s s' Long
+    read_long more = record {
+      called = called_read more.0 more.1;
+      whole = λ e. absurd (cc);
+      answer = λ bytes e.
+          refused-by-length command bytes read
+          (omega (arith, more.2, taken_within (left s) (left s') more.0 bytes more.1 (told bytes e)));
+      not_usage = λ word e. absurd (cc);
+      not_write = λ e. absurd (cc);
       read = λ e. absurd (cc);
-      write = λ e. rose;
-      long = λ e. absurd (cc);
-      taken = (bytes, was.took);
-      added = (take prefix.0 text, prefix.2);
-      source_later = was.later;
-      sink_later = sink_later;
-      sink_fixed = same;
+      long = λ e. (read, more);
     }
 
--- the steps that are counted are those of what the source told
-pub steps_as : {S : Type 0} (left : S → Option (List ℕ)) (source_faults : S → ℕ) (words : List (List ℕ)) (s s' : S) (bytes other : List ℕ) (command : Command) (old new : ℕ) →
-    WasRead left source_faults words s s' bytes → command ≡ command_of words → new ≤ old + step_limit command (read_obj_mesh bytes 0) → left s ≡ Some other →
-    new ≤ old + step_limit (command_of words) (read_obj_mesh other 0)
-steps_as left source_faults words s s' bytes other command old new was says bound e =
-    let same = told left source_faults words s s' bytes other was e in
-    subst (λ b. new ≤ old + step_limit (command_of words) (read_obj_mesh b 0)) same
-    (subst (λ c. new ≤ old + step_limit c (read_obj_mesh bytes 0)) says bound)
+    -- a read failed
+    pub read_failed : TookPrefix (left s) (left s') → Rose (faults s) (faults s') → IsRefused left faults command s s' Read
+    read_failed taken rose = record {
+      called = called_read taken.0 taken.1;
+      whole = λ e. absurd (cc);
+      answer = λ bytes e. tt;
+      not_usage = λ word e. absurd (cc);
+      not_write = λ e. absurd (cc);
+      read = λ e. (read, rose);
+      long = λ e. absurd (cc);
+    }
 
-pub taken_as : {S : Type 0} (left : S → Option (List ℕ)) (source_faults : S → ℕ) (words : List (List ℕ)) (s s' : S) (bytes other : List ℕ) (command : Command) (old new : ℕ) →
-    WasRead left source_faults words s s' bytes → command ≡ command_of words → old + least_steps command (read_obj_mesh bytes 0) ≤ new → left s ≡ Some other →
-    old + least_steps (command_of words) (read_obj_mesh other 0) ≤ new
-taken_as left source_faults words s s' bytes other command old new was says bound e =
-    let same = told left source_faults words s s' bytes other was e in
-    subst (λ b. old + least_steps (command_of words) (read_obj_mesh b 0) ≤ new) same
-    (subst (λ c. old + least_steps c (read_obj_mesh bytes 0) ≤ new) says bound)
+    -- memory ran out
+    pub read_short_of_memory : TookPrefix (left s) (left s') → IsRefused left faults command s s' Memory
+    read_short_of_memory taken = record {
+      called = called_read taken.0 taken.1;
+      whole = λ e. absurd (cc);
+      answer = λ bytes e. tt;
+      not_usage = λ word e. absurd (cc);
+      not_write = λ e. absurd (cc);
+      read = λ e. absurd (cc);
+      long = λ e. absurd (cc);
+    }
+
+    -- all was read
+    module _ (bytes : List ℕ) (took : Took (left s) (left s') bytes) (dry : IsDry (left s')) where
+      -- what was read is what the source told
+      same_bytes : (other : List ℕ) → input_of (is_made command) (left s) ≡ Some other → bytes ≡ other
+      same_bytes other e = all_taken (left s) (left s') bytes other took dry (told other e)
+
+      same_mesh : (other : List ℕ) → input_of (is_made command) (left s) ≡ Some other → read_obj_mesh bytes 0 ≡ mesh_of command other
+      same_mesh other e = ap (λ b. read_obj_mesh b 0) (same_bytes other e) ∙ sym (mesh-of-read command other read)
+
+      same_refusal : length bytes ≤ byte_limit → (other : List ℕ) → input_of (is_made command) (left s) ≡ Some other →
+          refusal_of_command command other ≡ refusal_of_obj command bytes
+      same_refusal short other e =
+          ap (refusal_of_command command) (sym (same_bytes other e)) ∙ refused-by-text command bytes read short
+
+      pub read_ready : (text : List ℕ) → length bytes ≤ byte_limit → refusal_of_obj command bytes ≡ None →
+          text ≡ written_text command (read_obj_mesh bytes 0) → IsReady left faults command s s' text
+      read_ready text short good says = record {
+        called = called_read bytes took;
+        whole = λ e. dry;
+        good = λ other e. same_refusal short other e ∙ good;
+        says = λ other e. says ∙ ap (written_text command) (same_mesh other e);
+        manifold = λ other e. subst HasManifolds (same_mesh other e) (read-manifold command bytes good);
+      }
+
+      pub read_refused : (fault : Fault) → length bytes ≤ byte_limit → IsFound fault (refusal_of_obj command bytes) → IsRefused left faults command s s' fault
+      read_refused fault short found =
+          found_refused command s s' fault (refusal_of_obj command bytes) (called_read bytes took) (λ e. dry) (same_refusal short) found
+
+      -- the same of whichever comes
+      pub read_reply : (r : Result Reply FarFault) → length bytes ≤ byte_limit →
+          MatchResult r (λ reply. (refusal_of_obj command bytes ≡ None) × (reply_text reply ≡ written_text command (read_obj_mesh bytes 0)))
+          (λ fault. IsFound (fault_of fault) (refusal_of_obj command bytes)) →
+          MatchResult r (λ reply. IsReady left faults command s s' (reply_text reply))
+          (λ fault. IsRefused left faults command s s' (fault_of fault))
+      read_reply (Ok reply) short found = read_ready (reply_text reply) short found.0 found.1
+      read_reply (Err fault) short found = read_refused (fault_of fault) short found
+
+-- the command of words that are one
+module _ {S K : Type 0} (left : S → Option (List ℕ)) (source_faults : S → ℕ) (held : K → Option (List ℕ))
+    (sink_faults fixed : K → ℕ) (words : List (List ℕ)) (s s' : S) (command : Command) (good : usage_of command_table words ≡ None)
+    (said : command ≡ command_of words) where
+  refused_by_words : (bytes : List ℕ) → refusal_of words bytes ≡ refusal_of_command (command_of words) bytes
+  refused_by_words bytes = ap (λ place. refusal_of_words place (command_of words) bytes) good
+
+  ready_by_words : (text : List ℕ) → IsReady left source_faults command s s' text → IsReady left source_faults (command_of words) s s' text
+  ready_by_words text ready = subst (λ c. IsReady left source_faults c s s' text) said ready
+
+  -- a fault that came before anything was written
+  pub runs_refused : (k : K) (fault : Fault) → IsRefused left source_faults command s s' fault →
+      Runs left source_faults held sink_faults fixed words s s' k k (Some fault)
+  runs_refused k fault refused =
+      let is = subst (λ c. IsRefused left source_faults c s s' fault) said refused in
+      record {
+        usage = λ word. (λ e. absurd (is.not_usage word (cc)), λ e. absurd (cc));
+        uncalled = λ word e. absurd (is.not_usage word (cc));
+        unread = is.called.unread;
+        answer = λ bytes e. subst (IsAnswered (Some fault)) (sym (refused_by_words bytes)) (is.answer bytes e);
+        whole = is.whole;
+        text = λ bytes e f. absurd (cc);
+        manifold = λ bytes e f. absurd (cc);
+        prefix = λ bytes e f. absurd (is.not_write (cc));
+        kept = λ other e f. refl;
+        read = λ e. is.read (cc);
+        write = λ e. absurd (is.not_write (cc));
+        long = λ e. is.long (cc);
+        taken = is.called.taken;
+        added = ([], added_nothing (held k));
+        source_later = is.called.later;
+        sink_later = omega arith;
+        sink_fixed = refl;
+      }
+
+  text_as : (text : List ℕ) → IsReady left source_faults (command_of words) s s' text → (bytes : List ℕ) →
+      input_of (is_made (command_of words)) (left s) ≡ Some bytes → text ≡ text_of words bytes
+  unfolding written_text
+  text_as text is bytes e = is.says bytes e
+
+  -- the text stands in the sink
+  pub runs_ok : (k k' : K) (text : List ℕ) → IsReady left source_faults command s s' text →
+      Added (held k) (held k') text → sink_faults k ≤ sink_faults k' → fixed k' ≡ fixed k →
+      Runs left source_faults held sink_faults fixed words s s' k k' None
+  runs_ok k k' text ready added sink_later same =
+      let is = ready_by_words text ready in
+      record {
+        usage = λ word. (λ e. absurd (cc), λ e. absurd (cc));
+        uncalled = λ word e. absurd (cc);
+        unread = is.called.unread;
+        answer = λ bytes e. refused_by_words bytes ∙ is.good bytes e;
+        whole = λ e. is.whole;
+        text = λ bytes e f. subst (Added (held k) (held k')) (text_as text is bytes e) added;
+        manifold = λ bytes e f. is.manifold bytes e;
+        prefix = λ bytes e f. absurd (cc);
+        kept = λ fault e f. absurd (cc);
+        read = λ e. absurd (cc);
+        write = λ e. absurd (cc);
+        long = λ e. absurd (cc);
+        taken = is.called.taken;
+        added = (text, added);
+        source_later = is.called.later;
+        sink_later = sink_later;
+        sink_fixed = same;
+      }
+
+  -- a prefix of the text stands in the sink, whose count rose
+  pub runs_cut : (k k' : K) (text : List ℕ) → IsReady left source_faults command s s' text →
+      AddedPrefix (held k) (held k') text → Rose (sink_faults k) (sink_faults k') → sink_faults k ≤ sink_faults k' →
+      fixed k' ≡ fixed k → Runs left source_faults held sink_faults fixed words s s' k k' (Some Write)
+  runs_cut k k' text ready prefix rose sink_later same =
+      let is = ready_by_words text ready in
+      record {
+        usage = λ word. (λ e. absurd (cc), λ e. absurd (cc));
+        uncalled = λ word e. absurd (cc);
+        unread = is.called.unread;
+        answer = λ bytes e. refused_by_words bytes ∙ is.good bytes e;
+        whole = λ e. is.whole;
+        text = λ bytes e f. absurd (cc);
+        manifold = λ bytes e f. absurd (cc);
+        prefix = λ bytes e f. subst (AddedPrefix (held k) (held k')) (text_as text is bytes e) prefix;
+        kept = λ fault e f. absurd (f (cc));
+        read = λ e. absurd (cc);
+        write = λ e. rose;
+        long = λ e. absurd (cc);
+        taken = is.called.taken;
+        added = (take prefix.0 text, prefix.2);
+        source_later = is.called.later;
+        sink_later = sink_later;
+        sink_fixed = same;
+      }
+
+-- the steps of the command are those of the words
+pub steps_as : (words : List (List ℕ)) (left : Option (List ℕ)) (command : Command) (old new : ℕ) → command ≡ command_of words →
+    ((bytes : List ℕ) → input_of (is_made command) left ≡ Some bytes → new ≤ old + step_limit command (mesh_of command bytes)) →
+    (bytes : List ℕ) → input_of (is_made (command_of words)) left ≡ Some bytes →
+    new ≤ old + step_limit (command_of words) (mesh_of (command_of words) bytes)
+steps_as words left command old new said bound =
+    subst (λ c. (bytes : List ℕ) → input_of (is_made c) left ≡ Some bytes → new ≤ old + step_limit c (mesh_of c bytes)) said bound
 
 -- a status of 0 is that of a run without a fault
 status_not_0 : (fault : Fault) → fault_status fault ≡ 0 → ⊥

@@ -1,4 +1,4 @@
--- What the words that are taken today mean.
+-- What words mean, and what a command writes.
 -- Source: this profile.
 use Rattle.std.specs.Prelude.{ℕ, ◌≡◌, ◌≤◌, List, None, IfSome}
 use Rattle.subdiv_model.specs.Command.{Command, Refine, Stencils, Levels, Gen}
@@ -6,12 +6,12 @@ use Rattle.subdiv_model.specs.ObjMesh.{ObjMesh}
 use Rattle.subdiv_model.specs.Answer.{command_text}
 use Rattle.far_engine.specs.Outcome.{refusal_of_mesh}
 
--- the commands that there are: refinement and the counts of levels, each to a depth of at most 10
+-- what words that are a command say: a depth of at most 10, at most 18 decimals, and a size from 1 to 256
 abbrev pub IsBuiltCommand : Command → Type 0
 IsBuiltCommand (Refine depth decimals uv by tags) = (depth ≤ 10) × IfSome decimals (λ digits. digits ≤ 18)
-IsBuiltCommand (Stencils depth) = ⊥
+IsBuiltCommand (Stencils depth) = depth ≤ 10
 IsBuiltCommand (Levels depth) = depth ≤ 10
-IsBuiltCommand (Gen seed size depth) = ⊥
+IsBuiltCommand (Gen seed size depth) = (1 ≤ size) × (size ≤ 256) × (depth ≤ 10)
 
 -- what a command writes of a mesh
 unfoldable pub written_text : Command → ObjMesh → List ℕ

@@ -4,5 +4,7 @@ pub mod BuiltWords
 pub mod Outcome
 pub mod Levels
 pub mod Refine
+pub mod Tables
 pub mod Runs
+pub mod Replies
 pub use Rattle.subdiv_model.specs.Words

@@ -7,8 +7,8 @@ use Rattle.subdiv_model.specs.Command.{Refine, Uv, By, Tags}
 use Rattle.subdiv_model.specs.ObjMesh.{ObjMesh}
 use Rattle.subdiv_model.specs.Text.{mesh_text}
 use Rattle.subdiv_model.specs.Fault.{Positions}
-use Rattle.subdiv_model.specs.Channel.{Values, channel_faults}
-use Rattle.subdiv_model.specs.Answer.{points_after, positions_of, with_holes, written_tags}
+use Rattle.subdiv_model.specs.Channel.{Asked, channel_faults}
+use Rattle.subdiv_model.specs.Answer.{points_after, positions_of, asked_of, with_holes, written_tags}
 use Rattle.level_topology.specs.Topology.{Topology}
 use Rattle.mesh_text.specs.Points.{points_of, CanBeWritten, IsSamePoint, HasDenominators}
 use Rattle.primvar_refine.specs.declared.valued.Valued.{Valued}
@@ -32,17 +32,17 @@ pub record CanBePut (refined : Refined) : Type 0 where
 abbrev pub control_of : Point3 → Valued Point3
 control_of p = record { value = p; den = 1 }
 
--- No number of the positions passes its bound. This is the level of the mesh at a depth, and these are its points there, over
--- the common denominator.
-pub record AreRefined (mesh : ObjMesh) (depth : ℕ) (level : Topology) (values : List (Valued Point3)) : Type 0 where
-  pub fine : channel_faults Values (positions_of mesh) Positions depth ≡ []
+-- The positions have no fault of those that are asked for. This is the level of the mesh at a depth, and these are its points
+-- there, over the common denominator.
+pub record AreRefined (asked : Asked) (mesh : ObjMesh) (depth : ℕ) (level : Topology) (values : List (Valued Point3)) : Type 0 where
+  pub fine : channel_faults asked (positions_of mesh) Positions depth ≡ []
   pub level_is : level.level ≡ refined_level (base_level mesh) depth
   pub same : AllZip IsSamePoint (points_after mesh depth) (points_of mesh.common values)
   pub positive : All HasDenominators (points_after mesh depth)
   pub written : All (CanBeWritten mesh.common) values
 
 -- besides, the mesh is not refused, and has no texture
-pub record IsRefined (mesh : ObjMesh) (depth : ℕ) (level : Topology) (values : List (Valued Point3)) : Type 0 where
-  pub good : (decimals : Option ℕ) (uv : Uv) (by : By) (tags : Tags) → refusal_of_mesh (Refine depth decimals uv by tags) mesh ≡ None
+pub record IsRefined (by : By) (mesh : ObjMesh) (depth : ℕ) (level : Topology) (values : List (Valued Point3)) : Type 0 where
+  pub good : (decimals : Option ℕ) (uv : Uv) (tags : Tags) → refusal_of_mesh (Refine depth decimals uv by tags) mesh ≡ None
   pub plain : mesh.has_texture ≡ false
-  pub points : AreRefined mesh depth level values
+  pub points : AreRefined (asked_of by) mesh depth level values

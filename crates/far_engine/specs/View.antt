@@ -8,7 +8,9 @@ use Rattle.level_counts.specs.Counts.{levels_lines}
 use Rattle.level_counts.specs.View.{seen_counts}
 use Rattle.far_engine.specs.Refine.{CanBePut, refined_text}
 use Rattle.far_engine.specs.declared.reply.Reply.{Reply}
-use Rattle.far_engine.specs.declared.reply.Reply.TheVariants.{Refined, Counted}
+use Rattle.far_engine.specs.declared.reply.Reply.TheVariants.{Refined, Composed, Counted, Made}
+use Rattle.table_text.specs.Text.{text_of_table}
+use Rattle.table_text.specs.Summary.{CanBeTold, summary_text}
 use Rattle.far_engine.specs.declared.overflow.Track.{Track}
 use Rattle.far_engine.specs.declared.overflow.Track.TheVariants.{Positions, Texture}
 use Rattle.far_engine.specs.declared.overflow.OverflowKind.{OverflowKind}
@@ -41,12 +43,16 @@ fault_of Memory = model.Memory
 -- the text of a reply
 abbrev pub reply_text : Reply → List ℕ
 reply_text (Refined refined) = refined_text refined
+reply_text (Composed table) = text_of_table table
 reply_text (Counted counts) = levels_lines 0 (map seen_counts counts.items)
+reply_text (Made summary) = summary_text summary
 
 -- all of it can be written
 abbrev pub CanPut : Reply → Type 0
 CanPut (Refined refined) = CanBePut refined
+CanPut (Composed table) = Unit {0}
 CanPut (Counted counts) = Unit {0}
+CanPut (Made summary) = CanBeTold summary
 
 -- the fault of a run, where it has one
 abbrev pub outcome_of : Result (Unit {0}) FarFault → Option model.Fault

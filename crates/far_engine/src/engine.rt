@@ -1,16 +1,19 @@
-ghost use Rattle.std.specs.Prelude.{◌≡◌, ◌+◌, ◌≤◌, List, ℕ, map, Option, Some, OnOk, string_bytes};
+ghost use Rattle.std.specs.Prelude.{◌≡◌, ◌+◌, ◌≤◌, List, ℕ, false, map, Option, Some, string_bytes, IfOk, MatchResult, OnOk};
 ghost use Rattle.subdiv_model.specs.Command.{command_of};
-ghost use Rattle.subdiv_model.specs.ReadObj.{read_obj_mesh};
 ghost use Rattle.subdiv_model.specs.Fault.{Fault, outcome_status};
-ghost use Rattle.far_engine.specs.Outcome.{step_limit, least_steps};
+ghost use Rattle.far_words.specs.View.{command_of_code};
+ghost use Rattle.far_engine.specs.BuiltWords.{IsBuiltCommand};
+ghost use Rattle.far_engine.specs.Outcome.{is_made, input_of, mesh_of, step_limit, least_steps};
+ghost use Rattle.far_engine.specs.Replies.{IsReady, IsRefused};
 ghost use Rattle.far_engine.specs.Runs.{Runs, Reports};
-ghost use Rattle.far_engine.specs.View.{outcome_of};
+ghost use Rattle.far_engine.specs.View.{CanPut, fault_of, outcome_of, reply_text};
 
 use crate::fault::{FarFault, report, status};
+use crate::made::reply_to_made;
 use crate::output::put_reply;
-use crate::reply::reply_to;
+use crate::reply::{Reply, reply_to};
 use far_io::{InputFault, Sink, Source, WriteFailed, read_all};
-use far_words::read_built_words;
+use far_words::{Command, read_words};
 use ratio128::Steps;
 use std::alloc::Global;
 use std::sync::ledger::Ledger;
@@ -18,13 +21,72 @@ use std::sync::ledger::Ledger;
 // How many bytes an input may have.
 const LIMIT: usize = 1 << 28;
 
-/// Does what the words ask for: reads the source to its end, and writes the answer into the sink.
+// What a command that reads writes of a source, which is read to its end.
+fn reply_to_source<S: Source, L: Ledger>(
+    alloc: Global,
+    command: &Command,
+    source: &mut S,
+    steps: &mut Steps<L>,
+) -> Result<Reply, FarFault>
+    requires read { is_made (command_of_code command.now) ≡ false }
+    requires built { IsBuiltCommand (command_of_code command.now) }
+    ensures reply { MatchResult result (λ reply. IsReady S.left S.faults (command_of_code command.now) source.old source.new (reply_text reply))
+        (λ fault. IsRefused S.left S.faults (command_of_code command.now) source.old source.new (fault_of fault)) }
+    ensures put { IfOk result (λ reply. CanPut reply) }
+    ensures steps { (bytes : List ℕ) → input_of (is_made (command_of_code command.now)) (S.left source.old) ≡ Some bytes
+        → steps.new ≤ steps.old + step_limit (command_of_code command.now) (mesh_of (command_of_code command.now) bytes) }
+    ensures taken { (bytes : List ℕ) → input_of (is_made (command_of_code command.now)) (S.left source.old) ≡ Some bytes
+        → OnOk result (steps.old + least_steps (command_of_code command.now) (mesh_of (command_of_code command.now) bytes) ≤ steps.new) }
+    ensures later { steps.old ≤ steps.new }
+{
+    let bytes = match read_all(alloc, source, LIMIT) {
+        Ok(bytes) => bytes,
+        Err(InputFault::Read) => return Err(FarFault::Read),
+        Err(InputFault::Long) => return Err(FarFault::Long),
+        Err(InputFault::Memory) => return Err(FarFault::Memory),
+    };
+    reply_to(alloc, command, &bytes, steps)
+}
+
+// What a command writes: of a mesh that it makes by itself, and then the source is not called, or of the source.
+fn reply_of<S: Source, L: Ledger>(
+    alloc: Global,
+    command: &Command,
+    source: &mut S,
+    steps: &mut Steps<L>,
+) -> Result<Reply, FarFault>
+    requires { IsBuiltCommand (command_of_code command.now) }
+    ensures reply { MatchResult result (λ reply. IsReady S.left S.faults (command_of_code command.now) source.old source.new (reply_text reply))
+        (λ fault. IsRefused S.left S.faults (command_of_code command.now) source.old source.new (fault_of fault)) }
+    ensures put { IfOk result (λ reply. CanPut reply) }
+    ensures steps { (bytes : List ℕ) → input_of (is_made (command_of_code command.now)) (S.left source.old) ≡ Some bytes
+        → steps.new ≤ steps.old + step_limit (command_of_code command.now) (mesh_of (command_of_code command.now) bytes) }
+    ensures taken { (bytes : List ℕ) → input_of (is_made (command_of_code command.now)) (S.left source.old) ≡ Some bytes
+        → OnOk result (steps.old + least_steps (command_of_code command.now) (mesh_of (command_of_code command.now) bytes) ≤ steps.new) }
+    ensures later { steps.old ≤ steps.new }
+{
+    match *command {
+        Command::Gen { seed, size, depth } => reply_to_made(alloc, seed, size, depth, steps),
+        Command::Refine { .. } | Command::Stencils { .. } | Command::Levels { .. } => {
+            reply_to_source(alloc, command, source, steps)
+        }
+    }
+}
+
+/// Does what the words ask for: reads the source to its end, unless the command makes its mesh by itself, and writes the
+/// answer into the sink.
 ///
-/// `words` are the words after the program's name, and the input is the OBJ text of a mesh (see `docs/formats.md`). Today
-/// two commands are built: `refine` with all its options, of a mesh without texture, and `levels`, each to a depth of at
-/// most 10. `refine` goes level by level by Catmull and Clark's scheme, whatever `by` says. It answers the points and faces
-/// of the last level, each coordinate a fraction in lowest terms or rounded to the decimals that are asked for, and under
-/// `tags=yes` the tags that give this level again. `levels` answers a line with the counts of each level.
+/// `words` are the words after the program's name: a command and its options, with a depth of at most 10. `refine`,
+/// `stencils` and `levels` read the OBJ text of a mesh (see `docs/formats.md`); `gen` makes a sheet of quads from its seed,
+/// and never calls the source. All go by Catmull and Clark's scheme.
+///
+/// - `refine`, of a mesh without texture, answers the points and faces of the last level, each coordinate a fraction in
+///   lowest terms or rounded to the decimals that are asked for, and under `tags=yes` the tags that give this level again. It
+///   composes the table of the last level and applies it once to the points; under `by=level` it goes level by level, and has
+///   no limit on entries.
+/// - `stencils` answers the table of the last level: of each point, the control points that it depends on and how much of each.
+/// - `levels` answers a line with the counts of each level.
+/// - `gen` answers the counts of the sheet and of its last level, and the last point there, by a table as well.
 ///
 /// Every refusal is found, and all memory is taken, before anything is written. `Usage` comes exactly where the words are no
 /// command. Of a source that tells its bytes, `Long` comes only where more than 2^28 bytes came, and `Obj` only where a line
@@ -36,14 +98,16 @@ const LIMIT: usize = 1 << 28;
 ///   the first such count;
 /// - under `refine`, `NotBuilt` with line 0 where the mesh has texture;
 /// - `Overflow` of the positions, with the first level, from 1, at which a number passes its bound, and the first such
-///   number there: the denominator of the half of an edge under `chaikin`, and under `refine` after it that of the weight
+///   number there: the denominator of the half of an edge under `chaikin`, and but for `levels` after it that of the weight
 ///   between two rules, the common denominator of a point, and the greatest one times the greatest control numerator or the
-///   channel's own denominator.
+///   channel's own denominator. Where a table is composed, its entries come before that product, with `TooLarge` for more than
+///   2^27 at a level.
 ///
 /// Such words and bytes are answered so, unless `Read` or `Memory` comes first. `Read` and `Write` come only where the count
 /// of faults of the source or the sink rose, and `Memory` may come at any time after good words. After `Write` the sink holds
-/// what it held and a prefix of the answer. It takes at most one step for each face of the levels that it makes, and under
-/// `refine` one more for each mask term and for each control point; a refinement that is answered took one for each mask term.
+/// what it held and a prefix of the answer. It takes at most one step for each face of the levels that it makes, and besides
+/// under `refine` and `gen` one for each entry of the last table, or under `by=level` one for each mask term and for each
+/// control point. What is answered took one for each entry, or for each mask term.
 pub fn run<S: Source, K: Sink, L: Ledger>(
     alloc: Global,
     words: &Vec<String>,
@@ -53,23 +117,17 @@ pub fn run<S: Source, K: Sink, L: Ledger>(
 ) -> Result<(), FarFault>
     ensures run { Runs S.left S.faults K.held K.faults K.fixed (map string_bytes words.now.items)
         source.old source.new sink.old sink.new (outcome_of result) }
-    ensures steps { (bytes : List ℕ) → S.left source.old ≡ Some bytes
-        → steps.new ≤ steps.old + step_limit (command_of (map string_bytes words.now.items)) (read_obj_mesh bytes 0) }
-    ensures taken { (bytes : List ℕ) → S.left source.old ≡ Some bytes
-        → OnOk result (steps.old + least_steps (command_of (map string_bytes words.now.items)) (read_obj_mesh bytes 0) ≤ steps.new) }
+    ensures steps { (bytes : List ℕ) → input_of (is_made (command_of (map string_bytes words.now.items))) (S.left source.old) ≡ Some bytes
+        → steps.new ≤ steps.old + step_limit (command_of (map string_bytes words.now.items)) (mesh_of (command_of (map string_bytes words.now.items)) bytes) }
+    ensures taken { (bytes : List ℕ) → input_of (is_made (command_of (map string_bytes words.now.items))) (S.left source.old) ≡ Some bytes
+        → OnOk result (steps.old + least_steps (command_of (map string_bytes words.now.items)) (mesh_of (command_of (map string_bytes words.now.items)) bytes) ≤ steps.new) }
     ensures later { steps.old ≤ steps.new }
 {
-    let command = match read_built_words(words) {
+    let command = match read_words(words) {
         Ok(command) => command,
         Err(word) => return Err(FarFault::Usage { word }),
     };
-    let bytes = match read_all(alloc, source, LIMIT) {
-        Ok(bytes) => bytes,
-        Err(InputFault::Read) => return Err(FarFault::Read),
-        Err(InputFault::Long) => return Err(FarFault::Long),
-        Err(InputFault::Memory) => return Err(FarFault::Memory),
-    };
-    let reply = match reply_to(alloc, &command, &bytes, steps) {
+    let reply = match reply_of(alloc, &command, source, steps) {
         Ok(reply) => reply,
         Err(fault) => return Err(fault),
     };
@@ -117,10 +175,10 @@ pub fn program<S: Source, K: Sink, E: Sink, L: Ledger>(
         × Reports E.held E.faults errors.old errors.new outcome }
     ensures later { E.faults errors.old ≤ E.faults errors.new }
     ensures fixed { E.fixed errors.new ≡ E.fixed errors.old }
-    ensures steps { (bytes : List ℕ) → S.left source.old ≡ Some bytes
-        → steps.new ≤ steps.old + step_limit (command_of (map string_bytes words.now.items)) (read_obj_mesh bytes 0) }
-    ensures taken { (bytes : List ℕ) → S.left source.old ≡ Some bytes → result ≡ 0
-        → steps.old + least_steps (command_of (map string_bytes words.now.items)) (read_obj_mesh bytes 0) ≤ steps.new }
+    ensures steps { (bytes : List ℕ) → input_of (is_made (command_of (map string_bytes words.now.items))) (S.left source.old) ≡ Some bytes
+        → steps.new ≤ steps.old + step_limit (command_of (map string_bytes words.now.items)) (mesh_of (command_of (map string_bytes words.now.items)) bytes) }
+    ensures taken { (bytes : List ℕ) → input_of (is_made (command_of (map string_bytes words.now.items))) (S.left source.old) ≡ Some bytes → result ≡ 0
+        → steps.old + least_steps (command_of (map string_bytes words.now.items)) (mesh_of (command_of (map string_bytes words.now.items)) bytes) ≤ steps.new }
     ensures steps_later { steps.old ≤ steps.new }
 {
     conclude(run(alloc, words, source, sink, steps), errors)

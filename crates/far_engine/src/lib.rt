@@ -4,11 +4,13 @@
 mod engine;
 mod fault;
 mod levels;
+mod made;
 mod output;
 mod overflow;
 mod piece;
 mod refine;
 mod reply;
+mod stencils;
 
 pub use engine::{program, run};
 pub use fault::{FarFault, report, status};

@@ -16,6 +16,7 @@ use itoa::Buffer;
 use level_counts::put_levels;
 use mesh_text::{put_mesh, put_tags};
 use obj_out::Out;
+use table_text::{put_summary, put_table};
 
 // Whether faces that are holes are written: where the tags are.
 fn has_holes(tags: Tags) -> bool
@@ -65,7 +66,9 @@ fn put_text<K: Sink>(out: &mut Out<'_, K>, reply: &Reply) -> Result<(), WriteFai
 {
     match reply {
         Reply::Refined(refined) => put_refined(out, refined),
+        Reply::Composed(table) => put_table(out, table),
         Reply::Counted(counts) => put_levels(out, counts),
+        Reply::Made(summary) => put_summary(out, summary),
     }
 }
 

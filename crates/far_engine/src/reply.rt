@@ -1,32 +1,39 @@
 //! What a command writes, found before anything is written.
 
-ghost use Rattle.std.specs.Prelude.{◌≡◌, ◌+◌, ◌≤◌, ◌^◌, length, None, IfOk, MatchResult, OnOk};
+ghost use Rattle.std.specs.Prelude.{◌≡◌, ◌+◌, ◌≤◌, ◌^◌, false, length, None, IfOk, MatchResult, OnOk};
 ghost use Rattle.std.specs.List.{All};
 ghost use Rattle.obj_tags.specs.Laws.{IsWithin};
 ghost use Rattle.reading_laws.specs.Short.{IsShortPoint};
 ghost use Rattle.subdiv_model.specs.ReadObj.{read_obj_mesh};
 ghost use Rattle.far_words.specs.View.{command_of_code};
 ghost use Rattle.far_engine.specs.BuiltWords.{IsBuiltCommand, IsWritten, written_text};
-ghost use Rattle.far_engine.specs.Outcome.{refusal_of_mesh, refusal_of_obj, step_limit, least_steps, IsFound};
+ghost use Rattle.far_engine.specs.Outcome.{is_made, refusal_of_mesh, refusal_of_obj, step_limit, least_steps, IsFound};
 ghost use Rattle.far_engine.specs.View.{CanPut, fault_of, reply_text};
 
 use crate::fault::FarFault;
 use crate::levels::count_levels;
 use crate::refine::{Refined, refine};
+use crate::stencils::stencils;
 use far_words::Command;
 use level_counts::LevelCounts;
 use obj_tags::{ObjFault, RawMesh, ReadFault, read_obj};
 use ratio128::Steps;
 use std::alloc::Global;
 use std::sync::ledger::Ledger;
+use stencil_apply::StencilTable;
+use table_text::Summary;
 
 /// What a command writes, with every refusal found and all memory taken.
 #[derive(Drop)]
 pub(crate) enum Reply {
     /// A refined mesh.
     Refined(Refined),
+    /// The table of a mesh.
+    Composed(StencilTable),
     /// The counts of the levels from 0 on.
     Counted(Vec<LevelCounts>),
+    /// What is told of a sheet that the program makes.
+    Made(Summary),
 }
 
 // What a command writes of a mesh that was read.
@@ -37,6 +44,7 @@ fn reply_to_mesh<L: Ledger>(
     steps: &mut Steps<L>,
 ) -> Result<Reply, FarFault>
     requires built { IsBuiltCommand (command_of_code command.now) }
+    requires read { is_made (command_of_code command.now) ≡ false }
     requires within { IsWithin mesh.now }
     requires short { All IsShortPoint mesh.now.points }
     ensures reply { MatchResult result (λ reply. IsWritten (command_of_code command.now) mesh.now (reply_text reply))
@@ -50,11 +58,13 @@ fn reply_to_mesh<L: Ledger>(
         Command::Refine {
             depth,
             decimals,
+            by,
             tags,
             ..
-        } => Ok(Reply::Refined(refine(alloc, mesh, *depth, *decimals, *tags, steps)?)),
+        } => Ok(Reply::Refined(refine(alloc, mesh, *depth, *decimals, *by, *tags, steps)?)),
+        Command::Stencils { depth } => Ok(Reply::Composed(stencils(alloc, mesh, *depth, steps)?)),
         Command::Levels { depth } => Ok(Reply::Counted(count_levels(alloc, mesh, *depth, steps)?)),
-        Command::Stencils { .. } | Command::Gen { .. } => unreachable!(),
+        Command::Gen { .. } => unreachable!(),
     }
 }
 
@@ -66,6 +76,7 @@ pub(crate) fn reply_to<L: Ledger>(
     steps: &mut Steps<L>,
 ) -> Result<Reply, FarFault>
     requires built { IsBuiltCommand (command_of_code command.now) }
+    requires read { is_made (command_of_code command.now) ≡ false }
     requires short { length bytes.now ≤ 2 ^ 28 }
     ensures reply { MatchResult result (λ reply. (refusal_of_obj (command_of_code command.now) bytes.now ≡ None) × (reply_text reply ≡ written_text (command_of_code command.now) (read_obj_mesh bytes.now 0)))
         (λ fault. IsFound (fault_of fault) (refusal_of_obj (command_of_code command.now) bytes.now)) }

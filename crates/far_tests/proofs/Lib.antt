@@ -1,3 +1,4 @@
 mod SureLemmas
 mod ControlLemmas
 mod RowLemmas
+mod StepLemmas

@@ -1,11 +1,14 @@
 -- A sink with room for a text does not fail.
-use Rattle.std.proofs.Common.{◌≡◌, ℕ, ◌+◌, ◌<◌, List, length, take, Some, arith, inl, inr, ap, length-append, length-take-le, subst, ◌∙◌}
+use Rattle.std.proofs.Common.{◌≡◌, ℕ, ◌+◌, ◌<◌, Bool, true, false, List, [], length, take, Some, arith, inl, inr, refl, ap, length-append, length-take-le, subst, ◌∙◌}
 use Rattle.std.proofs.lemmas.Bool.Decides.{nat_tests}
 use Rattle.far_io.specs.Memory.{SureOutput, sure_faults}
 use Rattle.far_io.specs.Bytes.{Rose, AddedPrefix}
+use Rattle.subdiv_model.specs.Command.{Command, Refine, Stencils, Levels, Gen, command_of}
+use Rattle.subdiv_model.specs.Answer.{command_text}
+use Rattle.far_engine.specs.Outcome.{is_made, input_of, mesh_of, text_of}
 
 -- no count is above 0 and has risen to 0
-not_to_zero : (before : ℕ) → Rose before 0 → ⊥
+pub not_to_zero : (before : ℕ) → Rose before 0 → ⊥
 not_to_zero before (inl h) = omega arith
 not_to_zero before (inr h) = omega arith
 
@@ -22,3 +25,27 @@ no_write text before after fits same prefix rose =
     let room : length after.store.held < after.store.room = omega (arith, length-take-le prefix.0 text) in
     let P : ℕ → Type 0 = λ n. Rose (sure_faults before) n in
     not_to_zero (sure_faults before) (subst P (no_faults after room) rose)
+
+-- a mesh that is made does not depend on the bytes of a source
+made-mesh : (command : Command) (bytes other : List ℕ) → is_made command ≡ true → mesh_of command bytes ≡ mesh_of command other
+made-mesh (Refine depth decimals uv by tags) bytes other h = absurd (cc)
+made-mesh (Stencils depth) bytes other h = absurd (cc)
+made-mesh (Levels depth) bytes other h = absurd (cc)
+made-mesh (Gen seed size depth) bytes other h = refl
+
+-- what a run has of a source that tells its bytes, with the text that they have
+pub record HasInput (words : List (List ℕ)) (bytes : List ℕ) : Type 0 where
+  pub input : List ℕ
+  pub is : input_of (is_made (command_of words)) (Some bytes) ≡ Some input
+  pub same : text_of words input ≡ text_of words bytes
+
+pub has-input : (words : List (List ℕ)) (bytes : List ℕ) → HasInput words bytes
+has-input words bytes = go (is_made (command_of words)) refl
+  where
+    go : (made : Bool) → is_made (command_of words) ≡ made → HasInput words bytes
+    go true e = record {
+      input = [];
+      is = ap (λ made. input_of made (Some bytes)) e;
+      same = ap (command_text (command_of words)) (made-mesh (command_of words) [] bytes e);
+    }
+    go false e = record { input = bytes; is = ap (λ made. input_of made (Some bytes)) e; same = refl }

@@ -67,7 +67,7 @@ fn is_control(p: &Valued<Point3>, greatest: u128) -> bool
 }
 
 // Asserts that a level has few points.
-fn assert_few(rt: &impl Abort, level: &Level)
+pub fn assert_few(rt: &impl Abort, level: &Level)
     ensures { level.now.level.point_count ≤ 2 ^ 20 }
 {
     assert!(rt; level.points() <= 1 << 20);

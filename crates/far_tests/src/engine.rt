@@ -5,7 +5,7 @@ ghost use Rattle.far_engine.specs.declared.fault.FarFault.TheVariants.{Read, Wri
 ghost use Rattle.far_engine.specs.Outcome.{text_of};
 
 use crate::expect::expect_same;
-use crate::inputs::{LEVELS, REFINE, TRIANGLES, TRIANGLES_REFINED};
+use crate::inputs::{GEN, LEVELS, REFINE, SHEET, TRIANGLES, TRIANGLES_REFINED};
 use far_engine::{FarFault, program, run};
 use far_io::{MemSink, MemSource, SureSink, SureSource};
 use ratio128::{Memory, Steps};
@@ -178,6 +178,19 @@ const FAILED_CALLS: &[FailedCalls] = &[
         10,
         "far: writing failed\n",
         "level 0 point",
+    ),
+    // A sheet that the program makes needs no input.
+    (GEN, 0, 9, 9, 4096, 0, "", SHEET),
+    (GEN, 0, 0, 9, 4096, 10, "far: writing failed\n", ""),
+    (
+        GEN,
+        0,
+        9,
+        9,
+        12,
+        10,
+        "far: writing failed\n",
+        "gen points 4",
     ),
 ];
 

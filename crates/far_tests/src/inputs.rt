@@ -90,9 +90,37 @@ pub const SQUARE_IN_DECIMALS: &str =
     "v 0.50 0.50 0.00\nv 3.50 0.50 0.00\nv 3.50 3.50 0.00\nv 0.50 3.50 0.00\nv 2.00 2.00 0.00\nv 2.00 0.00 0.00\n\
     v 4.00 2.00 0.00\nv 2.00 4.00 0.00\nv 0.00 2.00 0.00\nf 1 6 5 9\nf 2 7 5 6\nf 3 8 5 7\nf 4 9 5 8\n";
 
+// The table of the square after one step, and what is told of two sheets.
+pub const SQUARE_TABLE: &str = "\
+    table controls 4 rows 9 entries 24\n\
+    s 8 0 6 1 1 3 1\n\
+    s 8 0 1 1 6 2 1\n\
+    s 8 1 1 2 6 3 1\n\
+    s 8 0 1 2 1 3 6\n\
+    s 4 0 1 1 1 2 1 3 1\n\
+    s 2 0 1 1 1\n\
+    s 2 1 1 2 1\n\
+    s 2 2 1 3 1\n\
+    s 2 0 1 3 1\n";
+
+pub const SHEET_OF_NINE: &str = "\
+    gen points 16 faces 9\n\
+    level 0 points 16 faces 9 entries 16 den 1\n\
+    last 30 30 0\n";
+
+pub const SHEET_OF_SIXTEEN: &str = "\
+    gen points 25 faces 16\n\
+    level 2 points 289 faces 256 entries 1763 den 8192\n\
+    last 65/2 40 69/16\n";
+
 pub const REFINE: &str = "refine depth=1";
 
 pub const LEVELS: &str = "levels depth=0";
+
+pub const GEN: &str = "gen seed=0 size=1 depth=1";
+
+pub const SHEET: &str =
+    "gen points 4 faces 1\nlevel 1 points 9 faces 4 entries 24 den 8\nlast 0 5 3\n";
 
 pub const CUBE_LEVEL: &str =
     "level 0 points 8 edges 12 faces 6 euler 2 boundary 0 holes 0 sharp 0 extraordinary 8\n";

@@ -6,6 +6,8 @@ mod channels;
 #[cfg(test)]
 mod checks;
 #[cfg(test)]
+mod composed;
+#[cfg(test)]
 mod engine;
 #[cfg(test)]
 mod expect;

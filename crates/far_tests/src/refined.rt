@@ -102,6 +102,20 @@ const REFINED: &[Run] = &[
         SQUARE_OF_CORNERS_REFINED,
     ),
     (
+        "refine depth=1 by=level",
+        SQUARE,
+        "",
+        Ok(()),
+        SQUARE_REFINED,
+    ),
+    (
+        "refine depth=2 by=level",
+        TRIANGLES,
+        "",
+        Ok(()),
+        TRIANGLES_REFINED_TWICE,
+    ),
+    (
         REFINE,
         SQUARE,
         "t interpolateboundary 1/0/0 0",

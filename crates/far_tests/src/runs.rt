@@ -3,8 +3,8 @@
 use crate::engine::run_alone;
 use crate::expect::expect_same;
 use crate::inputs::{
-    CUBE, CUBE_LEVEL, GREAT_CUBE, GREATER_CUBE, LEVELS, OTHER_CUBE, REFINE, SQUARE,
-    TEXTURED_TRIANGLES, TRIANGLES,
+    CUBE, CUBE_LEVEL, GEN, GREAT_CUBE, GREATER_CUBE, LEVELS, OTHER_CUBE, REFINE, SHEET,
+    SHEET_OF_NINE, SHEET_OF_SIXTEEN, SQUARE, SQUARE_TABLE, TEXTURED_TRIANGLES, TRIANGLES,
 };
 use far_engine::{FarFault, OverflowKind, Track};
 use level_topology::Counted;
@@ -56,10 +56,10 @@ const REFUSED: &[Run] = &[
         "",
     ),
     (
-        "stencils depth=1",
+        "gen seed=1 depth=1",
         "",
         "",
-        Err(FarFault::Usage { word: 0 }),
+        Err(FarFault::Usage { word: 3 }),
         "",
     ),
     (
@@ -125,6 +125,37 @@ const REFUSED: &[Run] = &[
         "",
     ),
     (REFINE, GREATER_CUBE, "", Err(overflow!(1, Value)), ""),
+    (
+        "refine depth=1 by=level",
+        GREATER_CUBE,
+        "",
+        Err(overflow!(1, Value)),
+        "",
+    ),
+    (
+        "stencils depth=1",
+        GREATER_CUBE,
+        "",
+        Err(overflow!(1, Value)),
+        "",
+    ),
+    (
+        "stencils depth=2",
+        SQUARE,
+        "f 1 2",
+        Err(FarFault::Mesh(MeshFault::FaceTooSmall(1))),
+        "",
+    ),
+    (
+        "gen seed=1 size=256 depth=4",
+        CUBE,
+        "",
+        Err(FarFault::TooLarge(Counted::LevelFaces {
+            level: 4,
+            count: 16777216,
+        })),
+        "",
+    ),
     (
         "refine depth=2 tags=yes",
         GREAT_CUBE,
@@ -248,6 +279,52 @@ fn counted() -> &'static [Run] {
     COUNTED
 }
 
+// Tables of meshes, and of sheets that the program makes by itself.
+const COMPOSED: &[Run] = &[
+    (
+        "stencils depth=0",
+        SQUARE,
+        "",
+        Ok(()),
+        "table controls 4 rows 4 entries 4\ns 1 0 1\ns 1 1 1\ns 1 2 1\ns 1 3 1\n",
+    ),
+    ("stencils depth=1", SQUARE, "", Ok(()), SQUARE_TABLE),
+    (
+        "stencils depth=1",
+        SQUARE,
+        "vt 0 0\nt hole 1/0/0 0",
+        Ok(()),
+        SQUARE_TABLE,
+    ),
+    (
+        "stencils depth=3",
+        "v 7 8 9\n",
+        "",
+        Ok(()),
+        "table controls 1 rows 1 entries 1\ns 1 0 1\n",
+    ),
+    (
+        "stencils depth=10",
+        "",
+        "",
+        Ok(()),
+        "table controls 0 rows 0 entries 0\n",
+    ),
+    (GEN, "f 1", "", Ok(()), SHEET),
+    ("gen size=3 depth=0 seed=7", "", "", Ok(()), SHEET_OF_NINE),
+    (
+        "gen depth=2 size=4 seed=7",
+        "",
+        "",
+        Ok(()),
+        SHEET_OF_SIXTEEN,
+    ),
+];
+
+fn composed() -> &'static [Run] {
+    COMPOSED
+}
+
 pub fn expect_runs(rt: &(impl Abort + AllocGlobal), runs: &[Run]) -> Result<(), Fail> {
     for row in runs {
         let &(text, mesh, line, answer, written) = row;
@@ -266,4 +343,9 @@ fn refuses_words_and_texts(rt: HostRuntime) -> Result<(), Fail> {
 #[test]
 fn counts_levels(rt: HostRuntime) -> Result<(), Fail> {
     expect_runs(&rt, counted())
+}
+
+#[test]
+fn writes_tables(rt: HostRuntime) -> Result<(), Fail> {
+    expect_runs(&rt, composed())
 }

@@ -18,7 +18,7 @@ use std::test::Fail;
 use stencil_apply::{Entry, StencilTable, TableBuilder, apply_range, scale_fits};
 
 // The greatest denominator, and the greatest numerator over it.
-const NUMBER_BOUND: u128 = (1 << 126) - 1;
+pub const NUMBER_BOUND: u128 = (1 << 126) - 1;
 
 // A row: its denominator, and its control points with their numerators.
 type Row = (u128, Vec<Entry>);
@@ -114,7 +114,7 @@ fn table_of(rt: &impl Abort, alloc: Global, text: &str) -> Result<StencilTable, 
 }
 
 // A row with its end of line, as it is read back.
-fn put_row(alloc: Global, text: &mut String, table: &StencilTable, row: u32) -> Result<(), Fail>
+pub fn put_row(alloc: Global, text: &mut String, table: &StencilTable, row: u32) -> Result<(), Fail>
     requires { row < length table.now.rows }
 {
     text.push_str(format!(in alloc; "{}", table.denominator(row))?.as_str())?;
@@ -136,7 +136,7 @@ fn text_of(alloc: Global, table: &StencilTable) -> Result<String, Fail> {
 }
 
 // Control points, rows, entries, and the greatest denominator.
-fn counts_of(table: &StencilTable) -> (u32, u32, u64, u128) {
+pub fn counts_of(table: &StencilTable) -> (u32, u32, u64, u128) {
     (
         table.controls(),
         table.rows(),
@@ -191,7 +191,7 @@ fn is_fit(table: &StencilTable, p: &Point3) -> bool
 }
 
 // Asserts that the table can be evaluated over each control.
-fn assert_fits(rt: &impl Abort, table: &StencilTable, controls: &[Point3])
+pub fn assert_fits(rt: &impl Abort, table: &StencilTable, controls: &[Point3])
     ensures { All (λ p. greatest_of table.now * greatest_amount (p.x ∷ p.y ∷ p.z ∷ []) ≤ number_bound) controls.now }
 {
     let are_fit = controls.iter().all(|p| is_fit(table, p));

@@ -1,7 +1,7 @@
 // The words of a command line: the commands that they say, and the places of bad words.
 
 use crate::expect::expect_same;
-use far_words::{By, Command, Tags, Uv, read_built_words, read_words};
+use far_words::{By, Command, Tags, Uv, read_words};
 use std::alloc::Global;
 use std::test::Fail;
 
@@ -182,49 +182,5 @@ fn refuses_words(rt: HostRuntime) -> Result<(), Fail> {
     }
     let none = Vec::new(rt.alloc());
     expect_same(&rt, &read_words(&none), &Err(0), &"no word");
-    Ok(())
-}
-
-// Words, and the command that they say or the place of the first bad one, where two commands are built.
-const BUILT: &[(&'static str, Result<Command, u32>)] = &[
-    ("refine|depth=0", Ok(refine!(0))),
-    ("refine|depth=10", Ok(refine!(10))),
-    ("refine|uv=smooth|depth=1|by=table|tags=no", Ok(refine!(1))),
-    (
-        "refine|tags=yes|by=level|depth=3|decimals=18|uv=linear",
-        Ok(Command::Refine {
-            depth: 3,
-            decimals: Some(18),
-            uv: Uv::Linear,
-            by: By::Level,
-            tags: Tags::Yes,
-        }),
-    ),
-    ("refine", Err(1)),
-    ("refine|depth=11", Err(1)),
-    ("refine|depth=1|depth=1", Err(2)),
-    ("refine|depth=1|decimals=19", Err(2)),
-    ("refine|tags=yes|decimals=3", Err(3)),
-    ("levels|depth=0", Ok(Command::Levels { depth: 0 })),
-    ("levels|depth=10", Ok(Command::Levels { depth: 10 })),
-    ("levels|depth=11", Err(1)),
-    ("levels|depth=1|tags=yes", Err(2)),
-    ("levels", Err(1)),
-    ("stencils|depth=0", Err(0)),
-    ("gen|seed=0|size=1|depth=0", Err(0)),
-    ("", Err(0)),
-];
-
-fn built() -> &'static [(&'static str, Result<Command, u32>)] {
-    BUILT
-}
-
-#[test]
-fn reads_what_is_built(rt: HostRuntime) -> Result<(), Fail> {
-    for row in built() {
-        let &(text, want) = row;
-        let words = words_of(rt.alloc(), text)?;
-        expect_same(&rt, &read_built_words(&words), &want, row);
-    }
     Ok(())
 }

@@ -1,79 +1,36 @@
-use Rattle.std.proofs.Common.{map, string_bytes, Err, ap, sym, subst}
+use Rattle.std.proofs.Common.{map, string_bytes, sym, subst}
 use Rattle.far_engine.specs.BuiltWords.{IsBuiltCommand}
 use Rattle.far_engine.proofs.WordsLemmas.{understood, said, says-built}
-use Rattle.far_engine.proofs.RunLemmas.{WasRead, runs_ok, runs_cut, runs_long, runs_found, steps_as, taken_as}
+use Rattle.far_engine.proofs.RunLemmas.{runs_ok, runs_cut, runs_refused, steps_as}
 use Rattle.far_engine.proofs.engine.run.Goals as goal
+
+pub reply_of-requires : goal.reply_of-requires
+reply_of-requires g c =
+    let words = map string_bytes c.args.words.now.items in
+    subst IsBuiltCommand (sym (said words _ _ c.read_words.ensures c.in-Ok.is)) (says-built words (understood words _ _ c.read_words.ensures c.in-Ok.is))
+
+pub returns-in-Err-reply_of-clause-run : goal.returns-in-Err-reply_of-clause-run
+returns-in-Err-reply_of-clause-run g c =
+    let words = map string_bytes c.args.words.now.items in
+    let good = understood words _ _ c.read_words.ensures c.in-Ok.is in
+    let said = said words _ _ c.read_words.ensures c.in-Ok.is in
+    runs_refused _ _ _ _ _ words _ _ _ good said _ _ c.in-Err-reply_of.ensures.reply
+
+pub returns-in-Err-reply_of-clause-steps : goal.returns-in-Err-reply_of-clause-steps
+returns-in-Err-reply_of-clause-steps g c =
+    let words = map string_bytes c.args.words.now.items in
+    steps_as words _ _ _ _ (said words _ _ c.read_words.ensures c.in-Ok.is) c.reply_of.ensures.steps
 
 pub returns-in-Ok-put_reply-clause-run : goal.returns-in-Ok-put_reply-clause-run
 returns-in-Ok-put_reply-clause-run g c =
-    let command = understood (map string_bytes c.args.words.now.items) _ _ c.read_built_words.ensures c.in-Ok.is in
-    let says = said (map string_bytes c.args.words.now.items) _ _ c.read_built_words.ensures c.in-Ok.is in
-    let read = c.in-Ok-read_all.ensures in
-    let was : WasRead _ _ _ _ _ _ = record { command = command; took = read.all; dry = read.dry; short = read.short; later = read.later } in
-    let reply = rw c.deref.ensures.value at c.in-Ok-reply_to.ensures.reply in
-    runs_ok _ _ _ _ _ _ _ _ _ _ was says _ _ _ reply.0 reply.1 c.in-Ok-put_reply.ensures.ok c.put_reply.ensures.later c.put_reply.ensures.fixed
+    let words = map string_bytes c.args.words.now.items in
+    let good = understood words _ _ c.read_words.ensures c.in-Ok.is in
+    let said = said words _ _ c.read_words.ensures c.in-Ok.is in
+    runs_ok _ _ _ _ _ words _ _ _ good said _ _ _ c.in-Ok-reply_of.ensures.reply c.in-Ok-put_reply.ensures.ok c.put_reply.ensures.later c.put_reply.ensures.fixed
 
 pub returns-clause-run : goal.returns-clause-run
 returns-clause-run g c =
-    let command = understood (map string_bytes c.args.words.now.items) _ _ c.read_built_words.ensures c.in-Ok.is in
-    let says = said (map string_bytes c.args.words.now.items) _ _ c.read_built_words.ensures c.in-Ok.is in
-    let read = c.in-Ok-read_all.ensures in
-    let was : WasRead _ _ _ _ _ _ = record { command = command; took = read.all; dry = read.dry; short = read.short; later = read.later } in
-    let reply = rw c.deref.ensures.value at c.in-Ok-reply_to.ensures.reply in
-    runs_cut _ _ _ _ _ _ _ _ _ _ was says _ _ _ reply.0 reply.1 c.in-Err-put_reply.ensures.prefix c.in-Err-put_reply.ensures.cause c.put_reply.ensures.later c.put_reply.ensures.fixed
-
-pub returns-in-Err-Long-clause-run : goal.returns-in-Err-Long-clause-run
-returns-in-Err-Long-clause-run g c =
-    let command = understood (map string_bytes c.args.words.now.items) _ _ c.read_built_words.ensures c.in-Ok.is in
-    let long = c.in-Err-Long.ensures.long (ap Err c.in-Err-Long.field-0-is) in
-    runs_long _ _ _ _ _ _ _ _ _ long.0 command long.1 long.2 c.read_all.ensures.later
-
-pub returns-in-Err-reply_to-clause-run : goal.returns-in-Err-reply_to-clause-run
-returns-in-Err-reply_to-clause-run g c =
-    let command = understood (map string_bytes c.args.words.now.items) _ _ c.read_built_words.ensures c.in-Ok.is in
-    let says = said (map string_bytes c.args.words.now.items) _ _ c.read_built_words.ensures c.in-Ok.is in
-    let read = c.in-Ok-read_all.ensures in
-    let was : WasRead _ _ _ _ _ _ = record { command = command; took = read.all; dry = read.dry; short = read.short; later = read.later } in
-    let found = rw c.deref.ensures.value at c.in-Err-reply_to.ensures.reply in
-    runs_found _ _ _ _ _ _ _ _ _ _ was says _ _ found
-
-pub reply_to-requires-clause-built : goal.reply_to-requires-clause-built
-reply_to-requires-clause-built g c =
     let words = map string_bytes c.args.words.now.items in
-    subst IsBuiltCommand (sym (said words _ _ c.read_built_words.ensures c.in-Ok.is)) (says-built words (understood words _ _ c.read_built_words.ensures c.in-Ok.is))
-
-pub returns-in-Err-reply_to-clause-steps : goal.returns-in-Err-reply_to-clause-steps
-returns-in-Err-reply_to-clause-steps g c = λ other e.
-    let command = understood (map string_bytes c.args.words.now.items) _ _ c.read_built_words.ensures c.in-Ok.is in
-    let says = said (map string_bytes c.args.words.now.items) _ _ c.read_built_words.ensures c.in-Ok.is in
-    let read = c.in-Ok-read_all.ensures in
-    let was : WasRead g.S.Source.left g.S.Source.faults (map string_bytes c.args.words.now.items) c.args.source.now c.read_all.new.source c.in-Ok-read_all.bytes.items = record { command = command; took = read.all; dry = read.dry; short = read.short; later = read.later } in
-    let bound = rw c.deref.ensures.value at c.reply_to.ensures.steps in
-    steps_as g.S.Source.left g.S.Source.faults (map string_bytes c.args.words.now.items) c.args.source.now c.read_all.new.source c.in-Ok-read_all.bytes.items other _ _ _ was says bound e
-
-pub returns-in-Ok-put_reply-clause-steps : goal.returns-in-Ok-put_reply-clause-steps
-returns-in-Ok-put_reply-clause-steps g c = λ other e.
-    let command = understood (map string_bytes c.args.words.now.items) _ _ c.read_built_words.ensures c.in-Ok.is in
-    let says = said (map string_bytes c.args.words.now.items) _ _ c.read_built_words.ensures c.in-Ok.is in
-    let read = c.in-Ok-read_all.ensures in
-    let was : WasRead g.S.Source.left g.S.Source.faults (map string_bytes c.args.words.now.items) c.args.source.now c.read_all.new.source c.in-Ok-read_all.bytes.items = record { command = command; took = read.all; dry = read.dry; short = read.short; later = read.later } in
-    let bound = rw c.deref.ensures.value at c.reply_to.ensures.steps in
-    steps_as g.S.Source.left g.S.Source.faults (map string_bytes c.args.words.now.items) c.args.source.now c.read_all.new.source c.in-Ok-read_all.bytes.items other _ _ _ was says bound e
-
-pub returns-clause-steps : goal.returns-clause-steps
-returns-clause-steps g c = λ other e.
-    let command = understood (map string_bytes c.args.words.now.items) _ _ c.read_built_words.ensures c.in-Ok.is in
-    let says = said (map string_bytes c.args.words.now.items) _ _ c.read_built_words.ensures c.in-Ok.is in
-    let read = c.in-Ok-read_all.ensures in
-    let was : WasRead g.S.Source.left g.S.Source.faults (map string_bytes c.args.words.now.items) c.args.source.now c.read_all.new.source c.in-Ok-read_all.bytes.items = record { command = command; took = read.all; dry = read.dry; short = read.short; later = read.later } in
-    let bound = rw c.deref.ensures.value at c.reply_to.ensures.steps in
-    steps_as g.S.Source.left g.S.Source.faults (map string_bytes c.args.words.now.items) c.args.source.now c.read_all.new.source c.in-Ok-read_all.bytes.items other _ _ _ was says bound e
-
-pub returns-in-Ok-put_reply-clause-taken : goal.returns-in-Ok-put_reply-clause-taken
-returns-in-Ok-put_reply-clause-taken g c = λ other e.
-    let command = understood (map string_bytes c.args.words.now.items) _ _ c.read_built_words.ensures c.in-Ok.is in
-    let says = said (map string_bytes c.args.words.now.items) _ _ c.read_built_words.ensures c.in-Ok.is in
-    let read = c.in-Ok-read_all.ensures in
-    let was : WasRead g.S.Source.left g.S.Source.faults (map string_bytes c.args.words.now.items) c.args.source.now c.read_all.new.source c.in-Ok-read_all.bytes.items = record { command = command; took = read.all; dry = read.dry; short = read.short; later = read.later } in
-    let bound = rw c.deref.ensures.value at c.in-Ok-reply_to.ensures.taken in
-    taken_as g.S.Source.left g.S.Source.faults (map string_bytes c.args.words.now.items) c.args.source.now c.read_all.new.source c.in-Ok-read_all.bytes.items other _ _ _ was says bound e
+    let good = understood words _ _ c.read_words.ensures c.in-Ok.is in
+    let said = said words _ _ c.read_words.ensures c.in-Ok.is in
+    runs_cut _ _ _ _ _ words _ _ _ good said _ _ _ c.in-Ok-reply_of.ensures.reply c.in-Err-put_reply.ensures.prefix c.in-Err-put_reply.ensures.cause c.put_reply.ensures.later c.put_reply.ensures.fixed

@@ -5,5 +5,5 @@ use Rattle.far_engine.proofs.RefineLemmas.{refined-not-large}
 use Rattle.far_engine.proofs.refine.fault_of_channel.Goals as goal
 
 pub returns-in-TooLarge : goal.returns-in-TooLarge
-returns-in-TooLarge c = λ mesh level depth accepted plain few fault decimals uv by tags.
-    absurd (refined-not-large mesh depth c.in-TooLarge.level c.in-TooLarge.count few (subst (IsChannelFault (positions_of mesh) depth) c.in-TooLarge.is fault))
+returns-in-TooLarge c = λ asked mesh depth few fault.
+    absurd (refined-not-large asked mesh depth c.in-TooLarge.level c.in-TooLarge.count few (subst (IsChannelFault asked (positions_of mesh) depth) c.in-TooLarge.is fault))

@@ -1,0 +1,29 @@
+use Rattle.std.proofs.Common.{◌≡◌, ◌≤◌, ◌+◌, true, length, arith, rules, subst}
+use Rattle.subdiv_model.specs.Polygons.{is_over}
+use Rattle.far_engine.specs.Outcome.{level_faces_to, table_entries}
+use Rattle.far_engine.proofs.SummaryLemmas.{made-found, made-written, within-over}
+use Rattle.far_engine.proofs.made.reply_to_made.Goals as goal
+
+pub returns-in_err-summarize-clause-reply : goal.returns-in_err-summarize-clause-reply
+returns-in_err-summarize-clause-reply g c =
+    let found =
+    made-found c.args.seed c.args.size c.args.depth c.in_ok-mesh.mesh _ c.in_ok-mesh.ensures.sheet
+    (c.sheets_are_manifolds.ensures.fine c.args.seed c.args.size (omega (arith, c.requires.some))) c.in_err-summarize.ensures.summary in
+    search (rules, found)
+
+pub returns-in_err-summarize-clause-steps : goal.returns-in_err-summarize-clause-steps
+returns-in_err-summarize-clause-steps g c =
+    subst (λ mesh. c.summarize.new.steps ≤ c.args.steps.now + (level_faces_to c.args.depth mesh + table_entries c.args.depth mesh)) c.in_ok-mesh.ensures.sheet c.summarize.ensures.steps
+
+pub returns-clause-reply : goal.returns-clause-reply
+returns-clause-reply g c =
+    made-written c.args.seed c.args.size c.args.depth c.in_ok-mesh.mesh c.in_ok-summarize.field-0 c.in_ok-mesh.ensures.sheet
+    (c.sheets_are_manifolds.ensures.fine c.args.seed c.args.size (omega (arith, c.requires.some))) c.in_ok-summarize.ensures.summary
+
+pub returns-clause-over : goal.returns-clause-over
+returns-clause-over g c =
+    subst (λ mesh. is_over (length mesh.points) mesh.faces ≡ true) c.in_ok-mesh.ensures.sheet (within-over c.in_ok-mesh.mesh c.in_ok-mesh.ensures.within)
+
+pub returns-clause-steps : goal.returns-clause-steps
+returns-clause-steps g c =
+    subst (λ mesh. c.summarize.new.steps ≤ c.args.steps.now + (level_faces_to c.args.depth mesh + table_entries c.args.depth mesh)) c.in_ok-mesh.ensures.sheet c.summarize.ensures.steps

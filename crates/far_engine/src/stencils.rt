@@ -1,0 +1,108 @@
+//! The table of a mesh at a depth.
+
+ghost use Rattle.std.specs.Prelude.{◌≡◌, ◌+◌, ◌≤◌, length, MatchResult, OnOk};
+ghost use Rattle.std.specs.List.{All};
+ghost use Rattle.obj_tags.specs.Laws.{IsWithin};
+ghost use Rattle.reading_laws.specs.Short.{IsShortPoint};
+ghost use Rattle.subdiv_model.specs.Command.{Stencils};
+ghost use Rattle.subdiv_model.specs.Answer.{level_count_faults, positions_of};
+ghost use Rattle.mesh_check.specs.Checked.{IsAccepted};
+ghost use Rattle.table_text.specs.Text.{text_of_table};
+ghost use Rattle.far_engine.specs.BuiltWords.{IsWritten};
+ghost use Rattle.far_engine.specs.Outcome.{refusal_of_mesh, level_faces_to, step_limit, IsFound};
+ghost use Rattle.far_engine.specs.Tables.{IsComposedOf, IsFoundComposing};
+ghost use Rattle.far_engine.specs.View.{fault_of};
+
+use crate::fault::FarFault;
+use crate::levels::{level_0, level_fault};
+use crate::refine::{fault_of_channel, greatest_of};
+use channel_tables::{ComposedChannel, compose_channel};
+use level_topology::Level;
+use mask_rules::Scheme;
+use obj_tags::RawMesh;
+use ratio128::Steps;
+use std::alloc::Global;
+use std::sync::ledger::Ledger;
+use stencil_apply::StencilTable;
+use uniform_refiner::next_faces;
+
+// The table of the positions of a mesh at a depth, from its level 0.
+fn compose_from<L: Ledger>(
+    alloc: Global,
+    mesh: &RawMesh,
+    level: Level,
+    depth: u32,
+    steps: &mut Steps<L>,
+) -> Result<ComposedChannel, FarFault>
+    requires within { IsWithin mesh.now }
+    requires short { All IsShortPoint mesh.now.points }
+    requires accepted { IsAccepted mesh.now level }
+    requires depth { depth ≤ 10 }
+    ensures composed { MatchResult result (λ composed. IsComposedOf mesh.now depth composed.level composed.table)
+        (λ fault. IsFoundComposing depth mesh.now (fault_of fault)) }
+    ensures steps { length mesh.now.faces + steps.new ≤ steps.old + level_faces_to depth mesh.now }
+    ensures later { steps.old ≤ steps.new }
+{
+    match level_fault(next_faces(&level), depth) {
+        Some(counted) => return Err(FarFault::TooLarge(counted)),
+        None => {}
+    }
+    let greatest = greatest_of(mesh.points());
+    match compose_channel(
+        alloc,
+        level,
+        greatest,
+        mesh.scale(),
+        Scheme::CatmullClark,
+        depth,
+        steps,
+    ) {
+        Ok(composed) => {
+            composed.table.facts();
+            Ok(composed)
+        }
+        Err(fault) => Err(fault_of_channel(fault)),
+    }
+}
+
+/// The level of a mesh at a depth, and the table of its points.
+pub(crate) fn compose<L: Ledger>(
+    alloc: Global,
+    mesh: &RawMesh,
+    depth: u32,
+    steps: &mut Steps<L>,
+) -> Result<ComposedChannel, FarFault>
+    requires within { IsWithin mesh.now }
+    requires short { All IsShortPoint mesh.now.points }
+    requires depth { depth ≤ 10 }
+    ensures composed { MatchResult result (λ composed. IsComposedOf mesh.now depth composed.level composed.table)
+        (λ fault. IsFoundComposing depth mesh.now (fault_of fault)) }
+    ensures steps { steps.new ≤ steps.old + level_faces_to depth mesh.now }
+    ensures later { steps.old ≤ steps.new }
+{
+    match level_0(alloc, mesh, steps) {
+        Ok(level) => compose_from(alloc, mesh, level, depth, steps),
+        Err(fault) => Err(fault),
+    }
+}
+
+/// The table of a mesh that was read, at a depth.
+pub(crate) fn stencils<L: Ledger>(
+    alloc: Global,
+    mesh: &RawMesh,
+    depth: u32,
+    steps: &mut Steps<L>,
+) -> Result<StencilTable, FarFault>
+    requires within { IsWithin mesh.now }
+    requires short { All IsShortPoint mesh.now.points }
+    requires depth { depth ≤ 10 }
+    ensures table { MatchResult result (λ table. IsWritten (Stencils depth) mesh.now (text_of_table table))
+        (λ fault. IsFound (fault_of fault) (refusal_of_mesh (Stencils depth) mesh.now)) }
+    ensures steps { steps.new ≤ steps.old + step_limit (Stencils depth) mesh.now }
+    ensures later { steps.old ≤ steps.new }
+{
+    match compose(alloc, mesh, depth, steps) {
+        Ok(ComposedChannel { table, .. }) => Ok(table),
+        Err(fault) => Err(fault),
+    }
+}

@@ -1,0 +1,210 @@
+// The table of the cube after one step, and its evaluation at once and in two ranges.
+
+ghost use Rattle.std.specs.Prelude.{◌≡◌, ◌+◌, ◌*◌, ◌<◌, ◌≤◌, ◌∷◌, [], length};
+ghost use Rattle.std.specs.List.{All};
+ghost use Rattle.obj_tags.specs.Laws.{IsWithin};
+ghost use Rattle.subdiv_model.specs.Channel.{number_bound};
+ghost use Rattle.ratio128.specs.Numbers.{greatest_amount};
+ghost use Rattle.stencil_apply.specs.Table.{entries_of, greatest_of};
+
+use crate::channels::assert_few;
+use crate::expect::expect_same;
+use crate::inputs::CUBE;
+use crate::tables::{NUMBER_BOUND, assert_fits, counts_of, put_row};
+use channel_refine::ChannelFault;
+use channel_tables::{ComposedChannel, compose_channel};
+use mask_rules::Scheme;
+use mesh_check::check_mesh;
+use obj_tags::{RawMesh, read_obj};
+use ratio128::{Point3, Steps};
+use std::alloc::Global;
+use std::marker::Brand;
+use std::process::Abort;
+use std::sync::ledger::{Blank, Ledger};
+use std::test::Fail;
+use stencil_apply::laws::ranges_cover_the_table;
+use stencil_apply::{StencilTable, apply_range};
+
+// The greatest amount of the controls, the denominator that they stand over, and the depth.
+type Asked = (u128, u128, u32);
+
+fn compose_by<L: Ledger>(
+    rt: &impl Abort,
+    alloc: Global,
+    mesh: &RawMesh,
+    asked: Asked,
+    blank: Blank,
+) -> Result<ComposedChannel, ChannelFault>
+    requires name { blank.name ≡ L.name }
+    requires parts { blank.parts ≡ L.parts }
+    requires some { 0 < blank.parts }
+    requires within { IsWithin mesh.now }
+{
+    let mut steps = Steps::start(blank.open::<L>());
+    let (greatest, common, depth) = asked;
+    let level = match check_mesh(alloc, mesh, &mut steps) {
+        Ok(level) => level,
+        Err(_) => return Err(ChannelFault::Memory),
+    };
+    assert!(rt; greatest <= NUMBER_BOUND);
+    assert!(rt; common <= NUMBER_BOUND);
+    assert!(rt; depth <= 10);
+    assert_few(rt, &level);
+    let scheme = Scheme::CatmullClark;
+    compose_channel(alloc, level, greatest, common, scheme, depth, &mut steps)
+}
+
+fn compose_mesh(
+    rt: &impl Abort,
+    alloc: Global,
+    mesh: &RawMesh,
+    asked: Asked,
+) -> Result<ComposedChannel, ChannelFault>
+    requires { IsWithin mesh.now }
+{
+    compose_by::<Brand>(rt, alloc, mesh, asked, Blank::new(1))
+}
+
+// All rows, in as many steps as the table has entries.
+fn apply_at_once<L: Ledger>(
+    table: &StencilTable,
+    controls: &[Point3],
+    places: &mut [Point3],
+    steps: &mut Steps<L>,
+)
+    requires controls { length controls.now ≡ table.now.controls }
+    requires places { length places.old ≡ length table.now.rows }
+    requires fits { All (λ p. greatest_of table.now * greatest_amount (p.x ∷ p.y ∷ p.z ∷ []) ≤ number_bound) controls.now }
+    ensures { steps.new ≡ steps.old + entries_of table.now.rows }
+{
+    ranges_cover_the_table();
+    apply_range(table, controls, 0, table.rows(), places, steps);
+}
+
+// The rows from one on and then those before it, in as many steps.
+fn apply_in_two<L: Ledger>(
+    table: &StencilTable,
+    controls: &[Point3],
+    between: u32,
+    places: &mut [Point3],
+    steps: &mut Steps<L>,
+)
+    requires controls { length controls.now ≡ table.now.controls }
+    requires places { length places.old ≡ length table.now.rows }
+    requires inside { between ≤ length table.now.rows }
+    requires fits { All (λ p. greatest_of table.now * greatest_amount (p.x ∷ p.y ∷ p.z ∷ []) ≤ number_bound) controls.now }
+    ensures { steps.new ≡ steps.old + entries_of table.now.rows }
+{
+    ranges_cover_the_table();
+    let at = between as usize;
+    apply_range(
+        table,
+        controls,
+        between,
+        table.rows(),
+        &mut places[at..],
+        steps,
+    );
+    apply_range(table, controls, 0, between, &mut places[..at], steps);
+}
+
+// The sums of all rows, at once where no row is named and else from that row on first.
+fn sums_by<L: Ledger>(
+    rt: &impl Abort,
+    alloc: Global,
+    table: &StencilTable,
+    controls: &[Point3],
+    between: Option<u32>,
+    blank: Blank,
+) -> Result<Vec<Point3>, Fail>
+    requires name { blank.name ≡ L.name }
+    requires parts { blank.parts ≡ L.parts }
+    requires some { 0 < blank.parts }
+{
+    let mut steps = Steps::start(blank.open::<L>());
+    let rows = table.rows();
+    let mut places = vec![in alloc; Point3 { x: 7, y: 7, z: 7 }; rows as usize]?;
+    assert!(rt; controls.len() == table.controls() as usize);
+    assert_fits(rt, table, controls);
+    match between {
+        None => apply_at_once(table, controls, &mut places, &mut steps),
+        Some(row) => {
+            assert!(rt; row <= rows);
+            apply_in_two(table, controls, row, &mut places, &mut steps);
+        }
+    }
+    Ok(places)
+}
+
+fn sums_of(
+    rt: &impl Abort,
+    alloc: Global,
+    table: &StencilTable,
+    controls: &[Point3],
+    between: Option<u32>,
+) -> Result<Vec<Point3>, Fail> {
+    sums_by::<Brand>(rt, alloc, table, controls, between, Blank::new(1))
+}
+
+// A row of the table of the cube, and its line: those of a vertex, of a face and of an edge.
+const ROWS: &[(u32, &str)] = &[
+    (0, "36 0 15 1 6 2 6 3 1 4 1 6 6 7 1\n"),
+    (8, "4 0 1 1 1 2 1 3 1\n"),
+    (14, "16 0 6 1 6 2 1 3 1 6 1 7 1\n"),
+];
+
+fn rows() -> &'static [(u32, &'static str)] {
+    ROWS
+}
+
+fn expect_rows(rt: &impl Abort, alloc: Global, table: &StencilTable) -> Result<(), Fail> {
+    for case in rows() {
+        let &(row, want) = case;
+        assert!(rt; row < table.rows());
+        let mut given = String::new(alloc);
+        put_row(alloc, &mut given, table, row)?;
+        expect_same(rt, &given.as_str(), &want, case);
+    }
+    Ok(())
+}
+
+#[test]
+fn composes_the_table_of_the_cube(rt: HostRuntime) -> Result<(), Fail> {
+    let mesh = read_obj(rt.alloc(), CUBE.as_bytes(), 0)?;
+    let composed = compose_mesh(&rt, rt.alloc(), &mesh, (1, 1, 1))?;
+    expect_same(&rt, &composed.level.points(), &26, &"points");
+    expect_same(
+        &rt,
+        &counts_of(&composed.table),
+        &(8, 26, 152, 36),
+        &"counts",
+    );
+    expect_rows(&rt, rt.alloc(), &composed.table)
+}
+
+#[test]
+fn evaluates_the_cube_at_once_and_in_two_ranges(rt: HostRuntime) -> Result<(), Fail> {
+    let mesh = read_obj(rt.alloc(), CUBE.as_bytes(), 0)?;
+    let table = compose_mesh(&rt, rt.alloc(), &mesh, (1, 1, 1))?.table;
+    expect_same(&rt, &table.entries(), &152, &"entries");
+    let whole = sums_of(&rt, rt.alloc(), &table, mesh.points(), None)?;
+    let parts = sums_of(&rt, rt.alloc(), &table, mesh.points(), Some(13))?;
+    let corner = Point3 {
+        x: 20,
+        y: 20,
+        z: 20,
+    };
+    expect_same(&rt, &whole.get(3), &Some(&corner), &"corner");
+    expect_same(&rt, &parts.as_slice(), &whole.as_slice(), &"in two ranges");
+    Ok(())
+}
+
+#[test]
+fn names_the_first_level_whose_table_overflows(rt: HostRuntime) -> Result<(), Fail> {
+    let mesh = read_obj(rt.alloc(), CUBE.as_bytes(), 0)?;
+    let greatest = 2363071992506517107384545884942834802;
+    let fault = compose_mesh(&rt, rt.alloc(), &mesh, (greatest, 1, 3)).err();
+    let want = Some(ChannelFault::Value { level: 1 });
+    expect_same(&rt, &fault, &want, &"at level 1");
+    Ok(())
+}
