@@ -2,11 +2,12 @@
 """Compares the built program with `tools/reference.py` on random OBJ texts.
 
 Texts are made of lines that are good, bad or nearly bad, and of the cube and the refined cube with a few changes; they
-are refined to depth 1 at most. Meshes are those of `tools/random_meshes.py`; they are refined, or have their levels
-counted, to depth 3 at most. The options are random too. The same seed makes the same words and texts. A text on which
-the two differ is printed, and the exit status is then 1.
+are refined to depth 1 at most. Meshes are those of `tools/random_meshes.py`; they are refined, by tables and level by
+level, or have their levels counted or their tables written, to depth 3 at most. Sheets are made by the program itself.
+The options are random too. The same seed makes the same words and texts. A text on which the two differ is printed, and
+the exit status is then 1.
 
-    tools/compare_random.py --seed 1 --count 3000 --meshes 1500
+    tools/compare_random.py --seed 1 --count 3000 --meshes 1500 --sheets 300
 """
 
 import argparse
@@ -23,8 +24,12 @@ from random_meshes import Meshes
 TOP = Path(__file__).resolve().parent.parent
 REFINE = ["refine", "depth=1"]
 GREATEST_DEPTH = 3
-# How many faces the last level of a mesh that is refined has at most, so that the reference does not take long.
+# How many faces the last level of a mesh that is refined has at most, and of one whose table is written, so that the
+# reference does not take long.
 MOST_FACES = 1200
+MOST_TABLE_FACES = 400
+SEEDS = ["0", "1", "7", str(2**31 - 1), str(2**31), str(2**32 - 1)]
+BAD_SHEETS = ["size=0", "size=257", "seed=-1", f"seed={2**32}", "seed=00", "depth=11", "by=table", "size"]
 OPTIONS = {
     "decimals": ["0", "1", "2", "3", "6", "17", "18"],
     "uv": ["smooth", "corners", "boundaries", "linear"],
@@ -208,13 +213,32 @@ class Words:
     def for_text(self):
         return ["refine", *self.options(self.random.choice([0, 1, 1, 1]))]
 
+    def depth_for(self, corners, most_faces):
+        """A depth at which a mesh of so many corners has at most so many faces, and now and then 0 or 1."""
+        depths = [depth for depth in range(1, GREATEST_DEPTH + 1) if corners * 4 ** (depth - 1) <= most_faces]
+        return self.random.choice([0, 1] + depths * 2)
+
     def for_mesh(self, data):
-        """The words by which a mesh is refined, not too far for its corners, or has its levels counted."""
-        if self.random.random() < 0.4:
+        """The words by which a mesh is refined or has its table written, not too far for its corners, or has its levels
+        counted."""
+        kind = self.random.random()
+        if kind < 0.25:
             return ["levels", f"depth={self.random.randint(0, GREATEST_DEPTH)}"]
         corners = sum(len(line.split()) - 1 for line in data.split(b"\n") if line.startswith(b"f"))
-        depths = [depth for depth in range(1, GREATEST_DEPTH + 1) if corners * 4 ** (depth - 1) <= MOST_FACES]
-        return ["refine", *self.options(self.random.choice([0, 1] + depths * 2))]
+        if kind < 0.5:
+            return ["stencils", f"depth={self.depth_for(corners, MOST_TABLE_FACES)}"]
+        return ["refine", *self.options(self.depth_for(corners, MOST_FACES))]
+
+    def for_sheet(self):
+        """The words by which a small sheet is made, or one with too many faces; now and then a bad one, or one too few."""
+        seed = self.random.choice(SEEDS) if self.random.random() < 0.4 else str(self.random.randrange(2**32))
+        size = self.random.choice([1, 1, 2, 2, 3, 3, 4, 5, 8])
+        depth = self.depth_for(4 * size * size, MOST_TABLE_FACES) if self.random.random() < 0.95 else 10
+        options = [f"seed={seed}", f"size={size if depth < 10 else 16}", f"depth={depth}"]
+        self.random.shuffle(options)
+        if self.random.random() < 0.1:
+            options[self.random.randrange(3)] = self.random.choice(BAD_SHEETS)
+        return ["gen", *options[: 2 if self.random.random() < 0.05 else 3]]
 
 
 def agree(program, kind, runs):
@@ -237,13 +261,15 @@ def main():
     parser.add_argument("--program", default=TOP / "crates" / "far_cli" / "out" / "far_cli", help="the program to run")
     parser.add_argument("--seed", type=int, default=1, help="the seed of the texts")
     parser.add_argument("--count", type=int, default=1000, help="how many texts are refined")
-    parser.add_argument("--meshes", type=int, default=1000, help="how many meshes are refined or counted")
+    parser.add_argument("--meshes", type=int, default=1000, help="how many meshes are refined, counted or have their tables written")
+    parser.add_argument("--sheets", type=int, default=200, help="how many sheets are made")
     arguments = parser.parse_args()
     texts, meshes, words = Texts(arguments.seed), Meshes(arguments.seed), Words(arguments.seed)
     mesh_texts = (meshes.text() for _ in range(arguments.meshes))
     lines = agree(arguments.program, "texts", ((words.for_text(), texts.text()) for _ in range(arguments.count)))
     surfaces = agree(arguments.program, "meshes", ((words.for_mesh(data), data) for data in mesh_texts))
-    return 0 if lines and surfaces else 1
+    sheets = agree(arguments.program, "sheets", ((words.for_sheet(), b"") for _ in range(arguments.sheets)))
+    return 0 if lines and surfaces and sheets else 1
 
 
 if __name__ == "__main__":

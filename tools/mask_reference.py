@@ -9,8 +9,10 @@ from fractions import Fraction
 from math import inf, lcm
 
 from level_reference import child_level, common_denominator, half_sharpness, is_too_fine, overflow, uniform_child
+from run_reference import TOO_LARGE, Refusal
 
 GREATEST_NUMBER = 2**126 - 1
+MOST_ENTRIES = 2**27
 # The rule of a vertex: smooth, which a dart is like; corner; or a crease, by the places of its two edges in the ring.
 SMOOTH, CORNER = "smooth", "corner"
 
@@ -26,10 +28,12 @@ class Mask:
 
 @dataclass
 class Point:
-    """The value of a point, a coordinate for each axis, and the denominator over which it is whole for all controls."""
+    """The value of a point, a coordinate for each axis; the denominator over which it is whole for all controls; and the
+    controls that it depends on."""
 
     value: tuple
     denominator: int
+    controls: set
 
 
 def mask_of(terms, denominator):
@@ -129,10 +133,11 @@ def masked(mask, points):
     """The point that a mask makes of its sources."""
     sources, weights = [points[source] for source in mask.weights], mask.weights.values()
     value = tuple(mean(weights, axis, mask.denominator) for axis in zip(*(source.value for source in sources)))
-    return Point(value, mask.denominator * lcm(*(source.denominator for source in sources)))
+    denominator = mask.denominator * lcm(*(source.denominator for source in sources))
+    return Point(value, denominator, set().union(*(source.controls for source in sources)))
 
 
-def child_points(level, points, number):
+def child_points(level, points, number, masked=masked):
     """The points of the next level, which has this number: of vertices, then of faces, then of edges."""
     sources = points + [masked(face_mask(face), points) for face in level.mesh.faces]
     vertices = [masked(vertex_mask(level, vertex, number), sources) for vertex in range(level.points)]
@@ -140,22 +145,28 @@ def child_points(level, points, number):
     return vertices + sources[level.points :] + edges
 
 
-def check_numbers(points, greatest, number):
-    """Refuses a level by its denominators and then by its values, where the greatest control or the common denominator
-    has this amount."""
+def check_numbers(points, greatest, number, by_table):
+    """Refuses a level by its denominators, by the entries of its table, and then by its values, where the greatest control
+    or the common denominator has this amount."""
     if any(point.denominator > GREATEST_NUMBER for point in points):
         raise overflow(number, "denominator")
+    if by_table and sum(len(point.controls) for point in points) > MOST_ENTRIES:
+        raise Refusal(TOO_LARGE, f"far: level {number} has too many entries")
     if max((point.denominator for point in points), default=1) * greatest > GREATEST_NUMBER:
         raise overflow(number, "value")
 
 
-def refined(level, obj, depth):
-    """The level after so many steps from level 0 of a mesh that was read, and its values, or a Refusal."""
-    points = [Point(tuple(Fraction(axis, obj.common) for axis in point), 1) for point in obj.points]
-    greatest = max([obj.common] + [abs(axis) for point in obj.points for axis in point])
+def greatest_control(obj):
+    return max([obj.common] + [abs(axis) for point in obj.points for axis in point])
+
+
+def refined(level, obj, depth, by_table):
+    """The level after so many steps from level 0 of a mesh that was read, and its values, or a Refusal. By a table its
+    entries are limited too."""
+    points = [Point(tuple(Fraction(axis, obj.common) for axis in point), 1, {v}) for v, point in enumerate(obj.points)]
     for number in range(1, depth + 1):
         child = child_level(level, number)
         points = child_points(level, points, number)
-        check_numbers(points, greatest, number)
+        check_numbers(points, greatest_control(obj), number, by_table)
         level = child
     return level, [point.value for point in points]

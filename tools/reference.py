@@ -1,8 +1,9 @@
 #!/usr/bin/env python3
-"""A plain, slow reference of the program: of `far refine`, and through `tools/level_reference.py` of `far levels`.
+"""A plain, slow reference of the program: of `far refine`, and through `tools/level_reference.py` of `far levels` and
+`tools/table_reference.py` of `far stencils` and `far gen`.
 
-It is written from the definitions of `subdiv_model` (Answer, Text and NumberText, and those that `mask_reference` and
-`level_reference` name), with `fractions.Fraction` for every value, and shares nothing with the program. It takes the
+It is written from the definitions of `subdiv_model` (Answer, Text and NumberText, and those that the other references
+name), with `fractions.Fraction` for every value, and shares nothing with the program. It takes the
 program's words, standard input and standard output, and ends with the program's status, so that the runner of the
 cases can be tried on it:
 
@@ -16,6 +17,7 @@ from math import inf
 from level_reference import accepted, levels_text, sharp_edges
 from mask_reference import refined
 from run_reference import NOT_BUILT, Refusal, read_mesh, run, understood
+from table_reference import sheet_text, table_text
 
 
 # Numbers
@@ -69,14 +71,14 @@ def tag_lines(level):
 
 
 def refined_text(obj, options):
-    """The text of a mesh that was read, refined as the options say, or its Refusal. How texture is refined, and by
-    which path, makes no difference where there is no texture."""
+    """The text of a mesh that was read, refined as the options say, or its Refusal. How texture is refined makes no
+    difference where there is no texture."""
     depth, decimals = int(options[b"depth"]), options.get(b"decimals")
     with_tags = options.get(b"tags") == b"yes"
     level = accepted(obj, depth)
     if obj.has_texture:
         raise Refusal(NOT_BUILT, "far: line 0 is not built yet")
-    level, points = refined(level, obj, depth)
+    level, points = refined(level, obj, depth, options.get(b"by") != b"level")
     lines = point_lines(points, None if decimals is None else int(decimals)) + face_lines(level, with_tags)
     return "".join(lines + (tag_lines(level) if with_tags else []))
 
@@ -84,8 +86,13 @@ def refined_text(obj, options):
 def answer(words, source):
     """The text that the program writes for these words (a list of bytes) and this input, or a Refusal."""
     command, options = understood(words)
+    depth = int(options[b"depth"])
+    if command == b"gen":
+        return sheet_text(int(options[b"seed"]), int(options[b"size"]), depth)
     obj = read_mesh(source)
-    return levels_text(obj, int(options[b"depth"])) if command == b"levels" else refined_text(obj, options)
+    if command == b"refine":
+        return refined_text(obj, options)
+    return levels_text(obj, depth) if command == b"levels" else table_text(obj, depth)
 
 
 if __name__ == "__main__":

@@ -1,6 +1,7 @@
 """What the references of the commands share: the words of the command line, the input, refusals, and a run."""
 
 import os
+import re
 import sys
 
 from obj_reference import Fault, read_obj
@@ -9,23 +10,32 @@ GREATEST_INPUT = 2**28
 NOT_UNDERSTOOD, TOO_LONG, BAD_LINE, BAD_MESH, TOO_LARGE, OVERFLOW, NOT_BUILT = 2, 4, 5, 6, 7, 8, 12
 
 
-def numbers(most):
-    """The values of an option that is a whole number from 0 to the most."""
-    return [b"%d" % number for number in range(most + 1)]
+class Numbers:
+    """The values of an option that is a whole number between two, in digits without a leading zero."""
+
+    def __init__(self, least, most):
+        self.least, self.most = least, most
+
+    def __contains__(self, value):
+        plain = re.fullmatch(b"0|[1-9][0-9]*", value)
+        return plain is not None and self.least <= int(value) <= self.most
 
 
-# The commands that are built, each with its options and their values. The depth must be there.
-DEPTH = {b"depth": numbers(10)}
+# The commands, each with its options and their values, and the options that must be there.
+DEPTH = {b"depth": Numbers(0, 10)}
 OPTIONS = {
     b"refine": {
         **DEPTH,
-        b"decimals": numbers(18),
+        b"decimals": Numbers(0, 18),
         b"uv": [b"smooth", b"corners", b"boundaries", b"linear"],
         b"by": [b"table", b"level"],
         b"tags": [b"no", b"yes"],
     },
+    b"stencils": DEPTH,
     b"levels": DEPTH,
+    b"gen": {b"seed": Numbers(0, 2**32 - 1), b"size": Numbers(1, 256), **DEPTH},
 }
+REQUIRED = {b"seed", b"size", b"depth"}
 
 
 class Refusal(Exception):
@@ -43,7 +53,7 @@ def refuse_word(place):
 
 def understood(words):
     """The command that the words say, and the values of its options by their names; or the Refusal of the first bad
-    word, and of the place after the last where the depth is missing."""
+    word, and of the place after the last where one is missing that must be there."""
     if not words or words[0] not in OPTIONS:
         refuse_word(0)
     options = {}
@@ -52,7 +62,7 @@ def understood(words):
         if name in options or value not in OPTIONS[words[0]].get(name, []):
             refuse_word(place)
         options[name] = value
-    if b"depth" not in options:
+    if not REQUIRED & OPTIONS[words[0]].keys() <= options.keys():
         refuse_word(len(words))
     return words[0], options
 
