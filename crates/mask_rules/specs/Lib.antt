@@ -1,4 +1,5 @@
 pub mod View
+pub mod FaultText
 pub mod Masks
 pub mod Spread
 pub mod Around

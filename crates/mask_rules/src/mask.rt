@@ -1,5 +1,8 @@
 //! What a mask is made of.
 
+ghost use Rattle.std.specs.Prelude.{Some};
+ghost use Rattle.mask_rules.specs.FaultText.{fault_text};
+
 use ratio128::Memory;
 use std::fmt;
 
@@ -47,10 +50,12 @@ impl From<Memory> for MaskFault {
 }
 
 impl fmt::Display for MaskFault {
+    ghost output = { λ fault. Some (fault_text fault) };
+
     fn fmt<W: fmt::Write>(&self, f: &mut fmt::Formatter<W>) -> fmt::Result {
-        match self {
-            MaskFault::Transition => write!(f, "a denominator passes 2^60"),
-            MaskFault::Memory => write!(f, "out of memory"),
+        match *self {
+            MaskFault::Transition => f.write_str("a denominator passes 2^60"),
+            MaskFault::Memory => f.write_str("out of memory"),
         }
     }
 }

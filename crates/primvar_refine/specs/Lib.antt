@@ -1,5 +1,6 @@
 pub mod Rows
 pub mod View
+pub mod FaultText
 pub mod Step
 pub mod Survey
 pub mod Found

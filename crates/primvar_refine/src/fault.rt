@@ -1,5 +1,8 @@
 //! Why values cannot be refined.
 
+ghost use Rattle.std.specs.Prelude.{Some};
+ghost use Rattle.primvar_refine.specs.FaultText.{fault_text};
+
 use ratio128::Memory;
 use std::fmt;
 
@@ -28,12 +31,14 @@ impl From<Memory> for ValueFault {
 }
 
 impl fmt::Display for ValueFault {
+    ghost output = { λ fault. Some (fault_text fault) };
+
     fn fmt<W: fmt::Write>(&self, f: &mut fmt::Formatter<W>) -> fmt::Result {
-        match self {
+        match *self {
             ValueFault::Transition(v) => write!(f, "vertex {v}: a denominator passes 2^60"),
             ValueFault::Denominator(p) => write!(f, "point {p}: the denominator is too great"),
             ValueFault::TooBig(p) => write!(f, "point {p}: a numerator may be too great"),
-            ValueFault::Memory => write!(f, "out of memory"),
+            ValueFault::Memory => f.write_str("out of memory"),
         }
     }
 }
