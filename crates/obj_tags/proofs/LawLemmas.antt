@@ -1,5 +1,5 @@
 -- A mesh that is kept in whole lists has its numbers within the lists that they count.
-use Rattle.std.proofs.Common.{◌≡◌, ℕ, ◌+◌, ◌-◌, ◌^◌, ◌<◌, ◌≤◌, Bool, true, false, if◌then◌else◌, List, [], ◌∷◌, length, map, arith, slice_range, drop}
+use Rattle.std.proofs.Common.{◌≡◌, ℕ, ◌+◌, ◌-◌, ◌^◌, ◌<◌, ◌≤◌, Bool, true, false, if◌then◌else◌, List, [], ◌∷◌, length, map, arith, refl, ap, sym, ◌∙◌, slice_range, drop}
 use Rattle.std.specs.List.{All, sum_by}
 use Rattle.std.proofs.lemmas.List.{length-map}
 use Rattle.std.proofs.lemmas.List.Elements.{All-nil, All-cons, All-map, All-weaker, All-take, All-drop}
@@ -10,7 +10,7 @@ use Rattle.ratio128.specs.declared.point.Point3.{Point3}
 use Rattle.ratio128.specs.declared.point.Point2.{Point2}
 use Rattle.obj_tags.specs.declared.mesh.Faces.{Faces}
 use Rattle.obj_tags.specs.declared.mesh.Tags.{Tags}
-use Rattle.obj_tags.proofs.PiecesLemmas.{length-pieces, sum_by-pieces}
+use Rattle.obj_tags.proofs.PiecesLemmas.{length-pieces, sum_by-pieces, length-range, head_below}
 
 -- each piece of a list has what each of its elements has
 pieces-all : (P : ℕ → Type 0) (starts xs : List ℕ) → All P xs → All (λ piece. All P piece) (pieces starts xs)
@@ -32,6 +32,23 @@ texture-all : (has : Bool) (P : ℕ → Type 0) (starts xs : List ℕ) → All P
 texture-all true P starts xs h = pieces-all P starts xs h
 texture-all false P starts xs h = All-nil (λ piece. All P piece)
 
+-- the pieces of a list have the lengths between their places, whatever stands in them
+pieces-lengths : (starts xs ys : List ℕ) → Ascend starts (length xs) → length xs ≡ length ys → map length (pieces starts xs) ≡ map length (pieces starts ys)
+pieces-lengths [] xs ys h same = refl
+pieces-lengths (a ∷ []) xs ys h same = refl
+pieces-lengths (a ∷ (b ∷ places)) xs ys h same =
+    let within : b ≤ length xs = head_below b places (length xs) h.1 in
+    let long : length (slice_range xs a b) ≡ length (slice_range ys a b)
+    = omega (arith, length-range xs a b h.0 within, length-range ys a b h.0 (omega (arith, within, same))) in
+    ap (λ n. n ∷ map length (pieces (b ∷ places) xs)) long
+    ∙ ap (λ ns. length (slice_range ys a b) ∷ ns) (pieces-lengths (b ∷ places) xs ys h.1 same)
+
+-- where there is texture, each corner has a number
+texture-lengths : (has : Bool) (starts xs ys : List ℕ) → Ascend starts (length xs) → (has ≡ true → length ys ≡ length xs)
+    → has ≡ true → map length (if has then pieces starts ys else []) ≡ map length (pieces starts xs)
+texture-lengths true starts xs ys h same is = sym (pieces-lengths starts xs ys h (sym (same refl)))
+texture-lengths false starts xs ys h same is = cc is
+
 -- the laws of a mesh, from what is kept
 pub within : (points : List Point3) (common : ℕ) (texture : List Point2) (texture_common : ℕ) (faces : Faces) (has_texture : Bool) (tags : Tags)
     → 0 < common → common ≤ 10 ^ 37 → 0 < texture_common → texture_common ≤ 10 ^ 37 → IsWhole (length points) (length texture) has_texture faces tags
@@ -48,6 +65,7 @@ within points common texture texture_common faces has_texture tags positive shor
       texture_common_short = texture_short;
       faces = pieces-all (λ v. v < length (map point_of points)) faces.starts.items faces.corners.items (All-weaker (λ v. v < length points) (λ v. v < length (map point_of points)) (λ v h. omega (arith, h, as_points)) faces.corners.items whole.vertices);
       texture_corners = texture-all has_texture (λ t. t < length (map texture_of texture)) faces.starts.items faces.texture_corners.items (All-weaker (λ t. t < length texture) (λ t. t < length (map texture_of texture)) (λ t h. omega (arith, h, as_values)) faces.texture_corners.items whole.texture);
+      textured = texture-lengths has_texture faces.starts.items faces.corners.items faces.texture_corners.items whole.ascend whole.same;
       creases = All-map (λ c. (c.0.0 < length (map point_of points)) × (c.0.1 < length (map point_of points))) crease_of tags.creases.items (All-weaker (λ c. (c.a < length points) × (c.b < length points)) (λ c. (c.a < length (map point_of points)) × (c.b < length (map point_of points))) (λ c h. (omega (arith, h.0, as_points), omega (arith, h.1, as_points))) tags.creases.items whole.crease_ends);
       corner_tags = All-map (λ c. c.0 < length (map point_of points)) corner_tag_of tags.corners.items (All-weaker (λ c. c.vertex < length points) (λ c. c.vertex < length (map point_of points)) (λ c h. omega (arith, h, as_points)) tags.corners.items whole.corner_vertices);
       holes = All-weaker (λ f. f + 1 < length faces.starts.items) (λ f. f < length polygons) (λ f h. omega (arith, h, as_faces)) tags.holes.items whole.hole_faces;

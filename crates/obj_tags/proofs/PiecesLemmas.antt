@@ -20,7 +20,7 @@ piece_at (a ∷ []) xs f h = absurd (omega arith)
 piece_at (a ∷ (b ∷ places)) xs zero h = refl
 piece_at (a ∷ (b ∷ places)) xs (suc f) h = piece_at (b ∷ places) xs f (omega arith)
 
-head_below : (y : ℕ) (places : List ℕ) (end : ℕ) → Ascend (y ∷ places) end → y ≤ end
+pub head_below : (y : ℕ) (places : List ℕ) (end : ℕ) → Ascend (y ∷ places) end → y ≤ end
 head_below y [] end a = omega (arith, a)
 head_below y (z ∷ places) end a = omega (arith, a.0, head_below z places end a.1)
 
@@ -53,7 +53,7 @@ pieces-push (x ∷ (y ∷ places)) xs ys a =
     cons_both : {p q : List ℕ} {ps qs : List (List ℕ)} → p ≡ q → ps ≡ qs → (p ∷ ps) ≡ (q ∷ qs)
     cons_both e f = cc
 
-length-range : (xs : List ℕ) (a b : ℕ) → a ≤ b → b ≤ length xs → length (slice_range xs a b) + a ≡ b
+pub length-range : (xs : List ℕ) (a b : ℕ) → a ≤ b → b ≤ length xs → length (slice_range xs a b) + a ≡ b
 length-range xs a b h k = grind (arith, common_steps)
 
 pub sum_by-pieces : (s : ℕ) (starts xs : List ℕ) → Ascend (s ∷ starts) (length xs) → sum_by length (pieces (s ∷ starts) xs) + s ≡ length xs
