@@ -1,17 +1,18 @@
 -- A text without fault has short coordinates over a common denominator of at most 10^37.
-use Rattle.std.proofs.Common.{◌≡◌, ℕ, suc, ◌<◌, ◌≤◌, ◌^◌, ◌||◌, ◌&&◌, Bool, true, false, not, nat_lt, List, [], ◌∷◌, length, map, get_or, take, drop, if◌then◌else◌, Option, Some, None, arith, refl, ap}
+use Rattle.std.proofs.Common.{◌≡◌, ℕ, suc, ◌<◌, ◌≤◌, ◌^◌, ◌||◌, ◌&&◌, Bool, true, false, not, nat_lt, List, [], ◌∷◌, length, map, get_or, take, drop, if◌then◌else◌, Option, Some, None, arith, refl, ap, codes}
 use Rattle.std.specs.Option.{option_or}
 use Rattle.std.specs.List.{All, filter, list_any, AllByRecursion}
 use Rattle.std.proofs.lemmas.Bool.{cond_both}
 use Rattle.std.proofs.lemmas.List.Elements.{All-from_recursion}
 use Rattle.std.proofs.lemmas.Bool.Decides.{nat_tests}
+use Rattle.std.proofs.lemmas.Slice.Eq.{bytes_eq-Decides}
 use Rattle.subdiv_model.specs.ObjLine.{is_vertex_line, is_face_line}
 use Rattle.subdiv_model.specs.ObjFault.{ObjCause, ObjFault}
 use Rattle.subdiv_model.specs.ObjWord.{Counts, number_over}
-use Rattle.subdiv_model.specs.ReadObj.{obj_lines, line_fault, fault_at, counts_of, values_of, is_tag_line, is_texture_line, is_continued, has_known_keyword, least_values, words_fault, common_over, passes_bound, is_long_over, has_long_number, long_fault, first_fault, late_fault, lesser_fault, first_bad_line, first_late_fault, read_obj_fault, position_common, point_over, read_obj_mesh}
+use Rattle.subdiv_model.specs.ReadObj.{obj_lines, line_fault, fault_at, counts_of, values_of, is_tag_line, is_texture_line, is_continued, has_known_keyword, least_values, words_fault, common_over, passes_bound, is_long_over, has_long_number, long_fault, first_fault, late_fault, lesser_fault, first_bad_line, first_late_fault, read_obj_fault, position_common, texture_common_of, point_over, texture_over, read_obj_mesh}
 use Rattle.obj_laws.proofs.FirstFaultLemmas.{each-good}
 use Rattle.obj_laws.proofs.ObjGoodLemmas.{or-else-none}
-use Rattle.reading_laws.specs.Short.{IsShort, IsShortPoint}
+use Rattle.reading_laws.specs.Short.{IsShort, IsShortPoint, IsShortTexture}
 
 -- the second choice is none where there is none at all
 second-none : (first second : Option ObjFault) → option_or first second ≡ None → second ≡ None
@@ -24,6 +25,15 @@ lesser-none (Some fault) None h = absurd (cc)
 lesser-none (Some fault) (Some other) h = both (nat_lt other.line fault.line) h
   where
     both : (b : Bool) → (if b then Some other else Some fault) ≡ None → Some fault ≡ None
+    both true k = absurd (cc)
+    both false k = absurd (cc)
+
+other-none : (one other : Option ObjFault) → lesser_fault one other ≡ None → other ≡ None
+other-none None other h = h
+other-none (Some fault) None h = refl
+other-none (Some fault) (Some other) h = both (nat_lt other.line fault.line) h
+  where
+    both : (b : Bool) → (if b then Some other else Some fault) ≡ None → Some other ≡ None
     both true k = absurd (cc)
     both false k = absurd (cc)
 
@@ -105,3 +115,64 @@ coordinates-short text least good few =
   where
     kept : (common : ℕ) (words : List (List ℕ)) → is_vertex_line words ≡ true → has_long_number common words ≡ false → list_any (is_long_over common) (take 3 (values_of words)) ≡ false
     kept common words is h = (rw is at h)
+
+-- a line of a texture value is none of a point, and has a value
+not-vertex : (words : List (List ℕ)) → is_texture_line words ≡ true → is_vertex_line words ≡ false
+not-vertex [] is = absurd (cc)
+not-vertex (keyword ∷ values) is = ap (λ word. is_vertex_line (word ∷ values)) ((bytes_eq-Decides keyword (codes "vt")).0 is)
+
+texture-long : (before whole : Counts) (words : List (List ℕ)) → is_texture_line words ≡ true → line_fault before whole words ≡ None → 1 ≤ length (values_of words)
+texture-long before whole [] texture good = absurd (cc)
+texture-long before whole (keyword ∷ values) texture good =
+    let words = keyword ∷ values in
+    let long = long-enough (is_continued words) (not (has_known_keyword words)) (nat_lt (length (values_of words)) (least_values words)) _ _ _ (words_fault before whole words) good in
+    let least : least_values words ≡ 1 = least-of (is_vertex_line words) (is_tag_line words) (is_texture_line words) (is_face_line words) 3 2 1 0 (not-vertex words texture) (no-tag words texture) texture in
+    grind (arith, nat_tests, least)
+  where
+    no-tag : (words : List (List ℕ)) → is_texture_line words ≡ true → is_tag_line words ≡ false
+    no-tag [] is = absurd (cc)
+    no-tag (keyword ∷ values) is = ap (λ word. is_tag_line (word ∷ values)) ((bytes_eq-Decides keyword (codes "vt")).0 is)
+
+    least-of : (vertex tag texture face : Bool) (three two one none : ℕ) → vertex ≡ false → tag ≡ false → texture ≡ true →
+        (if vertex then three else if tag then two else if texture || face then one else none) ≡ one
+    least-of false false true face three two one none e f g = refl
+    least-of true tag texture face three two one none e f g = absurd (cc)
+    least-of false true texture face three two one none e f g = absurd (cc)
+    least-of false false false face three two one none e f g = absurd (cc)
+
+-- its values are short, where those that it has are
+two-words : (common : ℕ) (words : List (List ℕ)) → 1 ≤ length (drop 1 words) → list_any (is_long_over common) (take 2 (drop 1 words)) ≡ false → IsShortTexture (texture_over common words)
+two-words common [] long h = absurd (omega (arith, long))
+two-words common (k ∷ []) long h = absurd (omega (arith, long))
+two-words common (k ∷ (a ∷ [])) long h = (short-word common a (first (is_long_over common a) h), omega arith)
+  where
+    first : (x : Bool) → (x || false) ≡ false → x ≡ false
+    first false e = refl
+    first true e = absurd (cc)
+two-words common (k ∷ (a ∷ (b ∷ words))) long h =
+    let parts = two (is_long_over common a) (is_long_over common b) h in
+    (short-word common a parts.0, short-word common b parts.1)
+  where
+    two : (x y : Bool) → (x || (y || false)) ≡ false → (x ≡ false) × (y ≡ false)
+    two false false e = (refl, refl)
+    two true y e = absurd (cc)
+    two false true e = absurd (cc)
+
+pub texture-short : (text : List ℕ) (least : ℕ) → read_obj_fault text least ≡ None → (read_obj_mesh text least).texture_common ≤ 10 ^ 37
+    → All IsShortTexture (read_obj_mesh text least).texture
+texture-short text least good few =
+    let lines = obj_lines text in
+    let common = texture_common_of lines in
+    let bad = first_bad_line lines in
+    let none = or-else-none bad (first_late_fault least lines) good in
+    let late = other-none _ (late_fault is_texture_line 1 lines) (second-none bad (first_late_fault least lines) good) in
+    let fine = no-long-fault is_texture_line 1 lines (within-bound is_texture_line 1 lines few) late in
+    All-from_recursion IsShortTexture (read_obj_mesh text least).texture
+    (all-made is_texture_line (texture_over common) IsShortTexture [] lines
+    (λ i within is.
+    two-words common (get_or lines i [])
+    (texture-long (counts_of (take i lines)) (counts_of lines) (get_or lines i []) is (each-good (fault_at lines) (length lines) none i within))
+    (kept common (get_or lines i []) is (not-long (is_texture_line (get_or lines i [])) _ _ (each-good (long_fault is_texture_line common lines) (length lines) fine i within) is))))
+  where
+    kept : (common : ℕ) (words : List (List ℕ)) → is_texture_line words ≡ true → has_long_number common words ≡ false → list_any (is_long_over common) (take 2 (values_of words)) ≡ false
+    kept common words is h = (rw (not-vertex words is, is) at h)
