@@ -26,7 +26,7 @@ column_of column rows = map (λ row. get_or row.numbers column (pos 0)) rows
 
 -- a level 0 whose levels can be made: a manifold with a sharp boundary, every point complete
 pub record IsBase (base : Topology) : Type 0 where
-  pub points : base.level.point_count ≤ 2 ^ 20
+  pub points : base.level.point_count ≤ 2 ^ 27
   pub complete : base.complete ≡ replicate base.level.point_count true
   pub manifold : IsManifold base.level.point_count base.level.polygons
   pub boundary : IsTrue (has_sharp_boundary base.level)

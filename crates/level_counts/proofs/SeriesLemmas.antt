@@ -20,14 +20,14 @@ pub record IsReached (base : Level) (k : ℕ) (t : Topology) : Type 0 where
   pub level : t.level ≡ refined_level base k
   pub complete : t.complete ≡ replicate t.level.point_count true
   pub faces : length t.level.polygons ≤ 2 ^ 22
-  pub points : t.level.point_count ≤ 2 ^ 20 + k * 2 ^ 23
+  pub points : t.level.point_count ≤ 2 ^ 27 + k * 2 ^ 23
   pub made : AreMade base k
 
 plus-one : (k : ℕ) → k + 1 ≡ suc k
 plus-one k = omega arith
 
 -- level 0
-pub reached-none : (t : Topology) → length t.level.polygons ≤ 2 ^ 22 → t.level.point_count ≤ 2 ^ 20 → t.complete ≡ replicate t.level.point_count true → IsReached t.level 0 t
+pub reached-none : (t : Topology) → length t.level.polygons ≤ 2 ^ 22 → t.level.point_count ≤ 2 ^ 27 → t.complete ≡ replicate t.level.point_count true → IsReached t.level 0 t
 reached-none t faces few whole = record {
   level = refl;
   complete = whole;

@@ -98,7 +98,7 @@ pub fn count_levels<L: Ledger>(
     steps: &mut Steps<L>,
 ) -> Result<Vec<LevelCounts>, SeriesFault>
     requires depth { depth ≤ 10 }
-    requires points { base.level.point_count ≤ 2 ^ 20 }
+    requires points { base.level.point_count ≤ 2 ^ 27 }
     requires whole { base.complete ≡ replicate base.level.point_count true }
     ensures counted { MatchResult result
         (λ counts. (map seen_counts counts.items ≡ map (λ k. counts_of (refined_level base.level k)) (range_with_len 0 (depth + 1))) × AreMade base.level depth)
