@@ -1,0 +1,10 @@
+pub mod View
+pub mod Corners
+pub mod Cut
+pub mod CornerPlaces
+pub mod Built
+pub mod Kept
+pub mod Sides
+pub mod Fans
+pub mod FirstOnes
+pub mod TextureValues

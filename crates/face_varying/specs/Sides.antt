@@ -1,0 +1,26 @@
+-- The texture numbers at the ends of edges, as the sides of faces give them.
+use Rattle.std.specs.Prelude.{ℕ, ◌≡◌, ◌+◌, ◌<◌, Bool, nat_eq, List, length, get_or, if◌then◌else◌}
+use Rattle.subdiv_model.specs.Polygons.{Polygon, polygon_at}
+use Rattle.subdiv_model.specs.Edges.{edges_of, edge_number}
+use Rattle.level_topology.specs.Topology.{edge_at, side_at}
+use Rattle.face_varying.specs.CornerPlaces.{start_of}
+
+-- a side goes along its edge, from the first end to the second
+abbrev pub is_along : List Polygon → ℕ × ℕ → Bool
+is_along polygons side = nat_eq (edge_at polygons (edge_number polygons side)).0 side.0
+
+-- a pair of numbers of a side, the one at the first end of its edge first
+abbrev pub by_end : Bool → ℕ × ℕ → ℕ × ℕ
+by_end forward pair = if forward then pair else (pair.1, pair.0)
+
+-- what is noted for an edge, of the side that goes along it or of the one that goes against it
+abbrev pub noted : List (ℕ × ℕ) → List (ℕ × ℕ) → Bool → ℕ → ℕ × ℕ
+noted along against forward e = if forward then get_or along e (0, 0) else get_or against e (0, 0)
+
+-- the sides of so many corners are noted
+pub record AreNoted (polygons : List Polygon) (texture : List (List ℕ)) (along against : List (ℕ × ℕ)) (count : ℕ) : Type 0 where
+  pub along_size : length along ≡ length (edges_of polygons)
+  pub against_size : length against ≡ length (edges_of polygons)
+  pub each : (f c : ℕ) → f < length polygons → c < length (polygon_at polygons f) → start_of polygons f + c < count
+      → let side = side_at (polygon_at polygons f) c in
+      noted along against (is_along polygons side) (edge_number polygons side) ≡ by_end (is_along polygons side) (side_at (polygon_at texture f) c)

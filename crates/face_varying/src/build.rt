@@ -1,0 +1,51 @@
+//! Level 0 of the cut mesh.
+
+ghost use Rattle.std.specs.Prelude.{◌≡◌, ◌+◌, ◌≤◌, true, length, map, replicate, IfOk};
+ghost use Rattle.std.specs.List.{range_with_len};
+ghost use Rattle.subdiv_model.specs.Cut.{channel_points, cut_polygons, cut_level, stays_sharp};
+ghost use Rattle.face_varying.specs.Corners.{apart_marks, corner_numbers};
+ghost use Rattle.face_varying.specs.Cut.{IsCuttable};
+ghost use Rattle.face_varying.specs.View.{mode_of};
+
+use crate::build_faces::{add_faces, points_alone};
+use crate::build_points::add_points;
+use crate::build_sides::add_sides;
+use crate::mode::SeamMode;
+use level_topology::Level;
+use obj_tags::RawMesh;
+use ratio128::{Memory, Steps};
+use std::alloc::Global;
+use std::sync::ledger::Ledger;
+
+// Level 0 of the cut mesh: by the edges whose faces are apart, the number of the channel point of each corner, the vertex of each
+// point, and the points that the mode keeps sharp. Each face takes a step. The mesh and the mode are there for the contract alone.
+pub(crate) fn cut_level<L: Ledger>(
+    alloc: Global,
+    raw: &RawMesh,
+    level: &Level,
+    apart: &[bool],
+    numbers: &[u32],
+    vertices: &[u32],
+    kept: &[bool],
+    mode: SeamMode,
+    steps: &mut Steps<L>,
+) -> Result<Level, Memory>
+    requires cuttable { IsCuttable raw.now level.now }
+    requires apart { apart.now ≡ apart_marks raw.now }
+    requires numbers { numbers.now ≡ corner_numbers raw.now }
+    requires vertices { vertices.now ≡ map (λ point. point.0) (channel_points raw.now) }
+    requires kept { kept.now ≡ map (stays_sharp (mode_of mode) (cut_polygons raw.now (channel_points raw.now))) (range_with_len 0 (length (channel_points raw.now))) }
+    ensures level { IfOk result (λ level. level.level ≡ cut_level (mode_of mode) raw.now) }
+    ensures complete { IfOk result (λ level. level.complete ≡ replicate (length (channel_points raw.now)) true) }
+    ensures steps { steps.new ≤ steps.old + length raw.now.faces }
+    ensures later { steps.old ≤ steps.new }
+{
+    level.facts();
+    let points = vertices.len() as u32;
+    let mut builder = points_alone(alloc, level, apart, numbers, points)?;
+    add_faces(&mut builder, level, numbers, steps)?;
+    add_sides(&mut builder, level, apart, numbers);
+    add_points(&mut builder, level, vertices, kept);
+    let cut = builder.finish()?;
+    Ok(cut)
+}

@@ -1,0 +1,88 @@
+//! The faces of the cut mesh.
+
+ghost use Rattle.std.specs.Prelude.{◌≡◌, ◌+◌, ◌≤◌, ◌^◌, length, IfOk, OnOk};
+ghost use Rattle.std.specs.List.{sum_by};
+ghost use Rattle.level_topology.specs.Builder.{only_points};
+ghost use Rattle.mesh_check.specs.Base.{smooth_built};
+ghost use Rattle.face_varying.specs.Built.{AreFit, cut_by};
+
+use crate::cut_faces::cut_face;
+use level_topology::{Level, LevelBuilder};
+use ratio128::{Memory, Steps};
+use std::alloc::Global;
+use std::hash::{DefaultHasher, Hasher};
+use std::sync::ledger::Ledger;
+
+// Numbers, hashed after what came before.
+fn hash_numbers(hasher: &mut DefaultHasher, numbers: &[u32]) {
+    hasher.write_usize(numbers.len());
+    for number in numbers {
+        hasher.write_u32(*number);
+    }
+}
+
+// A key in which the point of every corner counts, and the size of every face. Whoever chooses the mesh cannot choose its key with it.
+fn key_of(level: &Level, numbers: &[u32]) -> u128 {
+    let mut hasher = DefaultHasher::new();
+    hash_numbers(&mut hasher, level.corner_starts());
+    hash_numbers(&mut hasher, numbers);
+    let half = hasher.finish();
+    hasher.write_u64(half);
+    ((half as u128) << 64) + hasher.finish() as u128
+}
+
+// How many edges the cut mesh has at most: one for each edge of the mesh, and one more where the faces there are apart.
+fn edge_room(level: &Level, apart: &[bool]) -> u32 {
+    let mut room = level.edges();
+    for mark in apart {
+        room = room.saturating_add(u32::from(*mark));
+    }
+    room
+}
+
+// The points alone, with room for all that comes.
+pub(crate) fn points_alone(
+    alloc: Global,
+    level: &Level,
+    apart: &[bool],
+    numbers: &[u32],
+    points: u32,
+) -> Result<LevelBuilder, Memory>
+    requires points { points ≤ 2 ^ 30 }
+    requires few { length numbers.now ≤ 2 ^ 30 }
+    ensures { IfOk result (λ b. b ≡ only_points points level.now.level.method) }
+{
+    let corners = numbers.len() as u32;
+    let edges = edge_room(level, apart);
+    let key = key_of(level, numbers);
+    LevelBuilder::with_key(
+        alloc,
+        points,
+        level.faces(),
+        corners,
+        edges,
+        level.method(),
+        key,
+    )
+}
+
+// Adds the faces with their marks.
+pub(crate) fn add_faces<L: Ledger>(
+    builder: &mut LevelBuilder,
+    level: &Level,
+    numbers: &[u32],
+    steps: &mut Steps<L>,
+) -> Result<(), Memory>
+    requires fit { AreFit builder.old.level.point_count (cut_by level.now.level.polygons numbers.now) }
+    requires numbers { length numbers.now ≡ sum_by length level.now.level.polygons }
+    requires holes { length level.now.level.holes ≡ length level.now.level.polygons }
+    requires alone { builder.old ≡ only_points builder.old.level.point_count builder.old.level.method }
+    ensures faces { OnOk result (builder.new ≡ smooth_built builder.old.level.point_count builder.old.level.method (cut_by level.now.level.polygons numbers.now) level.now.level.holes) }
+    ensures steps { steps.new ≤ steps.old + length level.now.level.polygons }
+    ensures later { steps.old ≤ steps.new }
+{
+    for f in 0..level.faces() {
+        builder.add_face(cut_face(level, numbers, f), level.is_hole(f), steps)?;
+    }
+    Ok(())
+}

@@ -1,0 +1,43 @@
+//! The channel points that the mode keeps sharp.
+
+ghost use Rattle.std.specs.Prelude.{◌≡◌, false, length, map, replicate, IfOk};
+ghost use Rattle.std.specs.List.{range_with_len};
+ghost use Rattle.subdiv_model.specs.ObjMesh.{ObjMesh};
+ghost use Rattle.subdiv_model.specs.Cut.{channel_points, cut_polygons, stays_sharp};
+ghost use Rattle.face_varying.specs.Corners.{apart_marks, corner_numbers};
+ghost use Rattle.face_varying.specs.Cut.{IsCuttable};
+ghost use Rattle.face_varying.specs.View.{mode_of};
+
+use crate::kept_corners::single_points;
+use crate::kept_ends::end_points;
+use crate::mode::SeamMode;
+use level_topology::Level;
+use ratio128::Memory;
+use std::alloc::Global;
+
+// None of so many points marked.
+fn no_points(alloc: Global, points: usize) -> Result<Vec<bool>, Memory>
+    ensures { IfOk result (λ marks. marks.items ≡ replicate points false) }
+{
+    let marks = vec![in alloc; false; points]?;
+    Ok(marks)
+}
+
+// For each of so many channel points whether the mode keeps it sharp: none, those of one corner, or the ends of apart edges.
+pub(crate) fn kept_points(
+    alloc: Global,
+    level: &Level,
+    apart: &[bool],
+    numbers: &[u32],
+    points: u32,
+    mode: SeamMode,
+) -> Result<Vec<bool>, Memory>
+    ensures { (mesh : ObjMesh) → IsCuttable mesh level.now → apart.now ≡ apart_marks mesh → numbers.now ≡ corner_numbers mesh → points ≡ length (channel_points mesh)
+        → IfOk result (λ kept. kept.items ≡ map (stays_sharp (mode_of mode) (cut_polygons mesh (channel_points mesh))) (range_with_len 0 (length (channel_points mesh)))) }
+{
+    match mode {
+        SeamMode::Smooth => no_points(alloc, points as usize),
+        SeamMode::Corners => single_points(alloc, numbers, points as usize),
+        SeamMode::Boundaries => end_points(alloc, level, apart, numbers, points as usize),
+    }
+}

@@ -1,0 +1,94 @@
+//! What is at each channel point.
+
+ghost use Rattle.std.specs.Prelude.{◌≡◌, ◌<◌, ◌++◌, ◌∷◌, [], nat_eq, length, map, IfOk, OnOk, if◌then◌else◌};
+ghost use Rattle.std.specs.List.{All};
+ghost use Rattle.subdiv_model.specs.Cut.{channel_points, channel_values};
+ghost use Rattle.obj_tags.specs.View.{texture_of};
+ghost use Rattle.face_varying.specs.Corners.{corner_numbers};
+ghost use Rattle.face_varying.specs.Cut.{IsCuttable};
+ghost use Rattle.face_varying.specs.FirstOnes.{first_ones};
+ghost use Rattle.face_varying.specs.TextureValues.{value_at};
+
+use level_topology::Level;
+use obj_tags::RawMesh;
+use ratio128::{Memory, Point2};
+use std::alloc::Global;
+
+// The vertex and the texture value of each channel point.
+#[derive(Drop)]
+pub(crate) struct ChannelPoints {
+    pub(crate) vertices: Vec<u32>,
+    pub(crate) values: Vec<Point2>,
+}
+
+// The point of a corner, where its number is as great as how many points came before: its vertex, and the value of its texture number.
+fn add_corner(
+    points: &mut ChannelPoints,
+    number: u32,
+    vertex: u32,
+    corner: u32,
+    texture: &[Point2],
+) -> Result<(), Memory>
+    requires { corner < length texture.now }
+    ensures vertices { OnOk result (points.new.vertices.items ≡ (if nat_eq number (length points.old.vertices.items) then points.old.vertices.items ++ vertex ∷ [] else points.old.vertices.items)) }
+    ensures values { OnOk result (map texture_of points.new.values.items ≡ (if nat_eq number (length points.old.vertices.items) then map texture_of points.old.values.items ++ value_at (map texture_of texture.now) corner ∷ [] else map texture_of points.old.values.items)) }
+{
+    if number as usize == points.vertices.len() {
+        points.vertices.push(vertex)?;
+        points.values.push(texture[corner as usize])?;
+    }
+    Ok(())
+}
+
+// The points of the corners of a face that come first there: by the number, the vertex and the texture number of each corner.
+fn add_face(
+    points: &mut ChannelPoints,
+    numbers: &[u32],
+    vertices: &[u32],
+    corners: &[u32],
+    texture: &[Point2],
+) -> Result<(), Memory>
+    requires vertices { length vertices.now ≡ length numbers.now }
+    requires corners { length corners.now ≡ length numbers.now }
+    requires within { All (λ t. t < length texture.now) corners.now }
+    ensures vertices { OnOk result (points.new.vertices.items ≡ points.old.vertices.items ++ first_ones (length points.old.vertices.items) numbers.now vertices.now) }
+    ensures values { OnOk result (map texture_of points.new.values.items ≡ map texture_of points.old.values.items ++ first_ones (length points.old.vertices.items) numbers.now (map (value_at (map texture_of texture.now)) corners.now)) }
+{
+    for c in 0..numbers.len() {
+        add_corner(points, numbers[c], vertices[c], corners[c], texture)?;
+    }
+    Ok(())
+}
+
+// The vertex and the value of each channel point, from the corner where it appears first: its number is there as great as how many
+// points came before.
+pub(crate) fn channel_points(
+    alloc: Global,
+    raw: &RawMesh,
+    level: &Level,
+    numbers: &[u32],
+) -> Result<ChannelPoints, Memory>
+    requires cuttable { IsCuttable raw.now level.now }
+    requires numbers { numbers.now ≡ corner_numbers raw.now }
+    ensures vertices { IfOk result (λ points. points.vertices.items ≡ map (λ point. point.0) (channel_points raw.now)) }
+    ensures values { IfOk result (λ points. map texture_of points.values.items ≡ channel_values raw.now) }
+{
+    let mut points = ChannelPoints {
+        vertices: Vec::new(alloc),
+        values: Vec::new(alloc),
+    };
+    let mut rest = numbers;
+    for f in 0..level.faces() {
+        let vertices = level.face_vertices(f);
+        let (own, others) = rest.split_at(vertices.len());
+        add_face(
+            &mut points,
+            own,
+            vertices,
+            raw.texture_corners(f),
+            raw.texture(),
+        )?;
+        rest = others;
+    }
+    Ok(points)
+}
