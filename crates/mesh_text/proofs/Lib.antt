@@ -4,3 +4,4 @@ mod PartsLemmas
 mod NumberedLemmas
 mod RoundingLemmas
 pub mod SameTextLemmas
+pub mod SameTextureLemmas

@@ -1,11 +1,14 @@
 -- A line is what is put first, its words and its end.
-use Rattle.std.proofs.Common.{◌≡◌, ℕ, ◌+◌, List, [], ◌∷◌, ◌++◌, codes, append_assoc, refl, ap, sym, ◌∙◌, map, Option}
+use Rattle.std.proofs.Common.{◌≡◌, ℕ, ◌+◌, List, [], ◌∷◌, ◌++◌, codes, append_assoc, refl, ap, sym, ◌∙◌, zip, Option}
 use Rattle.std.specs.List.{flat_map}
+use Rattle.std.proofs.lemmas.List.Folds.{flat_map-map}
+use Rattle.subdiv_model.specs.Polygons.{Polygon}
 use Rattle.subdiv_model.specs.Sharpness.{Sharpness}
+use Rattle.subdiv_model.specs.Value.{Value}
 use Rattle.subdiv_model.specs.Refined.{Point}
 use Rattle.subdiv_model.specs.NumberText.{number_text, value_text_with}
-use Rattle.subdiv_model.specs.Text.{point_line, face_line, hole_line, sharpness_text}
-use Rattle.mesh_text.specs.Lines.{corner_word, crease_tag, corner_tag}
+use Rattle.subdiv_model.specs.Text.{point_line, texture_line, face_line, corner_text, textured_face_line, hole_line, sharpness_text}
+use Rattle.mesh_text.specs.Lines.{corner_word, textured_word, crease_tag, corner_tag}
 
 -- words, each after one space, and the end of the line
 abbrev ended : List (List ℕ) → List ℕ
@@ -22,12 +25,17 @@ pub point-by-words : (decimals : Option ℕ) (p : Point) →
 point-by-words decimals p =
     ap (λ rest. codes "v" ++ rest) (ended-words (value_text_with decimals p.0 ∷ value_text_with decimals p.1 ∷ value_text_with decimals p.2 ∷ []))
 
-words-of-corners : (corners : List ℕ) → flat_map corner_word corners ≡ flat_map (λ word. 32 ∷ word) (map (λ corner. number_text (corner + 1)) corners)
-words-of-corners [] = refl
-words-of-corners (corner ∷ corners) = ap (λ words. corner_word corner ++ words) (words-of-corners corners)
+pub texture-by-words : (decimals : Option ℕ) (p : Value × Value) →
+    codes "vt" ++ ((32 ∷ value_text_with decimals p.0) ++ ((32 ∷ value_text_with decimals p.1) ++ (10 ∷ []))) ≡ texture_line decimals p
+texture-by-words decimals p = ap (λ rest. codes "vt" ++ rest) (ended-words (value_text_with decimals p.0 ∷ value_text_with decimals p.1 ∷ []))
 
 pub face-by-words : (corners : List ℕ) → codes "f" ++ (flat_map corner_word corners ++ (10 ∷ [])) ≡ face_line corners
-face-by-words corners = ap (λ words. codes "f" ++ (words ++ (10 ∷ []))) (words-of-corners corners)
+face-by-words corners =
+    ap (λ words. codes "f" ++ (words ++ (10 ∷ []))) (sym (flat_map-map (λ word. 32 ∷ word) (λ corner. number_text (corner + 1)) corners))
+
+pub textured-face-by-words : (face : Polygon × Polygon) → codes "f" ++ (flat_map textured_word (zip face.0 face.1) ++ (10 ∷ [])) ≡ textured_face_line face
+textured-face-by-words face =
+    ap (λ words. codes "f" ++ (words ++ (10 ∷ []))) (sym (flat_map-map (λ word. 32 ∷ word) corner_text (zip face.0 face.1)))
 
 pub crease-by-words : (ends : ℕ × ℕ) (s : Sharpness) →
     codes "t crease 2/1/0" ++ ((32 ∷ number_text ends.0) ++ ((32 ∷ number_text ends.1) ++ ((32 ∷ sharpness_text s) ++ (10 ∷ [])))) ≡ crease_tag ends s

@@ -26,7 +26,8 @@ point-same decimals p q above below same =
     ∙ ap (λ t. words (value_text_with decimals q.0) t (value_text_with decimals p.2)) (value-same decimals p.1 q.1 above.y below.y same.y)
     ∙ ap (λ t. words (value_text_with decimals q.0) (value_text_with decimals q.1) t) (value-same decimals p.2 q.2 above.z below.z same.z)
 
-points-same : (decimals : Option ℕ) (ps qs : List Point) → AllByRecursion HasDenominators ps → AllByRecursion HasDenominators qs → AllZip IsSamePoint ps qs →
+-- point by point
+pub points-same : (decimals : Option ℕ) (ps qs : List Point) → AllByRecursion HasDenominators ps → AllByRecursion HasDenominators qs → AllZip IsSamePoint ps qs →
     flat_map (point_line decimals) ps ≡ flat_map (point_line decimals) qs
 points-same decimals [] [] above below same = refl
 points-same decimals [] (q ∷ qs) above below same = absurd same

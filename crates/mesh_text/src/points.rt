@@ -15,7 +15,7 @@ use primvar_refine::Valued;
 use ratio128::{Frac, Point3};
 
 // Puts a space and a coordinate, in lowest terms, or rounded where decimals are given.
-fn put_coordinate<K: Sink>(
+pub(crate) fn put_coordinate<K: Sink>(
     out: &mut Out<'_, K>,
     num: &i128,
     den: u128,

@@ -1,13 +1,13 @@
 //! The texts of sharpness.
 
-ghost use Rattle.std.specs.Prelude.{◌≡◌, ◌∷◌, ◌++◌, codes};
+ghost use Rattle.std.specs.Prelude.{◌≡◌, ◌∷◌};
 ghost use Rattle.subdiv_model.specs.Sharpness.{is_sharp};
-ghost use Rattle.subdiv_model.specs.NumberText.{number_text, ratio_text};
+ghost use Rattle.subdiv_model.specs.NumberText.{ratio_text};
 ghost use Rattle.subdiv_model.specs.Text.{sharpness_text};
 ghost use Rattle.sharpness_rules.specs.View.{sharpness_of};
 ghost use Rattle.obj_out.specs.Puts.{Puts};
 
-use crate::words::{put_byte, put_number, put_text};
+use crate::words::{put_byte, put_number, put_pair, put_text};
 use far_io::{Sink, WriteFailed};
 use obj_out::Out;
 use sharpness_rules::Sharpness;
@@ -22,16 +22,6 @@ pub(crate) fn is_sharp(sharpness: Sharpness) -> bool
     }
 }
 
-// Puts two numbers with a slash between them.
-fn put_terms<K: Sink>(out: &mut Out<'_, K>, num: u64, den: u64) -> Result<(), WriteFailed>
-    ensures same_reference { out.new.sink.ghost_name ≡ out.old.sink.ghost_name }
-    ensures puts { Puts K.held K.faults K.fixed out.old.sink.now out.new.sink.now out.old.waiting out.new.waiting out.old.failed out.new.failed (number_text num ++ (codes "/" ++ number_text den)) result }
-{
-    put_number(out, num)?;
-    put_byte(out, b'/')?;
-    put_number(out, den)
-}
-
 // Puts the numerator, and the denominator after it where that is not 1.
 fn put_ratio<K: Sink>(out: &mut Out<'_, K>, num: u64, den: u64) -> Result<(), WriteFailed>
     ensures same_reference { out.new.sink.ghost_name ≡ out.old.sink.ghost_name }
@@ -40,7 +30,7 @@ fn put_ratio<K: Sink>(out: &mut Out<'_, K>, num: u64, den: u64) -> Result<(), Wr
     if den == 1 {
         put_number(out, num)
     } else {
-        put_terms(out, num, den)
+        put_pair(out, num, den)
     }
 }
 

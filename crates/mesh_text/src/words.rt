@@ -1,6 +1,6 @@
 //! The pieces of which lines are made.
 
-ghost use Rattle.std.specs.Prelude.{◌≡◌, [], ◌∷◌};
+ghost use Rattle.std.specs.Prelude.{◌≡◌, [], ◌∷◌, ◌++◌, codes};
 ghost use Rattle.subdiv_model.specs.NumberText.{number_text};
 ghost use Rattle.obj_out.specs.Puts.{Puts};
 
@@ -37,4 +37,18 @@ pub(crate) fn put_number_word<K: Sink>(out: &mut Out<'_, K>, n: u64) -> Result<(
     ensures puts { Puts K.held K.faults K.fixed out.old.sink.now out.new.sink.now out.old.waiting out.new.waiting out.old.failed out.new.failed (32 ∷ number_text n) result }
 {
     out.put_number_after(b' ', n)
+}
+
+// Puts two whole numbers with a slash between them.
+pub(crate) fn put_pair<K: Sink>(
+    out: &mut Out<'_, K>,
+    first: u64,
+    second: u64,
+) -> Result<(), WriteFailed>
+    ensures same_reference { out.new.sink.ghost_name ≡ out.old.sink.ghost_name }
+    ensures puts { Puts K.held K.faults K.fixed out.old.sink.now out.new.sink.now out.old.waiting out.new.waiting out.old.failed out.new.failed (number_text first ++ (codes "/" ++ number_text second)) result }
+{
+    put_number(out, first)?;
+    put_byte(out, b'/')?;
+    put_number(out, second)
 }

@@ -1,5 +1,5 @@
 use Rattle.obj_out.proofs.PutsLemmas.{puts-after, puts-cut}
-use Rattle.mesh_text.proofs.sharpness.put_terms.Goals as goal
+use Rattle.mesh_text.proofs.words.put_pair.Goals as goal
 
 pub returns-in_err-put_number-clause-puts : goal.returns-in_err-put_number-clause-puts
 returns-in_err-put_number-clause-puts g c =
