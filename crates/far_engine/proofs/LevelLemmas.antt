@@ -12,13 +12,13 @@ use Rattle.subdiv_model.specs.ObjMesh.{ObjMesh}
 use Rattle.subdiv_model.specs.Command.{Command, Levels}
 use Rattle.subdiv_model.specs.Fault.{Fault, TooLarge, LevelFaces, Overflow, Track, Positions, ChaikinOverflow}
 use Rattle.subdiv_model.specs.Channel.{Channel, Sharpnesses, fault_where, chaikin_overflows_at, has_chaikin_overflow, channel_faults}
-use Rattle.subdiv_model.specs.Answer.{face_limit, mesh_limit, level_count_faults, count_faults, positions_of}
+use Rattle.subdiv_model.specs.Answer.{face_limit, mesh_limit, level_count_faults, count_faults, command_faults, positions_of}
 use Rattle.level_laws.proofs.FaceLemmas.{faces-after, child_polygons-length}
 use Rattle.level_topology.specs.Topology.{Topology}
 use Rattle.mesh_check.specs.Checked.{IsAccepted}
 use Rattle.channel_refine.proofs.FaultLemmas.{first-here, first-behind, flat-none, first-from-0, none-of-levels, first-of-levels, any-none, any-from-0}
 use Rattle.far_engine.specs.Outcome.{refusal_of_mesh}
-use Rattle.far_engine.proofs.RefusalLemmas.{built_faults, refusal-of-manifold}
+use Rattle.far_engine.proofs.RefusalLemmas.{refusal-of-manifold}
 
 -- of the halves at a level
 overflow-where : (b : Bool) (fault : Fault) → b ≡ false → fault_where b fault ++ [] ≡ []
@@ -116,15 +116,15 @@ next-count level k =
 
 -- the refusal of a mesh that was accepted is that of the command
 refusal-of-accepted : (command : Command) (mesh : ObjMesh) (level : Topology) (fault : Option Fault) → IsAccepted mesh level →
-    first_of (built_faults command mesh) ≡ fault → refusal_of_mesh command mesh ≡ fault
+    first_of (command_faults command mesh) ≡ fault → refusal_of_mesh command mesh ≡ fault
 refusal-of-accepted command mesh level fault accepted is =
     refusal-of-manifold command mesh accepted.manifold
-    ∙ first-behind (count_faults mesh) (built_faults command mesh) accepted.small
+    ∙ first-behind (count_faults mesh) (command_faults command mesh) accepted.small
     ∙ is
 
 -- a level that cannot be made for its faces
 pub refusal-of-faces : (command : Command) (mesh : ObjMesh) (level : Topology) (depth : ℕ) (others : List Fault) (fault : Fault) → IsAccepted mesh level →
-    built_faults command mesh ≡ level_count_faults mesh.faces depth ++ others → first_of (level_count_faults mesh.faces depth) ≡ Some fault →
+    command_faults command mesh ≡ level_count_faults mesh.faces depth ++ others → first_of (level_count_faults mesh.faces depth) ≡ Some fault →
     refusal_of_mesh command mesh ≡ Some fault
 refusal-of-faces command mesh level depth others fault accepted split is =
     refusal-of-accepted command mesh level (Some fault) accepted
@@ -132,7 +132,7 @@ refusal-of-faces command mesh level depth others fault accepted split is =
 
 -- where no level has too many faces, what comes after
 pub refusal-of-others : (command : Command) (mesh : ObjMesh) (level : Topology) (depth : ℕ) (others : List Fault) (fault : Option Fault) → IsAccepted mesh level →
-    built_faults command mesh ≡ level_count_faults mesh.faces depth ++ others → first_of (level_count_faults mesh.faces depth) ≡ None → first_of others ≡ fault →
+    command_faults command mesh ≡ level_count_faults mesh.faces depth ++ others → first_of (level_count_faults mesh.faces depth) ≡ None → first_of others ≡ fault →
     refusal_of_mesh command mesh ≡ fault
 refusal-of-others command mesh level depth others fault accepted split few is =
     refusal-of-accepted command mesh level fault accepted

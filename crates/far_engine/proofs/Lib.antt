@@ -4,7 +4,13 @@ mod WordsLemmas
 mod RunLemmas
 mod LevelLemmas
 mod SeriesLemmas
+mod ChannelLemmas
 mod PointLemmas
+mod PositionLemmas
+mod TextureLemmas
 mod RefineLemmas
 mod TableLemmas
 mod SummaryLemmas
+mod StepLemmas
+mod CutLemmas
+mod ManifoldLemmas

@@ -5,18 +5,19 @@ use Rattle.subdiv_model.specs.Polygons.{is_over}
 use Rattle.subdiv_model.specs.Manifold.{IsManifold}
 use Rattle.subdiv_model.specs.Words.{command_table, usage_of}
 use Rattle.subdiv_model.specs.ReadObj.{read_obj_mesh}
-use Rattle.subdiv_model.specs.Command.{Command, Gen, command_of}
+use Rattle.subdiv_model.specs.Command.{Command, Gen, command_of, read_or}
 use Rattle.subdiv_model.specs.Generator.{generated_mesh}
-use Rattle.subdiv_model.specs.Fault.{Fault, Usage, Read, Long, Obj, Mesh, TooLarge, Overflow, Write, Memory, NotBuilt, fault_status, outcome_status}
-use Rattle.subdiv_model.specs.Answer.{byte_limit}
-use Rattle.far_engine.specs.BuiltWords.{written_text}
-use Rattle.far_engine.specs.Outcome.{refusal_of, refusal_of_words, refusal_of_command, refusal_of_obj, refusal_of_made, text_of, mesh_of, is_made, input_of, IsAnswered, IsFound, step_limit}
+use Rattle.subdiv_model.specs.Fault.{Fault, Usage, Read, Long, Obj, Mesh, TooLarge, Overflow, Write, Memory, fault_status, outcome_status}
+use Rattle.subdiv_model.specs.Answer.{byte_limit, answer_of_command, answer_of_words}
+use Rattle.far_engine.specs.Written.{written_text}
+use Rattle.far_engine.specs.Outcome.{refusal_of, refusal_of_command, refusal_of_obj, refusal_of_made, text_of, mesh_of, is_made, input_of, IsAnswered, IsFound, step_limit, least_steps}
 use Rattle.far_engine.specs.Replies.{Called, HasManifolds, IsReady, IsRefused}
 use Rattle.far_engine.specs.Runs.{Runs}
 use Rattle.far_engine.specs.View.{fault_of, outcome_of, reply_text}
 use Rattle.far_engine.specs.declared.fault.FarFault.{FarFault}
 use Rattle.far_engine.specs.declared.reply.Reply.{Reply}
-use Rattle.far_engine.proofs.RefusalLemmas.{levels-manifold, mesh-of-read, read-manifold, refused-by-length, refused-by-text}
+use Rattle.far_engine.proofs.ManifoldLemmas.{levels-manifold}
+use Rattle.far_engine.proofs.RefusalLemmas.{mesh-of-read, read-manifold, refused-by-length, refused-by-text, text-of-good}
 
 -- what was taken to the end is what there was
 all_taken : (old new : Option (List ℕ)) (taken bytes : List ℕ) → Took old new taken → IsDry new → old ≡ Some bytes → taken ≡ bytes
@@ -48,7 +49,6 @@ found_answers (Obj fault) refusal found = found
 found_answers (Mesh fault) refusal found = found
 found_answers (TooLarge counted) refusal found = found
 found_answers (Overflow track level kind) refusal found = found
-found_answers (NotBuilt line) refusal found = found
 found_answers (Usage word) refusal found = absurd found
 found_answers Read refusal found = absurd found
 found_answers Long refusal found = absurd found
@@ -187,12 +187,26 @@ module _ {S : Type 0} (left : S → Option (List ℕ)) (faults : S → ℕ) wher
       read_reply (Ok reply) short found = read_ready (reply_text reply) short found.0 found.1
       read_reply (Err fault) short found = read_refused (fault_of fault) short found
 
+      -- where the bytes were handed on as a slice
+      pub read_reply_of : (r : Result Reply FarFault) (slice : List ℕ) → slice ≡ bytes → length bytes ≤ byte_limit →
+          MatchResult r (λ reply. (refusal_of_obj command slice ≡ None) × (reply_text reply ≡ written_text command (read_obj_mesh slice 0)))
+          (λ fault. IsFound (fault_of fault) (refusal_of_obj command slice)) →
+          MatchResult r (λ reply. IsReady left faults command s s' (reply_text reply))
+          (λ fault. IsRefused left faults command s s' (fault_of fault))
+      read_reply_of r slice same short found =
+          read_reply r short
+          (subst (λ bs. MatchResult r (λ reply. (refusal_of_obj command bs ≡ None) × (reply_text reply ≡ written_text command (read_obj_mesh bs 0)))
+          (λ fault. IsFound (fault_of fault) (refusal_of_obj command bs))) same found)
+
 -- the command of words that are one
 module _ {S K : Type 0} (left : S → Option (List ℕ)) (source_faults : S → ℕ) (held : K → Option (List ℕ))
     (sink_faults fixed : K → ℕ) (words : List (List ℕ)) (s s' : S) (command : Command) (good : usage_of command_table words ≡ None)
     (said : command ≡ command_of words) where
   refused_by_words : (bytes : List ℕ) → refusal_of words bytes ≡ refusal_of_command (command_of words) bytes
-  refused_by_words bytes = ap (λ place. refusal_of_words place (command_of words) bytes) good
+  refused_by_words bytes = ap (λ place. (answer_of_words (read_or place words) bytes).refusal) good
+
+  text_by_words : (bytes : List ℕ) → text_of words bytes ≡ (answer_of_command (command_of words) bytes).text
+  text_by_words bytes = ap (λ place. (answer_of_words (read_or place words) bytes).text) good
 
   ready_by_words : (text : List ℕ) → IsReady left source_faults command s s' text → IsReady left source_faults (command_of words) s s' text
   ready_by_words text ready = subst (λ c. IsReady left source_faults c s s' text) said ready
@@ -210,6 +224,7 @@ module _ {S K : Type 0} (left : S → Option (List ℕ)) (source_faults : S → 
         whole = is.whole;
         text = λ bytes e f. absurd (cc);
         manifold = λ bytes e f. absurd (cc);
+        cut_manifold = λ bytes e f. absurd (cc);
         prefix = λ bytes e f. absurd (is.not_write (cc));
         kept = λ other e f. refl;
         read = λ e. is.read (cc);
@@ -225,7 +240,7 @@ module _ {S K : Type 0} (left : S → Option (List ℕ)) (source_faults : S → 
   text_as : (text : List ℕ) → IsReady left source_faults (command_of words) s s' text → (bytes : List ℕ) →
       input_of (is_made (command_of words)) (left s) ≡ Some bytes → text ≡ text_of words bytes
   unfolding written_text
-  text_as text is bytes e = is.says bytes e
+  text_as text is bytes e = is.says bytes e ∙ sym (text-of-good (command_of words) bytes (is.good bytes e)) ∙ sym (text_by_words bytes)
 
   -- the text stands in the sink
   pub runs_ok : (k k' : K) (text : List ℕ) → IsReady left source_faults command s s' text →
@@ -240,7 +255,8 @@ module _ {S K : Type 0} (left : S → Option (List ℕ)) (source_faults : S → 
         answer = λ bytes e. refused_by_words bytes ∙ is.good bytes e;
         whole = λ e. is.whole;
         text = λ bytes e f. subst (Added (held k) (held k')) (text_as text is bytes e) added;
-        manifold = λ bytes e f. is.manifold bytes e;
+        manifold = λ bytes e f. (is.manifold bytes e).levels;
+        cut_manifold = λ bytes e f. (is.manifold bytes e).cut;
         prefix = λ bytes e f. absurd (cc);
         kept = λ fault e f. absurd (cc);
         read = λ e. absurd (cc);
@@ -267,6 +283,7 @@ module _ {S K : Type 0} (left : S → Option (List ℕ)) (source_faults : S → 
         whole = λ e. is.whole;
         text = λ bytes e f. absurd (cc);
         manifold = λ bytes e f. absurd (cc);
+        cut_manifold = λ bytes e f. absurd (cc);
         prefix = λ bytes e f. subst (AddedPrefix (held k) (held k')) (text_as text is bytes e) prefix;
         kept = λ fault e f. absurd (f (cc));
         read = λ e. absurd (cc);
@@ -287,6 +304,13 @@ pub steps_as : (words : List (List ℕ)) (left : Option (List ℕ)) (command : C
 steps_as words left command old new said bound =
     subst (λ c. (bytes : List ℕ) → input_of (is_made c) left ≡ Some bytes → new ≤ old + step_limit c (mesh_of c bytes)) said bound
 
+pub taken-as : (words : List (List ℕ)) (left : Option (List ℕ)) (command : Command) (old new : ℕ) → command ≡ command_of words →
+    ((bytes : List ℕ) → input_of (is_made command) left ≡ Some bytes → old + least_steps command (mesh_of command bytes) ≤ new) →
+    (bytes : List ℕ) → input_of (is_made (command_of words)) left ≡ Some bytes →
+    old + least_steps (command_of words) (mesh_of (command_of words) bytes) ≤ new
+taken-as words left command old new said bound =
+    subst (λ c. (bytes : List ℕ) → input_of (is_made c) left ≡ Some bytes → old + least_steps c (mesh_of c bytes) ≤ new) said bound
+
 -- a status of 0 is that of a run without a fault
 status_not_0 : (fault : Fault) → fault_status fault ≡ 0 → ⊥
 status_not_0 (Usage word) e = cc
@@ -298,7 +322,6 @@ status_not_0 (TooLarge counted) e = cc
 status_not_0 (Overflow track level kind) e = cc
 status_not_0 Write e = cc
 status_not_0 Memory e = cc
-status_not_0 (NotBuilt line) e = cc
 
 pub taken_by_status : (r : Result (Unit {0}) FarFault) (least new : ℕ) → OnOk r (least ≤ new) → outcome_status (outcome_of r) ≡ 0 → least ≤ new
 taken_by_status (Ok done) least new taken zero = taken

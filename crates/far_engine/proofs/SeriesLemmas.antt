@@ -10,7 +10,7 @@ use Rattle.subdiv_model.specs.ObjMesh.{ObjMesh}
 use Rattle.subdiv_model.specs.Command.{Command, Levels}
 use Rattle.subdiv_model.specs.Fault.{Fault, TooLarge, LevelFaces, Overflow, Positions, ChaikinOverflow}
 use Rattle.subdiv_model.specs.Fault as run
-use Rattle.subdiv_model.specs.Answer.{level_count_faults, count_faults, command_text}
+use Rattle.subdiv_model.specs.Answer.{level_count_faults, count_faults, command_faults, command_text}
 use Rattle.level_topology.specs.Topology.{Topology}
 use Rattle.level_topology.specs.declared.counted.Counted.{Counted}
 use Rattle.level_topology.specs.CountedText.{counted_of}
@@ -23,17 +23,17 @@ use Rattle.level_counts.specs.View.{seen_counts}
 use Rattle.level_counts.specs.Series.{AreMade, IsFirstFault, Overflows, faces_to}
 use Rattle.level_counts.specs.declared.series.SeriesFault.TheVariants as series
 use Rattle.subdiv_model.specs.LevelText.{level_line, levels_text}
-use Rattle.far_engine.specs.BuiltWords.{IsBuiltCommand, IsWritten, written_text}
+use Rattle.far_engine.specs.Written.{IsInRange, IsWritten, written_text}
 use Rattle.far_engine.specs.Levels.{IsAcceptedLevel, AreCounted}
 use Rattle.far_engine.specs.Outcome.{refusal_of_mesh, step_limit}
-use Rattle.far_engine.proofs.RefusalLemmas.{built_faults, refusal-of-manifold}
+use Rattle.far_engine.proofs.RefusalLemmas.{refusal-of-manifold}
 use Rattle.far_engine.proofs.LevelLemmas.{first-large, levels-fine, level-overflows, next-count, refusal-of-faces, refusal-of-halves, no-refusal, few-points, steps-of-levels}
 
 -- a mesh of which there is too much
 pub refusal-of-counts : (command : Command) (mesh : ObjMesh) (counted : run.Counted) → IsTooLarge mesh counted → refusal_of_mesh command mesh ≡ Some (TooLarge counted)
 refusal-of-counts command mesh counted large =
     refusal-of-manifold command mesh large.manifold
-    ∙ first-here (count_faults mesh) (built_faults command mesh) (TooLarge counted) large.named
+    ∙ first-here (count_faults mesh) (command_faults command mesh) (TooLarge counted) large.named
 
 -- the levels of a mesh that were made
 made-of : (mesh : ObjMesh) (level : Topology) (n : ℕ) → IsAccepted mesh level → AreMade level.level n → AreMade (base_level mesh) n
@@ -115,7 +115,7 @@ few-levels mesh level depth first found accepted sum tells none =
     sym (tells mesh.faces (sum ∙ ap (λ l. sum_by length l.polygons) accepted.level_is)) ∙ ap count_named none
 
 pub large-level : (command : Command) (mesh : ObjMesh) (level : Topology) (depth : ℕ) (others : List Fault) (first : ℕ) (found : Option Counted) (counted : Counted) → IsAccepted mesh level →
-    built_faults command mesh ≡ level_count_faults mesh.faces depth ++ others → first ≡ sum_by length level.level.polygons →
+    command_faults command mesh ≡ level_count_faults mesh.faces depth ++ others → first ≡ sum_by length level.level.polygons →
     ((polygons : List Polygon) → first ≡ sum_by length polygons → count_named found ≡ first_of (level_count_faults polygons depth)) → found ≡ Some counted →
     refusal_of_mesh command mesh ≡ Some (TooLarge (counted_of counted))
 large-level command mesh level depth others first found counted accepted split sum tells some =
@@ -143,5 +143,5 @@ counted-text command depth mesh counts is counted = record {
       ∙ ap (λ c. command_text c mesh) (sym is);
 }
 
-pub small-depth : (command : Command) (depth : ℕ) → command ≡ Levels depth → IsBuiltCommand command → depth ≤ 10
-small-depth command depth is built = subst IsBuiltCommand is built
+pub small-depth : (command : Command) (depth : ℕ) → command ≡ Levels depth → IsInRange command → depth ≤ 10
+small-depth command depth is built = subst IsInRange is built

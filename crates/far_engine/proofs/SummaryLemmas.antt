@@ -12,7 +12,7 @@ use Rattle.subdiv_model.specs.Child.{refined_level}
 use Rattle.subdiv_model.specs.ObjMesh.{ObjMesh}
 use Rattle.subdiv_model.specs.Mask.{CatmullClark}
 use Rattle.subdiv_model.specs.MeshFault.{first_mesh_fault}
-use Rattle.subdiv_model.specs.Command.{Gen}
+use Rattle.subdiv_model.specs.Command.{Gen, ByTable}
 use Rattle.subdiv_model.specs.Fault.{Fault}
 use Rattle.subdiv_model.specs.Channel.{Tables, greatest_amount}
 use Rattle.subdiv_model.specs.Answer.{answer_of_checked, point_numbers, positions_of, generated_text}
@@ -34,12 +34,13 @@ use Rattle.mesh_text.specs.Points.{CanBeWritten}
 use Rattle.table_text.specs.Summary.{CanBeTold, summary_text}
 use Rattle.table_text.specs.declared.summary.Summary.{Summary}
 use Rattle.table_text.proofs.SameSummaryLemmas.{summary_text-same}
-use Rattle.far_engine.specs.BuiltWords.{written_text}
-use Rattle.far_engine.specs.Outcome.{refusal_of_made, refusal_of_mesh, table_entries, IsFound}
+use Rattle.far_engine.specs.Written.{written_text}
+use Rattle.far_engine.specs.Outcome.{refusal_of_made, refusal_of_mesh, position_steps, IsFound}
 use Rattle.far_engine.specs.Refine.{AreRefined}
 use Rattle.far_engine.specs.Tables.{IsComposedOf, IsFoundComposing, IsSummaryOf}
-use Rattle.far_engine.proofs.PointLemmas.{numbers, are-controls, control-rows}
-use Rattle.far_engine.proofs.RefineLemmas.{refined-points}
+use Rattle.far_engine.proofs.ChannelLemmas.{control-rows}
+use Rattle.far_engine.proofs.PointLemmas.{numbers, are-controls}
+use Rattle.far_engine.proofs.PositionLemmas.{refined-points}
 
 -- every level of a mesh with points has points
 some-points : (level : Level) (k : ℕ) → 0 < level.point_count → 0 < (refined_level level k).point_count
@@ -71,7 +72,7 @@ module _ (mesh : ObjMesh) (depth : ℕ) (last : Topology) (table : Table) (is : 
       sym (length-map table.rows supports) ∙ ap length is.composed.supports ∙ length-supports (base_level mesh) CatmullClark depth
 
   -- as many entries as the definitions say
-  pub entries-told : entries_of table.rows ≡ table_entries depth mesh
+  pub entries-told : entries_of table.rows ≡ position_steps ByTable depth mesh
   entries-told = entries-are (positions_of mesh) depth last table is.composed is.made
 
   module _ (points : List Point3) (said : map reader.point_of points ≡ mesh.points) where
@@ -80,7 +81,7 @@ module _ (mesh : ObjMesh) (depth : ℕ) (last : Topology) (table : Table) (is : 
 
     controls : AreControls (positions_of mesh).greatest (control_rows (map numbers points))
     controls =
-        subst (AreControls (positions_of mesh).greatest) (sym (control-rows points))
+        subst (AreControls (positions_of mesh).greatest) (sym (control-rows numbers points))
         (are-controls points (positions_of mesh).greatest (ap (λ ps. greatest_amount (point_numbers ps)) (sym said)))
 
     -- and can be evaluated over the points of its mesh
@@ -100,7 +101,7 @@ module _ (mesh : ObjMesh) (depth : ℕ) (last : Topology) (table : Table) (is : 
       pub evaluated-points : 0 < mesh.common → AreRefined Tables mesh depth last values
       evaluated-points some =
           refined-points Tables mesh points depth last values said some
-          (subst (λ cs. IsRefinedTo Tables (positions_of mesh) cs depth last (rows_of numbers values)) (control-rows points)
+          (subst (λ cs. IsRefinedTo Tables (positions_of mesh) cs depth last (rows_of numbers values)) (control-rows numbers points)
           (subst (IsRefinedTo Tables (positions_of mesh) (control_rows (map numbers points)) depth last) (sym made)
           (evaluated-to (positions_of mesh) depth last table is.composed is.made (map numbers points) each-point controls)))
 

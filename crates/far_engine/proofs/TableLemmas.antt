@@ -20,7 +20,7 @@ use Rattle.channel_tables.specs.Composed.{IsComposedTo}
 use Rattle.channel_tables.proofs.NumeratorLemmas.{stencil-numerators}
 use Rattle.table_text.specs.Text.{text_of_table}
 use Rattle.table_text.proofs.SameTableLemmas.{table_text-same}
-use Rattle.far_engine.specs.BuiltWords.{IsWritten, written_text}
+use Rattle.far_engine.specs.Written.{IsWritten, written_text}
 use Rattle.far_engine.specs.Outcome.{refusal_of_mesh, IsFound}
 use Rattle.far_engine.specs.Tables.{IsComposedOf, IsFoundComposing}
 use Rattle.far_engine.proofs.LevelLemmas.{refusal-of-others}

@@ -10,7 +10,7 @@ use Rattle.subdiv_model.specs.Command.{command_of, read_or, read_words_by}
 use Rattle.far_words.specs.declared.command.Command.{Command}
 use Rattle.far_words.specs.View.{command_of_code, result_of_code}
 use Rattle.word_laws.proofs.ValueLemmas.{allowed-of-rule, required-of-rule}
-use Rattle.far_engine.specs.BuiltWords.{IsBuiltCommand}
+use Rattle.far_engine.specs.Written.{IsInRange}
 
 -- what was read is what the table says of the words
 understood-by : (usage : Option ℕ) (words : List (List ℕ)) (r : Result Command ℕ) (command : Command) → result_of_code r ≡ read_or usage words →
@@ -115,22 +115,22 @@ gen_numbers options none =
     (size_within.0, size_within.1, depth_within.1)
 
 -- words that are a command say one within the bounds of its options
-pub says-built : (words : List (List ℕ)) → usage_of command_table words ≡ None → IsBuiltCommand (command_of words)
-says-built [] none = absurd (cc)
-says-built (name ∷ options) none =
+pub says-in-range : (words : List (List ℕ)) → usage_of command_table words ≡ None → IsInRange (command_of words)
+says-in-range [] none = absurd (cc)
+says-in-range (name ∷ options) none =
     by_test (bytes_eq name (codes "refine")) (bytes_eq name (codes "stencils")) (bytes_eq name (codes "levels")) (bytes_eq name (codes "gen"))
     refl refl refl refl none
   where
     -- the command is that of this name
-    named : (known : List ℕ) → bytes_eq name known ≡ true → IsBuiltCommand (command_of (known ∷ options)) → IsBuiltCommand (command_of (name ∷ options))
-    named known is built = subst IsBuiltCommand (sym (ap (λ n. command_of (n ∷ options)) ((bytes_eq-Decides name known).0 is))) built
+    named : (known : List ℕ) → bytes_eq name known ≡ true → IsInRange (command_of (known ∷ options)) → IsInRange (command_of (name ∷ options))
+    named known is built = subst IsInRange (sym (ap (λ n. command_of (n ∷ options)) ((bytes_eq-Decides name known).0 is))) built
 
     by_test : (refined tabled counted made : Bool) → bytes_eq name (codes "refine") ≡ refined → bytes_eq name (codes "stencils") ≡ tabled →
         bytes_eq name (codes "levels") ≡ counted → bytes_eq name (codes "gen") ≡ made →
         usage_of_rule
         (cond refined (Some refine_rule) (cond tabled (Some (depth_rule (codes "stencils"))) (cond counted (Some (depth_rule (codes "levels"))) (cond made (Some gen_rule) None))))
         options ≡ None →
-        IsBuiltCommand (command_of (name ∷ options))
+        IsInRange (command_of (name ∷ options))
     by_test true tabled counted made is e f g none = named (codes "refine") is (refine_depth options none, refine_decimals options none)
     by_test false true counted made e is f g none = named (codes "stencils") is (depth_alone (codes "stencils") options none)
     by_test false false true made e f is g none = named (codes "levels") is (depth_alone (codes "levels") options none)

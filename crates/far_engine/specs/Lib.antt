@@ -1,6 +1,6 @@
 pub mod View
 pub mod Pieces
-pub mod BuiltWords
+pub mod Written
 pub mod Outcome
 pub mod Levels
 pub mod Refine

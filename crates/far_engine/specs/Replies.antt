@@ -3,18 +3,25 @@
 use Rattle.std.specs.Prelude.{ℕ, ◌≡◌, ◌≢◌, ◌≤◌, false, true, List, Option, Some, None, IsTrue}
 use Rattle.far_io.specs.Bytes.{Rose, TookPrefix, TookMore, IsDry}
 use Rattle.subdiv_model.specs.Manifold.{IsManifold}
+use Rattle.subdiv_model.specs.Level.{Level}
 use Rattle.subdiv_model.specs.Base.{base_level}
+use Rattle.subdiv_model.specs.Cut.{SeamMode, cut_level}
 use Rattle.subdiv_model.specs.Child.{refined_level}
 use Rattle.subdiv_model.specs.Command.{Command}
 use Rattle.subdiv_model.specs.ObjMesh.{ObjMesh}
 use Rattle.subdiv_model.specs.Fault.{Fault, Usage, Read, Long, Write}
 use Rattle.subdiv_model.specs.Answer.{byte_limit}
-use Rattle.far_engine.specs.BuiltWords.{written_text}
+use Rattle.far_engine.specs.Written.{written_text}
 use Rattle.far_engine.specs.Outcome.{refusal_of_command, is_made, input_of, mesh_of, IsAnswered, is_after_reading}
 
--- every level of the mesh is a manifold
-abbrev pub HasManifolds : ObjMesh → Type 0
-HasManifolds mesh = (n : ℕ) → IsManifold (refined_level (base_level mesh) n).point_count (refined_level (base_level mesh) n).polygons
+-- every level of a mesh, from its level 0, is a manifold
+abbrev pub AreManifolds : Level → Type 0
+AreManifolds base = (n : ℕ) → IsManifold (refined_level base n).point_count (refined_level base n).polygons
+
+-- so are those of the mesh, and those of its cut mesh, wherever seams are sharp
+pub record HasManifolds (mesh : ObjMesh) : Type 0 where
+  pub levels : AreManifolds (base_level mesh)
+  pub cut : (mode : SeamMode) → AreManifolds (cut_level mode mesh)
 
 -- what a command did to a source: a prefix was taken, no count fell, and a command that makes its mesh did not call it
 pub record Called {S : Type 0} (left : S → Option (List ℕ)) (faults : S → ℕ) (command : Command) (s s' : S) : Type 0 where

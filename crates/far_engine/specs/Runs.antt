@@ -4,9 +4,10 @@ use Rattle.far_io.specs.Bytes.{Rose, TookPrefix, TookMore, Added, AddedPrefix, I
 use Rattle.subdiv_model.specs.Manifold.{IsManifold}
 use Rattle.subdiv_model.specs.Words.{command_table, usage_of}
 use Rattle.subdiv_model.specs.Command.{command_of}
+use Rattle.subdiv_model.specs.Cut.{SeamMode}
 use Rattle.subdiv_model.specs.Fault.{Fault, Usage, Read, Long, Write, fault_line}
 use Rattle.subdiv_model.specs.Answer.{byte_limit}
-use Rattle.far_engine.specs.Outcome.{refusal_of, text_of, level_of, is_made, input_of, IsAnswered, is_after_reading}
+use Rattle.far_engine.specs.Outcome.{refusal_of, text_of, level_of, cut_level_of, is_made, input_of, IsAnswered, is_after_reading}
 
 -- A run over a source and a sink, from what they were to what they are after it, with its outcome.
 -- `left`, `held`, `source_faults`, `sink_faults` and `fixed` read a source or a sink as its trait has them.
@@ -21,10 +22,12 @@ pub record Runs {S K : Type 0} (left : S → Option (List ℕ)) (source_faults :
   pub answer : (bytes : List ℕ) → input_of (is_made (command_of words)) (left s) ≡ Some bytes → IsAnswered outcome (refusal_of words bytes)
   -- where it comes after reading, the input was read to its end
   pub whole : IsTrue (is_after_reading outcome) → is_made (command_of words) ≡ false → IsDry (left s')
-  -- without a fault the whole text was added, and every level of the mesh is a manifold
+  -- without a fault the whole text was added, and every level of the mesh and of its cut mesh is a manifold
   pub text : (bytes : List ℕ) → input_of (is_made (command_of words)) (left s) ≡ Some bytes → outcome ≡ None → Added (held k) (held k') (text_of words bytes)
   pub manifold : (bytes : List ℕ) → input_of (is_made (command_of words)) (left s) ≡ Some bytes → outcome ≡ None → (n : ℕ) →
       IsManifold (level_of words bytes n).point_count (level_of words bytes n).polygons
+  pub cut_manifold : (bytes : List ℕ) → input_of (is_made (command_of words)) (left s) ≡ Some bytes → outcome ≡ None → (mode : SeamMode) (n : ℕ) →
+      IsManifold (cut_level_of words bytes mode n).point_count (cut_level_of words bytes mode n).polygons
   -- after Write a prefix of the text was added, and after any other fault nothing was called
   pub prefix : (bytes : List ℕ) → input_of (is_made (command_of words)) (left s) ≡ Some bytes → outcome ≡ Some Write → AddedPrefix (held k) (held k') (text_of words bytes)
   pub kept : (fault : Fault) → outcome ≡ Some fault → fault ≢ Write → k' ≡ k

@@ -16,7 +16,7 @@ use Rattle.far_engine.specs.declared.overflow.Track.TheVariants.{Positions, Text
 use Rattle.far_engine.specs.declared.overflow.OverflowKind.{OverflowKind}
 use Rattle.far_engine.specs.declared.overflow.OverflowKind.TheVariants.{Chaikin, Transition, Denominator, Value}
 use Rattle.far_engine.specs.declared.fault.FarFault.{FarFault}
-use Rattle.far_engine.specs.declared.fault.FarFault.TheVariants.{Usage, Read, Long, Obj, Mesh, TooLarge, Overflow, NotBuilt, Write, Memory}
+use Rattle.far_engine.specs.declared.fault.FarFault.TheVariants.{Usage, Read, Long, Obj, Mesh, TooLarge, Overflow, Write, Memory}
 
 abbrev pub track_of : Track → model.Track
 track_of Positions = model.Positions
@@ -36,7 +36,6 @@ fault_of (Obj line cause) = model.Obj (record { line = line; cause = cause_of ca
 fault_of (Mesh fault) = model.Mesh (mesh_fault_of fault)
 fault_of (TooLarge counted) = model.TooLarge (counted_of counted)
 fault_of (Overflow track level kind) = model.Overflow (track_of track) level (kind_of kind)
-fault_of (NotBuilt line) = model.NotBuilt line
 fault_of Write = model.Write
 fault_of Memory = model.Memory
 

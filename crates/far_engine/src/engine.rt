@@ -2,7 +2,7 @@ ghost use Rattle.std.specs.Prelude.{◌≡◌, ◌+◌, ◌≤◌, List, ℕ, fa
 ghost use Rattle.subdiv_model.specs.Command.{command_of};
 ghost use Rattle.subdiv_model.specs.Fault.{Fault, outcome_status};
 ghost use Rattle.far_words.specs.View.{command_of_code};
-ghost use Rattle.far_engine.specs.BuiltWords.{IsBuiltCommand};
+ghost use Rattle.far_engine.specs.Written.{IsInRange};
 ghost use Rattle.far_engine.specs.Outcome.{is_made, input_of, mesh_of, step_limit, least_steps};
 ghost use Rattle.far_engine.specs.Replies.{IsReady, IsRefused};
 ghost use Rattle.far_engine.specs.Runs.{Runs, Reports};
@@ -29,7 +29,7 @@ fn reply_to_source<S: Source, L: Ledger>(
     steps: &mut Steps<L>,
 ) -> Result<Reply, FarFault>
     requires read { is_made (command_of_code command.now) ≡ false }
-    requires built { IsBuiltCommand (command_of_code command.now) }
+    requires built { IsInRange (command_of_code command.now) }
     ensures reply { MatchResult result (λ reply. IsReady S.left S.faults (command_of_code command.now) source.old source.new (reply_text reply))
         (λ fault. IsRefused S.left S.faults (command_of_code command.now) source.old source.new (fault_of fault)) }
     ensures put { IfOk result (λ reply. CanPut reply) }
@@ -55,7 +55,7 @@ fn reply_of<S: Source, L: Ledger>(
     source: &mut S,
     steps: &mut Steps<L>,
 ) -> Result<Reply, FarFault>
-    requires { IsBuiltCommand (command_of_code command.now) }
+    requires { IsInRange (command_of_code command.now) }
     ensures reply { MatchResult result (λ reply. IsReady S.left S.faults (command_of_code command.now) source.old source.new (reply_text reply))
         (λ fault. IsRefused S.left S.faults (command_of_code command.now) source.old source.new (fault_of fault)) }
     ensures put { IfOk result (λ reply. CanPut reply) }
@@ -80,10 +80,11 @@ fn reply_of<S: Source, L: Ledger>(
 /// `stencils` and `levels` read the OBJ text of a mesh (see `docs/formats.md`); `gen` makes a sheet of quads from its seed,
 /// and never calls the source. All go by Catmull and Clark's scheme.
 ///
-/// - `refine`, of a mesh without texture, answers the points and faces of the last level, each coordinate a fraction in
-///   lowest terms or rounded to the decimals that are asked for, and under `tags=yes` the tags that give this level again. It
-///   composes the table of the last level and applies it once to the points; under `by=level` it goes level by level, and has
-///   no limit on entries.
+/// - `refine` answers the points and faces of the last level, each coordinate a fraction in lowest terms or rounded to the
+///   decimals that are asked for, and under `tags=yes` the tags that give this level again. Where the mesh has a texture channel
+///   it answers the points of its texture as well, refined over the cut mesh: smoothly, with corners or boundaries that stay, or
+///   linearly, as `uv` says. It composes the table of the last level and applies it once to the points; under `by=level` it goes
+///   level by level, and has no limit on entries.
 /// - `stencils` answers the table of the last level: of each point, the control points that it depends on and how much of each.
 /// - `levels` answers a line with the counts of each level.
 /// - `gen` answers the counts of the sheet and of its last level, and the last point there, by a table as well.
@@ -96,18 +97,18 @@ fn reply_of<S: Source, L: Ledger>(
 /// - `Mesh` where the mesh is no manifold, with its first fault;
 /// - `TooLarge` where a count of it passes its limit, or else a level up to the depth would have more than 2^22 faces, with
 ///   the first such count;
-/// - under `refine`, `NotBuilt` with line 0 where the mesh has texture;
 /// - `Overflow` of the positions, with the first level, from 1, at which a number passes its bound, and the first such
 ///   number there: the denominator of the half of an edge under `chaikin`, and but for `levels` after it that of the weight
 ///   between two rules, the common denominator of a point, and the greatest one times the greatest control numerator or the
 ///   channel's own denominator. Where a table is composed, its entries come before that product, with `TooLarge` for more than
-///   2^27 at a level.
+///   2^27 at a level;
+/// - under `refine`, after all levels of the positions, the same of the texture.
 ///
 /// Such words and bytes are answered so, unless `Read` or `Memory` comes first. `Read` and `Write` come only where the count
 /// of faults of the source or the sink rose, and `Memory` may come at any time after good words. After `Write` the sink holds
 /// what it held and a prefix of the answer. It takes at most one step for each face of the levels that it makes, and besides
-/// under `refine` and `gen` one for each entry of the last table, or under `by=level` one for each mask term and for each
-/// control point. What is answered took one for each entry, or for each mask term.
+/// under `refine` and `gen` one for each entry of the last table, or under `by=level` one for each mask term; and under `refine`
+/// the same again for a texture channel. Where `refine` or `gen` answers, it took one for each of these entries, or mask terms.
 pub fn run<S: Source, K: Sink, L: Ledger>(
     alloc: Global,
     words: &Vec<String>,

@@ -43,10 +43,6 @@ pub enum FarFault {
         level: u32,
         kind: OverflowKind,
     },
-    /// The mesh has texture, which is not refined yet. `line` is 0: it is the mesh as a whole.
-    NotBuilt {
-        line: u32,
-    },
     /// A write or a flush failed.
     Write,
     /// Memory ran out.
@@ -75,7 +71,6 @@ pub fn status(fault: &FarFault) -> u8
         FarFault::Mesh(_) => 6,
         FarFault::TooLarge(_) => 7,
         FarFault::Overflow { .. } => 8,
-        FarFault::NotBuilt { .. } => 12,
         FarFault::Write => 10,
         FarFault::Memory => 11,
     }
@@ -144,7 +139,6 @@ impl FarFault {
             FarFault::Overflow { track, level, kind } => {
                 about(track_words(*track), *level as u64, kind_words(*kind))
             }
-            FarFault::NotBuilt { line } => about("line ", *line as u64, " is not built yet"),
             FarFault::Write => plain("writing failed"),
             FarFault::Memory => plain("out of memory"),
         }

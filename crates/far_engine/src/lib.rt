@@ -8,9 +8,12 @@ mod made;
 mod output;
 mod overflow;
 mod piece;
+mod positions;
 mod refine;
 mod reply;
 mod stencils;
+mod texture;
+mod track;
 
 pub use engine::{program, run};
 pub use fault::{FarFault, report, status};

@@ -6,13 +6,13 @@ ghost use Rattle.obj_tags.specs.Laws.{IsWithin};
 ghost use Rattle.reading_laws.specs.Short.{IsShortPoint};
 ghost use Rattle.subdiv_model.specs.Polygons.{is_over};
 ghost use Rattle.subdiv_model.specs.Manifold.{IsManifold};
-ghost use Rattle.subdiv_model.specs.Command.{Gen};
+ghost use Rattle.subdiv_model.specs.Command.{Gen, ByTable};
 ghost use Rattle.subdiv_model.specs.Generator.{generated_mesh};
 ghost use Rattle.stencil_apply.specs.Table.{entries_of, greatest_of};
 ghost use Rattle.primvar_refine.specs.declared.valued.Valued as valued;
 ghost use Rattle.ratio128.specs.declared.point.Point3 as point;
-ghost use Rattle.far_engine.specs.BuiltWords.{written_text};
-ghost use Rattle.far_engine.specs.Outcome.{refusal_of_made, level_faces_to, table_entries, step_limit, least_steps, IsFound};
+ghost use Rattle.far_engine.specs.Written.{written_text};
+ghost use Rattle.far_engine.specs.Outcome.{refusal_of_made, level_faces_to, position_steps, step_limit, least_steps, IsFound};
 ghost use Rattle.far_engine.specs.Tables.{IsSummaryOf, IsFoundComposing};
 ghost use Rattle.far_engine.specs.View.{CanPut, fault_of, reply_text};
 
@@ -79,8 +79,8 @@ fn summarize<L: Ledger>(
     requires depth { depth ≤ 10 }
     ensures summary { MatchResult result (λ summary. IsSummaryOf mesh.now depth summary)
         (λ fault. IsFoundComposing depth mesh.now (fault_of fault)) }
-    ensures taken { OnOk result (steps.old + table_entries depth mesh.now ≤ steps.new) }
-    ensures steps { steps.new ≤ steps.old + (level_faces_to depth mesh.now + table_entries depth mesh.now) }
+    ensures taken { OnOk result (steps.old + position_steps ByTable depth mesh.now ≤ steps.new) }
+    ensures steps { steps.new ≤ steps.old + (level_faces_to depth mesh.now + position_steps ByTable depth mesh.now) }
     ensures later { steps.old ≤ steps.new }
 {
     let composed = compose(alloc, mesh, depth, steps)?;

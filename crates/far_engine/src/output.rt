@@ -4,7 +4,7 @@ ghost use Rattle.obj_out.specs.Puts.{Puts};
 ghost use Rattle.far_engine.specs.Pieces.{piece_text, pieces_text};
 ghost use Rattle.subdiv_model.specs.Answer.{with_holes, written_tags};
 ghost use Rattle.far_words.specs.View.{tags_of_code};
-ghost use Rattle.far_engine.specs.Refine.{CanBePut, refined_text};
+ghost use Rattle.far_engine.specs.Refine.{CanBePut, lines_of, refined_text};
 ghost use Rattle.far_engine.specs.View.{CanPut, reply_text};
 
 use crate::piece::Piece;
@@ -14,7 +14,7 @@ use far_io::{Sink, WriteFailed};
 use far_words::Tags;
 use itoa::Buffer;
 use level_counts::put_levels;
-use mesh_text::{put_mesh, put_tags};
+use mesh_text::{put_mesh, put_tags, put_textured_mesh};
 use obj_out::Out;
 use table_text::{put_summary, put_table};
 
@@ -40,20 +40,43 @@ fn put_tags_of<K: Sink>(out: &mut Out<'_, K>, refined: &Refined) -> Result<(), W
     }
 }
 
+// Puts the points, the texture and the faces of a refined mesh.
+fn put_lines<K: Sink>(out: &mut Out<'_, K>, refined: &Refined) -> Result<(), WriteFailed>
+    requires written { CanBePut refined.now }
+    ensures same_reference { out.new.sink.ghost_name ≡ out.old.sink.ghost_name }
+    ensures puts { Puts K.held K.faults K.fixed out.old.sink.now out.new.sink.now out.old.waiting out.new.waiting out.old.failed out.new.failed (lines_of refined.now.texture refined.now) result }
+{
+    let holes = has_holes(refined.tags);
+    match &refined.texture {
+        None => put_mesh(
+            out,
+            &refined.level,
+            &refined.values,
+            refined.common,
+            refined.decimals,
+            holes,
+        ),
+        Some(texture) => put_textured_mesh(
+            out,
+            &refined.level,
+            &refined.values,
+            refined.common,
+            &texture.level,
+            &texture.values,
+            texture.common,
+            refined.decimals,
+            holes,
+        ),
+    }
+}
+
 // Puts a refined mesh.
 fn put_refined<K: Sink>(out: &mut Out<'_, K>, refined: &Refined) -> Result<(), WriteFailed>
     requires written { CanBePut refined.now }
     ensures same_reference { out.new.sink.ghost_name ≡ out.old.sink.ghost_name }
     ensures puts { Puts K.held K.faults K.fixed out.old.sink.now out.new.sink.now out.old.waiting out.new.waiting out.old.failed out.new.failed (refined_text refined.now) result }
 {
-    put_mesh(
-        out,
-        &refined.level,
-        &refined.values,
-        refined.common,
-        refined.decimals,
-        has_holes(refined.tags),
-    )?;
+    put_lines(out, refined)?;
     put_tags_of(out, refined)
 }
 

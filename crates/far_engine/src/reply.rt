@@ -3,10 +3,10 @@
 ghost use Rattle.std.specs.Prelude.{◌≡◌, ◌+◌, ◌≤◌, ◌^◌, false, length, None, IfOk, MatchResult, OnOk};
 ghost use Rattle.std.specs.List.{All};
 ghost use Rattle.obj_tags.specs.Laws.{IsWithin};
-ghost use Rattle.reading_laws.specs.Short.{IsShortPoint};
+ghost use Rattle.reading_laws.specs.Short.{IsShortPoint, IsShortTexture};
 ghost use Rattle.subdiv_model.specs.ReadObj.{read_obj_mesh};
 ghost use Rattle.far_words.specs.View.{command_of_code};
-ghost use Rattle.far_engine.specs.BuiltWords.{IsBuiltCommand, IsWritten, written_text};
+ghost use Rattle.far_engine.specs.Written.{IsInRange, IsWritten, written_text};
 ghost use Rattle.far_engine.specs.Outcome.{is_made, refusal_of_mesh, refusal_of_obj, step_limit, least_steps, IsFound};
 ghost use Rattle.far_engine.specs.View.{CanPut, fault_of, reply_text};
 
@@ -43,10 +43,11 @@ fn reply_to_mesh<L: Ledger>(
     mesh: &RawMesh,
     steps: &mut Steps<L>,
 ) -> Result<Reply, FarFault>
-    requires built { IsBuiltCommand (command_of_code command.now) }
+    requires built { IsInRange (command_of_code command.now) }
     requires read { is_made (command_of_code command.now) ≡ false }
     requires within { IsWithin mesh.now }
     requires short { All IsShortPoint mesh.now.points }
+    requires texture_short { All IsShortTexture mesh.now.texture }
     ensures reply { MatchResult result (λ reply. IsWritten (command_of_code command.now) mesh.now (reply_text reply))
         (λ fault. IsFound (fault_of fault) (refusal_of_mesh (command_of_code command.now) mesh.now)) }
     ensures put { IfOk result (λ reply. CanPut reply) }
@@ -58,10 +59,10 @@ fn reply_to_mesh<L: Ledger>(
         Command::Refine {
             depth,
             decimals,
+            uv,
             by,
             tags,
-            ..
-        } => Ok(Reply::Refined(refine(alloc, mesh, *depth, *decimals, *by, *tags, steps)?)),
+        } => Ok(Reply::Refined(refine(alloc, mesh, *depth, *decimals, *uv, *by, *tags, steps)?)),
         Command::Stencils { depth } => Ok(Reply::Composed(stencils(alloc, mesh, *depth, steps)?)),
         Command::Levels { depth } => Ok(Reply::Counted(count_levels(alloc, mesh, *depth, steps)?)),
         Command::Gen { .. } => unreachable!(),
@@ -75,7 +76,7 @@ pub(crate) fn reply_to<L: Ledger>(
     bytes: &[u8],
     steps: &mut Steps<L>,
 ) -> Result<Reply, FarFault>
-    requires built { IsBuiltCommand (command_of_code command.now) }
+    requires built { IsInRange (command_of_code command.now) }
     requires read { is_made (command_of_code command.now) ≡ false }
     requires short { length bytes.now ≤ 2 ^ 28 }
     ensures reply { MatchResult result (λ reply. (refusal_of_obj (command_of_code command.now) bytes.now ≡ None) × (reply_text reply ≡ written_text (command_of_code command.now) (read_obj_mesh bytes.now 0)))

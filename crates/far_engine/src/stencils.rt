@@ -8,14 +8,16 @@ ghost use Rattle.subdiv_model.specs.Command.{Stencils};
 ghost use Rattle.subdiv_model.specs.Answer.{level_count_faults, positions_of};
 ghost use Rattle.mesh_check.specs.Checked.{IsAccepted};
 ghost use Rattle.table_text.specs.Text.{text_of_table};
-ghost use Rattle.far_engine.specs.BuiltWords.{IsWritten};
+ghost use Rattle.far_engine.specs.Written.{IsWritten};
 ghost use Rattle.far_engine.specs.Outcome.{refusal_of_mesh, level_faces_to, step_limit, IsFound};
 ghost use Rattle.far_engine.specs.Tables.{IsComposedOf, IsFoundComposing};
 ghost use Rattle.far_engine.specs.View.{fault_of};
 
 use crate::fault::FarFault;
 use crate::levels::{level_0, level_fault};
-use crate::refine::{fault_of_channel, greatest_of};
+use crate::overflow::Track;
+use crate::positions::greatest_of;
+use crate::track::fault_of_channel;
 use channel_tables::{ComposedChannel, compose_channel};
 use level_topology::Level;
 use mask_rules::Scheme;
@@ -61,7 +63,7 @@ fn compose_from<L: Ledger>(
             composed.table.facts();
             Ok(composed)
         }
-        Err(fault) => Err(fault_of_channel(fault)),
+        Err(fault) => Err(fault_of_channel(fault, Track::Positions)),
     }
 }
 

@@ -21,7 +21,7 @@ pub base-of : (mesh : ObjMesh) (level : Topology) → IsAccepted mesh level → 
 base-of mesh level accepted few =
     let manifold = (manifold-decides (length mesh.points) mesh.faces).0 ((fault-decides (length mesh.points) mesh.faces).0 accepted.manifold) in
     record {
-      points = few;
+      points = omega (arith, few);
       complete = accepted.complete ∙ ap (λ n. replicate n true) (sym (ap (λ l. l.point_count) accepted.level_is));
       manifold = rw accepted.level_is manifold;
       boundary = rw accepted.level_is (boundary-base mesh manifold);

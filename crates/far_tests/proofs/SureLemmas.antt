@@ -1,11 +1,12 @@
 -- A sink with room for a text does not fail.
-use Rattle.std.proofs.Common.{◌≡◌, ℕ, ◌+◌, ◌<◌, Bool, true, false, List, [], length, take, Some, arith, inl, inr, refl, ap, length-append, length-take-le, subst, ◌∙◌}
+use Rattle.std.proofs.Common.{◌≡◌, ℕ, ◌+◌, ◌<◌, Bool, true, false, List, [], length, take, Option, Some, None, arith, inl, inr, refl, ap, length-append, length-take-le, subst, ◌∙◌}
 use Rattle.std.proofs.lemmas.Bool.Decides.{nat_tests}
 use Rattle.far_io.specs.Memory.{SureOutput, sure_faults}
 use Rattle.far_io.specs.Bytes.{Rose, AddedPrefix}
-use Rattle.subdiv_model.specs.Command.{Command, Refine, Stencils, Levels, Gen, command_of}
-use Rattle.subdiv_model.specs.Answer.{command_text}
-use Rattle.far_engine.specs.Outcome.{is_made, input_of, mesh_of, text_of}
+use Rattle.subdiv_model.specs.Words.{command_table, usage_of}
+use Rattle.subdiv_model.specs.Command.{Command, Refine, Stencils, Levels, Gen, command_of, read_or}
+use Rattle.subdiv_model.specs.Answer.{Answer, answer_of_command, answer_of_words}
+use Rattle.far_engine.specs.Outcome.{is_made, input_of, text_of}
 
 -- no count is above 0 and has risen to 0
 pub not_to_zero : (before : ℕ) → Rose before 0 → ⊥
@@ -26,12 +27,17 @@ no_write text before after fits same prefix rose =
     let P : ℕ → Type 0 = λ n. Rose (sure_faults before) n in
     not_to_zero (sure_faults before) (subst P (no_faults after room) rose)
 
--- a mesh that is made does not depend on the bytes of a source
-made-mesh : (command : Command) (bytes other : List ℕ) → is_made command ≡ true → mesh_of command bytes ≡ mesh_of command other
-made-mesh (Refine depth decimals uv by tags) bytes other h = absurd (cc)
-made-mesh (Stencils depth) bytes other h = absurd (cc)
-made-mesh (Levels depth) bytes other h = absurd (cc)
-made-mesh (Gen seed size depth) bytes other h = refl
+-- a mesh that is made does not depend on the bytes of a source, and neither does the answer
+made-answer : (command : Command) (bytes other : List ℕ) → is_made command ≡ true → answer_of_command command bytes ≡ answer_of_command command other
+made-answer (Refine depth decimals uv by tags) bytes other h = absurd (cc)
+made-answer (Stencils depth) bytes other h = absurd (cc)
+made-answer (Levels depth) bytes other h = absurd (cc)
+made-answer (Gen seed size depth) bytes other h = refl
+
+words-answer : (place : Option ℕ) (words : List (List ℕ)) (bytes other : List ℕ) → is_made (command_of words) ≡ true →
+    answer_of_words (read_or place words) bytes ≡ answer_of_words (read_or place words) other
+words-answer (Some word) words bytes other h = refl
+words-answer None words bytes other h = made-answer (command_of words) bytes other h
 
 -- what a run has of a source that tells its bytes, with the text that they have
 pub record HasInput (words : List (List ℕ)) (bytes : List ℕ) : Type 0 where
@@ -46,6 +52,6 @@ has-input words bytes = go (is_made (command_of words)) refl
     go true e = record {
       input = [];
       is = ap (λ made. input_of made (Some bytes)) e;
-      same = ap (command_text (command_of words)) (made-mesh (command_of words) [] bytes e);
+      same = ap (λ (a : Answer). a.text) (words-answer (usage_of command_table words) words [] bytes e);
     }
     go false e = record { input = bytes; is = ap (λ made. input_of made (Some bytes)) e; same = refl }

@@ -209,11 +209,6 @@ const FAULTS: &[Fault] = &[
         8,
         "far: texture level 4294967295: value overflow\n",
     ),
-    (
-        FarFault::NotBuilt { line: 0 },
-        12,
-        "far: line 0 is not built yet\n",
-    ),
     (FarFault::Write, 10, "far: writing failed\n"),
     (FarFault::Memory, 11, "far: out of memory\n"),
 ];

@@ -8,6 +8,8 @@ mod checks;
 #[cfg(test)]
 mod composed;
 #[cfg(test)]
+mod cuts;
+#[cfg(test)]
 mod engine;
 #[cfg(test)]
 mod expect;
@@ -33,5 +35,9 @@ mod runs;
 mod tables;
 #[cfg(test)]
 mod texts;
+#[cfg(test)]
+mod textured;
+#[cfg(test)]
+mod textures;
 #[cfg(test)]
 mod words;

@@ -13,8 +13,6 @@ use obj_tags::ObjCause;
 use std::process::Abort;
 use std::test::Fail;
 
-const NOT_BUILT: FarFault = FarFault::NotBuilt { line: 0 };
-
 // What passes its bound at a level of the positions.
 macro_rules! overflow {
     ($level:literal, $kind:ident) => {
@@ -90,14 +88,6 @@ const REFUSED: &[Run] = &[
             line: 6,
             cause: ObjCause::IndexRange,
         }),
-        "",
-    ),
-    (REFINE, TEXTURED_TRIANGLES, "", Err(NOT_BUILT), ""),
-    (
-        "refine depth=0 uv=linear",
-        TEXTURED_TRIANGLES,
-        "",
-        Err(NOT_BUILT),
         "",
     ),
     (

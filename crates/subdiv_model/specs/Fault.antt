@@ -48,8 +48,6 @@ pub data Fault : Type 0 where
   Overflow : Track → ℕ → OverflowKind → Fault
   Write : Fault
   Memory : Fault
-  -- a line, or 0 for the mesh as a whole
-  NotBuilt : ℕ → Fault
 
 abbrev pub cause_text : ObjCause → List ℕ
 cause_text BadNumeral = codes "bad numeral"
@@ -107,7 +105,6 @@ fault_text (Overflow track level kind) =
     track_text track ++ (codes " level " ++ (number_text level ++ (codes ": " ++ (kind_text kind ++ codes " overflow"))))
 fault_text Write = codes "writing failed"
 fault_text Memory = codes "out of memory"
-fault_text (NotBuilt line) = codes "line " ++ (number_text line ++ codes " is not built yet")
 
 -- its line on standard error
 abbrev pub fault_line : Fault → List ℕ
@@ -123,7 +120,6 @@ fault_status (TooLarge counted) = 7
 fault_status (Overflow track level kind) = 8
 fault_status Write = 10
 fault_status Memory = 11
-fault_status (NotBuilt line) = 12
 
 -- the status of a whole run
 abbrev pub outcome_status : Option Fault → ℕ

@@ -10,7 +10,7 @@ ghost use Rattle.subdiv_model.specs.ExampleControls.{first_texture};
 ghost use Rattle.subdiv_model.specs.ExampleTexts.{corner_cube_refined_text, cube_text, seamed_text, square_text};
 ghost use Rattle.subdiv_model.specs.Command.{Command};
 ghost use Rattle.subdiv_model.specs.Examples.{cube};
-ghost use Rattle.subdiv_model.specs.Fault.{ChaikinOverflow, Entries, Fault, FaceSize, LevelFaces, Long, Memory, Mesh, NotBuilt, Obj, Overflow, Positions, Read, Texture, TooLarge, TransitionOverflow, Usage, Valence, ValueOverflow, Write, fault_line, fault_status, outcome_status};
+ghost use Rattle.subdiv_model.specs.Fault.{ChaikinOverflow, Entries, Fault, FaceSize, LevelFaces, Long, Memory, Mesh, Obj, Overflow, Positions, Read, Texture, TooLarge, TransitionOverflow, Usage, Valence, ValueOverflow, Write, fault_line, fault_status, outcome_status};
 ghost use Rattle.subdiv_model.specs.Generator.{draws_from, generated_mesh, sheet_faces};
 ghost use Rattle.subdiv_model.specs.MeshFault.{NonManifoldEdge, RepeatedVertex, SplitVertex};
 ghost use Rattle.subdiv_model.specs.ObjFault.{BadTag, UnknownKeyword};
@@ -93,8 +93,8 @@ pub fn lines_of_faults()
     ensures size { fault_line (TooLarge (FaceSize 0 65537)) ≡ codes "far: face 0 has 65537 corners\n" }
     ensures valence { fault_line (TooLarge (Valence 3 65537)) ≡ codes "far: vertex 3 has 65537 edges\n" }
     ensures overflow { fault_line (Overflow Texture 2 TransitionOverflow) ≡ codes "far: texture level 2: transition overflow\n" }
-    ensures statuses { map fault_status (Usage 0 ∷ Read ∷ Long ∷ Mesh (SplitVertex 0) ∷ TooLarge (Entries 2) ∷ Overflow Positions 1 ChaikinOverflow ∷ Write ∷ Memory ∷ NotBuilt 0 ∷ [])
-        ≡ 2 ∷ 3 ∷ 4 ∷ 6 ∷ 7 ∷ 8 ∷ 10 ∷ 11 ∷ 12 ∷ [] }
+    ensures statuses { map fault_status (Usage 0 ∷ Read ∷ Long ∷ Mesh (SplitVertex 0) ∷ TooLarge (Entries 2) ∷ Overflow Positions 1 ChaikinOverflow ∷ Write ∷ Memory ∷ [])
+        ≡ 2 ∷ 3 ∷ 4 ∷ 6 ∷ 7 ∷ 8 ∷ 10 ∷ 11 ∷ [] }
     ensures good { outcome_status None ≡ 0 }
 {}
 

@@ -1,6 +1,7 @@
 use Rattle.std.proofs.Common.{◌≡◌, ◌≤◌, ◌+◌, true, length, arith, rules, subst}
 use Rattle.subdiv_model.specs.Polygons.{is_over}
-use Rattle.far_engine.specs.Outcome.{level_faces_to, table_entries}
+use Rattle.subdiv_model.specs.Command.{ByTable}
+use Rattle.far_engine.specs.Outcome.{level_faces_to, position_steps}
 use Rattle.far_engine.proofs.SummaryLemmas.{made-found, made-written, within-over}
 use Rattle.far_engine.proofs.made.reply_to_made.Goals as goal
 
@@ -13,7 +14,7 @@ returns-in_err-summarize-clause-reply g c =
 
 pub returns-in_err-summarize-clause-steps : goal.returns-in_err-summarize-clause-steps
 returns-in_err-summarize-clause-steps g c =
-    subst (λ mesh. c.summarize.new.steps ≤ c.args.steps.now + (level_faces_to c.args.depth mesh + table_entries c.args.depth mesh)) c.in_ok-mesh.ensures.sheet c.summarize.ensures.steps
+    subst (λ mesh. c.summarize.new.steps ≤ c.args.steps.now + (level_faces_to c.args.depth mesh + position_steps ByTable c.args.depth mesh)) c.in_ok-mesh.ensures.sheet c.summarize.ensures.steps
 
 pub returns-clause-reply : goal.returns-clause-reply
 returns-clause-reply g c =
@@ -26,4 +27,4 @@ returns-clause-over g c =
 
 pub returns-clause-steps : goal.returns-clause-steps
 returns-clause-steps g c =
-    subst (λ mesh. c.summarize.new.steps ≤ c.args.steps.now + (level_faces_to c.args.depth mesh + table_entries c.args.depth mesh)) c.in_ok-mesh.ensures.sheet c.summarize.ensures.steps
+    subst (λ mesh. c.summarize.new.steps ≤ c.args.steps.now + (level_faces_to c.args.depth mesh + position_steps ByTable c.args.depth mesh)) c.in_ok-mesh.ensures.sheet c.summarize.ensures.steps

@@ -1,5 +1,6 @@
 use Rattle.std.proofs.Common.{◌∙◌}
-use Rattle.far_engine.specs.Outcome.{level_faces_to, table_entries}
+use Rattle.subdiv_model.specs.Command.{ByTable}
+use Rattle.far_engine.specs.Outcome.{level_faces_to, position_steps}
 use Rattle.far_engine.proofs.SummaryLemmas.{points-evaluate, values-some, entries-told, summary-is, summary-steps, summary-taken}
 use Rattle.far_engine.proofs.made.summarize.Goals as goal
 
@@ -10,7 +11,7 @@ evaluate-requires g c =
 
 pub returns-in_err-values-clause-steps : goal.returns-in_err-values-clause-steps
 returns-in_err-values-clause-steps g c =
-    summary-steps c.args.steps.now _ c.evaluate.new.steps (level_faces_to c.args.depth c.args.mesh.now) _ (table_entries c.args.depth c.args.mesh.now)
+    summary-steps c.args.steps.now _ c.evaluate.new.steps (level_faces_to c.args.depth c.args.mesh.now) _ (position_steps ByTable c.args.depth c.args.mesh.now)
     (entries-told c.args.mesh.now c.args.depth c.in_ok-composed.composed.level c.in_ok-composed.composed.table c.in_ok-composed.ensures.composed)
     c.compose.ensures.steps c.evaluate.ensures.steps
 
@@ -28,12 +29,12 @@ returns-clause-summary g c =
 
 pub returns-clause-taken : goal.returns-clause-taken
 returns-clause-taken g c =
-    summary-taken c.args.steps.now _ c.evaluate.new.steps _ (table_entries c.args.depth c.args.mesh.now)
+    summary-taken c.args.steps.now _ c.evaluate.new.steps _ (position_steps ByTable c.args.depth c.args.mesh.now)
     (entries-told c.args.mesh.now c.args.depth c.in_ok-composed.composed.level c.in_ok-composed.composed.table c.in_ok-composed.ensures.composed)
     c.compose.ensures.later c.in_ok-values.ensures.taken
 
 pub returns-clause-steps : goal.returns-clause-steps
 returns-clause-steps g c =
-    summary-steps c.args.steps.now _ c.evaluate.new.steps (level_faces_to c.args.depth c.args.mesh.now) _ (table_entries c.args.depth c.args.mesh.now)
+    summary-steps c.args.steps.now _ c.evaluate.new.steps (level_faces_to c.args.depth c.args.mesh.now) _ (position_steps ByTable c.args.depth c.args.mesh.now)
     (entries-told c.args.mesh.now c.args.depth c.in_ok-composed.composed.level c.in_ok-composed.composed.table c.in_ok-composed.ensures.composed)
     c.compose.ensures.steps c.evaluate.ensures.steps

@@ -1,46 +1,52 @@
-use Rattle.std.proofs.Common.{None, refl, ap, sym}
-use Rattle.subdiv_model.specs.Command.{Refine}
-use Rattle.subdiv_model.specs.Lists.{first_of}
-use Rattle.subdiv_model.specs.Answer.{asked_of}
-use Rattle.far_words.specs.View.{by_of_code}
-use Rattle.far_engine.specs.Outcome.{refining_limit}
-use Rattle.far_engine.proofs.RefusalLemmas.{built_rest}
-use Rattle.far_engine.proofs.SeriesLemmas.{few-levels, large-level}
-use Rattle.far_engine.proofs.RefineLemmas.{base-of, plain-refusal, textured-refusal, found-refining, no-steps}
+use Rattle.std.proofs.Common.{rules, refl, sym, subst}
+use Rattle.std.specs.List.{All}
+use Rattle.subdiv_model.specs.Answer.{asked_of, positions_of}
+use Rattle.mesh_text.specs.Points.{CanBeWritten}
+use Rattle.far_words.specs.View.{by_of_code, uv_of_code, tags_of_code}
+use Rattle.far_engine.proofs.RefusalLemmas.{manifold-of}
+use Rattle.far_engine.proofs.PositionLemmas.{refined-not-large}
+use Rattle.far_engine.proofs.RefineLemmas.{positions-found, texture-found, none-found, refined-written, texture-can}
+use Rattle.far_engine.proofs.StepLemmas.{cut-alone, positions-alone}
 use Rattle.far_engine.proofs.refine.refine_from.Goals as goal
 
-pub returns-in-Some-clause-refined : goal.returns-in-Some-clause-refined
-returns-in-Some-clause-refined g c = λ decimals uv tags.
-    large-level (Refine c.args.depth decimals uv (by_of_code c.args.by) tags) c.args.mesh.now c.args.level c.args.depth
-    (built_rest (by_of_code c.args.by) c.args.mesh.now c.args.depth c.args.mesh.now.has_texture)
-    c.next_faces.result c.level_fault.result c.in-Some.counted c.requires.accepted refl c.next_faces.ensures c.level_fault.ensures c.in-Some.is
+pub returns-in-Err-clause-steps : goal.returns-in-Err-clause-steps
+returns-in-Err-clause-steps g c =
+    cut-alone c.args.depth c.args.decimals (uv_of_code c.args.uv) (by_of_code c.args.by) (tags_of_code c.args.tags) c.args.mesh.now _ _ c.cut_texture.ensures.steps
 
-pub returns-in-Some-clause-steps : goal.returns-in-Some-clause-steps
-returns-in-Some-clause-steps g c = no-steps c.args.mesh.now c.args.depth c.args.steps.now (refining_limit (by_of_code c.args.by) c.args.depth c.args.mesh.now)
+pub returns-in-Err-refine_positions-clause-refined : goal.returns-in-Err-refine_positions-clause-refined
+returns-in-Err-refine_positions-clause-refined g c =
+    let asked = asked_of (by_of_code c.args.by) in
+    let mesh = c.args.mesh.now in
+    positions-found mesh c.args.level c.args.depth c.requires.accepted c.requires.few c.args.decimals (uv_of_code c.args.uv) (by_of_code c.args.by) (tags_of_code c.args.tags) _
+    (c.fault_of_channel.ensures asked (positions_of mesh) c.args.depth (λ k count. refined-not-large asked mesh c.args.depth k count c.requires.few) c.in-Err-refine_positions.ensures.refined)
 
-pub returns-then-has_texture-clause-steps : goal.returns-then-has_texture-clause-steps
-returns-then-has_texture-clause-steps g c = no-steps c.args.mesh.now c.args.depth c.args.steps.now (refining_limit (by_of_code c.args.by) c.args.depth c.args.mesh.now)
+pub returns-in-Err-refine_positions-clause-steps : goal.returns-in-Err-refine_positions-clause-steps
+returns-in-Err-refine_positions-clause-steps g c =
+    positions-alone c.args.depth c.args.decimals (uv_of_code c.args.uv) (by_of_code c.args.by) (tags_of_code c.args.tags) c.args.mesh.now _ _ _
+    c.cut_texture.ensures.steps c.refine_positions.ensures.steps
 
-pub refine_positions-requires-clause-base : goal.refine_positions-requires-clause-base
-refine_positions-requires-clause-base g c = base-of c.args.mesh.now c.args.level c.requires.accepted
+pub refine_cut-requires-clause-manifold : goal.refine_cut-requires-clause-manifold
+refine_cut-requires-clause-manifold g c = manifold-of c.args.mesh.now c.requires.accepted.manifold
 
-pub returns-then-has_texture-clause-refined : goal.returns-then-has_texture-clause-refined
-returns-then-has_texture-clause-refined g c = λ decimals uv tags.
-    let few = few-levels c.args.mesh.now c.args.level c.args.depth c.next_faces.result c.level_fault.result c.requires.accepted c.next_faces.ensures c.level_fault.ensures c.in-None.is in
-    textured-refusal c.args.mesh.now c.args.level c.args.depth c.requires.accepted few decimals uv (by_of_code c.args.by) tags (sym c.if-has_texture.ensures)
+pub returns-in_err-texture-clause-refined : goal.returns-in_err-texture-clause-refined
+returns-in_err-texture-clause-refined g c =
+    let found =
+    texture-found c.args.mesh.now c.args.level c.args.depth c.requires.accepted c.requires.few c.args.decimals (uv_of_code c.args.uv) (by_of_code c.args.by) (tags_of_code c.args.tags) _
+    c.in-Ok-refine_positions.ensures.refined.fine c.in_err-texture.ensures.texture in
+    search (rules, found)
 
-pub returns-in-Ok-clause-refined : goal.returns-in-Ok-clause-refined
-returns-in-Ok-clause-refined g c =
-    let few = few-levels c.args.mesh.now c.args.level c.args.depth c.next_faces.result c.level_fault.result c.requires.accepted c.next_faces.ensures c.level_fault.ensures c.in-None.is in
-    record {
-      good = λ decimals uv tags.
-          plain-refusal c.args.mesh.now c.args.level c.args.depth c.requires.accepted few decimals uv (by_of_code c.args.by) tags None (sym c.if-has_texture.ensures) (ap first_of c.in-Ok.ensures.refined.fine);
-      plain = sym c.if-has_texture.ensures;
-      points = c.in-Ok.ensures.refined;
-    }
+pub returns-clause-refined : goal.returns-clause-refined
+returns-clause-refined g c =
+    refined-written c.args.mesh.now c.args.depth c.args.decimals (uv_of_code c.args.uv) (by_of_code c.args.by) _ c.scale.ensures refl
+    c.in-Ok-refine_positions.ensures.refined c.in_ok-texture.ensures.texture
+    (none-found c.args.mesh.now c.args.level c.args.depth c.requires.accepted c.requires.few c.args.decimals (uv_of_code c.args.uv) (by_of_code c.args.by) (tags_of_code c.args.tags) _
+    c.in-Ok-refine_positions.ensures.refined.fine c.in_ok-texture.ensures.texture)
 
-pub returns-in-Err-clause-refined : goal.returns-in-Err-clause-refined
-returns-in-Err-clause-refined g c = λ decimals uv tags.
-    let few = few-levels c.args.mesh.now c.args.level c.args.depth c.next_faces.result c.level_fault.result c.requires.accepted c.next_faces.ensures c.level_fault.ensures c.in-None.is in
-    found-refining c.args.mesh.now c.args.level c.args.depth c.requires.accepted few decimals uv (by_of_code c.args.by) tags _ (sym c.if-has_texture.ensures)
-    (c.fault_of_channel.ensures (asked_of (by_of_code c.args.by)) c.args.mesh.now c.args.depth few c.in-Err.ensures.refined)
+pub returns-clause-put : goal.returns-clause-put
+returns-clause-put g c = record {
+  written = subst (λ common. All (CanBeWritten common) c.in-Ok-refine_positions.positions.values.items) (sym c.scale.ensures) c.in-Ok-refine_positions.ensures.refined.written;
+  texture =
+      texture-can c.args.mesh.now c.args.depth (uv_of_code c.args.uv) (by_of_code c.args.by) c.in-Ok-refine_positions.positions.level c.in-Ok-refine_positions.positions.values.items _
+      c.in-Ok-refine_positions.ensures.refined c.in_ok-texture.ensures.texture;
+  decimals = c.requires.decimals;
+}

@@ -1,7 +1,7 @@
 use Rattle.std.proofs.Common.{rules, ap, sym, subst}
-use Rattle.far_words.specs.View.{command_of_code, uv_of_code, tags_of_code}
+use Rattle.far_words.specs.View.{command_of_code}
 use Rattle.table_text.specs.Text.{text_of_table}
-use Rattle.far_engine.specs.BuiltWords.{IsWritten}
+use Rattle.far_engine.specs.Written.{IsWritten}
 use Rattle.far_engine.specs.Outcome.{refusal_of_mesh, IsFound}
 use Rattle.far_engine.specs.Refine.{refined_text}
 use Rattle.far_engine.specs.View.{fault_of}
@@ -16,13 +16,13 @@ pub returns-in_err-refine-in-Refine-clause-reply : goal.returns-in_err-refine-in
 returns-in_err-refine-in-Refine-clause-reply g c =
     let found =
     subst (λ command. IsFound (fault_of c.in_err-refine-in-Refine.field-0.0) (refusal_of_mesh (command_of_code command) c.args.mesh.now)) (sym c.in-Refine.is)
-    (c.in_err-refine-in-Refine.ensures.refined c.in-Refine.decimals (uv_of_code c.in-Refine.uv) (tags_of_code c.in-Refine.tags)) in
+    c.in_err-refine-in-Refine.ensures.refined in
     search (rules, found)
 
 pub returns-in_ok-refine-in-Refine-clause-reply : goal.returns-in_ok-refine-in-Refine-clause-reply
 returns-in_ok-refine-in-Refine-clause-reply g c =
     subst (λ command. IsWritten (command_of_code command) c.args.mesh.now (refined_text c.in_ok-refine-in-Refine.field-0)) (sym c.in-Refine.is)
-    (c.in_ok-refine-in-Refine.ensures.refined (uv_of_code c.in-Refine.uv))
+    c.in_ok-refine-in-Refine.ensures.refined
 
 pub returns-in_err-stencils-in-Stencils-clause-reply : goal.returns-in_err-stencils-in-Stencils-clause-reply
 returns-in_err-stencils-in-Stencils-clause-reply g c =

@@ -1,8 +1,9 @@
 use Rattle.std.proofs.Common.{subst}
 use Rattle.subdiv_model.specs.Channel.{Tables}
+use Rattle.subdiv_model.specs.Answer.{positions_of}
 use Rattle.channel_refine.specs.Refined.{IsChannelFault}
 use Rattle.far_engine.proofs.SeriesLemmas.{few-levels, steps-alone, steps-fit}
-use Rattle.far_engine.proofs.RefineLemmas.{base-of, same-channel, short-channel}
+use Rattle.far_engine.proofs.PositionLemmas.{base-of, same-channel, short-channel, refined-not-large}
 use Rattle.far_engine.proofs.TableLemmas.{large-table, found-table, composed-table}
 use Rattle.far_engine.proofs.stencils.compose_from.Goals as goal
 
@@ -40,7 +41,7 @@ returns-in-Err-clause-composed g c =
     same-channel c.args.mesh.now c.args.level c.points.result.now c.greatest_of-greatest.result c.scale.result c.requires.accepted
     c.points.ensures c.greatest_of-greatest.ensures c.scale.ensures in
     found-table c.args.mesh.now c.args.level c.args.depth c.requires.accepted few _
-    (c.fault_of_channel.ensures Tables c.args.mesh.now c.args.depth few (subst (λ ch. IsChannelFault Tables ch c.args.depth c.in-Err.fault) same c.in-Err.ensures.composed))
+    (c.fault_of_channel.ensures Tables (positions_of c.args.mesh.now) c.args.depth (λ k count. refined-not-large Tables c.args.mesh.now c.args.depth k count few) (subst (λ ch. IsChannelFault Tables ch c.args.depth c.in-Err.fault) same c.in-Err.ensures.composed))
 
 pub returns-in-Err-clause-steps : goal.returns-in-Err-clause-steps
 returns-in-Err-clause-steps g c = steps-fit c.args.mesh.now c.args.level c.args.depth c.args.steps.now _ c.requires.accepted c.compose_channel.ensures.steps

@@ -3,7 +3,7 @@ use Rattle.std.specs.List.{fold}
 use Rattle.obj_tags.specs.View.{point_of}
 use Rattle.subdiv_model.specs.Channel.{greatest_amount}
 use Rattle.subdiv_model.specs.Answer.{point_numbers}
-use Rattle.far_engine.proofs.refine.greatest_of.Given as goal
+use Rattle.far_engine.proofs.positions.greatest_of.Given as goal
 
 -- the greatest so far, and from here on, is that of all
 abbrev pub invariant-loop-rest : goal.invariant-loop-rest

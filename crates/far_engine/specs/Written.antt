@@ -7,11 +7,11 @@ use Rattle.subdiv_model.specs.Answer.{command_text}
 use Rattle.far_engine.specs.Outcome.{refusal_of_mesh}
 
 -- what words that are a command say: a depth of at most 10, at most 18 decimals, and a size from 1 to 256
-abbrev pub IsBuiltCommand : Command → Type 0
-IsBuiltCommand (Refine depth decimals uv by tags) = (depth ≤ 10) × IfSome decimals (λ digits. digits ≤ 18)
-IsBuiltCommand (Stencils depth) = depth ≤ 10
-IsBuiltCommand (Levels depth) = depth ≤ 10
-IsBuiltCommand (Gen seed size depth) = (1 ≤ size) × (size ≤ 256) × (depth ≤ 10)
+abbrev pub IsInRange : Command → Type 0
+IsInRange (Refine depth decimals uv by tags) = (depth ≤ 10) × IfSome decimals (λ digits. digits ≤ 18)
+IsInRange (Stencils depth) = depth ≤ 10
+IsInRange (Levels depth) = depth ≤ 10
+IsInRange (Gen seed size depth) = (1 ≤ size) × (size ≤ 256) × (depth ≤ 10)
 
 -- what a command writes of a mesh
 unfoldable pub written_text : Command → ObjMesh → List ℕ

@@ -1,0 +1,94 @@
+-- The steps of a refinement, by those of its parts.
+use Rattle.std.proofs.Common.{◌≡◌, ℕ, ◌+◌, ◌≤◌, Bool, true, false, cond, length, Option, arith, refl}
+use Rattle.subdiv_model.specs.ObjMesh.{ObjMesh}
+use Rattle.subdiv_model.specs.Command.{Refine, Uv, By, Tags}
+use Rattle.far_engine.specs.Outcome.{least_steps, step_limit, level_faces_to, position_steps, texture_steps, where_textured}
+use Rattle.far_engine.proofs.SeriesLemmas.{level-0-steps}
+
+-- what is counted where there is texture
+pub where-not : (mesh : ObjMesh) (n : ℕ) → mesh.has_texture ≡ false → where_textured mesh n ≡ 0
+where-not mesh n is = go mesh.has_texture is
+  where
+    go : (b : Bool) → b ≡ false → cond b n 0 ≡ 0
+    go true e = absurd (cc)
+    go false e = refl
+
+pub where-so : (mesh : ObjMesh) (n : ℕ) → mesh.has_texture ≡ true → where_textured mesh n ≡ n
+where-so mesh n is = go mesh.has_texture is
+  where
+    go : (b : Bool) → b ≡ true → cond b n 0 ≡ n
+    go true e = refl
+    go false e = absurd (cc)
+
+where-more : (mesh : ObjMesh) (m n : ℕ) → m ≤ n → where_textured mesh m ≤ where_textured mesh n
+where-more mesh m n h = go mesh.has_texture
+  where
+    go : (b : Bool) → cond b m 0 ≤ cond b n 0
+    go true = h
+    go false = omega arith
+
+-- where no texture is refined, no step is taken for it
+pub none-steps : (mesh : ObjMesh) (m n old : ℕ) → mesh.has_texture ≡ false → where_textured mesh m + old ≤ old + where_textured mesh n
+none-steps mesh m n old is = omega (arith, where-not mesh m is, where-not mesh n is)
+
+pub none-taken : (mesh : ObjMesh) (n old : ℕ) → mesh.has_texture ≡ false → old + where_textured mesh n ≤ old
+none-taken mesh n old is = omega (arith, where-not mesh n is)
+
+-- and else as many as its track takes
+pub some-steps : (mesh : ObjMesh) (m n old new : ℕ) → mesh.has_texture ≡ true → m + new ≤ old + n → where_textured mesh m + new ≤ old + where_textured mesh n
+some-steps mesh m n old new is h = omega (arith, h, where-so mesh m is, where-so mesh n is)
+
+pub some-taken : (mesh : ObjMesh) (n old new : ℕ) → mesh.has_texture ≡ true → old + n ≤ new → old + where_textured mesh n ≤ new
+some-taken mesh n old new is h = omega (arith, h, where-so mesh n is)
+
+pub cut-steps : (mesh : ObjMesh) (n old new : ℕ) → mesh.has_texture ≡ true → new ≤ old + n → new ≤ old + where_textured mesh n
+cut-steps mesh n old new is h = omega (arith, h, where-so mesh n is)
+
+module _ (depth : ℕ) (decimals : Option ℕ) (uv : Uv) (by : By) (tags : Tags) (mesh : ObjMesh) where
+  abbrev whole : ℕ
+  whole = level_faces_to depth mesh + texture_steps by uv depth mesh
+
+  cut-within : where_textured mesh (length mesh.faces) ≤ where_textured mesh whole
+  cut-within = where-more mesh (length mesh.faces) whole (more (length mesh.faces) (level_faces_to depth mesh) (texture_steps by uv depth mesh) (level-0-steps mesh depth))
+    where
+      more : (f l t : ℕ) → f ≤ l → f ≤ l + t
+      more f l t h = omega (arith, h)
+
+  -- where nothing was refined yet
+  pub cut-alone : (old new : ℕ) → new ≤ old + where_textured mesh (length mesh.faces) →
+      length mesh.faces + new ≤ old + step_limit (Refine depth decimals uv by tags) mesh
+  cut-alone old new h =
+      fits (length mesh.faces) (level_faces_to depth mesh) (position_steps by depth mesh) (where_textured mesh (length mesh.faces)) (where_textured mesh whole)
+      (level-0-steps mesh depth) cut-within h
+    where
+      fits : (f l p w v : ℕ) → f ≤ l → w ≤ v → new ≤ old + w → f + new ≤ old + (l + p + v)
+      fits f l p w v a b h = omega (arith, a, b, h)
+
+  -- where the positions were refined, or given up
+  pub positions-alone : (old between new : ℕ) → between ≤ old + where_textured mesh (length mesh.faces) →
+      length mesh.faces + new ≤ between + (level_faces_to depth mesh + position_steps by depth mesh) →
+      length mesh.faces + new ≤ old + step_limit (Refine depth decimals uv by tags) mesh
+  positions-alone old between new g h =
+      fits (length mesh.faces) (level_faces_to depth mesh) (position_steps by depth mesh) (where_textured mesh (length mesh.faces)) (where_textured mesh whole) cut-within g h
+    where
+      fits : (f l p w v : ℕ) → w ≤ v → between ≤ old + w → f + new ≤ between + (l + p) → f + new ≤ old + (l + p + v)
+      fits f l p w v a b h = omega (arith, a, b, h)
+
+  -- where the texture was, too
+  pub all-steps : (old between after new : ℕ) → between ≤ old + where_textured mesh (length mesh.faces) →
+      length mesh.faces + after ≤ between + (level_faces_to depth mesh + position_steps by depth mesh) →
+      where_textured mesh (length mesh.faces) + new ≤ after + where_textured mesh whole →
+      length mesh.faces + new ≤ old + step_limit (Refine depth decimals uv by tags) mesh
+  all-steps old between after new g h i =
+      fits (length mesh.faces) (level_faces_to depth mesh) (position_steps by depth mesh) (where_textured mesh (length mesh.faces)) (where_textured mesh whole) g h i
+    where
+      fits : (f l p w v : ℕ) → between ≤ old + w → f + after ≤ between + (l + p) → w + new ≤ after + v → f + new ≤ old + (l + p + v)
+      fits f l p w v a b c = omega (arith, a, b, c)
+
+  pub all-taken : (old between after new : ℕ) → old ≤ between → between + position_steps by depth mesh ≤ after →
+      after + where_textured mesh (texture_steps by uv depth mesh) ≤ new → old + least_steps (Refine depth decimals uv by tags) mesh ≤ new
+  all-taken old between after new g h i =
+      fits (position_steps by depth mesh) (where_textured mesh (texture_steps by uv depth mesh)) g h i
+    where
+      fits : (p t : ℕ) → old ≤ between → between + p ≤ after → after + t ≤ new → old + (p + t) ≤ new
+      fits p t a b c = omega (arith, a, b, c)

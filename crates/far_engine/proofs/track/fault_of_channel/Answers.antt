@@ -1,0 +1,7 @@
+use Rattle.std.proofs.Common.{subst}
+use Rattle.channel_refine.specs.Refined.{IsChannelFault}
+use Rattle.far_engine.proofs.track.fault_of_channel.Goals as goal
+
+pub returns-in-TooLarge : goal.returns-in-TooLarge
+returns-in-TooLarge c = λ asked channel depth few fault.
+    absurd (few c.in-TooLarge.level c.in-TooLarge.count (subst (IsChannelFault asked channel depth) c.in-TooLarge.is fault))

@@ -1,0 +1,120 @@
+// Cut meshes of texture channels.
+
+ghost use Rattle.std.specs.Prelude.{◌≡◌, ◌<◌};
+ghost use Rattle.obj_tags.specs.Laws.{IsWithin};
+
+use crate::expect::expect_same;
+use crate::textures::{ONE_CHART, TWO_CHARTS};
+use face_varying::{Channel, SeamMode, cut};
+use level_topology::Level;
+use mesh_check::{CheckFault, check_mesh};
+use obj_tags::{RawMesh, read_obj};
+use ratio128::{Point2, Steps};
+use sharpness_rules::Sharpness;
+use std::alloc::Global;
+use std::marker::Brand;
+use std::process::Abort;
+use std::sync::ledger::{Blank, Ledger};
+use std::test::Fail;
+
+fn cut_by<L: Ledger>(
+    rt: &impl Abort,
+    alloc: Global,
+    mesh: &RawMesh,
+    mode: SeamMode,
+    blank: Blank,
+) -> Result<Channel, CheckFault>
+    requires name { blank.name ≡ L.name }
+    requires parts { blank.parts ≡ L.parts }
+    requires some { 0 < blank.parts }
+    requires within { IsWithin mesh.now }
+{
+    let mut steps = Steps::start(blank.open::<L>());
+    let level = check_mesh(alloc, mesh, &mut steps)?;
+    assert!(rt; mesh.has_texture());
+    let channel = cut(alloc, mesh, &level, mode, &mut steps)?;
+    Ok(channel)
+}
+
+fn cut_mesh(
+    rt: &impl Abort,
+    alloc: Global,
+    mesh: &RawMesh,
+    mode: SeamMode,
+) -> Result<Channel, CheckFault>
+    requires { IsWithin mesh.now }
+{
+    cut_by::<Brand>(rt, alloc, mesh, mode, Blank::new(1))
+}
+
+fn boundary_edges(level: &Level) -> u32 {
+    let mut count: u32 = 0;
+    for e in 0..level.edges() {
+        if level.edge_faces(e).second.is_none() {
+            count = count.saturating_add(1);
+        }
+    }
+    count
+}
+
+fn sharp_points(level: &Level) -> u32 {
+    let mut count: u32 = 0;
+    for v in 0..level.points() {
+        if let Sharpness::Infinite = level.vertex_sharpness(v) {
+            count = count.saturating_add(1);
+        }
+    }
+    count
+}
+
+// A mesh, what stays sharp, and of the cut mesh its points, boundary edges and sharp points, and the last value.
+type Cut = (&'static str, SeamMode, u32, u32, u32, Point2);
+
+const CUTS: &[Cut] = &[
+    (TWO_CHARTS, SeamMode::Smooth, 8, 8, 0, Point2 { u: 4, v: 1 }),
+    (
+        TWO_CHARTS,
+        SeamMode::Corners,
+        8,
+        8,
+        8,
+        Point2 { u: 4, v: 1 },
+    ),
+    (
+        TWO_CHARTS,
+        SeamMode::Boundaries,
+        8,
+        8,
+        8,
+        Point2 { u: 4, v: 1 },
+    ),
+    (ONE_CHART, SeamMode::Smooth, 6, 6, 0, Point2 { u: 4, v: 1 }),
+    (ONE_CHART, SeamMode::Corners, 6, 6, 4, Point2 { u: 4, v: 1 }),
+    (
+        ONE_CHART,
+        SeamMode::Boundaries,
+        6,
+        6,
+        6,
+        Point2 { u: 4, v: 1 },
+    ),
+];
+
+fn cuts() -> &'static [Cut] {
+    CUTS
+}
+
+#[test]
+fn cuts_meshes_at_seams(rt: HostRuntime) -> Result<(), Fail> {
+    for row in cuts() {
+        let &(text, mode, points, boundary, sharp, last) = row;
+        assert!(rt; text.len() < 1 << 28);
+        let mesh = read_obj(rt.alloc(), text.as_bytes(), 0)?;
+        let channel = cut_mesh(&rt, rt.alloc(), &mesh, mode)?;
+        let (level, values) = channel.into_parts();
+        let told = (level.points(), boundary_edges(&level), sharp_points(&level));
+        expect_same(&rt, &told, &(points, boundary, sharp), row);
+        expect_same(&rt, &values.last(), &Some(&last), row);
+    }
+    Ok(())
+}
