@@ -1,9 +1,10 @@
 #!/usr/bin/env python3
 """Compares the built program with `tools/reference.py` on random OBJ texts.
 
-Texts are made of lines that are good, bad or nearly bad, and of the cube and the refined cube with a few changes; they
-are refined to depth 1 at most. Meshes are those of `tools/random_meshes.py`; they are refined, by tables and level by
-level, or have their levels counted or their tables written, to depth 3 at most. Sheets are made by the program itself.
+Texts are made of lines that are good, bad or nearly bad, and of the cube, the unfolded cube with its texture and the
+refined cube with a few changes; they are refined to depth 1 at most. Meshes are those of `tools/random_meshes.py`, many
+with texture; they are refined, by tables and level by level, or have their levels counted or their tables written, to
+depth 3 at most. Sheets are made by the program itself.
 The options are random too. The same seed makes the same words and texts. A text on which the two differ is printed, and
 the exit status is then 1.
 
@@ -20,13 +21,14 @@ from pathlib import Path
 
 import reference
 from random_meshes import Meshes
+from run_reference import Refusal
 
 TOP = Path(__file__).resolve().parent.parent
 REFINE = ["refine", "depth=1"]
 GREATEST_DEPTH = 3
 # How many faces the last level of a mesh that is refined has at most, and of one whose table is written, so that the
 # reference does not take long.
-MOST_FACES = 1200
+MOST_FACES = 800
 MOST_TABLE_FACES = 400
 SEEDS = ["0", "1", "7", str(2**31 - 1), str(2**31), str(2**32 - 1)]
 BAD_SHEETS = ["size=0", "size=257", "seed=-1", f"seed={2**32}", "seed=00", "depth=11", "by=table", "size"]
@@ -37,7 +39,10 @@ OPTIONS = {
     "tags": ["yes", "yes", "no"],
 }
 BAD_OPTIONS = ["depth=1", "depth=01", "depth=11", "decimals=19", "decimals=-1", "uv=", "by=tables", "tags", "=1", "x=1"]
+# How likely an option is there.
+CHANCES = {"decimals": 0.4, "uv": 0.7, "by": 0.4, "tags": 0.4}
 CUBE = (TOP / "examples" / "cube.obj").read_bytes()
+UNFOLDED_CUBE = (TOP / "examples" / "unfolded_cube.obj").read_bytes()
 NUMERALS = (
     ["1.", "-.5", ".", "+", "-", "nan", "0x1", "1e", "1e+", "--1", "-0", "00.10", "1e36", "1e37", "1e-37", "1e-38"]
     + ["0.0000001", "0.0000010", "9.9999999", "10.0000001", "9" * 37, "9" * 38, f"0.{1:037}", f"0.{1:038}"]
@@ -81,7 +86,7 @@ def expected(words, data):
     """The status and what is written on standard output and standard error, by the reference."""
     try:
         text = reference.answer([word.encode() for word in words], io.BytesIO(data))
-    except reference.Refusal as refusal:
+    except Refusal as refusal:
         return refusal.status, b"", f"{refusal.line}\n".encode()
     return 0, text.encode(), b""
 
@@ -166,13 +171,13 @@ class Texts:
         return line + self.random.choice([""] * 20 + [" \\", "\r", "\r", " # c"])
 
     def changed_cube(self):
-        lines = (REFINED_CUBE if self.happens(0.2) else CUBE).decode().splitlines()
+        lines = self.random.choices([CUBE, UNFOLDED_CUBE, REFINED_CUBE], [5, 3, 2])[0].decode().splitlines()
         for _ in range(self.random.randint(0, 3)):
             place = self.random.randrange(len(lines))
             if self.happens(0.5):
                 lines.insert(place, self.tag() if self.happens(0.3) else self.line())
-            elif lines[place].startswith("v "):
-                lines[place] = "v " + " ".join(self.numeral() for _ in range(3))
+            elif lines[place].startswith("v"):
+                lines[place] = lines[place].split()[0] + " " + " ".join(self.numeral() for _ in range(3))
             else:
                 self.random.shuffle(lines)
         return lines
@@ -204,7 +209,7 @@ class Words:
 
     def options(self, depth):
         """The depth among other options, in any order, and now and then a bad one."""
-        kept = [name for name in OPTIONS if self.random.random() < 0.4]
+        kept = [name for name in OPTIONS if self.random.random() < CHANCES[name]]
         options = [f"depth={depth}"] + [f"{name}={self.random.choice(OPTIONS[name])}" for name in kept]
         options += [self.random.choice(BAD_OPTIONS)] if self.random.random() < 0.01 else []
         self.random.shuffle(options)
@@ -220,12 +225,12 @@ class Words:
 
     def for_mesh(self, data):
         """The words by which a mesh is refined or has its table written, not too far for its corners, or has its levels
-        counted."""
-        kind = self.random.random()
+        counted. With texture it is mostly refined."""
+        kind = self.random.random() + (0.3 if b"\nvt" in data else 0)
         if kind < 0.25:
             return ["levels", f"depth={self.random.randint(0, GREATEST_DEPTH)}"]
         corners = sum(len(line.split()) - 1 for line in data.split(b"\n") if line.startswith(b"f"))
-        if kind < 0.5:
+        if kind < 0.45:
             return ["stencils", f"depth={self.depth_for(corners, MOST_TABLE_FACES)}"]
         return ["refine", *self.options(self.depth_for(corners, MOST_FACES))]
 

@@ -21,6 +21,8 @@ GREATEST_SIZE = 2**16
 GREATEST_LEVEL = 2**22
 GREATEST_DENOMINATOR = 2**60
 LEAST_INFINITE = 10
+# The track of the values that a level carries: the positions have it here, and the texture elsewhere.
+POSITIONS = "positions"
 
 
 # Sides, edges, and the faces that meet
@@ -293,15 +295,15 @@ def child_vertex_sharpness(level):
     return {vertex: value - 1 for vertex, value in level.vertex_sharpness.items() if value > 1}
 
 
-def overflow(number, kind):
-    """The Refusal of the level with this number for what passes its bound."""
-    return Refusal(OVERFLOW, f"far: positions level {number}: {kind} overflow")
+def overflow(track, number, kind):
+    """The Refusal of the level of a track with this number for what passes its bound."""
+    return Refusal(OVERFLOW, f"far: {track} level {number}: {kind} overflow")
 
 
-def child_level(level, number):
+def child_level(level, track, number):
     """The next level, which has this number, or the Refusal of a denominator that is too great for it."""
     if level.method == b"chaikin" and any(map(has_fine_halves, semi_sharp_at(level).values())):
-        raise overflow(number, "chaikin")
+        raise overflow(track, number, "chaikin")
     points = level.points + len(level.mesh.faces) + len(level.mesh.edges)
     faces, holes, sharpness = Faces(child_faces(level)), child_holes(level), child_sharpness(level)
     return Level(points, faces, holes, sharpness, child_vertex_sharpness(level), level.method)
@@ -354,7 +356,7 @@ def levels_text(obj, depth):
     level = accepted(obj, depth)
     lines = [level_line(0, level)]
     for number in range(1, depth + 1):
-        level = child_level(level, number)
+        level = child_level(level, POSITIONS, number)
         lines.append(level_line(number, level))
     return "".join(lines)
 

@@ -8,13 +8,38 @@ from dataclasses import dataclass
 from fractions import Fraction
 from math import inf, lcm
 
-from level_reference import child_level, common_denominator, half_sharpness, is_too_fine, overflow, uniform_child
+from level_reference import (
+    POSITIONS,
+    Level,
+    child_level,
+    common_denominator,
+    half_sharpness,
+    is_too_fine,
+    overflow,
+    uniform_child,
+)
 from run_reference import TOO_LARGE, Refusal
 
 GREATEST_NUMBER = 2**126 - 1
 MOST_ENTRIES = 2**27
 # The rule of a vertex: smooth, which a dart is like; corner; or a crease, by the places of its two edges in the ring.
 SMOOTH, CORNER = "smooth", "corner"
+
+
+@dataclass
+class Channel:
+    """Values that are refined: their track, their level 0, the controls as whole numbers over a common denominator, and
+    whether the scheme is linear."""
+
+    track: str
+    base: Level
+    controls: list
+    common: int
+    is_linear: bool = False
+
+    def greatest(self):
+        """The greatest amount of a control, or the common denominator where that is greater."""
+        return max([self.common] + [abs(number) for control in self.controls for number in control])
 
 
 @dataclass
@@ -72,9 +97,11 @@ def face_mask(face):
     return mask_of(each(1, face), len(face))
 
 
-def edge_mask(level, edge):
-    """The mask of the new point of an edge, where one of sharpness 0 is a blend that has nothing of the sharp mask."""
-    sharpness, faces = level.edge_sharpness(edge), level.mesh.faces_of_edge(edge)
+def edge_mask(channel, level, edge):
+    """The mask of the new point of an edge, where one of sharpness 0 is a blend that has nothing of the sharp mask. The
+    linear scheme takes each edge as sharp."""
+    sharpness = inf if channel.is_linear else level.edge_sharpness(edge)
+    faces = level.mesh.faces_of_edge(edge)
     if sharpness >= 1:
         return mask_of(each(1, edge), 2)
     x, y = Fraction(sharpness).as_integer_ratio()
@@ -100,21 +127,22 @@ def blend(weight, parent, child):
     return mask_of(terms, y * multiple)
 
 
-def vertex_mask(level, vertex, number):
-    """The mask of a vertex for the next level, which has this number, or the Refusal of a weight that is too fine."""
+def vertex_mask(channel, level, vertex, number):
+    """The mask of a vertex for the next level, which has this number, or the Refusal of a weight that is too fine. The
+    linear scheme takes each vertex as a corner."""
     edges = level.mesh.edges_of_point[vertex]
     ends = [a + b - vertex for a, b in edges]
     faces = [level.points + face for face in level.mesh.of_point[vertex]]
     sharpness, ring = level.vertex_sharpness.get(vertex, 0), [level.edge_sharpness(edge) for edge in edges]
     semi_sharp = [value for value in ring if 0 < value < inf]
     ring_child = [half_sharpness(level.method, value, semi_sharp) for value in ring]
-    rules = rule(sharpness, ring), rule(uniform_child(sharpness), ring_child)
+    rules = (CORNER, CORNER) if channel.is_linear else (rule(sharpness, ring), rule(uniform_child(sharpness), ring_child))
     parent, child = (rule_mask(named, vertex, ends, faces) for named in rules)
     if rules[0] == rules[1]:
         return parent
     values = ended(sharpness, ring, ring_child)
     if is_too_fine(len(values) * common_denominator(values)):
-        raise overflow(number, "transition")
+        raise overflow(channel.track, number, "transition")
     weight = sum(values) / Fraction(len(values))
     return blend(weight, parent, child) if weight < 1 else parent
 
@@ -137,36 +165,44 @@ def masked(mask, points):
     return Point(value, denominator, set().union(*(source.controls for source in sources)))
 
 
-def child_points(level, points, number, masked=masked):
+def child_points(channel, level, points, number, masked):
     """The points of the next level, which has this number: of vertices, then of faces, then of edges."""
     sources = points + [masked(face_mask(face), points) for face in level.mesh.faces]
-    vertices = [masked(vertex_mask(level, vertex, number), sources) for vertex in range(level.points)]
-    edges = [masked(edge_mask(level, edge), sources) for edge in level.mesh.edges]
+    vertices = [masked(vertex_mask(channel, level, vertex, number), sources) for vertex in range(level.points)]
+    edges = [masked(edge_mask(channel, level, edge), sources) for edge in level.mesh.edges]
     return vertices + sources[level.points :] + edges
 
 
-def check_numbers(points, greatest, number, by_table):
-    """Refuses a level by its denominators, by the entries of its table, and then by its values, where the greatest control
-    or the common denominator has this amount."""
+def check_numbers(channel, points, number, by_table):
+    """Refuses a level by its denominators, by the entries of its table, and then by its values."""
     if any(point.denominator > GREATEST_NUMBER for point in points):
-        raise overflow(number, "denominator")
+        raise overflow(channel.track, number, "denominator")
     if by_table and sum(len(point.controls) for point in points) > MOST_ENTRIES:
         raise Refusal(TOO_LARGE, f"far: level {number} has too many entries")
-    if max((point.denominator for point in points), default=1) * greatest > GREATEST_NUMBER:
-        raise overflow(number, "value")
+    if max((point.denominator for point in points), default=1) * channel.greatest() > GREATEST_NUMBER:
+        raise overflow(channel.track, number, "value")
 
 
-def greatest_control(obj):
-    return max([obj.common] + [abs(axis) for point in obj.points for axis in point])
-
-
-def refined(level, obj, depth, by_table):
-    """The level after so many steps from level 0 of a mesh that was read, and its values, or a Refusal. By a table its
+def stepped(channel, points, depth, by_table, masked=masked):
+    """The level of a channel after so many steps, and its points from those of level 0, or a Refusal. By a table its
     entries are limited too."""
-    points = [Point(tuple(Fraction(axis, obj.common) for axis in point), 1, {v}) for v, point in enumerate(obj.points)]
+    level = channel.base
     for number in range(1, depth + 1):
-        child = child_level(level, number)
-        points = child_points(level, points, number)
-        check_numbers(points, greatest_control(obj), number, by_table)
+        child = child_level(level, channel.track, number)
+        points = child_points(channel, level, points, number, masked)
+        check_numbers(channel, points, number, by_table)
         level = child
+    return level, points
+
+
+def positions_of(obj, base):
+    """The channel of the points of a mesh that was read, from its level 0."""
+    return Channel(POSITIONS, base, obj.points, obj.common)
+
+
+def refined(channel, depth, by_table):
+    """The level of a channel after so many steps, and its values, or a Refusal."""
+    values = [tuple(Fraction(number, channel.common) for number in control) for control in channel.controls]
+    points = [Point(value, 1, {control}) for control, value in enumerate(values)]
+    level, points = stepped(channel, points, depth, by_table)
     return level, [point.value for point in points]

@@ -42,12 +42,16 @@ class Fault(Exception):
 class Mesh:
     """Points are whole numbers over `common`, and points and faces count from 0. Creases (two vertices and their
     sharpness), corner tags (a vertex and its sharpness) and holes (faces) are in the order of the text. Texture values
-    are checked and not kept."""
+    are whole numbers over `texture_common`; where there is texture, `texture_corners` has for each corner of each face
+    the number of its value, from 0."""
 
     points: list = field(default_factory=list)
     common: int = 1
     faces: list = field(default_factory=list)
     has_texture: bool = False
+    texture: list = field(default_factory=list)
+    texture_common: int = 1
+    texture_corners: list = field(default_factory=list)
     creases: list = field(default_factory=list)
     corner_tags: list = field(default_factory=list)
     holes: list = field(default_factory=list)
@@ -122,14 +126,12 @@ def form(corner):
 
 
 def read_corner(corner, first, before, whole):
-    """The point that a corner names, and whether it names a texture value."""
+    """The point that a corner names, and the texture value, or None where it names none."""
     if form(corner) is None or form(corner) != form(first):
         raise Fault("bad face corner")
     parts = corner.split(b"/")
     vertex = place(parts[0], before[b"v"], whole[b"v"])
-    if form(corner)[1]:
-        place(parts[1], before[b"vt"], whole[b"vt"])
-    return vertex, form(corner)[1]
+    return vertex, place(parts[1], before[b"vt"], whole[b"vt"]) if form(corner)[1] else None
 
 
 # Tags
@@ -243,6 +245,12 @@ def late_line(channel):
     return None
 
 
+def over_common(channel):
+    """The values of a channel as whole numbers, and the common denominator that they stand over."""
+    common = common_with(1, [value for _, values in channel for value in values])
+    return [tuple(int(value * common) for value in values) for _, values in channel], common
+
+
 def read_obj(data):
     """The mesh of a text, or the Fault of its least bad line."""
     text = data[len(MARK) :] if data.startswith(MARK) else data
@@ -258,11 +266,12 @@ def read_obj(data):
             check_line(words)
             if words[0] in channels:
                 values = [read_numeral(word) for word in words[1:]]
-                channels[words[0]].append((number, values[: 3 if words[0] == b"v" else 2]))
+                # a second texture value that is missing is 0
+                channels[words[0]].append((number, values[:3] if words[0] == b"v" else [*values, Fraction(0)][:2]))
             elif words[0] == b"f":
                 corners = [read_corner(word, words[1], before, whole) for word in words[1:]]
                 mesh.faces.append(tuple(vertex for vertex, _ in corners))
-                textured.append(all(texture for _, texture in corners))
+                textured.append(tuple(texture for _, texture in corners))
             elif words[0] == b"t":
                 read_tag(mesh, words, whole)
         except Fault as fault:
@@ -271,8 +280,8 @@ def read_obj(data):
     late = [late_line(channel) for channel in channels.values()]
     if any(late):
         raise Fault("number out of range", min(filter(None, late)))
-    points = [values for _, values in channels[b"v"]]
-    mesh.common = common_with(1, [value for values in points for value in values])
-    mesh.points = [tuple(int(value * mesh.common) for value in values) for values in points]
-    mesh.has_texture = bool(textured) and all(textured)
+    mesh.points, mesh.common = over_common(channels[b"v"])
+    mesh.texture, mesh.texture_common = over_common(channels[b"vt"])
+    mesh.has_texture = bool(textured) and all(None not in numbers for numbers in textured)
+    mesh.texture_corners = textured if mesh.has_texture else []
     return mesh

@@ -1,11 +1,12 @@
-"""Random small meshes as OBJ texts: open and closed surfaces of several parts, with random tags and numbers, and with
-faces that are dropped, doubled, turned or spoilt. The same seed makes the same texts. `tools/compare_random.py` tries
-the program on them."""
+"""Random small meshes as OBJ texts: open and closed surfaces of several parts, with random tags, texture and numbers,
+and with faces that are dropped, doubled, turned or spoilt. The same seed makes the same texts.
+`tools/compare_random.py` tries the program on them."""
 
 import random
 from itertools import product
 
 from make_examples import surface
+from random_texture import Textures
 
 SHARPNESSES = ["0", "0/3", "1/2", "1", "3/2", "2.5", "0.000001", "19/2", "10", "1e9", "20000003/1000001"]
 # Where edges at a point have all three, their common denominator is too great at level 1, or only at level 2.
@@ -62,6 +63,7 @@ class Meshes:
 
     def __init__(self, seed):
         self.random = random.Random(seed)
+        self.textures = Textures(self.random)
 
     def happens(self, chance):
         return self.random.random() < chance
@@ -198,8 +200,13 @@ class Meshes:
         sharpness = self.random.choices(SHARPNESSES, k=len(named) if self.happens(0.5) else 1)
         return f"t corner {len(named)}/{len(sharpness)}/0 {' '.join(map(str, named))} {' '.join(sharpness)}"
 
+    def chaikin_tags(self, count, faces):
+        """The method chaikin, and creases that it goes by."""
+        return ["t creasemethod 0/0/1 chaikin"] + [self.spokes(count, faces) for _ in range(3)]
+
     def tag(self, count, faces):
-        kind = self.random.choice(["crease", "spokes", "method"] * 3 + ["corner", "corner", "hole", "hole", "mode", "mode"])
+        kinds = ["crease", "spokes", "method"] * 6 + ["corner", "hole", "mode"] * 4 + ["dropped"]
+        kind = self.random.choice(kinds)
         if kind == "crease":
             return self.crease(count, faces)
         if kind == "spokes":
@@ -211,31 +218,64 @@ class Meshes:
             return f"t hole 1/0/0 {self.random.randrange(len(faces)) if faces and self.happens(0.98) else len(faces)}"
         if kind == "mode":
             return f"t interpolateboundary 1/0/0 {self.random.randint(0, 2)}"
+        if kind == "dropped":
+            return f"t facevaryinginterpolateboundary 1/0/0 {self.random.randint(0, 2)}"
         return f"t creasemethod 0/0/1 {self.random.choice(['normal', 'chaikin', 'chaikin'])}"
 
-    def corner(self, vertex, textured):
-        return f"{vertex + 1}/{self.random.randint(1, 4)}" if textured else str(vertex + 1)
-
     def coordinates(self):
-        """What makes the coordinates of a mesh: small whole numbers, mostly, or fractions, or numbers that are great or
-        fine, with which values overflow sooner or later."""
+        """What makes the coordinates of a mesh: small whole numbers, mostly, or fractions, decimals, or numbers that are
+        great or fine, with which values overflow sooner or later."""
         digits = self.random.randint(26, 37)
         return self.random.choices(
             [
                 lambda: str(self.random.randint(-9, 9)),
                 lambda: f"{self.random.randint(-99, 99)}/{self.random.choice([1, 2, 3, 7, 12])}",
+                lambda: f"{self.random.randint(-1, 1)}.{self.random.randint(0, 999):03}",
                 lambda: str(self.random.randint(-(10**digits) + 1, 10**digits - 1)),
                 lambda: f"{self.random.randint(-9, 9)}/{10 ** (digits - 1)}",
             ],
-            [5, 1, 1, 1],
+            [10, 2, 1, 2, 2],
         )[0]
+
+    def places(self, numbers, count):
+        """Numbers from 0 as indices: from 1, or now and then back from the last of so many."""
+        back = self.happens(0.1)
+        return [number - count if back else number + 1 for number in numbers]
+
+    def face_line(self, face, numbers, counts):
+        """A face with texture, over so many points and so many values."""
+        pairs = zip(self.places(face, counts[0]), self.places(numbers, counts[1]))
+        end = self.random.choice(["", "", "/1"])
+        return "f " + " ".join(f"{vertex}/{number}{end}" for vertex, number in pairs)
+
+    def value_line(self, axes):
+        """A texture value of two axes, of which the second may be missing, or a third follow."""
+        words = [coordinate() for coordinate in (*axes, axes[0])]
+        return "vt " + " ".join(words[: self.random.choice([1, 2, 2, 2, 3])])
+
+    def textured_lines(self, points, faces):
+        """The lines of points, of texture values, and of faces, of which now and then the last lacks texture. The values
+        that no corner names may be of another kind than those that are named, or as great as a number can be."""
+        corners, named, count = self.textures.corners(faces)
+        first, great = self.coordinates(), lambda: "9" * 37
+        used = first, first if self.happens(0.8) else self.coordinates()
+        unused = self.random.choice([used, [self.coordinates()] * 2, [great] * 2])
+        lines = points + [self.value_line(used if number in named else unused) for number in range(count)]
+        lines += [self.face_line(face, numbers, (len(points), count)) for face, numbers in zip(faces, corners)]
+        return lines[:-1] + [self.plain_face_line(faces[-1])] if self.happens(0.03) else lines
+
+    def plain_face_line(self, face):
+        return "f " + " ".join(str(vertex + 1) for vertex in face)
 
     def text(self):
         count, faces = self.mesh()
-        textured, coordinate = self.happens(0.1), self.coordinates()
+        coordinate = self.coordinates()
         lines = [f"v {coordinate()} {coordinate()} {coordinate()}" for _ in range(count)]
-        lines += [f"vt 0 {number}" for number in range(4)] if textured else []
-        lines += ["f " + " ".join(self.corner(vertex, textured) for vertex in face) for face in faces]
-        for _ in range(self.random.choice([0, 1, 2, 4, 8])):
-            lines.insert(self.random.randint(0, len(lines)), self.tag(count, faces))
+        if faces and self.happens(0.45):
+            lines = self.textured_lines(lines, faces)
+        else:
+            lines += [self.plain_face_line(face) for face in faces]
+        tags = [self.tag(count, faces) for _ in range(self.random.choice([0, 1, 2, 4, 8]))]
+        for tag in tags + (self.chaikin_tags(count, faces) if self.happens(0.2) else []):
+            lines.insert(self.random.randint(0, len(lines)), tag)
         return "".join(line + "\n" for line in lines).encode()

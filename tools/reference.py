@@ -8,6 +8,7 @@ program's words, standard input and standard output, and ends with the program's
 cases can be tried on it:
 
     tools/reference.py refine depth=1 < examples/cube.obj
+    tools/reference.py refine depth=1 uv=corners < examples/unfolded_cube.obj
     tools/run_cases.py --program tools/reference.py
 """
 
@@ -15,9 +16,10 @@ import sys
 from math import inf
 
 from level_reference import accepted, levels_text, sharp_edges
-from mask_reference import refined
-from run_reference import NOT_BUILT, Refusal, read_mesh, run, understood
+from mask_reference import positions_of, refined
+from run_reference import read_mesh, run, understood
 from table_reference import sheet_text, table_text
+from texture_reference import texture_of
 
 
 # Numbers
@@ -43,14 +45,23 @@ def line(*words):
     return " ".join(map(str, words)) + "\n"
 
 
-def point_lines(points, digits):
-    return [line("v", *(number_text(axis, digits) for axis in point)) for point in points]
+def point_lines(keyword, points, digits):
+    return [line(keyword, *(number_text(axis, digits) for axis in point)) for point in points]
 
 
-def face_lines(level, with_holes):
-    """The faces, those that are holes among them or left out; corners are written from 1."""
-    shown = [face for number, face in enumerate(level.mesh.faces) if with_holes or number not in level.holes]
-    return [line("f", *(corner + 1 for corner in face)) for face in shown]
+def corner_texts(face):
+    """The corners of a face, from 1."""
+    return [str(corner + 1) for corner in face]
+
+
+def textured_corner_texts(faces):
+    """The corners of a face and its texture points, each with the other."""
+    return ["/".join(corners) for corners in zip(*map(corner_texts, faces))]
+
+
+def face_lines(level, faces, with_holes):
+    """The faces of a level, by their corners in words, with those that are holes or without them."""
+    return [line("f", *words) for number, words in enumerate(faces) if with_holes or number not in level.holes]
 
 
 def sharpness_text(value):
@@ -71,15 +82,18 @@ def tag_lines(level):
 
 
 def refined_text(obj, options):
-    """The text of a mesh that was read, refined as the options say, or its Refusal. How texture is refined makes no
-    difference where there is no texture."""
-    depth, decimals = int(options[b"depth"]), options.get(b"decimals")
-    with_tags = options.get(b"tags") == b"yes"
-    level = accepted(obj, depth)
+    """The text of a mesh that was read, refined as the options say, or its Refusal. The texture follows the positions,
+    level by level; how it is refined makes no difference where there is none."""
+    depth, by_table, with_tags = int(options[b"depth"]), options.get(b"by") != b"level", options.get(b"tags") == b"yes"
+    decimals = int(options[b"decimals"]) if b"decimals" in options else None
+    base = accepted(obj, depth)
+    level, points = refined(positions_of(obj, base), depth, by_table)
+    lines, faces = point_lines("v", points, decimals), map(corner_texts, level.mesh.faces)
     if obj.has_texture:
-        raise Refusal(NOT_BUILT, "far: line 0 is not built yet")
-    level, points = refined(level, obj, depth, options.get(b"by") != b"level")
-    lines = point_lines(points, None if decimals is None else int(decimals)) + face_lines(level, with_tags)
+        cut, texture = refined(texture_of(obj, base, options.get(b"uv", b"smooth")), depth, by_table)
+        lines += point_lines("vt", texture, decimals)
+        faces = map(textured_corner_texts, zip(level.mesh.faces, cut.mesh.faces))
+    lines += face_lines(level, faces, with_tags)
     return "".join(lines + (tag_lines(level) if with_tags else []))
 
 

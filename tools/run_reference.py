@@ -7,7 +7,7 @@ import sys
 from obj_reference import Fault, read_obj
 
 GREATEST_INPUT = 2**28
-NOT_UNDERSTOOD, TOO_LONG, BAD_LINE, BAD_MESH, TOO_LARGE, OVERFLOW, NOT_BUILT = 2, 4, 5, 6, 7, 8, 12
+NOT_UNDERSTOOD, TOO_LONG, BAD_LINE, BAD_MESH, TOO_LARGE, OVERFLOW = 2, 4, 5, 6, 7, 8
 
 
 class Numbers:

@@ -8,8 +8,8 @@ from dataclasses import dataclass
 from fractions import Fraction
 from math import lcm
 
-from level_reference import accepted, child_level
-from mask_reference import check_numbers, child_points, greatest_control
+from level_reference import accepted
+from mask_reference import positions_of, stepped
 from obj_reference import Mesh
 
 
@@ -44,12 +44,7 @@ def composed(mask, rows):
 def table(level, obj, depth):
     """The level after so many steps from level 0 of a mesh, and the rows of its points, or a Refusal."""
     rows = [Row({vertex: 1}, 1) for vertex in range(level.points)]
-    for number in range(1, depth + 1):
-        child = child_level(level, number)
-        rows = child_points(level, rows, number, composed)
-        check_numbers(rows, greatest_control(obj), number, True)
-        level = child
-    return level, rows
+    return stepped(positions_of(obj, level), rows, depth, True, composed)
 
 
 def entries(rows):
