@@ -1,0 +1,247 @@
+#!/usr/bin/env python3
+"""Times the commands of the built program on large meshes, those among them that are made to take long.
+
+Each mesh is made as a text in a temporary folder, mostly at two sizes. A row tells of the larger one: the faces of the
+last level, or of the mesh where it is refused; the least time of some runs (whole processes, reading and writing
+included) and the greatest peak memory; how much is written; the nanoseconds for each face, each entry of the table,
+where one is composed of the positions alone, and each byte that is read or written; and the exponent with which the
+time grows with the faces from the smaller size to it: 1.0 is linear.
+
+The status is checked, the first line of `levels`, and how many faces are written or counted; what is wrong is told, and
+the exit status is then 1. The machine may be busy, so only large differences mean something; peaks below some 20 MB are
+those of Python.
+
+    tools/bench.py --runs 5 --only wheel
+    tools/bench.py --only "refine depth=3"
+    tools/bench.py --quick --program PROGRAM   # small meshes, to try a program that is slow
+"""
+
+import argparse
+import math
+import os
+import re
+import subprocess
+import sys
+import tempfile
+import time
+from multiprocessing import Pool
+from pathlib import Path
+from typing import Callable, NamedTuple, Optional, Tuple
+
+import bench_meshes as meshes
+
+TOP = Path(__file__).resolve().parent.parent
+QUICK = 64
+MILLION = 10**6
+
+
+class Case(NamedTuple):
+    """A mesh, how it is made, the words, and the sizes; `gen` makes its own, with so many quads in a row."""
+
+    mesh: str
+    maker: Optional[Callable]
+    words: str
+    sizes: Tuple[int, ...]
+
+
+class Made(NamedTuple):
+    """A text that was made: its file, and what is wanted of the run."""
+
+    path: Path
+    faces: int
+    status: int
+    first_line: str
+
+
+class Measured(NamedTuple):
+    """What was seen of a case at one size."""
+
+    faces: int
+    seconds: float
+    peak: float
+    written: int
+    entries: Optional[int]
+    bytes: Optional[int]
+    faults: list
+
+
+def with_quarter(size):
+    return size, size // 4
+
+
+CHECKS = [
+    Case(mesh, maker, "levels depth=0", with_quarter(size))
+    for mesh, maker, size in [
+        ("faces at one vertex, in one fan", meshes.wheel, MILLION),
+        ("faces at one vertex, in two fans", meshes.two_wheels, MILLION),
+        ("faces over one edge", meshes.one_edge, MILLION),
+        ("one face, by its corners", meshes.one_face, MILLION),
+        ("wheel of triangles", meshes.wheel, 65537),
+        ("torus of quads", meshes.torus, 2**20),
+        ("torus of quads, the last turned over", meshes.turned_torus, 2**20),
+        ("creased sheet of quads, hidden boundary", meshes.hidden_sheet, 1023**2),
+        ("triangles with colliding edges", meshes.colliding, 300000),
+    ]
+]
+PATHS = ["refine depth=3", "refine depth=3 by=level"]
+DECIMALS = ["refine depth=3 decimals=6"]
+OTHERS = ["levels depth=3", "stencils depth=3"]
+COMMANDS = [
+    Case(mesh, maker, words, with_quarter(size))
+    for mesh, maker, size, lines in [
+        ("sheet", meshes.sheet, 64**2, PATHS),
+        ("creased sheet", meshes.creased_sheet, 64**2, PATHS + ["refine depth=3 tags=yes"] + OTHERS),
+        ("torus", meshes.torus, 64**2, PATHS + DECIMALS + OTHERS),
+        ("textured sheet", meshes.textured_sheet, 64**2, PATHS + DECIMALS + ["refine depth=3 uv=linear"]),
+        ("character", meshes.character, 20000, PATHS + DECIMALS + OTHERS),
+        ("textured character", meshes.textured_character, 20000, PATHS + DECIMALS),
+        ("none", None, 128**2, ["gen seed=7 size={side} depth=3"]),
+        ("large sheet", meshes.sheet, 141**2, ["levels depth=3"]),
+    ]
+    for words in lines
+]
+CASES = CHECKS + COMMANDS + [Case("one quad", meshes.sheet, "levels depth=10", (1,))]
+TEXTURED = meshes.textured_sheet, meshes.textured_character
+
+
+# Meshes
+
+
+def depth_of(words):
+    return int(re.search(r"depth=(\d+)", words)[1])
+
+
+def write_mesh(path, maker, size):
+    """Writes the text of a mesh. The answer is the mesh without its lines, which cannot be handed on."""
+    mesh = maker(size)
+    with open(path, "w") as text:
+        text.writelines(line + "\n" for line in mesh.lines)
+    return mesh._replace(lines=())
+
+
+def make(folder, case, size):
+    """Makes the text of a mesh. Another process does it, since the peak of a run begins at that of this one."""
+    path, depth = folder / "mesh.obj", depth_of(case.words)
+    if case.maker is None:
+        path.write_bytes(b"")
+        return Made(path, size * 4**depth, meshes.GOOD, "")
+    with Pool(1) as pool:
+        mesh = pool.apply(write_mesh, (path, case.maker, size))
+    faces = mesh.corners * 4 ** (depth - 1) if depth else mesh.faces
+    return Made(path, faces, mesh.status, mesh.first_line)
+
+
+# Runs
+
+
+def run_once(program, words, source, sink):
+    """One whole run: its seconds, its peak memory in megabytes, and its status."""
+    with open(source, "rb") as read, open(sink, "wb") as written:
+        start = time.perf_counter()
+        process = subprocess.Popen([program, *words.split()], stdin=read, stdout=written, stderr=written)
+        _, status, use = os.wait4(process.pid, 0)
+        seconds = time.perf_counter() - start
+    process.returncode = os.waitstatus_to_exitcode(status)
+    return seconds, use.ru_maxrss / 1024, process.returncode
+
+
+def faces_told(words, path):
+    """How many faces the text that was written has or counts; nothing of a table."""
+    with open(path, "rb") as text:
+        if words.startswith("refine"):
+            return sum(line.startswith(b"f ") for line in text)
+        return None if words.startswith("stencils") else int(re.findall(rb" faces (\d+)", text.read())[-1])
+
+
+def faults_of(case, made, sink, status):
+    """What is wrong with a run, by its status and by what it wrote."""
+    with open(sink, "rb") as text:
+        first_line = text.readline(1000).decode("utf-8", "replace").rstrip("\n")
+    if status != made.status:
+        return [f"status {status}, and not {made.status}: {first_line}"]
+    if case.words.startswith("levels") and first_line != made.first_line:
+        return [f"first line '{first_line}', and not '{made.first_line}'"]
+    faces = faces_told(case.words, sink) if depth_of(case.words) else None
+    return [] if faces in (None, made.faces) else [f"{faces} faces, and not {made.faces}"]
+
+
+def entries_of(program, case, words, path):
+    """How many entries the table has by which a run goes; nothing where there is none, or a second one of texture."""
+    command = words.split()[0]
+    if command == "levels" or "by=level" in words or case.maker in TEXTURED:
+        return None
+    asked = words if command == "gen" else f"stencils depth={depth_of(words)}"
+    outputs = {"stdout": subprocess.PIPE, "stderr": subprocess.DEVNULL}
+    with open(path, "rb") as source, subprocess.Popen([program, *asked.split()], stdin=source, **outputs) as run:
+        told = re.search(rb" entries (\d+)", run.stdout.read(200))
+    return int(told[1]) if told else None
+
+
+def bytes_of(case, made, sink):
+    """How many bytes a run reads and writes; nothing where they are next to none for what it does."""
+    if case.words.startswith("gen") or case.words.startswith("levels") and depth_of(case.words):
+        return None
+    return made.path.stat().st_size + sink.stat().st_size
+
+
+def measured(program, case, size, runs):
+    """Measures a case at one size."""
+    words = case.words.format(side=math.isqrt(size))
+    with tempfile.TemporaryDirectory() as folder:
+        made, sink = make(Path(folder), case, size), Path(folder) / "written"
+        seen = [run_once(program, words, made.path, sink) for _ in range(runs)]
+        seconds, peaks, statuses = zip(*seen)
+        status = next((one for one in statuses if one != made.status), made.status)
+        faults = faults_of(case, made, sink, status)
+        entries = entries_of(program, case, words, made.path)
+        written, moved = sink.stat().st_size, bytes_of(case, made, sink)
+    return Measured(made.faces, min(seconds), max(peaks), written, entries, moved, faults)
+
+
+# Rows
+
+
+def exponent(large, small):
+    """That with which the time grows with the faces between two sizes; nothing where they are the same."""
+    if large.faces == small.faces:
+        return ""
+    return f"{math.log(large.seconds / small.seconds) / math.log(large.faces / small.faces):.2f}"
+
+
+def each(seconds, count):
+    """The nanoseconds for each of so many; nothing where there are none."""
+    return f"{seconds * 1e9 / count:,.0f}" if count else ""
+
+
+def row(program, case, options):
+    """Prints the row of a case, and tells whether nothing was wrong."""
+    sizes = [max(size // QUICK, 1) for size in case.sizes] if options.quick else case.sizes
+    seen = [measured(program, case, size, options.runs) for size in sizes]
+    large = seen[0]
+    cells = [case.mesh, f"`{case.words.format(side=math.isqrt(sizes[0]))}`", f"{large.faces:,}"]
+    cells += [f"{large.seconds:.3f}", f"{large.peak:.0f}", f"{large.written / MILLION:.1f}"]
+    cells += [each(large.seconds, count) for count in (large.faces, large.entries, large.bytes)]
+    cells += [exponent(large, seen[-1])]
+    print(f"| {' | '.join(cells)} |", flush=True)
+    faults = [fault for one in seen for fault in one.faults]
+    for fault in faults:
+        print(f"wrong: {fault}")
+    return not faults
+
+
+def main():
+    parser = argparse.ArgumentParser(description="Times the commands of the program on large meshes.")
+    parser.add_argument("--program", type=Path, default=TOP / "crates/far_cli/out/far_cli", help="the program to run")
+    parser.add_argument("--runs", type=int, default=3, help="how many runs of each mesh")
+    parser.add_argument("--only", default="", metavar="TEXT", help="only the rows whose mesh and words have this text")
+    parser.add_argument("--quick", action="store_true", help=f"make the meshes {QUICK} times smaller")
+    options = parser.parse_args()
+    print("| Mesh | Words | Faces | s | MB | Written, MB | ns a face | ns an entry | ns a byte | Exponent |")
+    print("|" + "---|" * 10)
+    program = options.program.resolve()
+    good = [row(program, case, options) for case in CASES if options.only in f"{case.mesh} {case.words}"]
+    return 0 if good and all(good) else 1
+
+
+if __name__ == "__main__":
+    sys.exit(main())

@@ -1,0 +1,278 @@
+"""Large meshes as OBJ texts, for `tools/bench.py`: ordinary ones, and ones that are made to take long.
+
+Each is given how many faces it is to have, or corners where it has one face, and has about as many. The meshes of this
+module have no random part, and the texts come out the same each time."""
+
+import math
+from itertools import chain, product
+from typing import Iterable, NamedTuple
+
+from colliding_edges import colliding_pairs
+from make_examples import BLOCKS, surface
+
+GREATEST_SIZE = 2**16
+GOOD, BAD_MESH, TOO_LARGE = 0, 6, 7
+# How many quads a chart of the textured sheet has in a row and in a column.
+CHART = 16
+
+
+class Mesh(NamedTuple):
+    """The lines of a text; how many faces it has, or corners where it is one face; how many corners; and how `levels
+    depth=0` ends on it."""
+
+    lines: Iterable[str]
+    faces: int
+    corners: int
+    status: int
+    first_line: str
+
+
+def point_lines(points):
+    return (f"v {x} {y} {z}" for x, y, z in points)
+
+
+def flat_lines(count):
+    return point_lines((number, 0, 0) for number in range(count))
+
+
+def face_lines(faces):
+    """The lines of faces, of which each corner is the number of a point from 0."""
+    return ("f " + " ".join(str(corner + 1) for corner in face) for face in faces)
+
+
+def textured_lines(faces, corners):
+    """The lines of faces with texture: of each corner the numbers of its point and of its value, from 0."""
+    pairs = (zip(face, names) for face, names in zip(faces, corners))
+    return ("f " + " ".join(f"{point + 1}/{value + 1}" for point, value in face) for face in pairs)
+
+
+def refused(lines, faces, corners, line, status=BAD_MESH):
+    return Mesh(lines, faces, corners, status, f"far: {line}")
+
+
+def taken(lines, corners, points, edges, faces, euler=0, boundary=0, holes=0, sharp=0, extraordinary=0):
+    """A mesh without fault, with these counts."""
+    counts = f"points {points} edges {edges} faces {faces} euler {euler} boundary {boundary}"
+    line = f"level 0 {counts} holes {holes} sharp {sharp} extraordinary {extraordinary}"
+    return Mesh(lines, faces, corners, GOOD, line)
+
+
+# Made to take long
+
+
+def scattered(count):
+    """The numbers below a count, each once, and far from the one before."""
+    step = max(int(count * 0.618), 1)
+    while math.gcd(step, count) > 1:
+        step += 1
+    return (number * step % count for number in range(count))
+
+
+def wheel(size):
+    """Triangles that go once round the point 0, in no order."""
+    faces = ((0, k + 1, (k + 1) % size + 1) for k in scattered(size))
+    lines = chain(flat_lines(size + 1), face_lines(faces))
+    if size > GREATEST_SIZE:
+        return refused(lines, size, 3 * size, f"vertex 0 has {size} edges", TOO_LARGE)
+    extraordinary = 0 if size == 4 else 1
+    return taken(lines, 3 * size, size + 1, 2 * size, size, euler=1, boundary=size, extraordinary=extraordinary)
+
+
+def two_wheels(size):
+    """Triangles that go twice round the point 0, by turns."""
+    half = size // 2
+    faces = ((0, k + turn * half + 1, (k + 1) % half + turn * half + 1) for k in range(half) for turn in range(2))
+    lines = chain(flat_lines(2 * half + 1), face_lines(faces))
+    return refused(lines, 2 * half, 6 * half, "vertex 0 joins more than one fan")
+
+
+def one_edge(size):
+    lines = chain(flat_lines(size + 2), face_lines((0, 1, k + 2) for k in range(size)))
+    return refused(lines, size, 3 * size, "edge 0 1 has more than two faces")
+
+
+def one_face(size):
+    lines = chain(flat_lines(size), face_lines([range(size)]))
+    if size > GREATEST_SIZE:
+        return refused(lines, size, size, f"face 0 has {size} corners", TOO_LARGE)
+    return taken(lines, size, size, size, 1, euler=1, boundary=size)._replace(faces=size)
+
+
+def colliding(size):
+    """Triangles that share nothing, each with an edge whose hash under the key 0 is near those of the others."""
+    numbers = 12 * size // 5
+    faces = ((*pair, numbers + k) for k, pair in enumerate(colliding_pairs(size, numbers)))
+    lines = chain(flat_lines(numbers + size), face_lines(faces))
+    return taken(lines, 3 * size, numbers + size, 3 * size, size, euler=size, boundary=3 * size)
+
+
+# Tori and sheets of quads
+
+
+def torus_points(side):
+    """Points in rings of as many, rounded to whole numbers."""
+    angles = [2 * math.pi * step / side for step in range(side)]
+    turns = [(math.cos(angle), math.sin(angle)) for angle in angles]
+    for across, up in turns:
+        distance, height = 30000 + 12000 * across, round(12000 * up)
+        yield from ((round(distance * x), round(distance * y), height) for x, y in turns)
+
+
+def torus_faces(side):
+    for row in range(side):
+        for column in range(side):
+            right, below = (column + 1) % side, (row + 1) % side
+            yield row * side + column, row * side + right, below * side + right, below * side + column
+
+
+def torus(size):
+    side = math.isqrt(size)
+    count = side * side
+    lines = chain(point_lines(torus_points(side)), face_lines(torus_faces(side)))
+    return taken(lines, 4 * count, count, 2 * count, count)
+
+
+def last_turned(faces, count):
+    return (face[::-1] if number == count - 1 else face for number, face in enumerate(faces))
+
+
+def turned_torus(size):
+    """A torus whose last face is turned over, of whose edges the first one appears at the end of the first row."""
+    side = math.isqrt(size)
+    count = side * side
+    lines = chain(point_lines(torus_points(side)), face_lines(last_turned(torus_faces(side), count)))
+    return refused(lines, count, 4 * count, f"edge {side - 1} 0 is used twice in one direction")
+
+
+def sheet_points(side):
+    """Rows of points ten apart, of heights that go up and down."""
+    places = product(range(side + 1), repeat=2)
+    return ((10 * column, 10 * row, (3 * row + 5 * column) % 7) for row, column in places)
+
+
+def sheet_faces(side):
+    wide = side + 1
+    corners = (row * wide + column for row in range(side) for column in range(side))
+    return ((k, k + 1, k + wide + 1, k + wide) for k in corners)
+
+
+def taken_sheet(side, lines, **counts):
+    edges = 2 * side * (side + 1)
+    return taken(lines, 4 * side * side, (side + 1) ** 2, edges, side * side, euler=1, boundary=4 * side, **counts)
+
+
+def sheet(size):
+    side = math.isqrt(size)
+    return taken_sheet(side, chain(point_lines(sheet_points(side)), face_lines(sheet_faces(side))))
+
+
+def crease_lines(side):
+    """A crease along each row of points, by turns of three kinds."""
+    wide = side + 1
+    for row in range(wide):
+        points = " ".join(str(row * wide + column) for column in range(wide))
+        yield f"t crease {wide}/1/0 {points} {('3/2', '7/2', '10')[row % 3]}"
+
+
+def creased_sheet(size):
+    side = math.isqrt(size)
+    lines = chain(point_lines(sheet_points(side)), face_lines(sheet_faces(side)), crease_lines(side))
+    return taken_sheet(side, lines, sharp=side * (side - 1))
+
+
+def hidden_sheet(size):
+    """A creased sheet, the faces at whose boundary are hidden."""
+    side = math.isqrt(size)
+    lines = chain(creased_sheet(size).lines, ["t interpolateboundary 1/0/0 0"])
+    return taken_sheet(side, lines, holes=4 * side - 4, sharp=side * (side - 1))
+
+
+def chart_values(side):
+    """The texture values of a sheet in square charts, which lie apart: all the rows of all charts."""
+    wide = (CHART + 1) * -(-side // CHART)
+    return (f"vt {column / wide:.6f} {row / wide:.6f}" for row in range(wide) for column in range(wide))
+
+
+def chart_corners(side):
+    """Of each face of a sheet the numbers of its corners' texture values."""
+    wide = (CHART + 1) * -(-side // CHART)
+    for row in range(side):
+        for column in range(side):
+            first = (row + row // CHART) * wide + column + column // CHART
+            yield first, first + 1, first + wide + 1, first + wide
+
+
+def textured_sheet(size):
+    side = math.isqrt(size)
+    faces = textured_lines(sheet_faces(side), chart_corners(side))
+    return taken_sheet(side, chain(point_lines(sheet_points(side)), chart_values(side), faces))
+
+
+# The character: the dog of unit cubes, each cut into as many along each edge, rounded off, and written as exporters do
+
+
+def cut_dog(cuts):
+    """The points and the outer quads of the dog."""
+    cubes = {cube for block in BLOCKS.values() for cube in product(*block)}
+    parts = list(product(range(cuts), repeat=3))
+    return surface({tuple(cuts * a + b for a, b in zip(cube, part)) for cube in cubes for part in parts})
+
+
+def rounded_off(points, faces, rounds=4):
+    """The points, each moved a few times to the middle of those that are its neighbours along an edge."""
+    neighbours = [set() for _ in points]
+    for face in faces:
+        for a, b in zip(face, face[1:] + face[:1]):
+            neighbours[a].add(b)
+            neighbours[b].add(a)
+    for _ in range(rounds):
+        points = [tuple(sum(points[n][axis] for n in near) / len(near) for axis in range(3)) for near in neighbours]
+    return points
+
+
+def plane_of(points):
+    """The axis along which points are the same, and where they are along it."""
+    return next((axis, points[0][axis]) for axis in range(3) if len({point[axis] for point in points}) == 1)
+
+
+def unfolded(points, faces):
+    """Texture with a chart for each plane of the dog, each in a square of its own: the values, and of each face the
+    numbers of its corners' values and its axis."""
+    planes = [plane_of([points[corner] for corner in face]) for face in faces]
+    squares = {plane: number for number, plane in enumerate(sorted(set(planes)))}
+    squares_wide = math.isqrt(len(squares) - 1) + 1
+    extent = 1 + max(max(point) for point in points)
+    numbers, values, corners = {}, [], []
+    for face, (axis, place) in zip(faces, planes):
+        row, column = divmod(squares[axis, place], squares_wide)
+        for corner in face:
+            if (axis, place, corner) not in numbers:
+                numbers[axis, place, corner] = len(values)
+                u, v = (points[corner][other] / extent for other in range(3) if other != axis)
+                values.append(((column + u) / squares_wide, (row + v) / squares_wide))
+        corners.append([numbers[axis, place, corner] for corner in face])
+    return values, corners, [axis for axis, _ in planes]
+
+
+def character_lines(cuts, with_texture):
+    points, faces = cut_dog(cuts)
+    values, corners, axes = unfolded(points, faces)
+    yield from ("# a character, as exporters write it", "mtllib character.mtl", "o Character")
+    yield from (f"v {x / cuts:.6f} {y / cuts:.6f} {z / cuts:.6f}" for x, y, z in rounded_off(points, faces))
+    yield from ("vn 1.0000 0.0000 0.0000", "vn 0.0000 1.0000 0.0000", "vn 0.0000 0.0000 1.0000")
+    yield from (f"vt {u:.6f} {v:.6f}" for u, v in values if with_texture)
+    yield from ("s 1", "usemtl Skin")
+    for face, names, axis in zip(faces, corners, axes):
+        words = (f"{a + 1}/{b + 1 if with_texture else ''}/{axis + 1}" for a, b in zip(face, names))
+        yield "f " + " ".join(words)
+
+
+def character(size, with_texture=False):
+    """The dog, with 340 faces where each cube is whole."""
+    cuts = max(round(math.sqrt(size / 340)), 1)
+    faces = 340 * cuts * cuts
+    return taken(character_lines(cuts, with_texture), 4 * faces, faces + 2, 2 * faces, faces, euler=2, extraordinary=86)
+
+
+def textured_character(size):
+    return character(size, with_texture=True)
