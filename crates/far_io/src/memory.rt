@@ -1,19 +1,19 @@
-ghost use Rattle.std.specs.Prelude.{◌≡◌, ℕ, ◌<◌, ◌≤◌, ◌↔◌, ◌⊎◌, [], ◌++◌, length, take, drop, min, Contains, IsTrue, IsErr, IfOk, OnOk, OnErr, Some};
-ghost use Rattle.far_io.specs.Memory.{one_more, fitting, IsFull};
+ghost use Rattle.std.specs.Prelude.{◌≡◌, ℕ, ◌<◌, ◌≤◌, ◌↔◌, ◌⊎◌, [], ◌++◌, length, take, drop, min, Contains, IsErr, IfOk, OnOk, OnErr, Some};
+ghost use Rattle.std.specs.List.{All};
+ghost use Rattle.far_io.specs.Memory.{one_more, piece_of, fitting, IsFull};
 
-use crate::plan::is_planned;
+use crate::plan::Plan;
 use crate::{ReadFailed, Sink, Source, SureSink, SureSource, WriteFailed};
 use ratio128::Memory;
 use std::alloc::Global;
 use std::marker::Model;
 
-/// Bytes in memory, whose calls with stated numbers fail. It is for tests of what a failing read
-/// leaves.
+/// Bytes in memory, whose calls with stated numbers fail, and which may pass on its bytes in pieces.
+/// It is for tests of what a failing or a short read leaves.
 #[derive(Drop)]
 pub struct MemSource {
     source: SureSource,
-    fails: Vec<u32>,
-    calls: u64,
+    plan: Plan,
     count: u64,
 }
 
@@ -22,7 +22,7 @@ impl Model for MemSource {
 
     ghost Value = { MemInput };
 
-    ghost view = { λ s. record { left = s.source; fails = s.fails.items; calls = s.calls; faults = s.count } };
+    ghost view = { λ s. record { left = s.source; fails = s.plan.fails; sizes = s.plan.sizes; calls = s.plan.calls; faults = s.count } };
 }
 
 impl MemSource {
@@ -31,12 +31,30 @@ impl MemSource {
     pub fn new(bytes: Vec<u8>, fails: Vec<u32>) -> MemSource
         ensures left { result.left ≡ bytes.items }
         ensures plan { (result.fails ≡ fails.items) × (result.calls ≡ 0) }
+        ensures whole { result.sizes ≡ [] }
         ensures faults { result.faults ≡ 0 }
     {
         MemSource {
             source: SureSource::new(bytes),
-            fails,
-            calls: 0,
+            plan: Plan::new(fails),
+            count: 0,
+        }
+    }
+
+    /// The same, whose calls also pass on no more bytes than their size. The calls take the sizes in
+    /// turn, and begin again after the last: the size of call k, counted from 0, is the one in place
+    /// k mod `sizes.len()`. There is a size, and each is at least 1.
+    pub fn in_pieces(bytes: Vec<u8>, fails: Vec<u32>, sizes: Vec<u32>) -> MemSource
+        requires some { 0 < length sizes.items }
+        requires positive { All (λ size. 0 < size) sizes.items }
+        ensures left { result.left ≡ bytes.items }
+        ensures plan { (result.fails ≡ fails.items) × (result.calls ≡ 0) }
+        ensures pieces { result.sizes ≡ sizes.items }
+        ensures faults { result.faults ≡ 0 }
+    {
+        MemSource {
+            source: SureSource::new(bytes),
+            plan: Plan::in_pieces(fails, sizes),
             count: 0,
         }
     }
@@ -47,11 +65,13 @@ impl Source for MemSource {
 
     ghost faults = { λ s. s.faults };
 
-    /// Reads as many bytes as are left and fit into the buffer, unless this call is one of those
-    /// that fail. That one counts a fault, and leaves the bytes and the buffer as they were.
+    /// Reads as many bytes as are left and fit into the buffer, and no more than the size of this
+    /// call, unless the call is one of those that fail. That one counts a fault, and leaves the
+    /// bytes and the buffer as they were.
     fn read(&mut self, buf: &mut [u8]) -> Result<usize, ReadFailed>
         ensures planned { IsErr result ↔ Contains self.old.fails self.old.calls }
-        ensures count { IfOk result (λ n. n ≡ min (length self.old.left) (length buf.old)) }
+        ensures count { IfOk result (λ n. n ≡ piece_of self.old.sizes self.old.calls (min (length self.old.left) (length buf.old))) }
+        ensures some { IfOk result (λ n. 0 < length self.old.left → 0 < length buf.old → 0 < n) }
         ensures taken { IfOk result (λ n. self.old.left ≡ take n buf.new ++ self.new.left) }
         ensures rest { IfOk result (λ n. drop n buf.new ≡ drop n buf.old) }
         ensures failed { OnErr result (self.new.left ≡ self.old.left) }
@@ -60,24 +80,22 @@ impl Source for MemSource {
         ensures faults { OnOk result (self.new.faults ≡ self.old.faults) }
         ensures later { self.old.faults ≤ self.new.faults }
         ensures plan { (self.new.fails ≡ self.old.fails) × (self.new.calls ≡ one_more self.old.calls) }
+        ensures pieces { self.new.sizes ≡ self.old.sizes }
     {
-        let call = self.calls;
-        self.calls = self.calls.saturating_add(1);
-        if is_planned(&self.fails, call) {
+        let Some(size) = self.plan.begin(buf.len()) else {
             self.count = self.count.saturating_add(1);
             return Err(ReadFailed);
-        }
-        self.source.read(buf)
+        };
+        self.source.read(&mut buf[..size])
     }
 }
 
-/// Room for some bytes in memory, whose calls with stated numbers fail. It is for tests of what a
-/// failing write leaves.
+/// Room for some bytes in memory, whose calls with stated numbers fail, and which may take what is
+/// written in pieces. It is for tests of what a failing or a short write leaves.
 #[derive(Drop)]
 pub struct MemSink {
     sink: SureSink,
-    fails: Vec<u32>,
-    calls: u64,
+    plan: Plan,
     count: u64,
 }
 
@@ -86,7 +104,7 @@ impl Model for MemSink {
 
     ghost Value = { MemOutput };
 
-    ghost view = { λ s. record { store = s.sink.store; fails = s.fails.items; calls = s.calls; faults = s.count } };
+    ghost view = { λ s. record { store = s.sink.store; fails = s.plan.fails; sizes = s.plan.sizes; calls = s.plan.calls; faults = s.count } };
 }
 
 impl MemSink {
@@ -96,13 +114,37 @@ impl MemSink {
     pub fn with_room(alloc: Global, n: usize, fails: Vec<u32>) -> Result<MemSink, Memory>
         ensures empty { IfOk result (λ s. (s.store.held ≡ []) × (s.store.room ≡ n)) }
         ensures plan { IfOk result (λ s. (s.fails ≡ fails.items) × (s.calls ≡ 0)) }
+        ensures whole { IfOk result (λ s. s.sizes ≡ []) }
         ensures faults { IfOk result (λ s. s.faults ≡ 0) }
     {
         let sink = SureSink::with_room(alloc, n)?;
         Ok(MemSink {
             sink,
-            fails,
-            calls: 0,
+            plan: Plan::new(fails),
+            count: 0,
+        })
+    }
+
+    /// The same, whose calls also take no more bytes than their size. The calls take the sizes in
+    /// turn, and begin again after the last: the size of call k, counted from 0 over writes and
+    /// flushes, is the one in place k mod `sizes.len()`. There is a size, and each is at least 1.
+    pub fn in_pieces(
+        alloc: Global,
+        n: usize,
+        fails: Vec<u32>,
+        sizes: Vec<u32>,
+    ) -> Result<MemSink, Memory>
+        requires some { 0 < length sizes.items }
+        requires positive { All (λ size. 0 < size) sizes.items }
+        ensures empty { IfOk result (λ s. (s.store.held ≡ []) × (s.store.room ≡ n)) }
+        ensures plan { IfOk result (λ s. (s.fails ≡ fails.items) × (s.calls ≡ 0)) }
+        ensures pieces { IfOk result (λ s. s.sizes ≡ sizes.items) }
+        ensures faults { IfOk result (λ s. s.faults ≡ 0) }
+    {
+        let sink = SureSink::with_room(alloc, n)?;
+        Ok(MemSink {
+            sink,
+            plan: Plan::in_pieces(fails, sizes),
             count: 0,
         })
     }
@@ -113,17 +155,6 @@ impl MemSink {
     {
         self.sink.bytes()
     }
-
-    // Counts this call, and says whether it is one of those that fail.
-    fn begin(&mut self) -> bool
-        ensures planned { IsTrue result ↔ Contains self.old.fails self.old.calls }
-        ensures same { (self.new.store ≡ self.old.store) × (self.new.faults ≡ self.old.faults) }
-        ensures plan { (self.new.fails ≡ self.old.fails) × (self.new.calls ≡ one_more self.old.calls) }
-    {
-        let call = self.calls;
-        self.calls = self.calls.saturating_add(1);
-        is_planned(&self.fails, call)
-    }
 }
 
 impl Sink for MemSink {
@@ -133,12 +164,12 @@ impl Sink for MemSink {
 
     ghost fixed = { λ s. s.store.room };
 
-    /// Adds as much of the piece as there is room for, unless this call is one of those that fail.
-    /// It also fails where the piece is not empty and there is no room. A failed call adds nothing
-    /// and counts one fault.
+    /// Adds as much of the piece as there is room for, and no more than the size of this call,
+    /// unless the call is one of those that fail. It also fails where the piece is not empty and
+    /// there is no room. A failed call adds nothing and counts one fault.
     fn write(&mut self, piece: &[u8]) -> Result<usize, WriteFailed>
         ensures fails { IsErr result ↔ (Contains self.old.fails self.old.calls ⊎ IsFull self.old.store piece.now) }
-        ensures count { IfOk result (λ n. n ≡ fitting self.old.store piece.now) }
+        ensures count { IfOk result (λ n. n ≡ piece_of self.old.sizes self.old.calls (fitting self.old.store piece.now)) }
         ensures some { IfOk result (λ n. 0 < length piece.now → 0 < n) }
         ensures added { IfOk result (λ n. self.new.store.held ≡ self.old.store.held ++ take n piece.now) }
         ensures failed { OnErr result (self.new.store.held ≡ self.old.store.held) }
@@ -147,12 +178,13 @@ impl Sink for MemSink {
         ensures later { self.old.faults ≤ self.new.faults }
         ensures room { self.new.store.room ≡ self.old.store.room }
         ensures plan { (self.new.fails ≡ self.old.fails) × (self.new.calls ≡ one_more self.old.calls) }
+        ensures pieces { self.new.sizes ≡ self.old.sizes }
     {
-        if self.begin() {
+        let Some(size) = self.plan.begin(piece.len()) else {
             self.count = self.count.saturating_add(1);
             return Err(WriteFailed);
-        }
-        match self.sink.write(piece) {
+        };
+        match self.sink.write(&piece[..size]) {
             Ok(n) => Ok(n),
             Err(WriteFailed) => {
                 self.count = self.count.saturating_add(1);
@@ -169,8 +201,9 @@ impl Sink for MemSink {
         ensures faults { OnOk result (self.new.faults ≡ self.old.faults) }
         ensures later { self.old.faults ≤ self.new.faults }
         ensures plan { (self.new.fails ≡ self.old.fails) × (self.new.calls ≡ one_more self.old.calls) }
+        ensures pieces { self.new.sizes ≡ self.old.sizes }
     {
-        if self.begin() {
+        if self.plan.begin(0).is_none() {
             self.count = self.count.saturating_add(1);
             return Err(WriteFailed);
         }
