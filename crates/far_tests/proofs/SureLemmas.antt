@@ -1,12 +1,16 @@
 -- A sink with room for a text does not fail.
-use Rattle.std.proofs.Common.{◌≡◌, ℕ, ◌+◌, ◌<◌, Bool, true, false, List, [], length, take, Option, Some, None, arith, inl, inr, refl, ap, length-append, length-take-le, subst, ◌∙◌}
+use Rattle.std.proofs.Common.{◌≡◌, ℕ, ◌+◌, ◌<◌, ◌⊎◌, Bool, true, false, List, [], length, take, Option, Some, None, Result, Ok, Err, arith, inl, inr, refl, ap, sym, length-append, length-take-le, subst, ◌∙◌}
 use Rattle.std.proofs.lemmas.Bool.Decides.{nat_tests}
 use Rattle.far_io.specs.Memory.{SureOutput, sure_faults}
 use Rattle.far_io.specs.Bytes.{Rose, AddedPrefix}
 use Rattle.subdiv_model.specs.Words.{command_table, usage_of}
 use Rattle.subdiv_model.specs.Command.{Command, Refine, Stencils, Levels, Gen, command_of, read_or}
+use Rattle.subdiv_model.specs.Fault as model
 use Rattle.subdiv_model.specs.Answer.{Answer, answer_of_command, answer_of_words}
-use Rattle.far_engine.specs.Outcome.{is_made, input_of, text_of}
+use Rattle.far_engine.specs.Outcome.{is_made, input_of, refusal_of, text_of, IsAnswered}
+use Rattle.far_engine.specs.View.{outcome_of}
+use Rattle.far_engine.specs.declared.fault.FarFault.{FarFault}
+use Rattle.far_engine.specs.declared.fault.FarFault.TheVariants.{Usage, Read, Long, Obj, Mesh, TooLarge, Overflow, Write, Memory}
 
 -- no count is above 0 and has risen to 0
 pub not_to_zero : (before : ℕ) → Rose before 0 → ⊥
@@ -39,11 +43,12 @@ words-answer : (place : Option ℕ) (words : List (List ℕ)) (bytes other : Lis
 words-answer (Some word) words bytes other h = refl
 words-answer None words bytes other h = made-answer (command_of words) bytes other h
 
--- what a run has of a source that tells its bytes, with the text that they have
+-- what a run has of a source that tells its bytes, with the text and the refusal that they have
 pub record HasInput (words : List (List ℕ)) (bytes : List ℕ) : Type 0 where
   pub input : List ℕ
   pub is : input_of (is_made (command_of words)) (Some bytes) ≡ Some input
   pub same : text_of words input ≡ text_of words bytes
+  pub refused : refusal_of words input ≡ refusal_of words bytes
 
 pub has-input : (words : List (List ℕ)) (bytes : List ℕ) → HasInput words bytes
 has-input words bytes = go (is_made (command_of words)) refl
@@ -53,5 +58,20 @@ has-input words bytes = go (is_made (command_of words)) refl
       input = [];
       is = ap (λ made. input_of made (Some bytes)) e;
       same = ap (λ (a : Answer). a.text) (words-answer (usage_of command_table words) words [] bytes e);
+      refused = ap (λ (a : Answer). a.refusal) (words-answer (usage_of command_table words) words [] bytes e);
     }
-    go false e = record { input = bytes; is = ap (λ made. input_of made (Some bytes)) e; same = refl }
+    go false e = record { input = bytes; is = ap (λ made. input_of made (Some bytes)) e; same = refl; refused = refl }
+
+-- an answer that is neither Read nor Write is the one that is defined, or want of memory
+pub as-defined : (r : Result (Unit {0}) FarFault) (refusal other : Option model.Fault) → other ≡ refusal → IsAnswered (outcome_of r) other →
+    (r ≡ Err Read → ⊥) → (r ≡ Err Write → ⊥) → (outcome_of r ≡ refusal) ⊎ (r ≡ Err Memory)
+as-defined (Ok done) refusal other same is no_read no_write = inl (sym is ∙ same)
+as-defined (Err (Usage word)) refusal other same is no_read no_write = inl (sym is ∙ same)
+as-defined (Err Read) refusal other same is no_read no_write = absurd (no_read refl)
+as-defined (Err Long) refusal other same is no_read no_write = inl (sym is ∙ same)
+as-defined (Err (Obj line cause)) refusal other same is no_read no_write = inl (sym is ∙ same)
+as-defined (Err (Mesh fault)) refusal other same is no_read no_write = inl (sym is ∙ same)
+as-defined (Err (TooLarge counted)) refusal other same is no_read no_write = inl (sym is ∙ same)
+as-defined (Err (Overflow track level kind)) refusal other same is no_read no_write = inl (sym is ∙ same)
+as-defined (Err Write) refusal other same is no_read no_write = absurd (no_write refl)
+as-defined (Err Memory) refusal other same is no_read no_write = inr refl

@@ -1,8 +1,9 @@
 // Whole runs, over memory whose calls succeed or fail.
 
-ghost use Rattle.std.specs.Prelude.{◌≡◌, ◌+◌, ◌<◌, length, map, string_bytes, Err};
-ghost use Rattle.far_engine.specs.declared.fault.FarFault.TheVariants.{Read, Write};
-ghost use Rattle.far_engine.specs.Outcome.{text_of};
+ghost use Rattle.std.specs.Prelude.{◌≡◌, ◌+◌, ◌<◌, ◌⊎◌, length, map, string_bytes, Err};
+ghost use Rattle.far_engine.specs.declared.fault.FarFault.TheVariants as fault;
+ghost use Rattle.far_engine.specs.Outcome.{refusal_of, text_of};
+ghost use Rattle.far_engine.specs.View.{outcome_of};
 
 use crate::expect::expect_same;
 use crate::inputs::{GEN, LEVELS, REFINE, SHEET, TRIANGLES, TRIANGLES_REFINED};
@@ -14,8 +15,8 @@ use std::marker::Brand;
 use std::sync::ledger::{Blank, Ledger};
 use std::test::Fail;
 
-// Over memory with room for the text and one byte more, no read and no write is answered as failed:
-// this follows from the clauses of `run` alone.
+// Over memory with room for the text and one byte more, no read and no write is answered as failed, and so the outcome is
+// the one that is defined, or want of memory: this follows from the clauses of `run` alone.
 fn run_surely<L: Ledger>(
     alloc: Global,
     words: &Vec<String>,
@@ -23,9 +24,11 @@ fn run_surely<L: Ledger>(
     sink: &mut SureSink,
     steps: &mut Steps<L>,
 ) -> Result<(), FarFault>
-    ensures no_read { result ≡ Err Read → ⊥ }
+    ensures no_read { result ≡ Err fault.Read → ⊥ }
     ensures no_write { length sink.old.store.held + length (text_of (map string_bytes words.now.items) source.old) < sink.old.store.room →
-        result ≡ Err Write → ⊥ }
+        result ≡ Err fault.Write → ⊥ }
+    ensures complete { length sink.old.store.held + length (text_of (map string_bytes words.now.items) source.old) < sink.old.store.room →
+        (outcome_of result ≡ refusal_of (map string_bytes words.now.items) source.old) ⊎ (result ≡ Err fault.Memory) }
 {
     run(alloc, words, source, sink, steps)
 }
@@ -92,7 +95,7 @@ fn program_on(
     program_counted::<Brand>(alloc, Blank::new(1), words, source, sink, errors)
 }
 
-fn words_of(alloc: Global, text: &str) -> Result<Vec<String>, AllocError> {
+pub fn words_of(alloc: Global, text: &str) -> Result<Vec<String>, AllocError> {
     let mut words = Vec::new(alloc);
     for word in text.split_whitespace() {
         words.push(String::from_str(alloc, word)?)?;
@@ -109,6 +112,20 @@ pub fn failing_sink(alloc: Global, room: usize, call: u32) -> Result<MemSink, Me
     MemSink::with_room(alloc, room, vec![in alloc; call]?)
 }
 
+// The answer of a run on these bytes, and what is written into so much room.
+pub fn run_within(
+    alloc: Global,
+    text: &str,
+    input: Vec<u8>,
+    room: usize,
+) -> Result<(Result<(), FarFault>, SureSink), Fail> {
+    let words = words_of(alloc, text)?;
+    let mut source = SureSource::new(input);
+    let mut sink = SureSink::with_room(alloc, room)?;
+    let given = run_on(alloc, &words, &mut source, &mut sink);
+    Ok((given, sink))
+}
+
 // The answer of a run on a mesh and a line after it, and what is written.
 pub fn run_alone(
     alloc: Global,
@@ -116,13 +133,9 @@ pub fn run_alone(
     mesh: &str,
     line: &str,
 ) -> Result<(Result<(), FarFault>, SureSink), Fail> {
-    let words = words_of(alloc, text)?;
     let mut input = mesh.as_bytes().to_vec(alloc)?;
     input.extend_from_slice(line.as_bytes())?;
-    let mut source = SureSource::new(input);
-    let mut sink = SureSink::with_room(alloc, 4096)?;
-    let given = run_on(alloc, &words, &mut source, &mut sink);
-    Ok((given, sink))
+    run_within(alloc, text, input, 4096)
 }
 
 // Words; the call of the source, of the sink and of the sink for errors that fails, and none from 9 on; the room of the sink;

@@ -1,0 +1,108 @@
+// Texts that end early: each is answered as its last line is, and as if it came in pieces.
+
+use crate::engine::run_within;
+use crate::expect::expect_same;
+use crate::hostile::run_read_in_pieces;
+use far_engine::{FarFault, status};
+use std::process::Abort;
+use std::test::Fail;
+
+// The number of a line of a mesh, the line, and after each of its bytes the status of a run on what has come so far.
+type Ending = (u32, &'static str, &'static str);
+
+const ENDINGS: &[Ending] = &[
+    (1, "v 0 0 0\n", "55555500"),
+    (2, "v 4 0 0\n", "55555500"),
+    (3, "v 4 4 0\n", "55555500"),
+    (4, "v 0 4 0\n", "55555500"),
+    // One number of texture is enough.
+    (5, "vt 0 0\n", "5550000"),
+    // A face whose corners are whole may have too few of them.
+    (6, "f 1/1 2/1 3/1 4/1\n", "556566556655005500"),
+    // Without its fraction the last numeral stands too.
+    (7, "t crease 2/1/0 0 1 3/2\n", "55555555555555555550500"),
+    (8, "t corner 1/1/0 2 2\n", "5555555555555555500"),
+];
+
+fn endings() -> &'static [Ending] {
+    ENDINGS
+}
+
+const WORDS: &str = "refine depth=1 tags=yes";
+
+// The status of an answer as a digit, and the line that it names.
+fn told(given: &Result<(), FarFault>) -> (u8, Option<u32>) {
+    match given {
+        Ok(()) => (b'0', None),
+        Err(FarFault::Obj { line, .. }) => (b'5', Some(*line)),
+        Err(fault) => (b'0'.saturating_add(status(fault)), None),
+    }
+}
+
+// A run on this text has this status, names this line where a line is refused, and writes nothing with a fault.
+fn expect_status(
+    rt: &(impl Abort + AllocGlobal),
+    input: &[u8],
+    digit: Option<u8>,
+    line: u32,
+) -> Result<(), Fail> {
+    let (given, sink) = run_within(rt.alloc(), WORDS, input.to_vec(rt.alloc())?, 4096)?;
+    let (status, named) = told(&given);
+    expect_same(rt, &Some(status), &digit, &input);
+    expect_same(rt, &named.unwrap_or(line), &line, &input);
+    expect_same(
+        rt,
+        &(given.is_ok() || sink.bytes().is_empty()),
+        &true,
+        &input,
+    );
+    Ok(())
+}
+
+// A run on this text answers the same where each read gives one byte.
+fn expect_same_in_pieces(rt: &(impl Abort + AllocGlobal), input: &[u8]) -> Result<(), Fail> {
+    let (given, sink) = run_within(rt.alloc(), WORDS, input.to_vec(rt.alloc())?, 4096)?;
+    let bytes = input.to_vec(rt.alloc())?;
+    let (again, other) = run_read_in_pieces(rt.alloc(), WORDS, bytes, u32::MAX, 1, 1)?;
+    expect_same(rt, &again, &given, &input);
+    expect_same(rt, &other.bytes(), &sink.bytes(), &input);
+    Ok(())
+}
+
+// A run on this text answers the same without its last byte.
+fn expect_same_without_end(rt: &(impl Abort + AllocGlobal), input: &[u8]) -> Result<(), Fail> {
+    let bytes = input.to_vec(rt.alloc())?;
+    let (given, sink) = run_within(rt.alloc(), WORDS, bytes, 4096)?;
+    let mut bytes = input.to_vec(rt.alloc())?;
+    expect_same(rt, &bytes.pop(), &Some(b'\n'), &input);
+    let (again, other) = run_within(rt.alloc(), WORDS, bytes, 4096)?;
+    expect_same(rt, &again, &given, &input);
+    expect_same(rt, &other.bytes(), &sink.bytes(), &input);
+    Ok(())
+}
+
+// The text so far gets this line, byte by byte.
+fn expect_line(
+    rt: &(impl Abort + AllocGlobal),
+    input: &mut Vec<u8>,
+    row: &Ending,
+) -> Result<(), Fail> {
+    let &(line, text, digits) = row;
+    let mut digits = digits.bytes();
+    for byte in text.bytes() {
+        input.push(byte)?;
+        expect_status(rt, input, digits.next(), line)?;
+        expect_same_in_pieces(rt, input)?;
+    }
+    Ok(())
+}
+
+#[test]
+fn answers_texts_that_end_early(rt: HostRuntime) -> Result<(), Fail> {
+    let mut input = Vec::new(rt.alloc());
+    for row in endings() {
+        expect_line(&rt, &mut input, row)?;
+        expect_same_without_end(&rt, &input)?;
+    }
+    Ok(())
+}

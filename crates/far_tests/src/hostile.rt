@@ -1,0 +1,197 @@
+// Whole runs over sources and sinks that pass on pieces, of which one call fails.
+
+ghost use Rattle.std.specs.Prelude.{◌≡◌, ◌<◌};
+
+use crate::engine::{run_alone, words_of};
+use crate::expect::expect_same;
+use crate::inputs::{CUBE, CUBE_REFINED, GEN, REFINE, SQUARE};
+use crate::textures::TWO_CHARTS;
+use far_engine::{FarFault, run};
+use far_io::{MemSink, MemSource};
+use ratio128::{Memory, Steps};
+use std::alloc::{AllocError, Global};
+use std::marker::Brand;
+use std::process::Abort;
+use std::sync::ledger::{Blank, Ledger};
+use std::test::Fail;
+
+fn run_counted<L: Ledger>(
+    alloc: Global,
+    blank: Blank,
+    words: &Vec<String>,
+    source: &mut MemSource,
+    sink: &mut MemSink,
+) -> Result<(), FarFault>
+    requires name { blank.name ≡ L.name }
+    requires parts { blank.parts ≡ L.parts }
+    requires some { 0 < blank.parts }
+{
+    run(
+        alloc,
+        words,
+        source,
+        sink,
+        &mut Steps::start(blank.open::<L>()),
+    )
+}
+
+// A run with a counter of its own.
+fn run_in_memory(
+    alloc: Global,
+    words: &Vec<String>,
+    source: &mut MemSource,
+    sink: &mut MemSink,
+) -> Result<(), FarFault> {
+    run_counted::<Brand>(alloc, Blank::new(1), words, source, sink)
+}
+
+// A source whose reads give so many bytes in turn, and of which one call fails.
+fn source_in_pieces(
+    alloc: Global,
+    input: Vec<u8>,
+    call: u32,
+    first: u32,
+    second: u32,
+) -> Result<MemSource, AllocError>
+    requires first { 0 < first }
+    requires second { 0 < second }
+{
+    Ok(MemSource::in_pieces(input, vec![in alloc; call]?, vec![in alloc; first, second]?))
+}
+
+// A sink whose writes take so many bytes, and of which one call fails.
+fn sink_in_pieces(alloc: Global, call: u32, size: u32) -> Result<MemSink, Memory>
+    requires { 0 < size }
+{
+    MemSink::in_pieces(alloc, 4096, vec![in alloc; call]?, vec![in alloc; size]?)
+}
+
+// The answer of a run whose reads give so many bytes in turn, and what is written.
+pub fn run_read_in_pieces(
+    alloc: Global,
+    text: &str,
+    input: Vec<u8>,
+    call: u32,
+    first: u32,
+    second: u32,
+) -> Result<(Result<(), FarFault>, MemSink), Fail>
+    requires first { 0 < first }
+    requires second { 0 < second }
+{
+    let words = words_of(alloc, text)?;
+    let mut source = source_in_pieces(alloc, input, call, first, second)?;
+    let mut sink = MemSink::with_room(alloc, 4096, Vec::new(alloc))?;
+    let given = run_in_memory(alloc, &words, &mut source, &mut sink);
+    Ok((given, sink))
+}
+
+// The answer of a run whose writes take so many bytes, and what is written.
+fn run_written_in_pieces(
+    alloc: Global,
+    text: &str,
+    mesh: &str,
+    call: u32,
+    size: u32,
+) -> Result<(Result<(), FarFault>, MemSink), Fail>
+    requires { 0 < size }
+{
+    let words = words_of(alloc, text)?;
+    let mut source = MemSource::new(mesh.as_bytes().to_vec(alloc)?, Vec::new(alloc));
+    let mut sink = sink_in_pieces(alloc, call, size)?;
+    let given = run_in_memory(alloc, &words, &mut source, &mut sink);
+    Ok((given, sink))
+}
+
+// How many bytes the reads of the cube give in turn, and how many reads there are: one more than pieces, since the last finds the end.
+type Reads = (u32, u32, u32);
+
+const READS: &[Reads] = &[(1, 1, 137), (7, 7, 21), (1, 64, 7)];
+
+fn reads() -> &'static [Reads] {
+    READS
+}
+
+// The cube is refined so where this read fails.
+fn expect_read(
+    rt: &(impl Abort + AllocGlobal),
+    row: &Reads,
+    call: u32,
+    answer: &Result<(), FarFault>,
+    written: &str,
+) -> Result<(), Fail> {
+    let &(first, second, _) = row;
+    assert!(rt; 0 < first);
+    assert!(rt; 0 < second);
+    let input = CUBE.as_bytes().to_vec(rt.alloc())?;
+    let (given, sink) = run_read_in_pieces(rt.alloc(), REFINE, input, call, first, second)?;
+    expect_same(rt, &given, answer, &(row, call));
+    expect_same(rt, &sink.bytes(), &written.as_bytes(), &(row, call));
+    Ok(())
+}
+
+#[test]
+fn fails_at_each_read(rt: HostRuntime) -> Result<(), Fail> {
+    for row in reads() {
+        let &(_, _, calls) = row;
+        for call in 0..calls {
+            expect_read(&rt, row, call, &Err(FarFault::Read), "")?;
+        }
+        expect_read(&rt, row, calls, &Ok(()), CUBE_REFINED)?;
+    }
+    Ok(())
+}
+
+// Words, a mesh, how many bytes a write takes, and how many calls there are: one more than pieces, since the last is the flush.
+type Writes = (&'static str, &'static str, u32, u32);
+
+const WRITES: &[Writes] = &[
+    ("refine depth=3", SQUARE, 5, 439),
+    ("stencils depth=1", SQUARE, 16, 12),
+    ("levels depth=1", CUBE, 16, 12),
+    (GEN, "", 16, 6),
+    (REFINE, TWO_CHARTS, 64, 10),
+];
+
+fn writes() -> &'static [Writes] {
+    WRITES
+}
+
+// Where this call of the sink fails, it holds the pieces before it.
+fn expect_cut_write(
+    rt: &(impl Abort + AllocGlobal),
+    row: &Writes,
+    call: u32,
+    whole: &[u8],
+) -> Result<(), Fail> {
+    let &(text, mesh, size, _) = row;
+    assert!(rt; 0 < size);
+    let (given, sink) = run_written_in_pieces(rt.alloc(), text, mesh, call, size)?;
+    let held = whole.len().min(call.saturating_mul(size) as usize);
+    expect_same(rt, &given, &Err(FarFault::Write), &(row, call));
+    expect_same(rt, &Some(sink.bytes()), &whole.get(..held), &(row, call));
+    Ok(())
+}
+
+// Where no call fails, the sink holds all.
+fn expect_written(rt: &(impl Abort + AllocGlobal), row: &Writes, whole: &[u8]) -> Result<(), Fail> {
+    let &(text, mesh, size, calls) = row;
+    assert!(rt; 0 < size);
+    let (given, sink) = run_written_in_pieces(rt.alloc(), text, mesh, calls, size)?;
+    expect_same(rt, &given, &Ok(()), row);
+    expect_same(rt, &sink.bytes(), &whole, row);
+    Ok(())
+}
+
+#[test]
+fn fails_at_each_write(rt: HostRuntime) -> Result<(), Fail> {
+    for row in writes() {
+        let &(text, mesh, _, calls) = row;
+        let (given, sink) = run_alone(rt.alloc(), text, mesh, "")?;
+        expect_same(&rt, &given, &Ok(()), row);
+        for call in 0..calls {
+            expect_cut_write(&rt, row, call, sink.bytes())?;
+        }
+        expect_written(&rt, row, sink.bytes())?;
+    }
+    Ok(())
+}

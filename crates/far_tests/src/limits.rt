@@ -1,0 +1,144 @@
+// Runs at what can be counted and kept, and one past it.
+
+use crate::engine::{run_alone, run_within};
+use crate::expect::expect_same;
+use crate::inputs::LEVELS;
+use crate::runs::{Run, expect_runs};
+use far_engine::FarFault;
+use level_topology::Counted;
+use obj_tags::ObjCause;
+use std::alloc::Global;
+use std::test::Fail;
+
+// The points of a wheel: the hub is point 0, and point k stands at k.
+fn push_points(text: &mut String, alloc: Global, spokes: u32) -> Result<(), Fail> {
+    for k in 0..spokes {
+        text.push_str(format!(in alloc; "v {} 0 0\n", u64::from(k) + 1)?.as_str())?;
+    }
+    Ok(())
+}
+
+// A triangle at the hub, by what the line of a face calls its other points.
+fn push_triangle(text: &mut String, alloc: Global, second: u64, third: u64) -> Result<(), Fail> {
+    text.push_str(format!(in alloc; "f 1 {second} {third}\n")?.as_str())?;
+    Ok(())
+}
+
+// A wheel of so many triangles about its hub.
+fn wheel(alloc: Global, spokes: u32) -> Result<String, Fail> {
+    let mut text = String::from_str(alloc, "v 0 0 0\n")?;
+    push_points(&mut text, alloc, spokes)?;
+    for k in 1..spokes {
+        push_triangle(&mut text, alloc, u64::from(k) + 1, u64::from(k) + 2)?;
+    }
+    push_triangle(&mut text, alloc, u64::from(spokes) + 1, 2)?;
+    Ok(text)
+}
+
+// The spokes of a wheel, words, the answer, and what is written.
+type Wheel = (u32, &'static str, Result<(), FarFault>, &'static str);
+
+const WHEELS: &[Wheel] = &[
+    (
+        65536,
+        LEVELS,
+        Ok(()),
+        "level 0 points 65537 edges 131072 faces 65536 euler 1 boundary 65536 holes 0 sharp 0 extraordinary 1\n",
+    ),
+    (
+        65537,
+        LEVELS,
+        Err(FarFault::TooLarge(Counted::Valence {
+            vertex: 0,
+            count: 65537,
+        })),
+        "",
+    ),
+    (
+        5000,
+        "refine depth=2",
+        Err(FarFault::TooLarge(Counted::Entries { level: 2 })),
+        "",
+    ),
+];
+
+fn wheels() -> &'static [Wheel] {
+    WHEELS
+}
+
+#[test]
+fn takes_so_many_spokes_and_no_more(rt: HostRuntime) -> Result<(), Fail> {
+    for row in wheels() {
+        let &(spokes, text, answer, written) = row;
+        let mesh = wheel(rt.alloc(), spokes)?;
+        let (given, sink) = run_alone(rt.alloc(), text, mesh.as_str(), "")?;
+        expect_same(&rt, &given, &answer, row);
+        expect_same(&rt, &sink.bytes(), &written.as_bytes(), row);
+    }
+    Ok(())
+}
+
+// How many lines begin so.
+fn count_lines(text: &str, start: &str) -> u32 {
+    let mut count: u32 = 0;
+    for line in text.lines() {
+        count = count.saturating_add(u32::from(line.starts_with(start)));
+    }
+    count
+}
+
+// Level by level there is no limit on entries.
+#[test]
+fn refines_many_spokes_by_level(rt: HostRuntime) -> Result<(), Fail> {
+    let mesh = wheel(rt.alloc(), 5000)?;
+    let input = mesh.as_bytes().to_vec(rt.alloc())?;
+    let (given, sink) = run_within(rt.alloc(), "refine depth=2 by=level", input, 1 << 23)?;
+    expect_same(&rt, &given, &Ok(()), &"the answer");
+    let written = str::from_utf8(sink.bytes())?;
+    expect_same(&rt, &count_lines(written, "v "), &70001, &"points");
+    expect_same(&rt, &count_lines(written, "f "), &60000, &"faces");
+    Ok(())
+}
+
+const NINES: &str = "v 9999999999999999999999999999999999999 0 0\n";
+
+const NUMBERS: &[Run] = &[
+    // A point of no face stays as it is.
+    ("refine depth=3", NINES, "", Ok(()), NINES),
+    (
+        "refine depth=0",
+        "v 1e-37 0 0\n",
+        "",
+        Ok(()),
+        "v 1/10000000000000000000000000000000000000 0 0\n",
+    ),
+    (
+        "refine depth=0",
+        "v 1e-37 0 0\n",
+        "v 1 0 0\n",
+        Err(FarFault::Obj {
+            line: 2,
+            cause: ObjCause::NumberRange,
+        }),
+        "",
+    ),
+    (
+        "refine depth=0",
+        "v 1e-38 0 0\n",
+        "",
+        Err(FarFault::Obj {
+            line: 1,
+            cause: ObjCause::NumberRange,
+        }),
+        "",
+    ),
+];
+
+fn numbers() -> &'static [Run] {
+    NUMBERS
+}
+
+#[test]
+fn keeps_numbers_of_37_digits(rt: HostRuntime) -> Result<(), Fail> {
+    expect_runs(&rt, numbers())
+}
