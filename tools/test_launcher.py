@@ -1,0 +1,205 @@
+#!/usr/bin/env python3
+"""Shows that the launcher passes words, input, outputs and status through, to the proved program and to the unproved one.
+
+In a copy of the tracked files each of some runs is made by the proved program itself, by `./far` while no program is
+proved, and by `./far` once the proved program stands where the launcher looks for it. All have to end alike, but for
+the one line on standard error by which `./far` says that a run is not proved. Beside these runs it tries what the
+launcher does by itself: its help, a source that is newer than a program, a toolchain that is missing or fails, and
+`./far --build`. There a stand-in of `rt` is called in the place of the toolchain, since proving takes an hour.
+
+It builds the program unproved once, which takes half a minute. Its one line is `the launcher: N checks passed`, and the
+exit status 0. It is 1 where a check fails, which is printed, and 2 where there is no proved program.
+"""
+
+import argparse
+import os
+import re
+import shutil
+import subprocess
+import sys
+import tempfile
+from concurrent.futures import ThreadPoolExecutor
+from pathlib import Path
+
+from run_reference import OPTIONS, Numbers
+from tracked_files import PROGRAM, TOP, copy_files, put_program, tracked_files
+
+NOT_PROVED = re.compile(rb"\./far: this run is not proved[^\n]*\n")
+COMMANDS_OF_THE_LAUNCHER = "bash cat cmp date dirname find flock ln mkdir mktemp mv readlink rm sleep touch"
+CLOSED_INPUT, FULL_OUTPUT = 'exec "$@" <&-', 'exec "$@" > /dev/full'
+SECONDS = 300
+
+
+def content(path):
+    return (TOP / path).read_bytes()
+
+
+def runs():
+    """Of each run its words, its input, and how bash calls it where that is told."""
+    cube, dog, unfolded = (content(f"examples/{name}.obj") for name in ("cube", "dog", "unfolded_cube"))
+    yield ["refine", "depth=2"], cube
+    yield ["refine", "depth=1", "uv=corners", "tags=yes", "decimals=3"], unfolded
+    yield ["refine", "depth=3", "by=level"], dog
+    yield ["levels", "depth=1"], dog
+    yield ["stencils", "depth=1"], cube
+    yield ["gen", "seed=7", "size=4", "depth=2"], b""
+    yield ["refine", "depth=3"], b""
+    yield ["refine", "depth=1"], b"v 0 0 0\nv 0 0 nan\n"
+    yield ["refine", "depth=1"], b"\xff\x00\n"
+    yield ["levels", "depth=1"], content("cases/levels/bowtie/stdin")
+    yield ["refine", "depth=x"], cube
+    yield ["refine", "depth=1 tags=yes"], cube
+    yield ["refine", "depth=1", "*"], cube
+    yield ["refine", "depth=1", "tags=yes", ""], cube
+    yield ["refine", "depth=1\n", "x"], cube
+    yield [b"refine", b"depth=1", b"\xff"], cube
+    yield ["help", "help"], cube
+    yield ["--build", ""], cube
+    yield [""], cube
+    yield ["refine", "depth=1"], cube, CLOSED_INPUT
+    yield ["refine", "depth=1"], cube, FULL_OUTPUT
+
+
+def outcome(program, words, data=b"", how='exec "$@"', path=None, folder="/"):
+    """The status with which a program ends, and what it writes on both outputs."""
+    names = os.environ if path is None else {**os.environ, "PATH": path}
+    command = [shutil.which("bash"), "-c", how, "bash", program, *words]
+    done = subprocess.run(command, input=data, capture_output=True, env=names, cwd=folder, timeout=SECONDS)
+    return done.returncode, done.stdout, done.stderr
+
+
+def shown(ended):
+    """An outcome in a line, cut where it is long."""
+    return "status {}, output {}, error {}".format(*(repr(part)[:200] for part in ended))
+
+
+class Launcher:
+    """The launcher of a copy of the repository, and the checks that it passed and failed."""
+
+    def __init__(self, program, room):
+        self.program, self.copy = program, room / "copy"
+        self.far, self.source = self.copy / "far", self.copy / "crates/far_cli/src/main.rt"
+        self.unproved = self.copy / ".far/far_cli"
+        self.passed, self.failed = 0, []
+        copy_files(tracked_files(), self.copy)
+        self.plain, self.refusing, self.agreeing = (room / name for name in ("plain", "refusing", "agreeing"))
+        self.make_stand_ins()
+
+    def make_stand_ins(self):
+        """Makes folders of commands without `rt`, with one that fails, and with one that notes how it is called."""
+        for folder in (self.plain, self.refusing, self.agreeing):
+            folder.mkdir()
+            for name in COMMANDS_OF_THE_LAUNCHER.split():
+                (folder / name).symlink_to(shutil.which(name))
+        note = '#!/usr/bin/env bash\necho proving\n{ pwd; printf "%s\\n" "$@"; cat; } > "$0.called"\n'
+        for folder, text in ((self.refusing, "#!/usr/bin/env bash\nexit 1\n"), (self.agreeing, note)):
+            (folder / "rt").write_text(text)
+            (folder / "rt").chmod(0o755)
+
+    def check(self, what, passed, ended):
+        if passed:
+            self.passed += 1
+        else:
+            self.failed.append(f"FAILED {what}: {shown(ended)}")
+
+    def ends_without_program(self, what, folder, line):
+        """Checks that a run ends with status 1 and a line with this text, under the commands of the folder."""
+        ended = outcome(self.far, ["levels", "depth=0"], path=str(folder))
+        said = ended[2].splitlines()
+        self.check(what, ended[:2] == (1, b"") and len(said) <= 2 and line in said[-1], ended)
+
+    def compare_runs(self, what, wanted, is_proved):
+        """Checks that each run ends as the program itself does, but for the line that tells that it is not proved."""
+        given = list(runs())
+        with ThreadPoolExecutor(os.cpu_count()) as pool:
+            outcomes = list(pool.map(lambda run: outcome(self.far, *run), given))
+        for (words, *_), (status, output, error), ended in zip(given, wanted, outcomes):
+            line = None if is_proved else NOT_PROVED.match(ended[2])
+            rest = ended[2][line.end() :] if line else ended[2]
+            as_told = is_proved or line is not None
+            self.check(f"{words} {what}", as_told and (*ended[:2], rest) == (status, output, error), ended)
+
+    def check_help(self):
+        """Checks that the help has each option and each name of a value, and that its examples run."""
+        ended = outcome(self.far, ["help"])
+        self.check("help", ended[0] == 0 and ended[1] and not ended[2], ended)
+        for words in ([], ["--help"]):
+            self.check(f"help by {words}", outcome(self.far, words) == ended, outcome(self.far, words))
+        text = ended[1].decode()
+        for command, options in OPTIONS.items():
+            part = text.partition(f"./far {command.decode()} ")[2].partition("Example: ")
+            for name, values in options.items():
+                numbers = [str(values.least), str(values.most)] if isinstance(values, Numbers) else []
+                names = numbers or [value.decode() for value in values]
+                lacking = [it for it in [f"{name.decode()}=", *names] if not re.search(rf"\b{it}", part[0])]
+                self.check(f"help of {command.decode()} lacks {lacking}", not lacking, ended)
+            ended = outcome("bash", ["-c", part[2].partition("\n")[0]], folder=self.copy)
+            self.check(f"example of {command.decode()}", ended[0] == 0 and ended[1] and not ended[2], ended)
+
+    def check_link(self):
+        """Checks that the launcher finds its repository through a link, from another folder."""
+        link = self.copy.parent / "link"
+        link.symlink_to(self.far)
+        ended = outcome(link, ["gen", "seed=0", "size=1", "depth=1"])
+        self.check("by a link", ended[0] == 0 and ended[1] and not ended[2], ended)
+
+    def check_newer_source(self, wanted):
+        """Checks that a source that is newer than the proved program makes the run unproved, and a newer one a new build."""
+        latest = max(os.stat(it).st_mtime for it in (self.copy / PROGRAM, self.unproved))
+        os.utime(self.source, (latest + 1, latest + 1))
+        os.utime(self.unproved, (latest + 2, latest + 2))
+        ended = outcome(self.far, ["refine", "depth=2"], content("examples/cube.obj"))
+        line = NOT_PROVED.fullmatch(ended[2])
+        self.check("a source newer than the proved program", line and ended[:2] == wanted[0][:2], ended)
+        os.utime(self.source, (latest + 3, latest + 3))
+        self.ends_without_program("a source newer than both programs", self.refusing, b"could not be built unproved")
+        self.ends_without_program("a newer source without rt", self.plain, b"README.md")
+
+    def check_build(self):
+        """Checks how `./far --build` calls the toolchain, how it ends, and that the program is the proved one then."""
+        ended = outcome(self.far, ["--build"], path=str(self.refusing))
+        self.check("--build that fails", ended[:2] == (1, b"") and ended[2].count(b"\n") == 1, ended)
+        ended = outcome(self.far, ["--build"], path=str(self.plain))
+        self.check("--build without rt", ended[:2] == (1, b"") and b"README.md" in ended[2], ended)
+        os.utime(self.source)
+        os.utime(self.copy / PROGRAM, (0, 0))
+        ended = outcome(self.far, ["--build"], data=b"input", path=str(self.agreeing))
+        called = (self.agreeing / "rt.called").read_text()
+        wanted = f"{self.copy}/crates/far_cli\nrun\n--\nrefine\ndepth=1\n"
+        self.check(f"--build called {called!r}", ended == (0, b"", b"proving\n") and called == wanted, ended)
+        ended = outcome(self.far, ["gen", "seed=0", "size=1", "depth=1"])
+        self.check("a run after --build", ended[0] == 0 and ended[1] and not ended[2], ended)
+
+
+def test(launcher):
+    wanted = [outcome(launcher.program, *run) for run in runs()]
+    launcher.ends_without_program("no rt", launcher.plain, b"README.md")
+    launcher.ends_without_program("an rt that fails", launcher.refusing, b"could not be built unproved")
+    launcher.compare_runs("unproved", wanted, is_proved=False)
+    put_program(launcher.program, launcher.copy)
+    launcher.compare_runs("proved", wanted, is_proved=True)
+    launcher.check_help()
+    launcher.check_link()
+    launcher.check_newer_source(wanted)
+    launcher.check_build()
+
+
+def main():
+    parser = argparse.ArgumentParser(description="Tests the launcher.")
+    parser.add_argument("--program", type=Path, default=TOP / PROGRAM, help="the proved program")
+    program = parser.parse_args().program.resolve()
+    if not os.access(program, os.X_OK):
+        print(f"no program {program}: `./far --build` or `rt ci` builds it", file=sys.stderr)
+        return 2
+    with tempfile.TemporaryDirectory(prefix="launcher-") as room:
+        launcher = Launcher(program, Path(room).resolve())
+        test(launcher)
+    if launcher.failed:
+        print("\n".join(launcher.failed))
+        return 1
+    print(f"the launcher: {launcher.passed} checks passed")
+    return 0
+
+
+if __name__ == "__main__":
+    sys.exit(main())
