@@ -95,7 +95,7 @@ def main():
     options = arguments()
     program = options.program.resolve()
     if not program.is_file() or not os.access(program, os.X_OK):
-        print(f"no program {program}: `./far` or `rt ci` at the top of the repository builds it", file=sys.stderr)
+        print(f"no program {program}: `./far --build` or `rt ci` at the top of the repository builds it", file=sys.stderr)
         return 2
     if not options.cases.is_dir():
         print(f"no folder {options.cases}", file=sys.stderr)
