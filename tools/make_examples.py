@@ -1,19 +1,23 @@
 #!/usr/bin/env python3
-"""Writes the larger meshes of examples/: the dog and the torus of 1,024 quads. Both are closed, and are
-written with whole numbers. Run it again after a change: the files come out the same, byte for byte.
+"""Writes the larger meshes of examples/: the dog, the arm in two poses, and the torus of 1,024 quads. All are closed,
+and are written with whole numbers, or with decimals that are exact. Run it again after a change: the files come out the
+same, byte for byte.
 
     tools/make_examples.py
 """
 
 import math
+from decimal import Decimal
+from fractions import Fraction
 from itertools import product
 from pathlib import Path
 
 EXAMPLES = Path(__file__).resolve().parent.parent / "examples"
 
 
-def write_mesh(name, points, faces):
-    lines = ["v " + " ".join(map(str, point)) for point in points]
+def write_mesh(name, points, faces, *comments):
+    lines = [f"# {comment}" for comment in comments]
+    lines += ["v " + " ".join(map(str, point)) for point in points]
     lines += ["f " + " ".join(str(vertex + 1) for vertex in face) for face in faces]
     (EXAMPLES / name).write_text("".join(line + "\n" for line in lines))
     print(f"{name}: {len(points)} points, {len(faces)} faces")
@@ -62,6 +66,24 @@ def dog():
     return surface({cube for block in BLOCKS.values() for cube in product(*block)})
 
 
+# The arm: a row of unit cubes along x with a hand at its end, and the same faces with the arm bent up at the elbow.
+
+ARM = {(x, 0, 0) for x in range(7)} | {(5, 0, 1), (5, 1, 0), (5, -1, 0)}
+ELBOW = 3, Fraction(1, 2)  # x and z of its axis
+HALF_TURN = Fraction(4, 5), Fraction(3, 5)  # cosine and sine of half the angle
+TURN = Fraction(7, 25), Fraction(24, 25)
+
+
+def bent(point):
+    """Where a point of the arm is when it is bent: what is before the elbow stays, and that at it turns half way."""
+    x, y, z = point
+    if x < ELBOW[0]:
+        return point
+    (cosine, sine), (along, up) = (HALF_TURN if x == ELBOW[0] else TURN), (x - ELBOW[0], z - ELBOW[1])
+    turned = ELBOW[0] + cosine * along - sine * up, y, ELBOW[1] + sine * along + cosine * up
+    return tuple(Decimal(Fraction(value).numerator) / Fraction(value).denominator for value in turned)
+
+
 # The torus: 32 rings of 32 points, rounded to whole numbers.
 
 
@@ -90,4 +112,7 @@ def torus(rings=32, sides=32, great=3000, small=1200):
 
 if __name__ == "__main__":
     write_mesh("dog.obj", *dog())
+    arm, faces = surface(ARM)
+    write_mesh("arm_straight.obj", arm, faces, "An arm, stretched out. arm_bent.obj has the same faces.")
+    write_mesh("arm_bent.obj", [bent(point) for point in arm], faces, "The arm of arm_straight.obj, bent at the elbow.")
     write_mesh("grid1024.obj", *torus())
