@@ -133,7 +133,7 @@ fn points_text(alloc: Global, points: u32) -> Result<String, Fail> {
 }
 
 // A text of one face of so many corners.
-fn one_face(alloc: Global, corners: u32) -> Result<String, Fail> {
+pub fn one_face(alloc: Global, corners: u32) -> Result<String, Fail> {
     let mut text = points_text(alloc, corners)?;
     text.push_str("f")?;
     for v in 0..corners {

@@ -1,5 +1,6 @@
 // Runs at what can be counted and kept, and one past it.
 
+use crate::checks::one_face;
 use crate::engine::{run_alone, run_within};
 use crate::expect::expect_same;
 use crate::inputs::LEVELS;
@@ -75,6 +76,20 @@ fn takes_so_many_spokes_and_no_more(rt: HostRuntime) -> Result<(), Fail> {
         expect_same(&rt, &given, &answer, row);
         expect_same(&rt, &sink.bytes(), &written.as_bytes(), row);
     }
+    Ok(())
+}
+
+// A face of more than 65,536 corners is refused, and told of with how many it has.
+#[test]
+fn refuses_a_face_of_65537_corners(rt: HostRuntime) -> Result<(), Fail> {
+    let mesh = one_face(rt.alloc(), 65537)?;
+    let (given, sink) = run_alone(rt.alloc(), LEVELS, mesh.as_str(), "")?;
+    let refused = FarFault::TooLarge(Counted::FaceSize {
+        face: 0,
+        size: 65537,
+    });
+    expect_same(&rt, &given, &Err(refused), &"the answer");
+    expect_same(&rt, &sink.bytes(), &"".as_bytes(), &"what is written");
     Ok(())
 }
 
