@@ -34,7 +34,7 @@ from pathlib import Path
 
 from tracked_files import PROGRAM, TOP, copy_files, put_program, tracked_files
 
-SECONDS = 60
+SECONDS = 300
 MOST_LINES = 40
 ANY_LINES = ".."
 FENCE = re.compile(r"( *)```+ *(\w*)")
