@@ -14,7 +14,7 @@ use Rattle.stencil_factory.specs.Flat.{corner_shares, source_shares, flat_shares
 use Rattle.stencil_factory.proofs.ScratchLemmas.{length-added_shares, sum-added_shares}
 
 -- a slice is its first element and the others
-first-and-others : {X : Type 0} (xs : List X) (d : X) → 1 ≤ length xs → xs ≡ get_or xs 0 d ∷ take (length xs - 1) (drop 1 xs)
+pub first-and-others : {X : Type 0} (xs : List X) (d : X) → 1 ≤ length xs → xs ≡ get_or xs 0 d ∷ take (length xs - 1) (drop 1 xs)
 first-and-others [] d some = absurd (omega arith)
 first-and-others (x ∷ xs) d some = ap (λ l. x ∷ l) (sym (take_all (length (x ∷ xs) - 1) xs (omega arith)))
 
@@ -96,7 +96,7 @@ module _ (dens : List ℕ) (factor multiple : ℕ) (corners : List ℕ) (some : 
     corners-same = same-next _ (first ∷ []) (corner_shares dens factor multiple others) corners-split sums can new corner-added
 
 -- a term
-abbrev none : Term
+abbrev pub none : Term
 none = record { at = Point 0; weight = 0 }
 
 -- the first term of some, and the others

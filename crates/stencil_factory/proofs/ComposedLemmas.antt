@@ -44,10 +44,6 @@ module _ (level : Level) (table : Table) where
   abbrev support : Mask → List ℕ
   support = mask_support table.controls (source_support table.controls level (supports_of table))
 
-  -- so that its support has a control
-  pub support-some : (mask : Mask) (row : Row) → IsComposedRow level table mask row → 0 < length (support mask)
-  support-some mask row is = omega (arith, row-some level table mask row is, length-map row.shares (λ (share : Share). share.0), ap length is.support)
-
   rows-more : (masks : List Mask) (rows : List Row) (mask : Mask) (row : Row) → AreComposedRows level table masks rows → IsComposedRow level table mask row
       → AreComposedRows level table (masks ++ mask ∷ []) (rows ++ row ∷ [])
   rows-more [] [] mask row are is = (is, tt)

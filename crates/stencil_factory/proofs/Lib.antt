@@ -14,3 +14,5 @@ pub mod PositiveLemmas
 pub mod SurveyLemmas
 pub mod ComposedLemmas
 pub mod MarkLemmas
+pub mod MetLemmas
+pub mod NameLemmas

@@ -159,14 +159,18 @@ module _ (level : Level) (table : Table) (mask : Mask) (n v : ℕ) (inside : v <
       ∙ any-same (λ (t : Term). is_among (corner_support (supports_of table) t.source) v) (λ t. at_corner level (has_control table v) t.source) (face_mask level f).terms (λ t. corner-has t.source)
       ∙ corners-any level (has_control table v) f
 
-  -- some source of the mask has the control where the row of some weight does
-  pub sources-have : (weights : List Share) → ((u : ℕ) → is_among (support_of weights) u ≡ is_named level mask u)
-      → list_any (λ list. is_among list v) (map (λ t. source_support n level (supports_of table) t.source) mask.terms) ≡ list_any (λ w. is_among (support_of (row_at table w.0).shares) v) weights
-  sources-have weights named =
+  -- some source of the mask has the control where the row of some point does that it names
+  pub points-have : (points : List ℕ) → ((u : ℕ) → is_among points u ≡ is_named level mask u)
+      → list_any (λ list. is_among list v) (map (λ t. source_support n level (supports_of table) t.source) mask.terms) ≡ list_any (has_control table v) points
+  points-have points named =
       any-map (λ list. is_among list v) (λ (t : Term). source_support n level (supports_of table) t.source) mask.terms
       ∙ any-same (λ (t : Term). is_among (source_support n level (supports_of table) t.source) v) (λ t. at_source level (has_control table v) t.source) mask.terms (λ t. source-has t.source)
-      ∙ sym (named-any level (has_control table v) mask (support_of weights) named)
-      ∙ any-map (has_control table v) (λ (w : Share). w.0) weights
+      ∙ sym (named-any level (has_control table v) mask points named)
+
+  -- and so where that of some weight does
+  pub sources-have : (weights : List Share) → ((u : ℕ) → is_among (support_of weights) u ≡ is_named level mask u)
+      → list_any (λ list. is_among list v) (map (λ t. source_support n level (supports_of table) t.source) mask.terms) ≡ list_any (λ w. is_among (support_of (row_at table w.0).shares) v) weights
+  sources-have weights named = points-have (support_of weights) named ∙ any-map (has_control table v) (λ (w : Share). w.0) weights
 
 -- the shares of sums stand where the test passes
 pub shares-kept : (test : ℕ → Bool) (a : ℕ) (sums : List ℕ) → ((k : ℕ) → k < length sums → test (a + k) ≡ nat_lt 0 (get_or sums k 0)) → support_of (shares_from a sums) ≡ filter test (range_with_len a (length sums))

@@ -6,3 +6,5 @@ pub mod Weights
 pub mod Flat
 pub mod Composing
 pub mod Marks
+pub mod Met
+pub mod Named

@@ -147,7 +147,6 @@ fn compose_rows(
     requires survey { IsFoundOver parent.now.level (scheme_of scheme) child.now.origins (dens_of table.now) survey.now }
     requires counted { entries ≡ entries_from parent.now.level (scheme_of scheme) child.now.origins table.now }
     requires few { entries ≤ entry_bound }
-    requires rows { length child.now.origins ≤ entries }
     ensures { IfOk result (λ composed. IsComposed parent.now.level (scheme_of scheme) child.now.origins table.now composed) }
 {
     parent.facts();
@@ -155,7 +154,9 @@ fn compose_rows(
     table.facts();
     let points = child.level().points();
     let mut room = Room::new(alloc, parent.points(), table.controls())?;
-    let mut builder = TableBuilder::with_room(alloc, table.controls(), points, entries)?;
+    // Each row has an entry, so that there are no more rows.
+    let rows = points.min(entries as u32);
+    let mut builder = TableBuilder::with_room(alloc, table.controls(), rows, entries)?;
     for p in 0..points {
         compose_row(alloc, table, parent, child, p, scheme, survey, &mut room)?;
         builder.add_row(survey.dens[p as usize], &room.entries)?;
@@ -188,7 +189,7 @@ pub fn compose_level(
         Ok(survey) => survey,
         Err(fault) => return Err(table_fault(fault)),
     };
-    match count_entries(alloc, table, parent, child, scheme, &survey)? {
+    match count_entries(alloc, table, parent, child, scheme)? {
         Some(entries) => {
             let composed = compose_rows(alloc, table, parent, child, scheme, &survey, entries)?;
             Ok(composed)

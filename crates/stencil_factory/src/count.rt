@@ -1,46 +1,42 @@
 //! How many entries the rows of a step have, without their numerators.
 
-ghost use Rattle.std.specs.Prelude.{◌≡◌, ◌+◌, ◌^◌, ◌<◌, ◌≤◌, nat_eq, length, get_or, replicate, set, IfOk, OnOk, MatchOption};
+ghost use Rattle.std.specs.Prelude.{◌≡◌, ◌+◌, ◌^◌, ◌<◌, ◌≤◌, [], nat_eq, length, get_or, replicate, set, IfOk, OnOk, MatchOption};
 ghost use Rattle.std.specs.List.{All, count_by};
 ghost use Rattle.subdiv_model.specs.Channel.{entry_bound};
 ghost use Rattle.subdiv_model.specs.Support.{mask_support, source_support};
 ghost use Rattle.level_topology.specs.Child.{FromVertex};
 ghost use Rattle.mask_rules.specs.View.{scheme_of};
 ghost use Rattle.primvar_refine.specs.Step.{CanRefine, mask_from};
-ghost use Rattle.primvar_refine.specs.Found.{IsFoundOver};
-ghost use Rattle.stencil_apply.specs.Arrays.{shares_of};
-ghost use Rattle.stencil_factory.specs.Rows.{supports_of, dens_of};
-ghost use Rattle.stencil_factory.specs.Marks.{marked_all, marked_rows, AreMarks, AreInside};
+ghost use Rattle.stencil_factory.specs.Rows.{supports_of};
+ghost use Rattle.stencil_factory.specs.Marks.{marked_all, marked_rows, AreMarks};
 ghost use Rattle.stencil_factory.specs.Composed.{entries_from};
 
-use crate::scratch::Scratch;
-use crate::weigh::weigh_point;
+use crate::met::Met;
+use crate::name::name_point;
 use level_topology::{Child, Level};
 use mask_rules::Scheme;
-use primvar_refine::Survey;
 use ratio128::Memory;
 use std::alloc::Global;
-use stencil_apply::{Entry, StencilTable};
+use stencil_apply::StencilTable;
 
 // The most entries of a table.
 const ENTRY_BOUND: u64 = 1 << 27;
 
-// Where rows are counted: the weights of a level's points, and a mark for each control point, that of the last row that met it.
+// Where rows are counted: the points of a level that a row's mask names, and a mark for each control point, that of the last
+// row that met it.
 #[derive(Drop)]
 struct Marks {
-    points: Scratch,
-    weights: Vec<Entry>,
+    points: Met,
     marks: Vec<u32>,
 }
 
 impl Marks {
-    // Marks of 0 for so many control points, and room for the weights of so many points.
+    // Marks of 0 for so many control points, and so many points that are not met.
     fn new(alloc: Global, points: u32, controls: u32) -> Result<Marks, Memory>
-        ensures { IfOk result (λ room. (room.points ≡ replicate points 0) × (room.marks.items ≡ replicate controls 0)) }
+        ensures { IfOk result (λ room. (room.points ≡ record { count = points; mark = 1; met = [] }) × (room.marks.items ≡ replicate controls 0)) }
     {
         Ok(Marks {
-            points: Scratch::new(alloc, points)?,
-            weights: Vec::new(alloc),
+            points: Met::new(alloc, points)?,
             marks: vec![in alloc; 0; controls as usize]?,
         })
     }
@@ -72,17 +68,19 @@ fn mark_all(marks: &mut Vec<u32>, places: &[u32], mark: u32) -> u64
     fresh
 }
 
-// The same for the control points of the rows of the weights' points.
-fn mark_rows(table: &StencilTable, weights: &[Entry], marks: &mut Vec<u32>, mark: u32) -> u64
-    requires inside { AreInside table.now (shares_of weights.now) }
+// The same for the control points of the rows of these points.
+fn mark_rows(table: &StencilTable, points: &[u32], marks: &mut Vec<u32>, mark: u32) -> u64
+    requires inside { All (λ point. point < length table.now.rows) points.now }
     requires each { length marks.old.items ≡ table.now.controls }
-    ensures marked { marks.new.items ≡ marked_rows table.now mark (shares_of weights.now) marks.old.items }
+    ensures marked { marks.new.items ≡ marked_rows table.now mark points.now marks.old.items }
     ensures fresh { result + count_by (nat_eq mark) marks.old.items ≡ count_by (nat_eq mark) marks.new.items }
 {
     table.facts();
     let mut fresh = 0;
-    for weight in weights {
-        fresh += mark_all(marks, table.row_indices(weight.index), mark);
+    let mut rest = points;
+    while let [point, others @ ..] = rest {
+        fresh += mark_all(marks, table.row_indices(*point), mark);
+        rest = others;
     }
     fresh
 }
@@ -95,54 +93,41 @@ fn count_row(
     child: &Child,
     p: u32,
     scheme: Scheme,
-    survey: &Survey,
     room: &mut Marks,
 ) -> Result<u64, Memory>
     requires child { CanRefine parent.now child.now (scheme_of scheme) }
     requires each { length table.now.rows ≡ parent.now.level.point_count }
     requires known { p < length child.now.origins }
-    requires survey { IsFoundOver parent.now.level (scheme_of scheme) child.now.origins (dens_of table.now) survey.now }
-    requires points { room.old.points ≡ replicate parent.now.level.point_count 0 }
+    requires points { room.old.points.count ≡ parent.now.level.point_count }
+    requires round { room.old.points.mark ≡ p + 1 }
     requires marks { AreMarks table.now.controls p room.old.marks.items }
-    ensures points { OnOk result (room.new.points ≡ replicate parent.now.level.point_count 0) }
+    ensures points { OnOk result (room.new.points.count ≡ parent.now.level.point_count) }
+    ensures round { OnOk result (room.new.points.mark ≡ p + 2) }
     ensures marks { OnOk result (AreMarks table.now.controls (p + 1) room.new.marks.items) }
-    ensures some { IfOk result (λ count. 0 < count) }
     ensures count { IfOk result (λ count. count ≡ length (mask_support table.now.controls (source_support table.now.controls parent.now.level (supports_of table.now))
         (mask_from parent.now.level (scheme_of scheme) (get_or child.now.origins p (FromVertex 0))))) }
 {
     parent.facts();
     child.facts();
     table.facts();
-    let dens = table.denominators();
-    weigh_point(
-        alloc,
-        parent,
-        child,
-        p,
-        scheme,
-        survey,
-        dens,
-        &mut room.points,
-        &mut room.weights,
-    )?;
-    Ok(mark_rows(table, &room.weights, &mut room.marks, p + 1))
+    name_point(alloc, parent, child, p, scheme, &mut room.points)?;
+    let points = room.points.places();
+    Ok(mark_rows(table, points, &mut room.marks, p + 1))
 }
 
-/// How many entries the rows of all child points have, where they are at most 2^27. Each has one at least.
+/// How many entries the rows of all child points have, where they are at most 2^27.
 pub(crate) fn count_entries(
     alloc: Global,
     table: &StencilTable,
     parent: &Level,
     child: &Child,
     scheme: Scheme,
-    survey: &Survey,
 ) -> Result<Option<u64>, Memory>
     requires child { CanRefine parent.now child.now (scheme_of scheme) }
     requires each { length table.now.rows ≡ parent.now.level.point_count }
-    requires survey { IsFoundOver parent.now.level (scheme_of scheme) child.now.origins (dens_of table.now) survey.now }
     ensures { IfOk result (λ count. MatchOption count
         (entry_bound < entries_from parent.now.level (scheme_of scheme) child.now.origins table.now)
-        (λ entries. (entries ≡ entries_from parent.now.level (scheme_of scheme) child.now.origins table.now) × (entries ≤ entry_bound) × (length child.now.origins ≤ entries))) }
+        (λ entries. (entries ≡ entries_from parent.now.level (scheme_of scheme) child.now.origins table.now) × (entries ≤ entry_bound))) }
 {
     parent.facts();
     child.facts();
@@ -150,7 +135,7 @@ pub(crate) fn count_entries(
     let mut room = Marks::new(alloc, parent.points(), table.controls())?;
     let mut count = 0;
     for p in 0..child.level().points() {
-        count += count_row(alloc, table, parent, child, p, scheme, survey, &mut room)?;
+        count += count_row(alloc, table, parent, child, p, scheme, &mut room)?;
         if count > ENTRY_BOUND {
             return Ok(None);
         }

@@ -8,6 +8,8 @@ mod controls;
 mod count;
 mod fault;
 mod flat;
+mod met;
+mod name;
 mod scratch;
 mod weigh;
 

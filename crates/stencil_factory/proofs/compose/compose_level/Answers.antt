@@ -10,10 +10,6 @@ pub survey_over-requires-clause-dens : goal.survey_over-requires-clause-dens
 survey_over-requires-clause-dens c =
     subst (ArePointDenominators c.args.parent.now.level) (sym c.denominators.ensures) (point-dens c.args.table.now c.args.parent.now.level c.facts-3.ensures c.requires.each)
 
-pub count_entries-requires-clause-survey : goal.count_entries-requires-clause-survey
-count_entries-requires-clause-survey c =
-    subst (λ dens. IsFoundOver c.args.parent.now.level (scheme_of c.args.scheme) c.args.child.now.origins dens c.in-Ok.survey) c.denominators.ensures c.in-Ok.ensures
-
 pub compose_rows-requires-clause-survey : goal.compose_rows-requires-clause-survey
 compose_rows-requires-clause-survey c =
     subst (λ dens. IsFoundOver c.args.parent.now.level (scheme_of c.args.scheme) c.args.child.now.origins dens c.in-Ok.survey) c.denominators.ensures c.in-Ok.ensures

@@ -33,8 +33,8 @@ loop-p-preserved c =
     let more = entries-more level c.args.table.now scheme c.args.child.now.origins c.loop-p.p below in
     record {
       points = c.in_ok-count.ensures.points;
+      round = omega (arith, c.in_ok-count.ensures.round);
       marks = c.in_ok-count.ensures.marks;
       counted = omega (arith, more, c.loop-p.invariant.counted, c.in_ok-count.ensures.count);
-      some = omega (arith, c.loop-p.invariant.some, c.in_ok-count.ensures.some);
       few = c.if-count-gt-ENTRY_BOUND.false;
     }

@@ -1,14 +1,16 @@
-use Rattle.std.proofs.Common.{◌≡◌, ◌+◌, length, drop, nat_eq}
-use Rattle.std.specs.List.{count_by}
-use Rattle.stencil_apply.specs.Arrays.{shares_of}
-use Rattle.stencil_factory.specs.Marks.{marked_rows, AreInside}
+use Rattle.std.proofs.Common.{◌≡◌, ◌+◌, ◌<◌, length, nat_eq}
+use Rattle.std.specs.List.{All, count_by}
+use Rattle.stencil_factory.specs.Marks.{marked_rows}
 use Rattle.stencil_factory.proofs.count.mark_rows.Given as goal
 
 -- what is marked, and what is marked from here on, is all; each fresh mark is counted
-abbrev pub invariant-loop-weight : goal.invariant-loop-weight
-invariant-loop-weight l = record {
-  all : marked_rows l.table l.mark (drop l.weight-index (shares_of l.weights)) l.marks.items ≡ marked_rows l.table l.mark (shares_of l.weights) l.fn.marks.items;
-  inside : AreInside l.table (drop l.weight-index (shares_of l.weights));
+abbrev pub invariant-loop-rest : goal.invariant-loop-rest
+invariant-loop-rest l = record {
+  all : marked_rows l.table l.mark l.rest l.marks.items ≡ marked_rows l.table l.mark l.points l.fn.marks.items;
+  inside : All (λ point. point < length l.table.rows) l.rest;
   each : length l.marks.items ≡ l.table.controls;
   fresh : l.fresh + count_by (nat_eq l.mark) l.fn.marks.items ≡ count_by (nat_eq l.mark) l.marks.items;
 }
+
+abbrev pub decreases-loop-rest : goal.decreases-loop-rest
+decreases-loop-rest l = length l.rest

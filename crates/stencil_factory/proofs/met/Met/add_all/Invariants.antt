@@ -1,0 +1,14 @@
+use Rattle.std.proofs.Common.{◌≡◌, ◌<◌, length}
+use Rattle.std.specs.List.{All}
+use Rattle.stencil_factory.specs.Met.{with_places}
+use Rattle.stencil_factory.proofs.met.Met.add_all.Given as goal
+
+-- what is met, and what is met from here on, is all
+abbrev pub invariant-loop-rest : goal.invariant-loop-rest
+invariant-loop-rest l = record {
+  all : with_places l.rest l.self ≡ with_places l.places l.fn.self;
+  inside : All (λ place. place < l.self.count) l.rest;
+}
+
+abbrev pub decreases-loop-rest : goal.decreases-loop-rest
+decreases-loop-rest l = length l.rest

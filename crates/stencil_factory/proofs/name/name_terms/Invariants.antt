@@ -1,0 +1,15 @@
+use Rattle.std.proofs.Common.{◌≡◌, length}
+use Rattle.std.specs.List.{AllByRecursion}
+use Rattle.mask_rules.specs.View.{terms_of}
+use Rattle.stencil_factory.specs.Named.{with_terms, CanNameTerm}
+use Rattle.stencil_factory.proofs.name.name_terms.Given as goal
+
+-- what is met, and what the terms from here on name, is all
+abbrev pub invariant-loop-rest : goal.invariant-loop-rest
+invariant-loop-rest l = record {
+  can : AllByRecursion (CanNameTerm l.parent.level l.met.count) (terms_of l.rest);
+  all : with_terms l.parent.level (terms_of l.rest) l.met ≡ with_terms l.parent.level (terms_of l.terms) l.fn.met;
+}
+
+abbrev pub decreases-loop-rest : goal.decreases-loop-rest
+decreases-loop-rest l = length l.rest

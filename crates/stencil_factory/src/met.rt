@@ -1,0 +1,94 @@
+//! Places that are met, each of which is listed once.
+
+ghost use Rattle.std.specs.Prelude.{◌≡◌, ◌+◌, ◌^◌, ◌<◌, [], length, IfOk, OnOk, OnErr};
+ghost use Rattle.std.specs.List.{All};
+ghost use Rattle.stencil_factory.specs.Met.{noted_with, with_place, with_places};
+
+use ratio128::Memory;
+use std::alloc::Global;
+use std::marker::Model;
+
+/// The places that were met since the last start, and for each place the number of the last start since which it was met.
+#[derive(Drop)]
+pub(crate) struct Met {
+    marks: Vec<u32>,
+    mark: u32,
+    places: Vec<u32>,
+}
+
+impl Model for Met {
+    ghost use Rattle.std.specs.Prelude.{length};
+    ghost use Rattle.stencil_factory.specs.Met.{Places, AreMet};
+
+    ghost Value = { Places };
+
+    ghost view = { λ m. record { count = length m.marks.items; mark = m.mark; met = m.places.items } };
+
+    ghost invariant = { λ m. AreMet m.mark m.places.items m.marks.items };
+}
+
+// Notes a place, unless its mark is the last one.
+fn note(places: &mut Vec<u32>, place: u32, own: u32, mark: u32) -> Result<(), Memory>
+    ensures noted { OnOk result (places.new.items ≡ noted_with place own mark places.old.items) }
+    ensures same { OnErr result (places.new.items ≡ places.old.items) }
+{
+    if own != mark {
+        places.push(place)?;
+    }
+    Ok(())
+}
+
+impl Met {
+    /// So many places, of which none is met.
+    pub(crate) fn new(alloc: Global, count: u32) -> Result<Met, Memory>
+        ensures { IfOk result (λ met. met ≡ record { count = count; mark = 1; met = [] }) }
+    {
+        Ok(Met {
+            marks: vec![in alloc; 0; count as usize]?,
+            mark: 1,
+            places: Vec::with_capacity(alloc, count as usize)?,
+        })
+    }
+
+    /// From here on no place is met.
+    pub(crate) fn start(&mut self)
+        requires { self.old.mark + 1 < 2 ^ 32 }
+        ensures { self.new ≡ record { count = self.old.count; mark = self.old.mark + 1; met = [] } }
+    {
+        self.mark += 1;
+        self.places.clear();
+    }
+
+    /// The place is met.
+    pub(crate) fn add(&mut self, place: u32) -> Result<(), Memory>
+        requires { place < self.old.count }
+        ensures { OnOk result (self.new ≡ with_place place self.old) }
+    {
+        let at = place as usize;
+        let own = self.marks[at];
+        note(&mut self.places, place, own, self.mark)?;
+        self.marks[at] = self.mark;
+        Ok(())
+    }
+
+    /// These places are met.
+    pub(crate) fn add_all(&mut self, places: &[u32]) -> Result<(), Memory>
+        requires { All (λ place. place < self.old.count) places.now }
+        ensures { OnOk result (self.new ≡ with_places places.now self.old) }
+    {
+        let mut rest = places;
+        while let [place, others @ ..] = rest {
+            self.add(*place)?;
+            rest = others;
+        }
+        Ok(())
+    }
+
+    /// The places that are met, each once.
+    pub(crate) fn places(&self) -> &[u32]
+        ensures places { result.now ≡ self.now.met }
+        ensures inside { All (λ place. place < self.now.count) result.now }
+    {
+        &self.places
+    }
+}
