@@ -16,3 +16,4 @@ pub mod ComposedLemmas
 pub mod MarkLemmas
 pub mod MetLemmas
 pub mod NameLemmas
+pub mod DivideLemmas

@@ -8,10 +8,11 @@ ghost use Rattle.primvar_refine.specs.Found.{ArePointDenominators};
 ghost use Rattle.stencil_factory.specs.Scratch.{added_shares};
 ghost use Rattle.stencil_factory.specs.Flat.{corner_shares, source_shares, flat_shares, CanAddAll, CanWeigh, CanWeighTerm};
 
+use crate::divide::divide;
 use crate::scratch::Scratch;
 use level_topology::Level;
 use mask_rules::{At, Term};
-use ratio128::{Memory, quotient};
+use ratio128::Memory;
 
 // A weight over a multiple of a denominator. Where both are one number nothing is divided.
 fn weight_over(weight: u128, multiple: u128, den: u128) -> u128
@@ -22,7 +23,7 @@ fn weight_over(weight: u128, multiple: u128, den: u128) -> u128
     if den == multiple {
         return weight;
     }
-    weight * quotient(multiple, den)
+    weight * divide(multiple, den)
 }
 
 /// Adds a factor at each corner, over a multiple of the corners' denominators.
@@ -72,7 +73,7 @@ fn add_term(
                 scratch,
                 corners,
                 factor,
-                quotient(den, corners.len() as u128),
+                divide(den, corners.len() as u128),
                 dens,
             )
         }
