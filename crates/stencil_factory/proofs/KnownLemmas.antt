@@ -104,7 +104,6 @@ module _ (level : Level) (dens faces : List ℕ) (points : ArePointDenominators 
   -- the weights of one are those of the other
   same-weights : (shares : List Share) → AreWeights level dens mask shares → AreWeights level dens defined shares
   same-weights shares h = record {
-    ascending = h.ascending;
     inside = h.inside;
     each = h.each;
     total = h.total ∙ same-den;
@@ -148,7 +147,7 @@ module _ (level : Level) (dens faces : List ℕ) (points : ArePointDenominators 
         let weighed = mask-weighed level dens faces points mask is.mean known short-here in
         subst (IsWeighed level dens defined)
         (ap (λ l. added_shares 1 l (replicate level.point_count 0)) flat-here ∙ ap (added_shares 1 (flat_shares level dens faces m terms)) (sym clear) ∙ sym added)
-        (record { count = weighed.count; weights = same-weights _ weighed.weights })
+        (record { count = weighed.count; weights = λ shares of. same-weights shares (weighed.weights shares of) })
 
 -- The same for the mask of a part of a level.
 module _ (t : Topology) (is : IsTopology t) (scheme : Scheme) (origin : PointOrigin)

@@ -130,28 +130,6 @@ shares-total place (zero ∷ sums) = omega (arith, shares-total (place + 1) sums
 shares-total place (suc n ∷ sums) =
     omega (arith, shares-total (place + 1) sums, sum-first (suc n) sums, sum_by-cons (λ (s : Share). s.1) (place, suc n) (shares_from (place + 1) sums))
 
-none-below : (place v : ℕ) (sums : List ℕ) → v < place → is_among (support_of (shares_from place sums)) v ≡ false
-none-below place v [] h = refl
-none-below place v (zero ∷ sums) h = none-below (place + 1) v sums (omega arith)
-none-below place v (suc n ∷ sums) h = let later = none-below (place + 1) v sums (omega arith) in grind (arith, nat_tests)
-
-shares-among-from : (place w : ℕ) (sums : List ℕ) → is_among (support_of (shares_from place sums)) (place + w) ≡ nat_lt 0 (get_or sums w 0)
-shares-among-from place w [] = refl
-shares-among-from place zero (zero ∷ sums) = none-below (place + 1) (place + 0) sums (omega arith)
-shares-among-from place (suc w) (zero ∷ sums) =
-    let next : place + suc w ≡ place + 1 + w = omega arith in
-    ap (is_among (support_of (shares_from (place + 1) sums))) next ∙ shares-among-from (place + 1) w sums
-shares-among-from place zero (suc n ∷ sums) = grind (arith, nat_tests)
-shares-among-from place (suc w) (suc n ∷ sums) =
-    let next : place + suc w ≡ place + 1 + w = omega arith in
-    let later : is_among (support_of (shares_from (place + 1) sums)) (place + suc w) ≡ nat_lt 0 (get_or sums w 0) = ap (is_among (support_of (shares_from (place + 1) sums))) next ∙ shares-among-from (place + 1) w sums in
-    let other : nat_eq (place + suc w) place ≡ false = grind (arith, nat_tests) in
-    ap (λ b. b || is_among (support_of (shares_from (place + 1) sums)) (place + suc w)) other ∙ later
-
--- a place has a share where its sum is not 0
-pub shares-among : (sums : List ℕ) (v : ℕ) → is_among (support_of (shares_from 0 sums)) v ≡ nat_lt 0 (get_or sums v 0)
-shares-among sums v = let same : v ≡ 0 + v = omega arith in ap (is_among (support_of (shares_from 0 sums))) same ∙ shares-among-from 0 v sums
-
 -- the shares times numbers are the sums times numbers
 pub share_sum-shares_from : (place : ℕ) (numbers : List ℤ) (sums : List ℕ) → share_sum numbers (shares_from place sums) ≡ dense_sum_from place numbers sums
 share_sum-shares_from place numbers [] = refl

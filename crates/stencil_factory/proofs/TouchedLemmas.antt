@@ -1,11 +1,13 @@
 -- The places whose sum is not 0: one more, sorted, and taken.
-use Rattle.std.proofs.Common.{◌≡◌, ℕ, zero, suc, ◌+◌, ◌-◌, ◌<◌, ◌≤◌, Bool, true, false, not, ◌||◌, if◌then◌else◌, nat_eq, nat_lt, List, [], ◌∷◌, ◌++◌, length, map, get_or, set, replicate, arith, refl, ap, sym, ◌∙◌, subst, inl, inr, ◌⊎◌}
-use Rattle.std.specs.List.{All}
+use Rattle.std.proofs.Common.{◌≡◌, ℕ, zero, suc, ◌+◌, ◌-◌, ◌<◌, ◌≤◌, Bool, true, false, not, ◌||◌, if◌then◌else◌, nat_eq, nat_lt, ℤ, pos, ◌+ℤ◌, ◌*ℤ◌, List, [], ◌∷◌, ◌++◌, length, map, get_or, set, replicate, arith, refl, ap, sym, ◌∙◌, subst, inl, inr, ◌⊎◌}
+use Rattle.std.specs.List.{All, AllByRecursion}
 use Rattle.std.specs.List.Sorted.{IsPermutation, IsNonDecreasing}
 use Rattle.std.proofs.lemmas.Bool.{and_parts, and_from, or_parts, cases_eq, eqb-true, ltb-true, ltb-false}
 use Rattle.std.proofs.lemmas.Bool.Decides.{nat_tests}
+use Rattle.std.proofs.lemmas.Int.{ints}
+use Rattle.std.proofs.Math.IntN.{+ℤ_idl, +ℤ_idr}
 use Rattle.std.proofs.lemmas.List.{get_or-set_other, get_or_past, length-set, get_or_default}
-use Rattle.std.proofs.lemmas.List.Elements.{All-from_get_or}
+use Rattle.std.proofs.lemmas.List.Elements.{All-from_get_or, recursion_from_All}
 use Rattle.std.proofs.lemmas.List.Folds.{list_any-append}
 use Rattle.std.proofs.lemmas.List.Sorted.{list_any-IsPermutation}
 use Rattle.subdiv_model.specs.Polygons.{is_among, is_distinct}
@@ -13,9 +15,10 @@ use Rattle.mesh_laws.proofs.SideLemmas.{among-place}
 use Rattle.level_topology.proofs.PlaceLemmas.{distinct-permutation}
 use Rattle.stencil_apply.specs.Table.{Share}
 use Rattle.stencil_apply.proofs.ArrayLemmas.{cons_both}
-use Rattle.stencil_factory.specs.Scratch.{added_at, shares_from}
+use Rattle.stencil_factory.specs.Rows.{support_of, share_sum}
+use Rattle.stencil_factory.specs.Scratch.{added_at, shares_from, dense_sum, AreSharesOf}
 use Rattle.stencil_factory.specs.Touched.{AreTouched, touched_with, moved, cleared}
-use Rattle.stencil_factory.proofs.ScratchLemmas.{some-added_at}
+use Rattle.stencil_factory.proofs.ScratchLemmas.{some-added_at, dense_sum-added_at, dense_sum-zeros}
 
 no_more : (b : Bool) → (b || false) ≡ b
 no_more true = refl
@@ -152,6 +155,63 @@ moved-same (place ∷ places) sums distinct =
     was : (b : Bool) → not b ≡ true → b ≡ false
     was true h = sym h
     was false h = refl
+
+-- an amount that is taken and added back
+added-back : (place : ℕ) (sums : List ℕ) → place < length sums → added_at place (get_or sums place 0) (set sums place 0) ≡ sums
+added-back place [] h = absurd (omega (arith, h))
+added-back zero (sum ∷ sums) h = let all : 0 + sum ≡ sum = omega arith in ap (λ n. n ∷ sums) all
+added-back (suc place) (sum ∷ sums) h = ap (λ rest. sum ∷ rest) (added-back place sums (omega (arith, h)))
+
+-- what is taken and what is left, times numbers, are the sums times numbers
+moved-value : (numbers : List ℤ) (places sums : List ℕ) → AllByRecursion (λ place. place < length sums) places
+    → share_sum numbers (moved places sums) +ℤ dense_sum numbers (cleared places sums) ≡ dense_sum numbers sums
+moved-value numbers [] sums inside = +ℤ_idl (dense_sum numbers sums)
+moved-value numbers (place ∷ places) sums inside =
+    let left = set sums place 0 in
+    let here : place < length left = omega (arith, inside.0, length-set sums place 0) in
+    let x = pos (get_or sums place 0) *ℤ get_or numbers place (pos 0) in
+    let rest = moved-value numbers places left (subst (λ n. AllByRecursion (λ p. p < n) places) (sym (length-set sums place 0)) inside.1) in
+    turned x (share_sum numbers (moved places left)) (dense_sum numbers (cleared places left))
+    ∙ ap (λ z. z +ℤ x) rest
+    ∙ sym (dense_sum-added_at numbers place (get_or sums place 0) left here)
+    ∙ ap (dense_sum numbers) (added-back place sums inside.0)
+  where
+    turned : (a b c : ℤ) → (a +ℤ b) +ℤ c ≡ (b +ℤ c) +ℤ a
+    turned a b c = omega (arith, ints)
+
+moved-support : (places sums : List ℕ) → support_of (moved places sums) ≡ places
+moved-support [] sums = refl
+moved-support (place ∷ places) sums = ap (λ rest. place ∷ rest) (moved-support places (set sums place 0))
+
+-- what holds of each place and its number
+each-share : (P : Share → Type 0) (at : ℕ → ℕ) (places : List ℕ) → AllByRecursion (λ v. P (v, at v)) places → AllByRecursion P (shares_at at places)
+each-share P at [] h = tt
+each-share P at (v ∷ places) h = (h.0, each-share P at places h.1)
+
+-- the sums that are taken of the places that are not 0, in any order
+pub moved-any : (entries before : List Share) (places sums old : List ℕ) → entries ≡ before ++ moved places sums → before ≡ [] → AreTouched places sums → sums ≡ old → AreSharesOf old entries
+moved-any entries before places sums old is none touched view =
+    subst (λ s. AreSharesOf s entries) view (subst (AreSharesOf sums) (sym (is ∙ ap (λ b. b ++ moved places sums) none)) taken)
+  where
+    inside : AllByRecursion (λ place. place < length sums) places
+    inside = recursion_from_All (λ place. place < length sums) places (touched-inside places sums touched)
+
+    above : All (λ v. 0 < get_or sums v 0) places
+    above = All-from_get_or (λ v. 0 < get_or sums v 0) places 0
+        (λ i h. ltb-true 0 (get_or sums (get_or places i 0) 0) (sym (touched.named (get_or places i 0)) ∙ among-place (get_or places i 0) places i h refl))
+
+    taken : AreSharesOf sums (moved places sums)
+    taken = record {
+      inside = subst (AllByRecursion (λ share. share.0 < length sums)) (sym (moved-same places sums touched.once)) (each-share (λ share. share.0 < length sums) (λ v. get_or sums v 0) places inside);
+      each =
+          subst (AllByRecursion (λ share. 0 < share.1)) (sym (moved-same places sums touched.once))
+          (each-share (λ share. 0 < share.1) (λ v. get_or sums v 0) places (recursion_from_All (λ v. 0 < get_or sums v 0) places above));
+      named = λ v. ap (λ l. is_among l v) (moved-support places sums) ∙ touched.named v;
+      value = λ numbers.
+          sym (+ℤ_idr (share_sum numbers (moved places sums)))
+          ∙ ap (λ z. share_sum numbers (moved places sums) +ℤ z) (sym (ap (dense_sum numbers) (cleared-zeros places sums touched) ∙ dense_sum-zeros numbers (length sums)))
+          ∙ moved-value numbers places sums inside;
+    }
 
 -- each is above those before it, and the first is `from` or more
 abbrev AscendFrom : ℕ → List ℕ → Type 0

@@ -22,20 +22,16 @@ use Rattle.primvar_refine.specs.Found.{ArePointDenominators}
 use Rattle.primvar_refine.proofs.MadeLemmas.{mean-positive, mean-total}
 use Rattle.stencil_apply.specs.Table.{Share, total_of}
 use Rattle.stencil_factory.specs.Rows.{support_of, share_sum, values_over, AreSameValues}
-use Rattle.stencil_factory.specs.Scratch.{added_shares, shares_from}
-use Rattle.stencil_factory.specs.Weights.{names_point}
+use Rattle.stencil_factory.specs.Scratch.{added_shares, AreSharesOf}
+use Rattle.stencil_factory.specs.Weights.{names_point, AreWeights}
 use Rattle.stencil_factory.specs.Flat.{term_shares, flat_shares, CanAddAll, CanWeighTerm, IsWeighed}
-use Rattle.stencil_factory.proofs.ScratchLemmas.{length-added_shares, place-le-sum, some-added_shares, replicate-sum, shares-ascending, shares-each, shares-inside, shares-among, share_sum-shares_from, dense_sum-added_shares, dense_sum-zeros}
+use Rattle.stencil_factory.proofs.ScratchLemmas.{length-added_shares, place-le-sum, some-added_shares, replicate-sum, dense_sum-added_shares, dense_sum-zeros}
 use Rattle.stencil_factory.proofs.FlatLemmas.{weigh_by, source_number, IsPart, source-inside, source-each, source-weight, source-value, source-over, source-named, source-can}
 
 -- what holds of two lists holds of both together
 all-join : {X : Type 0} (P : X → Type 0) (xs ys : List X) → AllByRecursion P xs → AllByRecursion P ys → AllByRecursion P (xs ++ ys)
 all-join P [] ys h k = k
 all-join P (x ∷ xs) ys h k = (h.0, all-join P xs ys h.1 k)
-
-weaker : {X : Type 0} (P Q : X → Type 0) → ((x : X) → P x → Q x) → (xs : List X) → AllByRecursion P xs → AllByRecursion Q xs
-weaker P Q f [] h = tt
-weaker P Q f (x ∷ xs) h = (f x h.0, weaker P Q f xs h.1)
 
 -- shares times numbers, of two lists together
 share_sum-append : (numbers : List ℤ) (xs ys : List Share) → share_sum numbers (xs ++ ys) ≡ share_sum numbers xs +ℤ share_sum numbers ys
@@ -155,26 +151,25 @@ module _ (n : ℕ) (shares : List Share) (inside : AllByRecursion (λ share. sha
   placed : AllByRecursion (λ share. share.0 < length zeros) shares
   placed = subst (λ k. AllByRecursion (λ share. share.0 < k) shares) (sym (length-replicate n 0)) inside
 
-  -- the sums times numbers are the shares times numbers
-  sums-value : (numbers : List ℤ) → share_sum numbers (shares_from 0 sums) ≡ share_sum numbers shares
-  sums-value numbers =
-      share_sum-shares_from 0 numbers sums
+  -- what is taken of the sums, times numbers, are the shares times numbers
+  sums-value : (made : List Share) → AreSharesOf sums made → (numbers : List ℤ) → share_sum numbers made ≡ share_sum numbers shares
+  sums-value made of numbers =
+      of.value numbers
       ∙ dense_sum-added_shares numbers 1 shares zeros placed
       ∙ ap (λ z. z +ℤ pos 1 *ℤ share_sum numbers shares) (dense_sum-zeros numbers n)
       ∙ +ℤ_idl (pos 1 *ℤ share_sum numbers shares)
       ∙ *ℤ_comm (pos 1) (share_sum numbers shares)
       ∙ times-one (share_sum numbers shares)
 
-  -- they stand where the shares stand
-  sums-among : (v : ℕ) → is_among (support_of (shares_from 0 sums)) v ≡ is_among (support_of shares) v
-  sums-among v =
-      shares-among sums v ∙ some-added_shares 1 v shares zeros (omega arith) placed each
+  -- it stands where the shares stand
+  sums-among : (made : List Share) → AreSharesOf sums made → (v : ℕ) → is_among (support_of made) v ≡ is_among (support_of shares) v
+  sums-among made of v =
+      of.named v ∙ some-added_shares 1 v shares zeros (omega arith) placed each
       ∙ ap (λ b. b || is_among (support_of shares) v) (zero-place n v)
 
   -- inside
-  sums-inside : AllByRecursion (λ share. share.0 < n) (shares_from 0 sums)
-  sums-inside =
-      weaker (λ share. (0 ≤ share.0) × (share.0 < 0 + length sums)) (λ share. share.0 < n) (λ share h. omega (arith, h.1, count)) (shares_from 0 sums) (shares-inside 0 sums)
+  sums-inside : (made : List Share) → AreSharesOf sums made → AllByRecursion (λ share. share.0 < n) made
+  sums-inside made of = subst (λ k. AllByRecursion (λ share. share.0 < k) made) count of.inside
 
 -- the values over denominators, in the terms of numbers over them
 values-over : (dens : List ℕ) (numbers : List ℤ) (values : List Value) → length numbers ≡ length dens → AreSameValues values (values_over dens numbers)
@@ -269,35 +264,36 @@ module _ (level : Level) (dens faces : List ℕ) (points : ArePointDenominators 
     fits = omega (arith, replicate-sum level.point_count, total-below dens points.positive all all-inside, all-weight, short);
   }
 
-  abbrev made : List Share
-  made = shares_from 0 (added_shares 1 all (replicate level.point_count 0))
+  -- what is taken of the sums
+  module _ (made : List Share) (of : AreSharesOf (added_shares 1 all (replicate level.point_count 0)) made) where
+    made-placed : AllByRecursion (λ share. share.0 < level.point_count) made
+    made-placed = sums-inside level.point_count all all-placed all-each made of
 
-  made-placed : AllByRecursion (λ share. share.0 < level.point_count) made
-  made-placed = sums-inside level.point_count all all-placed all-each
+    made-weight : pos (weigh_by dens made) ≡ pos (weigh_by dens all)
+    made-weight =
+        sym (pos-weight dens made (subst (λ n. AllByRecursion (λ share. share.0 < n) made) (sym points.count) made-placed))
+        ∙ sums-value level.point_count all all-placed all-each made of (map pos dens)
+        ∙ pos-weight dens all all-inside
 
-  made-weight : pos (weigh_by dens made) ≡ pos (weigh_by dens all)
-  made-weight =
-      sym (pos-weight dens made (subst (λ n. AllByRecursion (λ share. share.0 < n) made) (sym points.count) made-placed))
-      ∙ sums-value level.point_count all all-placed all-each (map pos dens)
-      ∙ pos-weight dens all all-inside
+    same-nat : (a b : ℕ) → pos a ≡ pos b → a ≡ b
+    same-nat a b e = cc
 
-  same-nat : (a b : ℕ) → pos a ≡ pos b → a ≡ b
-  same-nat a b e = cc
+    made-weights : AreWeights level dens mask made
+    made-weights = record {
+      inside = All-from_recursion (λ share. share.0 < level.point_count) made made-placed;
+      each = All-from_recursion (λ share. 0 < share.1) made of.each;
+      total = same-nat (weigh_by dens made) (weigh_by dens all) made-weight ∙ all-weight;
+      named = λ v. sums-among level.point_count all all-placed all-each made of v ∙ flat-named level dens faces common above v mask.terms;
+      value = λ numbers values long same.
+          subst (IsOver (mask.denominator * common) _)
+          (sym (sums-value level.point_count all all-placed all-each made of numbers ∙ flat-value level dens faces common above numbers mask.terms))
+          (terms-over mask.denominator common (source_value level values) (source_number level dens faces numbers common) mask.terms
+          (flat-over level dens faces common above numbers values (values-over dens numbers values long same) mask.terms parts));
+    }
 
-  -- and what comes is the weights of the mask
+  -- are the weights of the mask
   pub mask-weighed : IsWeighed level dens mask (added_shares 1 all (replicate level.point_count 0))
   mask-weighed = record {
     count = count level.point_count all all-placed all-each;
-    weights = record {
-      ascending = shares-ascending 0 (added_shares 1 all (replicate level.point_count 0));
-      inside = All-from_recursion (λ share. share.0 < level.point_count) made made-placed;
-      each = All-from_recursion (λ share. 0 < share.1) made (shares-each 0 (added_shares 1 all (replicate level.point_count 0)));
-      total = same-nat (weigh_by dens made) (weigh_by dens all) made-weight ∙ all-weight;
-      named = λ v. sums-among level.point_count all all-placed all-each v ∙ flat-named level dens faces common above v mask.terms;
-      value = λ numbers values long same.
-          subst (IsOver (mask.denominator * common) _)
-          (sym (sums-value level.point_count all all-placed all-each numbers ∙ flat-value level dens faces common above numbers mask.terms))
-          (terms-over mask.denominator common (source_value level values) (source_number level dens faces numbers common) mask.terms
-          (flat-over level dens faces common above numbers values (values-over dens numbers values long same) mask.terms parts));
-    };
+    weights = made-weights;
   }

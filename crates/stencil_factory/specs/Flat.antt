@@ -6,7 +6,7 @@ use Rattle.subdiv_model.specs.Level.{Level}
 use Rattle.subdiv_model.specs.Mask.{SourcePoint, OfPoint, OfFace, Term, Mask}
 use Rattle.subdiv_model.specs.Channel.{number_bound}
 use Rattle.stencil_apply.specs.Table.{Share, total_of}
-use Rattle.stencil_factory.specs.Scratch.{sum_of, shares_from}
+use Rattle.stencil_factory.specs.Scratch.{sum_of, AreSharesOf}
 use Rattle.stencil_factory.specs.Weights.{AreWeights}
 
 -- a factor at each corner, over a multiple of the corners' denominators
@@ -40,7 +40,7 @@ CanWeigh level dens faces m weight (OfFace f) =
 abbrev pub CanWeighTerm : Level → List ℕ → List ℕ → ℕ → Term → Type 0
 CanWeighTerm level dens faces m t = CanWeigh level dens faces m t.weight t.source
 
--- there is a sum for each point of the level, and those that are not 0 are the weights of the mask
+-- there is a sum for each point of the level, and those that are not 0 are the weights of the mask, in any order
 pub record IsWeighed (level : Level) (dens : List ℕ) (mask : Mask) (sums : List ℕ) : Type 0 where
   pub count : length sums ≡ level.point_count
-  pub weights : AreWeights level dens mask (shares_from 0 sums)
+  pub weights : (shares : List Share) → AreSharesOf sums shares → AreWeights level dens mask shares

@@ -1,7 +1,9 @@
 -- Sums by place, of which all but a few are 0.
-use Rattle.std.specs.Prelude.{ℕ, zero, suc, ◌+◌, ◌*◌, ℤ, pos, ◌+ℤ◌, ◌*ℤ◌, List, [], ◌∷◌, get_or}
-use Rattle.std.specs.List.{sum_by}
+use Rattle.std.specs.Prelude.{ℕ, zero, suc, ◌≡◌, ◌+◌, ◌*◌, ◌<◌, nat_lt, ℤ, pos, ◌+ℤ◌, ◌*ℤ◌, List, [], ◌∷◌, length, get_or}
+use Rattle.std.specs.List.{AllByRecursion, sum_by}
+use Rattle.subdiv_model.specs.Polygons.{is_among}
 use Rattle.stencil_apply.specs.Table.{Share}
+use Rattle.stencil_factory.specs.Rows.{support_of, share_sum}
 
 -- an amount added at a place
 abbrev pub added_at : ℕ → ℕ → List ℕ → List ℕ
@@ -31,3 +33,10 @@ dense_sum_from place numbers (sum ∷ sums) = pos sum *ℤ get_or numbers place 
 
 abbrev pub dense_sum : List ℤ → List ℕ → ℤ
 dense_sum numbers sums = dense_sum_from 0 numbers sums
+
+-- these are the sums that are not 0, each with its place, in any order
+pub record AreSharesOf (sums : List ℕ) (shares : List Share) : Type 0 where
+  pub inside : AllByRecursion (λ share. share.0 < length sums) shares
+  pub each : AllByRecursion (λ share. 0 < share.1) shares
+  pub named : (v : ℕ) → is_among (support_of shares) v ≡ nat_lt 0 (get_or sums v 0)
+  pub value : (numbers : List ℤ) → share_sum numbers shares ≡ dense_sum numbers sums

@@ -1,7 +1,6 @@
 -- A child point as weights of the level's points alone: the new points of faces are taken apart into their corners.
 use Rattle.std.specs.Prelude.{ℕ, ◌≡◌, ◌*◌, ◌<◌, ℤ, nat_eq, Bool, List, length}
 use Rattle.std.specs.List.{All, list_any, sum_by}
-use Rattle.std.specs.List.Sorted.{IsStrictlyIncreasing}
 use Rattle.std.specs.Prelude.{get_or}
 use Rattle.subdiv_model.specs.Polygons.{is_among, polygon_at}
 use Rattle.subdiv_model.specs.Level.{Level}
@@ -21,11 +20,10 @@ names_point level v (OfFace f) = is_among (polygon_at level.polygons f) v
 abbrev pub is_named : Level → Mask → ℕ → Bool
 is_named level mask v = list_any (λ t. names_point level v t.source) mask.terms
 
--- Each point that the mask names stands once, ascending, with a weight above 0. The weights times the numerators of the points
+-- The points are those that the mask names, each with a weight above 0, in any order. The weights times the numerators of the points
 -- sum to that of the mask's value over its common denominator, whatever values the points have; so the weights times the
 -- denominators sum to that denominator.
 pub record AreWeights (level : Level) (dens : List ℕ) (mask : Mask) (shares : List Share) : Type 0 where
-  pub ascending : IsStrictlyIncreasing (support_of shares)
   pub inside : All (λ share. share.0 < level.point_count) shares
   pub each : All (λ share. 0 < share.1) shares
   pub total : sum_by (λ share. share.1 * get_or dens share.0 1) shares ≡ mask_denominator (source_denominator level dens) mask

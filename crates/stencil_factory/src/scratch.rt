@@ -6,7 +6,7 @@ ghost use Rattle.std.specs.Vec.{vec_capacity};
 ghost use Rattle.subdiv_model.specs.Channel.{number_bound};
 ghost use Rattle.stencil_apply.specs.Table.{total_of};
 ghost use Rattle.stencil_apply.specs.Arrays.{shares_of};
-ghost use Rattle.stencil_factory.specs.Scratch.{added_at, added_shares, sum_of, shares_from};
+ghost use Rattle.stencil_factory.specs.Scratch.{added_at, added_shares, sum_of, shares_from, AreSharesOf};
 ghost use Rattle.stencil_factory.specs.Touched.{touched_with, moved, cleared};
 
 use ratio128::Memory;
@@ -105,7 +105,19 @@ impl Scratch {
         Ok(())
     }
 
-    /// Puts what is not 0 in the place of the entries, ascending by place, and leaves zeros.
+    /// Puts what is not 0 in the place of the entries, in any order, and leaves zeros.
+    pub(crate) fn take_unsorted(&mut self, entries: &mut Vec<Entry>) -> Result<(), Memory>
+        ensures zeros { OnOk result (self.new ≡ replicate (length self.old) 0) }
+        ensures entries { OnOk result (AreSharesOf self.old (shares_of entries.new.items)) }
+    {
+        entries.clear();
+        entries.reserve(self.touched.len())?;
+        move_sums(&mut self.sums, &self.touched, entries);
+        self.touched.clear();
+        Ok(())
+    }
+
+    /// The same, ascending by place.
     pub(crate) fn take(&mut self, entries: &mut Vec<Entry>) -> Result<(), Memory>
         ensures zeros { OnOk result (self.new ≡ replicate (length self.old) 0) }
         ensures entries { OnOk result (shares_of entries.new.items ≡ shares_from 0 self.old) }

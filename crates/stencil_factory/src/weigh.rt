@@ -137,5 +137,5 @@ pub(crate) fn weigh_point(
         Origin::Face(f) => weigh_face(parent, f, den, dens, scratch)?,
         Origin::Edge(e) => weigh_edge(parent, e, scheme, den, dens, &survey.faces, scratch)?,
     }
-    scratch.take(weights)
+    scratch.take_unsorted(weights)
 }
