@@ -1,4 +1,4 @@
-ghost use Rattle.std.specs.Prelude.{◌≡◌, ℕ, ◌+◌, ◌^◌, ◌<◌, ◌≤◌, List, length, take, Option, IfOk, OnOk, OnErr, Err};
+ghost use Rattle.std.specs.Prelude.{◌≡◌, ℕ, ◌+◌, ◌^◌, ◌<◌, ◌≤◌, List, length, take, Option, IfOk, OnOk, OnErr, Err, true, false};
 ghost use Rattle.far_io.specs.declared.source.InputFault.TheVariants.{Read, Long};
 ghost use Rattle.far_io.specs.Bytes.{Rose, Took, TookPrefix, TookMore, TookAtMost, IsDry};
 
@@ -82,6 +82,14 @@ impl From<AllocError> for InputFault {
     }
 }
 
+// Whether so many bytes are more than are allowed.
+fn is_long(count: usize, bound: usize) -> bool
+    ensures long { result ≡ true → bound < count }
+    ensures short { result ≡ false → count ≤ bound }
+{
+    count > bound
+}
+
 /// Reads all bytes up to the end of input, where there are at most `bound` of them.
 ///
 /// `bound` is below 2^32. `Long` is answered exactly where more than `bound` bytes came, `Read` only
@@ -114,7 +122,7 @@ pub fn read_all<S: Source>(
             return Ok(bytes);
         }
         bytes.extend_from_slice(&piece[..n])?;
-        if bytes.len() > bound {
+        if is_long(bytes.len(), bound) {
             return Err(InputFault::Long);
         }
     }
