@@ -21,7 +21,7 @@ use Rattle.primvar_refine.specs.View.{row_of, rows_of}
 use Rattle.channel_refine.specs.Refined.{AreControls, IsRefinedTo, IsChannelFault, column_of}
 use Rattle.channel_refine.specs.declared.refine.RefinedChannel.{RefinedChannel}
 use Rattle.channel_refine.specs.declared.fault.ChannelFault.{ChannelFault}
-use Rattle.channel_tables.specs.Evaluated.{control_rows}
+use Rattle.channel_refine.specs.Evaluated.{control_rows}
 use Rattle.far_engine.specs.Refine.{control_of}
 
 -- two values that are the same are so over a common denominator

@@ -26,7 +26,7 @@ use Rattle.level_counts.specs.Series.{faces_to}
 use Rattle.channel_refine.specs.Refined.{IsBase, IsRefinedTo, IsTooLarge, IsChannelFault, channel_of}
 use Rattle.channel_refine.specs.declared.refine.RefinedChannel.{RefinedChannel}
 use Rattle.channel_refine.specs.declared.fault.ChannelFault.{ChannelFault}
-use Rattle.channel_tables.specs.Evaluated.{control_rows}
+use Rattle.channel_refine.specs.Evaluated.{control_rows}
 use Rattle.far_engine.specs.Outcome.{level_faces_to, channel_steps, position_steps}
 use Rattle.far_engine.specs.Refine.{AreRefined, control_of}
 use Rattle.far_engine.proofs.RefusalLemmas.{manifold-of}

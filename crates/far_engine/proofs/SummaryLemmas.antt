@@ -28,8 +28,8 @@ use Rattle.primvar_refine.specs.View.{row_of, rows_of}
 use Rattle.stencil_apply.specs.Table.{Row as TableRow, Table, entries_of, greatest_of}
 use Rattle.stencil_factory.specs.Rows.{support_of}
 use Rattle.channel_refine.specs.Refined.{AreControls, IsRefinedTo}
-use Rattle.channel_tables.specs.Evaluated.{CanEvaluate, control_rows, evaluated}
-use Rattle.channel_tables.proofs.EvaluatedLemmas.{can-evaluate, entries-are, evaluated-to}
+use Rattle.channel_refine.specs.Evaluated.{CanEvaluate, control_rows, evaluated}
+use Rattle.channel_refine.proofs.EvaluatedLemmas.{can-evaluate, entries-are, evaluated-to}
 use Rattle.mesh_text.specs.Points.{CanBeWritten}
 use Rattle.table_text.specs.Summary.{CanBeTold, summary_text}
 use Rattle.table_text.specs.declared.summary.Summary.{Summary}

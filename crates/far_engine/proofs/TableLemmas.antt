@@ -16,8 +16,8 @@ use Rattle.level_topology.specs.CountedText.{counted_of}
 use Rattle.mesh_check.specs.Counts.{count_named}
 use Rattle.mesh_check.specs.Checked.{IsAccepted}
 use Rattle.stencil_apply.specs.Table.{Table, IsTable}
-use Rattle.channel_tables.specs.Composed.{IsComposedTo}
-use Rattle.channel_tables.proofs.NumeratorLemmas.{stencil-numerators}
+use Rattle.channel_refine.specs.Composed.{IsComposedTo}
+use Rattle.channel_refine.proofs.NumeratorLemmas.{stencil-numerators}
 use Rattle.table_text.specs.Text.{text_of_table}
 use Rattle.table_text.proofs.SameTableLemmas.{table_text-same}
 use Rattle.far_engine.specs.Written.{IsWritten, written_text}

@@ -19,7 +19,7 @@ ghost use Rattle.far_engine.specs.View.{CanPut, fault_of, reply_text};
 use crate::fault::FarFault;
 use crate::reply::Reply;
 use crate::stencils::compose;
-use channel_tables::{ComposedChannel, evaluate};
+use channel_refine::{ComposedChannel, evaluate};
 use obj_tags::RawMesh;
 use primvar_refine::Valued;
 use ratio128::{Point3, Steps};

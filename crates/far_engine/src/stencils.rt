@@ -18,7 +18,7 @@ use crate::levels::{level_0, level_fault};
 use crate::overflow::Track;
 use crate::positions::greatest_of;
 use crate::track::fault_of_channel;
-use channel_tables::{ComposedChannel, compose_channel};
+use channel_refine::{ComposedChannel, compose_channel};
 use level_topology::Level;
 use mask_rules::Scheme;
 use obj_tags::RawMesh;

@@ -9,7 +9,7 @@ ghost use Rattle.mask_rules.specs.View.{scheme_of};
 ghost use Rattle.level_counts.specs.Series.{faces_to};
 ghost use Rattle.primvar_refine.specs.View.{rows_of};
 ghost use Rattle.channel_refine.specs.Refined.{IsBase, AreControls, IsRefinedTo, IsTooLarge, IsChannelFault, channel_of};
-ghost use Rattle.channel_tables.specs.Evaluated.{control_rows};
+ghost use Rattle.channel_refine.specs.Evaluated.{control_rows};
 ghost use Rattle.far_words.specs.View.{by_of_code};
 ghost use Rattle.far_engine.specs.Outcome.{channel_steps, IsFound};
 ghost use Rattle.far_engine.specs.Refine.{control_of};
@@ -17,8 +17,7 @@ ghost use Rattle.far_engine.specs.View.{fault_of, track_of};
 
 use crate::fault::FarFault;
 use crate::overflow::{OverflowKind, Track};
-use channel_refine::{ChannelFault, RefinedChannel, refine_channel};
-use channel_tables::refine_by_table;
+use channel_refine::{ChannelFault, RefinedChannel, refine_by_table, refine_channel};
 use far_words::By;
 use level_topology::{Counted, Level};
 use mask_rules::Scheme;

@@ -1,0 +1,16 @@
+use Rattle.std.proofs.Common.{map, arith, ap, sym, ◌∙◌}
+use Rattle.stencil_apply.specs.Table.{entries_of}
+use Rattle.primvar_refine.specs.View.{rows_of}
+use Rattle.channel_refine.proofs.EvaluatedLemmas.{evaluated_rows}
+use Rattle.channel_refine.proofs.PlaceLemmas.{none-over}
+use Rattle.channel_refine.proofs.evaluated.evaluate.Goals as goal
+
+pub returns-in_default-clause-values : goal.returns-in_default-clause-values
+returns-in_default-clause-values g c =
+    let none = none-over g.P.Primvar.numbers c.first.result c.args.controls.now c.args.table.now c.facts.ensures c.requires.each c.first.ensures.value c.in_default.is in
+    ap (rows_of g.P.Primvar.numbers) c.in_ok-values.ensures.items ∙ sym (ap (evaluated_rows (map g.P.Primvar.numbers c.args.controls.now)) none)
+
+pub returns-in_default-clause-taken : goal.returns-in_default-clause-taken
+returns-in_default-clause-taken g c =
+    let none = none-over g.P.Primvar.numbers c.first.result c.args.controls.now c.args.table.now c.facts.ensures c.requires.each c.first.ensures.value c.in_default.is in
+    omega (arith, ap entries_of none)

@@ -1,3 +1,0 @@
-pub mod Composed
-pub mod Evaluated
-pub mod Step
