@@ -14,7 +14,7 @@ use Rattle.ratio128.specs.declared.point.Point3.{Point3}
 use Rattle.ratio128.specs.Numbers as primvar
 use Rattle.primvar_refine.specs.declared.valued.Valued.{Valued}
 use Rattle.primvar_refine.specs.View.{rows_of}
-use Rattle.mesh_text.specs.Points.{points_of, CanBeWritten, IsSamePoint, HasDenominators}
+use Rattle.level_text.specs.Points.{points_of, CanBeWritten, IsSamePoint, HasDenominators}
 use Rattle.channel_refine.specs.Refined.{AreControls}
 use Rattle.far_engine.specs.Refine.{control_of}
 use Rattle.far_engine.proofs.ChannelLemmas.{IsColumn, scaled, column-behind, controls-of, fold-at-most}

@@ -19,10 +19,10 @@ use Rattle.mesh_check.specs.Checked.{IsAccepted}
 use Rattle.channel_refine.proofs.FaultLemmas.{first-here}
 use Rattle.primvar_refine.specs.declared.valued.Valued.{Valued}
 use Rattle.ratio128.specs.declared.point.Point3.{Point3}
-use Rattle.mesh_text.specs.Points.{points_of}
-use Rattle.mesh_text.specs.Texture.{texture_points_of, CanTextureBeWritten}
-use Rattle.mesh_text.proofs.SameTextLemmas.{mesh_text-same, written-denominators}
-use Rattle.mesh_text.proofs.SameTextureLemmas.{textured_mesh_text-same, written-texture-denominators}
+use Rattle.level_text.specs.Points.{points_of}
+use Rattle.level_text.specs.Texture.{texture_points_of, CanTextureBeWritten}
+use Rattle.level_text.proofs.SameTextLemmas.{mesh_text-same, written-denominators}
+use Rattle.level_text.proofs.SameTextureLemmas.{textured_mesh_text-same, written-texture-denominators}
 use Rattle.far_words.specs.View.{tags_of_code}
 use Rattle.far_engine.specs.Written.{IsWritten, written_text}
 use Rattle.far_engine.specs.Outcome.{refusal_of_mesh, IsFound}

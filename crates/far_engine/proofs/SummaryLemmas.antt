@@ -30,10 +30,10 @@ use Rattle.stencil_factory.specs.Rows.{support_of}
 use Rattle.channel_refine.specs.Refined.{AreControls, IsRefinedTo}
 use Rattle.channel_refine.specs.Evaluated.{CanEvaluate, control_rows, evaluated}
 use Rattle.channel_refine.proofs.EvaluatedLemmas.{can-evaluate, entries-are, evaluated-to}
-use Rattle.mesh_text.specs.Points.{CanBeWritten}
-use Rattle.table_text.specs.Summary.{CanBeTold, summary_text}
-use Rattle.table_text.specs.declared.summary.Summary.{Summary}
-use Rattle.table_text.proofs.SameSummaryLemmas.{summary_text-same}
+use Rattle.level_text.specs.Points.{CanBeWritten}
+use Rattle.level_text.specs.Summary.{CanBeTold, summary_text}
+use Rattle.level_text.specs.declared.summary.Summary.{Summary}
+use Rattle.level_text.proofs.SameSummaryLemmas.{summary_text-same}
 use Rattle.far_engine.specs.Written.{written_text}
 use Rattle.far_engine.specs.Outcome.{refusal_of_made, refusal_of_mesh, position_steps, IsFound}
 use Rattle.far_engine.specs.Refine.{AreRefined}

@@ -18,8 +18,8 @@ use Rattle.mesh_check.specs.Checked.{IsAccepted}
 use Rattle.stencil_apply.specs.Table.{Table, IsTable}
 use Rattle.channel_refine.specs.Composed.{IsComposedTo}
 use Rattle.channel_refine.proofs.NumeratorLemmas.{stencil-numerators}
-use Rattle.table_text.specs.Text.{text_of_table}
-use Rattle.table_text.proofs.SameTableLemmas.{table_text-same}
+use Rattle.level_text.specs.TableText.{text_of_table}
+use Rattle.level_text.proofs.SameTableLemmas.{table_text-same}
 use Rattle.far_engine.specs.Written.{IsWritten, written_text}
 use Rattle.far_engine.specs.Outcome.{refusal_of_mesh, IsFound}
 use Rattle.far_engine.specs.Tables.{IsComposedOf, IsFoundComposing}

@@ -15,8 +15,8 @@ use Rattle.subdiv_model.specs.Channel.{Asked, channel_faults}
 use Rattle.subdiv_model.specs.Answer.{points_after, texture_after, positions_of, texture_of, seams_of, asked_of, with_holes, written_tags}
 use Rattle.level_topology.specs.Topology.{Topology}
 use Rattle.face_varying.specs.Cut.{CutChannel, IsCut}
-use Rattle.mesh_text.specs.Points.{points_of, CanBeWritten, IsSamePoint, HasDenominators}
-use Rattle.mesh_text.specs.Texture.{texture_points_of, CanTextureBeWritten, IsSameTexturePoint, HasTextureDenominators}
+use Rattle.level_text.specs.Points.{points_of, CanBeWritten, IsSamePoint, HasDenominators}
+use Rattle.level_text.specs.Texture.{texture_points_of, CanTextureBeWritten, IsSameTexturePoint, HasTextureDenominators}
 use Rattle.primvar_refine.specs.declared.valued.Valued.{Valued}
 use Rattle.ratio128.specs.declared.point.Point3.{Point3}
 use Rattle.ratio128.specs.declared.point.Point2.{Point2}

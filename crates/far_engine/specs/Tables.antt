@@ -7,8 +7,8 @@ use Rattle.subdiv_model.specs.Answer.{positions_of, generated_text}
 use Rattle.level_topology.specs.Topology.{Topology}
 use Rattle.stencil_apply.specs.Table.{Table, IsTable}
 use Rattle.channel_refine.specs.Composed.{IsComposedTo}
-use Rattle.table_text.specs.Summary.{CanBeTold, summary_text}
-use Rattle.table_text.specs.declared.summary.Summary.{Summary}
+use Rattle.level_text.specs.Summary.{CanBeTold, summary_text}
+use Rattle.level_text.specs.declared.summary.Summary.{Summary}
 use Rattle.far_engine.specs.Outcome.{refusal_of_mesh, IsFound}
 
 -- the mesh is not refused, by either command that composes its table, and this is the table

@@ -9,8 +9,8 @@ use Rattle.level_counts.specs.View.{seen_counts}
 use Rattle.far_engine.specs.Refine.{CanBePut, refined_text}
 use Rattle.far_engine.specs.declared.reply.Reply.{Reply}
 use Rattle.far_engine.specs.declared.reply.Reply.TheVariants.{Refined, Composed, Counted, Made}
-use Rattle.table_text.specs.Text.{text_of_table}
-use Rattle.table_text.specs.Summary.{CanBeTold, summary_text}
+use Rattle.level_text.specs.TableText.{text_of_table}
+use Rattle.level_text.specs.Summary.{CanBeTold, summary_text}
 use Rattle.far_engine.specs.declared.overflow.Track.{Track}
 use Rattle.far_engine.specs.declared.overflow.Track.TheVariants.{Positions, Texture}
 use Rattle.far_engine.specs.declared.overflow.OverflowKind.{OverflowKind}

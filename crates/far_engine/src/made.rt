@@ -20,6 +20,7 @@ use crate::fault::FarFault;
 use crate::reply::Reply;
 use crate::stencils::compose;
 use channel_refine::{ComposedChannel, evaluate};
+use level_text::Summary;
 use obj_tags::RawMesh;
 use primvar_refine::Valued;
 use ratio128::{Point3, Steps};
@@ -27,7 +28,6 @@ use sheet_laws::sheets_are_manifolds;
 use sheet_maker::make_sheet;
 use std::alloc::Global;
 use std::sync::ledger::Ledger;
-use table_text::Summary;
 
 // The last of some values.
 fn last_of(values: &Vec<Valued<Point3>>) -> Valued<Point3>

@@ -14,9 +14,8 @@ use far_io::{Sink, WriteFailed};
 use far_words::Tags;
 use itoa::Buffer;
 use level_counts::put_levels;
-use mesh_text::{put_mesh, put_tags, put_textured_mesh};
+use level_text::{put_mesh, put_summary, put_table, put_tags, put_textured_mesh};
 use obj_out::Out;
-use table_text::{put_summary, put_table};
 
 // Whether faces that are holes are written: where the tags are.
 fn has_holes(tags: Tags) -> bool

@@ -16,12 +16,12 @@ use crate::refine::{Refined, refine};
 use crate::stencils::stencils;
 use far_words::Command;
 use level_counts::LevelCounts;
+use level_text::Summary;
 use obj_tags::{ObjFault, RawMesh, ReadFault, read_obj};
 use ratio128::Steps;
 use std::alloc::Global;
 use std::sync::ledger::Ledger;
 use stencil_apply::StencilTable;
-use table_text::Summary;
 
 /// What a command writes, with every refusal found and all memory taken.
 #[derive(Drop)]

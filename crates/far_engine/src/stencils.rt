@@ -7,7 +7,7 @@ ghost use Rattle.reading_laws.specs.Short.{IsShortPoint};
 ghost use Rattle.subdiv_model.specs.Command.{Stencils};
 ghost use Rattle.subdiv_model.specs.Answer.{level_count_faults, positions_of};
 ghost use Rattle.mesh_check.specs.Checked.{IsAccepted};
-ghost use Rattle.table_text.specs.Text.{text_of_table};
+ghost use Rattle.level_text.specs.TableText.{text_of_table};
 ghost use Rattle.far_engine.specs.Written.{IsWritten};
 ghost use Rattle.far_engine.specs.Outcome.{refusal_of_mesh, level_faces_to, step_limit, IsFound};
 ghost use Rattle.far_engine.specs.Tables.{IsComposedOf, IsFoundComposing};

@@ -1,7 +1,7 @@
 use Rattle.std.proofs.Common.{rules, refl, sym, subst}
 use Rattle.std.specs.List.{All}
 use Rattle.subdiv_model.specs.Answer.{asked_of, positions_of}
-use Rattle.mesh_text.specs.Points.{CanBeWritten}
+use Rattle.level_text.specs.Points.{CanBeWritten}
 use Rattle.far_words.specs.View.{by_of_code, uv_of_code, tags_of_code}
 use Rattle.far_engine.proofs.RefusalLemmas.{manifold-of}
 use Rattle.far_engine.proofs.PositionLemmas.{refined-not-large}

@@ -1,6 +1,6 @@
 use Rattle.std.proofs.Common.{rules, ap, sym, subst}
 use Rattle.far_words.specs.View.{command_of_code}
-use Rattle.table_text.specs.Text.{text_of_table}
+use Rattle.level_text.specs.TableText.{text_of_table}
 use Rattle.far_engine.specs.Written.{IsWritten}
 use Rattle.far_engine.specs.Outcome.{refusal_of_mesh, IsFound}
 use Rattle.far_engine.specs.Refine.{refined_text}

@@ -1,0 +1,55 @@
+//! The lines of sharp vertices.
+
+ghost use Rattle.std.specs.Prelude.{◌≡◌, ◌<◌, false};
+ghost use Rattle.std.specs.List.{flat_map, range_with_len};
+ghost use Rattle.sharpness_rules.specs.View.{sharpness_of};
+ghost use Rattle.obj_out.specs.Puts.{Puts};
+ghost use Rattle.level_text.specs.Lines.{corner_tag, corner_where_sharp};
+
+use crate::sharpness::{is_sharp, put_sharpness_word};
+use crate::words::{put_byte, put_number_word, put_text};
+use far_io::{Sink, WriteFailed};
+use level_topology::Level;
+use obj_out::Out;
+use sharpness_rules::Sharpness;
+
+// Puts the line of a vertex.
+fn put_corner<K: Sink>(
+    out: &mut Out<'_, K>,
+    v: u32,
+    sharpness: Sharpness,
+) -> Result<(), WriteFailed>
+    ensures same_reference { out.new.sink.ghost_name ≡ out.old.sink.ghost_name }
+    ensures puts { Puts K.held K.faults K.fixed out.old.sink.now out.new.sink.now out.old.waiting out.new.waiting out.old.failed out.new.failed (corner_tag v (sharpness_of sharpness)) result }
+{
+    put_text(out, b"t corner 1/1/0")?;
+    put_number_word(out, v as u64)?;
+    put_sharpness_word(out, sharpness)?;
+    put_byte(out, b'\n')
+}
+
+// Puts the line of a vertex that is sharp, and nothing for another.
+fn put_vertex<K: Sink>(out: &mut Out<'_, K>, level: &Level, v: u32) -> Result<(), WriteFailed>
+    requires fine { out.old.failed ≡ false }
+    requires exists { v < level.now.level.point_count }
+    ensures same_reference { out.new.sink.ghost_name ≡ out.old.sink.ghost_name }
+    ensures puts { Puts K.held K.faults K.fixed out.old.sink.now out.new.sink.now out.old.waiting out.new.waiting out.old.failed out.new.failed (corner_where_sharp level.now.level v) result }
+{
+    let sharpness = level.vertex_sharpness(v);
+    if is_sharp(sharpness) {
+        return put_corner(out, v, sharpness);
+    }
+    Ok(())
+}
+
+// Puts a line for each vertex that is sharp.
+pub(crate) fn put_corners<K: Sink>(out: &mut Out<'_, K>, level: &Level) -> Result<(), WriteFailed>
+    requires fine { out.old.failed ≡ false }
+    ensures same_reference { out.new.sink.ghost_name ≡ out.old.sink.ghost_name }
+    ensures puts { Puts K.held K.faults K.fixed out.old.sink.now out.new.sink.now out.old.waiting out.new.waiting out.old.failed out.new.failed (flat_map (corner_where_sharp level.now.level) (range_with_len 0 level.now.level.point_count)) result }
+{
+    for v in 0..level.points() {
+        put_vertex(out, level, v)?;
+    }
+    Ok(())
+}

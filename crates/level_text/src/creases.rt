@@ -1,0 +1,77 @@
+//! The lines of creases.
+
+ghost use Rattle.std.specs.Prelude.{◌≡◌, ◌<◌, nat_eq, false, length};
+ghost use Rattle.std.specs.List.{flat_map};
+ghost use Rattle.subdiv_model.specs.Edges.{edges_of, faces_of_edge};
+ghost use Rattle.subdiv_model.specs.Sharpness.{is_sharp};
+ghost use Rattle.subdiv_model.specs.Level.{edge_sharpness_of};
+ghost use Rattle.sharpness_rules.specs.View.{sharpness_of};
+ghost use Rattle.level_topology.specs.Topology.{edge_at};
+ghost use Rattle.obj_out.specs.Puts.{Puts};
+ghost use Rattle.level_text.specs.Lines.{crease_tag, crease_where_sharp};
+
+use crate::sharpness::{is_sharp, put_sharpness_word};
+use crate::words::{put_byte, put_number_word, put_text};
+use far_io::{Sink, WriteFailed};
+use level_topology::Level;
+use obj_out::Out;
+use sharpness_rules::Sharpness;
+
+// Whether an edge has two faces.
+fn is_inner(level: &Level, e: u32) -> bool
+    requires { e < length (edges_of level.now.level.polygons) }
+    ensures { result ≡ nat_eq (length (faces_of_edge level.now.level.polygons (edge_at level.now.level.polygons e))) 2 }
+{
+    level.edge_faces(e).second.is_some()
+}
+
+// The sharpness of an edge.
+fn sharpness_at(level: &Level, e: u32) -> Sharpness
+    requires { e < length (edges_of level.now.level.polygons) }
+    ensures { sharpness_of result ≡ edge_sharpness_of level.now.level (edge_at level.now.level.polygons e) }
+{
+    level.edge_sharpness(e)
+}
+
+// Puts the line of a crease with these ends.
+fn put_crease<K: Sink>(
+    out: &mut Out<'_, K>,
+    ends: (u32, u32),
+    sharpness: Sharpness,
+) -> Result<(), WriteFailed>
+    ensures same_reference { out.new.sink.ghost_name ≡ out.old.sink.ghost_name }
+    ensures puts { Puts K.held K.faults K.fixed out.old.sink.now out.new.sink.now out.old.waiting out.new.waiting out.old.failed out.new.failed (crease_tag ends (sharpness_of sharpness)) result }
+{
+    let (first, second) = ends;
+    put_text(out, b"t crease 2/1/0")?;
+    put_number_word(out, first as u64)?;
+    put_number_word(out, second as u64)?;
+    put_sharpness_word(out, sharpness)?;
+    put_byte(out, b'\n')
+}
+
+// Puts the line of an edge that has two faces and is sharp, and nothing for another.
+fn put_edge<K: Sink>(out: &mut Out<'_, K>, level: &Level, e: u32) -> Result<(), WriteFailed>
+    requires fine { out.old.failed ≡ false }
+    requires exists { e < length (edges_of level.now.level.polygons) }
+    ensures same_reference { out.new.sink.ghost_name ≡ out.old.sink.ghost_name }
+    ensures puts { Puts K.held K.faults K.fixed out.old.sink.now out.new.sink.now out.old.waiting out.new.waiting out.old.failed out.new.failed (crease_where_sharp level.now.level (edge_at level.now.level.polygons e)) result }
+{
+    let sharpness = sharpness_at(level, e);
+    if is_inner(level, e) && is_sharp(sharpness) {
+        return put_crease(out, level.edge_vertices(e), sharpness);
+    }
+    Ok(())
+}
+
+// Puts a line for each edge that has two faces and is sharp.
+pub(crate) fn put_creases<K: Sink>(out: &mut Out<'_, K>, level: &Level) -> Result<(), WriteFailed>
+    requires fine { out.old.failed ≡ false }
+    ensures same_reference { out.new.sink.ghost_name ≡ out.old.sink.ghost_name }
+    ensures puts { Puts K.held K.faults K.fixed out.old.sink.now out.new.sink.now out.old.waiting out.new.waiting out.old.failed out.new.failed (flat_map (crease_where_sharp level.now.level) (edges_of level.now.level.polygons)) result }
+{
+    for e in 0..level.edges() {
+        put_edge(out, level, e)?;
+    }
+    Ok(())
+}

@@ -1,3 +1,0 @@
-pub mod Points
-pub mod Texture
-pub mod Lines

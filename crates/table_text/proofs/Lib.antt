@@ -1,3 +1,0 @@
-mod LineLemmas
-pub mod SameTableLemmas
-pub mod SameSummaryLemmas
