@@ -2,7 +2,7 @@
 use Rattle.std.proofs.Common.{◌≡◌, ℕ, ◌+◌, ◌<◌, ◌≤◌, ◌^◌, Bool, true, not, List, [], ◌∷◌, ◌++◌, length, arith, refl, ap, sym, subst, ◌∙◌, append-nil, length-append, Vec}
 use Rattle.std.specs.Global.{Global}
 use Rattle.std.specs.List.{sum_by, list_any, list_all}
-use Rattle.std.proofs.lemmas.List.{map-append, length-map}
+use Rattle.std.proofs.lemmas.List.{length-map}
 use Rattle.std.proofs.lemmas.List.Sums.{sum_by-cons}
 use Rattle.std.proofs.lemmas.Grind.{flat_map-append}
 use Rattle.subdiv_model.specs.Polygons.{Polygon, sides_of, same_side, same_edge}
@@ -10,7 +10,7 @@ use Rattle.subdiv_model.specs.Edges.{all_sides, edges_of}
 use Rattle.mesh_laws.proofs.EdgeLemmas.{any-first_named}
 use Rattle.level_laws.proofs.FaceLemmas.{sides_of-length}
 use Rattle.level_topology.specs.Builder.{Built, with_polygon, has_new_sides}
-use Rattle.level_tests.specs.Kept.{IsKept}
+use Rattle.level_tests.specs.Kept.{IsKept, corners_of}
 
 -- there are as many sides as corners
 pub sides-corners : (polygons : List Polygon) → length (all_sides polygons) ≡ sum_by length polygons
@@ -19,12 +19,12 @@ sides-corners (polygon ∷ polygons) =
     omega (arith, length-append (sides_of polygon) (all_sides polygons), sides_of-length polygon, sides-corners polygons, sum_by-cons length polygon polygons)
 
 -- with a face more
-pub kept-face : (built : Built) (polygons : List (Vec ℕ Global)) (sides : List (ℕ × ℕ)) (complete : List Bool) (points : ℕ) (corners : Polygon) (hole : Bool) (face : Vec ℕ Global) → IsKept built polygons sides complete points → face.items ≡ corners → IsKept (with_polygon corners hole built) (polygons ++ face ∷ []) (sides ++ sides_of corners) complete points
-kept-face built polygons sides complete points corners hole face is e = record {
-  faces = map-append (λ (p : Vec ℕ Global). p.items) polygons (face ∷ []) ∙ ap (λ (ps : List Polygon). ps ++ face.items ∷ []) is.faces ∙ ap (λ (p : Polygon). built.level.polygons ++ p ∷ []) e;
-  sides_are = ap (λ (ss : List (ℕ × ℕ)). ss ++ sides_of corners) is.sides_are ∙ ap (λ (ss : List (ℕ × ℕ)). all_sides built.level.polygons ++ ss) (sym (append-nil (sides_of corners))) ∙ sym (flat_map-append sides_of built.level.polygons (corners ∷ []));
-  marks = is.marks;
-  count = is.count;
+pub kept-face : (built new : Built) (polygons more : List (Vec ℕ Global)) (sides all : List (ℕ × ℕ)) (complete : List Bool) (points : ℕ) (corners : Polygon) (hole : Bool) → IsKept built polygons sides complete points → new ≡ with_polygon corners hole built → corners_of more ≡ corners_of polygons ++ corners ∷ [] → all ≡ sides ++ sides_of corners → IsKept new more all complete points
+kept-face built new polygons more sides all complete points corners hole is e p s = record {
+  faces = p ∙ ap (λ (ps : List Polygon). ps ++ corners ∷ []) is.faces ∙ sym (ap (λ (b : Built). b.level.polygons) e);
+  sides_are = s ∙ ap (λ (ss : List (ℕ × ℕ)). ss ++ sides_of corners) is.sides_are ∙ ap (λ (ss : List (ℕ × ℕ)). all_sides built.level.polygons ++ ss) (sym (append-nil (sides_of corners))) ∙ sym (flat_map-append sides_of built.level.polygons (corners ∷ [])) ∙ sym (ap (λ (b : Built). all_sides b.level.polygons) e);
+  marks = is.marks ∙ sym (ap (λ (b : Built). b.complete) e);
+  count = is.count ∙ sym (ap (λ (b : Built). b.level.point_count) e);
 }
 
 module _ (built : Built) (polygons : List (Vec ℕ Global)) (sides : List (ℕ × ℕ)) (complete : List Bool) (points : ℕ) (is : IsKept built polygons sides complete points) where

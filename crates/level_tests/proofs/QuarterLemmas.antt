@@ -1,4 +1,4 @@
--- The tables of the square, of its quarters and of one quarter are those of levels, and two of them are children.
+-- The tables of the square and of one quarter are those of levels, and the quarter is a child of the square.
 use Rattle.std.proofs.Common.{◌≡◌, ℕ, zero, suc, ◌+◌, ◌<◌, ◌≤◌, ◌^◌, List, [], ◌∷◌, length, get_or, map, arith, refl, ap, sym, ◌∙◌, inl, inr}
 use Rattle.std.specs.List.{All, IsDistinct}
 use Rattle.std.specs.Bool.{Decides}
@@ -7,12 +7,11 @@ use Rattle.std.proofs.lemmas.List.Sorted.{IsPermutation-refl}
 use Rattle.std.proofs.lemmas.Map.Made.{AllPairs-from_IsDistinct}
 use Rattle.subdiv_model.specs.Polygons.{Polygon}
 use Rattle.subdiv_model.specs.Edges.{edges_of}
-use Rattle.subdiv_model.specs.Manifold.{IsSuccessor}
 use Rattle.level_topology.specs.Topology.{IsListedAt, IsFan, edge_before, edge_after, corner_of, end_of}
 use Rattle.level_topology.specs.Rows.{topology_of, AreOfLevel}
 use Rattle.level_topology.specs.Child.{PointOrigin, same_origin, same_place, IsOriginWithin, IsPlaceWithin, IsChild, corner_origins, origins_along}
 use Rattle.level_topology.proofs.ChildLemmas.{same_origin-refl, same_origin-true, same_place-refl, same_place-true}
-use Rattle.level_tests.specs.Squares.{square_rows, quarters_rows, quarters_origins, quarters_places, quarter_rows, quarter_origins, quarter_places, square, quarters, quarter}
+use Rattle.level_tests.specs.Squares.{square_rows, quarter_rows, quarter_origins, quarter_places, square, quarter}
 
 -- one face at a point, the edge before it and the edge after it
 fan-of-one : (polygons : List Polygon) (v f before after : ℕ) → edge_before polygons v f ≡ before → edge_after polygons v f ≡ after → IsFan polygons v (f ∷ []) (before ∷ after ∷ [])
@@ -31,26 +30,6 @@ fan-of-one polygons v f before after e g = record {
     second : (i : ℕ) → i + 1 < 2 → i < 1 → get_or (before ∷ after ∷ []) (i + 1) 0 ≡ edge_after polygons v (get_or (f ∷ []) i 0)
     second zero h k = sym g
     second (suc i) h k = absurd (omega arith)
-
--- two faces at a point, the edge between them, and those before and after
-fan-of-two : (polygons : List Polygon) (v f g before between after : ℕ) → IsSuccessor polygons v f g → edge_before polygons v f ≡ before → edge_after polygons v f ≡ between → edge_before polygons v g ≡ between → edge_after polygons v g ≡ after → IsFan polygons v (f ∷ g ∷ []) (before ∷ between ∷ after ∷ [])
-fan-of-two polygons v f g before between after next b m n a = record {
-  path = (next, tt);
-  before = first;
-  after = second;
-  closes = λ same some. absurd (omega (arith, same));
-  count = inr refl;
-}
-  where
-    first : (i : ℕ) → i < 2 → get_or (before ∷ between ∷ after ∷ []) i 0 ≡ edge_before polygons v (get_or (f ∷ g ∷ []) i 0)
-    first zero h = sym b
-    first (suc zero) h = sym n
-    first (suc (suc i)) h = absurd (omega arith)
-
-    second : (i : ℕ) → i + 1 < 3 → i < 2 → get_or (before ∷ between ∷ after ∷ []) (i + 1) 0 ≡ edge_after polygons v (get_or (f ∷ g ∷ []) i 0)
-    second zero h k = sym m
-    second (suc zero) h k = sym a
-    second (suc (suc i)) h k = absurd (omega arith)
 
 -- two items in the other order
 turned : (a b : ℕ) → IsPermutation (a ∷ b ∷ []) (b ∷ a ∷ [])
@@ -96,102 +75,6 @@ square-listed (suc (suc (suc zero))) h = record {
   ascending_edges = λ not. absurd (cc);
 }
 square-listed (suc (suc (suc (suc v)))) h = absurd (omega arith)
-
-quarters-quads : (k : ℕ) → k < 4 → length (get_or quarters_rows.face_vertices k []) ≡ 4
-quarters-quads zero h = refl
-quarters-quads (suc zero) h = refl
-quarters-quads (suc (suc zero)) h = refl
-quarters-quads (suc (suc (suc zero))) h = refl
-quarters-quads (suc (suc (suc (suc k)))) h = absurd (omega arith)
-
--- the middle of the quarters
-middle-fan : IsFan quarters_rows.face_vertices 4 (0 ∷ 3 ∷ 2 ∷ 1 ∷ []) (1 ∷ 2 ∷ 8 ∷ 5 ∷ [])
-middle-fan = record {
-  path = (record { corner = 8; follows = refl; leads_back = refl }, (record { corner = 7; follows = refl; leads_back = refl }, (record { corner = 6; follows = refl; leads_back = refl }, tt)));
-  before = first;
-  after = second;
-  closes = λ same some. refl;
-  count = inl refl;
-}
-  where
-    first : (i : ℕ) → i < 4 → get_or (1 ∷ 2 ∷ 8 ∷ 5 ∷ []) i 0 ≡ edge_before quarters_rows.face_vertices 4 (get_or (0 ∷ 3 ∷ 2 ∷ 1 ∷ []) i 0)
-    first zero h = refl
-    first (suc zero) h = refl
-    first (suc (suc zero)) h = refl
-    first (suc (suc (suc zero))) h = refl
-    first (suc (suc (suc (suc i)))) h = absurd (omega arith)
-
-    second : (i : ℕ) → i + 1 < 4 → i < 4 → get_or (1 ∷ 2 ∷ 8 ∷ 5 ∷ []) (i + 1) 0 ≡ edge_after quarters_rows.face_vertices 4 (get_or (0 ∷ 3 ∷ 2 ∷ 1 ∷ []) i 0)
-    second zero h k = refl
-    second (suc zero) h k = refl
-    second (suc (suc zero)) h k = refl
-    second (suc (suc (suc i))) h k = absurd (omega arith)
-
-quarters-listed : (v : ℕ) → v < 9 → IsListedAt (topology_of quarters_rows) v
-quarters-listed zero h = record {
-  faces = IsPermutation-refl _;
-  edges = turned 0 3;
-  fan = λ complete. fan-of-one quarters_rows.face_vertices 0 0 3 0 refl refl;
-  ascending_faces = λ not. absurd (cc);
-  ascending_edges = λ not. absurd (cc);
-}
-quarters-listed (suc zero) h = record {
-  faces = IsPermutation-refl _;
-  edges = turned 4 6;
-  fan = λ complete. fan-of-one quarters_rows.face_vertices 1 1 6 4 refl refl;
-  ascending_faces = λ not. absurd (cc);
-  ascending_edges = λ not. absurd (cc);
-}
-quarters-listed (suc (suc zero)) h = record {
-  faces = IsPermutation-refl _;
-  edges = turned 7 9;
-  fan = λ complete. fan-of-one quarters_rows.face_vertices 2 2 9 7 refl refl;
-  ascending_faces = λ not. absurd (cc);
-  ascending_edges = λ not. absurd (cc);
-}
-quarters-listed (suc (suc (suc zero))) h = record {
-  faces = IsPermutation-refl _;
-  edges = turned 10 11;
-  fan = λ complete. fan-of-one quarters_rows.face_vertices 3 3 11 10 refl refl;
-  ascending_faces = λ not. absurd (cc);
-  ascending_edges = λ not. absurd (cc);
-}
-quarters-listed (suc (suc (suc (suc zero)))) h = record {
-  faces = record { moves = (1, 3) ∷ []; below = (omega arith, omega arith, tt); is = refl };
-  edges = record { moves = (2, 3) ∷ []; below = (omega arith, omega arith, tt); is = refl };
-  fan = λ complete. middle-fan;
-  ascending_faces = λ not. absurd (cc);
-  ascending_edges = λ not. absurd (cc);
-}
-quarters-listed (suc (suc (suc (suc (suc zero))))) h = record {
-  faces = IsPermutation-refl _;
-  edges = IsPermutation-refl _;
-  fan = λ complete. fan-of-two quarters_rows.face_vertices 5 0 1 0 1 6 (record { corner = 4; follows = refl; leads_back = refl }) refl refl refl refl;
-  ascending_faces = λ not. absurd (cc);
-  ascending_edges = λ not. absurd (cc);
-}
-quarters-listed (suc (suc (suc (suc (suc (suc zero)))))) h = record {
-  faces = IsPermutation-refl _;
-  edges = IsPermutation-refl _;
-  fan = λ complete. fan-of-two quarters_rows.face_vertices 6 1 2 4 5 9 (record { corner = 4; follows = refl; leads_back = refl }) refl refl refl refl;
-  ascending_faces = λ not. absurd (cc);
-  ascending_edges = λ not. absurd (cc);
-}
-quarters-listed (suc (suc (suc (suc (suc (suc (suc zero))))))) h = record {
-  faces = IsPermutation-refl _;
-  edges = IsPermutation-refl _;
-  fan = λ complete. fan-of-two quarters_rows.face_vertices 7 2 3 7 8 11 (record { corner = 4; follows = refl; leads_back = refl }) refl refl refl refl;
-  ascending_faces = λ not. absurd (cc);
-  ascending_edges = λ not. absurd (cc);
-}
-quarters-listed (suc (suc (suc (suc (suc (suc (suc (suc zero)))))))) h = record {
-  faces = turned 0 3;
-  edges = record { moves = (1, 2) ∷ (0, 2) ∷ []; below = (omega arith, omega arith, (omega arith, omega arith, tt)); is = refl };
-  fan = λ complete. fan-of-two quarters_rows.face_vertices 8 3 0 10 2 3 (record { corner = 4; follows = refl; leads_back = refl }) refl refl refl refl;
-  ascending_faces = λ not. absurd (cc);
-  ascending_edges = λ not. absurd (cc);
-}
-quarters-listed (suc (suc (suc (suc (suc (suc (suc (suc (suc v))))))))) h = absurd (omega arith)
 
 quarter-quads : (k : ℕ) → k < 1 → length (get_or quarter_rows.face_vertices k []) ≡ 4
 quarter-quads zero h = refl
@@ -263,51 +146,6 @@ square-of-level = record {
     ends (suc (suc (suc zero))) h = refl
     ends (suc (suc (suc (suc v)))) h = absurd (omega arith)
 
-pub quarters-of-level : AreOfLevel quarters_rows
-quarters-of-level = record {
-  topology = record {
-    formed = refl;
-    simple = refl;
-    sides_once = refl;
-    small = record { points = omega arith; faces = omega arith; corners = omega arith; sizes = quads-short quarters_rows.face_vertices quarters-quads };
-    face_lists = refl;
-    edge_lists = refl;
-    marks = refl;
-    listed = quarters-listed;
-  };
-  face_edges = refl;
-  edge_vertices = refl;
-  edge_faces = refl;
-  faces_listed = refl;
-  edges_listed = refl;
-  corners = corners;
-  ends = ends;
-}
-  where
-    corners : (v : ℕ) → v < 9 → get_or quarters_rows.vertex_faces_at v [] ≡ map (corner_of quarters_rows.face_vertices v) (get_or quarters_rows.vertex_faces v [])
-    corners zero h = refl
-    corners (suc zero) h = refl
-    corners (suc (suc zero)) h = refl
-    corners (suc (suc (suc zero))) h = refl
-    corners (suc (suc (suc (suc zero)))) h = refl
-    corners (suc (suc (suc (suc (suc zero))))) h = refl
-    corners (suc (suc (suc (suc (suc (suc zero)))))) h = refl
-    corners (suc (suc (suc (suc (suc (suc (suc zero))))))) h = refl
-    corners (suc (suc (suc (suc (suc (suc (suc (suc zero)))))))) h = refl
-    corners (suc (suc (suc (suc (suc (suc (suc (suc (suc v))))))))) h = absurd (omega arith)
-
-    ends : (v : ℕ) → v < 9 → get_or quarters_rows.vertex_edges_at v [] ≡ map (end_of quarters_rows.face_vertices v) (get_or quarters_rows.vertex_edges v [])
-    ends zero h = refl
-    ends (suc zero) h = refl
-    ends (suc (suc zero)) h = refl
-    ends (suc (suc (suc zero))) h = refl
-    ends (suc (suc (suc (suc zero)))) h = refl
-    ends (suc (suc (suc (suc (suc zero))))) h = refl
-    ends (suc (suc (suc (suc (suc (suc zero)))))) h = refl
-    ends (suc (suc (suc (suc (suc (suc (suc zero))))))) h = refl
-    ends (suc (suc (suc (suc (suc (suc (suc (suc zero)))))))) h = refl
-    ends (suc (suc (suc (suc (suc (suc (suc (suc (suc v))))))))) h = absurd (omega arith)
-
 pub quarter-of-level : AreOfLevel quarter_rows
 quarter-of-level = record {
   topology = record {
@@ -348,10 +186,6 @@ pub square-is : square ≡ topology_of square_rows
 unfolding square
 square-is = refl
 
-pub quarters-is : quarters ≡ topology_of quarters_rows
-unfolding quarters
-quarters-is = refl
-
 pub quarter-is : quarter ≡ topology_of quarter_rows
 unfolding quarter
 quarter-is = refl
@@ -369,10 +203,6 @@ pub square-edges : length (edges_of square.level.polygons) ≡ 4
 unfolding square
 square-edges = refl
 
-pub quarters-points : quarters.level.point_count ≡ 9
-unfolding quarters
-quarters-points = refl
-
 pub quarter-points : quarter.level.point_count ≡ 4
 unfolding quarter
 quarter-points = refl
@@ -383,51 +213,6 @@ origin-decides a b = ((same_origin-true a b), (λ e. ap (same_origin a) (sym e) 
 
 place-decides : (a b : ℕ × ℕ) → Decides (same_place a b) (a ≡ b)
 place-decides a b = ((same_place-true a b), (λ e. ap (same_place a) (sym e) ∙ same_place-refl a))
-
-quarters-origins-within : All (IsOriginWithin 4 1 4) quarters_origins
-quarters-origins-within zero d h = omega arith
-quarters-origins-within (suc zero) d h = omega arith
-quarters-origins-within (suc (suc zero)) d h = omega arith
-quarters-origins-within (suc (suc (suc zero))) d h = omega arith
-quarters-origins-within (suc (suc (suc (suc zero)))) d h = omega arith
-quarters-origins-within (suc (suc (suc (suc (suc zero))))) d h = omega arith
-quarters-origins-within (suc (suc (suc (suc (suc (suc zero)))))) d h = omega arith
-quarters-origins-within (suc (suc (suc (suc (suc (suc (suc zero))))))) d h = omega arith
-quarters-origins-within (suc (suc (suc (suc (suc (suc (suc (suc zero)))))))) d h = omega arith
-quarters-origins-within (suc (suc (suc (suc (suc (suc (suc (suc (suc k))))))))) d h = absurd (omega arith)
-
-quarters-places-within : All (IsPlaceWithin square_rows.face_vertices) quarters_places
-quarters-places-within zero d h = omega arith
-quarters-places-within (suc zero) d h = omega arith
-quarters-places-within (suc (suc zero)) d h = omega arith
-quarters-places-within (suc (suc (suc zero))) d h = omega arith
-quarters-places-within (suc (suc (suc (suc k)))) d h = absurd (omega arith)
-
-quarters-corners : (f : ℕ) → f < 4 → origins_along quarters_origins (get_or quarters_rows.face_vertices f []) ≡ corner_origins square_rows.face_vertices (get_or quarters_places f (0, 0))
-quarters-corners zero h = refl
-quarters-corners (suc zero) h = refl
-quarters-corners (suc (suc zero)) h = refl
-quarters-corners (suc (suc (suc zero))) h = refl
-quarters-corners (suc (suc (suc (suc f)))) h = absurd (omega arith)
-
-quarters-distinct : IsDistinct same_origin quarters_origins
-unfolding IsDistinct
-quarters-distinct = ((refl, (refl, (refl, (refl, (refl, (refl, (refl, (refl, tt)))))))), ((refl, (refl, (refl, (refl, (refl, (refl, (refl, tt))))))), ((refl, (refl, (refl, (refl, (refl, (refl, tt)))))), ((refl, (refl, (refl, (refl, (refl, tt))))), ((refl, (refl, (refl, (refl, tt)))), ((refl, (refl, (refl, tt))), ((refl, (refl, tt)), ((refl, tt), (tt, tt)))))))))
-
-quarters-apart : IsDistinct same_place quarters_places
-unfolding IsDistinct
-quarters-apart = ((refl, (refl, (refl, tt))), ((refl, (refl, tt)), ((refl, tt), (tt, tt))))
-
-pub quarters-child : IsChild square quarters quarters_origins quarters_places
-quarters-child = rw (square-is, quarters-is) record {
-  each_point = refl;
-  each_face = refl;
-  origins_within = quarters-origins-within;
-  places_within = quarters-places-within;
-  origins_once = AllPairs-from_IsDistinct origin-decides quarters_origins quarters-distinct;
-  places_once = AllPairs-from_IsDistinct place-decides quarters_places quarters-apart;
-  corners = quarters-corners;
-}
 
 quarter-origins-within : All (IsOriginWithin 4 1 4) quarter_origins
 quarter-origins-within zero d h = omega arith

@@ -1,80 +1,48 @@
-// Levels by a builder, against tables, and against the same lists put together by hand.
+// Levels by a builder, against tables.
 
-ghost use Rattle.std.specs.Prelude.{◌≡◌, ◌<◌, length};
+ghost use Rattle.std.specs.Prelude.{◌<◌, length};
 ghost use Rattle.subdiv_model.specs.Edges.{edges_of};
 
-use crate::checked::Checked;
 use crate::expect::expect_same;
 use crate::levels::square_alone;
+use crate::meshes::{Mesh, build_alone, fraction_of};
+use crate::solids::{Fraction, INFINITE, Solid, ZERO};
 use level_topology::{EdgeFaces, Level};
-use ratio128::{Memory, Steps};
-use sharpness_rules::{Method, Sharpness};
+use ratio128::Memory;
+use sharpness_rules::Method;
 use std::alloc::Global;
-use std::marker::Brand;
 use std::process::Abort;
-use std::sync::ledger::{Blank, Ledger};
 
-// A sharpness that a table can hold.
-#[derive(Clone, Copy, Debug, PartialEq, Eq)]
-pub enum Kind {
-    Inner,
-    Outer,
-    Other,
-}
+const INNER: Fraction = ZERO;
 
-const INNER: Kind = Kind::Inner;
-
-const OUTER: Kind = Kind::Outer;
-
-fn kind_of(s: Sharpness) -> Kind {
-    match s {
-        Sharpness::Smooth => Kind::Inner,
-        Sharpness::Infinite => Kind::Outer,
-        Sharpness::Semi(_) => Kind::Other,
-    }
-}
-
-fn sharpness_of(kind: Kind) -> Sharpness {
-    match kind {
-        Kind::Outer => Sharpness::Infinite,
-        _ => Sharpness::Smooth,
-    }
-}
-
-// What a builder is told.
-pub struct Mesh {
-    pub points: u32,
-    pub method: Method,
-    // The corners of each face, and whether it is a hole.
-    pub faces: &'static [(&'static [u32], bool)],
-    pub sharp_edges: &'static [(u32, u32, Kind)],
-    pub sharp_vertices: &'static [(u32, Kind)],
-    pub complete: &'static [u32],
-}
+const OUTER: Fraction = INFINITE;
 
 // What a level says: of a face its corners, its edges and whether it is a hole; of an edge its ends, its faces and its
 // sharpness; of a point its faces with its corners there, its edges with its ends there, its sharpness and its mark.
 type Face<'a> = (&'a [u32], &'a [u32], bool);
 
-type Edge = ((u32, u32), u32, Option<u32>, Kind);
+type Edge = ((u32, u32), u32, Option<u32>, Fraction);
 
-type Vertex<'a> = (&'a [u32], &'a [u16], &'a [u32], &'a [u16], Kind, bool);
+type Vertex<'a> = (&'a [u32], &'a [u16], &'a [u32], &'a [u16], Fraction, bool);
 
 // The cube.
-const CUBE: &Mesh = &Mesh {
-    points: 8,
+const CUBE: Mesh<'static> = Mesh {
+    solid: &Solid {
+        points: 8,
+        faces: &[
+            &[0, 3, 2, 1],
+            &[4, 5, 6, 7],
+            &[0, 1, 5, 4],
+            &[1, 2, 6, 5],
+            &[2, 3, 7, 6],
+            &[3, 0, 4, 7],
+        ],
+    },
     method: Method::Normal,
-    faces: &[
-        (&[0, 3, 2, 1], false),
-        (&[4, 5, 6, 7], false),
-        (&[0, 1, 5, 4], false),
-        (&[1, 2, 6, 5], false),
-        (&[2, 3, 7, 6], false),
-        (&[3, 0, 4, 7], false),
-    ],
-    sharp_edges: &[],
-    sharp_vertices: &[],
-    complete: &[0, 1, 2, 3, 4, 5, 6, 7],
+    holes: &[],
+    edges: &[],
+    vertices: &[],
+    torn: None,
 };
 
 const CUBE_FACES: &[Face<'static>] = &[
@@ -114,24 +82,22 @@ const CUBE_VERTICES: &[Vertex<'static>] = &[
 
 // Four quads over three by three points, a hole among them, and a point without faces. Two edges and two points are
 // named twice.
-const GRID: &Mesh = &Mesh {
-    points: 10,
+const GRID: Mesh<'static> = Mesh {
+    solid: &Solid {
+        points: 10,
+        faces: &[&[0, 1, 4, 3], &[1, 2, 5, 4], &[3, 4, 7, 6], &[4, 5, 8, 7]],
+    },
     method: Method::Chaikin,
-    faces: &[
-        (&[0, 1, 4, 3], false),
-        (&[1, 2, 5, 4], false),
-        (&[3, 4, 7, 6], true),
-        (&[4, 5, 8, 7], false),
-    ],
-    sharp_edges: &[
+    holes: &[2],
+    edges: &[
         (1, 0, INNER),
         (4, 5, OUTER),
         (0, 1, OUTER),
         (5, 4, INNER),
         (8, 7, OUTER),
     ],
-    sharp_vertices: &[(4, OUTER), (8, INNER), (8, OUTER), (4, INNER)],
-    complete: &[0, 1, 2, 3, 4, 5, 6, 7, 8, 9],
+    vertices: &[(4, OUTER), (8, INNER), (8, OUTER), (4, INNER)],
+    torn: None,
 };
 
 const GRID_FACES: &[Face<'static>] = &[
@@ -177,13 +143,16 @@ const GRID_VERTICES: &[Vertex<'static>] = &[
 ];
 
 // Two triangles back to back.
-const PAIR: &Mesh = &Mesh {
-    points: 3,
+const PAIR: Mesh<'static> = Mesh {
+    solid: &Solid {
+        points: 3,
+        faces: &[&[0, 1, 2], &[0, 2, 1]],
+    },
     method: Method::Normal,
-    faces: &[(&[0, 1, 2], false), (&[0, 2, 1], false)],
-    sharp_edges: &[],
-    sharp_vertices: &[],
-    complete: &[0, 1, 2],
+    holes: &[],
+    edges: &[],
+    vertices: &[],
+    torn: None,
 };
 
 const PAIR_FACES: &[Face<'static>] = &[
@@ -204,17 +173,16 @@ const PAIR_VERTICES: &[Vertex<'static>] = &[
 ];
 
 // Two triangles that meet at a point, which is not complete, and a third at an edge of the second.
-const TIE: &Mesh = &Mesh {
-    points: 6,
+const TIE: Mesh<'static> = Mesh {
+    solid: &Solid {
+        points: 6,
+        faces: &[&[3, 0, 4], &[1, 2, 0], &[2, 1, 5]],
+    },
     method: Method::Normal,
-    faces: &[
-        (&[3, 0, 4], false),
-        (&[1, 2, 0], false),
-        (&[2, 1, 5], false),
-    ],
-    sharp_edges: &[],
-    sharp_vertices: &[],
-    complete: &[1, 2, 3, 4, 5],
+    holes: &[],
+    edges: &[],
+    vertices: &[],
+    torn: Some(0),
 };
 
 const TIE_FACES: &[Face<'static>] = &[
@@ -244,14 +212,33 @@ const TIE_VERTICES: &[Vertex<'static>] = &[
 ];
 
 // The square.
-const SQUARE: &Mesh = &Mesh {
-    points: 4,
+const SQUARE: Mesh<'static> = Mesh {
+    solid: &Solid {
+        points: 4,
+        faces: &[&[0, 1, 2, 3]],
+    },
     method: Method::Normal,
-    faces: &[(&[0, 1, 2, 3], false)],
-    sharp_edges: &[(0, 1, OUTER), (1, 2, OUTER), (2, 3, OUTER), (3, 0, OUTER)],
-    sharp_vertices: &[(3, OUTER)],
-    complete: &[0, 1, 2, 3],
+    holes: &[],
+    edges: &[(0, 1, OUTER), (1, 2, OUTER), (2, 3, OUTER), (3, 0, OUTER)],
+    vertices: &[(3, OUTER)],
+    torn: None,
 };
+
+const SQUARE_FACES: &[Face<'static>] = &[(&[0, 1, 2, 3], &[0, 1, 2, 3], false)];
+
+const SQUARE_EDGES: &[Edge] = &[
+    ((0, 1), 0, None, OUTER),
+    ((1, 2), 0, None, OUTER),
+    ((2, 3), 0, None, OUTER),
+    ((3, 0), 0, None, OUTER),
+];
+
+const SQUARE_VERTICES: &[Vertex<'static>] = &[
+    (&[0], &[0], &[3, 0], &[1, 0], INNER, true),
+    (&[0], &[1], &[0, 1], &[1, 0], INNER, true),
+    (&[0], &[2], &[1, 2], &[1, 0], INNER, true),
+    (&[0], &[3], &[2, 3], &[1, 0], OUTER, true),
+];
 
 fn face_of<'a>(level: &'a Level, f: u32) -> Face<'a>
     requires { f < length level.now.level.polygons }
@@ -271,7 +258,7 @@ fn edge_of(level: &Level, e: u32) -> Edge
         level.edge_vertices(e),
         first,
         second,
-        kind_of(level.edge_sharpness(e)),
+        fraction_of(level.edge_sharpness(e)),
     )
 }
 
@@ -283,7 +270,7 @@ fn vertex_of<'a>(level: &'a Level, v: u32) -> Vertex<'a>
         level.vertex_faces_at(v),
         level.vertex_edges(v),
         level.vertex_edges_at(v),
-        kind_of(level.vertex_sharpness(v)),
+        fraction_of(level.vertex_sharpness(v)),
         level.is_complete(v),
     )
 }
@@ -328,154 +315,102 @@ pub fn expect_same_levels(rt: &impl Abort, given: &Level, want: &Level) {
     }
 }
 
-fn with_faces<L: Ledger>(
-    rt: &impl Abort,
-    start: Checked,
-    mesh: &Mesh,
-    steps: &mut Steps<L>,
-) -> Result<Checked, Memory> {
-    let mut builder = start;
-    for (corners, hole) in mesh.faces {
-        builder = builder.add_face(rt, corners, *hole, steps)?;
+// What a level says.
+struct Tables {
+    method: Method,
+    faces: &'static [Face<'static>],
+    edges: &'static [Edge],
+    vertices: &'static [Vertex<'static>],
+}
+
+fn expect_tables(rt: &impl Abort, level: &Level, want: &Tables) {
+    expect_same(rt, &level.method(), &want.method, &"method");
+    expect_faces(rt, level, want.faces);
+    expect_edges(rt, level, want.edges);
+    expect_vertices(rt, level, want.vertices);
+}
+
+// Meshes, and what their levels say.
+const BUILT: &[(Mesh<'static>, &'static Tables)] = &[
+    (
+        CUBE,
+        &Tables {
+            method: Method::Normal,
+            faces: CUBE_FACES,
+            edges: CUBE_EDGES,
+            vertices: CUBE_VERTICES,
+        },
+    ),
+    (
+        GRID,
+        &Tables {
+            method: Method::Chaikin,
+            faces: GRID_FACES,
+            edges: GRID_EDGES,
+            vertices: GRID_VERTICES,
+        },
+    ),
+    (
+        PAIR,
+        &Tables {
+            method: Method::Normal,
+            faces: PAIR_FACES,
+            edges: PAIR_EDGES,
+            vertices: PAIR_VERTICES,
+        },
+    ),
+    (
+        TIE,
+        &Tables {
+            method: Method::Normal,
+            faces: TIE_FACES,
+            edges: TIE_EDGES,
+            vertices: TIE_VERTICES,
+        },
+    ),
+    (SQUARE, SQUARE_TABLES),
+];
+
+const SQUARE_TABLES: &Tables = &Tables {
+    method: Method::Normal,
+    faces: SQUARE_FACES,
+    edges: SQUARE_EDGES,
+    vertices: SQUARE_VERTICES,
+};
+
+fn built() -> &'static [(Mesh<'static>, &'static Tables)] {
+    BUILT
+}
+
+fn expect_built(rt: &impl Abort, alloc: Global, mesh: &Mesh, want: &Tables) -> Result<(), Memory> {
+    let level = build_alone(rt, alloc, mesh)?;
+    expect_tables(rt, &level, want);
+    Ok(())
+}
+
+fn expect_all_built(rt: &impl Abort, alloc: Global) -> Result<(), Memory> {
+    for (mesh, want) in built() {
+        expect_built(rt, alloc, mesh, want)?;
     }
-    Ok(builder)
-}
-
-fn build<L: Ledger>(
-    rt: &impl Abort,
-    alloc: Global,
-    mesh: &Mesh,
-    steps: &mut Steps<L>,
-) -> Result<Level, Memory> {
-    assert!(rt; mesh.points < 100);
-    let start = Checked::new(alloc, mesh.points, mesh.method, None)?;
-    let mut builder = with_faces(rt, start, mesh, steps)?;
-    for (a, b, s) in mesh.sharp_edges {
-        builder.add_sharp_edge(rt, *a, *b, sharpness_of(*s));
-    }
-    for (v, s) in mesh.sharp_vertices {
-        builder.add_sharp_vertex(rt, *v, sharpness_of(*s));
-    }
-    for v in mesh.complete {
-        builder.mark_complete(rt, *v);
-    }
-    builder.finish(rt)
-}
-
-fn build_counted<L: Ledger>(
-    rt: &impl Abort,
-    alloc: Global,
-    mesh: &Mesh,
-    blank: Blank,
-) -> Result<Level, Memory>
-    requires name { blank.name ≡ L.name }
-    requires parts { blank.parts ≡ L.parts }
-    requires some { 0 < blank.parts }
-{
-    build(rt, alloc, mesh, &mut Steps::start(blank.open::<L>()))
-}
-
-// The level of a mesh.
-fn build_alone(rt: &impl Abort, alloc: Global, mesh: &Mesh) -> Result<Level, Memory> {
-    let level = build_counted::<Brand>(rt, alloc, mesh, Blank::new(1))?;
-    expect_same(rt, &level.method(), &mesh.method, &"method");
-    Ok(level)
-}
-
-fn expect_tables(
-    rt: &impl Abort,
-    level: &Level,
-    want: (&[Face<'static>], &[Edge], &[Vertex<'static>]),
-) {
-    expect_faces(rt, level, want.0);
-    expect_edges(rt, level, want.1);
-    expect_vertices(rt, level, want.2);
-}
-
-fn cube() -> &'static Mesh {
-    CUBE
-}
-
-fn cube_tables() -> (
-    &'static [Face<'static>],
-    &'static [Edge],
-    &'static [Vertex<'static>],
-) {
-    (CUBE_FACES, CUBE_EDGES, CUBE_VERTICES)
-}
-
-#[test]
-fn builds_the_cube(rt: HostRuntime) -> Result<(), Memory> {
-    let level = build_alone(&rt, rt.alloc(), cube())?;
-    expect_tables(&rt, &level, cube_tables());
     Ok(())
 }
 
-fn grid() -> &'static Mesh {
-    GRID
-}
-
-fn grid_tables() -> (
-    &'static [Face<'static>],
-    &'static [Edge],
-    &'static [Vertex<'static>],
-) {
-    (GRID_FACES, GRID_EDGES, GRID_VERTICES)
-}
-
 #[test]
-fn builds_an_open_grid(rt: HostRuntime) -> Result<(), Memory> {
-    let level = build_alone(&rt, rt.alloc(), grid())?;
-    expect_tables(&rt, &level, grid_tables());
+fn builds_levels(rt: HostRuntime) -> Result<(), Memory> {
+    expect_all_built(&rt, rt.alloc())
+}
+
+fn square() -> &'static Tables {
+    SQUARE_TABLES
+}
+
+fn expect_square(rt: &impl Abort, alloc: Global) -> Result<(), Memory> {
+    let level = square_alone(alloc)?;
+    expect_tables(rt, &level, square());
     Ok(())
 }
 
-fn pair() -> &'static Mesh {
-    PAIR
-}
-
-fn pair_tables() -> (
-    &'static [Face<'static>],
-    &'static [Edge],
-    &'static [Vertex<'static>],
-) {
-    (PAIR_FACES, PAIR_EDGES, PAIR_VERTICES)
-}
-
 #[test]
-fn builds_two_triangles_back_to_back(rt: HostRuntime) -> Result<(), Memory> {
-    let level = build_alone(&rt, rt.alloc(), pair())?;
-    expect_tables(&rt, &level, pair_tables());
-    Ok(())
-}
-
-fn tie() -> &'static Mesh {
-    TIE
-}
-
-fn tie_tables() -> (
-    &'static [Face<'static>],
-    &'static [Edge],
-    &'static [Vertex<'static>],
-) {
-    (TIE_FACES, TIE_EDGES, TIE_VERTICES)
-}
-
-#[test]
-fn builds_a_point_that_is_not_complete(rt: HostRuntime) -> Result<(), Memory> {
-    let level = build_alone(&rt, rt.alloc(), tie())?;
-    expect_tables(&rt, &level, tie_tables());
-    Ok(())
-}
-
-fn square() -> &'static Mesh {
-    SQUARE
-}
-
-#[test]
-fn builds_the_square_that_was_put_together_by_hand(rt: HostRuntime) -> Result<(), Memory> {
-    let built = build_alone(&rt, rt.alloc(), square())?;
-    let put = square_alone(rt.alloc())?;
-    expect_same_levels(&rt, &built, &put);
-    Ok(())
+fn finishes_the_square(rt: HostRuntime) -> Result<(), Memory> {
+    expect_square(&rt, rt.alloc())
 }

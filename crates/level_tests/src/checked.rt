@@ -1,10 +1,11 @@
 // A builder of levels that is told only of what it may be told of: each call is tested first.
 
-ghost use Rattle.std.specs.Prelude.{◌≡◌, ◌≤◌, ◌<◌, ◌^◌, ℕ, true, false, length, replicate, get_or, IfOk, OnOk};
-ghost use Rattle.std.specs.List.{list_any, list_all, All};
-ghost use Rattle.subdiv_model.specs.Manifold.{has_one_fan};
+ghost use Rattle.std.specs.Prelude.{◌≡◌, ◌≤◌, ◌<◌, ◌^◌, ◌+◌, ◌++◌, ◌∷◌, [], ℕ, IsTrue, true, false, not, length, replicate, get_or, IfOk, OnOk};
+ghost use Rattle.std.specs.List.{list_any, list_all, sum_by, All};
+ghost use Rattle.subdiv_model.specs.Polygons.{sides_of, same_side};
+ghost use Rattle.subdiv_model.specs.Manifold.{is_simple, has_one_fan};
 ghost use Rattle.level_tests.specs.Kept.{corners_of};
-ghost use Rattle.level_topology.specs.Builder.{AreFans};
+ghost use Rattle.level_topology.specs.Builder.{AreFans, has_new_sides, with_polygon};
 
 use crate::fans::{add_sides, are_new, has_one_fan, is_edge_among, is_simple};
 use level_topology::{Level, LevelBuilder};
@@ -55,6 +56,55 @@ fn no_marks(alloc: Global, count: usize) -> Result<Vec<bool>, Memory>
     Ok(marks)
 }
 
+// Asserts that a face can be added to these.
+fn assert_new(
+    rt: &impl Abort,
+    alloc: Global,
+    corners: &[u32],
+    points: u32,
+    sides: &Vec<(u32, u32)>,
+) -> Result<(), Memory>
+    ensures short { OnOk result (length corners.now ≤ 100) }
+    ensures few { OnOk result (length sides.now.items < 1000000) }
+    ensures simple { OnOk result (IsTrue (is_simple corners.now)) }
+    ensures inside { OnOk result (All (λ v. v < points) corners.now) }
+    ensures new { OnOk result (list_all (λ side. not (list_any (same_side side) sides.now.items)) (sides_of corners.now) ≡ true) }
+{
+    let mut new = Vec::new(alloc);
+    add_sides(&mut new, corners)?;
+    assert!(rt; corners.len() <= 100);
+    assert!(rt; sides.len() < 1_000_000);
+    assert!(rt; is_simple(corners));
+    assert!(rt; are_below(corners, points));
+    assert!(rt; are_new(&new, sides));
+    Ok(())
+}
+
+// Adds a face to the builder and to what is kept beside it.
+fn push_face<L: Ledger>(
+    alloc: Global,
+    corners: &[u32],
+    hole: bool,
+    polygons: &mut Vec<Vec<u32>>,
+    sides: &mut Vec<(u32, u32)>,
+    builder: &mut LevelBuilder,
+    steps: &mut Steps<L>,
+) -> Result<(), Memory>
+    requires simple { IsTrue (is_simple corners.now) }
+    requires inside { All (λ v. v < builder.old.level.point_count) corners.now }
+    requires size { length corners.now ≤ 2 ^ 16 }
+    requires few { length builder.old.level.polygons < 2 ^ 22 }
+    requires short { sum_by length builder.old.level.polygons + length corners.now < 2 ^ 28 }
+    requires new_sides { IsTrue (has_new_sides builder.old.level.polygons corners.now) }
+    ensures built { OnOk result (builder.new ≡ with_polygon corners.now hole builder.old) }
+    ensures faces { OnOk result (corners_of polygons.new.items ≡ corners_of polygons.old.items ++ corners.now ∷ []) }
+    ensures sides { OnOk result (sides.new.items ≡ sides.old.items ++ sides_of corners.now) }
+{
+    builder.add_face(corners, hole, steps)?;
+    polygons.push(Vec::from_slice(alloc, corners)?)?;
+    add_sides(sides, corners)
+}
+
 // Asserts that the faces at each marked point are one fan.
 fn assert_fans(
     rt: &impl Abort,
@@ -85,6 +135,7 @@ impl Checked {
     ) -> Result<Checked, Memory>
         requires { points ≤ 2 ^ 30 }
     {
+        let complete = no_marks(alloc, points as usize)?;
         let builder = match key {
             None => LevelBuilder::new(alloc, points, method)?,
             Some(key) => LevelBuilder::with_key(alloc, points, 1, 4, 4, method, key)?,
@@ -93,7 +144,7 @@ impl Checked {
             alloc,
             polygons: Vec::new(alloc),
             sides: Vec::new(alloc),
-            complete: no_marks(alloc, points as usize)?,
+            complete,
             points,
             builder,
         })
@@ -107,6 +158,8 @@ impl Checked {
         hole: bool,
         steps: &mut Steps<L>,
     ) -> Result<Checked, Memory> {
+        assert!(rt; self.polygons.len() < 1024);
+        assert_new(rt, self.alloc, corners, self.points, &self.sides)?;
         let Checked {
             alloc,
             mut polygons,
@@ -115,17 +168,15 @@ impl Checked {
             points,
             mut builder,
         } = self;
-        let mut new = Vec::new(alloc);
-        add_sides(&mut new, corners)?;
-        assert!(rt; corners.len() <= 100);
-        assert!(rt; polygons.len() < 1024);
-        assert!(rt; sides.len() < 1_000_000);
-        assert!(rt; is_simple(corners));
-        assert!(rt; are_below(corners, points));
-        assert!(rt; are_new(&new, &sides));
-        builder.add_face(corners, hole, steps)?;
-        polygons.push(Vec::from_slice(alloc, corners)?)?;
-        add_sides(&mut sides, corners)?;
+        push_face(
+            alloc,
+            corners,
+            hole,
+            &mut polygons,
+            &mut sides,
+            &mut builder,
+            steps,
+        )?;
         Ok(Checked {
             alloc,
             polygons,

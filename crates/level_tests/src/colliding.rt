@@ -4,6 +4,7 @@ ghost use Rattle.std.specs.Prelude.{◌≡◌, ◌<◌};
 
 use crate::built_levels::expect_same_levels;
 use crate::checked::Checked;
+use crate::expect::expect_same;
 use level_topology::Level;
 use ratio128::{Memory, Steps};
 use sharpness_rules::Method;
@@ -256,15 +257,20 @@ fn build_alone(rt: &impl Abort, alloc: Global, key: Option<u128>) -> Result<Leve
     build::<Brand>(rt, alloc, key, Blank::new(1))
 }
 
+// The same edges have the same numbers under another key.
+fn expect_same_under_a_key(rt: &impl Abort, alloc: Global, plain: &Level) -> Result<(), Memory> {
+    let keyed = build_alone(rt, alloc, Some(0x1234_5678_9abc_def0_0fed_cba9_8765_4321))?;
+    expect_same_levels(rt, plain, &keyed);
+    Ok(())
+}
+
+fn expect_collisions(rt: &impl Abort, alloc: Global) -> Result<(), Memory> {
+    let plain = build_alone(rt, alloc, None)?;
+    expect_same(rt, &(plain.faces(), plain.edges()), &(200, 600), &"counts");
+    expect_same_under_a_key(rt, alloc, &plain)
+}
+
 #[test]
 fn numbers_colliding_edges_under_any_key(rt: HostRuntime) -> Result<(), Memory> {
-    let plain = build_alone(&rt, rt.alloc(), None)?;
-    assert!(rt; plain.faces() == 200 && plain.edges() == 600);
-    let keyed = build_alone(
-        &rt,
-        rt.alloc(),
-        Some(0x1234_5678_9abc_def0_0fed_cba9_8765_4321),
-    )?;
-    expect_same_levels(&rt, &plain, &keyed);
-    Ok(())
+    expect_collisions(&rt, rt.alloc())
 }

@@ -18,6 +18,8 @@ mod levels;
 #[cfg(test)]
 mod mask_tables;
 #[cfg(test)]
+mod meshes;
+#[cfg(test)]
 mod refined;
 #[cfg(test)]
 mod sharpness;

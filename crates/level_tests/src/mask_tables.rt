@@ -6,78 +6,32 @@ ghost use Rattle.subdiv_model.specs.Sharpness.{Smooth, Infinite, is_chaikin};
 ghost use Rattle.level_topology.specs.Topology.{edge_at};
 ghost use Rattle.mask_rules.specs.Around.{HasSharpBoundaryAt};
 
-use crate::checked::Checked;
 use crate::edge_rows::{EdgeRow, FaceRow, edges, faces};
 use crate::expect::expect_same;
-use crate::solids::{Fraction, Mesh, ZERO};
+use crate::meshes;
+use crate::solids::{Mesh, ZERO};
 use crate::vertex_rows::{VertexRow, corners, longest, open, refused, rules, transitions};
 use level_topology::Level;
 use mask_rules::{
     At, EdgeMask, MaskFault, Scheme, Term, VertexMask, edge_mask, face_mask, vertex_mask,
 };
-use ratio128::{Memory, Steps};
 use sharpness_rules::{Method, Sharpness};
 use std::alloc::Global;
-use std::marker::Brand;
 use std::process::Abort;
-use std::sync::ledger::{Blank, Ledger};
 
-fn sharpness_of(rt: &impl Abort, (num, den): Fraction) -> Sharpness {
-    assert!(rt; 0 < den);
-    assert!(rt; den <= 1 << 60);
-    Sharpness::new(num, den)
-}
-
-fn with_faces<L: Ledger>(
-    rt: &impl Abort,
-    start: Checked,
-    faces: &[&[u32]],
-    steps: &mut Steps<L>,
-) -> Result<Checked, Memory> {
-    let mut builder = start;
-    for corners in faces {
-        builder = builder.add_face(rt, corners, false, steps)?;
-    }
-    Ok(builder)
-}
-
-fn build<L: Ledger>(
-    rt: &impl Abort,
-    alloc: Global,
-    mesh: Mesh,
-    steps: &mut Steps<L>,
-) -> Result<Level, Memory> {
+// The level of the mesh of a row.
+fn level_of(rt: &impl Abort, alloc: Global, mesh: Mesh) -> Result<Level, MaskFault> {
     let (solid, edges, vertex, sharpness) = mesh;
-    assert!(rt; solid.points < 100);
-    let start = Checked::new(alloc, solid.points, Method::Normal, None)?;
-    let mut builder = with_faces(rt, start, solid.faces, steps)?;
-    for (a, b, s) in edges {
-        builder.add_sharp_edge(rt, *a, *b, sharpness_of(rt, *s));
-    }
-    builder.add_sharp_vertex(rt, vertex, sharpness_of(rt, sharpness));
-    builder.mark_complete(rt, vertex);
-    builder.finish(rt)
-}
-
-fn build_counted<L: Ledger>(
-    rt: &impl Abort,
-    alloc: Global,
-    mesh: Mesh,
-    blank: Blank,
-) -> Result<Level, Memory>
-    requires name { blank.name ≡ L.name }
-    requires parts { blank.parts ≡ L.parts }
-    requires some { 0 < blank.parts }
-{
-    build(rt, alloc, mesh, &mut Steps::start(blank.open::<L>()))
-}
-
-// The level of a mesh.
-fn build_alone(rt: &impl Abort, alloc: Global, mesh: Mesh) -> Result<Level, MaskFault> {
-    match build_counted::<Brand>(rt, alloc, mesh, Blank::new(1)) {
-        Ok(level) => Ok(level),
-        Err(_) => Err(MaskFault::Memory),
-    }
+    let told = meshes::Mesh {
+        solid,
+        method: Method::Normal,
+        holes: &[],
+        edges,
+        vertices: &[(vertex, sharpness)],
+        torn: None,
+    };
+    let level = meshes::build_alone(rt, alloc, &told)?;
+    Ok(level)
 }
 
 // Whether an edge has two faces.
@@ -187,12 +141,21 @@ fn expect_alone(rt: &impl Abort, alloc: Global, level: &Level, v: u32) -> Result
     Ok(())
 }
 
-fn expect_vertex(rt: &impl Abort, alloc: Global, row: &VertexRow) -> Result<(), MaskFault> {
-    let level = build_alone(rt, alloc, row.mesh)?;
-    let mask = mask_of_vertex(rt, alloc, &level, row.mesh.2, Scheme::CatmullClark)?;
+fn expect_masks(
+    rt: &impl Abort,
+    alloc: Global,
+    level: &Level,
+    row: &VertexRow,
+) -> Result<(), MaskFault> {
+    let mask = mask_of_vertex(rt, alloc, level, row.mesh.2, Scheme::CatmullClark)?;
     expect_terms(rt, mask.terms(), row.points, row.faces);
     expect_same(rt, &mask.denominator(), &row.denominator, &row.points);
-    expect_alone(rt, alloc, &level, row.mesh.2)
+    expect_alone(rt, alloc, level, row.mesh.2)
+}
+
+fn expect_vertex(rt: &impl Abort, alloc: Global, row: &VertexRow) -> Result<(), MaskFault> {
+    let level = level_of(rt, alloc, row.mesh)?;
+    expect_masks(rt, alloc, &level, row)
 }
 
 fn expect_vertices(
@@ -206,18 +169,21 @@ fn expect_vertices(
     Ok(())
 }
 
-fn is_refused(rt: &impl Abort, alloc: Global, level: &Level, v: u32) -> bool {
-    match mask_of_vertex(rt, alloc, level, v, Scheme::CatmullClark) {
-        Err(MaskFault::Transition) => true,
-        _ => false,
-    }
+// Only the scheme of Catmull and Clark refuses.
+fn expect_refusal(
+    rt: &impl Abort,
+    alloc: Global,
+    level: &Level,
+    mesh: Mesh,
+) -> Result<(), MaskFault> {
+    let fault = mask_of_vertex(rt, alloc, level, mesh.2, Scheme::CatmullClark).err();
+    expect_same(rt, &fault, &Some(MaskFault::Transition), &mesh.1);
+    expect_alone(rt, alloc, level, mesh.2)
 }
 
-// Only the scheme of Catmull and Clark refuses.
 fn expect_refused(rt: &impl Abort, alloc: Global, mesh: Mesh) -> Result<(), MaskFault> {
-    let level = build_alone(rt, alloc, mesh)?;
-    expect_same(rt, &is_refused(rt, alloc, &level, mesh.2), &true, &mesh.1);
-    expect_alone(rt, alloc, &level, mesh.2)
+    let level = level_of(rt, alloc, mesh)?;
+    expect_refusal(rt, alloc, &level, mesh)
 }
 
 // The linear scheme takes the middle of the two points.
@@ -230,20 +196,28 @@ fn expect_middle(rt: &impl Abort, level: &Level, e: u32, points: &[(u32, u128)])
     expect_same(rt, &mask.denominator(), &2, &points);
 }
 
-fn expect_edge(rt: &impl Abort, alloc: Global, row: &EdgeRow) -> Result<(), MaskFault> {
-    let level = build_alone(rt, alloc, row.mesh)?;
-    let mask = mask_of_edge(rt, &level, row.edge, Scheme::CatmullClark);
+fn expect_edge_masks(rt: &impl Abort, level: &Level, row: &EdgeRow) {
+    let mask = mask_of_edge(rt, level, row.edge, Scheme::CatmullClark);
     expect_terms(rt, mask.terms(), row.points, row.faces);
     expect_same(rt, &mask.denominator(), &row.denominator, &row.points);
-    expect_middle(rt, &level, row.edge, row.points);
+    expect_middle(rt, level, row.edge, row.points);
+}
+
+fn expect_edge(rt: &impl Abort, alloc: Global, row: &EdgeRow) -> Result<(), MaskFault> {
+    let level = level_of(rt, alloc, row.mesh)?;
+    expect_edge_masks(rt, &level, row);
     Ok(())
+}
+
+fn expect_size(rt: &impl Abort, level: &Level, f: u32, size: u32) {
+    assert!(rt; f < level.faces());
+    expect_same(rt, &face_mask(level, f).size(), &size, &size);
 }
 
 fn expect_face(rt: &impl Abort, alloc: Global, row: &FaceRow) -> Result<(), MaskFault> {
     let (solid, f, size) = *row;
-    let level = build_alone(rt, alloc, (solid, &[], 0, ZERO))?;
-    assert!(rt; f < level.faces());
-    expect_same(rt, &face_mask(&level, f).size(), &size, &size);
+    let level = level_of(rt, alloc, (solid, &[], 0, ZERO))?;
+    expect_size(rt, &level, f, size);
     Ok(())
 }
 

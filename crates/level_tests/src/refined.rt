@@ -4,14 +4,12 @@
 ghost use Rattle.std.specs.Prelude.{◌≡◌, ℕ, ◌<◌, true, false, length, get_or};
 ghost use Rattle.subdiv_model.specs.Edges.{edges_of};
 
-use crate::checked::Checked;
 use crate::expect::expect_same;
-use crate::solids::{
-    CUBE, Fraction, GRID, HALF, INFINITE, SharpEdge, Solid, THREE_HALVES, TOP, ZERO,
-};
+use crate::meshes::{self, fraction_of};
+use crate::solids::{CUBE, Fraction, GRID, HALF, SharpEdge, Solid, THREE_HALVES, TOP, ZERO};
 use level_topology::{Child, Level, Origin};
 use ratio128::{Memory, Steps};
-use sharpness_rules::{Method, Sharpness};
+use sharpness_rules::Method;
 use std::alloc::Global;
 use std::marker::Brand;
 use std::process::Abort;
@@ -83,51 +81,16 @@ fn fine() -> Mesh {
     FINE
 }
 
-fn sharpness_of(rt: &impl Abort, (num, den): Fraction) -> Sharpness {
-    assert!(rt; 0 < den);
-    assert!(rt; den <= TOP);
-    Sharpness::new(num, den)
-}
-
-fn fraction_of(s: Sharpness) -> Fraction {
-    match s {
-        Sharpness::Smooth => ZERO,
-        Sharpness::Semi(value) => (value.num(), value.den()),
-        Sharpness::Infinite => INFINITE,
+// The mesh that a builder is told.
+pub fn told((solid, method, edges): Mesh) -> meshes::Mesh<'static> {
+    meshes::Mesh {
+        solid,
+        method,
+        holes: &[],
+        edges,
+        vertices: &[],
+        torn: None,
     }
-}
-
-// The level of a mesh, with all its points complete.
-pub fn build<L: Ledger>(
-    rt: &impl Abort,
-    alloc: Global,
-    mesh: Mesh,
-    steps: &mut Steps<L>,
-) -> Result<Level, Memory> {
-    let (solid, method, edges) = mesh;
-    assert!(rt; solid.points < 100);
-    let start = Checked::new(alloc, solid.points, method, None)?;
-    let mut builder = with_faces(rt, start, solid.faces, steps)?;
-    for (a, b, s) in edges {
-        builder.add_sharp_edge(rt, *a, *b, sharpness_of(rt, *s));
-    }
-    for v in 0..solid.points {
-        builder.mark_complete(rt, v);
-    }
-    builder.finish(rt)
-}
-
-fn with_faces<L: Ledger>(
-    rt: &impl Abort,
-    start: Checked,
-    faces: &[&[u32]],
-    steps: &mut Steps<L>,
-) -> Result<Checked, Memory> {
-    let mut builder = start;
-    for corners in faces {
-        builder = builder.add_face(rt, corners, false, steps)?;
-    }
-    Ok(builder)
 }
 
 // Asserts that each point is complete.
@@ -137,6 +100,18 @@ pub fn assert_whole(rt: &impl Abort, level: &Level)
     for v in 0..level.points() {
         assert!(rt; level.is_complete(v), "at {v}");
     }
+}
+
+// The next level of a level, after what it asks is tested.
+fn refine_level<L: Ledger>(
+    rt: &impl Abort,
+    alloc: Global,
+    level: &Level,
+    steps: &mut Steps<L>,
+) -> Result<Child, RefineFault> {
+    assert!(rt; level.points() < 100);
+    assert_whole(rt, level);
+    refine(alloc, level, steps)
 }
 
 fn refine_counted<L: Ledger>(
@@ -150,10 +125,8 @@ fn refine_counted<L: Ledger>(
     requires some { 0 < blank.parts }
 {
     let mut steps = Steps::start(blank.open::<L>());
-    let level = build(rt, alloc, mesh, &mut steps)?;
-    assert!(rt; level.points() < 100);
-    assert_whole(rt, &level);
-    refine(alloc, &level, &mut steps)
+    let level = meshes::build(rt, alloc, &told(mesh), &mut steps)?;
+    refine_level(rt, alloc, &level, &mut steps)
 }
 
 // The next level of a mesh.
@@ -215,15 +188,79 @@ fn expect_sharp(rt: &impl Abort, child: &Child, want: &[Sharp]) {
     expect_same(rt, &rest.next(), &None, &"sharp edges");
 }
 
+// A quad alone, and where the points of its next level come from.
+const QUAD: Mesh = (
+    &Solid {
+        points: 4,
+        faces: &[&[0, 1, 2, 3]],
+    },
+    Method::Normal,
+    &[],
+);
+
+const ORIGINS: &[Origin] = &[
+    Origin::Vertex(0),
+    Origin::Vertex(1),
+    Origin::Vertex(2),
+    Origin::Vertex(3),
+    Origin::Face(0),
+    Origin::Edge(0),
+    Origin::Edge(1),
+    Origin::Edge(2),
+    Origin::Edge(3),
+];
+
+fn quad() -> (Mesh, &'static [Origin]) {
+    (QUAD, ORIGINS)
+}
+
+fn expect_origins(rt: &impl Abort, child: &Child, want: &[Origin]) {
+    let points = child.level().points();
+    expect_same(rt, &(points as usize), &want.len(), &"points");
+    for p in 0..points {
+        expect_same(rt, &Some(&child.origin(p)), &want.get(p as usize), &p);
+    }
+}
+
+fn expect_quad(rt: &impl Abort, alloc: Global) -> Result<(), RefineFault> {
+    let (mesh, origins) = quad();
+    let child = refine_alone(rt, alloc, mesh)?;
+    expect_origins(rt, &child, origins);
+    Ok(())
+}
+
 #[test]
-fn refines_a_cube_and_a_grid(rt: HostRuntime) -> Result<(), RefineFault> {
+fn orders_points_by_their_origins(rt: HostRuntime) -> Result<(), RefineFault> {
+    expect_quad(&rt, rt.alloc())
+}
+
+fn expect_child(
+    rt: &impl Abort,
+    alloc: Global,
+    child: &Child,
+    case: &Case,
+) -> Result<(), RefineFault> {
+    let (_, counts, sharp) = *case;
+    expect_counts(rt, alloc, child.level(), counts)?;
+    expect_sharp(rt, child, sharp);
+    Ok(())
+}
+
+fn expect_case(rt: &impl Abort, alloc: Global, case: &Case) -> Result<(), RefineFault> {
+    let child = refine_alone(rt, alloc, case.0)?;
+    expect_child(rt, alloc, &child, case)
+}
+
+fn expect_cases(rt: &impl Abort, alloc: Global) -> Result<(), RefineFault> {
     for case in cases() {
-        let (mesh, counts, sharp) = *case;
-        let child = refine_alone(&rt, rt.alloc(), mesh)?;
-        expect_counts(&rt, rt.alloc(), child.level(), counts)?;
-        expect_sharp(&rt, &child, sharp);
+        expect_case(rt, alloc, case)?;
     }
     Ok(())
+}
+
+#[test]
+fn refines_a_cube_and_a_grid(rt: HostRuntime) -> Result<(), RefineFault> {
+    expect_cases(&rt, rt.alloc())
 }
 
 #[test]

@@ -8,7 +8,8 @@ ghost use Rattle.level_tests.specs.Values.{IsGoodPoint};
 
 use crate::expect::expect_same;
 use crate::mask_tables::has_two_faces;
-use crate::refined::{Mesh, assert_whole, build};
+use crate::meshes;
+use crate::refined::{Mesh, assert_whole, told};
 use crate::solids::{CUBE, SharpEdge};
 use level_topology::Level;
 use mask_rules::Scheme;
@@ -65,19 +66,24 @@ const CUBE_VALUES: &str = "\
 16 12 -12 0\n\
 16 -12 -12 0";
 
-// The points of a level, a line for each: its denominator and its numerators.
+// A point: its denominator and its numerators.
+fn point_of(line: &str) -> Result<Valued<Point3>, Fail> {
+    let mut words = line.split(' ');
+    let den = words.next().ok_or("a denominator")?.parse::<u128>()?;
+    let x = words.next().ok_or("x")?.parse::<i128>()?;
+    let y = words.next().ok_or("y")?.parse::<i128>()?;
+    let z = words.next().ok_or("z")?.parse::<i128>()?;
+    Ok(Valued {
+        value: Point3 { x, y, z },
+        den,
+    })
+}
+
+// The points of a level, a line for each.
 fn points_of(alloc: Global, text: &str) -> Result<Vec<Valued<Point3>>, Fail> {
     let mut points = Vec::new(alloc);
     for line in text.lines() {
-        let mut words = line.split(' ');
-        let den = words.next().ok_or("a denominator")?.parse::<u128>()?;
-        let x = words.next().ok_or("x")?.parse::<i128>()?;
-        let y = words.next().ok_or("y")?.parse::<i128>()?;
-        let z = words.next().ok_or("z")?.parse::<i128>()?;
-        points.push(Valued {
-            value: Point3 { x, y, z },
-            den,
-        })?;
+        points.push(point_of(line)?)?;
     }
     Ok(points)
 }
@@ -143,7 +149,7 @@ fn values_counted<L: Ledger>(
     requires some { 0 < blank.parts }
 {
     let mut steps = Steps::start(blank.open::<L>());
-    let level = build(rt, alloc, mesh, &mut steps)?;
+    let level = meshes::build(rt, alloc, &told(mesh), &mut steps)?;
     values_after(rt, alloc, &level, points, &mut steps)
 }
 
@@ -163,17 +169,32 @@ fn values_alone(
     )
 }
 
-#[test]
-fn refines_the_points_of_a_cube(rt: HostRuntime) -> Result<(), Fail> {
-    let points = points_of(rt.alloc(), CUBE_POINTS)?;
-    let given = values_alone(&rt, rt.alloc(), &[], &points)?;
-    let want = points_of(rt.alloc(), CUBE_VALUES)?;
-    expect_same(&rt, &given.as_slice(), &want.as_slice(), &"values");
+fn expect_points(
+    rt: &impl Abort,
+    alloc: Global,
+    given: &[Valued<Point3>],
+    want: &str,
+) -> Result<(), Fail> {
+    let want = points_of(alloc, want)?;
+    expect_same(rt, &given, &want.as_slice(), &"values");
     Ok(())
 }
 
+fn expect_cube(rt: &impl Abort, alloc: Global) -> Result<(), Fail> {
+    let points = points_of(alloc, CUBE_POINTS)?;
+    let given = values_alone(rt, alloc, &[], &points)?;
+    expect_points(rt, alloc, &given, CUBE_VALUES)
+}
+
+#[test]
+fn refines_the_points_of_a_cube(rt: HostRuntime) -> Result<(), Fail> {
+    expect_cube(&rt, rt.alloc())
+}
+
 // Edges of the cube, its points, and the fault.
-const FAULTS: &[(&'static [SharpEdge], &'static str, ValueFault)] = &[
+type Fault = (&'static [SharpEdge], &'static str, ValueFault);
+
+const FAULTS: &[Fault] = &[
     (
         &[
             (1, 0, (1, 1_000_000)),
@@ -195,19 +216,28 @@ const FAULTS: &[(&'static [SharpEdge], &'static str, ValueFault)] = &[
     ),
 ];
 
-fn faults() -> &'static [(&'static [SharpEdge], &'static str, ValueFault)] {
+fn faults() -> &'static [Fault] {
     FAULTS
+}
+
+fn expect_fault(rt: &impl Abort, alloc: Global, row: &Fault) -> Result<(), Fail> {
+    let &(edges, text, want) = row;
+    let points = points_of(alloc, text)?;
+    let given = values_alone(rt, alloc, edges, &points).err();
+    expect_same(rt, &given, &Some(want), row);
+    Ok(())
+}
+
+fn expect_faults(rt: &impl Abort, alloc: Global) -> Result<(), Fail> {
+    for row in faults() {
+        expect_fault(rt, alloc, row)?;
+    }
+    Ok(())
 }
 
 #[test]
 fn refuses_numbers_past_their_bounds(rt: HostRuntime) -> Result<(), Fail> {
-    for row in faults() {
-        let &(edges, text, want) = row;
-        let points = points_of(rt.alloc(), text)?;
-        let given = values_alone(&rt, rt.alloc(), edges, &points);
-        expect_same(&rt, &given.err(), &Some(want), row);
-    }
-    Ok(())
+    expect_faults(&rt, rt.alloc())
 }
 
 #[test]

@@ -58,10 +58,8 @@ fn wheel_counted<L: Ledger>(alloc: Global, count: u32, blank: Blank) -> Result<L
 fn wheel_alone(rt: &impl Abort, alloc: Global, spokes: u32) -> Result<Level, MaskFault> {
     assert!(rt; spokes >= 3);
     assert!(rt; spokes <= 1 << 20);
-    match wheel_counted::<Brand>(alloc, spokes - 1, Blank::new(1)) {
-        Ok(level) => Ok(level),
-        Err(_) => Err(MaskFault::Memory),
-    }
+    let level = wheel_counted::<Brand>(alloc, spokes - 1, Blank::new(1))?;
+    Ok(level)
 }
 
 // The sum of the weights; that of the vertex is given, and each other one is 1.
@@ -77,9 +75,13 @@ fn sum_of_weights(rt: &impl Abort, terms: &[Term], vertex: u128) -> u128 {
     sum
 }
 
-fn expect_ring(rt: &impl Abort, alloc: Global, spokes: u32) -> Result<(), MaskFault> {
-    let level = wheel_alone(rt, alloc, spokes)?;
-    let mask = mask_of_vertex(rt, alloc, &level, 0, Scheme::CatmullClark)?;
+fn expect_mask(
+    rt: &impl Abort,
+    alloc: Global,
+    level: &Level,
+    spokes: u32,
+) -> Result<(), MaskFault> {
+    let mask = mask_of_vertex(rt, alloc, level, 0, Scheme::CatmullClark)?;
     assert!(rt; 3 <= spokes && spokes <= 1 << 20);
     let n = spokes as u128;
     expect_same(rt, &(mask.terms().len() as u128), &(1 + 2 * n), &n);
@@ -87,6 +89,11 @@ fn expect_ring(rt: &impl Abort, alloc: Global, spokes: u32) -> Result<(), MaskFa
     expect_same(rt, &sum, &(n * n), &"sum");
     expect_same(rt, &mask.denominator(), &(n * n), &"denominator");
     Ok(())
+}
+
+fn expect_ring(rt: &impl Abort, alloc: Global, spokes: u32) -> Result<(), MaskFault> {
+    let level = wheel_alone(rt, alloc, spokes)?;
+    expect_mask(rt, alloc, &level, spokes)
 }
 
 // Around the numbers of edges up to which a mask and its rings take no memory, and the greatest.

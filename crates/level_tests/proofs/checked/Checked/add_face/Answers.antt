@@ -1,22 +1,21 @@
-use Rattle.std.proofs.Common.{rules, ℕ, ◌≡◌, ◌<◌, ◌≤◌, ◌++◌, ◌∙◌, ap, subst, List, true, not, length}
+use Rattle.std.proofs.Common.{rules, ◌≡◌, ◌<◌, ◌≤◌, true, not, length}
 use Rattle.std.specs.List.{list_any, list_all}
 use Rattle.subdiv_model.specs.Polygons.{sides_of, same_side}
 use Rattle.level_tests.proofs.KeptLemmas.{kept-few, kept-short, kept-new}
 use Rattle.level_tests.proofs.checked.Checked.add_face.Goals as goal
 
-pub add_face-requires-clause-few : goal.add_face-requires-clause-few
-add_face-requires-clause-few g c =
+pub push_face-requires-clause-few : goal.push_face-requires-clause-few
+push_face-requires-clause-few g c =
     let few : length c.self.inside.polygons.items < 1024 = search rules in
     kept-few _ _ _ _ _ c.self.invariant few
 
-pub add_face-requires-clause-short : goal.add_face-requires-clause-short
-add_face-requires-clause-short g c =
+pub push_face-requires-clause-short : goal.push_face-requires-clause-short
+push_face-requires-clause-short g c =
     let small : length c.args.corners.now ≤ 100 = search rules in
     let few : length c.self.inside.sides.items < 1000000 = search rules in
     kept-short _ _ _ _ _ c.self.invariant (length c.args.corners.now) small few
 
-pub add_face-requires-clause-new_sides : goal.add_face-requires-clause-new_sides
-add_face-requires-clause-new_sides g c =
-    let these : c.add_sides.new.sides.items ≡ sides_of c.args.corners.now = c.in_ok-add_sides.ensures ∙ ap (λ (ss : List (ℕ × ℕ)). ss ++ sides_of c.args.corners.now) c.new-new.ensures.items in
-    let fresh : list_all (λ side. not (list_any (same_side side) c.self.inside.sides.items)) c.add_sides.new.sides.items ≡ true = search rules in
-    kept-new _ _ _ _ _ c.self.invariant c.args.corners.now (subst (λ (ss : List (ℕ × ℕ)). list_all (λ side. not (list_any (same_side side) c.self.inside.sides.items)) ss ≡ true) these fresh)
+pub push_face-requires-clause-new_sides : goal.push_face-requires-clause-new_sides
+push_face-requires-clause-new_sides g c =
+    let fresh : list_all (λ side. not (list_any (same_side side) c.self.inside.sides.items)) (sides_of c.args.corners.now) ≡ true = search rules in
+    kept-new _ _ _ _ _ c.self.invariant c.args.corners.now fresh

@@ -1,4 +1,4 @@
-use Rattle.level_tests.proofs.levels.joins_one_quarter_of_the_square.Given as goal
+use Rattle.level_tests.proofs.levels.quarter_alone.Given as goal
 
 -- the ledger of this one counter
 abbrev pub ghosts-quarter_counted : goal.ghosts-quarter_counted

@@ -1,4 +1,4 @@
-use Rattle.level_tests.proofs.mask_tables.build_alone.Given as goal
+use Rattle.level_tests.proofs.meshes.build_alone.Given as goal
 
 -- the ledger of this one counter
 abbrev pub ghosts-build_counted : goal.ghosts-build_counted
