@@ -15,7 +15,7 @@ abbrev ended : List (List ℕ) → List ℕ
 ended [] = 10 ∷ []
 ended (word ∷ words) = (32 ∷ word) ++ ended words
 
-ended-words : (words : List (List ℕ)) → ended words ≡ flat_map (λ word. 32 ∷ word) words ++ (10 ∷ [])
+pub ended-words : (words : List (List ℕ)) → ended words ≡ flat_map (λ word. 32 ∷ word) words ++ (10 ∷ [])
 ended-words [] = refl
 ended-words (word ∷ words) =
     ap (λ rest. (32 ∷ word) ++ rest) (ended-words words) ∙ sym (append_assoc (32 ∷ word) (flat_map (λ w. 32 ∷ w) words) (10 ∷ []))

@@ -10,16 +10,7 @@ use Rattle.level_text.specs.declared.summary.Summary.{Summary}
 use Rattle.level_text.specs.TableText.{share_words, row_text}
 use Rattle.level_text.specs.TableLines.{share_text, greatest_words, last_line_of}
 use Rattle.level_text.specs.Summary.{sheet_line, depth_line}
-
--- words, each after one space, and the end of the line
-abbrev ended : List (List ℕ) → List ℕ
-ended [] = 10 ∷ []
-ended (word ∷ words) = (32 ∷ word) ++ ended words
-
-ended-words : (words : List (List ℕ)) → ended words ≡ flat_map (λ word. 32 ∷ word) words ++ (10 ∷ [])
-ended-words [] = refl
-ended-words (word ∷ words) =
-    ap (λ rest. (32 ∷ word) ++ rest) (ended-words words) ∙ sym (append_assoc (32 ∷ word) (flat_map (λ w. 32 ∷ w) words) (10 ∷ []))
+use Rattle.level_text.proofs.LineLemmas.{ended-words}
 
 -- the first line of a table, from its counts
 pub counts-by-words : (controls rows entries : ℕ) →

@@ -6,7 +6,8 @@ ghost use Rattle.obj_out.specs.Puts.{Puts};
 ghost use Rattle.level_text.specs.Summary.{CanBeTold, sheet_line, depth_line, last_point_line, summary_text};
 ghost use Rattle.level_text.specs.TableLines.{greatest_words, last_line_of};
 
-use crate::table_words::{put_byte, put_count, put_text, put_wide_word};
+use crate::table_words::{put_count, put_wide_word};
+use crate::words::{put_byte, put_text};
 use far_io::{Sink, WriteFailed};
 use obj_out::Out;
 use primvar_refine::Valued;

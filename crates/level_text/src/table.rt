@@ -9,7 +9,8 @@ ghost use Rattle.obj_out.specs.Puts.{Puts};
 ghost use Rattle.level_text.specs.TableText.{row_text, text_of_table};
 ghost use Rattle.level_text.specs.TableLines.{share_text};
 
-use crate::table_words::{put_byte, put_count, put_number_word, put_wide_word};
+use crate::table_words::{put_count, put_wide_word};
+use crate::words::{put_byte, put_number_word};
 use far_io::{Sink, WriteFailed};
 use obj_out::Out;
 use stencil_apply::StencilTable;
