@@ -2,7 +2,7 @@ use Rattle.std.proofs.Common.{arith}
 use Rattle.level_topology.proofs.ChildLemmas.{edges-corners}
 use Rattle.uniform_refiner.proofs.FaceWalkLemmas.{walked-few}
 use Rattle.uniform_refiner.proofs.RefineLemmas.{walked-as}
-use Rattle.uniform_refiner.proofs.uniform.room_for.Goals as goal
+use Rattle.uniform_refiner.proofs.level.room_for.Goals as goal
 
 pub overflow_add-points-2 : goal.overflow_add-points-2
 overflow_add-points-2 c = record { fits = omega (arith, c.points.ensures, c.faces.ensures, c.edges.ensures, c.requires.short, c.requires.few, c.requires.faces, c.facts.ensures.small.faces, edges-corners c.args.level.now.level.polygons) }

@@ -1,0 +1,21 @@
+use Rattle.std.proofs.Common.{◌≡◌, ◌∙◌, ap, sym, subst, map, List, ℕ}
+use Rattle.std.proofs.lemmas.Result.{IfOk-weaker}
+use Rattle.level_topology.specs.Child.{PointOrigin, IsChild}
+use Rattle.level_topology.specs.ChildTables.{origin_of, place_of}
+use Rattle.uniform_refiner.specs.Uniform.{origins_in, all_places}
+use Rattle.uniform_refiner.proofs.RefineLemmas.{uniform-is}
+use Rattle.uniform_refiner.proofs.UniformLemmas.{uniform-child}
+use Rattle.uniform_refiner.proofs.uniform.join_at.Goals as goal
+
+pub join-requires : goal.join-requires
+join-requires c =
+    let t = c.args.level.now in
+    let places : map place_of c.deref.result.now ≡ all_places 0 t.level.polygons = ap (map place_of) c.deref.ensures.value ∙ c.in_ok-places.ensures in
+    subst (λ (xs : List PointOrigin). IsChild t c.args.next xs (map place_of c.deref.result.now)) (sym c.requires.origins)
+    (subst (λ (xs : List (ℕ × ℕ)). IsChild t c.args.next (origins_in t) xs) (sym places) (uniform-child t c.facts.ensures c.args.next c.requires.level))
+
+pub returns : goal.returns
+returns c =
+    let t = c.args.level.now in
+    let places : map place_of c.deref.result.now ≡ all_places 0 t.level.polygons = ap (map place_of) c.deref.ensures.value ∙ c.in_ok-places.ensures in
+    IfOk-weaker c.join.result _ _ (λ child is. uniform-is t c.args.next (map origin_of c.args.origins.now) (map place_of c.deref.result.now) child is c.requires.origins places c.requires.level c.requires.complete) c.join.ensures

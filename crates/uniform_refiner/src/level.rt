@@ -1,0 +1,75 @@
+//! The next level, from its numbered edges.
+
+ghost use Rattle.std.specs.Prelude.{◌≡◌, ℕ, ◌+◌, ◌*◌, ◌^◌, ◌<◌, ◌≤◌, true, false, length, map, get_or, replicate, IfOk};
+ghost use Rattle.std.specs.List.{sum_by};
+ghost use Rattle.sharpness_rules.specs.View.{sharpness_of};
+ghost use Rattle.subdiv_model.specs.Child.{child_level, child_points};
+ghost use Rattle.level_topology.specs.Rows.{no_rows};
+ghost use Rattle.uniform_refiner.specs.Put.{AreChildEdges, HasHalves};
+ghost use Rattle.uniform_refiner.specs.Points.{counts_for};
+
+use crate::edges::put_edges;
+use crate::faces::put_faces;
+use crate::numbering::SlotEdges;
+use crate::points::put_points;
+use level_topology::{Level, LevelRows};
+use ratio128::{Memory, Steps};
+use sharpness_rules::Sharpness;
+use std::alloc::Global;
+use std::sync::ledger::Ledger;
+
+// Room for the next level with so many faces.
+pub(crate) fn room_for(
+    alloc: Global,
+    level: &Level,
+    faces: u32,
+    edges: &SlotEdges,
+) -> Result<LevelRows, Memory>
+    requires edges { AreChildEdges level.now.level edges.now }
+    requires faces { faces ≡ sum_by length level.now.level.polygons }
+    requires few { faces ≤ 2 ^ 22 }
+    requires short { level.now.level.point_count ≤ 2 ^ 29 }
+    ensures { IfOk result (λ rows. rows ≡ no_rows (counts_for level.now.level (length edges.now.ends)) level.now.level.method) }
+{
+    level.facts();
+    let points = level.points() + level.faces() + level.edges();
+    let corners = 4 * faces;
+    let ends = 2 * edges.len();
+    LevelRows::new(
+        alloc,
+        points,
+        edges.len(),
+        faces,
+        corners,
+        corners,
+        ends,
+        level.method(),
+    )
+}
+
+// The next level, put where there is room for it. It is one step for each of its faces.
+pub(crate) fn put_level<L: Ledger>(
+    alloc: Global,
+    level: &Level,
+    edges: &SlotEdges,
+    halves: &[Sharpness],
+    room: LevelRows,
+    steps: &mut Steps<L>,
+) -> Result<Level, Memory>
+    requires whole { (v : ℕ) → v < level.now.level.point_count → get_or level.now.complete v false ≡ true }
+    requires few { sum_by length level.now.level.polygons ≤ 2 ^ 22 }
+    requires short { level.now.level.point_count ≤ 2 ^ 29 }
+    requires edges { AreChildEdges level.now.level edges.now }
+    requires halves { HasHalves level.now.level (map sharpness_of halves.now) }
+    requires room { room ≡ no_rows (counts_for level.now.level (length edges.now.ends)) level.now.level.method }
+    ensures level { IfOk result (λ next. next.level ≡ child_level level.now.level) }
+    ensures complete { IfOk result (λ next. next.complete ≡ replicate (child_points level.now.level.point_count level.now.level.polygons) true) }
+    ensures steps { steps.new ≡ steps.old + sum_by length level.now.level.polygons }
+{
+    level.facts();
+    let mut rows = room;
+    put_faces(level, edges, &mut rows, steps);
+    put_edges(level, edges, halves, &mut rows);
+    put_points(alloc, level, edges, &mut rows)?;
+    Ok(rows.finish())
+}
