@@ -10,6 +10,7 @@ ghost use Rattle.face_varying.specs.View.{mode_of};
 use crate::build_faces::{add_faces, points_alone};
 use crate::build_points::add_points;
 use crate::build_sides::add_sides;
+use crate::kept::kept_points;
 use crate::mode::SeamMode;
 use level_topology::Level;
 use obj_tags::RawMesh;
@@ -19,7 +20,7 @@ use std::sync::ledger::Ledger;
 
 // Level 0 of the cut mesh: by the edges whose faces are apart, the number of the channel point of each corner, the vertex of each
 // point, and the points that the mode keeps sharp. Each face takes a step. The mesh and the mode are there for the contract alone.
-pub(crate) fn cut_level<L: Ledger>(
+fn cut_level<L: Ledger>(
     alloc: Global,
     raw: &RawMesh,
     level: &Level,
@@ -46,6 +47,32 @@ pub(crate) fn cut_level<L: Ledger>(
     add_faces(&mut builder, level, numbers, steps)?;
     add_sides(&mut builder, level, apart, numbers);
     add_points(&mut builder, level, vertices, kept);
-    let cut = builder.finish()?;
-    Ok(cut)
+    builder.finish()
+}
+
+// Level 0 of the cut mesh, with the points that the mode keeps sharp. Each face takes a step.
+pub(crate) fn level_with<L: Ledger>(
+    alloc: Global,
+    raw: &RawMesh,
+    level: &Level,
+    apart: &[bool],
+    numbers: &[u32],
+    vertices: &[u32],
+    mode: SeamMode,
+    steps: &mut Steps<L>,
+) -> Result<Level, Memory>
+    requires cuttable { IsCuttable raw.now level.now }
+    requires apart { apart.now ≡ apart_marks raw.now }
+    requires numbers { numbers.now ≡ corner_numbers raw.now }
+    requires vertices { vertices.now ≡ map (λ point. point.0) (channel_points raw.now) }
+    ensures level { IfOk result (λ level. level.level ≡ cut_level (mode_of mode) raw.now) }
+    ensures complete { IfOk result (λ level. level.complete ≡ replicate (length (channel_points raw.now)) true) }
+    ensures steps { steps.new ≤ steps.old + length raw.now.faces }
+    ensures later { steps.old ≤ steps.new }
+{
+    let points = vertices.len() as u32;
+    let kept = kept_points(alloc, level, apart, numbers, points, mode)?;
+    cut_level(
+        alloc, raw, level, apart, numbers, vertices, &kept, mode, steps,
+    )
 }

@@ -101,6 +101,24 @@ fn side_numbers(alloc: Global, raw: &RawMesh, level: &Level) -> Result<SideNumbe
     Ok(sides)
 }
 
+// For each edge of the mesh whether its faces are apart, by the texture numbers of the sides of all faces.
+fn marks_by(
+    alloc: Global,
+    raw: &RawMesh,
+    level: &Level,
+    sides: &SideNumbers,
+) -> Result<Vec<bool>, Memory>
+    requires cuttable { IsCuttable raw.now level.now }
+    requires noted { AreNoted level.now.level.polygons raw.now.texture_corners sides.now.along.items sides.now.against.items (start_of level.now.level.polygons (length level.now.level.polygons)) }
+    ensures { IfOk result (λ apart. apart.items ≡ apart_marks raw.now) }
+{
+    let mut apart = Vec::with_capacity(alloc, level.edges() as usize)?;
+    for edge in 0..level.edges() {
+        apart.push(sides.is_apart(raw, level, edge))?;
+    }
+    Ok(apart)
+}
+
 // For each edge of the mesh whether its faces are apart: it has one, or their texture numbers differ at either end. No face is
 // searched: each side notes the texture numbers at its ends once.
 pub(crate) fn apart_edges(alloc: Global, raw: &RawMesh, level: &Level) -> Result<Vec<bool>, Memory>
@@ -108,9 +126,5 @@ pub(crate) fn apart_edges(alloc: Global, raw: &RawMesh, level: &Level) -> Result
     ensures { IfOk result (λ apart. apart.items ≡ apart_marks raw.now) }
 {
     let sides = side_numbers(alloc, raw, level)?;
-    let mut apart = Vec::with_capacity(alloc, level.edges() as usize)?;
-    for edge in 0..level.edges() {
-        apart.push(sides.is_apart(raw, level, edge))?;
-    }
-    Ok(apart)
+    marks_by(alloc, raw, level, &sides)
 }

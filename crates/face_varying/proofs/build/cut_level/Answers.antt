@@ -1,4 +1,5 @@
 use Rattle.std.proofs.Common.{arith, ap, ◌∙◌, length}
+use Rattle.std.proofs.lemmas.Result.{IfOk-weaker}
 use Rattle.subdiv_model.specs.Level.{Level}
 use Rattle.level_topology.specs.Builder.{Built}
 use Rattle.face_varying.specs.View.{mode_of}
@@ -101,11 +102,11 @@ returns-clause-level g c =
     let parts = parts-of (mode_of c.args.mode) c.requires.cuttable c.facts.ensures c.requires.apart c.requires.numbers c.requires.vertices c.requires.kept in
     let sides = with-sides parts c.in_ok-builder.builder c.add_faces.new.builder c.add_sides.new.builder c.in_ok-builder.ensures c.in_ok-add_faces.ensures.faces c.add_sides.ensures in
     let whole = with-all parts c.add_sides.new.builder c.add_points.new.builder sides c.add_points.ensures in
-    c.in_ok-cut.ensures.level ∙ ap (λ (b : Built). b.level) whole
+    IfOk-weaker c.finish.result _ _ (λ cut is. is ∙ ap (λ (b : Built). b.level) whole) c.finish.ensures.level
 
 pub returns-clause-complete : goal.returns-clause-complete
 returns-clause-complete g c =
     let parts = parts-of (mode_of c.args.mode) c.requires.cuttable c.facts.ensures c.requires.apart c.requires.numbers c.requires.vertices c.requires.kept in
     let sides = with-sides parts c.in_ok-builder.builder c.add_faces.new.builder c.add_sides.new.builder c.in_ok-builder.ensures c.in_ok-add_faces.ensures.faces c.add_sides.ensures in
     let whole = with-all parts c.add_sides.new.builder c.add_points.new.builder sides c.add_points.ensures in
-    c.in_ok-cut.ensures.complete ∙ ap (λ (b : Built). b.complete) whole
+    IfOk-weaker c.finish.result _ _ (λ cut is. is ∙ ap (λ (b : Built). b.complete) whole) c.finish.ensures.complete

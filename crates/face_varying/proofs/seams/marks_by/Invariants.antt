@@ -1,7 +1,7 @@
 use Rattle.std.proofs.Common.{◌≡◌, map, take}
 use Rattle.subdiv_model.specs.Edges.{edges_of}
 use Rattle.face_varying.specs.Corners.{is_apart}
-use Rattle.face_varying.proofs.seams.apart_edges.Given as goal
+use Rattle.face_varying.proofs.seams.marks_by.Given as goal
 
 -- the edges before this one have their marks
 abbrev pub invariant-loop-edge : goal.invariant-loop-edge
