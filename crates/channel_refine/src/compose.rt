@@ -53,7 +53,7 @@ pub fn compose_channel<L: Ledger>(
     let table = identity(alloc, base.points())?;
     let mut composed = ComposedChannel { level: base, table };
     for k in 0..depth {
-        composed = next(alloc, &composed, most, scheme, k + 1, steps)?;
+        composed = next(alloc, composed, most, scheme, k + 1, steps)?;
     }
     Ok(composed)
 }

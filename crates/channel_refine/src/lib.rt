@@ -5,6 +5,7 @@ mod by_table;
 mod compose;
 mod evaluated;
 mod fault;
+mod next_level;
 mod refine;
 mod step;
 mod table;

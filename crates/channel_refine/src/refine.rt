@@ -58,7 +58,7 @@ pub fn refine_channel<P: Primvar<L>, L: Ledger>(
         values: controls,
     };
     for k in 0..depth {
-        refined = next(alloc, &refined, most, scheme, k + 1, steps)?;
+        refined = next(alloc, refined, most, scheme, k + 1, steps)?;
     }
     Ok(refined)
 }

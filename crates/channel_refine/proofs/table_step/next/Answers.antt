@@ -1,17 +1,8 @@
 use Rattle.mask_rules.specs.View.{scheme_of}
 use Rattle.channel_refine.proofs.StepLemmas.{handed-on}
-use Rattle.channel_refine.proofs.TableStepLemmas.{step-made, step-fault}
 use Rattle.channel_refine.proofs.table_step.next.Goals as goal
 
-pub returns-in-Err-clause-composed : goal.returns-in-Err-clause-composed
-returns-in-Err-clause-composed g c = c.level_fault.ensures c.args.most c.args.channel.now.level _ _ c.in-Err.ensures.refined
-
-pub returns-in_err-table-clause-composed : goal.returns-in_err-table-clause-composed
-returns-in_err-table-clause-composed g c =
-    handed-on _ c.in_err-table.field-0.0 _ _ c.from_residual.ensures.0 c.from_residual.ensures.1
-    (step-fault c.args.channel.now.level c.in-Ok.child c.in-Ok.ensures.refined (scheme_of c.args.scheme) c.args.channel.now.table c.args.most c.args.number _ c.in_err-table.ensures)
-
-pub returns-clause-composed : goal.returns-clause-composed
-returns-clause-composed g c =
-    step-made c.args.channel.now.level c.in-Ok.child c.in-Ok.ensures.refined (scheme_of c.args.scheme) c.args.channel.now.table c.into_level.result c.args.most c.in_ok-table.table c.into_level.ensures
-    c.in_ok-table.ensures
+pub returns-in_err-child-clause-composed : goal.returns-in_err-child-clause-composed
+returns-in_err-child-clause-composed g c =
+    handed-on _ c.in_err-child.field-0.0 _ _ c.from_residual.ensures.0 c.from_residual.ensures.1
+    ((c.in_err-child.ensures.refined c.args.most (scheme_of c.args.scheme)).1 c.args.channel.table)
