@@ -229,15 +229,15 @@ built-same points some holes n vertices method complete numbers is m last corner
     joined e h x = cc
 
 -- nothing is there yet
-map-smooth : (k : ℕ) → map sharpness_of (replicate k declared.Smooth) ≡ replicate k Smooth
+pub map-smooth : (k : ℕ) → map sharpness_of (replicate k declared.Smooth) ≡ replicate k Smooth
 map-smooth zero = refl
 map-smooth (suc k) = ap (λ xs. Smooth ∷ xs) (map-smooth k)
 
-pub none-same : (points : ℕ) (method : Method) → built_of (length (replicate points false)) [] [] [] (map sharpness_of (replicate points declared.Smooth)) method (replicate points false) ≡ only_points points method
-none-same points method = rw (length-replicate points false, map-smooth points) refl
+pub none-same : (points : ℕ) (method : Method) → built_of (length (replicate points false)) [] [] [] (replicate points Smooth) method (replicate points false) ≡ only_points points method
+none-same points method = rw (length-replicate points false) refl
 
-pub built-none : (points limit : ℕ) (method : Method) → points ≤ 2 ^ 30 → IsBuilt (built_of (length (replicate points false)) [] [] [] (map sharpness_of (replicate points declared.Smooth)) method (replicate points false)) (numbered [] [] [] limit) []
-built-none points limit method few = rw (map-smooth points) (record {
+pub built-none : (points limit : ℕ) (method : Method) → points ≤ 2 ^ 30 → IsBuilt (built_of (length (replicate points false)) [] [] [] (replicate points Smooth) method (replicate points false)) (numbered [] [] [] limit) []
+built-none points limit method few = record {
   over = refl;
   holes = refl;
   vertices = length-replicate points Smooth ∙ sym (length-replicate points false);
@@ -255,4 +255,4 @@ built-none points limit method few = rw (map-smooth points) (record {
   };
   sharpness = refl;
   face_edges = refl;
-})
+}

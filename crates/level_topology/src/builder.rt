@@ -1,16 +1,19 @@
 //! A level put together from faces, in linear time.
 
-ghost use Rattle.std.specs.Prelude.{◌≡◌, ◌+◌, ◌^◌, ◌<◌, ◌≤◌, true, length, map, IfOk, OnOk, OnErr, IsTrue, replicate, vec_len};
+ghost use Rattle.std.specs.Prelude.{◌≡◌, ◌+◌, ◌^◌, ◌<◌, ◌≤◌, true, false, length, map, IfOk, OnOk, OnErr, IsTrue, replicate, vec_len};
+ghost use Rattle.std.specs.Vec.{vec_capacity};
 ghost use Rattle.std.specs.List.{All, list_any, sum_by};
 ghost use Rattle.subdiv_model.specs.Polygons.{same_edge};
 ghost use Rattle.subdiv_model.specs.Edges.{edges_of};
 ghost use Rattle.subdiv_model.specs.Manifold.{is_simple};
+ghost use Rattle.subdiv_model.specs.Sharpness.{Smooth};
 ghost use Rattle.sharpness_rules.specs.View.{sharpness_of, method_of};
 ghost use Rattle.level_topology.specs.Builder.{only_points, with_polygon, with_sharp_edge, with_sharp_vertex, with_complete, has_new_sides};
 
 use crate::builder_edges::NumberedEdges;
 use crate::builder_places::filled;
 use crate::pairs::Pairs;
+use crate::tables::face_tables;
 use ratio128::{Memory, Steps};
 use sharpness_rules::{Method, Sharpness};
 use std::alloc::Global;
@@ -44,6 +47,46 @@ impl Model for LevelBuilder {
     ghost invariant = { λ b. IsBuilt (built_of (length b.complete.items) b.faces.lists b.holes.items b.edges.sharpness (map sharpness_of b.vertex_sharpness.items) (method_of b.method) b.complete.items) b.edges b.faces.beside };
 }
 
+// Makes room for a face more, which has so many corners.
+fn make_room(
+    faces: &mut Pairs<u32>,
+    holes: &mut Vec<bool>,
+    edges: &mut NumberedEdges,
+    numbers: &mut Vec<u32>,
+    corners: u32,
+) -> Result<(), Memory>
+    requires few { length faces.old.lists + 1 < 2 ^ 32 }
+    requires short { sum_by length faces.old.lists + corners < 2 ^ 32 }
+    requires few_edges { length edges.old.ends + corners < 2 ^ 32 }
+    ensures lists { faces.new.lists ≡ faces.old.lists }
+    ensures beside { faces.new.beside ≡ faces.old.beside }
+    ensures holes { holes.new.items ≡ holes.old.items }
+    ensures ends { edges.new.ends ≡ edges.old.ends }
+    ensures faces { edges.new.faces ≡ edges.old.faces }
+    ensures sharpness { edges.new.sharpness ≡ edges.old.sharpness }
+    ensures numbers { numbers.new.items ≡ numbers.old.items }
+    ensures list_room { OnOk result (length faces.new.lists < faces.new.list_limit) }
+    ensures item_room { OnOk result (sum_by length faces.new.lists + corners ≤ faces.new.item_limit) }
+    ensures hole_room { OnOk result (vec_len holes.new < vec_capacity holes.new) }
+    ensures edge_room { OnOk result (length edges.new.ends + corners ≤ edges.new.limit) }
+    ensures number_room { OnOk result (vec_len numbers.new + corners ≤ vec_capacity numbers.new) }
+{
+    faces.make_room(1, corners)?;
+    holes.reserve(1)?;
+    edges.make_room(corners)?;
+    numbers.reserve(corners as usize)?;
+    Ok(())
+}
+
+// Marks for so many points: all smooth, and none complete.
+fn point_marks(alloc: Global, points: u32) -> Result<(Vec<Sharpness>, Vec<bool>), Memory>
+    ensures smooth { IfOk result (λ marks. map sharpness_of marks.0.items ≡ replicate points Smooth) }
+    ensures none { IfOk result (λ marks. marks.1.items ≡ replicate points false) }
+{
+    let vertex_sharpness = filled(alloc, Sharpness::Smooth, points as usize)?;
+    Ok((vertex_sharpness, filled(alloc, false, points as usize)?))
+}
+
 impl LevelBuilder {
     /// So many points, and nothing else. Whoever chooses the numbers of points can make the edges take long to number:
     /// `with_key` is for meshes from outside.
@@ -69,14 +112,17 @@ impl LevelBuilder {
         requires { points ≤ 2 ^ 30 }
         ensures { IfOk result (λ b. b ≡ only_points points (method_of method)) }
     {
+        let (vertex_sharpness, complete) = point_marks(alloc, points)?;
+        let (faces, holes) = face_tables(alloc, faces, corners)?;
+        let edges = NumberedEdges::with_room(alloc, edges, key)?;
         Ok(LevelBuilder {
             alloc,
-            faces: Pairs::with_room(alloc, faces, corners)?,
-            holes: Vec::with_capacity(alloc, faces as usize)?,
-            edges: NumberedEdges::with_room(alloc, edges, key)?,
+            faces,
+            holes,
+            edges,
             numbers: Vec::new(alloc),
-            vertex_sharpness: filled(alloc, Sharpness::Smooth, points as usize)?,
-            complete: filled(alloc, false, points as usize)?,
+            vertex_sharpness,
+            complete,
             method,
         })
     }
@@ -100,12 +146,14 @@ impl LevelBuilder {
         ensures steps { steps.new ≡ steps.old + 1 }
     {
         steps.tick();
-        let count = corners.len() as u32;
-        self.faces.make_room(1, count)?;
-        self.holes.reserve(1)?;
-        self.edges.make_room(count)?;
         self.numbers.clear();
-        self.numbers.reserve(corners.len())?;
+        make_room(
+            &mut self.faces,
+            &mut self.holes,
+            &mut self.edges,
+            &mut self.numbers,
+            corners.len() as u32,
+        )?;
         let face = self.faces.len() as u32;
         self.edges.number_all(corners, face, &mut self.numbers);
         self.faces.push(corners, &self.numbers);

@@ -220,12 +220,19 @@ impl NumberedEdges {
         }
     }
 
-    // The ends, the faces and the sharpness of all edges.
-    pub(crate) fn into_parts(self) -> (Vec<(u32, u32)>, Vec<(u32, u32)>, Vec<Sharpness>)
+    // The sharpness of all edges.
+    pub(crate) fn all_sharpness(&self) -> &[Sharpness]
+        ensures values { map sharpness_of result.now ≡ self.now.sharpness }
+        ensures few { length result.now < 2 ^ 32 }
+    {
+        &self.sharpness
+    }
+
+    // The ends and the faces of all edges.
+    pub(crate) fn into_parts(self) -> (Vec<(u32, u32)>, Vec<(u32, u32)>)
         ensures ends { result.0.items ≡ self.ends }
         ensures faces { result.1.items ≡ self.faces }
-        ensures sharpness { map sharpness_of result.2.items ≡ self.sharpness }
     {
-        (self.ends, self.faces, self.sharpness)
+        (self.ends, self.faces)
     }
 }

@@ -12,6 +12,7 @@ use crate::builder::LevelBuilder;
 use crate::builder_fan::note_corners;
 use ratio128::Memory;
 use std::alloc::Global;
+use std::mem::swap;
 
 // The faces and the edges at a point, with its corner of each face and its end of each edge.
 #[derive(Drop)]
@@ -177,33 +178,33 @@ impl Row {
 }
 
 impl LevelBuilder {
-    // The lists at a point: in fan order where it is complete, and ascending where it is not.
+    // Puts the lists at a point, which ascend, in fan order where it is complete.
     pub(crate) fn order(
         &self,
         v: u32,
-        listed: Row,
-        turned: Row,
+        row: &mut Row,
+        spare: &mut Row,
         corners: &mut Vec<u16>,
-    ) -> Result<(Row, Row), Memory>
-        requires faces { listed.faces.items ≡ faces_of_point self.now.level.polygons v }
-        requires at { listed.faces_at.items ≡ map (corner_of self.now.level.polygons v) listed.faces.items }
-        requires edges { listed.edges.items ≡ edge_numbers_at self.now.level.polygons v }
-        requires ends { listed.edges_at.items ≡ map (end_of self.now.level.polygons v) listed.edges.items }
+    ) -> Result<(), Memory>
+        requires faces { row.old.faces.items ≡ faces_of_point self.now.level.polygons v }
+        requires at { row.old.faces_at.items ≡ map (corner_of self.now.level.polygons v) row.old.faces.items }
+        requires edges { row.old.edges.items ≡ edge_numbers_at self.now.level.polygons v }
+        requires ends { row.old.edges_at.items ≡ map (end_of self.now.level.polygons v) row.old.edges.items }
         requires point { v < self.now.level.point_count }
         requires fan { get_or self.now.complete v false ≡ true → IsTrue (has_one_fan self.now.level.polygons v) }
         requires size { length corners.old.items ≡ length self.now.level.polygons }
-        ensures row { IfOk result (λ r. IsRow self.now.level.polygons v (get_or self.now.complete v false) r.0.faces.items r.0.faces_at.items r.0.edges.items r.0.edges_at.items) }
+        ensures row { OnOk result (IsRow self.now.level.polygons v (get_or self.now.complete v false) row.new.faces.items row.new.faces_at.items row.new.edges.items row.new.edges_at.items) }
         ensures size { length corners.new.items ≡ length corners.old.items }
     {
         self.facts();
         if !self.complete[v as usize] {
-            return Ok((listed, turned));
+            return Ok(());
         }
-        if listed.faces.is_empty() {
-            return Ok((listed, turned));
+        if row.faces.is_empty() {
+            return Ok(());
         }
-        let mut turned = turned;
-        self.turn(v, &listed, corners, &mut turned)?;
-        Ok((turned, listed))
+        self.turn(v, row, corners, spare)?;
+        swap(row, spare);
+        Ok(())
     }
 }

@@ -121,9 +121,9 @@ pub(crate) fn tables_of(
     parent.facts();
     level.facts();
     let (vertices, faces) = (parent.points(), parent.faces());
-    let (numbers, points) = number_points(alloc, vertices, faces, parent.edges(), origins)?;
     let starts = Vec::from_slice(alloc, parent.corner_starts())?;
     let child_faces = place_faces(alloc, &starts, starts[faces as usize], places)?;
+    let (numbers, points) = number_points(alloc, vertices, faces, parent.edges(), origins)?;
     Ok(ChildTables {
         vertices,
         faces,

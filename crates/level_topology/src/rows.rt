@@ -9,8 +9,7 @@ ghost use Rattle.level_topology.specs.View.{listed, faces_of_pair, rows_of};
 use crate::faces::EdgeFaces;
 use crate::level::Level;
 use crate::pairs::Pairs;
-use crate::sharps::Sharps;
-use crate::tables::Tables;
+use crate::tables::{Tables, edge_tables, face_tables, mark_tables};
 use ratio128::{Memory, Steps};
 use sharpness_rules::{Method, Sharpness};
 use std::alloc::Global;
@@ -56,17 +55,22 @@ impl LevelRows {
           edge_places = edge_places;
         }) (method_of method)) }
     {
+        let (vertex_sharpness, complete) = mark_tables(alloc, points)?;
+        let (edge_vertices, edge_faces, edge_sharpness) = edge_tables(alloc, edges)?;
+        let (faces, holes) = face_tables(alloc, faces, corners)?;
+        let vertex_faces = Pairs::with_room(alloc, points, face_places)?;
+        let vertex_edges = Pairs::with_room(alloc, points, edge_places)?;
         Ok(LevelRows {
             tables: Tables {
-                faces: Pairs::with_room(alloc, faces, corners)?,
-                holes: Vec::with_capacity(alloc, faces as usize)?,
-                edge_vertices: Vec::with_capacity(alloc, edges as usize)?,
-                edge_faces: Vec::with_capacity(alloc, edges as usize)?,
-                edge_sharpness: Sharps::with_room(alloc, edges)?,
-                vertex_faces: Pairs::with_room(alloc, points, face_places)?,
-                vertex_edges: Pairs::with_room(alloc, points, edge_places)?,
-                vertex_sharpness: Sharps::with_room(alloc, points)?,
-                complete: Vec::with_capacity(alloc, points as usize)?,
+                faces,
+                holes,
+                edge_vertices,
+                edge_faces,
+                edge_sharpness,
+                vertex_faces,
+                vertex_edges,
+                vertex_sharpness,
+                complete,
                 method,
             },
         })

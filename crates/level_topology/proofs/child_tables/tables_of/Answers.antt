@@ -40,7 +40,7 @@ place_faces-requires-clause-once c =
     rw (c.deref.ensures.value, c.in_ok-starts.ensures.items)
     (place-pairs c.args.parent.now.level.polygons c.corner_starts.result.now c.corner_starts.ensures.gaps c.corner_starts.ensures.ascend (map place_of c.args.places.now) c.requires.places_within c.requires.places_once)
 
-both : (c : goal.In_ok-child_faces)
+both : (c : goal.In_ok-numbers)
     → let t : ChildTables = record {
       vertices = c.points-vertices.result;
       faces = c.faces-faces.result;

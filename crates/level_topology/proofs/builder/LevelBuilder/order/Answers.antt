@@ -2,6 +2,7 @@ use Rattle.std.proofs.Common.{subst, ◌≡◌, ◌<◌, ◌∙◌, Bool, false,
 use Rattle.std.proofs.lemmas.List.{get_or_default}
 use Rattle.level_topology.specs.BuilderFan.{IsRow}
 use Rattle.level_topology.specs.Builder.{Built}
+use Rattle.level_topology.specs.declared.builder_turn.Row.{Row}
 use Rattle.level_topology.proofs.TurnLemmas.{plain-row, empty-row, nothing-there}
 use Rattle.level_topology.proofs.builder.LevelBuilder.order.Goals as goal
 
@@ -11,13 +12,13 @@ returns-then-not-index-clause-row c =
     let same : c.self.inside.complete.items ≡ now.complete = ap (λ (b : Built). b.complete) c.self.view_is in
     let below : c.args.v < length c.self.inside.complete.items = subst (λ (b : Built). c.args.v < b.level.point_count) (sym c.self.view_is) c.requires.point in
     let mark : get_or now.complete c.args.v false ≡ c.index.result.now = ap (λ xs. get_or xs c.args.v false) (sym same) ∙ sym (c.index.ensures ∙ get_or_default c.self.inside.complete.items c.args.v c.index.result.now false below) in
-    subst (λ (b : Bool). IsRow now.level.polygons c.args.v b c.args.listed.faces.items c.args.listed.faces_at.items c.args.listed.edges.items c.args.listed.edges_at.items) (sym (mark ∙ c.if-not-index.true))
-    (plain-row now.level.polygons c.args.v c.args.listed.faces.items c.args.listed.faces_at.items c.args.listed.edges.items c.args.listed.edges_at.items c.requires.faces c.requires.at c.requires.edges c.requires.ends)
+    subst (λ (b : Bool). IsRow now.level.polygons c.args.v b c.args.row.now.faces.items c.args.row.now.faces_at.items c.args.row.now.edges.items c.args.row.now.edges_at.items) (sym (mark ∙ c.if-not-index.true))
+    (plain-row now.level.polygons c.args.v c.args.row.now.faces.items c.args.row.now.faces_at.items c.args.row.now.edges.items c.args.row.now.edges_at.items c.requires.faces c.requires.at c.requires.edges c.requires.ends)
 
 pub returns-then-is_empty-clause-row : goal.returns-then-is_empty-clause-row
 returns-then-is_empty-clause-row c =
-    let n : length c.args.listed.faces.items ≡ 0 = search rules in
-    empty-row c.args.self.now.level.polygons c.args.v (get_or c.args.self.now.complete c.args.v false) c.args.listed.faces.items c.args.listed.faces_at.items c.args.listed.edges.items c.args.listed.edges_at.items (nothing-there c.args.listed.faces.items n) c.requires.faces c.requires.at c.requires.edges c.requires.ends
+    let n : length c.args.row.now.faces.items ≡ 0 = search rules in
+    empty-row c.args.self.now.level.polygons c.args.v (get_or c.args.self.now.complete c.args.v false) c.args.row.now.faces.items c.args.row.now.faces_at.items c.args.row.now.edges.items c.args.row.now.edges_at.items (nothing-there c.args.row.now.faces.items n) c.requires.faces c.requires.at c.requires.edges c.requires.ends
 
 pub returns-clause-row : goal.returns-clause-row
 returns-clause-row c =
@@ -25,4 +26,6 @@ returns-clause-row c =
     let same : c.self.inside.complete.items ≡ now.complete = ap (λ (b : Built). b.complete) c.self.view_is in
     let below : c.args.v < length c.self.inside.complete.items = subst (λ (b : Built). c.args.v < b.level.point_count) (sym c.self.view_is) c.requires.point in
     let mark : get_or now.complete c.args.v false ≡ c.index.result.now = ap (λ xs. get_or xs c.args.v false) (sym same) ∙ sym (c.index.ensures ∙ get_or_default c.self.inside.complete.items c.args.v c.index.result.now false below) in
-    subst (λ (b : Bool). IsRow now.level.polygons c.args.v b c.turn.new.turned.faces.items c.turn.new.turned.faces_at.items c.turn.new.turned.edges.items c.turn.new.turned.edges_at.items) (sym (mark ∙ c.if-not-index.false)) c.in_ok-turn.ensures.row
+    let kept : IsRow now.level.polygons c.args.v (get_or now.complete c.args.v false) c.turn.new.turned.faces.items c.turn.new.turned.faces_at.items c.turn.new.turned.edges.items c.turn.new.turned.edges_at.items =
+    subst (λ (b : Bool). IsRow now.level.polygons c.args.v b c.turn.new.turned.faces.items c.turn.new.turned.faces_at.items c.turn.new.turned.edges.items c.turn.new.turned.edges_at.items) (sym (mark ∙ c.if-not-index.false)) c.in_ok-turn.ensures.row in
+    subst (λ (r : Row). IsRow now.level.polygons c.args.v (get_or now.complete c.args.v false) r.faces.items r.faces_at.items r.edges.items r.edges_at.items) (sym c.swap.ensures.x_after) kept
