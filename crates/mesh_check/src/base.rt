@@ -169,6 +169,56 @@ fn mark_points(builder: &mut LevelBuilder, points: u32)
     }
 }
 
+// Gives points alone the faces, the sharpness and the marks of the mesh.
+fn add_all<L: Ledger>(
+    alloc: Global,
+    raw: &RawMesh,
+    edges: &[u64],
+    boundary: &[(u32, u32)],
+    holes: &[bool],
+    builder: &mut LevelBuilder,
+    steps: &mut Steps<L>,
+) -> Result<(), Memory>
+    requires fit { IsFit raw.now }
+    requires edges { AreEdges raw.now.faces edges.now }
+    requires boundary { boundary.now ≡ filter (is_boundary raw.now.faces) (all_sides raw.now.faces) }
+    requires holes { holes.now ≡ map (is_base_hole raw.now) (enumerate_from 0 raw.now.faces) }
+    requires alone { builder.old ≡ only_points (length raw.now.points) raw.now.method }
+    ensures all { OnOk result (builder.new ≡ all_complete (tagged_built raw.now holes.now)) }
+    ensures steps { steps.new ≤ steps.old + length raw.now.faces }
+    ensures later { steps.old ≤ steps.new }
+{
+    add_faces(builder, raw, holes, steps)?;
+    add_tags(alloc, raw, edges, boundary, builder)?;
+    mark_points(builder, raw.points().len() as u32);
+    Ok(())
+}
+
+// Level 0 of a mesh without fault, from its points alone.
+fn finished<L: Ledger>(
+    alloc: Global,
+    raw: &RawMesh,
+    edges: &[u64],
+    boundary: &[(u32, u32)],
+    holes: &[bool],
+    mut builder: LevelBuilder,
+    steps: &mut Steps<L>,
+) -> Result<Level, Memory>
+    requires fit { IsFit raw.now }
+    requires edges { AreEdges raw.now.faces edges.now }
+    requires boundary { boundary.now ≡ filter (is_boundary raw.now.faces) (all_sides raw.now.faces) }
+    requires holes { holes.now ≡ map (is_base_hole raw.now) (enumerate_from 0 raw.now.faces) }
+    requires alone { builder ≡ only_points (length raw.now.points) raw.now.method }
+    ensures level { IfOk result (λ level. level.level ≡ base_level raw.now) }
+    ensures complete { IfOk result (λ level. level.complete ≡ replicate (length raw.now.points) true) }
+    ensures steps { steps.new ≤ steps.old + length raw.now.faces }
+    ensures later { steps.old ≤ steps.new }
+{
+    add_all(alloc, raw, edges, boundary, holes, &mut builder, steps)?;
+    let level = builder.finish()?;
+    Ok(level)
+}
+
 // Level 0 of a mesh without fault, by the numbers of its edges, its boundary edges and the marks of its holes. Each face
 // takes a step.
 pub(crate) fn base_level<L: Ledger>(
@@ -188,10 +238,6 @@ pub(crate) fn base_level<L: Ledger>(
     ensures steps { steps.new ≤ steps.old + length raw.now.faces }
     ensures later { steps.old ≤ steps.new }
 {
-    let mut builder = points_alone(alloc, raw, boundary.len())?;
-    add_faces(&mut builder, raw, holes, steps)?;
-    add_tags(alloc, raw, edges, boundary, &mut builder)?;
-    mark_points(&mut builder, raw.points().len() as u32);
-    let level = builder.finish()?;
-    Ok(level)
+    let builder = points_alone(alloc, raw, boundary.len())?;
+    finished(alloc, raw, edges, boundary, holes, builder, steps)
 }

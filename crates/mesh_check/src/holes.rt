@@ -4,6 +4,7 @@ ghost use Rattle.std.specs.Prelude.{◌≡◌, ℕ, ◌<◌, ◌||◌, nat_eq, l
 ghost use Rattle.std.specs.List.{filter, list_any, enumerate_from};
 ghost use Rattle.subdiv_model.specs.Edges.{all_sides, is_boundary, has_end};
 ghost use Rattle.subdiv_model.specs.Base.{is_base_hole};
+ghost use Rattle.subdiv_model.specs.Polygons.{is_among};
 ghost use Rattle.obj_tags.specs.Laws.{IsWithin};
 ghost use Rattle.mesh_check.specs.Holes.{is_hiding};
 
@@ -18,9 +19,11 @@ fn end_marks(alloc: Global, count: usize, sides: &[(u32, u32)]) -> Result<Vec<u3
     ensures ends { IfOk result (λ marks. (v : ℕ) → v < count → nat_eq (get_or marks.items v 0) 1 ≡ list_any (has_end v) sides.now) }
 {
     let mut marks = no_marks(alloc, count)?;
-    for side in sides {
+    let mut rest = sides;
+    while let [side, others @ ..] = rest {
         set_mark(&mut marks, side.0);
         set_mark(&mut marks, side.1);
+        rest = others;
     }
     Ok(marks)
 }
@@ -57,6 +60,25 @@ fn is_hole(named: &[u32], hiding: &[u32], f: u32, face: &[u32]) -> bool
     is_marked(named, f) || has_marked(hiding, face)
 }
 
+// Whether each face is a hole, by these marks.
+fn holes_by(
+    alloc: Global,
+    raw: &RawMesh,
+    named: &[u32],
+    hiding: &[u32],
+) -> Result<Vec<bool>, Memory>
+    requires within { IsWithin raw.now }
+    requires named { (j : ℕ) → j < length raw.now.faces → nat_eq (get_or named.now j 0) 1 ≡ is_among raw.now.holes j }
+    requires hiding { (v : ℕ) → v < length raw.now.points → nat_eq (get_or hiding.now v 0) 1 ≡ is_hiding raw.now.boundary (filter (is_boundary raw.now.faces) (all_sides raw.now.faces)) v }
+    ensures { IfOk result (λ marks. marks.items ≡ map (is_base_hole raw.now) (enumerate_from 0 raw.now.faces)) }
+{
+    let mut holes = Vec::with_capacity(alloc, raw.faces() as usize)?;
+    for f in 0..raw.faces() {
+        holes.push(is_hole(named, hiding, f, raw.face(f)))?;
+    }
+    Ok(holes)
+}
+
 // Whether each face is a hole, from the sides at the boundary.
 pub(crate) fn hole_marks(
     alloc: Global,
@@ -69,9 +91,5 @@ pub(crate) fn hole_marks(
 {
     let named = marks_of(alloc, raw.faces() as usize, raw.holes())?;
     let hiding = hiding_points(alloc, raw, boundary)?;
-    let mut holes = Vec::with_capacity(alloc, raw.faces() as usize)?;
-    for f in 0..raw.faces() {
-        holes.push(is_hole(&named, &hiding, f, raw.face(f)))?;
-    }
-    Ok(holes)
+    holes_by(alloc, raw, &named, &hiding)
 }

@@ -34,8 +34,10 @@ pub(crate) fn side_keys(alloc: Global, sides: &[(u32, u32)]) -> Result<Vec<u64>,
     ensures words { OnOk result (AreWords sides.now) }
 {
     let mut keys = Vec::with_capacity(alloc, sides.len())?;
-    for side in sides {
+    let mut rest = sides;
+    while let [side, others @ ..] = rest {
         keys.push(side_key(*side))?;
+        rest = others;
     }
     Ok(keys)
 }
@@ -46,8 +48,10 @@ pub(crate) fn edge_keys(alloc: Global, sides: &[(u32, u32)]) -> Result<Vec<u64>,
     ensures words { OnOk result (AreWords sides.now) }
 {
     let mut keys = Vec::with_capacity(alloc, sides.len())?;
-    for side in sides {
+    let mut rest = sides;
+    while let [side, others @ ..] = rest {
         keys.push(edge_key(*side))?;
+        rest = others;
     }
     Ok(keys)
 }

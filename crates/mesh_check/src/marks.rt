@@ -10,10 +10,7 @@ use std::alloc::Global;
 pub(crate) fn no_marks(alloc: Global, count: usize) -> Result<Vec<u32>, Memory>
     ensures { IfOk result (λ marks. marks.items ≡ replicate count 0) }
 {
-    let mut marks = Vec::with_capacity(alloc, count)?;
-    while marks.len() < count {
-        marks.push_reserved(0);
-    }
+    let marks = vec![in alloc; 0; count]?;
     Ok(marks)
 }
 
@@ -43,8 +40,10 @@ pub(crate) fn marks_of(alloc: Global, count: usize, places: &[u32]) -> Result<Ve
     ensures set { IfOk result (λ marks. (j : ℕ) → j < count → nat_eq (get_or marks.items j 0) 1 ≡ is_among places.now j) }
 {
     let mut marks = no_marks(alloc, count)?;
-    for i in 0..places.len() {
-        set_mark(&mut marks, places[i]);
+    let mut rest = places;
+    while let [place, others @ ..] = rest {
+        set_mark(&mut marks, *place);
+        rest = others;
     }
     Ok(marks)
 }

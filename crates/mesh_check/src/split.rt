@@ -39,8 +39,10 @@ fn befores_of(alloc: Global, turns: &[Turn]) -> Result<Vec<u32>, Memory>
     ensures { IfOk result (λ corners. corners.items ≡ map (λ turn. turn.before) turns.now) }
 {
     let mut corners = Vec::with_capacity(alloc, turns.len())?;
-    for turn in turns {
+    let mut rest = turns;
+    while let [turn, others @ ..] = rest {
         corners.push(turn.before)?;
+        rest = others;
     }
     Ok(corners)
 }
@@ -50,8 +52,10 @@ fn afters_of(alloc: Global, turns: &[Turn]) -> Result<Vec<u32>, Memory>
     ensures { IfOk result (λ corners. corners.items ≡ map (λ turn. turn.after) turns.now) }
 {
     let mut corners = Vec::with_capacity(alloc, turns.len())?;
-    for turn in turns {
+    let mut rest = turns;
+    while let [turn, others @ ..] = rest {
         corners.push(turn.after)?;
+        rest = others;
     }
     Ok(corners)
 }

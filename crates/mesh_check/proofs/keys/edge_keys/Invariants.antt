@@ -1,10 +1,13 @@
-use Rattle.std.proofs.Common.{◌≡◌, map, take}
+use Rattle.std.proofs.Common.{◌≡◌, ◌++◌, map, length}
 use Rattle.mesh_check.specs.Keys.{AreWords, edge_key}
 use Rattle.mesh_check.proofs.keys.edge_keys.Given as goal
 
--- the numbers of the sides before this one
-abbrev pub invariant-loop-side : goal.invariant-loop-side
-invariant-loop-side l = record {
-  keys : l.keys.items ≡ map edge_key (take l.side-index l.sides);
-  words : AreWords (take l.side-index l.sides);
+-- the numbers that are there, and those of the rest, are all
+abbrev pub invariant-loop-rest : goal.invariant-loop-rest
+invariant-loop-rest l = record {
+  keys : l.keys.items ++ map edge_key l.rest ≡ map edge_key l.sides;
+  words : AreWords l.rest → AreWords l.sides;
 }
+
+abbrev pub decreases-loop-rest : goal.decreases-loop-rest
+decreases-loop-rest l = length l.rest

@@ -1,5 +1,9 @@
-use Rattle.std.proofs.Common.{◌≡◌, map, take}
+use Rattle.std.proofs.Common.{◌≡◌, ◌++◌, map, length}
 use Rattle.mesh_check.proofs.split.befores_of.Given as goal
 
-abbrev pub invariant-loop-turn : goal.invariant-loop-turn
-invariant-loop-turn l = l.corners.items ≡ map (λ turn. turn.before) (take l.turn-index l.turns)
+-- the corners that are there, and those of the rest, are all
+abbrev pub invariant-loop-rest : goal.invariant-loop-rest
+invariant-loop-rest l = l.corners.items ++ map (λ turn. turn.before) l.rest ≡ map (λ turn. turn.before) l.turns
+
+abbrev pub decreases-loop-rest : goal.decreases-loop-rest
+decreases-loop-rest l = length l.rest

@@ -1,10 +1,10 @@
 use Rattle.std.proofs.Common.{ap, sym, ◌∙◌, length}
 use Rattle.std.proofs.lemmas.List.{length-replicate}
 use Rattle.level_topology.specs.Builder.{Built}
-use Rattle.mesh_check.specs.Base.{all_complete}
+use Rattle.mesh_check.specs.Base.{all_complete, tagged_built}
 use Rattle.mesh_check.proofs.CountLemmas.{point-count}
-use Rattle.mesh_check.proofs.BaseLemmas.{own-marks, base-fans, base-level, base-marks}
-use Rattle.mesh_check.proofs.base.base_level.Goals as goal
+use Rattle.mesh_check.proofs.BaseLemmas.{own-marks, base-marks}
+use Rattle.mesh_check.proofs.base.add_all.Goals as goal
 
 pub add_faces-requires-clause-holes : goal.add_faces-requires-clause-holes
 add_faces-requires-clause-holes g c = base-marks c.args.raw.now c.args.holes.now c.requires.holes
@@ -19,13 +19,5 @@ pub mark_points-requires-clause-marks : goal.mark_points-requires-clause-marks
 mark_points-requires-clause-marks g c =
     ap (λ (b : Built). length b.complete) c.in_ok-add_tags.ensures ∙ length-replicate (length c.args.raw.now.points) _ ∙ sym (point-count c.points.result.now _ c.points.ensures)
 
-pub finish-requires : goal.finish-requires
-finish-requires g c = record { fans = base-fans c.args.raw.now _ _ c.requires.fit (c.mark_points.ensures ∙ ap all_complete c.in_ok-add_tags.ensures) }
-
-pub returns-clause-level : goal.returns-clause-level
-returns-clause-level g c =
-    c.in_ok-level.ensures.level ∙ ap (λ (b : Built). b.level) (c.mark_points.ensures ∙ ap all_complete c.in_ok-add_tags.ensures)
-    ∙ base-level c.args.raw.now _ (ap (λ (b : Built). b.level.holes) c.in_ok-add_faces.ensures.faces ∙ c.requires.holes)
-
-pub returns-clause-complete : goal.returns-clause-complete
-returns-clause-complete g c = c.in_ok-level.ensures.complete ∙ ap (λ (b : Built). b.complete) (c.mark_points.ensures ∙ ap all_complete c.in_ok-add_tags.ensures)
+pub returns-clause-all : goal.returns-clause-all
+returns-clause-all g c = c.mark_points.ensures ∙ ap all_complete (c.in_ok-add_tags.ensures ∙ ap (λ (b : Built). tagged_built c.args.raw.now b.level.holes) c.in_ok-add_faces.ensures.faces)

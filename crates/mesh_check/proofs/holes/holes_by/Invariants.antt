@@ -1,7 +1,7 @@
 use Rattle.std.proofs.Common.{◌≡◌, ◌++◌, map, drop}
 use Rattle.std.specs.List.{enumerate_from}
 use Rattle.subdiv_model.specs.Base.{is_base_hole}
-use Rattle.mesh_check.proofs.holes.hole_marks.Given as goal
+use Rattle.mesh_check.proofs.holes.holes_by.Given as goal
 
 -- the marks that are there, and those of the faces from here on, are all
 abbrev pub invariant-loop-f : goal.invariant-loop-f
