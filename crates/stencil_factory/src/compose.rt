@@ -9,6 +9,7 @@ ghost use Rattle.mask_rules.specs.View.{scheme_of};
 ghost use Rattle.primvar_refine.specs.Step.{CanRefine, mask_from};
 ghost use Rattle.primvar_refine.specs.Found.{IsFoundOver, IsFaultOver};
 ghost use Rattle.stencil_apply.specs.Table.{Table};
+ghost use Rattle.stencil_apply.specs.Built.{no_rows};
 ghost use Rattle.stencil_apply.specs.Arrays.{shares_of};
 ghost use Rattle.stencil_factory.specs.Rows.{dens_of};
 ghost use Rattle.stencil_factory.specs.Scratch.{shares_from};
@@ -132,6 +133,73 @@ fn compose_row(
     sum_rows(table, &room.weights, &mut room.controls, &mut room.entries)
 }
 
+// Puts the rows of all child points.
+fn put_rows(
+    alloc: Global,
+    table: &StencilTable,
+    parent: &Level,
+    child: &Child,
+    scheme: Scheme,
+    survey: &Survey,
+    room: &mut Room,
+    builder: &mut TableBuilder,
+) -> Result<(), Memory>
+    requires child { CanRefine parent.now child.now (scheme_of scheme) }
+    requires each { length table.now.rows ≡ parent.now.level.point_count }
+    requires survey { IsFoundOver parent.now.level (scheme_of scheme) child.now.origins (dens_of table.now) survey.now }
+    requires few { entries_from parent.now.level (scheme_of scheme) child.now.origins table.now ≤ entry_bound }
+    requires points { room.old.points ≡ replicate parent.now.level.point_count 0 }
+    requires controls { room.old.controls ≡ replicate table.now.controls 0 }
+    requires none { builder.old.table ≡ no_rows table.now.controls }
+    ensures { OnOk result (IsComposed parent.now.level (scheme_of scheme) child.now.origins table.now builder.new.table) }
+{
+    parent.facts();
+    child.facts();
+    table.facts();
+    for p in 0..child.level().points() {
+        compose_row(alloc, table, parent, child, p, scheme, survey, room)?;
+        builder.add_row(survey.dens[p as usize], &room.entries)?;
+    }
+    Ok(())
+}
+
+// The rows of all child points, which have so many entries in all, composed in this room.
+fn rows_in(
+    alloc: Global,
+    table: &StencilTable,
+    parent: &Level,
+    child: &Child,
+    scheme: Scheme,
+    survey: &Survey,
+    entries: u64,
+    room: &mut Room,
+) -> Result<StencilTable, Memory>
+    requires child { CanRefine parent.now child.now (scheme_of scheme) }
+    requires each { length table.now.rows ≡ parent.now.level.point_count }
+    requires survey { IsFoundOver parent.now.level (scheme_of scheme) child.now.origins (dens_of table.now) survey.now }
+    requires counted { entries ≡ entries_from parent.now.level (scheme_of scheme) child.now.origins table.now }
+    requires few { entries ≤ entry_bound }
+    requires points { room.old.points ≡ replicate parent.now.level.point_count 0 }
+    requires controls { room.old.controls ≡ replicate table.now.controls 0 }
+    ensures { IfOk result (λ composed. IsComposed parent.now.level (scheme_of scheme) child.now.origins table.now composed) }
+{
+    table.facts();
+    // Each row has an entry, so that there are no more rows.
+    let rows = child.level().points().min(entries as u32);
+    let mut builder = TableBuilder::with_room(alloc, table.controls(), rows, entries)?;
+    put_rows(
+        alloc,
+        table,
+        parent,
+        child,
+        scheme,
+        survey,
+        room,
+        &mut builder,
+    )?;
+    Ok(builder.finish())
+}
+
 // The rows of all child points, which have so many entries in all.
 fn compose_rows(
     alloc: Global,
@@ -150,18 +218,36 @@ fn compose_rows(
     ensures { IfOk result (λ composed. IsComposed parent.now.level (scheme_of scheme) child.now.origins table.now composed) }
 {
     parent.facts();
-    child.facts();
     table.facts();
-    let points = child.level().points();
     let mut room = Room::new(alloc, parent.points(), table.controls())?;
-    // Each row has an entry, so that there are no more rows.
-    let rows = points.min(entries as u32);
-    let mut builder = TableBuilder::with_room(alloc, table.controls(), rows, entries)?;
-    for p in 0..points {
-        compose_row(alloc, table, parent, child, p, scheme, survey, &mut room)?;
-        builder.add_row(survey.dens[p as usize], &room.entries)?;
+    rows_in(
+        alloc, table, parent, child, scheme, survey, entries, &mut room,
+    )
+}
+
+// The table of a step in which a survey found no fault.
+fn compose_found(
+    alloc: Global,
+    table: &StencilTable,
+    parent: &Level,
+    child: &Child,
+    scheme: Scheme,
+    survey: &Survey,
+) -> Result<StencilTable, TableFault>
+    requires child { CanRefine parent.now child.now (scheme_of scheme) }
+    requires each { length table.now.rows ≡ parent.now.level.point_count }
+    requires survey { IsFoundOver parent.now.level (scheme_of scheme) child.now.origins (dens_of table.now) survey.now }
+    ensures { MatchResult result
+        (λ composed. IsComposed parent.now.level (scheme_of scheme) child.now.origins table.now composed)
+        (λ fault. IsTableFault parent.now.level (scheme_of scheme) child.now.origins table.now fault) }
+{
+    match count_entries(alloc, table, parent, child, scheme)? {
+        Some(entries) => {
+            let composed = compose_rows(alloc, table, parent, child, scheme, survey, entries)?;
+            Ok(composed)
+        }
+        None => Err(TableFault::TooManyEntries),
     }
-    Ok(builder.finish())
 }
 
 /// The table of the points of a child of a level, from that of the level's points, both over the same control points: each row
@@ -185,15 +271,8 @@ pub fn compose_level(
     parent.facts();
     child.facts();
     table.facts();
-    let survey = match survey_over(alloc, parent, child, table.denominators(), scheme) {
-        Ok(survey) => survey,
-        Err(fault) => return Err(table_fault(fault)),
-    };
-    match count_entries(alloc, table, parent, child, scheme)? {
-        Some(entries) => {
-            let composed = compose_rows(alloc, table, parent, child, scheme, &survey, entries)?;
-            Ok(composed)
-        }
-        None => Err(TableFault::TooManyEntries),
+    match survey_over(alloc, parent, child, table.denominators(), scheme) {
+        Ok(survey) => compose_found(alloc, table, parent, child, scheme, &survey),
+        Err(fault) => Err(table_fault(fault)),
     }
 }

@@ -1,17 +1,15 @@
 use Rattle.std.proofs.Common.{sym, subst}
 use Rattle.mask_rules.specs.View.{scheme_of}
 use Rattle.primvar_refine.specs.Found.{ArePointDenominators, IsFoundOver, IsFaultOver}
-use Rattle.std.proofs.lemmas.Option.{MatchOption-at_none}
-use Rattle.stencil_factory.specs.Rows.{dens_of}
-use Rattle.stencil_factory.proofs.SurveyLemmas.{point-dens, found-fine, found-short}
+use Rattle.stencil_factory.proofs.SurveyLemmas.{point-dens}
 use Rattle.stencil_factory.proofs.compose.compose_level.Goals as goal
 
 pub survey_over-requires-clause-dens : goal.survey_over-requires-clause-dens
 survey_over-requires-clause-dens c =
     subst (ArePointDenominators c.args.parent.now.level) (sym c.denominators.ensures) (point-dens c.args.table.now c.args.parent.now.level c.facts-3.ensures c.requires.each)
 
-pub compose_rows-requires-clause-survey : goal.compose_rows-requires-clause-survey
-compose_rows-requires-clause-survey c =
+pub compose_found-requires-clause-survey : goal.compose_found-requires-clause-survey
+compose_found-requires-clause-survey c =
     subst (λ dens. IsFoundOver c.args.parent.now.level (scheme_of c.args.scheme) c.args.child.now.origins dens c.in-Ok.survey) c.denominators.ensures c.in-Ok.ensures
 
 pub returns-in-Err : goal.returns-in-Err
@@ -21,12 +19,3 @@ returns-in-Err c =
     let origins = c.args.child.now.origins in
     c.table_fault.ensures level scheme origins c.args.table.now
     (subst (λ dens. IsFaultOver level scheme origins dens c.in-Err.fault) c.denominators.ensures c.in-Err.ensures)
-
-pub returns : goal.returns
-returns c =
-    let level = c.args.parent.now.level in
-    let scheme = scheme_of c.args.scheme in
-    let origins = c.args.child.now.origins in
-    let dens = dens_of c.args.table.now in
-    let found = subst (λ ds. IsFoundOver level scheme origins ds c.in-Ok.survey) c.denominators.ensures c.in-Ok.ensures in
-    (found-fine level scheme origins dens c.in-Ok.survey found, found-short level scheme origins dens c.in-Ok.survey found, MatchOption-at_none _ _ c.in-None.is c.in_ok-entries.ensures)

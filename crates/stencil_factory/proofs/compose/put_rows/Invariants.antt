@@ -2,7 +2,7 @@ use Rattle.std.proofs.Common.{◌≡◌, replicate, take}
 use Rattle.mask_rules.specs.View.{scheme_of}
 use Rattle.primvar_refine.specs.Step.{masks_from}
 use Rattle.stencil_factory.specs.Composing.{AreComposedRows}
-use Rattle.stencil_factory.proofs.compose.compose_rows.Given as goal
+use Rattle.stencil_factory.proofs.compose.put_rows.Given as goal
 
 -- the rows of the points so far
 abbrev pub invariant-loop-p : goal.invariant-loop-p

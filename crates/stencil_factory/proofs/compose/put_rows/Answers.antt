@@ -1,4 +1,4 @@
-use Rattle.std.proofs.Common.{◌+◌, ◌∙◌, ◌<◌, ◌≤◌, arith, sym, ap, subst, length, get_or, take}
+use Rattle.std.proofs.Common.{◌+◌, ◌∙◌, ◌<◌, ◌≤◌, [], arith, sym, ap, subst, length, get_or, take}
 use Rattle.std.proofs.lemmas.List.{length-map}
 use Rattle.level_topology.specs.Topology.{Topology}
 use Rattle.level_topology.specs.Child.{FromVertex}
@@ -11,11 +11,11 @@ use Rattle.stencil_factory.specs.Rows.{dens_of}
 use Rattle.stencil_factory.specs.Composing.{IsComposedRow, AreComposedRows}
 use Rattle.stencil_factory.proofs.SurveyLemmas.{found-fine}
 use Rattle.stencil_factory.proofs.ComposedLemmas.{row-read, next-rows, next-entries, next-count, are-composed}
-use Rattle.stencil_factory.proofs.compose.compose_rows.Goals as goal
+use Rattle.stencil_factory.proofs.compose.put_rows.Goals as goal
 
 inside : (c : goal.After-deref) → c.loop-p.p < length c.args.child.now.origins
 inside c =
-    let points = c.points-points.ensures ∙ ap (λ (t : Topology). t.level.point_count) c.level.ensures in
+    let points = c.points-p-end.ensures ∙ ap (λ (t : Topology). t.level.point_count) c.level.ensures in
     omega (arith, c.loop-p-test.true, points, c.facts-2.ensures.is.each_point)
 
 -- the row of this point
@@ -31,12 +31,12 @@ add_row-requires-clause-row c = subst (λ n. IsRow n (row_of c.index.result.now 
 pub add_row-requires-clause-rows : goal.add_row-requires-clause-rows
 add_row-requires-clause-rows c =
     next-count c.args.parent.now.level c.args.table.now (scheme_of c.args.scheme) c.args.child.now.origins c.loop-p.p c.loop-p.builder.table.rows (row_of c.index.result.now c.deref.result.now)
-    (inside c) c.loop-p.invariant.rows (row c) (omega (arith, c.requires.counted, c.requires.few))
+    (inside c) c.loop-p.invariant.rows (row c) c.requires.few
 
 pub add_row-requires-clause-entries : goal.add_row-requires-clause-entries
 add_row-requires-clause-entries c =
     let room = next-entries c.args.parent.now.level c.args.table.now (scheme_of c.args.scheme) c.args.child.now.origins c.loop-p.p c.loop-p.builder.table.rows (row_of c.index.result.now c.deref.result.now)
-    (inside c) c.loop-p.invariant.rows (row c) (omega (arith, c.requires.counted, c.requires.few)) in
+    (inside c) c.loop-p.invariant.rows (row c) c.requires.few in
     omega (arith, room, length-map {B = Share} c.deref.result.now (λ (e : Entry). (e.index, e.numerator)))
 
 pub loop-p-preserved : goal.loop-p-preserved
@@ -45,7 +45,7 @@ loop-p-preserved c =
     let table = c.args.table.now in
     let scheme = scheme_of c.args.scheme in
     let origins = c.args.child.now.origins in
-    let points = c.points-points.ensures ∙ ap (λ (t : Topology). t.level.point_count) c.level.ensures in
+    let points = c.points-p-end.ensures ∙ ap (λ (t : Topology). t.level.point_count) c.level.ensures in
     let below : c.loop-p.p < length origins = omega (arith, c.loop-p-test.true, points, c.facts-2.ensures.is.each_point) in
     let own = row-read level table scheme origins c.args.survey.now c.loop-p.p c.index.result.now c.compose_row.new.room.entries.items c.deref.result.now
     c.requires.survey below c.in_ok-compose_row.ensures.row c.index.ensures c.deref.ensures.value in
@@ -59,14 +59,21 @@ loop-p-preserved c =
           (next-rows level table scheme origins c.loop-p.p c.loop-p.builder.table.rows (row_of c.index.result.now c.deref.result.now) below c.loop-p.invariant.rows own);
     }
 
+pub loop-p-init : goal.loop-p-init
+loop-p-init c = record {
+  points = c.requires.points;
+  controls = c.requires.controls;
+  same = ap (λ (t : Table). t.controls) c.requires.none;
+  rows = subst (λ (t : Table). AreComposedRows c.args.parent.now.level c.args.table.now [] t.rows) (sym c.requires.none) tt;
+}
+
 pub returns : goal.returns
 returns c =
     let level = c.args.parent.now.level in
     let table = c.args.table.now in
     let scheme = scheme_of c.args.scheme in
     let origins = c.args.child.now.origins in
-    let points = c.points-points.ensures ∙ ap (λ (t : Topology). t.level.point_count) c.level.ensures in
+    let points = c.points-p-end.ensures ∙ ap (λ (t : Topology). t.level.point_count) c.level.ensures in
     let past : length origins ≤ c.loop-p.p = omega (arith, c.loop-p-test.false, points, c.facts-2.ensures.is.each_point) in
-    are-composed level table scheme origins c.loop-p.p c.finish.result past (ap (λ (t : Table). t.controls) c.finish.ensures ∙ c.loop-p.invariant.same)
-    (subst (λ (t : Table). AreComposedRows level table (masks_from level scheme (take c.loop-p.p origins)) t.rows) (sym c.finish.ensures) c.loop-p.invariant.rows)
+    are-composed level table scheme origins c.loop-p.p c.loop-p.builder.table past c.loop-p.invariant.same c.loop-p.invariant.rows
     (found-fine level scheme origins (dens_of table) c.args.survey.now c.requires.survey)
