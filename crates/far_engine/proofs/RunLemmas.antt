@@ -1,5 +1,5 @@
 -- What a run owes at each of its ends.
-use Rattle.std.proofs.Common.{◌≡◌, ℕ, ◌+◌, ◌≤◌, false, true, List, [], ◌++◌, length, take, Option, Some, None, Result, Ok, Err, IfOk, MatchResult, OnOk, arith, append-nil, length-append, refl, ap, sym, subst, ◌∙◌}
+use Rattle.std.proofs.Common.{◌≡◌, ℕ, ◌+◌, ◌≤◌, false, true, List, [], ◌++◌, length, take, Option, Some, None, Result, Ok, Err, IfOk, IfErr, IsErr, IsErrAnd, MatchResult, OnOk, OnErr, arith, append-nil, length-append, refl, ap, sym, subst, ◌∙◌}
 use Rattle.far_io.specs.Bytes.{Rose, Took, TookPrefix, TookMore, Added, AddedPrefix, IsDry}
 use Rattle.subdiv_model.specs.Polygons.{is_over}
 use Rattle.subdiv_model.specs.Manifold.{IsManifold}
@@ -15,6 +15,7 @@ use Rattle.far_engine.specs.Replies.{Called, HasManifolds, IsReady, IsRefused}
 use Rattle.far_engine.specs.Runs.{Runs}
 use Rattle.far_engine.specs.View.{fault_of, outcome_of, reply_text}
 use Rattle.far_engine.specs.declared.fault.FarFault.{FarFault}
+use Rattle.far_engine.specs.declared.fault.FarFault.TheVariants as answered
 use Rattle.far_engine.specs.declared.reply.Reply.{Reply}
 use Rattle.far_engine.proofs.ManifoldLemmas.{levels-manifold}
 use Rattle.far_engine.proofs.RefusalLemmas.{mesh-of-read, read-manifold, refused-by-length, refused-by-text, text-of-good}
@@ -237,6 +238,13 @@ module _ {S K : Type 0} (left : S → Option (List ℕ)) (source_faults : S → 
         sink_fixed = refl;
       }
 
+  -- handed on as it came
+  pub runs_handed : (k : K) (result : Result (Unit {0}) FarFault) (f : FarFault) → IsErr result → IsErrAnd result (λ g. g ≡ f) →
+      IsRefused left source_faults command s s' (fault_of f) → Runs left source_faults held sink_faults fixed words s s' k k (outcome_of result)
+  runs_handed k (Ok done) f err same refused = absurd same
+  runs_handed k (Err g) f err same refused =
+      subst (λ (h : FarFault). Runs left source_faults held sink_faults fixed words s s' k k (Some (fault_of h))) (sym same) (runs_refused k (fault_of f) refused)
+
   text_as : (text : List ℕ) → IsReady left source_faults (command_of words) s s' text → (bytes : List ℕ) →
       input_of (is_made (command_of words)) (left s) ≡ Some bytes → text ≡ text_of words bytes
   unfolding written_text
@@ -295,6 +303,21 @@ module _ {S K : Type 0} (left : S → Option (List ℕ)) (source_faults : S → 
         sink_later = sink_later;
         sink_fixed = same;
       }
+
+  -- whatever the sink answers
+  pub runs_put : (k k' : K) (text : List ℕ) (result : Result (Unit {0}) FarFault) → IsReady left source_faults command s s' text →
+      OnOk result (Added (held k) (held k') text) → IfErr result (λ f. f ≡ answered.Write) → OnErr result (AddedPrefix (held k) (held k') text) →
+      OnErr result (Rose (sink_faults k) (sink_faults k')) → sink_faults k ≤ sink_faults k' → fixed k' ≡ fixed k →
+      Runs left source_faults held sink_faults fixed words s s' k k' (outcome_of result)
+  runs_put k k' text (Ok done) ready added is prefix rose sink_later same = runs_ok k k' text ready added sink_later same
+  runs_put k k' text (Err f) ready added is prefix rose sink_later same =
+      subst (λ (g : FarFault). Runs left source_faults held sink_faults fixed words s s' k k' (Some (fault_of g))) (sym is)
+      (runs_cut k k' text ready prefix rose sink_later same)
+
+-- what holds of a run holds where it ends without a fault
+pub on-ok : (result : Result (Unit {0}) FarFault) {P : Type 0} → P → OnOk result P
+on-ok (Ok done) p = p
+on-ok (Err f) p = tt
 
 -- the steps of the command are those of the words
 pub steps_as : (words : List (List ℕ)) (left : Option (List ℕ)) (command : Command) (old new : ℕ) → command ≡ command_of words →

@@ -169,8 +169,8 @@ made-written seed size depth mesh summary same fine is = (
 )
 
 -- The steps: one for each face, and then one for each entry.
-pub summary-steps : (old between new faces entries all : ℕ) → entries ≡ all → between ≤ old + faces → new ≤ between + entries → new ≤ old + (faces + all)
-summary-steps old between new faces entries all same first second = omega (arith, same, first, second)
+pub told-steps : (old new entries all : ℕ) → entries ≡ all → new ≤ old + entries → new ≤ old + all
+told-steps old new entries all same taken = omega (arith, same, taken)
 
-pub summary-taken : (old between new entries all : ℕ) → entries ≡ all → old ≤ between → new ≡ between + entries → old + all ≤ new
-summary-taken old between new entries all same later taken = omega (arith, same, later, taken)
+pub told-taken : (old new entries all : ℕ) → entries ≡ all → new ≡ old + entries → old + all ≤ new
+told-taken old new entries all same taken = omega (arith, same, taken)

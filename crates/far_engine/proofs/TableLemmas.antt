@@ -6,7 +6,7 @@ use Rattle.subdiv_model.specs.Polygons.{Polygon}
 use Rattle.subdiv_model.specs.Base.{base_level}
 use Rattle.subdiv_model.specs.ObjMesh.{ObjMesh}
 use Rattle.subdiv_model.specs.Mask.{CatmullClark}
-use Rattle.subdiv_model.specs.Command.{Stencils, Gen}
+use Rattle.subdiv_model.specs.Command.{Command, Stencils, Gen}
 use Rattle.subdiv_model.specs.Fault.{Fault, TooLarge, Positions}
 use Rattle.subdiv_model.specs.Channel.{Channel, Tables, channel_faults}
 use Rattle.subdiv_model.specs.Answer.{level_count_faults, positions_of}
@@ -68,4 +68,11 @@ table-written mesh depth last table is = record {
   good = is.good;
   says = table_text-same table (base_level mesh) CatmullClark depth is.composed.controls is.composed.dens is.composed.supports
       (stencil-numerators (positions_of mesh) depth last table is.composed is.made) is.made;
+}
+
+-- a fault that every command finds is found where a table is composed
+pub found-composing : (depth : ℕ) (mesh : ObjMesh) (fault : Fault) → ((command : Command) → IsFound fault (refusal_of_mesh command mesh)) → IsFoundComposing depth mesh fault
+found-composing depth mesh fault found = record {
+  stencils = found (Stencils depth);
+  made = λ seed size. found (Gen seed size depth);
 }

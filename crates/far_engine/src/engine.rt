@@ -10,9 +10,9 @@ ghost use Rattle.far_engine.specs.View.{CanPut, fault_of, outcome_of, reply_text
 
 use crate::fault::{FarFault, report, status};
 use crate::made::reply_to_made;
-use crate::output::put_reply;
+use crate::output::put_answer;
 use crate::reply::{Reply, reply_to};
-use far_io::{InputFault, Sink, Source, WriteFailed, read_all};
+use far_io::{InputFault, Sink, Source, read_all};
 use far_words::{Command, read_words};
 use ratio128::Steps;
 use std::alloc::Global;
@@ -128,14 +128,8 @@ pub fn run<S: Source, K: Sink, L: Ledger>(
         Ok(command) => command,
         Err(word) => return Err(FarFault::Usage { word }),
     };
-    let reply = match reply_of(alloc, &command, source, steps) {
-        Ok(reply) => reply,
-        Err(fault) => return Err(fault),
-    };
-    match put_reply(sink, &reply) {
-        Ok(()) => Ok(()),
-        Err(WriteFailed) => Err(FarFault::Write),
-    }
+    let reply = reply_of(alloc, &command, source, steps)?;
+    put_answer(sink, &reply)
 }
 
 // The status of an outcome: 0 where it is `Ok`, and then `errors` is not called; otherwise that of the

@@ -124,8 +124,6 @@ pub(crate) fn count_levels<L: Ledger>(
     ensures steps { steps.new ≤ steps.old + step_limit (Levels depth) mesh.now }
     ensures later { steps.old ≤ steps.new }
 {
-    match level_0(alloc, mesh, steps) {
-        Ok(level) => counts_from(alloc, level, depth, steps),
-        Err(fault) => Err(fault),
-    }
+    let level = level_0(alloc, mesh, steps)?;
+    counts_from(alloc, level, depth, steps)
 }

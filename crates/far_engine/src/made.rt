@@ -13,7 +13,7 @@ ghost use Rattle.primvar_refine.specs.declared.valued.Valued as valued;
 ghost use Rattle.ratio128.specs.declared.point.Point3 as point;
 ghost use Rattle.far_engine.specs.Written.{written_text};
 ghost use Rattle.far_engine.specs.Outcome.{refusal_of_made, level_faces_to, position_steps, step_limit, least_steps, IsFound};
-ghost use Rattle.far_engine.specs.Tables.{IsSummaryOf, IsFoundComposing};
+ghost use Rattle.far_engine.specs.Tables.{IsComposedOf, IsSummaryOf, IsFoundComposing};
 ghost use Rattle.far_engine.specs.View.{CanPut, fault_of, reply_text};
 
 use crate::fault::FarFault;
@@ -65,6 +65,27 @@ fn summary_of(
     }
 }
 
+// What is told of a mesh whose table at a depth is composed: the table is evaluated over its points.
+fn summary_at<L: Ledger>(
+    alloc: Global,
+    mesh: &RawMesh,
+    depth: u32,
+    composed: &ComposedChannel,
+    steps: &mut Steps<L>,
+) -> Result<Summary, FarFault>
+    requires composed { IsComposedOf mesh.now depth composed.now.level composed.now.table }
+    requires whole { mesh.now.common ≡ 1 }
+    requires some { 0 < length mesh.now.points }
+    ensures summary { MatchResult result (λ summary. IsSummaryOf mesh.now depth summary)
+        (λ fault. IsFoundComposing depth mesh.now (fault_of fault)) }
+    ensures taken { OnOk result (steps.old + position_steps ByTable depth mesh.now ≤ steps.new) }
+    ensures steps { steps.new ≤ steps.old + position_steps ByTable depth mesh.now }
+    ensures later { steps.old ≤ steps.new }
+{
+    let values = evaluate(alloc, &composed.table, mesh.points(), steps)?;
+    Ok(summary_of(mesh, depth, composed, last_of(&values)))
+}
+
 // What is told of a mesh: its table at a depth is evaluated over its points.
 fn summarize<L: Ledger>(
     alloc: Global,
@@ -84,8 +105,7 @@ fn summarize<L: Ledger>(
     ensures later { steps.old ≤ steps.new }
 {
     let composed = compose(alloc, mesh, depth, steps)?;
-    let values = evaluate(alloc, &composed.table, mesh.points(), steps)?;
-    Ok(summary_of(mesh, depth, &composed, last_of(&values)))
+    summary_at(alloc, mesh, depth, &composed, steps)
 }
 
 /// What is told of a sheet of `size` times `size` quads, from 1 to 256, refined to a depth by its table.

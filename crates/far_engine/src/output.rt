@@ -1,4 +1,4 @@
-ghost use Rattle.std.specs.Prelude.{◌≡◌, ◌≤◌, ◌++◌, false, codes, OnOk, OnErr};
+ghost use Rattle.std.specs.Prelude.{◌≡◌, ◌≤◌, ◌++◌, false, codes, IfErr, OnOk, OnErr};
 ghost use Rattle.far_io.specs.Bytes.{Rose, Added, AddedPrefix};
 ghost use Rattle.obj_out.specs.Puts.{Puts};
 ghost use Rattle.far_engine.specs.Pieces.{piece_text, pieces_text};
@@ -6,7 +6,9 @@ ghost use Rattle.subdiv_model.specs.Answer.{with_holes, written_tags};
 ghost use Rattle.far_words.specs.View.{tags_of_code};
 ghost use Rattle.far_engine.specs.Refine.{CanBePut, lines_of, refined_text};
 ghost use Rattle.far_engine.specs.View.{CanPut, reply_text};
+ghost use Rattle.far_engine.specs.declared.fault.FarFault.TheVariants as fault;
 
+use crate::fault::FarFault;
 use crate::piece::Piece;
 use crate::refine::Refined;
 use crate::reply::Reply;
@@ -150,4 +152,20 @@ pub(crate) fn write_line<K: Sink>(sink: &mut K, pieces: &[Piece]) -> Result<(), 
     let mut out = Out::new(sink);
     put_line(&mut out, pieces)?;
     out.end()
+}
+
+/// The same as the answer of a run.
+pub(crate) fn put_answer<K: Sink>(sink: &mut K, reply: &Reply) -> Result<(), FarFault>
+    requires written { CanPut reply.now }
+    ensures ok { OnOk result (Added (K.held sink.old) (K.held sink.new) (reply_text reply.now)) }
+    ensures fault { IfErr result (λ f. f ≡ fault.Write) }
+    ensures prefix { OnErr result (AddedPrefix (K.held sink.old) (K.held sink.new) (reply_text reply.now)) }
+    ensures cause { OnErr result (Rose (K.faults sink.old) (K.faults sink.new)) }
+    ensures later { K.faults sink.old ≤ K.faults sink.new }
+    ensures fixed { K.fixed sink.new ≡ K.fixed sink.old }
+{
+    match put_reply(sink, reply) {
+        Ok(()) => Ok(()),
+        Err(WriteFailed) => Err(FarFault::Write),
+    }
 }

@@ -1,6 +1,6 @@
 //! A mesh refined to a depth, with its texture.
 
-ghost use Rattle.std.specs.Prelude.{◌≡◌, ◌+◌, ◌≤◌, length, None, IfOk, IfSome, MatchResult, OnOk};
+ghost use Rattle.std.specs.Prelude.{ℕ, ◌≡◌, ◌+◌, ◌≤◌, length, None, IfOk, IfSome, MatchResult, OnOk};
 ghost use Rattle.std.specs.List.{All};
 ghost use Rattle.obj_tags.specs.Laws.{IsWithin};
 ghost use Rattle.reading_laws.specs.Short.{IsShortPoint, IsShortTexture};
@@ -110,6 +110,51 @@ fn refine_cut<L: Ledger>(
     }
 }
 
+// The positions and the texture of a mesh refined to a depth, from its level 0 and its cut mesh.
+fn refine_tracks<L: Ledger>(
+    alloc: Global,
+    mesh: &RawMesh,
+    level: Level,
+    channel: Option<Channel>,
+    depth: u32,
+    decimals: Option<u32>,
+    uv: Uv,
+    by: By,
+    tags: Tags,
+    steps: &mut Steps<L>,
+) -> Result<Refined, FarFault>
+    requires within { IsWithin mesh.now }
+    requires short { All IsShortPoint mesh.now.points }
+    requires texture_short { All IsShortTexture mesh.now.texture }
+    requires accepted { IsAccepted mesh.now level }
+    requires cut { IsCutAs (uv_of_code uv) mesh.now channel }
+    requires few { first_of (level_count_faults mesh.now.faces depth) ≡ None }
+    requires depth { depth ≤ 10 }
+    requires decimals { IfSome decimals (λ digits. digits ≤ 18) }
+    ensures refined { MatchResult result
+        (λ refined. IsWritten (Refine depth decimals (uv_of_code uv) (by_of_code by) (tags_of_code tags)) mesh.now (refined_text refined))
+        (λ fault. IsFound (fault_of fault) (refusal_of_mesh (Refine depth decimals (uv_of_code uv) (by_of_code by) (tags_of_code tags)) mesh.now)) }
+    ensures put { IfOk result (λ refined. CanBePut refined) }
+    ensures taken { OnOk result (steps.old + least_steps (Refine depth decimals (uv_of_code uv) (by_of_code by) (tags_of_code tags)) mesh.now ≤ steps.new) }
+    ensures steps { (before : ℕ) → steps.old ≤ before + where_textured mesh.now (length mesh.now.faces)
+        → length mesh.now.faces + steps.new ≤ before + step_limit (Refine depth decimals (uv_of_code uv) (by_of_code by) (tags_of_code tags)) mesh.now }
+    ensures later { steps.old ≤ steps.new }
+{
+    let positions = match refine_positions(alloc, mesh, level, depth, by, steps) {
+        Ok(positions) => positions,
+        Err(fault) => return Err(fault_of_channel(fault, Track::Positions)),
+    };
+    let texture = refine_cut(alloc, mesh, channel, uv, depth, by, steps)?;
+    Ok(Refined {
+        level: positions.level,
+        values: positions.values,
+        common: mesh.scale(),
+        texture,
+        decimals,
+        tags,
+    })
+}
+
 // A mesh refined from its level 0 to a depth up to which no level has too many faces.
 fn refine_from<L: Ledger>(
     alloc: Global,
@@ -138,23 +183,10 @@ fn refine_from<L: Ledger>(
     ensures later { steps.old ≤ steps.new }
 {
     // the cut mesh is made of level 0, which the positions take over
-    let channel = match cut_texture(alloc, mesh, &level, uv, steps) {
-        Ok(channel) => channel,
-        Err(Memory) => return Err(FarFault::Memory),
-    };
-    let positions = match refine_positions(alloc, mesh, level, depth, by, steps) {
-        Ok(positions) => positions,
-        Err(fault) => return Err(fault_of_channel(fault, Track::Positions)),
-    };
-    let texture = refine_cut(alloc, mesh, channel, uv, depth, by, steps)?;
-    Ok(Refined {
-        level: positions.level,
-        values: positions.values,
-        common: mesh.scale(),
-        texture,
-        decimals,
-        tags,
-    })
+    let channel = cut_texture(alloc, mesh, &level, uv, steps)?;
+    refine_tracks(
+        alloc, mesh, level, channel, depth, decimals, uv, by, tags, steps,
+    )
 }
 
 /// A mesh that was read, refined to a depth.
@@ -181,10 +213,7 @@ pub(crate) fn refine<L: Ledger>(
     ensures steps { steps.new ≤ steps.old + step_limit (Refine depth decimals (uv_of_code uv) (by_of_code by) (tags_of_code tags)) mesh.now }
     ensures later { steps.old ≤ steps.new }
 {
-    let level = match level_0(alloc, mesh, steps) {
-        Ok(level) => level,
-        Err(fault) => return Err(fault),
-    };
+    let level = level_0(alloc, mesh, steps)?;
     match level_fault(next_faces(&level), depth) {
         Some(counted) => return Err(FarFault::TooLarge(counted)),
         None => {}

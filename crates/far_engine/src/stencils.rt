@@ -82,10 +82,8 @@ pub(crate) fn compose<L: Ledger>(
     ensures steps { steps.new ≤ steps.old + level_faces_to depth mesh.now }
     ensures later { steps.old ≤ steps.new }
 {
-    match level_0(alloc, mesh, steps) {
-        Ok(level) => compose_from(alloc, mesh, level, depth, steps),
-        Err(fault) => Err(fault),
-    }
+    let level = level_0(alloc, mesh, steps)?;
+    compose_from(alloc, mesh, level, depth, steps)
 }
 
 /// The table of a mesh that was read, at a depth.
@@ -103,8 +101,6 @@ pub(crate) fn stencils<L: Ledger>(
     ensures steps { steps.new ≤ steps.old + step_limit (Stencils depth) mesh.now }
     ensures later { steps.old ≤ steps.new }
 {
-    match compose(alloc, mesh, depth, steps) {
-        Ok(ComposedChannel { table, .. }) => Ok(table),
-        Err(fault) => Err(fault),
-    }
+    let composed = compose(alloc, mesh, depth, steps)?;
+    Ok(composed.table)
 }

@@ -6,24 +6,20 @@ use Rattle.far_words.specs.View.{by_of_code, uv_of_code, tags_of_code}
 use Rattle.far_engine.proofs.RefusalLemmas.{manifold-of}
 use Rattle.far_engine.proofs.PositionLemmas.{refined-not-large}
 use Rattle.far_engine.proofs.RefineLemmas.{positions-found, texture-found, none-found, refined-written, texture-can}
-use Rattle.far_engine.proofs.StepLemmas.{cut-alone, positions-alone}
-use Rattle.far_engine.proofs.refine.refine_from.Goals as goal
+use Rattle.far_engine.proofs.StepLemmas.{positions-alone, all-steps}
+use Rattle.far_engine.proofs.refine.refine_tracks.Goals as goal
 
-pub returns-in-Err-clause-steps : goal.returns-in-Err-clause-steps
-returns-in-Err-clause-steps g c =
-    cut-alone c.args.depth c.args.decimals (uv_of_code c.args.uv) (by_of_code c.args.by) (tags_of_code c.args.tags) c.args.mesh.now _ _ c.cut_texture.ensures.steps
-
-pub returns-in-Err-refine_positions-clause-refined : goal.returns-in-Err-refine_positions-clause-refined
-returns-in-Err-refine_positions-clause-refined g c =
+pub returns-in-Err-clause-refined : goal.returns-in-Err-clause-refined
+returns-in-Err-clause-refined g c =
     let asked = asked_of (by_of_code c.args.by) in
     let mesh = c.args.mesh.now in
     positions-found mesh c.args.level c.args.depth c.requires.accepted c.requires.few c.args.decimals (uv_of_code c.args.uv) (by_of_code c.args.by) (tags_of_code c.args.tags) _
-    (c.fault_of_channel.ensures asked (positions_of mesh) c.args.depth (λ k count. refined-not-large asked mesh c.args.depth k count c.requires.few) c.in-Err-refine_positions.ensures.refined)
+    (c.fault_of_channel.ensures asked (positions_of mesh) c.args.depth (λ k count. refined-not-large asked mesh c.args.depth k count c.requires.few) c.in-Err.ensures.refined)
 
-pub returns-in-Err-refine_positions-clause-steps : goal.returns-in-Err-refine_positions-clause-steps
-returns-in-Err-refine_positions-clause-steps g c =
-    positions-alone c.args.depth c.args.decimals (uv_of_code c.args.uv) (by_of_code c.args.by) (tags_of_code c.args.tags) c.args.mesh.now _ _ _
-    c.cut_texture.ensures.steps c.refine_positions.ensures.steps
+pub returns-in-Err-clause-steps : goal.returns-in-Err-clause-steps
+returns-in-Err-clause-steps g c = λ before h.
+    positions-alone c.args.depth c.args.decimals (uv_of_code c.args.uv) (by_of_code c.args.by) (tags_of_code c.args.tags) c.args.mesh.now before _ _
+    h c.refine_positions.ensures.steps
 
 pub refine_cut-requires-clause-manifold : goal.refine_cut-requires-clause-manifold
 refine_cut-requires-clause-manifold g c = manifold-of c.args.mesh.now c.requires.accepted.manifold
@@ -32,21 +28,21 @@ pub returns-in_err-texture-clause-refined : goal.returns-in_err-texture-clause-r
 returns-in_err-texture-clause-refined g c =
     let found =
     texture-found c.args.mesh.now c.args.level c.args.depth c.requires.accepted c.requires.few c.args.decimals (uv_of_code c.args.uv) (by_of_code c.args.by) (tags_of_code c.args.tags) _
-    c.in-Ok-refine_positions.ensures.refined.fine c.in_err-texture.ensures.texture in
+    c.in-Ok.ensures.refined.fine c.in_err-texture.ensures.texture in
     search (rules, found)
 
 pub returns-clause-refined : goal.returns-clause-refined
 returns-clause-refined g c =
     refined-written c.args.mesh.now c.args.depth c.args.decimals (uv_of_code c.args.uv) (by_of_code c.args.by) _ c.scale.ensures refl
-    c.in-Ok-refine_positions.ensures.refined c.in_ok-texture.ensures.texture
+    c.in-Ok.ensures.refined c.in_ok-texture.ensures.texture
     (none-found c.args.mesh.now c.args.level c.args.depth c.requires.accepted c.requires.few c.args.decimals (uv_of_code c.args.uv) (by_of_code c.args.by) (tags_of_code c.args.tags) _
-    c.in-Ok-refine_positions.ensures.refined.fine c.in_ok-texture.ensures.texture)
+    c.in-Ok.ensures.refined.fine c.in_ok-texture.ensures.texture)
 
 pub returns-clause-put : goal.returns-clause-put
 returns-clause-put g c = record {
-  written = subst (λ common. All (CanBeWritten common) c.in-Ok-refine_positions.positions.values.items) (sym c.scale.ensures) c.in-Ok-refine_positions.ensures.refined.written;
+  written = subst (λ common. All (CanBeWritten common) c.in-Ok.positions.values.items) (sym c.scale.ensures) c.in-Ok.ensures.refined.written;
   texture =
-      texture-can c.args.mesh.now c.args.depth (uv_of_code c.args.uv) (by_of_code c.args.by) c.in-Ok-refine_positions.positions.level c.in-Ok-refine_positions.positions.values.items _
-      c.in-Ok-refine_positions.ensures.refined c.in_ok-texture.ensures.texture;
+      texture-can c.args.mesh.now c.args.depth (uv_of_code c.args.uv) (by_of_code c.args.by) c.in-Ok.positions.level c.in-Ok.positions.values.items _
+      c.in-Ok.ensures.refined c.in_ok-texture.ensures.texture;
   decimals = c.requires.decimals;
 }

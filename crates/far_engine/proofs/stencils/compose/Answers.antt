@@ -1,8 +1,8 @@
-use Rattle.subdiv_model.specs.Command.{Stencils, Gen}
+use Rattle.std.proofs.Common.{rules}
+use Rattle.far_engine.proofs.TableLemmas.{found-composing}
 use Rattle.far_engine.proofs.stencils.compose.Goals as goal
 
-pub returns-in-Err-clause-composed : goal.returns-in-Err-clause-composed
-returns-in-Err-clause-composed g c = record {
-  stencils = c.in-Err.ensures.checked (Stencils c.args.depth);
-  made = λ seed size. c.in-Err.ensures.checked (Gen seed size c.args.depth);
-}
+pub returns-in_err-level-clause-composed : goal.returns-in_err-level-clause-composed
+returns-in_err-level-clause-composed g c =
+    let found = found-composing c.args.depth c.args.mesh.now _ c.in_err-level.ensures.checked in
+    search (rules, found)
