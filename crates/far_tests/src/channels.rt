@@ -14,7 +14,7 @@ use mesh_check::check_mesh;
 use obj_tags::{RawMesh, read_obj};
 use primvar_refine::Valued;
 use ratio128::{Point3, Steps};
-use std::alloc::Global;
+use std::alloc::{AllocError, Global};
 use std::marker::Brand;
 use std::process::Abort;
 use std::sync::ledger::{Blank, Ledger};
@@ -26,28 +26,36 @@ const NUMBER_BOUND: u128 = (1 << 126) - 1;
 // The greatest amount of the controls and the denominator that they stand over, the scheme, and the depth.
 type Asked = (u128, u128, Scheme, u32);
 
-// The points of the triangles back to back, and those of the next level, each with its denominator.
-const POINTS: &str = "1 0 0 0\n1 12 0 0\n1 0 12 0";
+// The denominator and the numerators of a point.
+type Numbers = (u128, i128, i128, i128);
 
-const POINTS_REFINED: &str = "\
-12 60 60 0\n\
-12 24 60 0\n\
-12 60 24 0\n\
-3 12 12 0\n\
-3 12 12 0\n\
-12 60 24 0\n\
-12 60 60 0\n\
-12 24 60 0";
+// The points of the triangles back to back, and those of the next level.
+const POINTS: &[Numbers] = &[(1, 0, 0, 0), (1, 12, 0, 0), (1, 0, 12, 0)];
 
-// A line for each point: its denominator and its numerators.
-fn points_of(alloc: Global, text: &str) -> Result<Vec<Valued<Point3>>, Fail> {
+fn points() -> &'static [Numbers] {
+    POINTS
+}
+
+const POINTS_REFINED: &[Numbers] = &[
+    (12, 60, 60, 0),
+    (12, 24, 60, 0),
+    (12, 60, 24, 0),
+    (3, 12, 12, 0),
+    (3, 12, 12, 0),
+    (12, 60, 24, 0),
+    (12, 60, 60, 0),
+    (12, 24, 60, 0),
+];
+
+fn points_refined() -> &'static [Numbers] {
+    POINTS_REFINED
+}
+
+// The points of these numbers.
+fn points_of(alloc: Global, rows: &[Numbers]) -> Result<Vec<Valued<Point3>>, AllocError> {
     let mut points = Vec::new(alloc);
-    for line in text.lines() {
-        let mut words = line.split(' ');
-        let den = words.next().ok_or("a denominator")?.parse::<u128>()?;
-        let x = words.next().ok_or("x")?.parse::<i128>()?;
-        let y = words.next().ok_or("y")?.parse::<i128>()?;
-        let z = words.next().ok_or("z")?.parse::<i128>()?;
+    for row in rows {
+        let &(den, x, y, z) = row;
         points.push(Valued {
             value: Point3 { x, y, z },
             den,
@@ -111,16 +119,17 @@ fn refine_by<L: Ledger>(
     )
 }
 
+// A mesh of three points, with those of the triangles as controls.
 fn refine_mesh(
     rt: &impl Abort,
     alloc: Global,
     mesh: &RawMesh,
-    controls: Vec<Valued<Point3>>,
     asked: Asked,
-) -> Result<RefinedChannel<Point3>, ChannelFault>
+) -> Result<Result<RefinedChannel<Point3>, ChannelFault>, Fail>
     requires { IsWithin mesh.now }
 {
-    refine_by::<Brand>(rt, alloc, mesh, controls, asked, Blank::new(1))
+    let controls = points_of(alloc, points())?;
+    Ok(refine_by::<Brand>(rt, alloc, mesh, controls, asked, Blank::new(1)))
 }
 
 // The triangles with their points as controls.
@@ -129,24 +138,36 @@ fn refine_triangles(
     alloc: Global,
     asked: Asked,
 ) -> Result<Result<RefinedChannel<Point3>, ChannelFault>, Fail> {
-    let controls = points_of(alloc, POINTS)?;
     let mesh = read_obj(alloc, TRIANGLES.as_bytes(), 0)?;
-    Ok(refine_mesh(rt, alloc, &mesh, controls, asked))
+    refine_mesh(rt, alloc, &mesh, asked)
+}
+
+fn expect_refined(
+    rt: &(impl Abort + AllocGlobal),
+    refined: &RefinedChannel<Point3>,
+) -> Result<(), Fail> {
+    let want = points_of(rt.alloc(), points_refined())?;
+    expect_same(rt, &refined.level.points(), &8, &"points");
+    expect_same(rt, &refined.level.faces(), &6, &"faces");
+    expect_same(rt, &refined.values.as_slice(), &want.as_slice(), &"values");
+    Ok(())
+}
+
+fn expect_triangles_refined(rt: &(impl Abort + AllocGlobal)) -> Result<(), Fail> {
+    let asked = (12, 1, Scheme::CatmullClark, 1);
+    let refined = refine_triangles(rt, rt.alloc(), asked)??;
+    expect_refined(rt, &refined)
 }
 
 #[test]
 fn refines_the_points_of_triangles(rt: HostRuntime) -> Result<(), Fail> {
-    let asked = (12, 1, Scheme::CatmullClark, 1);
-    let refined = refine_triangles(&rt, rt.alloc(), asked)??;
-    let want = points_of(rt.alloc(), POINTS_REFINED)?;
-    expect_same(&rt, &refined.level.points(), &8, &"points");
-    expect_same(&rt, &refined.level.faces(), &6, &"faces");
-    expect_same(&rt, &refined.values.as_slice(), &want.as_slice(), &"values");
-    Ok(())
+    expect_triangles_refined(&rt)
 }
 
 // What is asked, and the fault or none. The greatest denominators are 12 and 768.
-const BOUNDS: &[(Asked, Option<ChannelFault>)] = &[
+type Bound = (Asked, Option<ChannelFault>);
+
+const BOUNDS: &[Bound] = &[
     ((12, 1, Scheme::CatmullClark, 0), None),
     (
         (
@@ -190,16 +211,21 @@ const BOUNDS: &[(Asked, Option<ChannelFault>)] = &[
     ),
 ];
 
-fn bounds() -> &'static [(Asked, Option<ChannelFault>)] {
+fn bounds() -> &'static [Bound] {
     BOUNDS
+}
+
+fn expect_bound(rt: &(impl Abort + AllocGlobal), row: &Bound) -> Result<(), Fail> {
+    let &(asked, want) = row;
+    let given = refine_triangles(rt, rt.alloc(), asked)?;
+    expect_same(rt, &given.err(), &want, row);
+    Ok(())
 }
 
 #[test]
 fn names_the_first_level_of_great_values(rt: HostRuntime) -> Result<(), Fail> {
     for row in bounds() {
-        let &(asked, want) = row;
-        let given = refine_triangles(&rt, rt.alloc(), asked)?;
-        expect_same(&rt, &given.err(), &want, row);
+        expect_bound(&rt, row)?;
     }
     Ok(())
 }

@@ -4,6 +4,7 @@ ghost use Rattle.std.specs.Prelude.{◌≡◌, ◌<◌};
 ghost use Rattle.obj_tags.specs.Laws.{IsWithin};
 
 use crate::expect::expect_same;
+use crate::tables::put_text;
 use level_counts::LevelCounts;
 use level_topology::Counted;
 use mesh_check::{CheckFault, MeshFault, check_mesh};
@@ -137,31 +138,40 @@ pub fn one_face(alloc: Global, corners: u32) -> Result<String, Fail> {
     let mut text = points_text(alloc, corners)?;
     text.push_str("f")?;
     for v in 0..corners {
-        text.push_str(format!(in alloc; " {}", v as u64 + 1)?.as_str())?;
+        put_text(&mut text, format!(in alloc; " {}", v as u64 + 1)?)?;
     }
     Ok(text)
 }
 
+// How many corners one face has, and the counts of level 0 or the fault.
+type Face = (u32, Result<Counts, CheckFault>);
+
+const FACES: &[Face] = &[
+    (65536, Ok((65536, 65536, 1, 1, 65536, 0, 0, 0))),
+    (
+        65537,
+        Err(CheckFault::TooLarge(Counted::FaceSize {
+            face: 0,
+            size: 65537,
+        })),
+    ),
+];
+
+fn faces() -> &'static [Face] {
+    FACES
+}
+
+fn expect_face(rt: &(impl Abort + AllocGlobal), row: &Face) -> Result<(), Fail> {
+    let (corners, want) = row;
+    let text = one_face(rt.alloc(), *corners)?;
+    expect_same(rt, &counts_of_text(rt, text.as_bytes())?, want, row);
+    Ok(())
+}
+
 #[test]
 fn takes_faces_of_65536_corners_and_no_more(rt: HostRuntime) -> Result<(), Fail> {
-    let most = (65536, 65536, 1, 1, 65536, 0, 0, 0);
-    let text = one_face(rt.alloc(), 65536)?;
-    expect_same(
-        &rt,
-        &counts_of_text(&rt, text.as_bytes())?,
-        &Ok(most),
-        &65536,
-    );
-    let refused = CheckFault::TooLarge(Counted::FaceSize {
-        face: 0,
-        size: 65537,
-    });
-    let text = one_face(rt.alloc(), 65537)?;
-    expect_same(
-        &rt,
-        &counts_of_text(&rt, text.as_bytes())?,
-        &Err(refused),
-        &65537,
-    );
+    for row in faces() {
+        expect_face(&rt, row)?;
+    }
     Ok(())
 }

@@ -107,7 +107,29 @@ fn apply_in_two<L: Ledger>(
     apply_range(table, controls, 0, between, &mut places[..at], steps);
 }
 
-// The sums of all rows, at once where no row is named and else from that row on first.
+// Puts the sums of all rows, at once where no row is named and else from that row on first.
+fn put_sums<L: Ledger>(
+    rt: &impl Abort,
+    table: &StencilTable,
+    controls: &[Point3],
+    between: Option<u32>,
+    places: &mut [Point3],
+    steps: &mut Steps<L>,
+)
+    requires { length places.old ≡ length table.now.rows }
+{
+    assert!(rt; controls.len() == table.controls() as usize);
+    assert_fits(rt, table, controls);
+    match between {
+        None => apply_at_once(table, controls, places, steps),
+        Some(row) => {
+            assert!(rt; row <= table.rows());
+            apply_in_two(table, controls, row, places, steps);
+        }
+    }
+}
+
+// The sums of all rows, put so.
 fn sums_by<L: Ledger>(
     rt: &impl Abort,
     alloc: Global,
@@ -121,17 +143,8 @@ fn sums_by<L: Ledger>(
     requires some { 0 < blank.parts }
 {
     let mut steps = Steps::start(blank.open::<L>());
-    let rows = table.rows();
-    let mut places = vec![in alloc; Point3 { x: 7, y: 7, z: 7 }; rows as usize]?;
-    assert!(rt; controls.len() == table.controls() as usize);
-    assert_fits(rt, table, controls);
-    match between {
-        None => apply_at_once(table, controls, &mut places, &mut steps),
-        Some(row) => {
-            assert!(rt; row <= rows);
-            apply_in_two(table, controls, row, &mut places, &mut steps);
-        }
-    }
+    let mut places = vec![in alloc; Point3 { x: 7, y: 7, z: 7 }; table.rows() as usize]?;
+    put_sums(rt, table, controls, between, &mut places, &mut steps);
     Ok(places)
 }
 
@@ -156,54 +169,107 @@ fn rows() -> &'static [(u32, &'static str)] {
     ROWS
 }
 
-fn expect_rows(rt: &impl Abort, alloc: Global, table: &StencilTable) -> Result<(), Fail> {
-    for case in rows() {
-        let &(row, want) = case;
-        assert!(rt; row < table.rows());
-        let mut given = String::new(alloc);
-        put_row(alloc, &mut given, table, row)?;
-        expect_same(rt, &given.as_str(), &want, case);
-    }
+fn expect_row(
+    rt: &(impl Abort + AllocGlobal),
+    table: &StencilTable,
+    case: &(u32, &'static str),
+) -> Result<(), Fail> {
+    let &(row, want) = case;
+    assert!(rt; row < table.rows());
+    let mut given = String::new(rt.alloc());
+    put_row(rt.alloc(), &mut given, table, row)?;
+    expect_same(rt, &given.as_str(), &want, case);
     Ok(())
 }
 
-#[test]
-fn composes_the_table_of_the_cube(rt: HostRuntime) -> Result<(), Fail> {
-    let mesh = read_obj(rt.alloc(), CUBE.as_bytes(), 0)?;
-    let composed = compose_mesh(&rt, rt.alloc(), &mesh, (1, 1, 1))?;
-    expect_same(&rt, &composed.level.points(), &26, &"points");
+fn expect_table(rt: &(impl Abort + AllocGlobal), composed: &ComposedChannel) -> Result<(), Fail> {
+    expect_same(rt, &composed.level.points(), &26, &"points");
     expect_same(
-        &rt,
+        rt,
         &counts_of(&composed.table),
         &(8, 26, 152, 36),
         &"counts",
     );
-    expect_rows(&rt, rt.alloc(), &composed.table)
+    for case in rows() {
+        expect_row(rt, &composed.table, case)?;
+    }
+    Ok(())
+}
+
+// The cube to a depth.
+fn compose_cube(
+    rt: &impl Abort,
+    alloc: Global,
+    asked: Asked,
+) -> Result<Result<ComposedChannel, ChannelFault>, Fail> {
+    let mesh = read_obj(alloc, CUBE.as_bytes(), 0)?;
+    Ok(compose_mesh(rt, alloc, &mesh, asked))
+}
+
+fn expect_cube_composed(rt: &(impl Abort + AllocGlobal)) -> Result<(), Fail> {
+    let composed = compose_cube(rt, rt.alloc(), (1, 1, 1))??;
+    expect_table(rt, &composed)
 }
 
 #[test]
-fn evaluates_the_cube_at_once_and_in_two_ranges(rt: HostRuntime) -> Result<(), Fail> {
-    let mesh = read_obj(rt.alloc(), CUBE.as_bytes(), 0)?;
-    let table = compose_mesh(&rt, rt.alloc(), &mesh, (1, 1, 1))?.table;
-    expect_same(&rt, &table.entries(), &152, &"entries");
-    let whole = sums_of(&rt, rt.alloc(), &table, mesh.points(), None)?;
-    let parts = sums_of(&rt, rt.alloc(), &table, mesh.points(), Some(13))?;
+fn composes_the_table_of_the_cube(rt: HostRuntime) -> Result<(), Fail> {
+    expect_cube_composed(&rt)
+}
+
+fn expect_parts(
+    rt: &(impl Abort + AllocGlobal),
+    table: &StencilTable,
+    controls: &[Point3],
+    whole: &[Point3],
+) -> Result<(), Fail> {
+    let parts = sums_of(rt, rt.alloc(), table, controls, Some(13))?;
+    expect_same(rt, &parts.as_slice(), &whole, &"in two ranges");
+    Ok(())
+}
+
+// The table has these sums at once, and the same in two ranges.
+fn expect_sums(
+    rt: &(impl Abort + AllocGlobal),
+    table: &StencilTable,
+    controls: &[Point3],
+) -> Result<(), Fail> {
+    expect_same(rt, &table.entries(), &152, &"entries");
+    let whole = sums_of(rt, rt.alloc(), table, controls, None)?;
     let corner = Point3 {
         x: 20,
         y: 20,
         z: 20,
     };
-    expect_same(&rt, &whole.get(3), &Some(&corner), &"corner");
-    expect_same(&rt, &parts.as_slice(), &whole.as_slice(), &"in two ranges");
+    expect_same(rt, &whole.get(3), &Some(&corner), &"corner");
+    expect_parts(rt, table, controls, &whole)
+}
+
+fn expect_mesh_evaluated(rt: &(impl Abort + AllocGlobal), mesh: &RawMesh) -> Result<(), Fail>
+    requires { IsWithin mesh.now }
+{
+    let composed = compose_mesh(rt, rt.alloc(), mesh, (1, 1, 1))?;
+    expect_sums(rt, &composed.table, mesh.points())
+}
+
+fn expect_cube_evaluated(rt: &(impl Abort + AllocGlobal)) -> Result<(), Fail> {
+    let mesh = read_obj(rt.alloc(), CUBE.as_bytes(), 0)?;
+    expect_mesh_evaluated(rt, &mesh)
+}
+
+#[test]
+fn evaluates_the_cube_at_once_and_in_two_ranges(rt: HostRuntime) -> Result<(), Fail> {
+    expect_cube_evaluated(&rt)
+}
+
+fn expect_overflow(rt: &(impl Abort + AllocGlobal)) -> Result<(), Fail> {
+    let greatest = 2363071992506517107384545884942834802;
+    let given = compose_cube(rt, rt.alloc(), (greatest, 1, 3))?;
+    let want = Some(ChannelFault::Value { level: 1 });
+    expect_same(rt, &given.err(), &want, &"at level 1");
     Ok(())
 }
 
 #[test]
 fn names_the_first_level_whose_table_overflows(rt: HostRuntime) -> Result<(), Fail> {
-    let mesh = read_obj(rt.alloc(), CUBE.as_bytes(), 0)?;
-    let greatest = 2363071992506517107384545884942834802;
-    let fault = compose_mesh(&rt, rt.alloc(), &mesh, (greatest, 1, 3)).err();
-    let want = Some(ChannelFault::Value { level: 1 });
-    expect_same(&rt, &fault, &want, &"at level 1");
-    Ok(())
+    expect_overflow(&rt)
 }

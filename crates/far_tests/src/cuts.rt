@@ -104,17 +104,35 @@ fn cuts() -> &'static [Cut] {
     CUTS
 }
 
+// A cut mesh has what the row tells.
+fn expect_parts(rt: &impl Abort, level: &Level, values: &[Point2], row: &Cut) {
+    let &(_, _, points, boundary, sharp, last) = row;
+    let told = (level.points(), boundary_edges(level), sharp_points(level));
+    expect_same(rt, &told, &(points, boundary, sharp), row);
+    expect_same(rt, &values.last(), &Some(&last), row);
+}
+
+fn expect_channel(
+    rt: &impl Abort,
+    given: Result<Channel, CheckFault>,
+    row: &Cut,
+) -> Result<(), Fail> {
+    let parts = given?.into_parts();
+    expect_parts(rt, &parts.0, &parts.1, row);
+    Ok(())
+}
+
+fn expect_cut(rt: &(impl Abort + AllocGlobal), row: &Cut) -> Result<(), Fail> {
+    let &(text, mode, ..) = row;
+    assert!(rt; text.len() < 1 << 28);
+    let mesh = read_obj(rt.alloc(), text.as_bytes(), 0)?;
+    expect_channel(rt, cut_mesh(rt, rt.alloc(), &mesh, mode), row)
+}
+
 #[test]
 fn cuts_meshes_at_seams(rt: HostRuntime) -> Result<(), Fail> {
     for row in cuts() {
-        let &(text, mode, points, boundary, sharp, last) = row;
-        assert!(rt; text.len() < 1 << 28);
-        let mesh = read_obj(rt.alloc(), text.as_bytes(), 0)?;
-        let channel = cut_mesh(&rt, rt.alloc(), &mesh, mode)?;
-        let (level, values) = channel.into_parts();
-        let told = (level.points(), boundary_edges(&level), sharp_points(&level));
-        expect_same(&rt, &told, &(points, boundary, sharp), row);
-        expect_same(&rt, &values.last(), &Some(&last), row);
+        expect_cut(&rt, row)?;
     }
     Ok(())
 }

@@ -1,7 +1,7 @@
 // Texts that end early: each is answered as its last line is, and as if it came in pieces.
 
 use crate::engine::run_within;
-use crate::expect::expect_same;
+use crate::expect::{expect_answer, expect_same};
 use crate::hostile::run_read_in_pieces;
 use far_engine::{FarFault, status};
 use std::process::Abort;
@@ -39,46 +39,62 @@ fn told(given: &Result<(), FarFault>) -> (u8, Option<u32>) {
     }
 }
 
-// A run on this text has this status, names this line where a line is refused, and writes nothing with a fault.
+// An answer has this status, names this line where a line is refused, and comes with no text where it is a fault.
 fn expect_status(
+    rt: &impl Abort,
+    input: &[u8],
+    given: &Result<(), FarFault>,
+    written: &[u8],
+    want: (Option<u8>, u32),
+) {
+    let (digit, line) = want;
+    let (status, named) = told(given);
+    let is_whole = given.is_ok() || written.is_empty();
+    let told = (Some(status), named.unwrap_or(line), is_whole);
+    expect_same(rt, &told, &(digit, line, true), &input);
+}
+
+// A run on this text answers so and writes so where each read gives one byte.
+fn expect_in_pieces(
     rt: &(impl Abort + AllocGlobal),
     input: &[u8],
-    digit: Option<u8>,
-    line: u32,
+    given: &Result<(), FarFault>,
+    written: &[u8],
 ) -> Result<(), Fail> {
-    let (given, sink) = run_within(rt.alloc(), WORDS, input.to_vec(rt.alloc())?, 4096)?;
-    let (status, named) = told(&given);
-    expect_same(rt, &Some(status), &digit, &input);
-    expect_same(rt, &named.unwrap_or(line), &line, &input);
-    expect_same(
-        rt,
-        &(given.is_ok() || sink.bytes().is_empty()),
-        &true,
-        &input,
-    );
+    let (again, sink) = run_read_in_pieces(rt.alloc(), WORDS, input, u32::MAX, 1, 1)?;
+    expect_answer(rt, &again, sink.bytes(), (given, written), &input);
     Ok(())
 }
 
-// A run on this text answers the same where each read gives one byte.
-fn expect_same_in_pieces(rt: &(impl Abort + AllocGlobal), input: &[u8]) -> Result<(), Fail> {
+// A run on this text has what is wanted, and the same where each read gives one byte.
+fn expect_ended(
+    rt: &(impl Abort + AllocGlobal),
+    input: &[u8],
+    want: (Option<u8>, u32),
+) -> Result<(), Fail> {
     let (given, sink) = run_within(rt.alloc(), WORDS, input.to_vec(rt.alloc())?, 4096)?;
-    let bytes = input.to_vec(rt.alloc())?;
-    let (again, other) = run_read_in_pieces(rt.alloc(), WORDS, bytes, u32::MAX, 1, 1)?;
-    expect_same(rt, &again, &given, &input);
-    expect_same(rt, &other.bytes(), &sink.bytes(), &input);
+    expect_status(rt, input, &given, sink.bytes(), want);
+    expect_in_pieces(rt, input, &given, sink.bytes())
+}
+
+// A run on this text answers so and writes so without its last byte.
+fn expect_without_end(
+    rt: &(impl Abort + AllocGlobal),
+    input: &[u8],
+    given: &Result<(), FarFault>,
+    written: &[u8],
+) -> Result<(), Fail> {
+    let mut bytes = input.to_vec(rt.alloc())?;
+    expect_same(rt, &bytes.pop(), &Some(b'\n'), &input);
+    let (again, sink) = run_within(rt.alloc(), WORDS, bytes, 4096)?;
+    expect_answer(rt, &again, sink.bytes(), (given, written), &input);
     Ok(())
 }
 
 // A run on this text answers the same without its last byte.
 fn expect_same_without_end(rt: &(impl Abort + AllocGlobal), input: &[u8]) -> Result<(), Fail> {
-    let bytes = input.to_vec(rt.alloc())?;
-    let (given, sink) = run_within(rt.alloc(), WORDS, bytes, 4096)?;
-    let mut bytes = input.to_vec(rt.alloc())?;
-    expect_same(rt, &bytes.pop(), &Some(b'\n'), &input);
-    let (again, other) = run_within(rt.alloc(), WORDS, bytes, 4096)?;
-    expect_same(rt, &again, &given, &input);
-    expect_same(rt, &other.bytes(), &sink.bytes(), &input);
-    Ok(())
+    let (given, sink) = run_within(rt.alloc(), WORDS, input.to_vec(rt.alloc())?, 4096)?;
+    expect_without_end(rt, input, &given, sink.bytes())
 }
 
 // The text so far gets this line, byte by byte.
@@ -91,18 +107,20 @@ fn expect_line(
     let mut digits = digits.bytes();
     for byte in text.bytes() {
         input.push(byte)?;
-        expect_status(rt, input, digits.next(), line)?;
-        expect_same_in_pieces(rt, input)?;
+        expect_ended(rt, input, (digits.next(), line))?;
+    }
+    Ok(())
+}
+
+fn expect_lines(rt: &(impl Abort + AllocGlobal), input: &mut Vec<u8>) -> Result<(), Fail> {
+    for row in endings() {
+        expect_line(rt, input, row)?;
+        expect_same_without_end(rt, input)?;
     }
     Ok(())
 }
 
 #[test]
 fn answers_texts_that_end_early(rt: HostRuntime) -> Result<(), Fail> {
-    let mut input = Vec::new(rt.alloc());
-    for row in endings() {
-        expect_line(&rt, &mut input, row)?;
-        expect_same_without_end(&rt, &input)?;
-    }
-    Ok(())
+    expect_lines(&rt, &mut Vec::new(rt.alloc()))
 }

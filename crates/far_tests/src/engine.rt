@@ -12,6 +12,7 @@ use far_io::{MemSink, MemSource, SureSink, SureSource};
 use ratio128::{Memory, Steps};
 use std::alloc::{AllocError, Global};
 use std::marker::Brand;
+use std::process::Abort;
 use std::sync::ledger::{Blank, Ledger};
 use std::test::Fail;
 
@@ -104,7 +105,7 @@ pub fn words_of(alloc: Global, text: &str) -> Result<Vec<String>, AllocError> {
 }
 
 // A source and a sink of which one call fails.
-fn failing_source(alloc: Global, text: &str, call: u32) -> Result<MemSource, AllocError> {
+pub fn failing_source(alloc: Global, text: &str, call: u32) -> Result<MemSource, AllocError> {
     Ok(MemSource::new(text.as_bytes().to_vec(alloc)?, vec![in alloc; call]?))
 }
 
@@ -211,19 +212,59 @@ fn failed_calls() -> &'static [FailedCalls] {
     FAILED_CALLS
 }
 
+fn expect_ended(rt: &impl Abort, given: u8, told: &[u8], held: &[u8], row: &FailedCalls) {
+    let &(_, _, _, _, _, status, line, written) = row;
+    expect_same(rt, &given, &status, row);
+    expect_same(rt, &told, &line.as_bytes(), row);
+    expect_same(rt, &held, &written.as_bytes(), row);
+}
+
+// The program with these words, this source and this sink does what the row tells.
+fn expect_told(
+    rt: &(impl Abort + AllocGlobal),
+    words: &Vec<String>,
+    source: &mut MemSource,
+    sink: &mut MemSink,
+    row: &FailedCalls,
+) -> Result<(), Fail> {
+    let &(_, _, _, tell, ..) = row;
+    let mut errors = failing_sink(rt.alloc(), 64, tell)?;
+    let given = program_on(rt.alloc(), words, source, sink, &mut errors);
+    expect_ended(rt, given, errors.bytes(), sink.bytes(), row);
+    Ok(())
+}
+
+fn expect_written(
+    rt: &(impl Abort + AllocGlobal),
+    words: &Vec<String>,
+    source: &mut MemSource,
+    row: &FailedCalls,
+) -> Result<(), Fail> {
+    let &(_, _, write, _, room, ..) = row;
+    let mut sink = failing_sink(rt.alloc(), room, write)?;
+    expect_told(rt, words, source, &mut sink, row)
+}
+
+fn expect_read(
+    rt: &(impl Abort + AllocGlobal),
+    words: &Vec<String>,
+    row: &FailedCalls,
+) -> Result<(), Fail> {
+    let &(_, read, ..) = row;
+    let mut source = failing_source(rt.alloc(), TRIANGLES, read)?;
+    expect_written(rt, words, &mut source, row)
+}
+
+fn expect_calls(rt: &(impl Abort + AllocGlobal), row: &FailedCalls) -> Result<(), Fail> {
+    let &(text, ..) = row;
+    let words = words_of(rt.alloc(), text)?;
+    expect_read(rt, &words, row)
+}
+
 #[test]
 fn answers_calls_that_fail(rt: HostRuntime) -> Result<(), Fail> {
-    let alloc = rt.alloc();
     for row in failed_calls() {
-        let &(text, read, write, tell, room, status, line, written) = row;
-        let words = words_of(alloc, text)?;
-        let mut source = failing_source(alloc, TRIANGLES, read)?;
-        let mut sink = failing_sink(alloc, room, write)?;
-        let mut errors = failing_sink(alloc, 64, tell)?;
-        let given = program_on(alloc, &words, &mut source, &mut sink, &mut errors);
-        expect_same(&rt, &given, &status, row);
-        expect_same(&rt, &errors.bytes(), &line.as_bytes(), row);
-        expect_same(&rt, &sink.bytes(), &written.as_bytes(), row);
+        expect_calls(&rt, row)?;
     }
     Ok(())
 }

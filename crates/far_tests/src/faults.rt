@@ -1,12 +1,13 @@
 // The lines and the statuses of the faults of runs.
 
 use crate::engine::failing_sink;
-use crate::expect::expect_same;
+use crate::expect::{expect_answer, expect_same};
 use far_engine::{FarFault, OverflowKind, Track, report, status};
 use far_io::{SureSink, WriteFailed};
 use level_topology::Counted;
 use mesh_check::MeshFault;
 use obj_tags::ObjCause;
+use std::process::Abort;
 use std::test::Fail;
 
 // A fault, its status and its line.
@@ -217,17 +218,28 @@ fn faults() -> &'static [Fault] {
     FAULTS
 }
 
+// The status of a fault, its line as it is reported, and as it is displayed.
+fn expect_reported(rt: &(impl Abort + AllocGlobal), row: &Fault) -> Result<(), Fail> {
+    let (fault, number, text) = row;
+    expect_same(rt, &status(fault), number, row);
+    let mut errors = SureSink::with_room(rt.alloc(), 64)?;
+    let given = report(fault, &mut errors);
+    expect_answer(rt, &given, errors.bytes(), (&Ok(()), text.as_bytes()), row);
+    Ok(())
+}
+
+fn expect_displayed(rt: &(impl Abort + AllocGlobal), row: &Fault) -> Result<(), Fail> {
+    let (fault, _, text) = row;
+    let line = format!(in rt.alloc(); "far: {fault}\n")?;
+    expect_same(rt, &line.as_str(), text, row);
+    Ok(())
+}
+
 #[test]
 fn names_faults_of_runs(rt: HostRuntime) -> Result<(), Fail> {
-    let alloc = rt.alloc();
     for row in faults() {
-        let (fault, number, text) = row;
-        let mut errors = SureSink::with_room(alloc, 64)?;
-        expect_same(&rt, &report(fault, &mut errors), &Ok(()), row);
-        expect_same(&rt, &errors.bytes(), &text.as_bytes(), row);
-        expect_same(&rt, &status(fault), number, row);
-        let line = format!(in alloc; "far: {fault}\n")?;
-        expect_same(&rt, &line.as_str(), text, row);
+        expect_reported(&rt, row)?;
+        expect_displayed(&rt, row)?;
     }
     Ok(())
 }
@@ -273,14 +285,18 @@ fn reports() -> &'static [Report] {
     REPORTS
 }
 
+fn expect_report(rt: &(impl Abort + AllocGlobal), row: &Report) -> Result<(), Fail> {
+    let &(fault, room, call, answer, held) = row;
+    let mut errors = failing_sink(rt.alloc(), room, call)?;
+    let given = report(&fault, &mut errors);
+    expect_answer(rt, &given, errors.bytes(), (&answer, held.as_bytes()), row);
+    Ok(())
+}
+
 #[test]
 fn reports_what_fails(rt: HostRuntime) -> Result<(), Fail> {
-    let alloc = rt.alloc();
     for row in reports() {
-        let &(fault, room, call, answer, held) = row;
-        let mut errors = failing_sink(alloc, room, call)?;
-        expect_same(&rt, &report(&fault, &mut errors), &answer, row);
-        expect_same(&rt, &errors.bytes(), &held.as_bytes(), row);
+        expect_report(&rt, row)?;
     }
     Ok(())
 }

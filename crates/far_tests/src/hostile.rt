@@ -3,7 +3,7 @@
 ghost use Rattle.std.specs.Prelude.{◌≡◌, ◌<◌};
 
 use crate::engine::{run_alone, words_of};
-use crate::expect::expect_same;
+use crate::expect::{expect_answer, expect_same};
 use crate::inputs::{CUBE, CUBE_REFINED, GEN, REFINE, SQUARE};
 use crate::textures::TWO_CHARTS;
 use far_engine::{FarFault, run};
@@ -48,7 +48,7 @@ fn run_in_memory(
 // A source whose reads give so many bytes in turn, and of which one call fails.
 fn source_in_pieces(
     alloc: Global,
-    input: Vec<u8>,
+    input: &[u8],
     call: u32,
     first: u32,
     second: u32,
@@ -56,7 +56,8 @@ fn source_in_pieces(
     requires first { 0 < first }
     requires second { 0 < second }
 {
-    Ok(MemSource::in_pieces(input, vec![in alloc; call]?, vec![in alloc; first, second]?))
+    let (fails, sizes) = (vec![in alloc; call]?, vec![in alloc; first, second]?);
+    Ok(MemSource::in_pieces(input.to_vec(alloc)?, fails, sizes))
 }
 
 // A sink whose writes take so many bytes, and of which one call fails.
@@ -66,11 +67,52 @@ fn sink_in_pieces(alloc: Global, call: u32, size: u32) -> Result<MemSink, Memory
     MemSink::in_pieces(alloc, 4096, vec![in alloc; call]?, vec![in alloc; size]?)
 }
 
+// The answer of a run into this sink, and what is written.
+fn run_into(
+    alloc: Global,
+    words: &Vec<String>,
+    source: &mut MemSource,
+    sink: Result<MemSink, Memory>,
+) -> Result<(Result<(), FarFault>, MemSink), Fail> {
+    let mut sink = sink?;
+    let given = run_in_memory(alloc, words, source, &mut sink);
+    Ok((given, sink))
+}
+
+// The same from this source, into a sink of which no call fails.
+fn run_from(
+    alloc: Global,
+    words: &Vec<String>,
+    source: Result<MemSource, AllocError>,
+) -> Result<(Result<(), FarFault>, MemSink), Fail> {
+    let mut source = source?;
+    run_into(
+        alloc,
+        words,
+        &mut source,
+        MemSink::with_room(alloc, 4096, Vec::new(alloc)),
+    )
+}
+
+// The same from a source of which no call fails, into a sink whose writes take so many bytes.
+fn write_in_pieces(
+    alloc: Global,
+    words: &Vec<String>,
+    mesh: &str,
+    call: u32,
+    size: u32,
+) -> Result<(Result<(), FarFault>, MemSink), Fail>
+    requires { 0 < size }
+{
+    let mut source = MemSource::new(mesh.as_bytes().to_vec(alloc)?, Vec::new(alloc));
+    run_into(alloc, words, &mut source, sink_in_pieces(alloc, call, size))
+}
+
 // The answer of a run whose reads give so many bytes in turn, and what is written.
 pub fn run_read_in_pieces(
     alloc: Global,
     text: &str,
-    input: Vec<u8>,
+    input: &[u8],
     call: u32,
     first: u32,
     second: u32,
@@ -79,10 +121,11 @@ pub fn run_read_in_pieces(
     requires second { 0 < second }
 {
     let words = words_of(alloc, text)?;
-    let mut source = source_in_pieces(alloc, input, call, first, second)?;
-    let mut sink = MemSink::with_room(alloc, 4096, Vec::new(alloc))?;
-    let given = run_in_memory(alloc, &words, &mut source, &mut sink);
-    Ok((given, sink))
+    run_from(
+        alloc,
+        &words,
+        source_in_pieces(alloc, input, call, first, second),
+    )
 }
 
 // The answer of a run whose writes take so many bytes, and what is written.
@@ -96,10 +139,7 @@ fn run_written_in_pieces(
     requires { 0 < size }
 {
     let words = words_of(alloc, text)?;
-    let mut source = MemSource::new(mesh.as_bytes().to_vec(alloc)?, Vec::new(alloc));
-    let mut sink = sink_in_pieces(alloc, call, size)?;
-    let given = run_in_memory(alloc, &words, &mut source, &mut sink);
-    Ok((given, sink))
+    write_in_pieces(alloc, &words, mesh, call, size)
 }
 
 // How many bytes the reads of the cube give in turn, and how many reads there are: one more than pieces, since the last finds the end.
@@ -122,21 +162,25 @@ fn expect_read(
     let &(first, second, _) = row;
     assert!(rt; 0 < first);
     assert!(rt; 0 < second);
-    let input = CUBE.as_bytes().to_vec(rt.alloc())?;
+    let input = CUBE.as_bytes();
     let (given, sink) = run_read_in_pieces(rt.alloc(), REFINE, input, call, first, second)?;
-    expect_same(rt, &given, answer, &(row, call));
-    expect_same(rt, &sink.bytes(), &written.as_bytes(), &(row, call));
+    let want = (answer, written.as_bytes());
+    expect_answer(rt, &given, sink.bytes(), want, &(row, call));
     Ok(())
+}
+
+fn expect_each_read(rt: &(impl Abort + AllocGlobal), row: &Reads) -> Result<(), Fail> {
+    let &(_, _, calls) = row;
+    for call in 0..calls {
+        expect_read(rt, row, call, &Err(FarFault::Read), "")?;
+    }
+    expect_read(rt, row, calls, &Ok(()), CUBE_REFINED)
 }
 
 #[test]
 fn fails_at_each_read(rt: HostRuntime) -> Result<(), Fail> {
     for row in reads() {
-        let &(_, _, calls) = row;
-        for call in 0..calls {
-            expect_read(&rt, row, call, &Err(FarFault::Read), "")?;
-        }
-        expect_read(&rt, row, calls, &Ok(()), CUBE_REFINED)?;
+        expect_each_read(&rt, row)?;
     }
     Ok(())
 }
@@ -165,10 +209,11 @@ fn expect_cut_write(
 ) -> Result<(), Fail> {
     let &(text, mesh, size, _) = row;
     assert!(rt; 0 < size);
-    let (given, sink) = run_written_in_pieces(rt.alloc(), text, mesh, call, size)?;
     let held = whole.len().min(call.saturating_mul(size) as usize);
-    expect_same(rt, &given, &Err(FarFault::Write), &(row, call));
-    expect_same(rt, &Some(sink.bytes()), &whole.get(..held), &(row, call));
+    let held = whole.get(..held).ok_or("the pieces")?;
+    let (given, sink) = run_written_in_pieces(rt.alloc(), text, mesh, call, size)?;
+    let want = (&Err(FarFault::Write), held);
+    expect_answer(rt, &given, sink.bytes(), want, &(row, call));
     Ok(())
 }
 
@@ -177,21 +222,33 @@ fn expect_written(rt: &(impl Abort + AllocGlobal), row: &Writes, whole: &[u8]) -
     let &(text, mesh, size, calls) = row;
     assert!(rt; 0 < size);
     let (given, sink) = run_written_in_pieces(rt.alloc(), text, mesh, calls, size)?;
-    expect_same(rt, &given, &Ok(()), row);
-    expect_same(rt, &sink.bytes(), &whole, row);
+    expect_answer(rt, &given, sink.bytes(), (&Ok(()), whole), row);
     Ok(())
+}
+
+fn expect_each_write(
+    rt: &(impl Abort + AllocGlobal),
+    row: &Writes,
+    whole: &[u8],
+) -> Result<(), Fail> {
+    let &(_, _, _, calls) = row;
+    for call in 0..calls {
+        expect_cut_write(rt, row, call, whole)?;
+    }
+    expect_written(rt, row, whole)
+}
+
+fn expect_writes(rt: &(impl Abort + AllocGlobal), row: &Writes) -> Result<(), Fail> {
+    let &(text, mesh, ..) = row;
+    let (given, sink) = run_alone(rt.alloc(), text, mesh, "")?;
+    expect_same(rt, &given, &Ok(()), row);
+    expect_each_write(rt, row, sink.bytes())
 }
 
 #[test]
 fn fails_at_each_write(rt: HostRuntime) -> Result<(), Fail> {
     for row in writes() {
-        let &(text, mesh, _, calls) = row;
-        let (given, sink) = run_alone(rt.alloc(), text, mesh, "")?;
-        expect_same(&rt, &given, &Ok(()), row);
-        for call in 0..calls {
-            expect_cut_write(&rt, row, call, sink.bytes())?;
-        }
-        expect_written(&rt, row, sink.bytes())?;
+        expect_writes(&rt, row)?;
     }
     Ok(())
 }

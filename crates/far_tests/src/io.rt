@@ -1,12 +1,14 @@
 // Sources and sinks, in memory and over the readers and writers of std.
 
+use crate::engine::failing_source;
 use crate::expect::expect_same;
 use far_io::{
-    InputFault, MemSink, MemSource, ReadFailed, Sink, StdSink, StdSource, SureSink, WriteFailed,
-    read_all, write_all_of,
+    InputFault, MemSink, ReadFailed, Sink, StdSink, StdSource, SureSink, WriteFailed, read_all,
+    write_all_of,
 };
 use ratio128::Memory;
 use std::io;
+use std::process::Abort;
 use std::test::Fail;
 
 // A bound, the call that fails, and none from 9 on, and the fault.
@@ -23,14 +25,19 @@ fn readings() -> &'static [Reading] {
     READINGS
 }
 
+fn expect_reading(rt: &(impl Abort + AllocGlobal), row: &Reading) -> Result<(), Fail> {
+    let &(bound, call, fault) = row;
+    assert!(rt; bound < 10);
+    let mut source = failing_source(rt.alloc(), "abcd", call)?;
+    let given = read_all(rt.alloc(), &mut source, bound);
+    expect_same(rt, &given.err(), &fault, row);
+    Ok(())
+}
+
 #[test]
 fn reads_an_input_or_refuses_it(rt: HostRuntime) -> Result<(), Fail> {
-    let alloc = rt.alloc();
     for row in readings() {
-        let &(bound, call, fault) = row;
-        assert!(rt; bound < 10);
-        let mut source = MemSource::new(b"abcd".to_vec(alloc)?, vec![in alloc; call]?);
-        expect_same(&rt, &read_all(alloc, &mut source, bound).err(), &fault, row);
+        expect_reading(&rt, row)?;
     }
     Ok(())
 }
@@ -62,22 +69,30 @@ fn keeps_the_prefix_that_was_written(rt: HostRuntime) -> Result<(), Fail> {
     Ok(())
 }
 
+fn expect_room(rt: &(impl Abort + AllocGlobal)) -> Result<(), Fail> {
+    let mut sink = SureSink::with_room(rt.alloc(), 4)?;
+    expect_same(rt, &sink.write(b"abcdef"), &Ok(4), &"six bytes");
+    expect_same(rt, &sink.write(b"g"), &Err(WriteFailed), &"one byte");
+    expect_same(rt, &sink.flush(), &Ok(()), &"the flush");
+    expect_same(rt, &sink.bytes(), &b"abcd".as_slice(), &"what is held");
+    Ok(())
+}
+
 #[test]
 fn keeps_what_it_has_room_for(rt: HostRuntime) -> Result<(), Fail> {
-    let mut sink = SureSink::with_room(rt.alloc(), 4)?;
-    expect_same(&rt, &sink.write(b"abcdef"), &Ok(4), &"six bytes");
-    expect_same(&rt, &sink.write(b"g"), &Err(WriteFailed), &"one byte");
-    expect_same(&rt, &sink.flush(), &Ok(()), &"the flush");
-    expect_same(&rt, &sink.bytes(), &b"abcd".as_slice(), &"what is held");
+    expect_room(&rt)
+}
+
+fn expect_read(rt: &(impl Abort + AllocGlobal)) -> Result<(), Fail> {
+    let mut source = StdSource::new(b"abcd".as_slice());
+    let bytes = read_all(rt.alloc(), &mut source, 4)?;
+    expect_same(rt, &bytes.as_slice(), &b"abcd".as_slice(), &"four bytes");
     Ok(())
 }
 
 #[test]
 fn serves_readers_of_std(rt: HostRuntime) -> Result<(), Fail> {
-    let mut source = StdSource::new(b"abcd".as_slice());
-    let bytes = read_all(rt.alloc(), &mut source, 4)?;
-    expect_same(&rt, &bytes.as_slice(), &b"abcd".as_slice(), &"four bytes");
-    Ok(())
+    expect_read(&rt)
 }
 
 #[test]

@@ -1,27 +1,29 @@
 // Runs at what can be counted and kept, and one past it.
 
 use crate::checks::one_face;
-use crate::engine::{run_alone, run_within};
+use crate::engine::run_within;
 use crate::expect::expect_same;
 use crate::inputs::LEVELS;
-use crate::runs::{Run, expect_runs};
+use crate::runs::{Run, expect_run, expect_runs};
+use crate::tables::put_text;
 use far_engine::FarFault;
 use level_topology::Counted;
 use obj_tags::ObjCause;
 use std::alloc::Global;
+use std::process::Abort;
 use std::test::Fail;
 
 // The points of a wheel: the hub is point 0, and point k stands at k.
 fn push_points(text: &mut String, alloc: Global, spokes: u32) -> Result<(), Fail> {
     for k in 0..spokes {
-        text.push_str(format!(in alloc; "v {} 0 0\n", u64::from(k) + 1)?.as_str())?;
+        put_text(text, format!(in alloc; "v {} 0 0\n", u64::from(k) + 1)?)?;
     }
     Ok(())
 }
 
 // A triangle at the hub, by what the line of a face calls its other points.
 fn push_triangle(text: &mut String, alloc: Global, second: u64, third: u64) -> Result<(), Fail> {
-    text.push_str(format!(in alloc; "f 1 {second} {third}\n")?.as_str())?;
+    put_text(text, format!(in alloc; "f 1 {second} {third}\n")?)?;
     Ok(())
 }
 
@@ -67,30 +69,34 @@ fn wheels() -> &'static [Wheel] {
     WHEELS
 }
 
+fn expect_wheel(rt: &(impl Abort + AllocGlobal), row: &Wheel) -> Result<(), Fail> {
+    let &(spokes, text, answer, written) = row;
+    let mesh = wheel(rt.alloc(), spokes)?;
+    expect_run(rt, (text, mesh.as_str(), ""), answer, written, row)
+}
+
 #[test]
 fn takes_so_many_spokes_and_no_more(rt: HostRuntime) -> Result<(), Fail> {
     for row in wheels() {
-        let &(spokes, text, answer, written) = row;
-        let mesh = wheel(rt.alloc(), spokes)?;
-        let (given, sink) = run_alone(rt.alloc(), text, mesh.as_str(), "")?;
-        expect_same(&rt, &given, &answer, row);
-        expect_same(&rt, &sink.bytes(), &written.as_bytes(), row);
+        expect_wheel(&rt, row)?;
     }
     Ok(())
+}
+
+fn expect_face_refused(rt: &(impl Abort + AllocGlobal)) -> Result<(), Fail> {
+    let mesh = one_face(rt.alloc(), 65537)?;
+    let refused = FarFault::TooLarge(Counted::FaceSize {
+        face: 0,
+        size: 65537,
+    });
+    let given = (LEVELS, mesh.as_str(), "");
+    expect_run(rt, given, Err(refused), "", &"a face")
 }
 
 // A face of more than 65,536 corners is refused, and told of with how many it has.
 #[test]
 fn refuses_a_face_of_65537_corners(rt: HostRuntime) -> Result<(), Fail> {
-    let mesh = one_face(rt.alloc(), 65537)?;
-    let (given, sink) = run_alone(rt.alloc(), LEVELS, mesh.as_str(), "")?;
-    let refused = FarFault::TooLarge(Counted::FaceSize {
-        face: 0,
-        size: 65537,
-    });
-    expect_same(&rt, &given, &Err(refused), &"the answer");
-    expect_same(&rt, &sink.bytes(), &"".as_bytes(), &"what is written");
-    Ok(())
+    expect_face_refused(&rt)
 }
 
 // How many lines begin so.
@@ -102,17 +108,30 @@ fn count_lines(text: &str, start: &str) -> u32 {
     count
 }
 
+// What is written has so many points and faces.
+fn expect_counts(rt: &impl Abort, written: &[u8], points: u32, faces: u32) -> Result<(), Fail> {
+    let written = str::from_utf8(written)?;
+    expect_same(rt, &count_lines(written, "v "), &points, &"points");
+    expect_same(rt, &count_lines(written, "f "), &faces, &"faces");
+    Ok(())
+}
+
+fn expect_refined(rt: &(impl Abort + AllocGlobal), mesh: &[u8]) -> Result<(), Fail> {
+    let input = mesh.to_vec(rt.alloc())?;
+    let (given, sink) = run_within(rt.alloc(), "refine depth=2 by=level", input, 1 << 23)?;
+    expect_same(rt, &given, &Ok(()), &"the answer");
+    expect_counts(rt, sink.bytes(), 70001, 60000)
+}
+
+fn expect_wheel_refined(rt: &(impl Abort + AllocGlobal)) -> Result<(), Fail> {
+    let mesh = wheel(rt.alloc(), 5000)?;
+    expect_refined(rt, mesh.as_bytes())
+}
+
 // Level by level there is no limit on entries.
 #[test]
 fn refines_many_spokes_by_level(rt: HostRuntime) -> Result<(), Fail> {
-    let mesh = wheel(rt.alloc(), 5000)?;
-    let input = mesh.as_bytes().to_vec(rt.alloc())?;
-    let (given, sink) = run_within(rt.alloc(), "refine depth=2 by=level", input, 1 << 23)?;
-    expect_same(&rt, &given, &Ok(()), &"the answer");
-    let written = str::from_utf8(sink.bytes())?;
-    expect_same(&rt, &count_lines(written, "v "), &70001, &"points");
-    expect_same(&rt, &count_lines(written, "f "), &60000, &"faces");
-    Ok(())
+    expect_wheel_refined(&rt)
 }
 
 const NINES: &str = "v 9999999999999999999999999999999999999 0 0\n";

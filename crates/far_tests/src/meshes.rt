@@ -1,7 +1,7 @@
 // OBJ texts: their faults, and the meshes that they give.
 
 use crate::expect::expect_same;
-use obj_tags::{Boundary, CornerTag, Crease, ObjCause, ObjFault, ReadFault, read_obj};
+use obj_tags::{Boundary, CornerTag, Crease, ObjCause, ObjFault, RawMesh, ReadFault, read_obj};
 use obj_text::NumeralFault;
 use ratio128::{Point2, Point3};
 use sharpness_rules::{Method, SharpOverflow, Sharpness};
@@ -133,11 +133,13 @@ fn fractions() -> &'static [u8] {
     FRACTIONS
 }
 
-#[test]
-fn keeps_fractions_over_common_denominators(rt: HostRuntime) -> Result<(), Fail> {
-    let text = fractions();
+// The mesh of a short text.
+fn mesh_of(rt: &(impl Abort + AllocGlobal), text: &[u8]) -> Result<RawMesh, ReadFault> {
     assert!(rt; text.len() < 1000);
-    let mesh = read_obj(rt.alloc(), text, 0)?;
+    read_obj(rt.alloc(), text, 0)
+}
+
+fn expect_fractions(rt: &impl Abort, mesh: &RawMesh) {
     let points = [
         Point3 {
             x: 70,
@@ -151,16 +153,16 @@ fn keeps_fractions_over_common_denominators(rt: HostRuntime) -> Result<(), Fail>
         sharpness: Sharpness::new(3, 2),
     };
     let value = Point2 { u: 4, v: 3 };
-    expect_same(&rt, &mesh.scale(), &126, &"the denominator");
-    expect_same(&rt, &mesh.points(), &points.as_slice(), &"points");
-    expect_same(&rt, &mesh.texture_scale(), &12, &"that of texture");
-    expect_same(&rt, &mesh.texture().first(), &Some(&value), &"texture");
-    expect_same(
-        &rt,
-        &mesh.corner_tags().first(),
-        &Some(&corner),
-        &"a corner",
-    );
+    expect_same(rt, &mesh.scale(), &126, &"the denominator");
+    expect_same(rt, &mesh.points(), &points.as_slice(), &"points");
+    expect_same(rt, &mesh.texture_scale(), &12, &"that of texture");
+    expect_same(rt, &mesh.texture().first(), &Some(&value), &"texture");
+    expect_same(rt, &mesh.corner_tags().first(), &Some(&corner), &"a corner");
+}
+
+#[test]
+fn keeps_fractions_over_common_denominators(rt: HostRuntime) -> Result<(), Fail> {
+    expect_fractions(&rt, &mesh_of(&rt, fractions())?);
     Ok(())
 }
 
@@ -184,47 +186,45 @@ fn tagged() -> &'static [u8] {
     TAGGED
 }
 
-#[test]
-fn keeps_channels(rt: HostRuntime) -> Result<(), Fail> {
-    let text = tagged();
-    assert!(rt; text.len() < 1000);
-    let mesh = read_obj(rt.alloc(), text, 0)?;
+fn expect_channels(rt: &impl Abort, mesh: &RawMesh) {
     let point = Point3 { x: 0, y: -20, z: 0 };
     let value = Point2 { u: 4, v: 1 };
-    expect_same(&rt, &mesh.scale(), &2, &"the denominator");
-    expect_same(&rt, &mesh.points().get(2), &Some(&point), &"a point");
-    expect_same(&rt, &mesh.texture_scale(), &4, &"that of texture");
+    expect_same(rt, &mesh.scale(), &2, &"the denominator");
+    expect_same(rt, &mesh.points().get(2), &Some(&point), &"a point");
+    expect_same(rt, &mesh.texture_scale(), &4, &"that of texture");
     expect_same(
-        &rt,
+        rt,
         &mesh.texture().first(),
         &Some(&value),
         &"a value of texture",
     );
-    Ok(())
 }
 
 #[test]
-fn keeps_faces(rt: HostRuntime) -> Result<(), Fail> {
-    let text = tagged();
-    assert!(rt; text.len() < 1000);
-    let mesh = read_obj(rt.alloc(), text, 0)?;
+fn keeps_channels(rt: HostRuntime) -> Result<(), Fail> {
+    expect_channels(&rt, &mesh_of(&rt, tagged())?);
+    Ok(())
+}
+
+fn expect_faces(rt: &impl Abort, mesh: &RawMesh) {
     assert_eq!(rt; mesh.faces(), 1);
     assert!(rt; mesh.has_texture());
-    expect_same(&rt, &mesh.face(0), &[0, 1, 2].as_slice(), &"vertices");
+    expect_same(rt, &mesh.face(0), &[0, 1, 2].as_slice(), &"vertices");
     expect_same(
-        &rt,
+        rt,
         &mesh.texture_corners(0),
         &[0, 1, 1].as_slice(),
         &"texture",
     );
-    Ok(())
 }
 
 #[test]
-fn keeps_tags(rt: HostRuntime) -> Result<(), Fail> {
-    let text = tagged();
-    assert!(rt; text.len() < 1000);
-    let mesh = read_obj(rt.alloc(), text, 0)?;
+fn keeps_faces(rt: HostRuntime) -> Result<(), Fail> {
+    expect_faces(&rt, &mesh_of(&rt, tagged())?);
+    Ok(())
+}
+
+fn expect_tags(rt: &impl Abort, mesh: &RawMesh) {
     let crease = Crease {
         a: 2,
         b: 1,
@@ -234,17 +234,22 @@ fn keeps_tags(rt: HostRuntime) -> Result<(), Fail> {
         vertex: 1,
         sharpness: Sharpness::new(3, 1),
     };
-    expect_same(&rt, &mesh.creases().len(), &2, &"the number of creases");
-    expect_same(&rt, &mesh.creases().get(1), &Some(&crease), &"a crease");
-    expect_same(&rt, &mesh.corner_tags().get(1), &Some(&corner), &"a corner");
-    expect_same(&rt, &mesh.holes(), &[0].as_slice(), &"holes");
+    expect_same(rt, &mesh.creases().len(), &2, &"the number of creases");
+    expect_same(rt, &mesh.creases().get(1), &Some(&crease), &"a crease");
+    expect_same(rt, &mesh.corner_tags().get(1), &Some(&corner), &"a corner");
+    expect_same(rt, &mesh.holes(), &[0].as_slice(), &"holes");
     expect_same(
-        &rt,
+        rt,
         &mesh.boundary(),
         &Boundary::EdgeAndCorner,
         &"the boundary",
     );
-    expect_same(&rt, &mesh.method(), &Method::Chaikin, &"the method");
+    expect_same(rt, &mesh.method(), &Method::Chaikin, &"the method");
+}
+
+#[test]
+fn keeps_tags(rt: HostRuntime) -> Result<(), Fail> {
+    expect_tags(&rt, &mesh_of(&rt, tagged())?);
     Ok(())
 }
 

@@ -1,7 +1,7 @@
 // Texts of refined meshes.
 
 use crate::engine::run_alone;
-use crate::expect::expect_same;
+use crate::expect::{expect_answer, expect_same};
 use crate::inputs::{
     CUBE, CUBE_REFINED, CUBE_WITH_A_CREASE_REFINED, GREAT_CUBE, LONG_CUBE, OTHER_CUBE, REFINE,
     SQUARE, SQUARE_HIDDEN, SQUARE_HIDDEN_WITH_TAGS, SQUARE_IN_DECIMALS, SQUARE_OF_CORNERS_REFINED,
@@ -9,6 +9,7 @@ use crate::inputs::{
     TRIANGLES_WITH_A_HOLE_REFINED,
 };
 use crate::runs::{Run, expect_runs};
+use std::process::Abort;
 use std::test::Fail;
 
 const REFINED: &[Run] = &[
@@ -254,23 +255,26 @@ fn lines() -> &'static [Line] {
     LINES
 }
 
-#[test]
-fn writes_lines_of_refined_meshes(rt: HostRuntime) -> Result<(), Fail> {
-    for row in lines() {
-        let &(text, mesh, line, place, want) = row;
-        let (given, sink) = run_alone(rt.alloc(), text, mesh, line)?;
-        expect_same(&rt, &given, &Ok(()), row);
-        let written = str::from_utf8(sink.bytes())?;
-        let given = written.lines().nth(place.saturating_sub(1));
-        expect_same(&rt, &given, &Some(want), row);
-    }
+fn expect_line_of(rt: &impl Abort, written: &[u8], row: &Line) -> Result<(), Fail> {
+    let &(_, _, _, place, want) = row;
+    let written = str::from_utf8(written)?;
+    let given = written.lines().nth(place.saturating_sub(1));
+    expect_same(rt, &given, &Some(want), row);
     Ok(())
 }
 
+fn expect_line(rt: &(impl Abort + AllocGlobal), row: &Line) -> Result<(), Fail> {
+    let &(text, mesh, line, ..) = row;
+    let (given, sink) = run_alone(rt.alloc(), text, mesh, line)?;
+    expect_same(rt, &given, &Ok(()), row);
+    expect_line_of(rt, sink.bytes(), row)
+}
+
 #[test]
-fn refines_the_greatest_values(rt: HostRuntime) -> Result<(), Fail> {
-    let (given, _) = run_alone(rt.alloc(), REFINE, greatest(), "")?;
-    expect_same(&rt, &given, &Ok(()), &"greatest");
+fn writes_lines_of_refined_meshes(rt: HostRuntime) -> Result<(), Fail> {
+    for row in lines() {
+        expect_line(&rt, row)?;
+    }
     Ok(())
 }
 
@@ -278,8 +282,21 @@ fn greatest() -> &'static str {
     GREAT_CUBE
 }
 
+fn expect_greatest_refined(rt: &(impl Abort + AllocGlobal)) -> Result<(), Fail> {
+    let (given, _) = run_alone(rt.alloc(), REFINE, greatest(), "")?;
+    expect_same(rt, &given, &Ok(()), &"greatest");
+    Ok(())
+}
+
+#[test]
+fn refines_the_greatest_values(rt: HostRuntime) -> Result<(), Fail> {
+    expect_greatest_refined(&rt)
+}
+
 // A mesh and a line after it.
-const READ_AGAIN: &[(&'static str, &'static str)] = &[
+type Again = (&'static str, &'static str);
+
+const READ_AGAIN: &[Again] = &[
     (CUBE, "t corner 1/1/0 3 3/2"),
     (CUBE, "t crease 3/2/0 0 1 3 5/2 1/2\nt hole 1/0/0 5"),
     (
@@ -291,21 +308,37 @@ const READ_AGAIN: &[(&'static str, &'static str)] = &[
     (TRIANGLES, "v 1/3 0 0"),
 ];
 
-fn read_again() -> &'static [(&'static str, &'static str)] {
+fn read_again() -> &'static [Again] {
     READ_AGAIN
+}
+
+const ONCE: &str = "refine depth=1 tags=yes";
+
+// Two steps write this.
+fn expect_twice(rt: &(impl Abort + AllocGlobal), row: &Again, written: &[u8]) -> Result<(), Fail> {
+    let &(mesh, line) = row;
+    let (given, both) = run_alone(rt.alloc(), "refine depth=2 tags=yes", mesh, line)?;
+    expect_answer(rt, &given, both.bytes(), (&Ok(()), written), row);
+    Ok(())
+}
+
+// Two steps write what one step makes of this text.
+fn expect_second(rt: &(impl Abort + AllocGlobal), row: &Again, first: &[u8]) -> Result<(), Fail> {
+    let (_, second) = run_alone(rt.alloc(), ONCE, str::from_utf8(first)?, "")?;
+    expect_twice(rt, row, second.bytes())
+}
+
+fn expect_again(rt: &(impl Abort + AllocGlobal), row: &Again) -> Result<(), Fail> {
+    let &(mesh, line) = row;
+    let (_, first) = run_alone(rt.alloc(), ONCE, mesh, line)?;
+    expect_second(rt, row, first.bytes())
 }
 
 // What is written with tags after one step is refined to what two steps make.
 #[test]
 fn reads_its_own_text(rt: HostRuntime) -> Result<(), Fail> {
     for row in read_again() {
-        let &(mesh, line) = row;
-        let once = "refine depth=1 tags=yes";
-        let (_, first) = run_alone(rt.alloc(), once, mesh, line)?;
-        let (_, second) = run_alone(rt.alloc(), once, str::from_utf8(first.bytes())?, "")?;
-        let (given, both) = run_alone(rt.alloc(), "refine depth=2 tags=yes", mesh, line)?;
-        expect_same(&rt, &given, &Ok(()), row);
-        expect_same(&rt, &second.bytes(), &both.bytes(), row);
+        expect_again(&rt, row)?;
     }
     Ok(())
 }

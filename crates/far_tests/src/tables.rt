@@ -10,7 +10,7 @@ ghost use Rattle.stencil_apply.specs.Built.{no_rows};
 
 use crate::expect::expect_same;
 use ratio128::{Memory, Point3, Steps};
-use std::alloc::Global;
+use std::alloc::{AllocError, Global};
 use std::marker::Brand;
 use std::process::Abort;
 use std::sync::ledger::{Blank, Ledger};
@@ -29,41 +29,67 @@ const ROW: &str = "8 0 6 1 1 3 1\n";
 // A square after one step: a corner point, the face point, and two edge points of the boundary.
 const SQUARE: &str = "8 0 6 1 1 3 1\n4 0 1 1 1 2 1 3 1\n2 0 1 1 1\n2 1 1 2 1\n";
 
-// The corners of the square, places that hold other numbers, and the sums of the rows.
-const CORNERS: &str = "0 0 0\n12 0 0\n12 12 0\n0 12 -4";
+// The corners of the square, and the sums of the rows.
+const CORNERS: &[Point3] = &[
+    Point3 { x: 0, y: 0, z: 0 },
+    Point3 { x: 12, y: 0, z: 0 },
+    Point3 { x: 12, y: 12, z: 0 },
+    Point3 { x: 0, y: 12, z: -4 },
+];
 
-const PLACES: &str = "7 7 7\n7 7 7\n7 7 7\n7 7 7";
+fn corners() -> &'static [Point3] {
+    CORNERS
+}
 
-const SUMS: &str = "12 12 -4\n24 24 -4\n12 0 0\n24 12 0";
+const SUMS: &[Point3] = &[
+    Point3 {
+        x: 12,
+        y: 12,
+        z: -4,
+    },
+    Point3 {
+        x: 24,
+        y: 24,
+        z: -4,
+    },
+    Point3 { x: 12, y: 0, z: 0 },
+    Point3 { x: 24, y: 12, z: 0 },
+];
 
-// A line for each row: its denominator, and each control point with its numerator.
+fn sums() -> &'static [Point3] {
+    SUMS
+}
+
+// A control point and its numerator.
+fn entry_of(index: &str, numerator: Option<&str>) -> Result<Entry, Fail> {
+    let index = index.parse::<u32>()?;
+    let numerator = numerator.ok_or("a numerator")?.parse::<u128>()?;
+    Ok(Entry { index, numerator })
+}
+
+fn entries_of(alloc: Global, text: &str) -> Result<Vec<Entry>, Fail> {
+    let mut words = text.split(' ');
+    let mut entries = Vec::new(alloc);
+    while let Some(word) = words.next() {
+        entries.push(entry_of(word, words.next())?)?;
+    }
+    Ok(entries)
+}
+
+// The row of a line: its denominator, and each control point with its numerator.
+fn row_of(alloc: Global, line: &str) -> Result<Row, Fail> {
+    let (den, entries) = line.split_once(' ').ok_or("a denominator")?;
+    let den = den.parse::<u128>()?;
+    Ok((den, entries_of(alloc, entries)?))
+}
+
+// A line for each row.
 fn rows_of(alloc: Global, text: &str) -> Result<Vec<Row>, Fail> {
     let mut rows = Vec::new(alloc);
     for line in text.lines() {
-        let mut words = line.split(' ');
-        let den = words.next().ok_or("a denominator")?.parse::<u128>()?;
-        let mut entries = Vec::new(alloc);
-        while let Some(word) = words.next() {
-            let index = word.parse::<u32>()?;
-            let numerator = words.next().ok_or("a numerator")?.parse::<u128>()?;
-            entries.push(Entry { index, numerator })?;
-        }
-        rows.push((den, entries))?;
+        rows.push(row_of(alloc, line)?)?;
     }
     Ok(rows)
-}
-
-// A line for each point.
-fn points_of(alloc: Global, text: &str) -> Result<Vec<Point3>, Fail> {
-    let mut points = Vec::new(alloc);
-    for line in text.lines() {
-        let mut words = line.split(' ');
-        let x = words.next().ok_or("x")?.parse::<i128>()?;
-        let y = words.next().ok_or("y")?.parse::<i128>()?;
-        let z = words.next().ok_or("z")?.parse::<i128>()?;
-        points.push(Point3 { x, y, z })?;
-    }
-    Ok(points)
 }
 
 // Asserts that the control points ascend and that the numerators sum to the denominator.
@@ -108,19 +134,33 @@ fn add_rows(
 
 // The table of these rows over four control points.
 fn table_of(rt: &impl Abort, alloc: Global, text: &str) -> Result<StencilTable, Fail> {
+    let rows = rows_of(alloc, text)?;
+    table_of_rows(rt, alloc, &rows)
+}
+
+fn table_of_rows(rt: &impl Abort, alloc: Global, rows: &[Row]) -> Result<StencilTable, Fail> {
     let mut builder = TableBuilder::new(alloc, 4);
-    add_rows(rt, &mut builder, 4, &rows_of(alloc, text)?)?;
+    add_rows(rt, &mut builder, 4, rows)?;
     Ok(builder.finish())
+}
+
+pub fn put_text(text: &mut String, piece: String) -> Result<(), AllocError> {
+    text.push_str(piece.as_str())
+}
+
+fn put_entry(alloc: Global, text: &mut String, entry: Entry) -> Result<(), AllocError> {
+    let Entry { index, numerator } = entry;
+    put_text(text, format!(in alloc; " {index} {numerator}")?)
 }
 
 // A row with its end of line, as it is read back.
 pub fn put_row(alloc: Global, text: &mut String, table: &StencilTable, row: u32) -> Result<(), Fail>
     requires { row < length table.now.rows }
 {
-    text.push_str(format!(in alloc; "{}", table.denominator(row))?.as_str())?;
+    put_text(text, format!(in alloc; "{}", table.denominator(row))?)?;
     for at in 0..table.row_len(row) {
-        text.push_str(format!(in alloc; " {}", table.index(row, at))?.as_str())?;
-        text.push_str(format!(in alloc; " {}", table.numerator(row, at))?.as_str())?;
+        let (index, numerator) = (table.index(row, at), table.numerator(row, at));
+        put_entry(alloc, text, Entry { index, numerator })?;
     }
     text.push('\n')?;
     Ok(())
@@ -157,21 +197,35 @@ fn takes_a_row_in_its_room(rt: HostRuntime) -> Result<(), Fail> {
     Ok(())
 }
 
+// The counts and the rows of the table of the square, once its rows were added.
+fn expect_square(
+    rt: &(impl Abort + AllocGlobal),
+    added: Result<(), Memory>,
+    table: &StencilTable,
+) -> Result<(), Fail> {
+    added?;
+    expect_same(rt, &counts_of(table), &(4, 4, 11, 8), &"counts");
+    let text = text_of(rt.alloc(), table)?;
+    expect_same(rt, &text.as_str(), &SQUARE, &"rows");
+    Ok(())
+}
+
+fn expect_taken(rt: &(impl Abort + AllocGlobal), rows: &[Row]) -> Result<(), Fail> {
+    let mut builder = TableBuilder::new(rt.alloc(), 4);
+    expect_same(rt, &builder.room(), &(0, 0), &"before");
+    let added = add_rows(rt, &mut builder, 4, rows);
+    expect_same(rt, &builder.room(), &(0, 0), &"after");
+    expect_square(rt, added, &builder.finish())
+}
+
+fn expect_square_taken(rt: &(impl Abort + AllocGlobal)) -> Result<(), Fail> {
+    let rows = rows_of(rt.alloc(), SQUARE)?;
+    expect_taken(rt, &rows)
+}
+
 #[test]
 fn takes_rows_without_room(rt: HostRuntime) -> Result<(), Fail> {
-    let mut builder = TableBuilder::new(rt.alloc(), 4);
-    expect_same(&rt, &builder.room(), &(0, 0), &"before");
-    add_rows(&rt, &mut builder, 4, &rows_of(rt.alloc(), SQUARE)?)?;
-    expect_same(&rt, &builder.room(), &(0, 0), &"after");
-    let table = builder.finish();
-    expect_same(&rt, &counts_of(&table), &(4, 4, 11, 8), &"counts");
-    expect_same(
-        &rt,
-        &text_of(rt.alloc(), &table)?.as_str(),
-        &SQUARE,
-        &"rows",
-    );
-    Ok(())
+    expect_square_taken(&rt)
 }
 
 // The greatest amount of a point.
@@ -241,39 +295,52 @@ fn apply_at(
     );
 }
 
-#[test]
-fn applies_rows_at_once_and_in_ranges(rt: HostRuntime) -> Result<(), Fail> {
-    let table = table_of(&rt, rt.alloc(), SQUARE)?;
-    let corners = points_of(rt.alloc(), CORNERS)?;
-    let want = points_of(rt.alloc(), SUMS)?;
-    let mut whole = points_of(rt.alloc(), PLACES)?;
-    apply_at(&rt, &table, &corners, (0, 4), &mut whole);
-    expect_same(&rt, &whole.as_slice(), &want.as_slice(), &"at once");
-    let mut parts = points_of(rt.alloc(), PLACES)?;
-    apply_at(&rt, &table, &corners, (2, 4), &mut parts);
-    apply_at(&rt, &table, &corners, (0, 2), &mut parts);
-    expect_same(&rt, &parts.as_slice(), &want.as_slice(), &"in ranges");
+// Places that hold other numbers get the sums, range by range.
+fn expect_sums(rt: &impl Abort, table: &StencilTable, ranges: &[(u32, u32)]) {
+    let mut places = [Point3 { x: 7, y: 7, z: 7 }; 4];
+    for range in ranges {
+        apply_at(rt, table, corners(), *range, &mut places);
+    }
+    expect_same(rt, &places.as_slice(), &sums(), &ranges);
+}
+
+fn expect_sums_of_the_square(rt: &(impl Abort + AllocGlobal)) -> Result<(), Fail> {
+    let table = table_of(rt, rt.alloc(), SQUARE)?;
+    expect_sums(rt, &table, &[(0, 4)]);
+    expect_sums(rt, &table, &[(2, 4), (0, 2)]);
     Ok(())
 }
 
+#[test]
+fn applies_rows_at_once_and_in_ranges(rt: HostRuntime) -> Result<(), Fail> {
+    expect_sums_of_the_square(&rt)
+}
+
 // Rows, an amount, and whether the greatest denominator times it is within the bound.
-const SCALES: &[(&str, u128, bool)] = &[
+type Scale = (&'static str, u128, bool);
+
+const SCALES: &[Scale] = &[
     (SQUARE, (1 << 123) - 1, true),
     (SQUARE, 1 << 123, false),
     ("", NUMBER_BOUND, true),
     ("", NUMBER_BOUND + 1, false),
 ];
 
-fn scales() -> &'static [(&'static str, u128, bool)] {
+fn scales() -> &'static [Scale] {
     SCALES
+}
+
+fn expect_fit(rt: &(impl Abort + AllocGlobal), row: &Scale) -> Result<(), Fail> {
+    let &(text, greatest, want) = row;
+    let table = table_of(rt, rt.alloc(), text)?;
+    expect_same(rt, &scale_fits(&table, greatest), &want, row);
+    Ok(())
 }
 
 #[test]
 fn fits_up_to_the_bound(rt: HostRuntime) -> Result<(), Fail> {
     for row in scales() {
-        let &(text, greatest, want) = row;
-        let table = table_of(&rt, rt.alloc(), text)?;
-        expect_same(&rt, &scale_fits(&table, greatest), &want, row);
+        expect_fit(&rt, row)?;
     }
     Ok(())
 }

@@ -4,10 +4,13 @@ ghost use Rattle.std.specs.Prelude.{◌≡◌, ℕ, ◌<◌, ◌≤◌, ◌^◌,
 ghost use Rattle.far_io.specs.Bytes.{Added, AddedPrefix, Rose};
 ghost use Rattle.subdiv_model.specs.NumberText.{fraction_text};
 
-use far_io::{MemSink, Sink, SureSink, WriteFailed};
+use crate::engine::failing_sink;
+use crate::expect::expect_same;
+use far_io::{Sink, SureSink, WriteFailed};
 use obj_out::Out;
 use ratio128::Frac;
-use std::alloc::Global;
+use std::alloc::{AllocError, Global};
+use std::process::Abort;
 use std::test::Fail;
 
 // A word and a fraction. What any sink has got of them at last follows from the clauses of the calls
@@ -27,99 +30,192 @@ fn put_word_and_fraction<K: Sink>(sink: &mut K, f: &Frac) -> Result<(), WriteFai
 }
 
 // A numerator, a denominator, how many digits, and the text.
-const DECIMALS: &str = "\
-1 2 0 0
-3 2 0 2
--1 2 0 0
-5 2 0 2
--7 1 0 -7
--7 1 1 -7.0
-0 5 3 0.000
--1 8 2 -0.12
-3 8 2 0.38
--1 1000 2 0.00
-9995 1000 2 10.00
-2005 1000 3 2.005
-1 1000000000000000000 18 0.000000000000000001
--1 2000000000000000000 18 0.000000000000000000
--3 2000000000000000000 18 -0.000000000000000002
--170141183460469231731687303715884105727 1 0 -170141183460469231731687303715884105727
--170141183460469231731687303715884105727 3 18 -56713727820156410577229101238628035242.333333333333333333
--100000000000000000000000000000000000001 85070591730234615865843651857942052863 18 -1.175494350822287508
-85070591730234615865843651857942052862 85070591730234615865843651857942052863 18 1.000000000000000000
-42535295865117307932921825928971026431 85070591730234615865843651857942052863 0 0
-42535295865117307932921825928971026432 85070591730234615865843651857942052863 0 1";
+type Decimal = (i128, u128, u32, &'static str);
+
+const DECIMALS: &[Decimal] = &[
+    (1, 2, 0, "0"),
+    (3, 2, 0, "2"),
+    (-1, 2, 0, "0"),
+    (5, 2, 0, "2"),
+    (-7, 1, 0, "-7"),
+    (-7, 1, 1, "-7.0"),
+    (0, 5, 3, "0.000"),
+    (-1, 8, 2, "-0.12"),
+    (3, 8, 2, "0.38"),
+    (-1, 1000, 2, "0.00"),
+    (9995, 1000, 2, "10.00"),
+    (2005, 1000, 3, "2.005"),
+    (1, 1000000000000000000, 18, "0.000000000000000001"),
+    (-1, 2000000000000000000, 18, "0.000000000000000000"),
+    (-3, 2000000000000000000, 18, "-0.000000000000000002"),
+    (
+        -170141183460469231731687303715884105727,
+        1,
+        0,
+        "-170141183460469231731687303715884105727",
+    ),
+    (
+        -170141183460469231731687303715884105727,
+        3,
+        18,
+        "-56713727820156410577229101238628035242.333333333333333333",
+    ),
+    (
+        -100000000000000000000000000000000000001,
+        85070591730234615865843651857942052863,
+        18,
+        "-1.175494350822287508",
+    ),
+    (
+        85070591730234615865843651857942052862,
+        85070591730234615865843651857942052863,
+        18,
+        "1.000000000000000000",
+    ),
+    (
+        42535295865117307932921825928971026431,
+        85070591730234615865843651857942052863,
+        0,
+        "0",
+    ),
+    (
+        42535295865117307932921825928971026432,
+        85070591730234615865843651857942052863,
+        0,
+        "1",
+    ),
+];
+
+fn decimals() -> &'static [Decimal] {
+    DECIMALS
+}
 
 // A numerator, a denominator, and the text in lowest terms.
-const FRACTIONS: &str = "\
-0 7 0
--10 18 -5/9
--4 2 -2
-1 340282366920938463463374607431768211455 1/340282366920938463463374607431768211455
--170141183460469231731687303715884105727 340282366920938463463374607431768211454 -1/2";
+type Fraction = (i128, u128, &'static str);
 
-fn decimal_in(alloc: Global, num: i128, den: u128, digits: u32) -> Result<SureSink, Fail> {
-    let mut sink = SureSink::with_room(alloc, 100)?;
-    let mut out = Out::new(&mut sink);
-    if num.unsigned_abs() < 1 << 127 && den > 0 && den < 1 << 126 && digits <= 18 {
-        out.put_decimal(&Frac { num, den }, digits)?;
-    }
-    out.end()?;
-    Ok(sink)
+const FRACTIONS: &[Fraction] = &[
+    (0, 7, "0"),
+    (-10, 18, "-5/9"),
+    (-4, 2, "-2"),
+    (
+        1,
+        340282366920938463463374607431768211455,
+        "1/340282366920938463463374607431768211455",
+    ),
+    (
+        -170141183460469231731687303715884105727,
+        340282366920938463463374607431768211454,
+        "-1/2",
+    ),
+];
+
+fn fractions() -> &'static [Fraction] {
+    FRACTIONS
+}
+
+// All was put, and the sink holds this text.
+fn expect_held(
+    rt: &impl Abort,
+    put: Result<(), WriteFailed>,
+    sink: &SureSink,
+    text: &[u8],
+) -> Result<(), Fail> {
+    put?;
+    expect_same(rt, &sink.bytes(), &text, &"what is held");
+    Ok(())
+}
+
+fn put_decimal(sink: &mut SureSink, f: &Frac, digits: u32) -> Result<(), WriteFailed>
+    requires positive { 0 < f.now.den }
+    requires short { f.now.den < 2 ^ 126 }
+    requires kept { unsigned_abs f.now.num < 2 ^ 127 }
+    requires digits { digits ≤ 18 }
+{
+    let mut out = Out::new(sink);
+    out.put_decimal(f, digits)?;
+    out.end()
+}
+
+fn expect_decimal(rt: &(impl Abort + AllocGlobal), row: &Decimal) -> Result<(), Fail> {
+    let &(num, den, digits, text) = row;
+    assert!(rt; num.unsigned_abs() < 1 << 127);
+    assert!(rt; 0 < den && den < 1 << 126);
+    assert!(rt; digits <= 18);
+    let mut sink = SureSink::with_room(rt.alloc(), 100)?;
+    let put = put_decimal(&mut sink, &Frac { num, den }, digits);
+    expect_held(rt, put, &sink, text.as_bytes())
 }
 
 #[test]
 fn rounds_half_to_even(rt: HostRuntime) -> Result<(), Fail> {
-    for line in DECIMALS.lines() {
-        let mut words = line.split(' ');
-        let num = words.next().ok_or("a numerator")?.parse::<i128>()?;
-        let den = words.next().ok_or("a denominator")?.parse::<u128>()?;
-        let digits = words.next().ok_or("digits")?.parse::<u32>()?;
-        let text = words.next().ok_or("a text")?;
-        let sink = decimal_in(rt.alloc(), num, den, digits)?;
-        assert_eq!(rt; sink.bytes(), text.as_bytes(), "{line}");
+    for row in decimals() {
+        expect_decimal(&rt, row)?;
     }
     Ok(())
 }
 
-fn fraction_in(alloc: Global, num: i128, den: u128) -> Result<SureSink, Fail> {
-    let mut sink = SureSink::with_room(alloc, 100)?;
-    let mut out = Out::new(&mut sink);
-    if num.unsigned_abs() < 1 << 127 && den > 0 {
-        out.put_frac(&Frac { num, den })?;
-    }
-    out.end()?;
-    Ok(sink)
+fn put_fraction(sink: &mut SureSink, f: &Frac) -> Result<(), WriteFailed>
+    requires positive { 0 < f.now.den }
+    requires kept { unsigned_abs f.now.num < 2 ^ 127 }
+{
+    let mut out = Out::new(sink);
+    out.put_frac(f)?;
+    out.end()
+}
+
+fn expect_fraction(rt: &(impl Abort + AllocGlobal), row: &Fraction) -> Result<(), Fail> {
+    let &(num, den, text) = row;
+    assert!(rt; num.unsigned_abs() < 1 << 127);
+    assert!(rt; 0 < den);
+    let mut sink = SureSink::with_room(rt.alloc(), 100)?;
+    let put = put_fraction(&mut sink, &Frac { num, den });
+    expect_held(rt, put, &sink, text.as_bytes())
 }
 
 #[test]
 fn puts_fractions_in_lowest_terms(rt: HostRuntime) -> Result<(), Fail> {
-    for line in FRACTIONS.lines() {
-        let mut words = line.split(' ');
-        let num = words.next().ok_or("a numerator")?.parse::<i128>()?;
-        let den = words.next().ok_or("a denominator")?.parse::<u128>()?;
-        let text = words.next().ok_or("a text")?;
-        let sink = fraction_in(rt.alloc(), num, den)?;
-        assert_eq!(rt; sink.bytes(), text.as_bytes(), "{line}");
+    for row in fractions() {
+        expect_fraction(&rt, row)?;
     }
     Ok(())
 }
 
+// Letters, and two numbers after them.
+fn put_numbers(sink: &mut SureSink, letters: &[u8]) -> Result<(), WriteFailed> {
+    let mut out = Out::new(sink);
+    out.put_bytes(letters)?;
+    out.put_number(u64::MAX)?;
+    out.put_bytes(b" ")?;
+    out.put_wide(u128::MAX)?;
+    out.end()
+}
+
+fn numbers_text(alloc: Global, letters: &[u8]) -> Result<Vec<u8>, AllocError> {
+    let mut text = letters.to_vec(alloc)?;
+    text.extend_from_slice(b"18446744073709551615 340282366920938463463374607431768211455")?;
+    Ok(text)
+}
+
+fn expect_numbers(rt: &(impl Abort + AllocGlobal), letters: &[u8]) -> Result<(), Fail> {
+    let text = numbers_text(rt.alloc(), letters)?;
+    expect_numbers_put(rt, letters, &text)
+}
+
+fn expect_numbers_put(
+    rt: &(impl Abort + AllocGlobal),
+    letters: &[u8],
+    text: &[u8],
+) -> Result<(), Fail> {
+    let mut sink = SureSink::with_room(rt.alloc(), 6000)?;
+    let put = put_numbers(&mut sink, letters);
+    expect_held(rt, put, &sink, text)
+}
+
 #[test]
 fn puts_texts_around_the_end_of_the_buffer(rt: HostRuntime) -> Result<(), Fail> {
-    let alloc = rt.alloc();
+    let letters = [b'a'; 5000];
     for n in [0, 3967, 3968, 3969, 4095, 4096, 4097, 5000] {
-        let mut sink = SureSink::with_room(alloc, 6000)?;
-        let mut out = Out::new(&mut sink);
-        let letters = [b'a'; 5000];
-        out.put_bytes(&letters[..n])?;
-        out.put_number(u64::MAX)?;
-        out.put_bytes(b" ")?;
-        out.put_wide(u128::MAX)?;
-        out.end()?;
-        let mut text = letters[..n].to_vec(alloc)?;
-        text.extend_from_slice(b"18446744073709551615 340282366920938463463374607431768211455")?;
-        assert_eq!(rt; sink.bytes(), text.as_slice(), "after {n} bytes");
+        expect_numbers(&rt, &letters[..n])?;
     }
     Ok(())
 }
@@ -138,32 +234,47 @@ fn count_successes<K: Sink>(sink: &mut K) -> usize {
     answers.iter().filter(|answer| answer.is_ok()).count()
 }
 
-// The call that fails, how many calls of the `Out` succeed, and how many bytes the sink holds then.
-#[test]
-fn stops_at_a_failed_write(rt: HostRuntime) -> Result<(), Fail> {
-    let alloc = rt.alloc();
-    for (call, count, held) in [
-        (0, 1, 0),
-        (1, 2, 3000),
-        (2, 2, 6000),
-        (3, 4, 11000),
-        (4, 4, 11001),
-        (5, 5, 11001),
-    ] {
-        let mut sink = MemSink::with_room(alloc, 12000, vec![in alloc; call]?)?;
-        assert_eq!(rt; count_successes(&mut sink), count, "call {call} fails");
-        assert_eq!(rt; sink.bytes().len(), held, "call {call} fails");
-    }
-    let mut sink = MemSink::with_room(alloc, 7000, Vec::new(alloc))?;
-    assert_eq!(rt; count_successes(&mut sink), 2);
-    assert_eq!(rt; sink.bytes().len(), 7000);
+// The room of the sink, its call that fails, and none from 9 on, how many calls of the `Out` succeed, and how many bytes the
+// sink holds then.
+type Stop = (usize, u32, usize, usize);
+
+const STOPS: &[Stop] = &[
+    (12000, 0, 1, 0),
+    (12000, 1, 2, 3000),
+    (12000, 2, 2, 6000),
+    (12000, 3, 4, 11000),
+    (12000, 4, 4, 11001),
+    (12000, 5, 5, 11001),
+    (7000, 9, 2, 7000),
+];
+
+fn stops() -> &'static [Stop] {
+    STOPS
+}
+
+fn expect_stop(rt: &(impl Abort + AllocGlobal), row: &Stop) -> Result<(), Fail> {
+    let &(room, call, count, held) = row;
+    let mut sink = failing_sink(rt.alloc(), room, call)?;
+    expect_same(rt, &count_successes(&mut sink), &count, row);
+    expect_same(rt, &sink.bytes().len(), &held, row);
     Ok(())
 }
 
 #[test]
-fn puts_a_word_and_a_fraction(rt: HostRuntime) -> Result<(), Fail> {
-    let mut sink = SureSink::with_room(rt.alloc(), 10)?;
-    put_word_and_fraction(&mut sink, &Frac { num: -6, den: 4 })?;
-    assert_eq!(rt; sink.bytes(), b"v -3/2".as_slice());
+fn stops_at_a_failed_write(rt: HostRuntime) -> Result<(), Fail> {
+    for row in stops() {
+        expect_stop(&rt, row)?;
+    }
     Ok(())
+}
+
+fn expect_word_and_fraction(rt: &(impl Abort + AllocGlobal)) -> Result<(), Fail> {
+    let mut sink = SureSink::with_room(rt.alloc(), 10)?;
+    let put = put_word_and_fraction(&mut sink, &Frac { num: -6, den: 4 });
+    expect_held(rt, put, &sink, b"v -3/2")
+}
+
+#[test]
+fn puts_a_word_and_a_fraction(rt: HostRuntime) -> Result<(), Fail> {
+    expect_word_and_fraction(&rt)
 }

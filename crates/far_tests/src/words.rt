@@ -3,6 +3,7 @@
 use crate::expect::expect_same;
 use far_words::{By, Command, Tags, Uv, read_words};
 use std::alloc::Global;
+use std::process::Abort;
 use std::test::Fail;
 
 // The words of a text, each after the first one after a `|`.
@@ -167,18 +168,23 @@ fn reads_commands(rt: HostRuntime) -> Result<(), Fail> {
     Ok(())
 }
 
+fn expect_refused(rt: &(impl Abort + AllocGlobal), line: &str) -> Result<(), Fail> {
+    let Some((place, text)) = line.split_once(' ') else {
+        return Err(Fail::new("a line without a place"));
+    };
+    let [digit, ..] = place.as_bytes() else {
+        return Err(Fail::new("a place without a digit"));
+    };
+    let words = words_of(rt.alloc(), text)?;
+    let want = Err(u32::from(digit.wrapping_sub(b'0')));
+    expect_same(rt, &read_words(&words), &want, &text);
+    Ok(())
+}
+
 #[test]
 fn refuses_words(rt: HostRuntime) -> Result<(), Fail> {
     for line in BAD_WORDS.split('\n') {
-        let Some((place, text)) = line.split_once(' ') else {
-            return Err(Fail::new("a line without a place"));
-        };
-        let [digit, ..] = place.as_bytes() else {
-            return Err(Fail::new("a place without a digit"));
-        };
-        let words = words_of(rt.alloc(), text)?;
-        let want = Err(u32::from(digit.wrapping_sub(b'0')));
-        expect_same(&rt, &read_words(&words), &want, &text);
+        expect_refused(&rt, line)?;
     }
     let none = Vec::new(rt.alloc());
     expect_same(&rt, &read_words(&none), &Err(0), &"no word");
