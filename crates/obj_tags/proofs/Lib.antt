@@ -2,6 +2,7 @@ pub mod SplitLemmas
 pub mod NumberLemmas
 pub mod CornerLemmas
 pub mod WalkLemmas
+pub mod FaceLemmas
 pub mod FirstLineLemmas
 pub mod CommonLemmas
 pub mod SurveyLemmas
@@ -16,6 +17,7 @@ pub mod PiecesLemmas
 pub mod QuadLemmas
 pub mod TagLemmas
 pub mod TagKindLemmas
+pub mod TagKeptLemmas
 pub mod DraftLemmas
 pub mod KeepLemmas
 pub mod ReadLemmas

@@ -35,6 +35,11 @@ zero-short common =
     let zero : number_over common (codes "0") ≡ pos 0 = zero-*ℤ (pos (common / 1)) in
     (sym zero, let none = ap unsigned_abs zero in omega (arith, none))
 
+-- a number that is missing
+pub missing-zero : (common : ℕ) (words : Line) → words ≡ []
+    → (numeral_fault (get_or words 0 (codes "0")) ≡ None) × IsShortNumber (Some (pos 0)) (number_over common (get_or words 0 (codes "0")))
+missing-zero common words e = rw e (refl, zero-short common)
+
 -- a number that is short, and one that is not
 short-test : (common : ℕ) (word : List ℕ) (x : ℤ) → IsShortNumber (Some x) (number_over common word) → is_long_over common word ≡ false
 short-test common word x is = let less = is.1 in grind (arith, nat_tests)

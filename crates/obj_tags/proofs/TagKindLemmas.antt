@@ -16,15 +16,15 @@ use Rattle.obj_tags.specs.declared.mesh.Boundary as declared
 use Rattle.obj_tags.specs.declared.mesh.Tags.{Tags}
 use Rattle.subdiv_model.specs.ObjTag.{CreaseTag, CornerTag, HoleTag, BoundaryTag, MethodTag, DroppedTag, kind_of_name, is_dropped_name, tag_name, tag_values, tag_wholes, tag_strings, whole_count, numeral_count, string_count, may_have, fits_counts, mode_of_word, method_of_word, tag_fault, tag_mode, tag_method}
 
-and-last : (a b c : Bool) → (a && b && c) ≡ true → (b ≡ true) × (c ≡ true)
+pub and-last : (a b c : Bool) → (a && b && c) ≡ true → (b ≡ true) × (c ≡ true)
 and-last true true c e = (refl, e)
 and-last true false c e = cc
 and-last false b c e = cc
 
-boundary-counts : (w n s : ℕ) → may_have BoundaryTag w n s ≡ true → w ≡ 1
+pub boundary-counts : (w n s : ℕ) → may_have BoundaryTag w n s ≡ true → w ≡ 1
 boundary-counts w n s e = grind (arith, nat_tests)
 
-method-counts : (w n s : ℕ) → may_have MethodTag w n s ≡ true → (w ≡ 0) × (n ≡ 0) × (s ≡ 1)
+pub method-counts : (w n s : ℕ) → may_have MethodTag w n s ≡ true → (w ≡ 0) × (n ≡ 0) × (s ≡ 1)
 method-counts w n s e = grind (arith, nat_tests)
 
 -- the only value of a boundary tag, and that of a method tag

@@ -28,8 +28,16 @@ pub(crate) struct TextureValues {
     pub(crate) long: Option<u32>,
 }
 
-// The next numeral of a line over a common denominator, `None` where it has more than 37 digits there.
-// Too few words are too short a line.
+// The numeral that a word says over a common denominator, `None` where it has more than 37 digits there.
+fn number_of(word: &[u8], common: u128) -> Result<Option<i128>, ObjCause>
+    requires { common ≤ 10 ^ 37 }
+    ensures { ReadUnless result (numeral_fault word.now) (λ n. IsShortNumber n (number_over common word.now)) }
+{
+    let number = numeral(word)?;
+    Ok(over(number, common))
+}
+
+// The next numeral of a line in the same way. Too few words are too short a line.
 fn next_number(words: &mut Words<'_>, common: u128) -> Result<Option<i128>, ObjCause>
     requires some { 0 < length (words_left words.old) }
     requires short { common ≤ 10 ^ 37 }
@@ -37,8 +45,8 @@ fn next_number(words: &mut Words<'_>, common: u128) -> Result<Option<i128>, ObjC
     ensures read { let word = get_or (words_left words.old) 0 [] in
         ReadUnless result (numeral_fault word) (λ n. IsShortNumber n (number_over common word)) }
 {
-    let number = numeral(next_word(words).ok_or(ObjCause::ShortLine)?)?;
-    Ok(over(number, common))
+    let word = next_word(words).ok_or(ObjCause::ShortLine)?;
+    number_of(word, common)
 }
 
 // The numeral that a line may have next, in the same way. A missing one is 0.
@@ -49,7 +57,7 @@ fn second_number(words: &mut Words<'_>, common: u128) -> Result<Option<i128>, Ob
         ReadUnless result (numeral_fault word) (λ n. IsShortNumber n (number_over common word)) }
 {
     match next_word(words) {
-        Some(word) => Ok(over(numeral(word)?, common)),
+        Some(word) => number_of(word, common),
         None => Ok(Some(0)),
     }
 }

@@ -1,8 +1,8 @@
-ghost use Rattle.std.specs.Prelude.{◌≡◌, ◌⊎◌, ◌+◌, ◌≤◌, length, map, take, ◌∷◌, ◌++◌, codes, MatchOption};
+ghost use Rattle.std.specs.Prelude.{◌≡◌, ◌⊎◌, ◌+◌, ◌<◌, ◌≤◌, length, map, take, get_or, [], ◌∷◌, ◌++◌, codes, Some, MatchOption};
 ghost use Rattle.subdiv_model.specs.ObjFault as model;
-ghost use Rattle.subdiv_model.specs.ObjTag.{tag_fault, tag_index_fault, mode_of_word, method_of_word};
+ghost use Rattle.subdiv_model.specs.ObjTag.{tag_fault, tag_index_fault, mode_fault, method_fault, mode_of_word, method_of_word};
 ghost use Rattle.obj_tags.specs.View.{boundary_of, counts_of, crease_of, corner_tag_of};
-ghost use Rattle.obj_tags.specs.Kept.{KeptUnless, ReadOr};
+ghost use Rattle.obj_tags.specs.Kept.{KeptUnless};
 ghost use Rattle.obj_tags.specs.TagView.{value_fault, indices_said, sharpnesses_said, AreSaid, chain_creases, vertex_tags, IsBadTag, IsHeadOf};
 ghost use Rattle.obj_tags.specs.TagAdded.{AddsTag};
 ghost use Rattle.obj_tags.specs.Walk.{words_left};
@@ -94,18 +94,24 @@ fn keep_holes(
     Ok(())
 }
 
-// Sets the boundary mode that a word names, in the place of the one before.
-fn keep_boundary(boundary: &mut Boundary, word: &[u8]) -> Result<(), ObjCause>
-    ensures { ReadOr result (λ _. boundary_of boundary.new) (mode_of_word word.now) model.BadTag }
+// Sets the boundary mode that the next word names, in the place of the one before.
+fn keep_boundary(boundary: &mut Boundary, words: &mut Words<'_>) -> Result<(), LineFault>
+    requires { 0 < length (words_left words.old) }
+    ensures { let word = get_or (words_left words.old) 0 [] in
+        KeptUnless result (mode_fault word) (λ _. mode_of_word word ≡ Some (boundary_of boundary.new)) }
 {
+    let word = next_word(words).ok_or(ObjCause::BadTag)?;
     *boundary = read_boundary(word)?;
     Ok(())
 }
 
-// Sets the crease method that a word names, in the place of the one before.
-fn keep_method(method: &mut Method, word: &[u8]) -> Result<(), ObjCause>
-    ensures { ReadOr result (λ _. method_of method.new) (method_of_word word.now) model.BadTag }
+// Sets the crease method that the next word names, in the place of the one before.
+fn keep_method(method: &mut Method, words: &mut Words<'_>) -> Result<(), LineFault>
+    requires { 0 < length (words_left words.old) }
+    ensures { let word = get_or (words_left words.old) 0 [] in
+        KeptUnless result (method_fault word) (λ _. method_of_word word ≡ Some (method_of method.new)) }
 {
+    let word = next_word(words).ok_or(ObjCause::BadTag)?;
     *method = read_method(word)?;
     Ok(())
 }
@@ -141,19 +147,11 @@ pub(crate) fn keep_tag(
 {
     let (kind, counts) = tag_head(words, len).ok_or(ObjCause::BadTag)?;
     match kind {
-        TagKind::Crease => keep_crease(alloc, &mut tags.creases, all.point_count, counts, words)?,
-        TagKind::Corner => keep_corners(alloc, &mut tags.corners, all.point_count, counts, words)?,
-        TagKind::Hole => keep_holes(alloc, &mut tags.holes, all.face_count, counts, words)?,
-        TagKind::Boundary => {
-            keep_boundary(
-                &mut tags.boundary,
-                next_word(words).ok_or(ObjCause::BadTag)?,
-            )?;
-        }
-        TagKind::Method => {
-            keep_method(&mut tags.method, next_word(words).ok_or(ObjCause::BadTag)?)?;
-        }
-        TagKind::Dropped => {}
+        TagKind::Crease => keep_crease(alloc, &mut tags.creases, all.point_count, counts, words),
+        TagKind::Corner => keep_corners(alloc, &mut tags.corners, all.point_count, counts, words),
+        TagKind::Hole => keep_holes(alloc, &mut tags.holes, all.face_count, counts, words),
+        TagKind::Boundary => keep_boundary(&mut tags.boundary, words),
+        TagKind::Method => keep_method(&mut tags.method, words),
+        TagKind::Dropped => Ok(()),
     }
-    Ok(())
 }
