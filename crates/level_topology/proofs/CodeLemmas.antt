@@ -1,6 +1,6 @@
 -- Codes of kept sharpness.
 use Rattle.std.proofs.Common.{◌≡◌, ℕ, suc, ◌<◌, ◌⊎◌, inl, inr, List, [], ◌∷◌, ◌++◌, length, map, get_or, arith, refl, ap, ◌∙◌}
-use Rattle.std.proofs.lemmas.List.{map_push, get_or_append_left}
+use Rattle.std.proofs.lemmas.List.{map_push, get_or_append_left, length-map}
 use Rattle.subdiv_model.specs.Sharpness.{Sharpness, Smooth}
 use Rattle.sharpness_rules.specs.declared.sharpness.Sharpness as declared
 use Rattle.sharpness_rules.specs.View.{sharpness_of}
@@ -24,3 +24,7 @@ kept-push old new s codes code limit each how value = ap (λ xs. kept xs limit) 
 
     joined : decoded (map sharpness_of new) codes ≡ decoded (map sharpness_of old) codes → decoded (map sharpness_of new) codes ++ get_or (map sharpness_of new) code Smooth ∷ [] ≡ decoded (map sharpness_of old) codes ++ sharpness_of s ∷ []
     joined e = cc
+
+-- an item has a code
+pub code-inside : (values : List Sharpness) (codes : List ℕ) (i : ℕ) (said : List Sharpness) → decoded values codes ≡ said → i < length said → i < length codes
+code-inside values codes i said is inside = omega (arith, inside, ap length is, length-map codes (λ code. get_or values code Smooth))

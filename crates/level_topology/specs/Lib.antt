@@ -9,4 +9,5 @@ pub mod ChildTables
 pub mod BuilderEdges
 pub mod Builder
 pub mod BuilderPlaces
+pub mod PointPlaces
 pub mod BuilderFan

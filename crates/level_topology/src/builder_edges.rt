@@ -113,11 +113,11 @@ impl NumberedEdges {
     {
         let room = limit as usize;
         Ok(NumberedEdges {
-            keys: IndexSet::with_capacity_and_hasher(alloc, room, KeyedHashing::new(key))?,
             ends: Vec::with_capacity(alloc, room)?,
             faces: Vec::with_capacity(alloc, room)?,
             sharpness: Vec::with_capacity(alloc, room)?,
             limit,
+            keys: IndexSet::with_capacity_and_hasher(alloc, room, KeyedHashing::new(key))?,
         })
     }
 

@@ -1,6 +1,6 @@
 //! The faces and edges at a point in fan order.
 
-ghost use Rattle.std.specs.Prelude.{◌≡◌, ℕ, ◌<◌, true, false, nat_eq, List, [], length, map, get_or, OnOk, MatchOption, IsTrue};
+ghost use Rattle.std.specs.Prelude.{◌≡◌, ℕ, ◌<◌, true, false, nat_eq, List, [], length, map, get_or, slice_set, OnOk, MatchOption, IsTrue};
 ghost use Rattle.std.specs.List.{All, list_all};
 ghost use Rattle.subdiv_model.specs.Polygons.{has_corner, has_distinct_sides, is_among, polygon_at};
 ghost use Rattle.subdiv_model.specs.Edges.{all_sides};
@@ -32,6 +32,14 @@ fn place_before(size: usize, c: u16) -> usize
     if c == 0 { size - 1 } else { c as usize - 1 }
 }
 
+// Keeps the corner of a face.
+fn note_corner(corners: &mut Vec<u16>, f: u32, corner: u16)
+    requires { f < length corners.old.items }
+    ensures { corners.new.items ≡ slice_set corners.old.items f corner }
+{
+    corners[f as usize] = corner;
+}
+
 // Keeps the corner that each of these faces has at a point.
 pub(crate) fn note_corners(faces: &[u32], at: &[u16], corners: &mut Vec<u16>)
     requires equal { length at.now ≡ length faces.now }
@@ -40,7 +48,7 @@ pub(crate) fn note_corners(faces: &[u32], at: &[u16], corners: &mut Vec<u16>)
     ensures size { length corners.new.items ≡ length corners.old.items }
 {
     for i in 0..faces.len() {
-        corners[faces[i] as usize] = at[i];
+        note_corner(corners, faces[i], at[i]);
     }
 }
 

@@ -6,7 +6,8 @@ ghost use Rattle.subdiv_model.specs.Edges.{edges_of, faces_of_point};
 ghost use Rattle.subdiv_model.specs.Manifold.{has_one_fan};
 ghost use Rattle.level_topology.specs.Packed.{paired};
 ghost use Rattle.level_topology.specs.Topology.{corner_of, edge_numbers_at, end_of};
-ghost use Rattle.level_topology.specs.BuilderPlaces.{AreChained, pair_list};
+ghost use Rattle.level_topology.specs.BuilderPlaces.{pair_list};
+ghost use Rattle.level_topology.specs.PointPlaces.{AreChainedIn, ArePointPlaces};
 ghost use Rattle.sharpness_rules.specs.View.{sharpness_of};
 ghost use Rattle.level_topology.specs.Coded.{kept};
 ghost use Rattle.level_topology.specs.BuilderFan.{IsRow, AreRows};
@@ -61,25 +62,37 @@ fn coded(alloc: Global, values: &[Sharpness]) -> Result<Sharps, Memory>
 }
 
 impl LevelBuilder {
-    // The places of all points.
-    pub(crate) fn point_places(&self) -> Result<PointPlaces, Memory>
-        ensures faces { IfOk result (λ p. AreChained self.now.level.polygons self.now.level.point_count p.faces.places.items.items p.faces.places.owners.items p.faces.places.within.items p.faces.chains.firsts.items p.faces.chains.next.items) }
-        ensures edges { IfOk result (λ p. AreChained (map pair_list (edges_of self.now.level.polygons)) self.now.level.point_count p.edges.places.items.items p.edges.places.owners.items p.edges.places.within.items p.edges.chains.firsts.items p.edges.chains.next.items) }
+    // Where the points stand among the corners of faces.
+    fn corner_places(&self) -> Result<Chained, Memory>
+        ensures { IfOk result (λ c. AreChainedIn self.now.level.polygons self.now.level.point_count c) }
     {
         let points = self.complete.len() as u32;
         let corners = places_of(self.alloc, &self.faces)?;
+        Chained::new(self.alloc, corners, points)
+    }
+
+    // Where they stand among the ends of edges.
+    fn end_places(&self) -> Result<Chained, Memory>
+        ensures { IfOk result (λ c. AreChainedIn (map pair_list (edges_of self.now.level.polygons)) self.now.level.point_count c) }
+    {
+        let points = self.complete.len() as u32;
         let ends = places_of_ends(self.alloc, self.edges.all_ends())?;
-        Ok(PointPlaces {
-            faces: Chained::new(self.alloc, corners, points)?,
-            edges: Chained::new(self.alloc, ends, points)?,
-        })
+        Chained::new(self.alloc, ends, points)
+    }
+
+    // The places of all points.
+    fn point_places(&self) -> Result<PointPlaces, Memory>
+        ensures { IfOk result (λ p. ArePointPlaces self.now p) }
+    {
+        let faces = self.corner_places()?;
+        let edges = self.end_places()?;
+        Ok(PointPlaces { faces, edges })
     }
 
     // The lists at a point as they ascend.
-    pub(crate) fn list_row(&self, places: &PointPlaces, v: u32, row: &mut Row) -> Result<(), Memory>
+    fn list_row(&self, places: &PointPlaces, v: u32, row: &mut Row) -> Result<(), Memory>
         requires point { v < self.now.level.point_count }
-        requires face_places { AreChained self.now.level.polygons self.now.level.point_count places.now.faces.places.items.items places.now.faces.places.owners.items places.now.faces.places.within.items places.now.faces.chains.firsts.items places.now.faces.chains.next.items }
-        requires edge_places { AreChained (map pair_list (edges_of self.now.level.polygons)) self.now.level.point_count places.now.edges.places.items.items places.now.edges.places.owners.items places.now.edges.places.within.items places.now.edges.chains.firsts.items places.now.edges.chains.next.items }
+        requires places { ArePointPlaces self.now places.now }
         ensures faces { OnOk result (row.new.faces.items ≡ faces_of_point self.now.level.polygons v) }
         ensures at { OnOk result (row.new.faces_at.items ≡ map (corner_of self.now.level.polygons v) row.new.faces.items) }
         ensures edges { OnOk result (row.new.edges.items ≡ edge_numbers_at self.now.level.polygons v) }
@@ -96,8 +109,7 @@ impl LevelBuilder {
         requires point { v < self.now.level.point_count }
         requires fan { get_or self.now.complete v false ≡ true → IsTrue (has_one_fan self.now.level.polygons v) }
         requires size { length turning.old.corners.items ≡ length self.now.level.polygons }
-        requires face_places { AreChained self.now.level.polygons self.now.level.point_count places.now.faces.places.items.items places.now.faces.places.owners.items places.now.faces.places.within.items places.now.faces.chains.firsts.items places.now.faces.chains.next.items }
-        requires edge_places { AreChained (map pair_list (edges_of self.now.level.polygons)) self.now.level.point_count places.now.edges.places.items.items places.now.edges.places.owners.items places.now.edges.places.within.items places.now.edges.chains.firsts.items places.now.edges.chains.next.items }
+        requires places { ArePointPlaces self.now places.now }
         ensures row { OnOk result (IsRow self.now.level.polygons v (get_or self.now.complete v false) turning.new.row.faces.items turning.new.row.faces_at.items turning.new.row.edges.items turning.new.row.edges_at.items) }
         ensures size { length turning.new.corners.items ≡ length turning.old.corners.items }
     {
@@ -120,8 +132,7 @@ impl LevelBuilder {
     ) -> Result<(), Memory>
         requires fans { AreFans self.now }
         requires size { length turning.old.corners.items ≡ length self.now.level.polygons }
-        requires face_places { AreChained self.now.level.polygons self.now.level.point_count places.now.faces.places.items.items places.now.faces.places.owners.items places.now.faces.places.within.items places.now.faces.chains.firsts.items places.now.faces.chains.next.items }
-        requires edge_places { AreChained (map pair_list (edges_of self.now.level.polygons)) self.now.level.point_count places.now.edges.places.items.items places.now.edges.places.owners.items places.now.edges.places.within.items places.now.edges.chains.firsts.items places.now.edges.chains.next.items }
+        requires places { ArePointPlaces self.now places.now }
         requires no_faces { faces.old ≡ paired [] [] self.now.level.point_count (sum_by length self.now.level.polygons) }
         requires no_edges { edges.old ≡ paired [] [] self.now.level.point_count (2 * length (edges_of self.now.level.polygons)) }
         ensures { OnOk result (AreRows self.now.level.polygons self.now.complete self.now.level.point_count faces.new.lists faces.new.beside edges.new.lists edges.new.beside) }
@@ -145,8 +156,7 @@ impl LevelBuilder {
     ) -> Result<(Pairs<u16>, Pairs<u16>), Memory>
         requires fans { AreFans self.now }
         requires size { length turning.old.corners.items ≡ length self.now.level.polygons }
-        requires face_places { AreChained self.now.level.polygons self.now.level.point_count places.now.faces.places.items.items places.now.faces.places.owners.items places.now.faces.places.within.items places.now.faces.chains.firsts.items places.now.faces.chains.next.items }
-        requires edge_places { AreChained (map pair_list (edges_of self.now.level.polygons)) self.now.level.point_count places.now.edges.places.items.items places.now.edges.places.owners.items places.now.edges.places.within.items places.now.edges.chains.firsts.items places.now.edges.chains.next.items }
+        requires places { ArePointPlaces self.now places.now }
         requires no_faces { faces ≡ paired [] [] self.now.level.point_count (sum_by length self.now.level.polygons) }
         requires no_edges { edges ≡ paired [] [] self.now.level.point_count (2 * length (edges_of self.now.level.polygons)) }
         ensures { IfOk result (λ r. AreRows self.now.level.polygons self.now.complete self.now.level.point_count r.0.lists r.0.beside r.1.lists r.1.beside) }
@@ -163,8 +173,7 @@ impl LevelBuilder {
     ) -> Result<(Pairs<u16>, Pairs<u16>), Memory>
         requires fans { AreFans self.now }
         requires size { length turning.old.corners.items ≡ length self.now.level.polygons }
-        requires face_places { AreChained self.now.level.polygons self.now.level.point_count places.now.faces.places.items.items places.now.faces.places.owners.items places.now.faces.places.within.items places.now.faces.chains.firsts.items places.now.faces.chains.next.items }
-        requires edge_places { AreChained (map pair_list (edges_of self.now.level.polygons)) self.now.level.point_count places.now.edges.places.items.items places.now.edges.places.owners.items places.now.edges.places.within.items places.now.edges.chains.firsts.items places.now.edges.chains.next.items }
+        requires places { ArePointPlaces self.now places.now }
         ensures { IfOk result (λ r. AreRows self.now.level.polygons self.now.complete self.now.level.point_count r.0.lists r.0.beside r.1.lists r.1.beside) }
     {
         let points = self.complete.len() as u32;
@@ -176,8 +185,7 @@ impl LevelBuilder {
     // The lists at all points that stand at these places.
     fn rows_at(&self, places: &PointPlaces) -> Result<(Pairs<u16>, Pairs<u16>), Memory>
         requires fans { AreFans self.now }
-        requires face_places { AreChained self.now.level.polygons self.now.level.point_count places.now.faces.places.items.items places.now.faces.places.owners.items places.now.faces.places.within.items places.now.faces.chains.firsts.items places.now.faces.chains.next.items }
-        requires edge_places { AreChained (map pair_list (edges_of self.now.level.polygons)) self.now.level.point_count places.now.edges.places.items.items places.now.edges.places.owners.items places.now.edges.places.within.items places.now.edges.chains.firsts.items places.now.edges.chains.next.items }
+        requires places { ArePointPlaces self.now places.now }
         ensures { IfOk result (λ r. AreRows self.now.level.polygons self.now.complete self.now.level.point_count r.0.lists r.0.beside r.1.lists r.1.beside) }
     {
         let mut turning = Turning {
@@ -189,7 +197,7 @@ impl LevelBuilder {
     }
 
     // The faces at all points with the corners there, and the edges at all points with the ends there.
-    pub(crate) fn rows(&self) -> Result<(Pairs<u16>, Pairs<u16>), Memory>
+    fn rows(&self) -> Result<(Pairs<u16>, Pairs<u16>), Memory>
         requires { AreFans self.now }
         ensures { IfOk result (λ r. AreRows self.now.level.polygons self.now.complete self.now.level.point_count r.0.lists r.0.beside r.1.lists r.1.beside) }
     {

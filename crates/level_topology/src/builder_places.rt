@@ -6,7 +6,8 @@ ghost use Rattle.std.specs.Vec.{vec_capacity};
 ghost use Rattle.std.specs.List.{All, range_with_len};
 ghost use Rattle.subdiv_model.specs.Polygons.{Polygon};
 ghost use Rattle.subdiv_model.specs.Lists.{places};
-ghost use Rattle.level_topology.specs.BuilderPlaces.{ArePlaces, AreChained, IsChain, Ascending, at_places, lists_with, places_in};
+ghost use Rattle.level_topology.specs.BuilderPlaces.{ArePlaces, IsChain, Ascending, at_places, lists_with, places_in};
+ghost use Rattle.level_topology.specs.PointPlaces.{AreChainedIn};
 
 use ratio128::Memory;
 use std::alloc::Global;
@@ -146,7 +147,7 @@ impl Chained {
     pub(crate) fn new(alloc: Global, places: Places, limit: u32) -> Result<Chained, Memory>
         requires inside { All (λ v. v < limit) places.items.items }
         requires short { length places.items.items < 2 ^ 32 }
-        ensures { (lists : List Polygon) → ArePlaces lists places.items.items places.owners.items places.within.items → IfOk result (λ c. AreChained lists limit c.places.items.items c.places.owners.items c.places.within.items c.chains.firsts.items c.chains.next.items) }
+        ensures { (lists : List Polygon) → ArePlaces lists places.items.items places.owners.items places.within.items → IfOk result (λ c. AreChainedIn lists limit c) }
     {
         let chains = chains_of(alloc, &places.items, limit)?;
         Ok(Chained { places, chains })
@@ -159,11 +160,11 @@ impl Chained {
         owners: &mut Vec<u32>,
         within: &mut Vec<u16>,
     ) -> Result<(), Memory>
-        requires chained { (lists : List Polygon) × (limit : ℕ) × (v < limit) × AreChained lists limit self.now.places.items.items self.now.places.owners.items self.now.places.within.items self.now.chains.firsts.items self.now.chains.next.items }
+        requires chained { (lists : List Polygon) × (limit : ℕ) × (v < limit) × AreChainedIn lists limit self.now }
         requires no_owners { owners.old.items ≡ [] }
         requires no_places { within.old.items ≡ [] }
-        ensures owners { (lists : List Polygon) (limit : ℕ) → v < limit → AreChained lists limit self.now.places.items.items self.now.places.owners.items self.now.places.within.items self.now.chains.firsts.items self.now.chains.next.items → OnOk result (owners.new.items ≡ lists_with lists v) }
-        ensures within { (lists : List Polygon) (limit : ℕ) → v < limit → AreChained lists limit self.now.places.items.items self.now.places.owners.items self.now.places.within.items self.now.chains.firsts.items self.now.chains.next.items → OnOk result (within.new.items ≡ places_in lists v) }
+        ensures owners { (lists : List Polygon) (limit : ℕ) → v < limit → AreChainedIn lists limit self.now → OnOk result (owners.new.items ≡ lists_with lists v) }
+        ensures within { (lists : List Polygon) (limit : ℕ) → v < limit → AreChainedIn lists limit self.now → OnOk result (within.new.items ≡ places_in lists v) }
     {
         put_chain(
             &self.places,

@@ -1,6 +1,7 @@
 use Rattle.std.proofs.Common.{subst, ◌≡◌, ◌∙◌, ◌++◌, ◌∷◌, [], true, ap, sym, arith, take, ℕ}
-use Rattle.std.proofs.lemmas.List.{take_more}
+use Rattle.std.proofs.lemmas.List.{take_more, take_all}
 use Rattle.subdiv_model.specs.Polygons.{has_corner, polygon_at}
+use Rattle.mesh_laws.proofs.ChildCornerLemmas.{corner-place}
 use Rattle.level_topology.proofs.AcrossLemmas.{walk-there, walk-next}
 use Rattle.level_topology.proofs.builder.LevelBuilder.walk.Goals as goal
 
@@ -18,3 +19,15 @@ loop-i-preserved c =
           c.unwrap_or-f.ensures
           ∙ walk-next polygons c.facts.ensures.simple c.facts.ensures.sides_once c.args.v c.loop-i.f c.face_after.result c.args.start fan c.loop-i.i is (omega (arith, count, more)) (c.loop-i.invariant.next fan is count c.loop-i-test.true) c.face_after.ensures;
     }
+
+pub loop-i-init : goal.loop-i-init
+loop-i-init c = record { there = c.requires.there; follows = λ fan is count. c.requires.none; next = λ fan is count some. sym is.first }
+
+pub bounds-corners-f : goal.bounds-corners-f
+bounds-corners-f c = omega (arith, c.requires.size, corner-place c.args.self.now.level.polygons c.loop-i.f c.args.v c.loop-i.invariant.there)
+
+pub face_after-requires-clause-corner : goal.face_after-requires-clause-corner
+face_after-requires-clause-corner c = c.requires.corners c.loop-i.f c.loop-i.invariant.there
+
+pub returns : goal.returns
+returns c = λ fan is count. c.loop-i.invariant.follows fan is count ∙ take_all c.loop-i.i fan (omega (arith, count, c.loop-i-test.false))

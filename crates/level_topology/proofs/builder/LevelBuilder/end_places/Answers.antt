@@ -1,11 +1,8 @@
 use Rattle.std.proofs.Common.{◌≡◌, ◌∙◌, ap, arith, rules, length}
 use Rattle.level_topology.proofs.AcrossLemmas.{numbered-ends}
 use Rattle.level_topology.proofs.BuilderLemmas.{edges-few}
-use Rattle.level_topology.proofs.PointPlaceLemmas.{faces-distinct, ends-distinct, corners-inside, corners-few, ends-inside, ends-few}
-use Rattle.level_topology.proofs.builder.LevelBuilder.point_places.Goals as goal
-
-pub places_of-requires-clause-distinct : goal.places_of-requires-clause-distinct
-places_of-requires-clause-distinct c = faces-distinct c.self.inside.faces.lists c.self.invariant.simple
+use Rattle.level_topology.proofs.PointPlaceLemmas.{ends-distinct, ends-inside, ends-few}
+use Rattle.level_topology.proofs.builder.LevelBuilder.end_places.Goals as goal
 
 pub places_of_ends-requires-clause-distinct : goal.places_of_ends-requires-clause-distinct
 places_of_ends-requires-clause-distinct c =
@@ -18,18 +15,9 @@ places_of_ends-requires-clause-few c =
 pub new-requires-clause-inside : goal.new-requires-clause-inside
 new-requires-clause-inside c =
     let n : c.len-points.result ≡ length c.self.inside.complete.items = search rules in
-    corners-inside c.self.inside.faces.lists c.in_ok-corners.corners.items.items (length c.self.inside.complete.items) c.len-points.result n c.self.invariant.over c.in_ok-corners.ensures.items_are
-
-pub new-requires-clause-short : goal.new-requires-clause-short
-new-requires-clause-short c =
-    omega (arith, corners-few c.self.inside.faces.lists c.in_ok-corners.corners.items.items c.in_ok-corners.ensures.items_are, c.self.invariant.small.corners)
-
-pub new-requires-2-clause-inside : goal.new-requires-2-clause-inside
-new-requires-2-clause-inside c =
-    let n : c.len-points.result ≡ length c.self.inside.complete.items = search rules in
     ends-inside c.self.inside.faces.lists c.all_ends.result.now c.in_ok-ends.ends.items.items (length c.self.inside.complete.items) c.len-points.result n c.self.invariant.over
     (c.all_ends.ensures ∙ numbered-ends c.self.inside.faces.lists c.self.inside.edges c.self.invariant.numbering) c.in_ok-ends.ensures.items_are
 
-pub new-requires-2-clause-short : goal.new-requires-2-clause-short
-new-requires-2-clause-short c =
+pub new-requires-clause-short : goal.new-requires-clause-short
+new-requires-clause-short c =
     omega (arith, ends-few c.all_ends.result.now c.in_ok-ends.ends.items.items c.in_ok-ends.ensures.items_are, ap length c.all_ends.ensures, edges-few c.self.inside.faces.lists c.self.inside.edges c.self.invariant.numbering, c.self.invariant.small.corners)
