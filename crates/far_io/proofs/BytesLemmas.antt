@@ -1,7 +1,7 @@
 -- One call after another.
-use Rattle.std.proofs.Common.{◌≡◌, ℕ, ◌+◌, ◌-◌, ◌≤◌, List, take, drop, arith, subst, ◌++◌, Option, Some, None, Result, Ok, Err, OnErr, append_assoc, ap, sym, ◌∙◌}
+use Rattle.std.proofs.Common.{◌≡◌, ℕ, ◌+◌, ◌-◌, ◌≤◌, List, take, drop, arith, subst, ◌++◌, Option, Some, None, append_assoc, ap, sym, ◌∙◌}
 use Rattle.std.proofs.Math.Seq.{take-add}
-use Rattle.far_io.specs.Bytes.{Took, TookPrefix, Added}
+use Rattle.far_io.specs.Bytes.{Took, Added}
 
 -- what two calls took
 pub Took-more : (a b c : Option (List ℕ)) (xs ys : List ℕ) → Took a b xs → Took b c ys → Took a c (xs ++ ys)
@@ -11,12 +11,6 @@ Took-more (Some a) None c xs ys p q = absurd p
 Took-more None (Some b) c xs ys p q = absurd p
 Took-more None None (Some c) xs ys p q = q
 Took-more None None None xs ys p q = tt
-
--- an error after two calls leaves a prefix taken
-pub OnErr-took : {T E : Type 0} (r : Result T E) (a b c : Option (List ℕ)) (xs ys : List ℕ) → Took a b xs → Took b c ys →
-    OnErr r (TookPrefix a c)
-OnErr-took (Ok x) a b c xs ys p q = tt
-OnErr-took (Err e) a b c xs ys p q = (xs ++ ys, Took-more a b c xs ys p q)
 
 -- what two calls added
 pub Added-more : (a b c : Option (List ℕ)) (xs ys : List ℕ) → Added a b xs → Added b c ys → Added a c (xs ++ ys)

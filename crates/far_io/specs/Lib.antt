@@ -2,3 +2,4 @@ pub mod Bytes
 pub mod Memory
 pub mod Standard
 pub mod Faults
+pub mod Reads

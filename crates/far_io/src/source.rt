@@ -1,6 +1,7 @@
-ghost use Rattle.std.specs.Prelude.{◌≡◌, ℕ, ◌+◌, ◌^◌, ◌<◌, ◌≤◌, List, length, take, Option, IfOk, OnOk, OnErr, Err, true, false};
+ghost use Rattle.std.specs.Prelude.{◌≡◌, ℕ, ◌+◌, ◌^◌, ◌<◌, ◌≤◌, List, [], length, take, Option, IfOk, OnOk, OnErr, Err, true, false};
 ghost use Rattle.far_io.specs.declared.source.InputFault.TheVariants.{Read, Long};
 ghost use Rattle.far_io.specs.Bytes.{Rose, Took, TookPrefix, TookMore, TookAtMost, IsDry};
+ghost use Rattle.far_io.specs.Reads.{HasRead};
 
 use std::alloc::{AllocError, Global};
 use std::fmt;
@@ -90,6 +91,46 @@ fn is_long(count: usize, bound: usize) -> bool
     count > bound
 }
 
+// Reads once, and answers how many bytes it put at the start of the piece.
+fn read_piece<S: Source>(source: &mut S, piece: &mut [u8]) -> Result<usize, InputFault>
+    ensures count { IfOk result (λ n. n ≤ length piece.old) }
+    ensures taken { IfOk result (λ n. Took (S.left source.old) (S.left source.new) (take n piece.new)) }
+    ensures end { IfOk result (λ n. n ≡ 0 → 0 < length piece.old → IsDry (S.left source.old)) }
+    ensures failed { OnErr result (S.left source.new ≡ S.left source.old) }
+    ensures fault { OnErr result (result ≡ Err Read) }
+    ensures cause { OnErr result (Rose (S.faults source.old) (S.faults source.new)) }
+    ensures later { S.faults source.old ≤ S.faults source.new }
+{
+    match source.read(piece) {
+        Ok(n) => Ok(n),
+        Err(ReadFailed) => Err(InputFault::Read),
+    }
+}
+
+// Reads all bytes up to the end of input behind none, where there are at most `bound` of them. Those of a piece that
+// memory is wanting for are dropped.
+fn read_into<S: Source>(source: &mut S, bound: usize, bytes: &mut Vec<u8>) -> Result<(), InputFault>
+    requires bound { bound < 2 ^ 32 }
+    requires none { bytes.old.items ≡ [] }
+    ensures read { HasRead result bound (S.left source.old) (S.left source.new) bytes.new.items }
+    ensures failed { result ≡ Err Read → Rose (S.faults source.old) (S.faults source.new) }
+    ensures later { S.faults source.old ≤ S.faults source.new }
+{
+    let mut piece = [0u8; 4096];
+    // Each turn but the last takes a byte at least.
+    for _ in 0..bound + 1 {
+        let n = read_piece(source, &mut piece)?;
+        if n == 0 {
+            return Ok(());
+        }
+        bytes.extend_from_slice(&piece[..n])?;
+        if is_long(bytes.len(), bound) {
+            return Err(InputFault::Long);
+        }
+    }
+    Err(InputFault::Long)
+}
+
 /// Reads all bytes up to the end of input, where there are at most `bound` of them.
 ///
 /// `bound` is below 2^32. `Long` is answered exactly where more than `bound` bytes came, `Read` only
@@ -110,21 +151,7 @@ pub fn read_all<S: Source>(
     ensures within { result ≡ Err Read → TookAtMost bound (S.left source.old) (S.left source.new) }
     ensures later { S.faults source.old ≤ S.faults source.new }
 {
-    let mut bytes: Vec<u8> = Vec::new(alloc);
-    let mut piece = [0u8; 4096];
-    // Each turn but the last takes a byte at least.
-    for _ in 0..bound + 1 {
-        let n = match source.read(&mut piece) {
-            Ok(n) => n,
-            Err(ReadFailed) => return Err(InputFault::Read),
-        };
-        if n == 0 {
-            return Ok(bytes);
-        }
-        bytes.extend_from_slice(&piece[..n])?;
-        if is_long(bytes.len(), bound) {
-            return Err(InputFault::Long);
-        }
-    }
-    Err(InputFault::Long)
+    let mut bytes = Vec::new(alloc);
+    read_into(source, bound, &mut bytes)?;
+    Ok(bytes)
 }

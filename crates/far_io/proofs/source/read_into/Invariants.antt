@@ -1,6 +1,6 @@
 use Rattle.std.proofs.Common.{◌≤◌, vec_len}
 use Rattle.far_io.specs.Bytes.{Took}
-use Rattle.far_io.proofs.source.read_all.Given as goal
+use Rattle.far_io.proofs.source.read_into.Given as goal
 
 -- what was taken is here, and each turn took a byte
 abbrev pub invariant-loop : goal.invariant-loop
