@@ -1,8 +1,8 @@
 -- One value put into a list, and what is made after it.
-use Rattle.std.proofs.Common.{◌≡◌, ℕ, ◌+◌, ◌<◌, ◌≤◌, false, ℤ, List, [], length, take, get_or, slice_set, arith, ap, sym, ◌∙◌, subst, inl, inr, ◌⊎◌}
+use Rattle.std.proofs.Common.{◌≡◌, ℕ, ◌+◌, ◌<◌, ◌≤◌, false, ℤ, List, [], length, take, get_or, slice_set, arith, refl, ap, sym, ◌∙◌, subst, inl, inr, ◌⊎◌}
 use Rattle.std.specs.List.{sum_by}
 use Rattle.std.proofs.lemmas.Bool.{cases_lt}
-use Rattle.std.proofs.lemmas.List.{get_or-map, length-map, map-set, length-set, get_or-set_same, get_or-set_other}
+use Rattle.std.proofs.lemmas.List.{get_or-map, length-map, take_all, map-set, length-set, get_or-set_same, get_or-set_other}
 use Rattle.std.proofs.lemmas.List.Sums.{sum_by_more}
 use Rattle.subdiv_model.specs.Level.{Level}
 use Rattle.subdiv_model.specs.Mask.{face_mask}
@@ -103,6 +103,14 @@ hidden-put level rows first i hidden before after made put new = record { each =
         let same : k ≡ i = omega (arith, below, more_than) in
         subst (λ n. IsMade level rows (face_mask level (get_or hidden n 0)) (row_at after (first + n))) (sym same) new
 
+-- no face is made yet, and those of all points are
+pub none-faces : (level : Level) (rows : List Row) (origins : List PointOrigin) (made : List Row) → AreFacesMade level rows origins 0 made
+none-faces level rows origins made = record { each = λ p f below inside from. absurd (omega (arith, below)) }
+
+pub faces-all : (level : Level) (rows : List Row) (origins : List PointOrigin) (p : ℕ) (made : List Row) → length origins ≤ p
+    → AreFacesMade level rows origins p made → AreFacesMade level rows origins (length origins) made
+faces-all level rows origins p made past are = record { each = λ q f below inside from. are.each q f (omega (arith, past, below)) inside from }
+
 -- rows before the first stay
 pub kept-put : (first i : ℕ) (start before after : List Row) → ((q : ℕ) → q < first → row_at before q ≡ row_at start q) → IsPut before (first + i) after
     → (q : ℕ) → q < first → row_at after q ≡ row_at start q
@@ -113,3 +121,27 @@ pub terms-more : (terms : PointOrigin → ℕ) (origins : List PointOrigin) (p :
     → sum_by terms (take (p + 1) origins) ≡ sum_by terms (take p origins) + terms origin
 terms-more terms origins p origin inside is =
     sum_by_more terms origins p (FromVertex 0) inside ∙ ap (λ o. sum_by terms (take p origins) + terms o) is
+
+-- a place is inside what has as many values as before
+pub still-inside : {P : Type 0} (numbers : P → List ℤ) (before after : List (Valued P)) (p : ℕ) → KeepDens (rows_of numbers before) (rows_of numbers after) → p < length before
+    → p < length after
+still-inside numbers before after p keep inside =
+    let old = length-map before (row_of numbers) in
+    let new = length-map after (row_of numbers) in
+    omega (arith, keep.count, old, new, inside)
+
+-- nothing is put yet
+pub none-put : (rows : List Row) → KeepDens rows rows
+none-put rows = record { count = refl; dens = λ p. refl }
+
+pub none-hidden : (level : Level) (rows : List Row) (first : ℕ) (hidden : List ℕ) (made : List Row) → AreHiddenMade level rows first hidden 0 made
+none-hidden level rows first hidden made = record { each = λ i below inside. absurd (omega (arith, below)) }
+
+-- and of all points
+pub terms-all : {X : Type 0} (terms : X → ℕ) (items : List X) (p : ℕ) → length items ≤ p → sum_by terms (take p items) ≡ sum_by terms items
+terms-all terms items p past = ap (sum_by terms) (take_all p items past)
+
+-- the row of a value is at its place
+pub row-there : {P : Type 0} (numbers : P → List ℤ) (values : List (Valued P)) (p : ℕ) (v : Valued P) → p < length values → v ≡ get_or values p v
+    → row_of numbers v ≡ row_at (rows_of numbers values) p
+row-there numbers values p v inside is = ap (row_of numbers) is ∙ sym (get_or-map (row_of numbers) values p v blank inside)

@@ -1,5 +1,5 @@
 -- What is asked for the value of each point is there.
-use Rattle.std.proofs.Common.{◌≡◌, ◌≢◌, ℕ, ◌+◌, ◌-◌, ◌*◌, ◌<◌, ◌≤◌, Bool, true, false, ◌&&◌, nat_lt, nat_le, List, [], ◌∷◌, length, map, get_or, arith, refl, ap, sym, ◌∙◌, subst, inl, inr, ◌⊎◌, length-append}
+use Rattle.std.proofs.Common.{◌≡◌, ◌≢◌, ℕ, ◌+◌, ◌-◌, ◌*◌, ◌<◌, ◌≤◌, Bool, true, false, ◌&&◌, nat_lt, nat_le, ℤ, List, [], ◌∷◌, length, map, get_or, Result, Ok, Err, OnOk, arith, refl, ap, sym, ◌∙◌, subst, inl, inr, ◌⊎◌, length-append}
 use Rattle.std.specs.List.{All, AllByRecursion, list_any}
 use Rattle.std.proofs.lemmas.Bool.{cases_lt, and_parts, leb-true}
 use Rattle.std.proofs.lemmas.Bool.Decides.{nat_tests}
@@ -19,11 +19,13 @@ use Rattle.level_topology.specs.Topology.{Topology, IsTopology}
 use Rattle.level_topology.specs.Child.{PointOrigin, FromVertex, FromFace, FromEdge, IsOriginWithin, ChildTopology, HasParent, same_origin}
 use Rattle.level_topology.proofs.ChildLemmas.{same_origin-refl}
 use Rattle.primvar_refine.specs.Rows.{Row, row_at, dens_of, AreGood, least_bound}
+use Rattle.primvar_refine.specs.declared.valued.Valued.{Valued}
+use Rattle.primvar_refine.specs.View.{row_of, rows_of}
 use Rattle.primvar_refine.specs.Step.{mask_from, masks_from, has_origin, CanRefine}
 use Rattle.primvar_refine.specs.Sums.{source_row, HasRow}
 use Rattle.primvar_refine.specs.Made.{IsRowOf, IsMade, AreHeld, CanMake, is_from_face, origin_at, IsPut, CanMakeFaces, AreFacesMade, AreOthersMade, AreHiddenMade, KeepDens}
 use Rattle.primvar_refine.specs.Places.{all_origins}
-use Rattle.primvar_refine.specs.Ready.{CanPut, IsReady}
+use Rattle.primvar_refine.specs.Ready.{CanPut, IsReady, AreAllMade}
 use Rattle.primvar_refine.proofs.MadeLemmas.{point-row}
 use Rattle.primvar_refine.proofs.SourceLemmas.{mask-inside, corners-only, face-row, test-at}
 use Rattle.primvar_refine.proofs.PlaceLemmas.{any-at}
@@ -379,3 +381,27 @@ first-together parent child rows hidden before after list first same at faces ke
     (subst (λ n. (q : ℕ) → q < n → row_at after q ≡ row_at before q) at kept)
     (subst (λ l. AreHiddenMade parent.level rows (length child.origins) l (length l) after) same
     (subst (λ n. AreHiddenMade parent.level rows n list (length list) after) at others))
+
+-- the place of a child point is there
+pub point-inside : {P : Type 0} (numbers : P → List ℤ) (parent : Topology) (child : ChildTopology) (scheme : Scheme) (rows : List Row) (named : List Bool) (hidden places : List ℕ)
+    (before after : List (Valued P)) (p : ℕ) → IsReady parent child scheme rows named hidden places (rows_of numbers before)
+    → KeepDens (rows_of numbers before) (rows_of numbers after) → p < length child.origins → p < length after
+point-inside numbers parent child scheme rows named hidden places before after p ready keep inside =
+    let all = length-append child.origins (map FromFace hidden) in
+    let new = length-map after (row_of numbers) in
+    omega (arith, keep.count, ready.each, all, new, inside)
+
+-- no value is made yet, and those of all points are
+pub none-made : (level : Level) (scheme : Scheme) (rows : List Row) (origins : List PointOrigin) (made : List Row) → AreOthersMade level scheme rows origins 0 made
+none-made level scheme rows origins made = record { each = λ p below inside other. absurd (omega (arith, below)) }
+
+pub others-all : (level : Level) (scheme : Scheme) (rows : List Row) (origins : List PointOrigin) (p : ℕ) (made : List Row) → length origins ≤ p
+    → AreOthersMade level scheme rows origins p made → AreOthersMade level scheme rows origins (length origins) made
+others-all level scheme rows origins p made past are = record { each = λ q below inside other. are.each q (omega (arith, past, below)) inside other }
+
+-- the values of all points, if they were put
+pub all-made : {X E : Type 0} (parent : Topology) (child : ChildTopology) (scheme : Scheme) (rows : List Row) (hidden : List ℕ) (made : List Row) (result : Result X E)
+    → OnOk result (AreFacesMade parent.level rows (all_origins child.origins hidden) (length (all_origins child.origins hidden)) made)
+    → OnOk result (AreOthersMade parent.level scheme rows child.origins (length child.origins) made) → OnOk result (AreAllMade parent child scheme rows hidden made)
+all-made parent child scheme rows hidden made (Ok x) faces others = record { faces = faces; others = others }
+all-made parent child scheme rows hidden made (Err e) faces others = tt

@@ -12,6 +12,14 @@ use level_topology::Level;
 use ratio128::{Primvar, Steps};
 use std::sync::ledger::Ledger;
 
+/// The denominator at a place.
+pub(crate) fn den_at<P: Primvar<L>, L: Ledger>(made: &[Valued<P>], p: usize) -> u128
+    requires { p < length made.now }
+    ensures { result ≡ (row_at (rows_of P.numbers made.now) p).den }
+{
+    made[p].den
+}
+
 /// Puts a value over the denominator that is there.
 pub(crate) fn put_value<P: Primvar<L>, L: Ledger>(made: &mut [Valued<P>], p: usize, value: P)
     requires { p < length made.old }
@@ -39,7 +47,7 @@ pub(crate) fn put_face<P: Primvar<L>, L: Ledger>(
     ensures made { IsMade parent.now.level (rows_of P.numbers values.now) (face_mask parent.now.level f) (row_at (rows_of P.numbers made.new) p) }
     ensures steps { steps.new ≡ steps.old + length (face_mask parent.now.level f).terms }
 {
-    let den = made[p].den;
+    let den = den_at(made, p);
     let value = face_value(parent, f, den, values, zero, steps);
     put_value(made, p, value);
 }

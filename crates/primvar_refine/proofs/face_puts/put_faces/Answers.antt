@@ -1,12 +1,13 @@
-use Rattle.std.proofs.Common.{arith, ◌≡◌, ◌+◌, ◌<◌, ℕ, length, false, refl, ap, sym, ◌∙◌, subst, ◌⊎◌, inl, inr}
+use Rattle.std.proofs.Common.{arith, ◌≡◌, ◌+◌, ◌<◌, ◌≤◌, ℕ, [], length, false, refl, ap, sym, ◌∙◌, subst, ◌⊎◌, inl, inr}
 use Rattle.subdiv_model.specs.Level.{Level}
 use Rattle.level_topology.specs.Child.{PointOrigin, FromVertex, FromFace, FromEdge}
 use Rattle.level_topology.specs.ChildTables.{origin_of}
 use Rattle.level_topology.specs.declared.child_origin.Origin.{Origin}
 use Rattle.level_topology.specs.declared.child_origin.Origin.TheVariants.{Vertex, Edge}
 use Rattle.primvar_refine.specs.View.{rows_of}
-use Rattle.primvar_refine.specs.Made.{KeepDens, AreFacesMade, terms_of_face, is_from_face, origin_at}
-use Rattle.primvar_refine.proofs.PutLemmas.{dens-put, faces-put, faces-pass, terms-more}
+use Rattle.subdiv_model.specs.Mask.{face_mask}
+use Rattle.primvar_refine.specs.Made.{CanMake, KeepDens, AreFacesMade, terms_of_face, is_from_face, origin_at}
+use Rattle.primvar_refine.proofs.PutLemmas.{dens-put, faces-put, faces-pass, faces-all, none-faces, none-put, still-inside, terms-all, terms-more}
 use Rattle.primvar_refine.proofs.face_puts.put_faces.Goals as goal
 use Rattle.primvar_refine.proofs.face_puts.put_faces.Goals.{in-Face, in-Vertex}
 
@@ -18,6 +19,29 @@ no-terms : (level : Level) (o : PointOrigin) → is_from_face o ≡ false → te
 no-terms level (FromVertex v) e = refl
 no-terms level (FromFace f) e = absurd (cc)
 no-terms level (FromEdge d) e = refl
+
+pub loop-p-init : goal.loop-p-init
+loop-p-init g c = record {
+  dens = none-put (rows_of g.P.Primvar.numbers c.args.made.now);
+  faces = none-faces c.args.parent.now.level (rows_of g.P.Primvar.numbers c.args.values.now) c.args.child.now.origins (rows_of g.P.Primvar.numbers c.args.made.now);
+  taken = omega arith;
+}
+
+pub put_face-requires-clause-inside : goal.put_face-requires-clause-inside
+put_face-requires-clause-inside g c =
+    let inside : c.loop-p.p < length c.args.child.now.origins =
+    omega (arith, c.loop-p-test.true, c.points-p-end.ensures, c.facts.ensures.is.each_point, ap (λ t. t.level.point_count) c.level.ensures) in
+    still-inside g.P.Primvar.numbers c.args.made.now c.loop-p.made c.loop-p.p c.loop-p.invariant.dens (omega (arith, c.requires.room, inside))
+
+pub put_face-requires-clause-can : goal.put_face-requires-clause-can
+put_face-requires-clause-can g c =
+    let inside : c.loop-p.p < length c.args.child.now.origins =
+    omega (arith, c.loop-p-test.true, c.points-p-end.ensures, c.facts.ensures.is.each_point, ap (λ t. t.level.point_count) c.level.ensures) in
+    subst (CanMake c.args.parent.now.level (rows_of g.P.Primvar.numbers c.args.values.now) [] [] (face_mask c.args.parent.now.level c.in-Face.f)) (sym (c.loop-p.invariant.dens.dens c.loop-p.p))
+    (c.requires.can c.loop-p.p c.in-Face.f inside (sym c.in-Face.ensures))
+
+pub put_face-requires-clause-alike : goal.put_face-requires-clause-alike
+put_face-requires-clause-alike g c = c.requires.alike
 
 pub loop-p-preserved : goal.loop-p-preserved
 loop-p-preserved g c =
@@ -47,3 +71,19 @@ loop-p-preserved g c =
             taken = omega (arith, w.steps-is, c.loop-p.invariant.taken, terms-more (terms_of_face level) origins c.loop-p.p (origin_at origins c.loop-p.p) inside refl, no-terms level (origin_at origins c.loop-p.p) other);
           }
     ]
+
+pub returns-clause-dens : goal.returns-clause-dens
+returns-clause-dens g c = c.loop-p.invariant.dens
+
+pub returns-clause-made : goal.returns-clause-made
+returns-clause-made g c =
+    let past : length c.args.child.now.origins ≤ c.loop-p.p =
+    omega (arith, c.loop-p-test.false, c.points-p-end.ensures, c.facts.ensures.is.each_point, ap (λ t. t.level.point_count) c.level.ensures) in
+    faces-all c.args.parent.now.level (rows_of g.P.Primvar.numbers c.args.values.now) c.args.child.now.origins c.loop-p.p (rows_of g.P.Primvar.numbers c.loop-p.made) past c.loop-p.invariant.faces
+
+pub returns-clause-steps : goal.returns-clause-steps
+returns-clause-steps g c =
+    let past : length c.args.child.now.origins ≤ c.loop-p.p =
+    omega (arith, c.loop-p-test.false, c.points-p-end.ensures, c.facts.ensures.is.each_point, ap (λ t. t.level.point_count) c.level.ensures) in
+    let all = terms-all (terms_of_face c.args.parent.now.level) c.args.child.now.origins c.loop-p.p past in
+    omega (arith, c.loop-p.invariant.taken, all)

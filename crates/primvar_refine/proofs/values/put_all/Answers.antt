@@ -1,13 +1,23 @@
-use Rattle.std.proofs.Common.{ap, sym, ◌∙◌}
+use Rattle.std.proofs.Common.{arith, ◌≤◌, length, ap, sym, ◌∙◌, subst}
+use Rattle.std.proofs.lemmas.Result.{on_ok_weaker}
 use Rattle.mask_rules.specs.View.{scheme_of}
-use Rattle.primvar_refine.specs.View.{rows_of}
-use Rattle.primvar_refine.proofs.ReadyLemmas.{ready-kept, faces-can, keeps, first-hidden-can, first-together}
+use Rattle.primvar_refine.specs.View.{row_of, rows_of}
+use Rattle.std.proofs.lemmas.List.{length-map}
+use Rattle.std.specs.List.{sum_by}
+use Rattle.primvar_refine.specs.Made.{terms_of_hidden}
+use Rattle.primvar_refine.proofs.ReadyLemmas.{ready-kept, faces-can, all-made, room, keeps, first-hidden-can, first-together}
 use Rattle.primvar_refine.proofs.values.put_all.Goals as goal
 
 pub put_faces-requires-clause-can : goal.put_faces-requires-clause-can
 put_faces-requires-clause-can g c =
     faces-can c.args.parent.now c.args.child.now (scheme_of c.args.scheme) (rows_of g.P.Primvar.numbers c.args.values.now) c.args.survey.now.named.items
     c.args.places.now.hidden.items c.args.places.now.of_faces.items (rows_of g.P.Primvar.numbers c.args.made.now) c.facts.ensures c.requires.ready c.facts-2.ensures
+
+pub put_faces-requires-clause-room : goal.put_faces-requires-clause-room
+put_faces-requires-clause-room g c =
+    subst (λ n. length c.args.child.now.origins ≤ n) (length-map c.args.made.now (row_of g.P.Primvar.numbers))
+    (room c.args.parent.now c.args.child.now (scheme_of c.args.scheme) (rows_of g.P.Primvar.numbers c.args.values.now) c.args.survey.now.named.items
+    c.args.places.now.hidden.items c.args.places.now.of_faces.items (rows_of g.P.Primvar.numbers c.args.made.now) c.facts.ensures c.requires.ready)
 
 pub put_hidden-requires-clause-can : goal.put_hidden-requires-clause-can
 put_hidden-requires-clause-can g c =
@@ -33,3 +43,18 @@ returns-clause-dens g c =
     keeps (rows_of g.P.Primvar.numbers c.args.made.now) (rows_of g.P.Primvar.numbers c.put_hidden.new.made) (rows_of g.P.Primvar.numbers c.put_points.new.made)
     (keeps (rows_of g.P.Primvar.numbers c.args.made.now) (rows_of g.P.Primvar.numbers c.put_faces.new.made) (rows_of g.P.Primvar.numbers c.put_hidden.new.made) c.put_faces.ensures.dens c.put_hidden.ensures.dens)
     c.put_points.ensures.dens
+
+pub returns-clause-made : goal.returns-clause-made
+returns-clause-made g c =
+    all-made c.args.parent.now c.args.child.now (scheme_of c.args.scheme) (rows_of g.P.Primvar.numbers c.args.values.now) c.args.places.now.hidden.items (rows_of g.P.Primvar.numbers c.put_points.new.made)
+    c.put_points.result c.put_points.ensures.faces c.put_points.ensures.made
+
+pub returns-clause-taken : goal.returns-clause-taken
+returns-clause-taken g c =
+    on_ok_weaker c.put_points.result (λ taken. omega (arith, taken, c.put_hidden.ensures.steps, c.put_faces.ensures.steps, ap (sum_by (terms_of_hidden c.args.parent.now.level)) c.deref.ensures.value)) c.put_points.ensures.taken
+
+pub returns-clause-steps : goal.returns-clause-steps
+returns-clause-steps g c = omega (arith, c.put_points.ensures.steps, c.put_hidden.ensures.steps, c.put_faces.ensures.steps, ap (sum_by (terms_of_hidden c.args.parent.now.level)) c.deref.ensures.value)
+
+pub returns-clause-later : goal.returns-clause-later
+returns-clause-later g c = omega (arith, c.put_points.ensures.later, c.put_hidden.ensures.steps, c.put_faces.ensures.steps)
