@@ -4,6 +4,8 @@ use Rattle.std.specs.List.{All, AllByRecursion}
 use Rattle.std.proofs.lemmas.List.{take_all, get_or_default}
 use Rattle.std.proofs.lemmas.List.Elements.{recursion_from_All, All-from_recursion}
 use Rattle.std.proofs.lemmas.List.Sums.{sum_by-append}
+use Rattle.subdiv_model.specs.Polygons.{polygon_at}
+use Rattle.subdiv_model.specs.Mask.{OfFace}
 use Rattle.subdiv_model.specs.Level.{Level}
 use Rattle.mask_rules.specs.declared.mask.At.TheVariants.{Point}
 use Rattle.mask_rules.specs.declared.mask.Term.{Term}
@@ -19,8 +21,22 @@ first-and-others [] d some = absurd (omega arith)
 first-and-others (x ∷ xs) d some = ap (λ l. x ∷ l) (sym (take_all (length (x ∷ xs) - 1) xs (omega arith)))
 
 -- one share is an amount at its place
-added-one : (place amount : ℕ) (sums : List ℕ) → added_shares 1 ((place, amount) ∷ []) sums ≡ added_at place amount sums
+pub added-one : (place amount : ℕ) (sums : List ℕ) → added_shares 1 ((place, amount) ∷ []) sums ≡ added_at place amount sums
 added-one place amount sums = let once : 1 * amount ≡ amount = omega arith in ap (λ n. added_at place n sums) once
+
+-- the share of a point, and those of the corners of a face, by what was read and divided
+pub point-amount : (dens : List ℕ) (m weight v amount : ℕ) → v < length dens → amount ≡ weight * (m / get_or dens v 0) → weight * (m / get_or dens v 1) ≡ amount
+point-amount dens m weight v amount inside is = ap (λ den. weight * (m / den)) (get_or_default dens v 1 0 inside) ∙ sym is
+
+pub face-amounts : (level : Level) (dens faces : List ℕ) (m weight f factor multiple : ℕ) (corners : List ℕ) → f < length faces → corners ≡ polygon_at level.polygons f
+    → factor ≡ weight * (m / get_or faces f 0) → multiple ≡ get_or faces f 0 / length corners → source_shares level dens faces m weight (OfFace f) ≡ corner_shares dens factor multiple corners
+face-amounts level dens faces m weight f factor multiple corners inside is by over =
+    let den : get_or faces f 1 ≡ get_or faces f 0 = get_or_default faces f 1 0 inside in
+    let own : weight * (m / get_or faces f 1) ≡ factor = ap (λ n. weight * (m / n)) den ∙ sym by in
+    let part : get_or faces f 1 / length (polygon_at level.polygons f) ≡ multiple = ap (λ n. n / length (polygon_at level.polygons f)) den ∙ ap (λ l. get_or faces f 0 / length l) (sym is) ∙ sym over in
+    ap (λ n. corner_shares dens n (get_or faces f 1 / length (polygon_at level.polygons f)) (polygon_at level.polygons f)) own
+    ∙ ap (λ n. corner_shares dens factor n (polygon_at level.polygons f)) part
+    ∙ ap (λ l. corner_shares dens factor multiple l) (sym is)
 
 -- shares after others
 added-append : (xs ys : List Share) (sums : List ℕ) → added_shares 1 (xs ++ ys) sums ≡ added_shares 1 ys (added_shares 1 xs sums)

@@ -107,6 +107,35 @@ fn weigh_vertex(
     }
 }
 
+// Adds the weights of a child point.
+fn weigh_origin(
+    alloc: Global,
+    parent: &Level,
+    child: &Child,
+    p: u32,
+    scheme: Scheme,
+    survey: &Survey,
+    dens: &[u128],
+    scratch: &mut Scratch,
+) -> Result<(), Memory>
+    requires child { CanRefine parent.now child.now (scheme_of scheme) }
+    requires known { p < length child.now.origins }
+    requires dens { ArePointDenominators parent.now.level dens.now }
+    requires survey { IsFoundOver parent.now.level (scheme_of scheme) child.now.origins dens.now survey.now }
+    requires clear { scratch.old ≡ replicate parent.now.level.point_count 0 }
+    ensures { OnOk result (IsWeighed parent.now.level dens.now (mask_from parent.now.level (scheme_of scheme) (get_or child.now.origins p (FromVertex 0))) scratch.new) }
+{
+    child.facts();
+    let den = survey.dens[p as usize];
+    match child.origin(p) {
+        Origin::Vertex(v) => {
+            weigh_vertex(alloc, parent, v, scheme, den, dens, &survey.faces, scratch)
+        }
+        Origin::Face(f) => weigh_face(parent, f, den, dens, scratch),
+        Origin::Edge(e) => weigh_edge(parent, e, scheme, den, dens, &survey.faces, scratch),
+    }
+}
+
 /// Puts the weights of the points of a level in a child point in the place of the entries, by what the survey found over the
 /// denominators of the points. The scratch has a place for each of these points.
 pub(crate) fn weigh_point(
@@ -128,14 +157,6 @@ pub(crate) fn weigh_point(
     ensures clear { OnOk result (scratch.new ≡ replicate parent.now.level.point_count 0) }
     ensures weights { OnOk result (AreWeights parent.now.level dens.now (mask_from parent.now.level (scheme_of scheme) (get_or child.now.origins p (FromVertex 0))) (shares_of weights.new.items)) }
 {
-    child.facts();
-    let den = survey.dens[p as usize];
-    match child.origin(p) {
-        Origin::Vertex(v) => {
-            weigh_vertex(alloc, parent, v, scheme, den, dens, &survey.faces, scratch)?
-        }
-        Origin::Face(f) => weigh_face(parent, f, den, dens, scratch)?,
-        Origin::Edge(e) => weigh_edge(parent, e, scheme, den, dens, &survey.faces, scratch)?,
-    }
+    weigh_origin(alloc, parent, child, p, scheme, survey, dens, scratch)?;
     scratch.take_unsorted(weights)
 }

@@ -9,6 +9,7 @@ use Rattle.stencil_apply.specs.Arrays.{row_of}
 use Rattle.stencil_apply.specs.declared.entry.Entry.{Entry}
 use Rattle.stencil_factory.specs.Rows.{dens_of}
 use Rattle.stencil_factory.specs.Composing.{IsComposedRow, AreComposedRows}
+use Rattle.stencil_factory.proofs.FoundLemmas.{found-inside}
 use Rattle.stencil_factory.proofs.SurveyLemmas.{found-fine}
 use Rattle.stencil_factory.proofs.ComposedLemmas.{row-read, next-rows, next-entries, next-count, are-composed}
 use Rattle.stencil_factory.proofs.compose.put_rows.Goals as goal
@@ -24,6 +25,18 @@ row : (c : goal.After-deref)
 row c =
     row-read c.args.parent.now.level c.args.table.now (scheme_of c.args.scheme) c.args.child.now.origins c.args.survey.now c.loop-p.p c.index.result.now c.compose_row.new.room.entries.items c.deref.result.now
     c.requires.survey (inside c) c.in_ok-compose_row.ensures.row c.index.ensures c.deref.ensures.value
+
+pub compose_row-requires-clause-known : goal.compose_row-requires-clause-known
+compose_row-requires-clause-known c =
+    let points = c.points-p-end.ensures ∙ ap (λ (t : Topology). t.level.point_count) c.level.ensures in
+    omega (arith, c.loop-p-test.true, points, c.facts-2.ensures.is.each_point)
+
+pub index-requires : goal.index-requires
+index-requires c =
+    let points = c.points-p-end.ensures ∙ ap (λ (t : Topology). t.level.point_count) c.level.ensures in
+    let below : c.loop-p.p < length c.args.child.now.origins = omega (arith, c.loop-p-test.true, points, c.facts-2.ensures.is.each_point) in
+    let there = found-inside c.args.parent.now.level (scheme_of c.args.scheme) c.args.child.now.origins (dens_of c.args.table.now) c.args.survey.now c.requires.survey c.loop-p.p below in
+    omega (arith, there, c.args.survey.now.dens.ok.0)
 
 pub add_row-requires-clause-row : goal.add_row-requires-clause-row
 add_row-requires-clause-row c = subst (λ n. IsRow n (row_of c.index.result.now c.deref.result.now)) (sym c.loop-p.invariant.same) (row c).is

@@ -1,10 +1,12 @@
-use Rattle.std.proofs.Common.{◌+◌, ◌<◌, ◌∙◌, arith, ap, length, get_or}
+use Rattle.std.proofs.Common.{◌+◌, ◌<◌, ◌≤◌, ◌∙◌, arith, ap, length, get_or}
 use Rattle.level_topology.specs.Topology.{Topology}
 use Rattle.level_topology.specs.Child.{FromVertex}
 use Rattle.mask_rules.specs.View.{scheme_of}
 use Rattle.primvar_refine.specs.Step.{mask_from}
 use Rattle.subdiv_model.specs.Support.{source_support}
 use Rattle.stencil_factory.specs.Rows.{supports_of}
+use Rattle.std.proofs.lemmas.List.{take_all}
+use Rattle.stencil_factory.specs.Composed.{entries_from}
 use Rattle.stencil_factory.proofs.ComposedLemmas.{entries-less, entries-more}
 use Rattle.stencil_factory.proofs.MarkLemmas.{support-few}
 use Rattle.stencil_factory.proofs.count.count_entries.Goals as goal
@@ -38,3 +40,16 @@ loop-p-preserved c =
       counted = omega (arith, more, c.loop-p.invariant.counted, c.in_ok-count.ensures.count);
       few = c.if-count-gt-ENTRY_BOUND.false;
     }
+
+pub count_row-requires-clause-known : goal.count_row-requires-clause-known
+count_row-requires-clause-known c =
+    let points = c.points-p-end.ensures ∙ ap (λ (t : Topology). t.level.point_count) c.level.ensures in
+    omega (arith, c.loop-p-test.true, points, c.facts-2.ensures.is.each_point)
+
+pub returns : goal.returns
+returns c =
+    let points = c.points-p-end.ensures ∙ ap (λ (t : Topology). t.level.point_count) c.level.ensures in
+    let past : length c.args.child.now.origins ≤ c.loop-p.p = omega (arith, c.loop-p-test.false, points, c.facts-2.ensures.is.each_point) in (
+      c.loop-p.invariant.counted ∙ ap (λ l. entries_from c.args.parent.now.level (scheme_of c.args.scheme) l c.args.table.now) (take_all c.loop-p.p c.args.child.now.origins past),
+      c.loop-p.invariant.few,
+    )

@@ -1,6 +1,15 @@
-use Rattle.std.proofs.Common.{◌∙◌}
+use Rattle.std.proofs.Common.{refl, ◌∙◌}
 use Rattle.stencil_factory.proofs.AddedLemmas.{within-next, corners-can, corners-same}
 use Rattle.stencil_factory.proofs.flat.add_corners.Goals as goal
+
+pub loop-rest-init : goal.loop-rest-init
+loop-rest-init c = record { within = c.requires.within; can = c.requires.can; same = refl }
+
+pub bounds-dens-v : goal.bounds-dens-v
+bounds-dens-v c = c.loop-rest.invariant.within 0 0 c.in-len1-up.len_at_least
+
+pub weight_over-amount-requires-clause-positive : goal.weight_over-amount-requires-clause-positive
+weight_over-amount-requires-clause-positive c = c.requires.positive _ 0 (c.loop-rest.invariant.within 0 0 c.in-len1-up.len_at_least)
 
 pub loop-rest-preserved : goal.loop-rest-preserved
 loop-rest-preserved c =

@@ -10,6 +10,12 @@ use Rattle.stencil_factory.specs.Flat.{CanAddAll}
 use Rattle.stencil_factory.proofs.KnownLemmas.{known-corners, flat-corners, given-can, given-weighed, ok-weaker}
 use Rattle.stencil_factory.proofs.weigh.weigh_face.Goals as goal
 
+pub add_corners-requires-clause-within : goal.add_corners-requires-clause-within
+add_corners-requires-clause-within c = rw c.face_vertices.ensures (face-corners c.args.parent.now c.facts.ensures c.args.f c.requires.known c.args.dens.now c.requires.dens)
+
+pub add_corners-requires-clause-positive : goal.add_corners-requires-clause-positive
+add_corners-requires-clause-positive c = c.requires.dens.positive
+
 pub add_corners-requires-clause-can : goal.add_corners-requires-clause-can
 add_corners-requires-clause-can c =
     subst (λ l. CanAddAll l c.args.scratch.now) (flat-corners c.args.parent.now.level c.args.dens.now [] c.divide-multiple.result c.face_vertices.result.now)

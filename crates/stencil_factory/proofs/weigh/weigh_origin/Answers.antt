@@ -1,11 +1,12 @@
-use Rattle.std.proofs.Common.{arith, ap, sym, subst, ◌∙◌, ◌≤◌}
+use Rattle.std.proofs.Common.{arith, ap, sym, subst, ◌∙◌, ◌≤◌, OnOk}
 use Rattle.subdiv_model.specs.Refined.{mask_denominator, source_denominator}
 use Rattle.subdiv_model.specs.Channel.{number_bound}
 use Rattle.mask_rules.specs.View.{scheme_of}
 use Rattle.primvar_refine.specs.Step.{mask_from}
 use Rattle.primvar_refine.specs.Found.{AreFaceDenominators}
+use Rattle.stencil_factory.specs.Flat.{IsWeighed}
 use Rattle.stencil_factory.proofs.FoundLemmas.{found-inside, found-den, found-short, found-faces}
-use Rattle.stencil_factory.proofs.weigh.weigh_point.Goals as goal
+use Rattle.stencil_factory.proofs.weigh.weigh_origin.Goals as goal
 
 pub index-den-requires : goal.index-den-requires
 index-den-requires c =
@@ -51,3 +52,18 @@ pub weigh_edge-requires-clause-short : goal.weigh_edge-requires-clause-short
 weigh_edge-requires-clause-short c =
     subst (λ n. n ≤ number_bound) (sym c.index-den.ensures)
     (found-short c.args.parent.now.level (scheme_of c.args.scheme) c.args.child.now.origins c.args.dens.now c.args.survey.now c.requires.survey c.args.p c.index-den.result.now c.requires.known)
+
+pub returns-in-Vertex : goal.returns-in-Vertex
+returns-in-Vertex c =
+    subst (λ o. OnOk c.weigh_vertex.result (IsWeighed c.args.parent.now.level c.args.dens.now (mask_from c.args.parent.now.level (scheme_of c.args.scheme) o) c.weigh_vertex.new.scratch)) c.in-Vertex.ensures
+    c.weigh_vertex.ensures
+
+pub returns-in-Face : goal.returns-in-Face
+returns-in-Face c =
+    subst (λ o. OnOk c.weigh_face.result (IsWeighed c.args.parent.now.level c.args.dens.now (mask_from c.args.parent.now.level (scheme_of c.args.scheme) o) c.weigh_face.new.scratch)) c.in-Face.ensures
+    c.weigh_face.ensures
+
+pub returns-in-Edge : goal.returns-in-Edge
+returns-in-Edge c =
+    subst (λ o. OnOk c.weigh_edge.result (IsWeighed c.args.parent.now.level c.args.dens.now (mask_from c.args.parent.now.level (scheme_of c.args.scheme) o) c.weigh_edge.new.scratch)) c.in-Edge.ensures
+    c.weigh_edge.ensures
