@@ -1,6 +1,10 @@
 -- The common denominators of the levels of a manifold with a sharp boundary are all above 0.
-use Rattle.std.proofs.Common.{◌≡◌, ℕ, zero, suc, ◌+◌, ◌<◌, ◌≤◌, true, ◌&&◌, nat_eq, nat_le, nat_lt, max, List, [], ◌∷◌, length, map, get_or, arith, IsTrue}
-use Rattle.std.specs.List.{AllByRecursion, fold, list_all, range_with_len}
+use Rattle.std.proofs.Common.{◌≡◌, ℕ, zero, suc, ◌+◌, ◌<◌, ◌≤◌, true, ◌&&◌, nat_eq, nat_le, nat_lt, max, List, [], ◌∷◌, length, map, take, get_or, arith, IsTrue, ap, sym, ◌∙◌}
+use Rattle.std.specs.List.{AllByRecursion, fold, list_all, range_with_len, take-map}
+use Rattle.std.proofs.lemmas.List.{get_or-map, length-map}
+use Rattle.std.proofs.lemmas.List.Sums.{fold_more}
+use Rattle.primvar_refine.specs.declared.valued.Valued.{Valued}
+use Rattle.primvar_refine.specs.Rows.{greatest_of}
 use Rattle.std.proofs.lemmas.Bool.{and_parts, leb-true, ltb-true}
 use Rattle.subdiv_model.specs.Polygons.{polygon_at, is_distinct}
 use Rattle.subdiv_model.specs.Manifold.{IsManifold, is_simple}
@@ -95,3 +99,13 @@ fold-above (n ∷ numbers) start = omega (arith, fold-above numbers (max start n
 pub each-below : (numbers : List ℕ) (start : ℕ) → AllByRecursion (λ n. n ≤ fold max start numbers) numbers
 each-below [] start = tt
 each-below (n ∷ numbers) start = (omega (arith, fold-above numbers (max start n)), each-below numbers (max start n))
+
+-- the greatest of one value more
+pub greatest-more : {P : Type 0} (values : List (Valued P)) (i m : ℕ) (v : Valued P) → i < length values → v ≡ get_or values i v → m ≡ greatest_of (map (λ x. x.den) (take i values))
+    → max m v.den ≡ greatest_of (map (λ x. x.den) (take (i + 1) values))
+greatest-more {P} values i m v inside at is =
+    let den : Valued P → ℕ = λ x. x.den in
+    ap (λ n. max n v.den) (is ∙ ap greatest_of (sym (take-map den i values)))
+    ∙ ap (max (greatest_of (take i (map den values)))) (ap den at ∙ sym (get_or-map den values i v 1 inside))
+    ∙ sym (fold_more max 1 (map den values) i 1 (rw length-map inside))
+    ∙ ap greatest_of (take-map den (i + 1) values)

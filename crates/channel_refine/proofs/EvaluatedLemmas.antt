@@ -50,7 +50,7 @@ controls-within greatest controls are k d h =
     let one = of-controls (λ row. greatest_amount row.numbers ≤ row.den * greatest) controls are.within k d h in omega (arith, one)
 
 -- the sums of rows over their denominators
-abbrev evaluated_row : List (List ℤ) → TableRow → Row
+abbrev pub evaluated_row : List (List ℤ) → TableRow → Row
 evaluated_row controls row = record { numbers = sum_of_row (zeros (get_or controls 0 [])) controls row; den = row.den }
 
 abbrev pub evaluated_rows : List (List ℤ) → List TableRow → List Row

@@ -1,9 +1,12 @@
 -- A row's sum in the one place that is kept for it.
-use Rattle.std.proofs.Common.{◌≡◌, ℕ, zero, suc, ◌+◌, ◌*◌, ◌<◌, ◌≤◌, ℤ, List, [], ◌∷◌, length, map, get_or, Option, Some, None, Bor, arith, refl, ap, sym, ◌∙◌, subst}
+use Rattle.std.proofs.Common.{◌≡◌, ℕ, zero, suc, ◌+◌, ◌*◌, ◌<◌, ◌≤◌, ℤ, List, [], ◌∷◌, length, map, take, get_or, Option, Some, None, Bor, arith, refl, ap, sym, ◌∙◌, subst}
 use Rattle.std.specs.List.{All, slice_get}
 use Rattle.std.specs.Option.{option_copied}
 use Rattle.std.proofs.Math.ListN.{get_or-map as get_or-map_all}
-use Rattle.std.proofs.lemmas.List.{length-map}
+use Rattle.std.proofs.lemmas.List.{length-map, length-take-le}
+use Rattle.primvar_refine.specs.declared.valued.Valued.{Valued}
+use Rattle.primvar_refine.specs.Rows as rows
+use Rattle.primvar_refine.specs.View.{row_of, rows_of}
 use Rattle.subdiv_model.specs.Channel.{number_bound}
 use Rattle.ratio128.specs.Numbers.{zeros, greatest_amount}
 use Rattle.primvar_refine.proofs.AmountLemmas.{length-zeros}
@@ -71,3 +74,9 @@ module _ {X : Type 0} (numbers : X → List ℤ) (controls : List X) (table : Ta
     where
       none : (n : ℕ) → n + 0 ≡ n
       none n = omega arith
+
+-- there is a value for each row so far
+pub rows-counted : {P : Type 0} (numbers : P → List ℤ) (values : List (Valued P)) (value_of : Row → rows.Row) (all : List Row) (n : ℕ) → n ≤ length all
+    → rows_of numbers values ≡ map value_of (take n all) → length values ≡ n
+rows-counted numbers values value_of all n within is =
+    sym (length-map values (row_of numbers)) ∙ ap length is ∙ length-map (take n all) value_of ∙ length-take-le n all within

@@ -1,5 +1,5 @@
 -- One step of a channel: what it asks of a level and its child, and what it answers.
-use Rattle.std.proofs.Common.{◌≡◌, ℕ, ◌+◌, ◌-◌, ◌*◌, ◌<◌, ◌≤◌, ◌⊎◌, inl, inr, ℤ, Bool, true, false, nat_eq, nat_le, nat_lt, max, List, [], ◌∷◌, length, map, get_or, replicate, Result, Ok, Err, IsErr, IsErrAnd, MatchResult, arith, refl, ap, sym, ◌∙◌, subst, IsTrue}
+use Rattle.std.proofs.Common.{◌≡◌, ℕ, ◌+◌, ◌-◌, ◌*◌, ◌<◌, ◌≤◌, ◌⊎◌, inl, inr, ℤ, Bool, true, false, nat_eq, nat_le, nat_lt, max, List, [], ◌∷◌, length, map, get_or, replicate, Result, Ok, Err, IsErr, IsErrAnd, IsOkAnd, OnOk, MatchResult, arith, refl, ap, sym, ◌∙◌, subst, IsTrue}
 use Rattle.std.specs.List.{All, AllByRecursion, fold, list_any}
 use Rattle.std.proofs.Math.Nat.{mul-le-mul_left}
 use Rattle.std.proofs.lemmas.Nat.{div_below}
@@ -251,3 +251,18 @@ pub handed-on : {X : Type 0} (r : Result X ChannelFault) (fault : ChannelFault) 
     → MatchResult r P Q
 handed-on (Ok x) fault P Q err same q = absurd same
 handed-on (Err f) fault P Q err same q = subst Q (sym same) q
+
+-- what is made of what was found, or the fault as it is
+pub mapped : {X Y E : Type 0} (found : Result X E) (result : Result Y E) (Made : X → Y → Type 0) (P : X → Type 0) (Q : E → Type 0) (P' : Y → Type 0) (Q' : E → Type 0)
+    → MatchResult found (λ x. IsOkAnd result (Made x)) (λ fault. result ≡ Err fault) → MatchResult found P Q
+    → ((x : X) (y : Y) → Made x y → P x → P' y) → ((fault : E) → Q fault → Q' fault) → MatchResult result P' Q'
+mapped (Ok x) (Ok y) Made P Q P' Q' is p made told = made x y is p
+mapped (Ok x) (Err fault) Made P Q P' Q' is p made told = absurd is
+mapped (Err fault) result Made P Q P' Q' is q made told = subst (λ r. MatchResult r P' Q') (sym is) (told fault q)
+
+-- and what is known where it was found
+pub mapped-on : {X Y E : Type 0} (found : Result X E) (result : Result Y E) (Made : X → Y → Type 0) (P : Type 0)
+    → MatchResult found (λ x. IsOkAnd result (Made x)) (λ fault. result ≡ Err fault) → OnOk found P → OnOk result P
+mapped-on (Ok x) (Ok y) Made P is p = p
+mapped-on (Ok x) (Err fault) Made P is p = absurd is
+mapped-on (Err fault) result Made P is p = subst (λ r. OnOk r P) (sym is) tt

@@ -1,23 +1,42 @@
 //! A channel refined to a depth by its table.
 
-ghost use Rattle.std.specs.Prelude.{◌≡◌, ◌+◌, ◌≤◌, length, map, max, MatchResult, OnOk};
+ghost use Rattle.std.specs.Prelude.{◌≡◌, ◌+◌, ◌≤◌, length, map, max, IfOk, MatchResult, OnOk};
 ghost use Rattle.subdiv_model.specs.Channel.{Tables, number_bound};
 ghost use Rattle.subdiv_model.specs.Support.{entries_after};
 ghost use Rattle.mask_rules.specs.View.{scheme_of};
+ghost use Rattle.stencil_apply.specs.Table.{entries_of};
 ghost use Rattle.level_counts.specs.Series.{faces_to};
 ghost use Rattle.primvar_refine.specs.View.{rows_of};
 ghost use Rattle.channel_refine.specs.Refined.{IsBase, AreControls, IsRefinedTo, IsChannelFault, channel_of};
-ghost use Rattle.channel_refine.specs.Evaluated.{control_rows};
+ghost use Rattle.channel_refine.specs.Evaluated.{CanEvaluate, control_rows, evaluated};
 
-use crate::compose::compose_channel;
+use crate::compose::{ComposedChannel, compose_channel};
 use crate::evaluated::evaluate;
 use crate::fault::ChannelFault;
 use crate::refine::RefinedChannel;
 use level_topology::Level;
 use mask_rules::Scheme;
-use ratio128::{Primvar, Steps};
+use ratio128::{Memory, Primvar, Steps};
 use std::alloc::Global;
 use std::sync::ledger::Ledger;
+
+// A channel's level with the values of its table over the controls.
+fn with_values<P: Primvar<L>, L: Ledger>(
+    alloc: Global,
+    composed: ComposedChannel,
+    controls: &[P],
+    steps: &mut Steps<L>,
+) -> Result<RefinedChannel<P>, Memory>
+    requires { CanEvaluate composed.table (map P.numbers controls.now) }
+    ensures refined { IfOk result (λ refined. (refined.level ≡ composed.level) × (rows_of P.numbers refined.values.items ≡ evaluated composed.table (map P.numbers controls.now))) }
+    ensures taken { OnOk result (steps.new ≡ steps.old + entries_of composed.table.rows) }
+    ensures steps { steps.new ≤ steps.old + entries_of composed.table.rows }
+    ensures later { steps.old ≤ steps.new }
+{
+    let ComposedChannel { level, table } = composed;
+    let values = evaluate(alloc, &table, controls, steps);
+    RefinedChannel::of(level, values)
+}
 
 /// A channel refined to a depth of at most 10 by its table, which is composed level by level and then evaluated once: level 0 and
 /// the control values of its points, each of at most `greatest` in amount; `common` is the denominator that all of them stand
@@ -50,9 +69,6 @@ pub fn refine_by_table<P: Primvar<L>, L: Ledger>(
 {
     let composed = compose_channel(alloc, base, greatest, common, scheme, depth, steps)?;
     composed.table.facts();
-    let values = evaluate(alloc, &composed.table, controls, steps)?;
-    Ok(RefinedChannel {
-        level: composed.level,
-        values,
-    })
+    let refined = with_values(alloc, composed, controls, steps)?;
+    Ok(refined)
 }

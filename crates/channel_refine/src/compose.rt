@@ -1,9 +1,10 @@
 //! The table of a channel at a depth.
 
-ghost use Rattle.std.specs.Prelude.{◌≡◌, ◌+◌, ◌≤◌, max, MatchResult};
+ghost use Rattle.std.specs.Prelude.{◌≡◌, ◌+◌, ◌≤◌, ◌^◌, max, Err, IfOk, IsOkAnd, MatchResult};
 ghost use Rattle.subdiv_model.specs.Channel.{Tables, number_bound};
 ghost use Rattle.mask_rules.specs.View.{scheme_of};
 ghost use Rattle.level_counts.specs.Series.{faces_to};
+ghost use Rattle.stencil_factory.specs.Composed.{identity_table};
 ghost use Rattle.channel_refine.specs.Refined.{IsBase, IsChannelFault, channel_of};
 ghost use Rattle.channel_refine.specs.Composed.{IsComposedTo};
 
@@ -11,7 +12,7 @@ use crate::fault::ChannelFault;
 use crate::table_step::next;
 use level_topology::Level;
 use mask_rules::Scheme;
-use ratio128::Steps;
+use ratio128::{Memory, Steps};
 use std::alloc::Global;
 use std::sync::ledger::Ledger;
 use stencil_apply::StencilTable;
@@ -22,6 +23,26 @@ use stencil_factory::identity;
 pub struct ComposedChannel {
     pub level: Level,
     pub table: StencilTable,
+}
+
+impl ComposedChannel {
+    // A level and the table of its points, if it was found.
+    pub(crate) fn of<E>(level: Level, table: Result<StencilTable, E>) -> Result<ComposedChannel, E>
+        ensures { MatchResult table
+            (λ found. IsOkAnd result (λ channel. channel ≡ record { level = level; table = found }))
+            (λ fault. result ≡ Err fault) }
+    {
+        table.map(|table| ComposedChannel { level, table })
+    }
+}
+
+// Level 0 and the table of its points.
+fn start(alloc: Global, base: Level) -> Result<ComposedChannel, Memory>
+    requires { base.level.point_count ≤ 2 ^ 27 }
+    ensures { IfOk result (λ composed. (composed.level ≡ base) × (composed.table ≡ identity_table base.level.point_count)) }
+{
+    let table = identity(alloc, base.points());
+    ComposedChannel::of(base, table)
 }
 
 /// The table of a channel at a depth of at most 10, composed level by level, of which two are kept at a time: its level 0, and
@@ -50,8 +71,7 @@ pub fn compose_channel<L: Ledger>(
 {
     base.facts();
     let most = greatest.max(common);
-    let table = identity(alloc, base.points())?;
-    let mut composed = ComposedChannel { level: base, table };
+    let mut composed = start(alloc, base)?;
     for k in 0..depth {
         composed = next(alloc, composed, most, scheme, k + 1, steps)?;
     }

@@ -1,6 +1,6 @@
 //! A channel refined to a depth.
 
-ghost use Rattle.std.specs.Prelude.{◌≡◌, ◌+◌, ◌^◌, ◌≤◌, length, max, MatchResult, OnOk};
+ghost use Rattle.std.specs.Prelude.{◌≡◌, ◌+◌, ◌^◌, ◌≤◌, length, max, Err, IsOkAnd, MatchResult, OnOk};
 ghost use Rattle.subdiv_model.specs.Channel.{Values, number_bound};
 ghost use Rattle.mask_rules.specs.View.{scheme_of};
 ghost use Rattle.level_counts.specs.Series.{faces_to};
@@ -21,6 +21,20 @@ use std::sync::ledger::Ledger;
 pub struct RefinedChannel<P> {
     pub level: Level,
     pub values: Vec<Valued<P>>,
+}
+
+impl<P> RefinedChannel<P> {
+    // A level and the values of its points, if they were found.
+    pub(crate) fn of<E>(
+        level: Level,
+        values: Result<Vec<Valued<P>>, E>,
+    ) -> Result<RefinedChannel<P>, E>
+        ensures { MatchResult values
+            (λ found. IsOkAnd result (λ channel. channel ≡ record { level = level; values = found }))
+            (λ fault. result ≡ Err fault) }
+    {
+        values.map(|values| RefinedChannel { level, values })
+    }
 }
 
 /// A channel refined to a depth of at most 10, level by level, of which two are kept at a time: level 0 and the control values

@@ -47,15 +47,33 @@ fn with_values<P: Primvar<L>, L: Ledger>(
         scheme,
         number,
         steps,
-    )?;
-    Ok(RefinedChannel {
-        level: child.into_level(),
-        values,
-    })
+    );
+    RefinedChannel::of(child.into_level(), values)
 }
 
-// The next level of a channel, which has this number, and the values of its points. No value so far is above `most` in amount,
-// and the greatest new denominator times `most` is within the bound of numbers.
+// The next level of a channel, which has this number, and the values of its points.
+fn next_of<P: Primvar<L>, L: Ledger>(
+    alloc: Global,
+    channel: &RefinedChannel<P>,
+    most: u128,
+    scheme: Scheme,
+    number: u32,
+    steps: &mut Steps<L>,
+) -> Result<RefinedChannel<P>, ChannelFault>
+    requires ready { IsReady most channel.now.level (rows_of P.numbers channel.now.values.items) }
+    ensures refined { MatchResult result
+        (λ next. IsStep most (scheme_of scheme) channel.now.level (rows_of P.numbers channel.now.values.items) next.level (rows_of P.numbers next.values.items))
+        (λ fault. IsStepFault most channel.now.level.level (scheme_of scheme) (dens_of (rows_of P.numbers channel.now.values.items)) number fault) }
+    ensures taken { OnOk result (steps.old + mask_terms channel.now.level.level (scheme_of scheme) ≤ steps.new) }
+    ensures steps { steps.new ≤ steps.old + sum_by length channel.now.level.level.polygons + mask_terms channel.now.level.level (scheme_of scheme) }
+    ensures later { steps.old ≤ steps.new }
+{
+    let child = next_level(alloc, &channel.level, number, steps)?;
+    with_values(alloc, channel, child, most, scheme, number, steps)
+}
+
+// The same of a channel that is left behind. No value so far is above `most` in amount, and the greatest new denominator times
+// `most` is within the bound of numbers.
 pub(crate) fn next<P: Primvar<L>, L: Ledger>(
     alloc: Global,
     channel: RefinedChannel<P>,
@@ -72,6 +90,5 @@ pub(crate) fn next<P: Primvar<L>, L: Ledger>(
     ensures steps { steps.new ≤ steps.old + sum_by length channel.level.level.polygons + mask_terms channel.level.level (scheme_of scheme) }
     ensures later { steps.old ≤ steps.new }
 {
-    let child = next_level(alloc, &channel.level, number, steps)?;
-    with_values(alloc, &channel, child, most, scheme, number, steps)
+    next_of(alloc, &channel, most, scheme, number, steps)
 }

@@ -31,16 +31,39 @@ fn with_table(
         (λ next. IsStep most (scheme_of scheme) channel.now.level channel.now.table next.level next.table)
         (λ fault. IsStepFault most channel.now.level.level (scheme_of scheme) channel.now.table number fault) }
 {
-    let level = &channel.level;
-    let table = next_table(alloc, level, &child, &channel.table, most, scheme, number)?;
-    Ok(ComposedChannel {
-        level: child.into_level(),
-        table,
-    })
+    let table = next_table(
+        alloc,
+        &channel.level,
+        &child,
+        &channel.table,
+        most,
+        scheme,
+        number,
+    );
+    ComposedChannel::of(child.into_level(), table)
 }
 
-// The next level of a channel, which has this number, and the table of its points. The greatest new denominator times `most` is
-// within the bound of numbers.
+// The next level of a channel, which has this number, and the table of its points.
+fn next_of<L: Ledger>(
+    alloc: Global,
+    channel: &ComposedChannel,
+    most: u128,
+    scheme: Scheme,
+    number: u32,
+    steps: &mut Steps<L>,
+) -> Result<ComposedChannel, ChannelFault>
+    requires ready { IsReady channel.now.level channel.now.table }
+    ensures composed { MatchResult result
+        (λ next. IsStep most (scheme_of scheme) channel.now.level channel.now.table next.level next.table)
+        (λ fault. IsStepFault most channel.now.level.level (scheme_of scheme) channel.now.table number fault) }
+    ensures steps { steps.new ≤ steps.old + sum_by length channel.now.level.level.polygons }
+    ensures later { steps.old ≤ steps.new }
+{
+    let child = next_level(alloc, &channel.level, number, steps)?;
+    with_table(alloc, channel, child, most, scheme, number)
+}
+
+// The same of a channel that is left behind. The greatest new denominator times `most` is within the bound of numbers.
 pub(crate) fn next<L: Ledger>(
     alloc: Global,
     channel: ComposedChannel,
@@ -56,6 +79,5 @@ pub(crate) fn next<L: Ledger>(
     ensures steps { steps.new ≤ steps.old + sum_by length channel.level.level.polygons }
     ensures later { steps.old ≤ steps.new }
 {
-    let child = next_level(alloc, &channel.level, number, steps)?;
-    with_table(alloc, &channel, child, most, scheme, number)
+    next_of(alloc, &channel, most, scheme, number, steps)
 }

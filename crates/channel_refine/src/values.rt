@@ -29,7 +29,7 @@ fn greatest_den<P>(values: &[Valued<P>]) -> u128
 {
     let mut greatest = 1;
     for value in values {
-        greatest = value.den.max(greatest);
+        greatest = greatest.max(value.den);
     }
     greatest
 }

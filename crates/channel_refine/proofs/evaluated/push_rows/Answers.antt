@@ -1,0 +1,31 @@
+use Rattle.std.proofs.Common.{arith, map, ap, ◌∙◌}
+use Rattle.std.proofs.lemmas.List.{take_all}
+use Rattle.stencil_apply.specs.Table.{entries_of}
+use Rattle.primvar_refine.specs.View.{rows_of}
+use Rattle.channel_refine.proofs.EvaluatedLemmas.{evaluated_row, evaluated_rows}
+use Rattle.channel_refine.proofs.PlaceLemmas.{rows-counted}
+use Rattle.channel_refine.proofs.evaluated.push_rows.Goals as goal
+
+pub loop-row-init : goal.loop-row-init
+loop-row-init g c = record {
+  values = ap (rows_of g.P.Primvar.numbers) c.requires.empty;
+  room = c.requires.room;
+  place = c.requires.place;
+  taken = omega arith;
+}
+
+pub push_reserved-requires : goal.push_reserved-requires
+push_reserved-requires g c =
+    let counted = rows-counted g.P.Primvar.numbers c.loop-row.values.items (evaluated_row (map g.P.Primvar.numbers c.args.controls.now)) c.args.table.now.rows c.loop-row.row
+    (omega (arith, c.loop-row-test.true, c.rows-row-end.ensures)) c.loop-row.invariant.values in
+    omega (arith, counted, c.loop-row.invariant.room, c.loop-row-test.true, c.rows-row-end.ensures)
+
+pub returns-clause-values : goal.returns-clause-values
+returns-clause-values g c =
+    c.loop-row.invariant.values
+    ∙ ap (evaluated_rows (map g.P.Primvar.numbers c.args.controls.now)) (take_all c.loop-row.row c.args.table.now.rows (omega (arith, c.loop-row-test.false, c.rows-row-end.ensures)))
+
+pub returns-clause-steps : goal.returns-clause-steps
+returns-clause-steps g c =
+    let all = ap entries_of (take_all c.loop-row.row c.args.table.now.rows (omega (arith, c.loop-row-test.false, c.rows-row-end.ensures))) in
+    omega (arith, c.loop-row.invariant.taken, all)
