@@ -1,4 +1,4 @@
-use Rattle.std.proofs.Common.{◌≡◌, ◌+◌, ◌-◌, length, take, drop, arith, refl, sym, ◌∙◌, subst}
+use Rattle.std.proofs.Common.{◌≡◌, ◌+◌, ◌-◌, length, take, drop, arith, refl, sym, subst}
 use Rattle.std.specs.List.{All}
 use Rattle.stencil_apply.specs.Table.{entries_of}
 use Rattle.stencil_apply.proofs.apply.apply_range.Goals as goal
