@@ -106,9 +106,8 @@ values_before-too_fine vertex vertex_child ring next i values at passed =
     let P : List (ℕ × ℕ) → Type 0 = λ more. 2 ^ 60 < common_denominator (values_before vertex vertex_child ring next i ++ more) in
     too_fine-split ended_value (ended_value (sharpness_of vertex, sharpness_of vertex_child)) (pairs ring next) i (model.Smooth, model.Smooth) inside (values_ended-proper vertex vertex_child ring next) (subst P at.ends passed)
 
-pub vertex-too_fine : (vertex vertex_child : Sharpness) (ring next : List Sharpness) (values : List (ℕ × ℕ))
-    → values ≡ ended_value (sharpness_of vertex, sharpness_of vertex_child) → 2 ^ 60 < common_denominator values
+pub vertex-too_fine : (vertex vertex_child : Sharpness) (ring next : List Sharpness)
+    → 2 ^ 60 < common_denominator (ended_value (sharpness_of vertex, sharpness_of vertex_child))
     → 2 ^ 60 < common_denominator (values_ended vertex vertex_child ring next)
-vertex-too_fine vertex vertex_child ring next values e passed =
-    let P : List (ℕ × ℕ) → Type 0 = λ more. 2 ^ 60 < common_denominator more in
-    common_denominator-more (ended_value (sharpness_of vertex, sharpness_of vertex_child)) (flat_map ended_value (pairs ring next)) (2 ^ 60) (values_ended-proper vertex vertex_child ring next) (subst P e passed)
+vertex-too_fine vertex vertex_child ring next passed =
+    common_denominator-more (ended_value (sharpness_of vertex, sharpness_of vertex_child)) (flat_map ended_value (pairs ring next)) (2 ^ 60) (values_ended-proper vertex vertex_child ring next) passed

@@ -8,19 +8,32 @@ use Rattle.subdiv_model.specs.Fractions.{plus_fraction, minus_fraction, times_fr
 use Rattle.subdiv_model.specs.Multiples.{common_denominator}
 use Rattle.subdiv_model.specs.Sharpness.{sharpness_of_fraction, chaikin_value, chaikin_half, uniform_child, semi_of}
 use Rattle.sharpness_rules.specs.declared.total.Total.{Total}
+use Rattle.sharpness_rules.specs.declared.shares.Shares.{Shares}
 use Rattle.sharpness_rules.specs.Totals.{IsTotal, parts_over}
 use Rattle.sharpness_rules.proofs.MultipleLemmas.{AreProper}
 use Rattle.sharpness_rules.proofs.PartLemmas.{sum-same}
 use Rattle.sharpness_rules.proofs.SharpnessLemmas.{sharpness_of-same}
 
--- the half stays below 16 times its denominator
-pub half-bounded : (count others own num den whole : ℕ) → count ≡ others + 1 → 1 ≤ others → own ≤ 10 * den → num ≤ 10 * (count * den)
-    → whole ≡ 4 * others * den → whole ≤ 2 ^ 60 → 3 * others * own + (num - own) - whole < 2 ^ 64
-half-bounded count others own num den whole e some h k same short =
-    let mine : 3 * others * own ≤ 3 * others * (10 * den) = mul-le-mul_left (3 * others) h in
-    let one : 1 * den ≤ others * den = mul-le-mul_right den some in
-    let all : count * den ≡ (others + 1) * den = ap (λ n. n * den) e in
-    omega (arith, mine, one, all)
+-- the sum that a half is made of stays below 16 times the greatest denominator
+pub shares-bounded : (shares : Shares) (own : ℕ) → own ≤ 10 * shares.total.den
+    → 3 * (shares.total.count - 1) * own + (shares.total.num - own) < 2 ^ 64
+shares-bounded shares own h =
+    bounded shares.total.count (shares.total.count - 1) own shares.total.num shares.total.den shares.den (omega arith) (omega arith) h shares.total.bounded shares.product shares.short
+  where
+    bounded : (count others own num den whole : ℕ) → count ≡ others + 1 → 1 ≤ others → own ≤ 10 * den → num ≤ 10 * (count * den)
+        → whole ≡ 4 * others * den → whole ≤ 2 ^ 60 → 3 * others * own + (num - own) < 2 ^ 64
+    bounded count others own num den whole e some h k same short =
+        let mine : 3 * others * own ≤ 3 * others * (10 * den) = mul-le-mul_left (3 * others) h in
+        let one : 1 * den ≤ others * den = mul-le-mul_right den some in
+        let all : count * den ≡ (others + 1) * den = ap (λ n. n * den) e in
+        omega (arith, mine, one, all)
+
+-- what the halves are made over is above 0
+pub shares-positive : (shares : Shares) → 0 < shares.den
+shares-positive shares =
+    let some : 0 < 4 * (shares.total.count - 1) = omega (arith, shares.several) in
+    let above : 0 < 4 * (shares.total.count - 1) * shares.total.den = mul-pos some shares.total.positive in
+    omega (arith, above, shares.product)
 
 -- the fraction is n / m
 record IsOver (x : ℕ × ℕ) (n m : ℕ) : Type 0 where

@@ -1,8 +1,8 @@
-ghost use Rattle.std.specs.Prelude.{◌≡◌, ◌^◌, ◌<◌, IfOk, IsErr, IsTrue, ◌↔◌, length, map};
+ghost use Rattle.std.specs.Prelude.{◌≡◌, ◌-◌, ◌^◌, ◌<◌, IfOk, IsErr, IsTrue, ◌↔◌, length, map};
 ghost use Rattle.subdiv_model.specs.Sharpness.{uniform_child, chaikin_child, half_overflows};
 ghost use Rattle.sharpness_rules.specs.View.{sharpness_of};
 
-use crate::{Halves, SharpOverflow, Sharpness};
+use crate::{Halves, Semi, SharpOverflow, Sharpness};
 
 /// How the two halves of an edge get their sharpness.
 #[derive(Clone, Copy, Debug, PartialEq, Eq)]
@@ -13,16 +13,20 @@ pub enum Method {
     Chaikin,
 }
 
+// The numerator of a value that is less by 1, and not below 0.
+fn lessened(value: Semi) -> u64
+    ensures { result ≡ value.num - value.den }
+{
+    value.num().saturating_sub(value.den())
+}
+
 /// The sharpness of the next level by the uniform rule: less by 1, and not below 0. 0 and infinite
 /// stay. Source: DeRose, Kass and Truong 1998.
 pub fn uniform_child(s: Sharpness) -> Sharpness
     ensures { sharpness_of result ≡ uniform_child (sharpness_of s) }
 {
     match s {
-        Sharpness::Semi(value) => Sharpness::new(
-            value.num().saturating_sub(value.den()),
-            value.den(),
-        ),
+        Sharpness::Semi(value) => Sharpness::new(lessened(value), value.den()),
         stays => stays,
     }
 }

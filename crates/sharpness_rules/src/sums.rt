@@ -80,6 +80,13 @@ fn ended(now: Sharpness, next: Sharpness) -> Sharpness
     }
 }
 
+// The sum of the vertex's value, where it ends, and else of none.
+fn total_of_vertex(vertex: Sharpness, vertex_child: Sharpness) -> Result<Total, SharpOverflow>
+    ensures { Sums (ended_value (sharpness_of vertex, sharpness_of vertex_child)) result }
+{
+    plus(Total::none(), ended(vertex, vertex_child))
+}
+
 /// The sum of the values, at a vertex and in its ring, that are above 0 now and 0 in the next level.
 /// `SharpOverflow` comes exactly where their common denominator passes 2^60.
 pub fn total_of_ended(
@@ -93,7 +100,7 @@ pub fn total_of_ended(
     ensures { Sums (ended_values (sharpness_of vertex) (sharpness_of vertex_child)
         (map sharpness_of ring.now) (map sharpness_of ring_child.now)) result }
 {
-    let mut total = plus(Total::none(), ended(vertex, vertex_child))?;
+    let mut total = total_of_vertex(vertex, vertex_child)?;
     for (i, s) in ring.iter().enumerate() {
         total = plus(total, ended(*s, ring_child[i]))?;
     }
