@@ -1,11 +1,11 @@
 -- The points that are marked, of one corner and at the boundary of the cut mesh.
-use Rattle.std.proofs.Common.{◌≡◌, ◌≢◌, ℕ, ◌+◌, ◌<◌, ◌≤◌, Bool, true, false, not, ◌&&◌, ◌||◌, nat_eq, min, List, [], ◌∷◌, ◌++◌, length, map, get_or, slice_set, append-nil, arith, refl, ap, sym, ◌∙◌}
+use Rattle.std.proofs.Common.{◌≡◌, ◌≢◌, ℕ, ◌+◌, ◌<◌, ◌≤◌, Bool, true, false, not, ◌&&◌, ◌||◌, nat_eq, min, List, [], ◌∷◌, ◌++◌, length, map, get_or, take, slice_set, append-nil, arith, refl, ap, sym, ◌∙◌, if◌then◌else◌}
 use Rattle.std.specs.List.{filter, flat_map, list_all, list_any, count_by, sum_by, range_with_len, enumerate_from}
 use Rattle.std.proofs.lemmas.Bool.Decides.{nat_tests}
-use Rattle.std.proofs.lemmas.Bool.{and_parts, eqb-true}
+use Rattle.std.proofs.lemmas.Bool.{and_parts, eqb-true, eqb-false}
 use Rattle.std.proofs.lemmas.List.{get_or-set_same, get_or-set_other, length-set, ext_get_or, map-append}
 use Rattle.std.proofs.lemmas.List.FromFn.{map-range_with_len_more, length-map-range_with_len, get_or-map-range_with_len}
-use Rattle.std.proofs.lemmas.List.Sums.{sum_by-cons}
+use Rattle.std.proofs.lemmas.List.Sums.{sum_by-cons, count_by_more_yes, count_by_more_no}
 use Rattle.std.proofs.lemmas.Grind.{flat_map-append}
 use Rattle.std.proofs.lemmas.Simd.{map-map}
 use Rattle.number_laws.proofs.CountLemmas.{count-append, count-some, count-none}
@@ -25,6 +25,42 @@ pub marks-are : (test : ℕ → Bool) (count : ℕ) (marks : List Bool) → leng
 marks-are test count marks size each =
     ext_get_or false marks (map test (range_with_len 0 count)) (size ∙ sym (length-map-range_with_len test 0 count)) (λ p h.
     each p (omega (arith, h, size)) ∙ sym (get_or-map-range_with_len test 0 count p p false (omega (arith, h, size)) (omega arith)))
+
+-- a corner counted at its point
+pub counted-at : (counts : List ℕ) (point value p : ℕ) → value ≡ min (get_or counts point 0 + 1) 255 → p < length counts
+    → get_or (slice_set counts point value) p 0 ≡ (if nat_eq p point then min (get_or counts p 0 + 1) 255 else get_or counts p 0)
+counted-at counts point value p is inside = go (nat_eq p point) refl
+  where
+    go : (b : Bool) → nat_eq p point ≡ b → get_or (slice_set counts point value) p 0 ≡ (if nat_eq p point then min (get_or counts p 0 + 1) 255 else get_or counts p 0)
+    go true e =
+        let same : p ≡ point = eqb-true p point e in
+        rw e
+        (ap (λ (k : ℕ). get_or (slice_set counts point value) k 0) same ∙ get_or-set_same counts point value 0 (omega (arith, same, inside))
+        ∙ is ∙ ap (λ (k : ℕ). min (get_or counts k 0 + 1) 255) (sym same))
+    go false e = rw e (get_or-set_other counts point p value 0 (eqb-false p point e))
+
+-- none is counted at a point that is not there
+pub counted-nowhere : (counts : List ℕ) (point p : ℕ) → length counts ≤ point → p < length counts
+    → get_or counts p 0 ≡ (if nat_eq p point then min (get_or counts p 0 + 1) 255 else get_or counts p 0)
+counted-nowhere counts point p past inside = go (nat_eq p point) refl
+  where
+    go : (b : Bool) → nat_eq p point ≡ b → get_or counts p 0 ≡ (if nat_eq p point then min (get_or counts p 0 + 1) 255 else get_or counts p 0)
+    go true e = absurd (omega (arith, eqb-true p point e, past, inside))
+    go false e = rw e refl
+
+-- one corner more is counted
+pub counted-more : (numbers : List ℕ) (i p old new : ℕ) → i < length numbers → old ≡ min (count_by (nat_eq p) (take i numbers)) 255
+    → new ≡ (if nat_eq p (get_or numbers i 0) then min (old + 1) 255 else old) → new ≡ min (count_by (nat_eq p) (take (i + 1) numbers)) 255
+counted-more numbers i p old new inside before is = go (nat_eq p (get_or numbers i 0)) refl
+  where
+    chosen : Bool → ℕ
+    chosen b = if b then min (old + 1) 255 else old
+
+    go : (b : Bool) → nat_eq p (get_or numbers i 0) ≡ b → new ≡ min (count_by (nat_eq p) (take (i + 1) numbers)) 255
+    go true e =
+        let now : new ≡ min (old + 1) 255 = is ∙ ap chosen e in omega (arith, now, before, count_by_more_yes (nat_eq p) numbers i 0 inside e)
+    go false e =
+        let now : new ≡ old = is ∙ ap chosen e in omega (arith, now, before, count_by_more_no (nat_eq p) numbers i 0 inside e)
 
 -- one is told apart from more
 few-told : (n : ℕ) → nat_eq (min n 255) 1 ≡ nat_eq n 1

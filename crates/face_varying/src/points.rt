@@ -21,6 +21,22 @@ pub(crate) struct ChannelPoints {
     pub(crate) values: Vec<Point2>,
 }
 
+// Puts a point: its vertex, and the value of a texture number.
+fn push_point(
+    points: &mut ChannelPoints,
+    vertex: u32,
+    corner: u32,
+    texture: &[Point2],
+) -> Result<(), Memory>
+    requires { corner < length texture.now }
+    ensures vertices { OnOk result (points.new.vertices.items ≡ points.old.vertices.items ++ vertex ∷ []) }
+    ensures values { OnOk result (map texture_of points.new.values.items ≡ map texture_of points.old.values.items ++ value_at (map texture_of texture.now) corner ∷ []) }
+{
+    points.vertices.push(vertex)?;
+    points.values.push(texture[corner as usize])?;
+    Ok(())
+}
+
 // The point of a corner, where its number is as great as how many points came before: its vertex, and the value of its texture number.
 fn add_corner(
     points: &mut ChannelPoints,
@@ -34,8 +50,7 @@ fn add_corner(
     ensures values { OnOk result (map texture_of points.new.values.items ≡ (if nat_eq number (length points.old.vertices.items) then map texture_of points.old.values.items ++ value_at (map texture_of texture.now) corner ∷ [] else map texture_of points.old.values.items)) }
 {
     if number as usize == points.vertices.len() {
-        points.vertices.push(vertex)?;
-        points.values.push(texture[corner as usize])?;
+        push_point(points, vertex, corner, texture)?;
     }
     Ok(())
 }
