@@ -26,6 +26,15 @@ quad-sides points polygons (suc k) (q ∷ some) h =
     let four : length q ≡ 4 = eqb-true (length q) 4 (and_parts (nat_eq (length q) 4) (is_distinct q) shape.0).0 in
     omega (arith, quad-sides points polygons k some parts.1, length-append (sides_of q) (all_sides (take k some)), sides_of-length q, four)
 
+-- before the first child face there is no edge
+pub walked-none : (points : ℕ) (polygons : List Polygon) (n : Slotted) → n ≡ no_slots (slot_count polygons) → IsWalked points polygons 0 n
+walked-none points polygons n made = subst (λ x. IsWalked points polygons 0 x) (sym made) (record {
+  numbering = record { ends = refl; faces_listed = refl; sharp_listed = refl; faces = λ e inside. absurd (omega (arith, inside)) };
+  slots = λ e inside. absurd (omega (arith, inside));
+  listed = refl;
+  count_is = refl;
+})
+
 module _ (t : Topology) (is : IsTopology t) where
   abbrev points : ℕ
   points = t.level.point_count
@@ -60,12 +69,3 @@ module _ (t : Topology) (is : IsTopology t) where
       let next : k + 1 ≡ first_child polygons f + (c + 1) = omega arith in
       subst (λ i. IsWalked points polygons i m) next
       (walked-step points polygons (over-of t is) is.simple is.sides_once k n m (quad_sides (slots_at polygons f c) (quad_at points polygons f c)) inside walked (sides-slots points polygons f c h) (ap sides_of (sym quad)) same)
-
-  -- before the first child face there is no edge
-  pub walked-none : (count : ℕ) (n : Slotted) → count ≡ slot_count polygons → n ≡ no_slots count → IsWalked points polygons 0 n
-  walked-none count n number made = subst (λ x. IsWalked points polygons 0 x) (sym made) (record {
-    numbering = record { ends = refl; faces_listed = refl; sharp_listed = refl; faces = λ e inside. absurd (omega (arith, inside)) };
-    slots = λ e inside. absurd (omega (arith, inside));
-    listed = refl;
-    count_is = number;
-  })

@@ -21,8 +21,7 @@ use Rattle.level_topology.specs.Topology.{Topology, IsTopology, edge_at, end_of,
 use Rattle.level_topology.proofs.LawLemmas.{own-number, edges-each, edges-all}
 use Rattle.level_topology.proofs.FanOrderLemmas.{among-at}
 use Rattle.uniform_refiner.specs.Slots.{half_slot}
-use Rattle.uniform_refiner.specs.Put.{HasHalves}
-use Rattle.uniform_refiner.specs.HalfTable.{AreHalvesPut, IsHalfPut, ring_listed}
+use Rattle.uniform_refiner.specs.HalfTable.{AreAllHalves, AreHalvesPut, IsHalfPut, ring_listed}
 use Rattle.uniform_refiner.proofs.SlotLemmas.{end-low, few-edges, over-of}
 use Rattle.uniform_refiner.proofs.SlotTellLemmas.{end-below, end-tells}
 use Rattle.uniform_refiner.proofs.VertexRowLemmas.{end-has}
@@ -48,14 +47,14 @@ module _ (t : Topology) (is : IsTopology t) where
   }
 
   -- at the end each half of each edge is there
-  pub halves-all : (v : ℕ) (halves : List Sharpness) → v ≡ t.level.point_count → AreHalvesPut t v 0 halves → HasHalves t.level halves × ((u : ℕ) → u < t.level.point_count → chaikin_overflows_at t.level u ≡ false)
-  halves-all v halves last put = (
-    record {
+  pub halves-all : (v : ℕ) (halves : List Sharpness) → v ≡ t.level.point_count → AreHalvesPut t v 0 halves → AreAllHalves t halves
+  halves-all v halves last put = record {
+    put = record {
       count = put.count;
       each = λ e u there has. let low = end-below t.level.point_count polygons (over-of t is) is.simple e u there has in put.points u e (omega (arith, low, last)) there has;
-    },
-    λ u low. put.fine u (omega (arith, low, last)),
-  )
+    };
+    fine = λ u low. put.fine u (omega (arith, low, last));
+  }
 
   module _ (v : ℕ) (low : v < t.level.point_count) where
     abbrev items : List ℕ

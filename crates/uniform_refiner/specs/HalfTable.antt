@@ -7,6 +7,7 @@ use Rattle.subdiv_model.specs.Child.{half_sharpness}
 use Rattle.subdiv_model.specs.Channel.{chaikin_overflows_at}
 use Rattle.level_topology.specs.Topology.{Topology, edge_at}
 use Rattle.uniform_refiner.specs.Slots.{half_slot}
+use Rattle.uniform_refiner.specs.Put.{HasHalves}
 
 -- the sharpness of the edges at a point, in the order of its list
 abbrev pub ring_listed : Topology → ℕ → List Sharpness
@@ -22,3 +23,8 @@ pub record AreHalvesPut (t : Topology) (v i : ℕ) (halves : List Sharpness) : T
   pub fine : (u : ℕ) → u < v → chaikin_overflows_at t.level u ≡ false
   pub points : (u e : ℕ) → u < v → e < length (edges_of t.level.polygons) → has_end u (edge_at t.level.polygons e) ≡ true → IsHalfPut t.level halves u e
   pub places : (k : ℕ) → k < i → k < length (get_or t.edges_at v []) → IsHalfPut t.level halves v (get_or (get_or t.edges_at v []) k 0)
+
+-- the halves of all edges are put, and at no point they overflow
+pub record AreAllHalves (t : Topology) (halves : List Sharpness) : Type 0 where
+  pub put : HasHalves t.level halves
+  pub fine : (v : ℕ) → v < t.level.point_count → chaikin_overflows_at t.level v ≡ false

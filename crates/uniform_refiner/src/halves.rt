@@ -1,15 +1,14 @@
 //! The sharpness of the halves of all edges, by their slots. No half sees the order of the edges at its point.
 
-ghost use Rattle.std.specs.Prelude.{◌≡◌, ℕ, ◌+◌, ◌^◌, ◌<◌, ◌≤◌, false, List, length, map, get_or, IfOk, MatchResult, OnOk};
+ghost use Rattle.std.specs.Prelude.{◌≡◌, ℕ, ◌+◌, ◌*◌, ◌^◌, ◌<◌, ◌≤◌, false, List, length, map, get_or, IfOk, MatchResult, OnOk};
 ghost use Rattle.std.specs.List.{sum_by};
 ghost use Rattle.subdiv_model.specs.Sharpness.{half_child};
-ghost use Rattle.subdiv_model.specs.Channel.{chaikin_overflows_at};
+ghost use Rattle.subdiv_model.specs.Edges.{edges_of};
 ghost use Rattle.sharpness_rules.specs.declared.child.Method.{Method};
 ghost use Rattle.sharpness_rules.specs.declared.sharpness.Sharpness.{Sharpness};
 ghost use Rattle.sharpness_rules.specs.View.{sharpness_of, method_of};
 ghost use Rattle.sharpness_rules.specs.Halves.{AreHalves, halves_overflow};
-ghost use Rattle.uniform_refiner.specs.Put.{HasHalves};
-ghost use Rattle.uniform_refiner.specs.HalfTable.{AreHalvesPut, ring_listed};
+ghost use Rattle.uniform_refiner.specs.HalfTable.{AreHalvesPut, AreAllHalves, ring_listed};
 ghost use Rattle.uniform_refiner.specs.Refined.{IsRefusal};
 
 use crate::corners::half_slot_of;
@@ -70,24 +69,43 @@ fn put_halves(
     Ok(())
 }
 
-// A table for so many halves.
-fn table_for(alloc: Global, count: usize) -> Result<Vec<Sharpness>, Memory>
-    ensures { IfOk result (λ halves. length halves.items ≡ count) }
+// A table for the halves of all edges.
+pub(crate) fn table_for(alloc: Global, level: &Level) -> Result<Vec<Sharpness>, Memory>
+    ensures { IfOk result (λ halves. length halves.items ≡ 2 * length (edges_of level.now.level.polygons)) }
 {
+    level.facts();
+    let count = 2 * level.edges() as usize;
     Ok(vec![in alloc; Sharpness::Smooth; count]?)
 }
 
-// The halves of all edges, or the first point at which they overflow.
-pub(crate) fn half_table(alloc: Global, level: &Level) -> Result<Vec<Sharpness>, RefineFault>
+// Puts the halves of all edges, or finds the first point at which they overflow. The ring is room.
+fn put_by_points(
+    level: &Level,
+    ring: &mut Vec<Sharpness>,
+    halves: &mut [Sharpness],
+) -> Result<(), RefineFault>
     requires few { sum_by length level.now.level.polygons ≤ 2 ^ 22 }
-    ensures { MatchResult result (λ table. HasHalves level.now.level (map sharpness_of table.items) × ((v : ℕ) → v < level.now.level.point_count → chaikin_overflows_at level.now.level v ≡ false)) (IsRefusal level.now) }
+    requires size { length halves.old ≡ 2 * length (edges_of level.now.level.polygons) }
+    ensures { MatchResult result (λ _. AreAllHalves level.now (map sharpness_of halves.new)) (IsRefusal level.now) }
 {
     level.facts();
-    let mut table = table_for(alloc, 2 * level.edges() as usize)?;
-    let mut ring = Vec::new(alloc);
     for v in 0..level.points() {
-        put_ring(level, v, &mut ring)?;
-        put_halves(level, v, &ring, &mut table)?;
+        put_ring(level, v, ring)?;
+        put_halves(level, v, ring, halves)?;
     }
-    Ok(table)
+    Ok(())
+}
+
+// Puts the halves of all edges, or finds the first point at which they overflow.
+pub(crate) fn put_all_halves(
+    alloc: Global,
+    level: &Level,
+    halves: &mut [Sharpness],
+) -> Result<(), RefineFault>
+    requires few { sum_by length level.now.level.polygons ≤ 2 ^ 22 }
+    requires size { length halves.old ≡ 2 * length (edges_of level.now.level.polygons) }
+    ensures { MatchResult result (λ _. AreAllHalves level.now (map sharpness_of halves.new)) (IsRefusal level.now) }
+{
+    let mut ring = Vec::new(alloc);
+    put_by_points(level, &mut ring, halves)
 }

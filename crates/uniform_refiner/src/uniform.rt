@@ -1,22 +1,25 @@
 //! The next uniform level.
 
-ghost use Rattle.std.specs.Prelude.{◌≡◌, ℕ, ◌+◌, ◌^◌, ◌<◌, ◌≤◌, true, false, length, map, get_or, replicate, IfOk, MatchResult};
+ghost use Rattle.std.specs.Prelude.{◌≡◌, ℕ, ◌+◌, ◌*◌, ◌^◌, ◌<◌, ◌≤◌, true, false, length, map, get_or, replicate, IfOk, MatchResult};
 ghost use Rattle.std.specs.List.{sum_by};
 ghost use Rattle.sharpness_rules.specs.View.{sharpness_of};
+ghost use Rattle.subdiv_model.specs.Edges.{edges_of};
 ghost use Rattle.subdiv_model.specs.Child.{child_level, child_points};
-ghost use Rattle.level_topology.specs.ChildTables.{origin_of};
+ghost use Rattle.level_topology.specs.ChildTables.{origin_of, place_of};
+ghost use Rattle.uniform_refiner.specs.Slots.{slot_count};
+ghost use Rattle.uniform_refiner.specs.Slotted.{no_slots};
 ghost use Rattle.uniform_refiner.specs.Put.{AreChildEdges, HasHalves};
-ghost use Rattle.uniform_refiner.specs.Uniform.{IsUniform, origins_in};
+ghost use Rattle.uniform_refiner.specs.Uniform.{IsUniform, all_places, origins_in};
 ghost use Rattle.uniform_refiner.specs.Refined.{IsRefined, IsRefusal};
 
 use crate::count::next_faces;
 use crate::fault::RefineFault;
-use crate::halves::half_table;
+use crate::halves::{put_all_halves, table_for};
 use crate::level::{put_level, room_for};
 use crate::numbering::SlotEdges;
 use crate::origins::{put_origins, put_places};
-use crate::walk::number_edges;
-use level_topology::{Child, Level, Origin};
+use crate::walk::{no_edges, number_edges};
+use level_topology::{Child, FacePlace, Level, Origin};
 use ratio128::{Memory, Steps};
 use sharpness_rules::Sharpness;
 use std::alloc::Global;
@@ -25,29 +28,55 @@ use std::sync::ledger::Ledger;
 // The most faces of a next level.
 const MOST_FACES: u64 = 1 << 22;
 
-// The next uniform level with its tables, by the origin of each of its points.
-fn join_at(alloc: Global, level: &Level, next: Level, origins: &[Origin]) -> Result<Child, Memory>
+// The next uniform level with its tables.
+fn join(
+    alloc: Global,
+    level: &Level,
+    next: Level,
+    origins: &[Origin],
+    places: &[FacePlace],
+) -> Result<Child, Memory>
     requires level { next.level ≡ child_level level.now.level }
     requires complete { next.complete ≡ replicate (child_points level.now.level.point_count level.now.level.polygons) true }
     requires origins { map origin_of origins.now ≡ origins_in level.now }
+    requires places { map place_of places.now ≡ all_places 0 level.now.level.polygons }
     ensures { IfOk result (λ child. IsUniform level.now child) }
 {
     level.facts();
-    let places = put_places(alloc, level)?;
-    Child::join(alloc, level, next, origins, &places)
+    Child::join(alloc, level, next, origins, places)
 }
 
-// The next uniform level with its tables.
-fn join(alloc: Global, level: &Level, next: Level) -> Result<Child, Memory>
-    requires level { next.level ≡ child_level level.now.level }
-    requires complete { next.complete ≡ replicate (child_points level.now.level.point_count level.now.level.polygons) true }
-    ensures { IfOk result (λ child. IsUniform level.now child) }
+// The next uniform level and its tables, from its numbered edges and from where its points and its faces come. It is one
+// step for each of its faces.
+fn refine_placed<L: Ledger>(
+    alloc: Global,
+    level: &Level,
+    faces: u32,
+    edges: &SlotEdges,
+    halves: &[Sharpness],
+    origins: &[Origin],
+    places: &[FacePlace],
+    steps: &mut Steps<L>,
+) -> Result<Child, Memory>
+    requires whole { (v : ℕ) → v < level.now.level.point_count → get_or level.now.complete v false ≡ true }
+    requires faces { faces ≡ sum_by length level.now.level.polygons }
+    requires few { faces ≤ 2 ^ 22 }
+    requires short { level.now.level.point_count ≤ 2 ^ 29 }
+    requires edges { AreChildEdges level.now.level edges.now }
+    requires halves { HasHalves level.now.level (map sharpness_of halves.now) }
+    requires origins { map origin_of origins.now ≡ origins_in level.now }
+    requires places { map place_of places.now ≡ all_places 0 level.now.level.polygons }
+    ensures child { IfOk result (λ child. IsUniform level.now child) }
+    ensures steps { steps.new ≤ steps.old + sum_by length level.now.level.polygons }
+    ensures later { steps.old ≤ steps.new }
 {
-    let origins = put_origins(alloc, level)?;
-    join_at(alloc, level, next, &origins)
+    let room = room_for(alloc, level, faces, edges)?;
+    let next = put_level(alloc, level, edges, halves, room, steps)?;
+    join(alloc, level, next, origins, places)
 }
 
-// The next uniform level and its tables, from its numbered edges. It is one step for each of its faces.
+// The next uniform level and its tables, from its numbered edges. Where its points and its faces come from is told first, so that
+// no level is there yet if memory runs out at that.
 fn refine_numbered<L: Ledger>(
     alloc: Global,
     level: &Level,
@@ -66,17 +95,18 @@ fn refine_numbered<L: Ledger>(
     ensures steps { steps.new ≤ steps.old + sum_by length level.now.level.polygons }
     ensures later { steps.old ≤ steps.new }
 {
-    let room = room_for(alloc, level, faces, edges)?;
-    let next = put_level(alloc, level, edges, halves, room, steps)?;
-    join(alloc, level, next)
+    let origins = put_origins(alloc, level)?;
+    let places = put_places(alloc, level)?;
+    refine_placed(alloc, level, faces, edges, halves, &origins, &places, steps)
 }
 
-// The next uniform level and its tables, where `halves` has the sharpness of the half of each edge at each end. It is
-// one step for each of its faces.
+// The next uniform level and its tables, where `halves` has the sharpness of the half of each edge at each end, and no edge is
+// numbered yet.
 fn refine_with<L: Ledger>(
     alloc: Global,
     level: &Level,
     faces: u32,
+    edges: &mut SlotEdges,
     halves: &[Sharpness],
     steps: &mut Steps<L>,
 ) -> Result<Child, Memory>
@@ -84,14 +114,38 @@ fn refine_with<L: Ledger>(
     requires faces { faces ≡ sum_by length level.now.level.polygons }
     requires few { faces ≤ 2 ^ 22 }
     requires short { level.now.level.point_count ≤ 2 ^ 29 }
+    requires none { edges.old ≡ no_slots (slot_count level.now.level.polygons) }
     requires halves { HasHalves level.now.level (map sharpness_of halves.now) }
     ensures child { IfOk result (λ child. IsUniform level.now child) }
     ensures steps { steps.new ≤ steps.old + sum_by length level.now.level.polygons }
     ensures later { steps.old ≤ steps.new }
 {
-    level.facts();
-    let edges = number_edges(alloc, level)?;
-    refine_numbered(alloc, level, faces, &edges, halves, steps)
+    number_edges(level, edges)?;
+    refine_numbered(alloc, level, faces, edges, halves, steps)
+}
+
+// The next uniform level and its tables, where `halves` has room for the half of each edge at each end. It is one step for
+// each of its faces.
+fn refine_small<L: Ledger>(
+    alloc: Global,
+    level: &Level,
+    faces: u32,
+    halves: &mut [Sharpness],
+    steps: &mut Steps<L>,
+) -> Result<Child, RefineFault>
+    requires whole { (v : ℕ) → v < level.now.level.point_count → get_or level.now.complete v false ≡ true }
+    requires faces { faces ≡ sum_by length level.now.level.polygons }
+    requires few { faces ≤ 2 ^ 22 }
+    requires short { level.now.level.point_count ≤ 2 ^ 29 }
+    requires size { length halves.old ≡ 2 * length (edges_of level.now.level.polygons) }
+    ensures refined { MatchResult result (IsRefined level.now) (IsRefusal level.now) }
+    ensures steps { steps.new ≤ steps.old + sum_by length level.now.level.polygons }
+    ensures later { steps.old ≤ steps.new }
+{
+    put_all_halves(alloc, level, halves)?;
+    let mut edges = no_edges(alloc, level)?;
+    let child = refine_with(alloc, level, faces, &mut edges, halves, steps)?;
+    Ok(child)
 }
 
 /// The next uniform level of a level whose points are all complete, and its tables. It is one step for each of its faces. A
@@ -111,7 +165,6 @@ pub fn refine<L: Ledger>(
     if faces > MOST_FACES {
         return Err(RefineFault::TooLarge(faces));
     }
-    let halves = half_table(alloc, level)?;
-    let child = refine_with(alloc, level, faces as u32, &halves, steps)?;
-    Ok(child)
+    let mut halves = table_for(alloc, level)?;
+    refine_small(alloc, level, faces as u32, &mut halves, steps)
 }

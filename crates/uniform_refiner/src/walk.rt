@@ -1,9 +1,10 @@
 //! One walk over the child faces, which numbers their edges.
 
-ghost use Rattle.std.specs.Prelude.{◌+◌, ◌<◌, ◌≤◌, length, IfOk, OnOk};
-ghost use Rattle.std.specs.List.{sum_by};
-ghost use Rattle.uniform_refiner.specs.Slots.{first_child};
+ghost use Rattle.std.specs.Prelude.{◌≡◌, ◌+◌, ◌<◌, length, IfOk, OnOk};
+ghost use Rattle.uniform_refiner.specs.Slots.{first_child, slot_count};
+ghost use Rattle.uniform_refiner.specs.Slotted.{no_slots};
 ghost use Rattle.uniform_refiner.specs.Walked.{IsWalked};
+ghost use Rattle.uniform_refiner.specs.Put.{AreChildEdges};
 
 use crate::corners::{child_corners, child_slots, first_child_of};
 use crate::numbering::SlotEdges;
@@ -26,15 +27,22 @@ fn number_face(level: &Level, f: u32, edges: &mut SlotEdges) -> Result<(), Memor
     Ok(())
 }
 
-// The edges of the next level.
-pub(crate) fn number_edges(alloc: Global, level: &Level) -> Result<SlotEdges, Memory>
-    ensures { IfOk result (λ edges. IsWalked level.now.level.point_count level.now.level.polygons (sum_by length level.now.level.polygons) edges) }
+// No edges yet, with a table for the slots of all.
+pub(crate) fn no_edges(alloc: Global, level: &Level) -> Result<SlotEdges, Memory>
+    ensures { IfOk result (λ edges. edges ≡ no_slots (slot_count level.now.level.polygons)) }
 {
     level.facts();
     let count = 2 * level.edges() + first_child_of(level, level.faces());
-    let mut edges = SlotEdges::with_table(alloc, count)?;
+    SlotEdges::with_table(alloc, count)
+}
+
+// Puts the edges of the next level, where there are none yet.
+pub(crate) fn number_edges(level: &Level, edges: &mut SlotEdges) -> Result<(), Memory>
+    requires none { edges.old ≡ no_slots (slot_count level.now.level.polygons) }
+    ensures { OnOk result (AreChildEdges level.now.level edges.new) }
+{
     for f in 0..level.faces() {
-        number_face(level, f, &mut edges)?;
+        number_face(level, f, edges)?;
     }
-    Ok(edges)
+    Ok(())
 }

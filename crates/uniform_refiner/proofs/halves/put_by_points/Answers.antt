@@ -1,0 +1,12 @@
+use Rattle.std.proofs.Common.{◌≡◌, map, arith}
+use Rattle.sharpness_rules.specs.View.{sharpness_of}
+use Rattle.uniform_refiner.proofs.HalfTableLemmas.{halves-none, halves-all}
+use Rattle.uniform_refiner.proofs.halves.put_by_points.Goals as goal
+
+pub loop-v-init : goal.loop-v-init
+loop-v-init c = halves-none c.args.level.now c.facts.ensures c.args.halves.now c.requires.size
+
+pub returns : goal.returns
+returns c =
+    let last : c.loop-v.v ≡ c.args.level.now.level.point_count = omega (arith, c.loop-v-test.false, c.loop-v.auto.v-end, c.points-v-end.ensures) in
+    halves-all c.args.level.now c.facts.ensures c.loop-v.v (map sharpness_of c.loop-v.halves) last c.loop-v.invariant
