@@ -1,5 +1,5 @@
 -- The faults of a mesh by what is looked at, and that a mesh without the first two kinds is fit for the test of fans.
-use Rattle.std.proofs.Common.{◌≡◌, ℕ, true, ◌&&◌, List, [], ◌∷◌, ◌++◌, map, refl, ap, sym, ◌∙◌, Some, None, append_assoc}
+use Rattle.std.proofs.Common.{◌≡◌, ℕ, true, ◌&&◌, List, [], ◌∷◌, ◌++◌, map, refl, ap, sym, ◌∙◌, Option, Some, None, append_assoc}
 use Rattle.std.specs.List.{list_all, range_with_len}
 use Rattle.std.proofs.lemmas.Bool.{and_parts}
 use Rattle.subdiv_model.specs.Polygons.{Polygon, has_distinct_sides}
@@ -8,7 +8,7 @@ use Rattle.subdiv_model.specs.Edges.{all_sides}
 use Rattle.subdiv_model.specs.Manifold.{is_simple, has_one_fan, is_manifold}
 use Rattle.subdiv_model.specs.MeshFault.{MeshFault, FaceTooSmall, RepeatedVertex, NonManifoldEdge, WindingClash, SplitVertex, small_faces, repeating_faces, crowded_edges, clashing_edges, split_vertices, mesh_faults, first_mesh_fault}
 use Rattle.mesh_laws.proofs.FaultLemmas.{fault-decides}
-use Rattle.mesh_check.specs.Faults.{corner_faults, edge_faults}
+use Rattle.mesh_check.specs.Faults.{corner_faults, edge_faults, vertex_named}
 
 -- all faults are those of corners, those of edges and those of vertices
 pub mesh-joined : (points : ℕ) (polygons : List Polygon) → mesh_faults points polygons ≡ corner_faults polygons ++ (edge_faults polygons ++ map SplitVertex (split_vertices points polygons))
@@ -35,6 +35,18 @@ edge-before points polygons fault corners edges =
     sym (ap first_of (mesh-joined points polygons)
     ∙ first-behind (corner_faults polygons) (edge_faults polygons ++ map SplitVertex (split_vertices points polygons)) corners
     ∙ first-here (edge_faults polygons) (map SplitVertex (split_vertices points polygons)) fault edges)
+
+-- where no face has a fault of its corners or of its edges, the first vertex of more than one fan is the first fault of all
+pub vertex-last : (points : ℕ) (polygons : List Polygon) (found : Option ℕ) → first_of (corner_faults polygons) ≡ None → first_of (edge_faults polygons) ≡ None → found ≡ first_of (split_vertices points polygons) → vertex_named found ≡ first_mesh_fault points polygons
+vertex-last points polygons found corners edges is =
+    ap vertex_named is ∙ first-split (split_vertices points polygons)
+    ∙ sym (ap first_of (mesh-joined points polygons)
+    ∙ first-behind (corner_faults polygons) (edge_faults polygons ++ map SplitVertex (split_vertices points polygons)) corners
+    ∙ first-behind (edge_faults polygons) (map SplitVertex (split_vertices points polygons)) edges)
+  where
+    first-split : (vs : List ℕ) → vertex_named (first_of vs) ≡ first_of (map SplitVertex vs)
+    first-split [] = refl
+    first-split (v ∷ vs) = refl
 
 -- faces without faults of corners and of edges are simple, and no side occurs twice
 pub simple-once : (polygons : List Polygon) → first_of (corner_faults polygons) ≡ None → first_of (edge_faults polygons) ≡ None → (list_all is_simple polygons ≡ true) × (has_distinct_sides (all_sides polygons) ≡ true)

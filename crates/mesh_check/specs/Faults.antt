@@ -1,7 +1,7 @@
 -- The faults of a mesh by what is looked at: the corners of faces, their sides, and the faces at vertices.
 use Rattle.std.specs.Prelude.{ℕ, List, ◌++◌, map, Option, Some, None}
 use Rattle.subdiv_model.specs.Polygons.{Polygon}
-use Rattle.subdiv_model.specs.MeshFault.{MeshFault, FaceTooSmall, RepeatedVertex, NonManifoldEdge, WindingClash, small_faces, repeating_faces, crowded_edges, clashing_edges}
+use Rattle.subdiv_model.specs.MeshFault.{MeshFault, FaceTooSmall, RepeatedVertex, NonManifoldEdge, WindingClash, SplitVertex, small_faces, repeating_faces, crowded_edges, clashing_edges}
 
 abbrev pub corner_faults : List Polygon → List MeshFault
 corner_faults polygons = map FaceTooSmall (small_faces polygons) ++ map RepeatedVertex (repeating_faces polygons)
@@ -14,3 +14,8 @@ abbrev pub edge_named : Option (ℕ × ℕ) → Option (ℕ × ℕ) → Option M
 edge_named (Some edge) clashing = Some (NonManifoldEdge edge.0 edge.1)
 edge_named None (Some edge) = Some (WindingClash edge.0 edge.1)
 edge_named None None = None
+
+-- the fault of the first vertex of more than one fan
+abbrev pub vertex_named : Option ℕ → Option MeshFault
+vertex_named (Some v) = Some (SplitVertex v)
+vertex_named None = None

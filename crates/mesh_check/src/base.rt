@@ -194,31 +194,6 @@ fn add_all<L: Ledger>(
     Ok(())
 }
 
-// Level 0 of a mesh without fault, from its points alone.
-fn finished<L: Ledger>(
-    alloc: Global,
-    raw: &RawMesh,
-    edges: &[u64],
-    boundary: &[(u32, u32)],
-    holes: &[bool],
-    mut builder: LevelBuilder,
-    steps: &mut Steps<L>,
-) -> Result<Level, Memory>
-    requires fit { IsFit raw.now }
-    requires edges { AreEdges raw.now.faces edges.now }
-    requires boundary { boundary.now ≡ filter (is_boundary raw.now.faces) (all_sides raw.now.faces) }
-    requires holes { holes.now ≡ map (is_base_hole raw.now) (enumerate_from 0 raw.now.faces) }
-    requires alone { builder ≡ only_points (length raw.now.points) raw.now.method }
-    ensures level { IfOk result (λ level. level.level ≡ base_level raw.now) }
-    ensures complete { IfOk result (λ level. level.complete ≡ replicate (length raw.now.points) true) }
-    ensures steps { steps.new ≤ steps.old + length raw.now.faces }
-    ensures later { steps.old ≤ steps.new }
-{
-    add_all(alloc, raw, edges, boundary, holes, &mut builder, steps)?;
-    let level = builder.finish()?;
-    Ok(level)
-}
-
 // Level 0 of a mesh without fault, by the numbers of its edges, its boundary edges and the marks of its holes. Each face
 // takes a step.
 pub(crate) fn base_level<L: Ledger>(
@@ -238,6 +213,7 @@ pub(crate) fn base_level<L: Ledger>(
     ensures steps { steps.new ≤ steps.old + length raw.now.faces }
     ensures later { steps.old ≤ steps.new }
 {
-    let builder = points_alone(alloc, raw, boundary.len())?;
-    finished(alloc, raw, edges, boundary, holes, builder, steps)
+    let mut builder = points_alone(alloc, raw, boundary.len())?;
+    add_all(alloc, raw, edges, boundary, holes, &mut builder, steps)?;
+    builder.finish()
 }

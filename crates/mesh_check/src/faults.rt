@@ -5,7 +5,7 @@ ghost use Rattle.obj_tags.specs.Laws.{IsWithin};
 ghost use Rattle.subdiv_model.specs.Lists.{first_of};
 ghost use Rattle.subdiv_model.specs.MeshFault.{first_mesh_fault};
 ghost use Rattle.mesh_check.specs.View.{named};
-ghost use Rattle.mesh_check.specs.Faults.{corner_faults, edge_faults, edge_named};
+ghost use Rattle.mesh_check.specs.Faults.{corner_faults, edge_faults, edge_named, vertex_named};
 ghost use Rattle.mesh_check.specs.Turns.{AreSortedTurns};
 
 use crate::corners::{repeating_face, small_face};
@@ -44,6 +44,16 @@ fn edge_named(crowded: Option<(u32, u32)>, clashing: Option<(u32, u32)>) -> Opti
     }
 }
 
+// The fault of a vertex whose faces are more than one fan.
+fn vertex_named(found: Option<u32>) -> Option<MeshFault>
+    ensures { named result ≡ vertex_named found }
+{
+    match found {
+        Some(v) => Some(MeshFault::SplitVertex(v)),
+        None => None,
+    }
+}
+
 // The first fault of the edges of faces. Where no side comes to two corners, no edge has one.
 fn edge_fault(alloc: Global, raw: &RawMesh, turns: &[Turn]) -> Result<Option<MeshFault>, Memory>
     requires { AreSortedTurns raw.now.faces turns.now }
@@ -71,8 +81,5 @@ pub(crate) fn mesh_fault(alloc: Global, raw: &RawMesh) -> Result<Option<MeshFaul
         return Ok(Some(fault));
     }
     let found = split_vertex(alloc, raw, &turns)?;
-    match found {
-        Some(v) => Ok(Some(MeshFault::SplitVertex(v))),
-        None => Ok(None),
-    }
+    Ok(vertex_named(found))
 }
