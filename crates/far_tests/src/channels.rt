@@ -153,9 +153,14 @@ fn expect_refined(
     Ok(())
 }
 
+// The triangles refined once.
+fn refine_once(rt: &impl Abort, alloc: Global) -> Result<RefinedChannel<Point3>, Fail> {
+    let refined = refine_triangles(rt, alloc, (12, 1, Scheme::CatmullClark, 1))??;
+    Ok(refined)
+}
+
 fn expect_triangles_refined(rt: &(impl Abort + AllocGlobal)) -> Result<(), Fail> {
-    let asked = (12, 1, Scheme::CatmullClark, 1);
-    let refined = refine_triangles(rt, rt.alloc(), asked)??;
+    let refined = refine_once(rt, rt.alloc())?;
     expect_refined(rt, &refined)
 }
 

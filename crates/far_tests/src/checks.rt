@@ -4,13 +4,12 @@ ghost use Rattle.std.specs.Prelude.{◌≡◌, ◌<◌};
 ghost use Rattle.obj_tags.specs.Laws.{IsWithin};
 
 use crate::expect::expect_same;
-use crate::tables::put_text;
 use level_counts::LevelCounts;
 use level_topology::Counted;
 use mesh_check::{CheckFault, MeshFault, check_mesh};
 use obj_tags::{RawMesh, ReadFault, read_obj};
 use ratio128::Steps;
-use std::alloc::Global;
+use std::alloc::{AllocError, Global};
 use std::marker::Brand;
 use std::process::Abort;
 use std::sync::ledger::{Blank, Ledger};
@@ -122,6 +121,10 @@ fn counts_level_0_or_names_the_first_fault(rt: HostRuntime) -> Result<(), Fail> 
         expect_same(&rt, &counts_of_text(&rt, text.as_bytes())?, want, row);
     }
     Ok(())
+}
+
+pub fn put_text(text: &mut String, piece: String) -> Result<(), AllocError> {
+    text.push_str(piece.as_str())
 }
 
 // So many lines of points.

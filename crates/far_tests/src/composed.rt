@@ -10,7 +10,7 @@ ghost use Rattle.stencil_apply.specs.Table.{entries_of, greatest_of};
 use crate::channels::assert_few;
 use crate::expect::expect_same;
 use crate::inputs::CUBE;
-use crate::tables::{NUMBER_BOUND, assert_fits, counts_of, put_row};
+use crate::tables::{NUMBER_BOUND, Row, assert_fits, counts_of, cube, expect_row};
 use channel_refine::{ChannelFault, ComposedChannel, compose_channel};
 use mask_rules::Scheme;
 use mesh_check::check_mesh;
@@ -158,31 +158,14 @@ fn sums_of(
     sums_by::<Brand>(rt, alloc, table, controls, between, Blank::new(1))
 }
 
-// A row of the table of the cube, and its line: those of a vertex, of a face and of an edge.
-const ROWS: &[(u32, &str)] = &[
-    (0, "36 0 15 1 6 2 6 3 1 4 1 6 6 7 1\n"),
-    (8, "4 0 1 1 1 2 1 3 1\n"),
-    (14, "16 0 6 1 6 2 1 3 1 6 1 7 1\n"),
-];
-
-fn rows() -> &'static [(u32, &'static str)] {
-    ROWS
+// A row of the table of the cube, where the table has it.
+fn expect_row_of(rt: &impl Abort, table: &StencilTable, case: &(u32, Row)) {
+    let (row, want) = case;
+    assert!(rt; *row < table.rows());
+    expect_row(rt, table, *row, want);
 }
 
-fn expect_row(
-    rt: &(impl Abort + AllocGlobal),
-    table: &StencilTable,
-    case: &(u32, &'static str),
-) -> Result<(), Fail> {
-    let &(row, want) = case;
-    assert!(rt; row < table.rows());
-    let mut given = String::new(rt.alloc());
-    put_row(rt.alloc(), &mut given, table, row)?;
-    expect_same(rt, &given.as_str(), &want, case);
-    Ok(())
-}
-
-fn expect_table(rt: &(impl Abort + AllocGlobal), composed: &ComposedChannel) -> Result<(), Fail> {
+fn expect_table(rt: &impl Abort, composed: &ComposedChannel) {
     expect_same(rt, &composed.level.points(), &26, &"points");
     expect_same(
         rt,
@@ -190,10 +173,9 @@ fn expect_table(rt: &(impl Abort + AllocGlobal), composed: &ComposedChannel) -> 
         &(8, 26, 152, 36),
         &"counts",
     );
-    for case in rows() {
-        expect_row(rt, &composed.table, case)?;
+    for case in cube() {
+        expect_row_of(rt, &composed.table, case);
     }
-    Ok(())
 }
 
 // The cube to a depth.
@@ -208,7 +190,8 @@ fn compose_cube(
 
 fn expect_cube_composed(rt: &(impl Abort + AllocGlobal)) -> Result<(), Fail> {
     let composed = compose_cube(rt, rt.alloc(), (1, 1, 1))??;
-    expect_table(rt, &composed)
+    expect_table(rt, &composed);
+    Ok(())
 }
 
 #[test]

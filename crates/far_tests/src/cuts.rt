@@ -1,10 +1,11 @@
 // Cut meshes of texture channels.
 
-ghost use Rattle.std.specs.Prelude.{◌≡◌, ◌<◌};
+ghost use Rattle.std.specs.Prelude.{◌≡◌, ◌<◌, true};
 ghost use Rattle.obj_tags.specs.Laws.{IsWithin};
+ghost use Rattle.mesh_check.specs.Checked.{IsAccepted};
 
 use crate::expect::expect_same;
-use crate::textures::{ONE_CHART, TWO_CHARTS};
+use crate::inputs::{ONE_CHART, TWO_CHARTS};
 use face_varying::{Channel, SeamMode, cut};
 use level_topology::Level;
 use mesh_check::{CheckFault, check_mesh};
@@ -16,6 +17,22 @@ use std::marker::Brand;
 use std::process::Abort;
 use std::sync::ledger::{Blank, Ledger};
 use std::test::Fail;
+
+// The channel of a mesh from its level 0.
+fn cut_level<L: Ledger>(
+    alloc: Global,
+    mesh: &RawMesh,
+    level: &Level,
+    mode: SeamMode,
+    steps: &mut Steps<L>,
+) -> Result<Channel, CheckFault>
+    requires within { IsWithin mesh.now }
+    requires textured { mesh.now.has_texture ≡ true }
+    requires accepted { IsAccepted mesh.now level.now }
+{
+    let channel = cut(alloc, mesh, level, mode, steps)?;
+    Ok(channel)
+}
 
 fn cut_by<L: Ledger>(
     rt: &impl Abort,
@@ -29,11 +46,10 @@ fn cut_by<L: Ledger>(
     requires some { 0 < blank.parts }
     requires within { IsWithin mesh.now }
 {
+    assert!(rt; mesh.has_texture());
     let mut steps = Steps::start(blank.open::<L>());
     let level = check_mesh(alloc, mesh, &mut steps)?;
-    assert!(rt; mesh.has_texture());
-    let channel = cut(alloc, mesh, &level, mode, &mut steps)?;
-    Ok(channel)
+    cut_level(alloc, mesh, &level, mode, &mut steps)
 }
 
 fn cut_mesh(
@@ -107,8 +123,9 @@ fn cuts() -> &'static [Cut] {
 // A cut mesh has what the row tells.
 fn expect_parts(rt: &impl Abort, level: &Level, values: &[Point2], row: &Cut) {
     let &(_, _, points, boundary, sharp, last) = row;
-    let told = (level.points(), boundary_edges(level), sharp_points(level));
-    expect_same(rt, &told, &(points, boundary, sharp), row);
+    expect_same(rt, &level.points(), &points, row);
+    expect_same(rt, &boundary_edges(level), &boundary, row);
+    expect_same(rt, &sharp_points(level), &sharp, row);
     expect_same(rt, &values.last(), &Some(&last), row);
 }
 

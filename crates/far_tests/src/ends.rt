@@ -84,9 +84,10 @@ fn expect_without_end(
     given: &Result<(), FarFault>,
     written: &[u8],
 ) -> Result<(), Fail> {
-    let mut bytes = input.to_vec(rt.alloc())?;
-    expect_same(rt, &bytes.pop(), &Some(b'\n'), &input);
-    let (again, sink) = run_within(rt.alloc(), WORDS, bytes, 4096)?;
+    let [before @ .., b'\n'] = input else {
+        return Err(Fail::new("a line without an end"));
+    };
+    let (again, sink) = run_within(rt.alloc(), WORDS, before.to_vec(rt.alloc())?, 4096)?;
     expect_answer(rt, &again, sink.bytes(), (given, written), &input);
     Ok(())
 }

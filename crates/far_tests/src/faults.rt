@@ -10,7 +10,7 @@ use obj_tags::ObjCause;
 use std::process::Abort;
 use std::test::Fail;
 
-// A fault, its status and its line.
+// A fault, its status and its line: one of each status, and those that no small input has. The others are in `cases/`.
 type Fault = (FarFault, u8, &'static str);
 
 const FAULTS: &[Fault] = &[
@@ -27,78 +27,6 @@ const FAULTS: &[Fault] = &[
     ),
     (
         FarFault::Obj {
-            line: 10,
-            cause: ObjCause::BadNumeral,
-        },
-        5,
-        "far: line 10: bad numeral\n",
-    ),
-    (
-        FarFault::Obj {
-            line: 1,
-            cause: ObjCause::NumberRange,
-        },
-        5,
-        "far: line 1: number out of range\n",
-    ),
-    (
-        FarFault::Obj {
-            line: 1,
-            cause: ObjCause::UnknownKeyword,
-        },
-        5,
-        "far: line 1: unknown keyword\n",
-    ),
-    (
-        FarFault::Obj {
-            line: 1,
-            cause: ObjCause::Continuation,
-        },
-        5,
-        "far: line 1: line continuation\n",
-    ),
-    (
-        FarFault::Obj {
-            line: 1,
-            cause: ObjCause::ShortLine,
-        },
-        5,
-        "far: line 1: line too short\n",
-    ),
-    (
-        FarFault::Obj {
-            line: 1,
-            cause: ObjCause::BadCorner,
-        },
-        5,
-        "far: line 1: bad face corner\n",
-    ),
-    (
-        FarFault::Obj {
-            line: 1,
-            cause: ObjCause::IndexRange,
-        },
-        5,
-        "far: line 1: index out of range\n",
-    ),
-    (
-        FarFault::Obj {
-            line: 1,
-            cause: ObjCause::BadTag,
-        },
-        5,
-        "far: line 1: bad tag\n",
-    ),
-    (
-        FarFault::Obj {
-            line: 1,
-            cause: ObjCause::TagIndex,
-        },
-        5,
-        "far: line 1: tag index out of range\n",
-    ),
-    (
-        FarFault::Obj {
             line: u32::MAX,
             cause: ObjCause::SharpnessRange,
         },
@@ -106,29 +34,9 @@ const FAULTS: &[Fault] = &[
         "far: line 4294967295: sharpness out of range\n",
     ),
     (
-        FarFault::Mesh(MeshFault::FaceTooSmall(7)),
-        6,
-        "far: face 7 has fewer than three corners\n",
-    ),
-    (
-        FarFault::Mesh(MeshFault::RepeatedVertex(0)),
-        6,
-        "far: face 0 repeats a vertex\n",
-    ),
-    (
         FarFault::Mesh(MeshFault::NonManifoldEdge(12, 4)),
         6,
         "far: edge 12 4 has more than two faces\n",
-    ),
-    (
-        FarFault::Mesh(MeshFault::WindingClash(4, 12)),
-        6,
-        "far: edge 4 12 is used twice in one direction\n",
-    ),
-    (
-        FarFault::Mesh(MeshFault::SplitVertex(3)),
-        6,
-        "far: vertex 3 joins more than one fan\n",
     ),
     (
         FarFault::TooLarge(Counted::Points(1048577)),
@@ -157,14 +65,6 @@ const FAULTS: &[Fault] = &[
         "far: vertex 1 has 65537 edges\n",
     ),
     (
-        FarFault::TooLarge(Counted::LevelFaces {
-            level: 10,
-            count: 6291456,
-        }),
-        7,
-        "far: level 10 has 6291456 faces\n",
-    ),
-    (
         FarFault::TooLarge(Counted::Entries { level: 2 }),
         7,
         "far: level 2 has too many entries\n",
@@ -176,35 +76,8 @@ const FAULTS: &[Fault] = &[
     ),
     (
         FarFault::Overflow {
-            track: Track::Positions,
-            level: 3,
-            kind: OverflowKind::Chaikin,
-        },
-        8,
-        "far: positions level 3: chaikin overflow\n",
-    ),
-    (
-        FarFault::Overflow {
             track: Track::Texture,
-            level: 1,
-            kind: OverflowKind::Transition,
-        },
-        8,
-        "far: texture level 1: transition overflow\n",
-    ),
-    (
-        FarFault::Overflow {
-            track: Track::Positions,
-            level: 10,
-            kind: OverflowKind::Denominator,
-        },
-        8,
-        "far: positions level 10: denominator overflow\n",
-    ),
-    (
-        FarFault::Overflow {
-            track: Track::Texture,
-            level: 4294967295,
+            level: u32::MAX,
             kind: OverflowKind::Value,
         },
         8,

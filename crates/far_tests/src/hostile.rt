@@ -4,8 +4,7 @@ ghost use Rattle.std.specs.Prelude.{◌≡◌, ◌<◌};
 
 use crate::engine::{run_alone, words_of};
 use crate::expect::{expect_answer, expect_same};
-use crate::inputs::{CUBE, CUBE_REFINED, GEN, REFINE, SQUARE};
-use crate::textures::TWO_CHARTS;
+use crate::inputs::{CUBE, CUBE_REFINED, GEN, REFINE, SQUARE, TWO_CHARTS};
 use far_engine::{FarFault, run};
 use far_io::{MemSink, MemSource};
 use ratio128::{Memory, Steps};
@@ -200,42 +199,34 @@ fn writes() -> &'static [Writes] {
     WRITES
 }
 
-// Where this call of the sink fails, it holds the pieces before it.
-fn expect_cut_write(
+// A run whose sink fails at this call answers so, and its sink then holds this.
+fn expect_write(
     rt: &(impl Abort + AllocGlobal),
     row: &Writes,
     call: u32,
-    whole: &[u8],
+    answer: &Result<(), FarFault>,
+    held: &[u8],
 ) -> Result<(), Fail> {
     let &(text, mesh, size, _) = row;
     assert!(rt; 0 < size);
-    let held = whole.len().min(call.saturating_mul(size) as usize);
-    let held = whole.get(..held).ok_or("the pieces")?;
     let (given, sink) = run_written_in_pieces(rt.alloc(), text, mesh, call, size)?;
-    let want = (&Err(FarFault::Write), held);
-    expect_answer(rt, &given, sink.bytes(), want, &(row, call));
+    expect_answer(rt, &given, sink.bytes(), (answer, held), &(row, call));
     Ok(())
 }
 
-// Where no call fails, the sink holds all.
-fn expect_written(rt: &(impl Abort + AllocGlobal), row: &Writes, whole: &[u8]) -> Result<(), Fail> {
-    let &(text, mesh, size, calls) = row;
-    assert!(rt; 0 < size);
-    let (given, sink) = run_written_in_pieces(rt.alloc(), text, mesh, calls, size)?;
-    expect_answer(rt, &given, sink.bytes(), (&Ok(()), whole), row);
-    Ok(())
-}
-
+// Where a call of the sink fails, it holds the pieces before it, and where none does, it holds all.
 fn expect_each_write(
     rt: &(impl Abort + AllocGlobal),
     row: &Writes,
     whole: &[u8],
 ) -> Result<(), Fail> {
-    let &(_, _, _, calls) = row;
+    let &(_, _, size, calls) = row;
     for call in 0..calls {
-        expect_cut_write(rt, row, call, whole)?;
+        let held = whole.len().min(call.saturating_mul(size) as usize);
+        let held = whole.get(..held).ok_or("the pieces")?;
+        expect_write(rt, row, call, &Err(FarFault::Write), held)?;
     }
-    expect_written(rt, row, whole)
+    expect_write(rt, row, calls, &Ok(()), whole)
 }
 
 fn expect_writes(rt: &(impl Abort + AllocGlobal), row: &Writes) -> Result<(), Fail> {

@@ -95,23 +95,19 @@ fn serves_readers_of_std(rt: HostRuntime) -> Result<(), Fail> {
     expect_read(&rt)
 }
 
-#[test]
-fn serves_writers_of_std(rt: HostRuntime) {
+fn expect_written(rt: &(impl Abort + AllocGlobal)) {
     let mut written = Vec::new(rt.alloc());
     let mut sink = StdSink::new(&mut written);
-    expect_same(
-        &rt,
-        &write_all_of(&mut sink, b"abcd"),
-        &Ok(()),
-        &"four bytes",
-    );
-    expect_same(&rt, &sink.flush(), &Ok(()), &"the flush");
-    expect_same(
-        &rt,
-        &written.as_slice(),
-        &b"abcd".as_slice(),
-        &"what is held",
-    );
+    let given = write_all_of(&mut sink, b"abcd");
+    expect_same(rt, &given, &Ok(()), &"four bytes");
+    expect_same(rt, &sink.flush(), &Ok(()), &"the flush");
+    let held = b"abcd".as_slice();
+    expect_same(rt, &written.as_slice(), &held, &"what is held");
+}
+
+#[test]
+fn serves_writers_of_std(rt: HostRuntime) {
+    expect_written(&rt);
 }
 
 // A reader and a writer that fail at every call.
@@ -149,15 +145,17 @@ fn hands_on_the_faults_of_writers(rt: HostRuntime) {
     expect_same(&rt, &sink.flush(), &Err(WriteFailed), &"the flush");
 }
 
-#[test]
-fn names_faults_of_calls(rt: HostRuntime) -> Result<(), Fail> {
+fn expect_names(rt: &(impl Abort + AllocGlobal)) -> Result<(), Fail> {
     let text = format!(in rt.alloc();
         "{ReadFailed}, {WriteFailed}, {}, {Memory}",
         InputFault::Long
     )?;
-    assert_eq!(rt;
-        text.as_str(),
-        "reading failed, writing failed, input is too long, out of memory"
-    );
+    let want = "reading failed, writing failed, input is too long, out of memory";
+    expect_same(rt, &text.as_str(), &want, &"faults");
     Ok(())
+}
+
+#[test]
+fn names_faults_of_calls(rt: HostRuntime) -> Result<(), Fail> {
+    expect_names(&rt)
 }

@@ -34,16 +34,10 @@ mod numbers;
 #[cfg(test)]
 mod numerals;
 #[cfg(test)]
-mod refined;
-#[cfg(test)]
 mod runs;
 #[cfg(test)]
 mod tables;
 #[cfg(test)]
 mod texts;
-#[cfg(test)]
-mod textured;
-#[cfg(test)]
-mod textures;
 #[cfg(test)]
 mod words;

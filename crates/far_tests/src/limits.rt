@@ -1,14 +1,12 @@
 // Runs at what can be counted and kept, and one past it.
 
-use crate::checks::one_face;
+use crate::checks::{one_face, put_text};
 use crate::engine::run_within;
 use crate::expect::expect_same;
 use crate::inputs::LEVELS;
-use crate::runs::{Run, expect_run, expect_runs};
-use crate::tables::put_text;
+use crate::runs::expect_run;
 use far_engine::FarFault;
 use level_topology::Counted;
-use obj_tags::ObjCause;
 use std::alloc::Global;
 use std::process::Abort;
 use std::test::Fail;
@@ -132,47 +130,4 @@ fn expect_wheel_refined(rt: &(impl Abort + AllocGlobal)) -> Result<(), Fail> {
 #[test]
 fn refines_many_spokes_by_level(rt: HostRuntime) -> Result<(), Fail> {
     expect_wheel_refined(&rt)
-}
-
-const NINES: &str = "v 9999999999999999999999999999999999999 0 0\n";
-
-const NUMBERS: &[Run] = &[
-    // A point of no face stays as it is.
-    ("refine depth=3", NINES, "", Ok(()), NINES),
-    (
-        "refine depth=0",
-        "v 1e-37 0 0\n",
-        "",
-        Ok(()),
-        "v 1/10000000000000000000000000000000000000 0 0\n",
-    ),
-    (
-        "refine depth=0",
-        "v 1e-37 0 0\n",
-        "v 1 0 0\n",
-        Err(FarFault::Obj {
-            line: 2,
-            cause: ObjCause::NumberRange,
-        }),
-        "",
-    ),
-    (
-        "refine depth=0",
-        "v 1e-38 0 0\n",
-        "",
-        Err(FarFault::Obj {
-            line: 1,
-            cause: ObjCause::NumberRange,
-        }),
-        "",
-    ),
-];
-
-fn numbers() -> &'static [Run] {
-    NUMBERS
-}
-
-#[test]
-fn keeps_numbers_of_37_digits(rt: HostRuntime) -> Result<(), Fail> {
-    expect_runs(&rt, numbers())
 }

@@ -70,23 +70,6 @@ const FAULTS: &[(&'static str, Option<(u32, ObjCause)>)] = &[
     ("v 0 0 0\nt corner 1/1/0 0 10.0000001", None),
     ("v 0 0 0\nt corner 1/1/0 -0 0.0000010", None),
     ("v 1e36 0 0 0.1", None),
-];
-
-fn faults() -> &'static [(&'static str, Option<(u32, ObjCause)>)] {
-    FAULTS
-}
-
-#[test]
-fn names_the_line_and_the_cause(rt: HostRuntime) -> Result<(), Fail> {
-    for row in faults() {
-        let &(text, want) = row;
-        expect_same(&rt, &fault_of(&rt, text.as_bytes())?, &want, row);
-    }
-    Ok(())
-}
-
-// Texts with fractions, in the same way.
-const FRACTION_FAULTS: &[(&'static str, Option<(u32, ObjCause)>)] = &[
     ("v 1/0 0 0", Some((1, ObjCause::BadNumeral))),
     ("v 1/30 0 0\nv 1e36 0 0", Some((2, ObjCause::NumberRange))),
     ("v 1/9 0 0\nv 1e36 0 1/3", None),
@@ -114,13 +97,13 @@ const FRACTION_FAULTS: &[(&'static str, Option<(u32, ObjCause)>)] = &[
     ("v 0 0 0\nt corner 1/1/0 0 10000010/1000001", None),
 ];
 
-fn fraction_faults() -> &'static [(&'static str, Option<(u32, ObjCause)>)] {
-    FRACTION_FAULTS
+fn faults() -> &'static [(&'static str, Option<(u32, ObjCause)>)] {
+    FAULTS
 }
 
 #[test]
-fn names_faults_of_fractions(rt: HostRuntime) -> Result<(), Fail> {
-    for row in fraction_faults() {
+fn names_the_line_and_the_cause(rt: HostRuntime) -> Result<(), Fail> {
+    for row in faults() {
         let &(text, want) = row;
         expect_same(&rt, &fault_of(&rt, text.as_bytes())?, &want, row);
     }
@@ -160,23 +143,33 @@ fn expect_fractions(rt: &impl Abort, mesh: &RawMesh) {
     expect_same(rt, &mesh.corner_tags().first(), &Some(&corner), &"a corner");
 }
 
-#[test]
-fn keeps_fractions_over_common_denominators(rt: HostRuntime) -> Result<(), Fail> {
-    expect_fractions(&rt, &mesh_of(&rt, fractions())?);
+fn expect_mesh_of_fractions(rt: &(impl Abort + AllocGlobal)) -> Result<(), Fail> {
+    let mesh = mesh_of(rt, fractions())?;
+    expect_fractions(rt, &mesh);
     Ok(())
 }
 
 #[test]
-fn keeps_points_over_a_multiple_of_a_power_of_ten(rt: HostRuntime) -> Result<(), Fail> {
+fn keeps_fractions_over_common_denominators(rt: HostRuntime) -> Result<(), Fail> {
+    expect_mesh_of_fractions(&rt)
+}
+
+// A point of a fraction, a whole number and a decimal, over a multiple of 10^2.
+fn expect_multiple(rt: &(impl Abort + AllocGlobal)) -> Result<(), Fail> {
     let mesh = read_obj(rt.alloc(), b"v 1/3 0 0.125", 2)?;
     let point = Point3 {
         x: 200,
         y: 0,
         z: 75,
     };
-    expect_same(&rt, &mesh.scale(), &600, &"the denominator");
-    expect_same(&rt, &mesh.points().first(), &Some(&point), &"a point");
+    expect_same(rt, &mesh.scale(), &600, &"the denominator");
+    expect_same(rt, &mesh.points().first(), &Some(&point), &"a point");
     Ok(())
+}
+
+#[test]
+fn keeps_points_over_a_multiple_of_a_power_of_ten(rt: HostRuntime) -> Result<(), Fail> {
+    expect_multiple(&rt)
 }
 
 const TAGGED: &[u8] =
@@ -200,12 +193,6 @@ fn expect_channels(rt: &impl Abort, mesh: &RawMesh) {
     );
 }
 
-#[test]
-fn keeps_channels(rt: HostRuntime) -> Result<(), Fail> {
-    expect_channels(&rt, &mesh_of(&rt, tagged())?);
-    Ok(())
-}
-
 fn expect_faces(rt: &impl Abort, mesh: &RawMesh) {
     assert_eq!(rt; mesh.faces(), 1);
     assert!(rt; mesh.has_texture());
@@ -216,12 +203,6 @@ fn expect_faces(rt: &impl Abort, mesh: &RawMesh) {
         &[0, 1, 1].as_slice(),
         &"texture",
     );
-}
-
-#[test]
-fn keeps_faces(rt: HostRuntime) -> Result<(), Fail> {
-    expect_faces(&rt, &mesh_of(&rt, tagged())?);
-    Ok(())
 }
 
 fn expect_tags(rt: &impl Abort, mesh: &RawMesh) {
@@ -247,14 +228,20 @@ fn expect_tags(rt: &impl Abort, mesh: &RawMesh) {
     expect_same(rt, &mesh.method(), &Method::Chaikin, &"the method");
 }
 
-#[test]
-fn keeps_tags(rt: HostRuntime) -> Result<(), Fail> {
-    expect_tags(&rt, &mesh_of(&rt, tagged())?);
+fn expect_mesh_of_tags(rt: &(impl Abort + AllocGlobal)) -> Result<(), Fail> {
+    let mesh = mesh_of(rt, tagged())?;
+    expect_channels(rt, &mesh);
+    expect_faces(rt, &mesh);
+    expect_tags(rt, &mesh);
     Ok(())
 }
 
 #[test]
-fn names_faults(rt: HostRuntime) -> Result<(), Fail> {
+fn keeps_channels_faces_and_tags(rt: HostRuntime) -> Result<(), Fail> {
+    expect_mesh_of_tags(&rt)
+}
+
+fn expect_names(rt: &(impl Abort + AllocGlobal)) -> Result<(), Fail> {
     let bad = NumeralFault::BadNumeral;
     let range = NumeralFault::NumberRange;
     let fault = ReadFault::Obj(ObjFault {
@@ -263,9 +250,13 @@ fn names_faults(rt: HostRuntime) -> Result<(), Fail> {
     });
     let memory = ReadFault::Memory;
     let text = format!(in rt.alloc(); "{bad}; {range}; {SharpOverflow}; {fault}; {memory}")?;
-    assert_eq!(rt;
-        text.as_str(),
-        "bad numeral; number out of range; a denominator passes 2^60; line 3: line too short; out of memory"
-    );
+    let want =
+        "bad numeral; number out of range; a denominator passes 2^60; line 3: line too short; out of memory";
+    expect_same(rt, &text.as_str(), &want, &"faults");
     Ok(())
+}
+
+#[test]
+fn names_faults(rt: HostRuntime) -> Result<(), Fail> {
+    expect_names(&rt)
 }

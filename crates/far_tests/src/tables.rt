@@ -10,7 +10,7 @@ ghost use Rattle.stencil_apply.specs.Built.{no_rows};
 
 use crate::expect::expect_same;
 use ratio128::{Memory, Point3, Steps};
-use std::alloc::{AllocError, Global};
+use std::alloc::Global;
 use std::marker::Brand;
 use std::process::Abort;
 use std::sync::ledger::{Blank, Ledger};
@@ -21,13 +21,44 @@ use stencil_apply::{Entry, StencilTable, TableBuilder, apply_range, scale_fits};
 pub const NUMBER_BOUND: u128 = (1 << 126) - 1;
 
 // A row: its denominator, and its control points with their numerators.
-type Row = (u128, Vec<Entry>);
+pub type Row = (u128, &'static [Entry]);
+
+// Control points, each with its numerator.
+macro_rules! entries {
+    ($($index:literal $numerator:literal),*) => {
+        &[$(Entry { index: $index, numerator: $numerator }),*]
+    };
+}
 
 // One row of three entries.
-const ROW: &str = "8 0 6 1 1 3 1\n";
+const ROW: &[Row] = &[(8, entries![0 6, 1 1, 3 1])];
+
+fn one_row() -> &'static [Row] {
+    ROW
+}
 
 // A square after one step: a corner point, the face point, and two edge points of the boundary.
-const SQUARE: &str = "8 0 6 1 1 3 1\n4 0 1 1 1 2 1 3 1\n2 0 1 1 1\n2 1 1 2 1\n";
+const SQUARE: &[Row] = &[
+    (8, entries![0 6, 1 1, 3 1]),
+    (4, entries![0 1, 1 1, 2 1, 3 1]),
+    (2, entries![0 1, 1 1]),
+    (2, entries![1 1, 2 1]),
+];
+
+fn square() -> &'static [Row] {
+    SQUARE
+}
+
+// Rows of the cube after one step, by their numbers: those of a vertex, of a face and of an edge.
+const CUBE: &[(u32, Row)] = &[
+    (0, (36, entries![0 15, 1 6, 2 6, 3 1, 4 1, 6 6, 7 1])),
+    (8, (4, entries![0 1, 1 1, 2 1, 3 1])),
+    (14, (16, entries![0 6, 1 6, 2 1, 3 1, 6 1, 7 1])),
+];
+
+pub fn cube() -> &'static [(u32, Row)] {
+    CUBE
+}
 
 // The corners of the square, and the sums of the rows.
 const CORNERS: &[Point3] = &[
@@ -58,38 +89,6 @@ const SUMS: &[Point3] = &[
 
 fn sums() -> &'static [Point3] {
     SUMS
-}
-
-// A control point and its numerator.
-fn entry_of(index: &str, numerator: Option<&str>) -> Result<Entry, Fail> {
-    let index = index.parse::<u32>()?;
-    let numerator = numerator.ok_or("a numerator")?.parse::<u128>()?;
-    Ok(Entry { index, numerator })
-}
-
-fn entries_of(alloc: Global, text: &str) -> Result<Vec<Entry>, Fail> {
-    let mut words = text.split(' ');
-    let mut entries = Vec::new(alloc);
-    while let Some(word) = words.next() {
-        entries.push(entry_of(word, words.next())?)?;
-    }
-    Ok(entries)
-}
-
-// The row of a line: its denominator, and each control point with its numerator.
-fn row_of(alloc: Global, line: &str) -> Result<Row, Fail> {
-    let (den, entries) = line.split_once(' ').ok_or("a denominator")?;
-    let den = den.parse::<u128>()?;
-    Ok((den, entries_of(alloc, entries)?))
-}
-
-// A line for each row.
-fn rows_of(alloc: Global, text: &str) -> Result<Vec<Row>, Fail> {
-    let mut rows = Vec::new(alloc);
-    for line in text.lines() {
-        rows.push(row_of(alloc, line)?)?;
-    }
-    Ok(rows)
 }
 
 // Asserts that the control points ascend and that the numerators sum to the denominator.
@@ -124,55 +123,43 @@ fn add_rows(
 {
     assert!(rt; rows.len() <= 100);
     for row in rows {
-        let (den, entries) = row;
+        let &(den, entries) = row;
         assert!(rt; entries.len() <= 100);
-        assert_row(rt, controls, *den, entries);
-        builder.add_row(*den, entries)?;
+        assert_row(rt, controls, den, entries);
+        builder.add_row(den, entries)?;
     }
     Ok(())
 }
 
 // The table of these rows over four control points.
-fn table_of(rt: &impl Abort, alloc: Global, text: &str) -> Result<StencilTable, Fail> {
-    let rows = rows_of(alloc, text)?;
-    table_of_rows(rt, alloc, &rows)
-}
-
-fn table_of_rows(rt: &impl Abort, alloc: Global, rows: &[Row]) -> Result<StencilTable, Fail> {
+fn table_of(rt: &impl Abort, alloc: Global, rows: &[Row]) -> Result<StencilTable, Memory> {
     let mut builder = TableBuilder::new(alloc, 4);
     add_rows(rt, &mut builder, 4, rows)?;
     Ok(builder.finish())
 }
 
-pub fn put_text(text: &mut String, piece: String) -> Result<(), AllocError> {
-    text.push_str(piece.as_str())
-}
-
-fn put_entry(alloc: Global, text: &mut String, entry: Entry) -> Result<(), AllocError> {
-    let Entry { index, numerator } = entry;
-    put_text(text, format!(in alloc; " {index} {numerator}")?)
-}
-
-// A row with its end of line, as it is read back.
-pub fn put_row(alloc: Global, text: &mut String, table: &StencilTable, row: u32) -> Result<(), Fail>
+// A row is read back so.
+pub fn expect_row(rt: &impl Abort, table: &StencilTable, row: u32, want: &Row)
     requires { row < length table.now.rows }
 {
-    put_text(text, format!(in alloc; "{}", table.denominator(row))?)?;
+    let &(den, entries) = want;
+    expect_same(rt, &table.denominator(row), &den, want);
+    expect_same(rt, &(table.row_len(row) as usize), &entries.len(), want);
     for at in 0..table.row_len(row) {
         let (index, numerator) = (table.index(row, at), table.numerator(row, at));
-        put_entry(alloc, text, Entry { index, numerator })?;
+        let entry = Entry { index, numerator };
+        expect_same(rt, &Some(&entry), &entries.get(at as usize), want);
     }
-    text.push('\n')?;
-    Ok(())
 }
 
-// The rows of a table, as they are read back.
-fn text_of(alloc: Global, table: &StencilTable) -> Result<String, Fail> {
-    let mut text = String::new(alloc);
+// The rows are read back so.
+fn expect_rows(rt: &impl Abort, table: &StencilTable, rows: &[Row]) -> Result<(), Fail> {
+    expect_same(rt, &(table.rows() as usize), &rows.len(), &"rows");
     for row in 0..table.rows() {
-        put_row(alloc, &mut text, table, row)?;
+        let want = rows.get(row as usize).ok_or("a row")?;
+        expect_row(rt, table, row, want);
     }
-    Ok(text)
+    Ok(())
 }
 
 // Control points, rows, entries, and the greatest denominator.
@@ -185,47 +172,44 @@ pub fn counts_of(table: &StencilTable) -> (u32, u32, u64, u128) {
     )
 }
 
-#[test]
-fn takes_a_row_in_its_room(rt: HostRuntime) -> Result<(), Fail> {
-    let mut builder = TableBuilder::with_room(rt.alloc(), 4, 1, 3)?;
-    expect_same(&rt, &builder.room(), &(1, 3), &"before");
-    add_rows(&rt, &mut builder, 4, &rows_of(rt.alloc(), ROW)?)?;
-    expect_same(&rt, &builder.room(), &(0, 0), &"after");
-    let table = builder.finish();
-    expect_same(&rt, &counts_of(&table), &(4, 1, 3, 8), &"counts");
-    expect_same(&rt, &text_of(rt.alloc(), &table)?.as_str(), &ROW, &"row");
-    Ok(())
-}
-
-// The counts and the rows of the table of the square, once its rows were added.
-fn expect_square(
-    rt: &(impl Abort + AllocGlobal),
+// Once its rows were added, a table has these counts, and its rows are read back.
+fn expect_table(
+    rt: &impl Abort,
     added: Result<(), Memory>,
     table: &StencilTable,
+    counts: (u32, u32, u64, u128),
+    rows: &[Row],
 ) -> Result<(), Fail> {
     added?;
-    expect_same(rt, &counts_of(table), &(4, 4, 11, 8), &"counts");
-    let text = text_of(rt.alloc(), table)?;
-    expect_same(rt, &text.as_str(), &SQUARE, &"rows");
-    Ok(())
+    expect_same(rt, &counts_of(table), &counts, &"counts");
+    expect_rows(rt, table, rows)
 }
 
-fn expect_taken(rt: &(impl Abort + AllocGlobal), rows: &[Row]) -> Result<(), Fail> {
+// A row is taken into a table that has room for it.
+fn expect_taken_in_room(rt: &(impl Abort + AllocGlobal)) -> Result<(), Fail> {
+    let mut builder = TableBuilder::with_room(rt.alloc(), 4, 1, 3)?;
+    expect_same(rt, &builder.room(), &(1, 3), &"before");
+    let added = add_rows(rt, &mut builder, 4, one_row());
+    expect_same(rt, &builder.room(), &(0, 0), &"after");
+    expect_table(rt, added, &builder.finish(), (4, 1, 3, 8), one_row())
+}
+
+#[test]
+fn takes_a_row_in_its_room(rt: HostRuntime) -> Result<(), Fail> {
+    expect_taken_in_room(&rt)
+}
+
+fn expect_taken(rt: &(impl Abort + AllocGlobal)) -> Result<(), Fail> {
     let mut builder = TableBuilder::new(rt.alloc(), 4);
     expect_same(rt, &builder.room(), &(0, 0), &"before");
-    let added = add_rows(rt, &mut builder, 4, rows);
+    let added = add_rows(rt, &mut builder, 4, square());
     expect_same(rt, &builder.room(), &(0, 0), &"after");
-    expect_square(rt, added, &builder.finish())
-}
-
-fn expect_square_taken(rt: &(impl Abort + AllocGlobal)) -> Result<(), Fail> {
-    let rows = rows_of(rt.alloc(), SQUARE)?;
-    expect_taken(rt, &rows)
+    expect_table(rt, added, &builder.finish(), (4, 4, 11, 8), square())
 }
 
 #[test]
 fn takes_rows_without_room(rt: HostRuntime) -> Result<(), Fail> {
-    expect_square_taken(&rt)
+    expect_taken(&rt)
 }
 
 // The greatest amount of a point.
@@ -305,7 +289,7 @@ fn expect_sums(rt: &impl Abort, table: &StencilTable, ranges: &[(u32, u32)]) {
 }
 
 fn expect_sums_of_the_square(rt: &(impl Abort + AllocGlobal)) -> Result<(), Fail> {
-    let table = table_of(rt, rt.alloc(), SQUARE)?;
+    let table = table_of(rt, rt.alloc(), square())?;
     expect_sums(rt, &table, &[(0, 4)]);
     expect_sums(rt, &table, &[(2, 4), (0, 2)]);
     Ok(())
@@ -317,13 +301,13 @@ fn applies_rows_at_once_and_in_ranges(rt: HostRuntime) -> Result<(), Fail> {
 }
 
 // Rows, an amount, and whether the greatest denominator times it is within the bound.
-type Scale = (&'static str, u128, bool);
+type Scale = (&'static [Row], u128, bool);
 
 const SCALES: &[Scale] = &[
     (SQUARE, (1 << 123) - 1, true),
     (SQUARE, 1 << 123, false),
-    ("", NUMBER_BOUND, true),
-    ("", NUMBER_BOUND + 1, false),
+    (&[], NUMBER_BOUND, true),
+    (&[], NUMBER_BOUND + 1, false),
 ];
 
 fn scales() -> &'static [Scale] {
@@ -331,8 +315,8 @@ fn scales() -> &'static [Scale] {
 }
 
 fn expect_fit(rt: &(impl Abort + AllocGlobal), row: &Scale) -> Result<(), Fail> {
-    let &(text, greatest, want) = row;
-    let table = table_of(rt, rt.alloc(), text)?;
+    let &(rows, greatest, want) = row;
+    let table = table_of(rt, rt.alloc(), rows)?;
     expect_same(rt, &scale_fits(&table, greatest), &want, row);
     Ok(())
 }
