@@ -1,31 +1,9 @@
--- Tests of lists that are seen through a function, and the first number that passes a test.
-use Rattle.std.proofs.Common.{◌≡◌, ℕ, zero, suc, ◌+◌, ◌-◌, ◌<◌, ◌≤◌, Bool, true, false, cond, ◌||◌, List, [], ◌∷◌, ◌++◌, length, map, take, drop, get_or, Option, Some, None, Bor, arith, refl, ap, sym, ◌∙◌}
-use Rattle.std.specs.Option.{option_map, option_or}
-use Rattle.std.specs.List.{list_any, find, range_with_len}
+-- The first element of a list and the rest of it, and the first number that passes a test.
+use Rattle.std.proofs.Common.{◌≡◌, ℕ, zero, suc, ◌+◌, ◌-◌, ◌<◌, ◌≤◌, Bool, true, false, cond, List, [], ◌∷◌, ◌++◌, length, map, take, drop, get_or, Some, None, arith, ap, sym, ◌∙◌}
+use Rattle.std.specs.Option.{option_or}
+use Rattle.std.specs.List.{find, range_with_len}
 use Rattle.std.proofs.lemmas.List.{take_all}
 use Rattle.std.proofs.lemmas.List.Folds.{find-append}
-
-pub list_any-map : {X Y : Type 0} (p : Y → Bool) (f : X → Y) (xs : List X) → list_any p (map f xs) ≡ list_any (λ x. p (f x)) xs
-list_any-map p f [] = refl
-list_any-map p f (x ∷ xs) = ap (λ b. p (f x) || b) (list_any-map p f xs)
-
-pub find-map : {X Y : Type 0} (p : Y → Bool) (f : X → Y) (xs : List X) → find p (map f xs) ≡ option_map f (find (λ x. p (f x)) xs)
-find-map p f [] = refl
-find-map p f (x ∷ xs) = go (p (f x)) (find-map p f xs)
-  where
-    go : (b : Bool) → find p (map f xs) ≡ option_map f (find (λ x. p (f x)) xs)
-        → cond b (Some (f x)) (find p (map f xs)) ≡ option_map f (cond b (Some x) (find (λ x. p (f x)) xs))
-    go true h = refl
-    go false h = h
-
--- what a search through references finds, where the list is seen through a function
-pub found-map : {X Y : Type 0} (p : Y → Bool) (f : X → Y) (xs : List X) (r : Option (Bor X)) → option_map (λ x. x.now) r ≡ find (λ x. p (f x)) xs
-    → option_map (λ x. f x.now) r ≡ find p (map f xs)
-found-map {X = X} p f xs r found = seen r ∙ ap (option_map f) found ∙ sym (find-map p f xs)
-  where
-    seen : (r : Option (Bor X)) → option_map (λ x. f x.now) r ≡ option_map f (option_map (λ x. x.now) r)
-    seen None = refl
-    seen (Some x) = refl
 
 -- a list as its first element and the rest of the slice
 pub first-and-rest : {X Y : Type 0} (f : X → Y) (xs : List X) (x : X) → 1 ≤ length xs → x ≡ get_or xs 0 x

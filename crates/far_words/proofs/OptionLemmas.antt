@@ -1,16 +1,12 @@
 -- An option as what stands around its first `=`.
-use Rattle.std.proofs.Common.{◌≡◌, ℕ, ◌+◌, ◌<◌, Bool, true, false, cond, not, ◌&&◌, ◌||◌, nat_lt, List, [], ◌∷◌, length, map, take, get_or, Option, Some, None, Bor, arith, refl, ap, sym, ◌∙◌}
+use Rattle.std.proofs.Common.{◌≡◌, ℕ, ◌+◌, ◌<◌, Bool, true, false, cond, not, ◌&&◌, ◌||◌, nat_lt, List, [], ◌∷◌, length, map, take, get_or, arith, refl, ap, sym, ◌∙◌}
 use Rattle.std.specs.Str.{bytes_eq}
-use Rattle.std.specs.Option.{option_map}
-use Rattle.std.specs.List.{list_any, find, position_or_len}
+use Rattle.std.specs.List.{list_any, position_or_len}
 use Rattle.std.proofs.lemmas.List.{take-map, get_or-map}
 use Rattle.std.proofs.lemmas.Bool.{and_left, lt-ltb, le-ltb}
 use Rattle.std.proofs.lemmas.Bool.Decides.{nat_tests}
 use Rattle.subdiv_model.specs.Words as model
-use Rattle.subdiv_model.specs.Words.{is_equals, is_value, option_name, option_value, is_option_of, has_option, is_bad_option, value_of}
-use Rattle.far_words.specs.declared.table.OptionRule.{OptionRule}
-use Rattle.far_words.specs.View.{kind_of_code, option_of_code}
-use Rattle.far_words.proofs.ListLemmas.{list_any-map, found-map}
+use Rattle.subdiv_model.specs.Words.{is_equals, is_value, option_name, option_value, is_option_of, has_option, is_bad_option}
 
 has-equals : (word : List ℕ) → list_any is_equals word ≡ nat_lt (position_or_len is_equals word) (length word)
 has-equals [] = refl
@@ -27,29 +23,15 @@ no-equals rules word none =
     sym (and_left _ _ (has-equals word ∙ le-ltb (position_or_len is_equals word) (length word) (omega arith)))
 
 -- a word with one is what stands before and after it
-pub parts-of-option : (rules : List OptionRule) (word name value : List ℕ) (r : Bool) → position_or_len is_equals word < length word
+pub parts-of-option : (rules : List model.OptionRule) (word name value : List ℕ) (r : Bool) → position_or_len is_equals word < length word
     → name ≡ option_name word → value ≡ option_value word
-    → r ≡ list_any (λ rule. bytes_eq name rule.name.now && is_value (kind_of_code rule.kind) value) rules
-    → r ≡ is_option_of (map option_of_code rules) word
+    → r ≡ list_any (λ rule. bytes_eq name rule.name && is_value rule.kind value) rules → r ≡ is_option_of rules word
 parts-of-option rules word name value r within before after is =
     let equals : list_any is_equals word ≡ true = has-equals word ∙ lt-ltb _ _ within in
     is
-    ∙ ap (λ n. list_any (λ rule. bytes_eq n rule.name.now && is_value (kind_of_code rule.kind) value) rules) before
-    ∙ ap (λ v. list_any (λ rule. bytes_eq (option_name word) rule.name.now && is_value (kind_of_code rule.kind) v) rules) after
-    ∙ sym (list_any-map (λ rule. bytes_eq (option_name word) rule.name && is_value rule.kind (option_value word)) option_of_code rules)
-    ∙ sym (ap (λ b. b && list_any (λ rule. bytes_eq (option_name word) rule.name && is_value rule.kind (option_value word)) (map option_of_code rules)) equals)
-
--- the value of the option that a search finds
-pub found-value : {X : Type 0} (bytes : X → List ℕ) (options : List X) (name : List ℕ) (r : Option (Bor X))
-    → option_map (λ option. option.now) r ≡ find (λ option. bytes_eq name (option_name (bytes option))) options
-    → option_map (λ option. option_value (bytes option.now)) r ≡ value_of (map bytes options) name
-found-value {X = X} bytes options name r found =
-    seen r ∙ ap (option_map option_value) (found-map (λ option. bytes_eq name (option_name option)) bytes options r found)
-  where
-    seen : (r : Option (Bor X))
-        → option_map (λ option. option_value (bytes option.now)) r ≡ option_map option_value (option_map (λ option. bytes option.now) r)
-    seen None = refl
-    seen (Some option) = refl
+    ∙ ap (λ n. list_any (λ rule. bytes_eq n rule.name && is_value rule.kind value) rules) before
+    ∙ ap (λ v. list_any (λ rule. bytes_eq (option_name word) rule.name && is_value rule.kind v) rules) after
+    ∙ sym (ap (λ b. b && list_any (λ rule. bytes_eq (option_name word) rule.name && is_value rule.kind (option_value word)) rules) equals)
 
 -- whether the option at a place is bad, where texts are seen as their bytes
 pub bad-at-place : {X : Type 0} (bytes : X → List ℕ) (rules : List model.OptionRule) (options : List X) (place : ℕ) (option : X) (word : List ℕ)

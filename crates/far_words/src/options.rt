@@ -1,7 +1,8 @@
 //! Options as `name=value`, and a command's options as a whole.
 
-ghost use Rattle.std.specs.Prelude.{◌≡◌, not, ◌||◌, map, string_bytes};
+ghost use Rattle.std.specs.Prelude.{◌≡◌, not, ◌&&◌, ◌||◌, map, string_bytes, bytes_eq};
 ghost use Rattle.std.specs.Option.{option_map};
+ghost use Rattle.std.specs.List.{list_any};
 ghost use Rattle.subdiv_model.specs.Words as model;
 ghost use Rattle.subdiv_model.specs.Words.{Between};
 ghost use Rattle.far_words.specs.View.{kind_of_code, option_of_code};
@@ -20,14 +21,42 @@ fn is_between(least: u32, greatest: u32, value: &str) -> bool
     }
 }
 
+// Whether the value is one of the names.
+fn is_one_of(names: &[&str], value: &str) -> bool
+    ensures { result ≡ list_any (bytes_eq value.now) (map (λ name. name.now) names.now) }
+{
+    let mut rest = names;
+    while let [name, others @ ..] = rest {
+        if value == *name {
+            return true;
+        }
+        rest = others;
+    }
+    false
+}
+
 // Whether an option of this kind may have this value.
 fn is_value(kind: &ValueKind, value: &str) -> bool
     ensures { result ≡ model.is_value (kind_of_code kind.now) value.now }
 {
     match *kind {
         ValueKind::Between { least, greatest } => is_between(least, greatest, value),
-        ValueKind::OneOf(names) => names.iter().any(|name| value == *name),
+        ValueKind::OneOf(names) => is_one_of(names, value),
     }
+}
+
+// Whether one of the options has this name and may have this value.
+fn some_rule_allows(rules: &[OptionRule], name: &str, value: &str) -> bool
+    ensures { result ≡ list_any (λ rule. bytes_eq name.now rule.name && model.is_value rule.kind value.now) (map option_of_code rules.now) }
+{
+    let mut rest = rules;
+    while let [rule, others @ ..] = rest {
+        if name == rule.name && is_value(&rule.kind, value) {
+            return true;
+        }
+        rest = others;
+    }
+    false
 }
 
 // Whether the word is `name=value`, with the name of one of the options and a value that it may have.
@@ -35,9 +64,7 @@ fn is_option_of(rules: &[OptionRule], word: &str) -> bool
     ensures { result ≡ model.is_option_of (map option_of_code rules.now) word.now }
 {
     match word.split_once('=') {
-        Some((name, value)) => rules
-            .iter()
-            .any(|rule| name == rule.name && is_value(&rule.kind, value)),
+        Some((name, value)) => some_rule_allows(rules, name, value),
         None => false,
     }
 }
@@ -66,9 +93,14 @@ fn option_value(word: &str) -> &str
 fn has_option(options: &[String], name: &str) -> bool
     ensures { result ≡ model.has_option (map string_bytes options.now) name.now }
 {
-    options
-        .iter()
-        .any(|option| name == option_name(option.as_str()))
+    let mut rest = options;
+    while let [option, others @ ..] = rest {
+        if name == option_name(option.as_str()) {
+            return true;
+        }
+        rest = others;
+    }
+    false
 }
 
 // Whether the word is none of the rules' options, or has the name of an earlier one.
@@ -95,19 +127,28 @@ pub(crate) fn first_bad_option(rules: &[OptionRule], options: &[String]) -> Opti
 pub(crate) fn has_required(rules: &[OptionRule], options: &[String]) -> bool
     ensures { result ≡ model.has_required (map option_of_code rules.now) (map string_bytes options.now) }
 {
-    rules
-        .iter()
-        .all(|rule| !rule.required || has_option(options, rule.name))
+    let mut rest = rules;
+    while let [rule, others @ ..] = rest {
+        if rule.required && !has_option(options, rule.name) {
+            return false;
+        }
+        rest = others;
+    }
+    true
 }
 
 /// The value of the option with this name.
 pub(crate) fn value_of<'a>(options: &'a [String], name: &str) -> Option<&'a str>
     ensures { option_map (λ value. value.now) result ≡ model.value_of (map string_bytes options.now) name.now }
 {
-    let option = options
-        .iter()
-        .find(|option| name == option_name(option.as_str()))?;
-    Some(option_value(option.as_str()))
+    let mut rest = options;
+    while let [option, others @ ..] = rest {
+        if name == option_name(option.as_str()) {
+            return Some(option_value(option.as_str()));
+        }
+        rest = others;
+    }
+    None
 }
 
 /// The number of the option with this name; `None` also where its value is no number that fits.

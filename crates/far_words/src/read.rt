@@ -109,7 +109,14 @@ fn read_options(rule: &CommandRule, name: &str, options: &[String]) -> Result<Co
 fn rule_named<'a>(table: &'a [CommandRule], name: &str) -> Option<&'a CommandRule>
     ensures { option_map (λ rule. rule_of_code rule.now) result ≡ words.rule_named (table_of_code table.now) name.now }
 {
-    table.iter().find(|rule| name == rule.name)
+    let mut rest = table;
+    while let [rule, others @ ..] = rest {
+        if name == rule.name {
+            return Some(rule);
+        }
+        rest = others;
+    }
+    None
 }
 
 /// The command that the words say by a table, or the place, from 0, of the first word that makes them none of the
