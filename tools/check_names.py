@@ -30,7 +30,7 @@ RUST = set(
     as break const continue crate dyn else enum extern false fn for if impl in let loop match mod move mut pub ref return self
     static struct super trait true type unsafe use where while
     bool char f32 f64 i8 i16 i32 i64 i128 isize str u8 u16 u32 u64 u128 usize
-    Display get split_once
+    Display Vec get split_once
     """.split()
 )
 RATTLE = set("abbrev data ensures ghost invariant new old record requires result rt rw search std subst unfoldable".split())

@@ -1,4 +1,4 @@
-mod KeptLemmas
+mod FaceLemmas
 mod PlaceLemmas
 mod QuarterLemmas
 mod WheelLemmas

@@ -1,4 +1,4 @@
-pub mod Kept
+pub mod Faces
 pub mod Squares
 pub mod Wheel
 pub mod Values

@@ -4,7 +4,6 @@ ghost use Rattle.std.specs.Prelude.{◌<◌, length};
 ghost use Rattle.subdiv_model.specs.Edges.{edges_of};
 
 use crate::expect::expect_same;
-use crate::levels::square_alone;
 use crate::meshes::{Mesh, build_alone, fraction_of};
 use crate::solids::{Fraction, INFINITE, Solid, ZERO};
 use level_topology::{EdgeFaces, Level};
@@ -42,7 +41,8 @@ const CUBE: Mesh<'static> = Mesh {
     holes: &[],
     edges: &[],
     vertices: &[],
-    torn: None,
+    complete_from: 0,
+    key: None,
 };
 
 const CUBE_FACES: &[Face<'static>] = &[
@@ -97,7 +97,8 @@ const GRID: Mesh<'static> = Mesh {
         (8, 7, OUTER),
     ],
     vertices: &[(4, OUTER), (8, INNER), (8, OUTER), (4, INNER)],
-    torn: None,
+    complete_from: 0,
+    key: None,
 };
 
 const GRID_FACES: &[Face<'static>] = &[
@@ -152,7 +153,8 @@ const PAIR: Mesh<'static> = Mesh {
     holes: &[],
     edges: &[],
     vertices: &[],
-    torn: None,
+    complete_from: 0,
+    key: None,
 };
 
 const PAIR_FACES: &[Face<'static>] = &[
@@ -182,7 +184,8 @@ const TIE: Mesh<'static> = Mesh {
     holes: &[],
     edges: &[],
     vertices: &[],
-    torn: Some(0),
+    complete_from: 1,
+    key: None,
 };
 
 const TIE_FACES: &[Face<'static>] = &[
@@ -221,7 +224,8 @@ const SQUARE: Mesh<'static> = Mesh {
     holes: &[],
     edges: &[(0, 1, OUTER), (1, 2, OUTER), (2, 3, OUTER), (3, 0, OUTER)],
     vertices: &[(3, OUTER)],
-    torn: None,
+    complete_from: 0,
+    key: None,
 };
 
 const SQUARE_FACES: &[Face<'static>] = &[(&[0, 1, 2, 3], &[0, 1, 2, 3], false)];
@@ -316,14 +320,14 @@ pub fn expect_same_levels(rt: &impl Abort, given: &Level, want: &Level) {
 }
 
 // What a level says.
-struct Tables {
+pub struct Tables {
     method: Method,
     faces: &'static [Face<'static>],
     edges: &'static [Edge],
     vertices: &'static [Vertex<'static>],
 }
 
-fn expect_tables(rt: &impl Abort, level: &Level, want: &Tables) {
+pub fn expect_tables(rt: &impl Abort, level: &Level, want: &Tables) {
     expect_same(rt, &level.method(), &want.method, &"method");
     expect_faces(rt, level, want.faces);
     expect_edges(rt, level, want.edges);
@@ -400,17 +404,6 @@ fn builds_levels(rt: HostRuntime) -> Result<(), Memory> {
     expect_all_built(&rt, rt.alloc())
 }
 
-fn square() -> &'static Tables {
+pub fn square_tables() -> &'static Tables {
     SQUARE_TABLES
-}
-
-fn expect_square(rt: &impl Abort, alloc: Global) -> Result<(), Memory> {
-    let level = square_alone(alloc)?;
-    expect_tables(rt, &level, square());
-    Ok(())
-}
-
-#[test]
-fn finishes_the_square(rt: HostRuntime) -> Result<(), Memory> {
-    expect_square(&rt, rt.alloc())
 }

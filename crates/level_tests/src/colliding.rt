@@ -1,17 +1,14 @@
 // Edges that collide under the key 0, numbered under two keys.
 
-ghost use Rattle.std.specs.Prelude.{◌≡◌, ◌<◌};
-
 use crate::built_levels::expect_same_levels;
-use crate::checked::Checked;
 use crate::expect::expect_same;
+use crate::meshes::{Mesh, build_alone};
+use crate::solids::Solid;
 use level_topology::Level;
-use ratio128::{Memory, Steps};
+use ratio128::Memory;
 use sharpness_rules::Method;
 use std::alloc::Global;
-use std::marker::Brand;
 use std::process::Abort;
-use std::sync::ledger::{Blank, Ledger};
 
 // Ends of edges whose hashes after the key 0 are the same in their lowest nine bits, so that the search for each begins
 // at one place while the map has at most 512 of them.
@@ -223,51 +220,75 @@ fn pairs() -> &'static [(u32, u32)] {
 }
 
 // A triangle at each of the edges, with a point of its own.
-fn with_triangles<L: Ledger>(
-    rt: &impl Abort,
-    start: Checked,
-    steps: &mut Steps<L>,
-) -> Result<Checked, Memory> {
-    let mut builder = start;
-    let mut last = 1000;
+fn triangles(alloc: Global) -> Result<Vec<[u32; 3]>, Memory> {
+    let mut triangles = Vec::new(alloc);
+    let mut last: u32 = 1000;
     for (a, b) in pairs() {
-        assert!(rt; last < 2000);
-        builder = builder.add_face(rt, &[*a, *b, last], false, steps)?;
-        last += 1;
+        triangles.push([*a, *b, last])?;
+        last = last.saturating_add(1);
     }
-    Ok(builder)
+    Ok(triangles)
 }
 
-fn build<L: Ledger>(
+fn faces_of(alloc: Global, triangles: &[[u32; 3]]) -> Result<Vec<&[u32]>, Memory> {
+    let mut faces: Vec<&[u32]> = Vec::new(alloc);
+    for triangle in triangles {
+        faces.push(triangle)?;
+    }
+    Ok(faces)
+}
+
+// No point is marked complete.
+fn level_under(
     rt: &impl Abort,
     alloc: Global,
+    solid: &Solid,
     key: Option<u128>,
-    blank: Blank,
-) -> Result<Level, Memory>
-    requires name { blank.name ≡ L.name }
-    requires parts { blank.parts ≡ L.parts }
-    requires some { 0 < blank.parts }
-{
-    let start = Checked::new(alloc, 2000, Method::Normal, key)?;
-    let mut steps = Steps::start(blank.open::<L>());
-    with_triangles(rt, start, &mut steps)?.finish(rt)
+) -> Result<Level, Memory> {
+    let mesh = Mesh {
+        solid,
+        method: Method::Normal,
+        holes: &[],
+        edges: &[],
+        vertices: &[],
+        complete_from: solid.points,
+        key,
+    };
+    build_alone(rt, alloc, &mesh)
 }
 
-fn build_alone(rt: &impl Abort, alloc: Global, key: Option<u128>) -> Result<Level, Memory> {
-    build::<Brand>(rt, alloc, key, Blank::new(1))
-}
+const KEY: u128 = 0x1234_5678_9abc_def0_0fed_cba9_8765_4321;
 
 // The same edges have the same numbers under another key.
-fn expect_same_under_a_key(rt: &impl Abort, alloc: Global, plain: &Level) -> Result<(), Memory> {
-    let keyed = build_alone(rt, alloc, Some(0x1234_5678_9abc_def0_0fed_cba9_8765_4321))?;
+fn expect_same_under_a_key(
+    rt: &impl Abort,
+    alloc: Global,
+    solid: &Solid,
+    plain: &Level,
+) -> Result<(), Memory> {
+    let keyed = level_under(rt, alloc, solid, Some(KEY))?;
     expect_same_levels(rt, plain, &keyed);
     Ok(())
 }
 
-fn expect_collisions(rt: &impl Abort, alloc: Global) -> Result<(), Memory> {
-    let plain = build_alone(rt, alloc, None)?;
+fn expect_numbers(rt: &impl Abort, alloc: Global, solid: &Solid) -> Result<(), Memory> {
+    let plain = level_under(rt, alloc, solid, None)?;
     expect_same(rt, &(plain.faces(), plain.edges()), &(200, 600), &"counts");
-    expect_same_under_a_key(rt, alloc, &plain)
+    expect_same_under_a_key(rt, alloc, solid, &plain)
+}
+
+fn expect_triangles(rt: &impl Abort, alloc: Global, triangles: &[[u32; 3]]) -> Result<(), Memory> {
+    let faces = faces_of(alloc, triangles)?;
+    let solid = Solid {
+        points: 2000,
+        faces: &faces,
+    };
+    expect_numbers(rt, alloc, &solid)
+}
+
+fn expect_collisions(rt: &impl Abort, alloc: Global) -> Result<(), Memory> {
+    let triangles = triangles(alloc)?;
+    expect_triangles(rt, alloc, &triangles)
 }
 
 #[test]

@@ -14,7 +14,7 @@ pub struct EdgeRow {
 }
 
 // A solid, one of its faces, and how many corners it has.
-pub type FaceRow = (&'static Solid, u32, u32);
+pub type FaceRow = (&'static Solid<'static>, u32, u32);
 
 // An edge of the cube by its sharpness, one of two triangles, and one inside and one at the rim.
 const EDGES: &[EdgeRow] = &[

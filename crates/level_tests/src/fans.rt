@@ -1,11 +1,11 @@
 // What a face and a point must pass before a builder of levels may be told of them, by plain search.
 
-ghost use Rattle.std.specs.Prelude.{◌≡◌, ◌≤◌, ◌&&◌, IfOk, OnOk, Some, ◌∷◌, ◌++◌, [], not, length, nat_eq, if◌then◌else◌};
+ghost use Rattle.std.specs.Prelude.{◌≡◌, ◌≤◌, ◌&&◌, ◌||◌, not, IfOk, OnOk, Some, ◌∷◌, ◌++◌, [], length, nat_eq, if◌then◌else◌};
 ghost use Rattle.std.specs.List.{find, list_all, list_any};
-ghost use Rattle.subdiv_model.specs.Polygons.{sides_of, same_side, same_edge, has_side, has_corner, is_distinct, polygon_at};
+ghost use Rattle.subdiv_model.specs.Polygons.{sides_of, has_side, has_corner, is_distinct, polygon_at};
 ghost use Rattle.subdiv_model.specs.Edges.{faces_of_point};
 ghost use Rattle.subdiv_model.specs.Manifold.{is_simple, is_successor, without, left_after, walk_meets_all, has_one_fan};
-ghost use Rattle.level_tests.specs.Kept.{corners_of};
+ghost use Rattle.level_tests.specs.Faces.{corners_of};
 
 use ratio128::Memory;
 use std::alloc::Global;
@@ -31,59 +31,8 @@ pub fn is_simple(polygon: &[u32]) -> bool
     polygon.len() >= 3 && is_distinct(polygon)
 }
 
-// Whether the two ends are the same in the same direction.
-fn is_same_side(s: (u32, u32), t: (u32, u32)) -> bool
-    ensures { result ≡ same_side s t }
-{
-    s.0 == t.0 && s.1 == t.1
-}
-
-// Whether two pairs are the same two ends, in either direction.
-fn is_same_edge(s: (u32, u32), t: (u32, u32)) -> bool
-    ensures { result ≡ same_edge s t }
-{
-    (s.0 == t.0 && s.1 == t.1) || (s.0 == t.1 && s.1 == t.0)
-}
-
-// Whether the side stands among the others.
-fn is_among_sides(side: (u32, u32), sides: &[(u32, u32)]) -> bool
-    ensures { result ≡ list_any (same_side side) sides.now }
-{
-    sides.iter().any(|t| is_same_side(side, *t))
-}
-
-// Whether one of the sides has these ends, in either direction.
-pub fn is_edge_among(edge: (u32, u32), sides: &[(u32, u32)]) -> bool
-    ensures { result ≡ list_any (same_edge edge) sides.now }
-{
-    sides.iter().any(|t| is_same_edge(edge, *t))
-}
-
-// Whether none of the sides stands among the others.
-pub fn are_new(sides: &Vec<(u32, u32)>, others: &Vec<(u32, u32)>) -> bool
-    ensures { result ≡ list_all (λ side. not (list_any (same_side side) others.now.items)) sides.now.items }
-{
-    sides.iter().all(|side| !is_among_sides(*side, others))
-}
-
-// Puts the directed edges of a face after those that are there.
-pub fn add_sides(sides: &mut Vec<(u32, u32)>, polygon: &[u32]) -> Result<(), Memory>
-    ensures { OnOk result (sides.new.items ≡ sides.old.items ++ sides_of polygon.now) }
-{
-    let [first, ..] = polygon else {
-        return Ok(());
-    };
-    let mut rest = polygon;
-    while let [v, tail @ ..] = rest {
-        let next = tail.first().copied().unwrap_or(*first);
-        sides.push((*v, next))?;
-        rest = tail;
-    }
-    Ok(())
-}
-
 // The face with this number, and no corner where there is none.
-fn polygon_at(polygons: &[Vec<u32>], face: u32) -> &[u32]
+fn polygon_at<'a>(polygons: &[&'a [u32]], face: u32) -> &'a [u32]
     ensures { result.now ≡ polygon_at (corners_of polygons.now) face }
 {
     match polygons.get(face as usize) {
@@ -102,12 +51,51 @@ fn has_side(side: (u32, u32), polygon: &[u32]) -> bool
     let mut rest = polygon;
     while let [v, tail @ ..] = rest {
         let next = tail.first().copied().unwrap_or(*first);
-        if is_same_side(side, (*v, next)) {
+        if side.0 == *v && side.1 == next {
             return true;
         }
         rest = tail;
     }
     false
+}
+
+// Whether one of the faces has the directed edge.
+fn is_side_of_some(side: (u32, u32), faces: &[&[u32]]) -> bool
+    ensures { result ≡ list_any (has_side side) (corners_of faces.now) }
+{
+    let mut rest = faces;
+    while let [face, others @ ..] = rest {
+        if has_side(side, face) {
+            return true;
+        }
+        rest = others;
+    }
+    false
+}
+
+// Whether none of the faces has a side of the polygon.
+pub fn has_new_sides(faces: &[&[u32]], polygon: &[u32]) -> bool
+    ensures { result ≡ list_all (λ side. not (list_any (has_side side) (corners_of faces.now))) (sides_of polygon.now) }
+{
+    let [first, ..] = polygon else {
+        return true;
+    };
+    let mut rest = polygon;
+    while let [v, tail @ ..] = rest {
+        let next = tail.first().copied().unwrap_or(*first);
+        if is_side_of_some((*v, next), faces) {
+            return false;
+        }
+        rest = tail;
+    }
+    true
+}
+
+// Whether one of the faces has the edge, in either direction.
+pub fn has_edge(faces: &[&[u32]], a: u32, b: u32) -> bool
+    ensures { result ≡ (list_any (has_side (a, b)) (corners_of faces.now) || list_any (has_side (b, a)) (corners_of faces.now)) }
+{
+    is_side_of_some((a, b), faces) || is_side_of_some((b, a), faces)
 }
 
 // Whether a corner follows v in the face from which the other leads back to v.
@@ -129,14 +117,14 @@ fn leads_to(v: u32, polygon: &[u32], other: &[u32]) -> bool
 }
 
 // Whether the next face is the successor of the face about v.
-fn is_successor(polygons: &[Vec<u32>], v: u32, face: u32, next: u32) -> bool
+fn is_successor(polygons: &[&[u32]], v: u32, face: u32, next: u32) -> bool
     ensures { result ≡ is_successor (corners_of polygons.now) v face next }
 {
     leads_to(v, polygon_at(polygons, face), polygon_at(polygons, next))
 }
 
 // The first of the faces that is the successor of the face about v.
-fn find_successor(polygons: &[Vec<u32>], v: u32, face: u32, faces: &[u32]) -> Option<u32>
+fn find_successor(polygons: &[&[u32]], v: u32, face: u32, faces: &[u32]) -> Option<u32>
     ensures { result ≡ find (is_successor (corners_of polygons.now) v face) faces.now }
 {
     let mut rest = faces;
@@ -159,7 +147,7 @@ fn take_out(numbers: &mut Vec<u32>, n: u32)
 // What is left of the faces after a walk about v from one of them.
 fn faces_left(
     alloc: Global,
-    polygons: &[Vec<u32>],
+    polygons: &[&[u32]],
     v: u32,
     faces: &[u32],
     start: u32,
@@ -183,7 +171,7 @@ fn faces_left(
 // Whether the walk about v from one of the faces leaves none.
 fn some_walk_meets_all(
     alloc: Global,
-    polygons: &[Vec<u32>],
+    polygons: &[&[u32]],
     v: u32,
     faces: &[u32],
 ) -> Result<bool, Memory>
@@ -215,7 +203,7 @@ fn has_corner(v: u32, polygon: &[u32]) -> bool
 }
 
 // The numbers of the faces that have a corner at the point, ascending.
-fn faces_of_point(alloc: Global, polygons: &[Vec<u32>], v: u32) -> Result<Vec<u32>, Memory>
+fn faces_of_point(alloc: Global, polygons: &[&[u32]], v: u32) -> Result<Vec<u32>, Memory>
     requires { length polygons.now ≤ 1024 }
     ensures { IfOk result (λ faces. faces.items ≡ faces_of_point (corners_of polygons.now) v) }
 {
@@ -227,7 +215,7 @@ fn faces_of_point(alloc: Global, polygons: &[Vec<u32>], v: u32) -> Result<Vec<u3
 }
 
 // Whether there is no face at v, or the walk from one of them meets all.
-pub fn has_one_fan(alloc: Global, polygons: &[Vec<u32>], v: u32) -> Result<bool, Memory>
+pub fn has_one_fan(alloc: Global, polygons: &[&[u32]], v: u32) -> Result<bool, Memory>
     requires { length polygons.now ≤ 1024 }
     ensures { IfOk result (λ b. b ≡ has_one_fan (corners_of polygons.now) v) }
 {

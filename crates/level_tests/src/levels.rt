@@ -3,6 +3,7 @@
 ghost use Rattle.std.specs.Prelude.{◌≡◌, ◌<◌, ◌≤◌, length, IfOk};
 ghost use Rattle.level_tests.specs.Squares.{square, quarter, IsQuarter};
 
+use crate::built_levels::{expect_tables, square_tables};
 use level_topology::{Child, EdgeFaces, FacePlace, Level, LevelRows, Origin};
 use ratio128::{Memory, Steps};
 use sharpness_rules::{Method, Sharpness};
@@ -77,35 +78,6 @@ fn join_to<L: Ledger>(alloc: Global, parent: &Level, steps: &mut Steps<L>) -> Re
     Ok(child)
 }
 
-fn join_quarter<L: Ledger>(alloc: Global, steps: &mut Steps<L>) -> Result<Child, Memory>
-    ensures { IfOk result IsQuarter }
-{
-    let parent = make_square(alloc, steps)?;
-    join_to(alloc, &parent, steps)
-}
-
-fn square_counted<L: Ledger>(alloc: Global, blank: Blank) -> Result<Level, Memory>
-    requires name { blank.name ≡ L.name }
-    requires parts { blank.parts ≡ L.parts }
-    requires some { 0 < blank.parts }
-{
-    make_square(alloc, &mut Steps::start(blank.open::<L>()))
-}
-
-// The square.
-pub fn square_alone(alloc: Global) -> Result<Level, Memory> {
-    square_counted::<Brand>(alloc, Blank::new(1))
-}
-
-fn quarter_counted<L: Ledger>(alloc: Global, blank: Blank) -> Result<Child, Memory>
-    requires name { blank.name ≡ L.name }
-    requires parts { blank.parts ≡ L.parts }
-    requires some { 0 < blank.parts }
-    ensures { IfOk result IsQuarter }
-{
-    join_quarter(alloc, &mut Steps::start(blank.open::<L>()))
-}
-
 // The points that come from a vertex and an edge of the square with one number, and the face of the corner.
 fn has(child: &Child, i: u32, vertex: Option<u32>, edge: Option<u32>, face: Option<u32>) -> bool
     requires { IsQuarter child.now }
@@ -146,13 +118,46 @@ fn expect_quarter(rt: &impl Abort, child: &Child)
     assert!(rt; level.points() == 4 && level.faces() == 1 && !level.is_complete(0));
 }
 
-fn quarter_alone(rt: &impl Abort, alloc: Global) -> Result<(), Memory> {
-    let child = quarter_counted::<Brand>(alloc, Blank::new(1))?;
+fn expect_joined<L: Ledger>(
+    rt: &impl Abort,
+    alloc: Global,
+    parent: &Level,
+    steps: &mut Steps<L>,
+) -> Result<(), Memory>
+    requires { parent.now ≡ square }
+{
+    let child = join_to(alloc, parent, steps)?;
     expect_quarter(rt, &child);
     Ok(())
 }
 
+fn expect_square<L: Ledger>(
+    rt: &impl Abort,
+    alloc: Global,
+    steps: &mut Steps<L>,
+) -> Result<(), Memory> {
+    let level = make_square(alloc, steps)?;
+    expect_tables(rt, &level, square_tables());
+    expect_joined(rt, alloc, &level, steps)
+}
+
+fn expect_square_counted<L: Ledger>(
+    rt: &impl Abort,
+    alloc: Global,
+    blank: Blank,
+) -> Result<(), Memory>
+    requires name { blank.name ≡ L.name }
+    requires parts { blank.parts ≡ L.parts }
+    requires some { 0 < blank.parts }
+{
+    expect_square(rt, alloc, &mut Steps::start(blank.open::<L>()))
+}
+
+fn expect_square_alone(rt: &impl Abort, alloc: Global) -> Result<(), Memory> {
+    expect_square_counted::<Brand>(rt, alloc, Blank::new(1))
+}
+
 #[test]
-fn joins_one_quarter_of_the_square(rt: HostRuntime) -> Result<(), Memory> {
-    quarter_alone(&rt, rt.alloc())
+fn finishes_the_square_and_joins_one_quarter(rt: HostRuntime) -> Result<(), Memory> {
+    expect_square_alone(&rt, rt.alloc())
 }

@@ -15,12 +15,13 @@ use level_topology::Level;
 use mask_rules::{
     At, EdgeMask, MaskFault, Scheme, Term, VertexMask, edge_mask, face_mask, vertex_mask,
 };
+use ratio128::Memory;
 use sharpness_rules::{Method, Sharpness};
 use std::alloc::Global;
 use std::process::Abort;
 
 // The level of the mesh of a row.
-fn level_of(rt: &impl Abort, alloc: Global, mesh: Mesh) -> Result<Level, MaskFault> {
+fn level_of(rt: &impl Abort, alloc: Global, mesh: Mesh) -> Result<Level, Memory> {
     let (solid, edges, vertex, sharpness) = mesh;
     let told = meshes::Mesh {
         solid,
@@ -28,10 +29,10 @@ fn level_of(rt: &impl Abort, alloc: Global, mesh: Mesh) -> Result<Level, MaskFau
         holes: &[],
         edges,
         vertices: &[(vertex, sharpness)],
-        torn: None,
+        complete_from: 0,
+        key: None,
     };
-    let level = meshes::build_alone(rt, alloc, &told)?;
-    Ok(level)
+    meshes::build_alone(rt, alloc, &told)
 }
 
 // Whether an edge has two faces.
@@ -117,9 +118,12 @@ fn mask_of_edge(rt: &impl Abort, level: &Level, e: u32, scheme: Scheme) -> EdgeM
 }
 
 fn has_term(terms: &[Term], at: At, weight: u128) -> bool {
-    terms
-        .iter()
-        .any(|term| term.at == at && term.weight == weight)
+    for term in terms {
+        if term.at == at && term.weight == weight {
+            return true;
+        }
+    }
+    false
 }
 
 // These terms in any order and no other; each has a place of its own.
@@ -221,29 +225,17 @@ fn expect_face(rt: &impl Abort, alloc: Global, row: &FaceRow) -> Result<(), Mask
     Ok(())
 }
 
-#[test]
-fn masks_a_vertex_that_is_sharp_itself(rt: HostRuntime) -> Result<(), MaskFault> {
-    expect_vertices(&rt, rt.alloc(), corners())
+fn expect_all_vertices(rt: &impl Abort, alloc: Global) -> Result<(), MaskFault> {
+    expect_vertices(rt, alloc, corners())?;
+    expect_vertices(rt, alloc, rules())?;
+    expect_vertices(rt, alloc, open())?;
+    expect_vertices(rt, alloc, transitions())?;
+    expect_vertices(rt, alloc, longest())
 }
 
 #[test]
-fn masks_a_vertex_by_its_sharp_edges(rt: HostRuntime) -> Result<(), MaskFault> {
-    expect_vertices(&rt, rt.alloc(), rules())
-}
-
-#[test]
-fn masks_a_vertex_of_an_open_grid(rt: HostRuntime) -> Result<(), MaskFault> {
-    expect_vertices(&rt, rt.alloc(), open())
-}
-
-#[test]
-fn masks_a_vertex_whose_rule_changes(rt: HostRuntime) -> Result<(), MaskFault> {
-    expect_vertices(&rt, rt.alloc(), transitions())
-}
-
-#[test]
-fn masks_a_vertex_up_to_the_greatest_denominator(rt: HostRuntime) -> Result<(), MaskFault> {
-    expect_vertices(&rt, rt.alloc(), longest())
+fn masks_vertices(rt: HostRuntime) -> Result<(), MaskFault> {
+    expect_all_vertices(&rt, rt.alloc())
 }
 
 #[test]

@@ -1,10 +1,12 @@
 // Meshes of tables, and their levels by a builder.
 
-ghost use Rattle.std.specs.Prelude.{◌≡◌, ◌<◌};
+ghost use Rattle.std.specs.Prelude.{◌≡◌, ◌<◌, [], IfOk, OnOk};
+ghost use Rattle.level_topology.specs.Builder.{AreFans};
+ghost use Rattle.level_tests.specs.Faces.{IsUnmarked};
 
-use crate::checked::Checked;
+use crate::checked::fill;
 use crate::solids::{Fraction, INFINITE, SharpEdge, Solid, TOP, ZERO};
-use level_topology::Level;
+use level_topology::{Level, LevelBuilder};
 use ratio128::{Memory, Steps};
 use sharpness_rules::{Method, Sharpness};
 use std::alloc::Global;
@@ -12,15 +14,16 @@ use std::marker::Brand;
 use std::process::Abort;
 use std::sync::ledger::{Blank, Ledger};
 
-// What a builder is told: all points are complete but the one that is torn.
+// What a builder is told: the points from a number on are complete, and edges are numbered under a key where there is one.
 #[derive(Clone, Copy)]
 pub struct Mesh<'a> {
-    pub solid: &'static Solid,
+    pub solid: &'a Solid<'a>,
     pub method: Method,
-    pub holes: &'a [u32],
+    pub holes: &'a [usize],
     pub edges: &'a [SharpEdge],
     pub vertices: &'a [(u32, Fraction)],
-    pub torn: Option<u32>,
+    pub complete_from: u32,
+    pub key: Option<u128>,
 }
 
 pub fn sharpness_of(rt: &impl Abort, (num, den): Fraction) -> Sharpness {
@@ -37,59 +40,27 @@ pub fn fraction_of(s: Sharpness) -> Fraction {
     }
 }
 
-fn with_faces<L: Ledger>(
-    rt: &impl Abort,
-    start: Checked,
-    mesh: &Mesh,
-    steps: &mut Steps<L>,
-) -> Result<Checked, Memory> {
-    let mut builder = start;
-    let mut face: u32 = 0;
-    for corners in mesh.solid.faces {
-        let hole = mesh.holes.contains(&face);
-        builder = builder.add_face(rt, corners, hole, steps)?;
-        face = face.saturating_add(1);
-    }
-    Ok(builder)
-}
-
-fn add_sharp_edges(rt: &impl Abort, builder: &mut Checked, edges: &[SharpEdge]) {
-    for (a, b, s) in edges {
-        builder.add_sharp_edge(rt, *a, *b, sharpness_of(rt, *s));
-    }
-}
-
-fn add_sharp_vertices(rt: &impl Abort, builder: &mut Checked, vertices: &[(u32, Fraction)]) {
-    for (v, s) in vertices {
-        builder.add_sharp_vertex(rt, *v, sharpness_of(rt, *s));
-    }
-}
-
-fn mark_points(rt: &impl Abort, builder: &mut Checked, points: u32, torn: Option<u32>) {
-    for v in 0..points {
-        if torn != Some(v) {
-            builder.mark_complete(rt, v);
-        }
-    }
-}
-
-pub fn build<L: Ledger>(
-    rt: &impl Abort,
-    alloc: Global,
-    mesh: &Mesh,
-    steps: &mut Steps<L>,
-) -> Result<Level, Memory> {
+// A builder of the points alone.
+fn start(rt: &impl Abort, alloc: Global, mesh: &Mesh) -> Result<LevelBuilder, Memory>
+    ensures { IfOk result (λ builder. IsUnmarked builder mesh.now.solid.now.points []) }
+{
     let points = mesh.solid.points;
-    assert!(rt; points < 100);
-    let start = Checked::new(alloc, points, mesh.method, None)?;
-    let mut builder = with_faces(rt, start, mesh, steps)?;
-    add_sharp_edges(rt, &mut builder, mesh.edges);
-    add_sharp_vertices(rt, &mut builder, mesh.vertices);
-    mark_points(rt, &mut builder, points, mesh.torn);
-    builder.finish(rt)
+    assert!(rt; points <= 1 << 30);
+    match mesh.key {
+        None => LevelBuilder::new(alloc, points, mesh.method),
+        Some(key) => LevelBuilder::with_key(alloc, points, 1, 4, 4, mesh.method, key),
+    }
 }
 
-fn build_counted<L: Ledger>(
+// The level of a builder, unless its filling failed.
+pub fn finish(builder: LevelBuilder, filled: Result<(), Memory>) -> Result<Level, Memory>
+    requires { OnOk filled (AreFans builder) }
+{
+    filled?;
+    builder.finish()
+}
+
+fn build<L: Ledger>(
     rt: &impl Abort,
     alloc: Global,
     mesh: &Mesh,
@@ -99,10 +70,18 @@ fn build_counted<L: Ledger>(
     requires parts { blank.parts ≡ L.parts }
     requires some { 0 < blank.parts }
 {
-    build(rt, alloc, mesh, &mut Steps::start(blank.open::<L>()))
+    let mut builder = start(rt, alloc, mesh)?;
+    let filled = fill(
+        rt,
+        alloc,
+        &mut builder,
+        mesh,
+        &mut Steps::start(blank.open::<L>()),
+    );
+    finish(builder, filled)
 }
 
 // The level of a mesh.
 pub fn build_alone(rt: &impl Abort, alloc: Global, mesh: &Mesh) -> Result<Level, Memory> {
-    build_counted::<Brand>(rt, alloc, mesh, Blank::new(1))
+    build::<Brand>(rt, alloc, mesh, Blank::new(1))
 }

@@ -5,7 +5,7 @@ ghost use Rattle.std.specs.Prelude.{◌≡◌, ℕ, ◌<◌, true, false, length
 ghost use Rattle.subdiv_model.specs.Edges.{edges_of};
 
 use crate::expect::expect_same;
-use crate::meshes::{self, fraction_of};
+use crate::meshes::{self, build_alone, fraction_of};
 use crate::solids::{CUBE, Fraction, GRID, HALF, SharpEdge, Solid, THREE_HALVES, TOP, ZERO};
 use level_topology::{Child, Level, Origin};
 use ratio128::{Memory, Steps};
@@ -17,7 +17,7 @@ use std::sync::ledger::{Blank, Ledger};
 use uniform_refiner::{RefineFault, refine};
 
 // A solid with its sharp edges.
-pub type Mesh = (&'static Solid, Method, &'static [SharpEdge]);
+pub type Mesh = (&'static Solid<'static>, Method, &'static [SharpEdge]);
 
 // The origins of the ends of an edge that is sharp, in its direction, and its sharpness.
 type Sharp = ((Origin, Origin), Fraction);
@@ -89,7 +89,8 @@ pub fn told((solid, method, edges): Mesh) -> meshes::Mesh<'static> {
         holes: &[],
         edges,
         vertices: &[],
-        torn: None,
+        complete_from: 0,
+        key: None,
     }
 }
 
@@ -117,21 +118,20 @@ fn refine_level<L: Ledger>(
 fn refine_counted<L: Ledger>(
     rt: &impl Abort,
     alloc: Global,
-    mesh: Mesh,
+    level: &Level,
     blank: Blank,
 ) -> Result<Child, RefineFault>
     requires name { blank.name ≡ L.name }
     requires parts { blank.parts ≡ L.parts }
     requires some { 0 < blank.parts }
 {
-    let mut steps = Steps::start(blank.open::<L>());
-    let level = meshes::build(rt, alloc, &told(mesh), &mut steps)?;
-    refine_level(rt, alloc, &level, &mut steps)
+    refine_level(rt, alloc, level, &mut Steps::start(blank.open::<L>()))
 }
 
 // The next level of a mesh.
 fn refine_alone(rt: &impl Abort, alloc: Global, mesh: Mesh) -> Result<Child, RefineFault> {
-    refine_counted::<Brand>(rt, alloc, mesh, Blank::new(1))
+    let level = build_alone(rt, alloc, &told(mesh))?;
+    refine_counted::<Brand>(rt, alloc, &level, Blank::new(1))
 }
 
 // The edges of one face.

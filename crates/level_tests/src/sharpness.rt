@@ -120,74 +120,125 @@ fn makes_chaikin_children(rt: HostRuntime) {
     }
 }
 
+// The edges at a vertex that is smooth itself, and its rule.
+type Ruled = (Four, Rule);
+
+type Four = (Named, Named, Named, Named);
+
+const RULES: &[Ruled] = &[
+    ((Smooth, Smooth, Smooth, Smooth), Rule::Smooth),
+    ((Smooth, Of(1, 2), Smooth, Smooth), Rule::Dart),
+    (
+        (Of(1, 2), Smooth, Smooth, Infinite),
+        Rule::Crease {
+            first: 0,
+            second: 3,
+        },
+    ),
+    (
+        (Smooth, Of(1, 2), Infinite, Smooth),
+        Rule::Crease {
+            first: 1,
+            second: 2,
+        },
+    ),
+    ((Of(1, 2), Of(1, 2), Smooth, Of(1, 2)), Rule::Corner),
+    ((Infinite, Infinite, Infinite, Infinite), Rule::Corner),
+];
+
+fn rules() -> &'static [Ruled] {
+    RULES
+}
+
+fn ring_of(rt: &impl Abort, edges: Four) -> [Sharpness; 4] {
+    let (first, second, third, fourth) = edges;
+    [
+        sharpness_of(rt, first),
+        sharpness_of(rt, second),
+        sharpness_of(rt, third),
+        sharpness_of(rt, fourth),
+    ]
+}
+
 #[test]
 fn tells_rules(rt: HostRuntime) {
-    let soft = Sharpness::Smooth;
-    let semi = Sharpness::new(1, 2);
-    let hard = Sharpness::Infinite;
-    for (ring, want) in [
-        ([soft, soft, soft, soft], Rule::Smooth),
-        ([soft, semi, soft, soft], Rule::Dart),
-        (
-            [semi, soft, soft, hard],
-            Rule::Crease {
-                first: 0,
-                second: 3,
-            },
-        ),
-        (
-            [soft, semi, hard, soft],
-            Rule::Crease {
-                first: 1,
-                second: 2,
-            },
-        ),
-        ([semi, semi, soft, semi], Rule::Corner),
-        ([hard, hard, hard, hard], Rule::Corner),
-    ] {
-        expect_same(&rt, &vertex_rule(soft, &ring), &want, &ring);
-        expect_same(&rt, &vertex_rule(semi, &ring), &Rule::Corner, &ring);
+    for row in rules() {
+        let &(edges, want) = row;
+        let ring = ring_of(&rt, edges);
+        expect_same(&rt, &vertex_rule(Sharpness::Smooth, &ring), &want, row);
+        let sharp = vertex_rule(Sharpness::new(1, 2), &ring);
+        expect_same(&rt, &sharp, &Rule::Corner, row);
     }
-    expect_same(&rt, &vertex_rule(soft, &[]), &Rule::Corner, &"no edge");
+    let alone = vertex_rule(Sharpness::Smooth, &[]);
+    expect_same(&rt, &alone, &Rule::Corner, &"no edge");
+}
+
+// The sharpness of a vertex and of its two edges, now and in the next level, and the weight between the rules.
+type Weighed = (Three, Three, Result<Weight, SharpOverflow>);
+
+type Three = (Named, Named, Named);
+
+const FINE: Named = Of(1, 1 << 59);
+
+const ENDS: Three = (Smooth, Smooth, Smooth);
+
+const WEIGHTS: &[Weighed] = &[
+    (
+        (Smooth, Of(1, 2), Of(1, 3)),
+        ENDS,
+        Ok(Weight { num: 5, den: 12 }),
+    ),
+    (
+        (Of(1, 2), Of(1, 2), Smooth),
+        ENDS,
+        Ok(Weight { num: 1, den: 2 }),
+    ),
+    (
+        (Of(1, 3), Of(1, 2), Of(1, 2)),
+        ENDS,
+        Ok(Weight { num: 4, den: 9 }),
+    ),
+    (
+        (Smooth, Of(5, 2), Smooth),
+        ENDS,
+        Ok(Weight { num: 1, den: 1 }),
+    ),
+    (
+        (Smooth, FINE, FINE),
+        ENDS,
+        Ok(Weight {
+            num: 1,
+            den: 1 << 59,
+        }),
+    ),
+    ((FINE, FINE, FINE), ENDS, Err(SharpOverflow)),
+    ((Smooth, FINE, Of(1, 3)), ENDS, Err(SharpOverflow)),
+    (
+        (Of(3, 2), Of(3, 2), Of(1, 3)),
+        (Of(1, 2), Of(1, 2), Smooth),
+        Ok(Weight { num: 1, den: 3 }),
+    ),
+];
+
+fn weights() -> &'static [Weighed] {
+    WEIGHTS
 }
 
 #[test]
 fn weighs_transitions(rt: HostRuntime) {
-    let soft = Sharpness::Smooth;
-    let half = Sharpness::new(1, 2);
-    let third = Sharpness::new(1, 3);
-    let fine = Sharpness::new(1, 1 << 59);
-    for (vertex, ring, want) in [
-        (soft, [half, third], Ok(Weight { num: 5, den: 12 })),
-        (half, [half, soft], Ok(Weight { num: 1, den: 2 })),
-        (third, [half, half], Ok(Weight { num: 4, den: 9 })),
-        (
-            soft,
-            [Sharpness::new(5, 2), soft],
-            Ok(Weight { num: 1, den: 1 }),
-        ),
-        (
-            soft,
-            [fine, fine],
-            Ok(Weight {
-                num: 1,
-                den: 1 << 59,
-            }),
-        ),
-        (fine, [fine, fine], Err(SharpOverflow)),
-        (soft, [fine, third], Err(SharpOverflow)),
-    ] {
-        let given = transition_weight(vertex, soft, &ring, &[soft, soft]);
-        expect_same(&rt, &given, &want, &ring);
+    for row in weights() {
+        let &((vertex, first, second), (next, first_next, second_next), want) = row;
+        let given = transition_weight(
+            sharpness_of(&rt, vertex),
+            sharpness_of(&rt, next),
+            &[sharpness_of(&rt, first), sharpness_of(&rt, second)],
+            &[
+                sharpness_of(&rt, first_next),
+                sharpness_of(&rt, second_next),
+            ],
+        );
+        expect_same(&rt, &given, &want, row);
     }
-    let kept = Sharpness::new(3, 2);
-    let given = transition_weight(kept, half, &[kept, third], &[half, soft]);
-    expect_same(
-        &rt,
-        &given,
-        &Ok(Weight { num: 1, den: 3 }),
-        &"sharp at both",
-    );
 }
 
 // Rings as long as the longest of a mesh.

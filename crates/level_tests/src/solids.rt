@@ -7,13 +7,14 @@ pub type Fraction = (u64, u64);
 pub type SharpEdge = (u32, u32, Fraction);
 
 // So many points, and the corners of each face.
-pub struct Solid {
+#[derive(Clone, Copy)]
+pub struct Solid<'a> {
     pub points: u32,
-    pub faces: &'static [&'static [u32]],
+    pub faces: &'a [&'a [u32]],
 }
 
 // A solid with its sharp edges, and the point whose lists are complete with its sharpness.
-pub type Mesh = (&'static Solid, &'static [SharpEdge], u32, Fraction);
+pub type Mesh = (&'static Solid<'static>, &'static [SharpEdge], u32, Fraction);
 
 pub const ZERO: Fraction = (0, 1);
 
@@ -38,7 +39,7 @@ pub const HALF_OF_TOP: u64 = 1 << 59;
 
 // Edge 1 is from 1 to 3 and has the faces 0 and 4. At point 1 are the ends 0, 3 and 7 and the faces 0, 3 and 4; at point 3
 // the ends 1, 2 and 5 and the faces 0, 1 and 4.
-pub const CUBE: &Solid = &Solid {
+pub const CUBE: &Solid<'static> = &Solid {
     points: 8,
     faces: &[
         &[0, 1, 3, 2],
@@ -51,7 +52,7 @@ pub const CUBE: &Solid = &Solid {
 };
 
 // Four quads over three by three points.
-pub const GRID: &Solid = &Solid {
+pub const GRID: &Solid<'static> = &Solid {
     points: 9,
     faces: &[&[0, 1, 4, 3], &[1, 2, 5, 4], &[3, 4, 7, 6], &[4, 5, 8, 7]],
 };
@@ -82,13 +83,13 @@ pub const RIM_AND_SPOKE: &[SharpEdge] = &[
 ];
 
 // Two triangles back to back, and a point without faces.
-pub const PAIR: &Solid = &Solid {
+pub const PAIR: &Solid<'static> = &Solid {
     points: 4,
     faces: &[&[0, 1, 2], &[0, 2, 1]],
 };
 
 // Two faces of ten corners back to back.
-pub const DISC: &Solid = &Solid {
+pub const DISC: &Solid<'static> = &Solid {
     points: 10,
     faces: &[
         &[0, 1, 2, 3, 4, 5, 6, 7, 8, 9],
@@ -97,7 +98,7 @@ pub const DISC: &Solid = &Solid {
 };
 
 // The points 0 to 3 in a ring, 4 above them and 5 below.
-pub const OCTAHEDRON: &Solid = &Solid {
+pub const OCTAHEDRON: &Solid<'static> = &Solid {
     points: 6,
     faces: &[
         &[0, 1, 4],

@@ -1,17 +1,18 @@
 // The values of the points of the next level of a cube, and why there are none.
 
-ghost use Rattle.std.specs.Prelude.{◌≡◌, ℕ, ◌<◌, true, length};
+ghost use Rattle.std.specs.Prelude.{◌≡◌, ℕ, ◌<◌, ◌≤◌, ◌^◌, true, false, length, get_or, IfOk};
 ghost use Rattle.std.specs.List.{All};
 ghost use Rattle.subdiv_model.specs.Edges.{edges_of, faces_of_edge};
 ghost use Rattle.level_topology.specs.Topology.{edge_at};
+ghost use Rattle.uniform_refiner.specs.Refined.{IsRefined};
 ghost use Rattle.level_tests.specs.Values.{IsGoodPoint};
 
 use crate::expect::expect_same;
 use crate::mask_tables::has_two_faces;
-use crate::meshes;
-use crate::refined::{Mesh, assert_whole, told};
+use crate::meshes::build_alone;
+use crate::refined::{assert_whole, told};
 use crate::solids::{CUBE, SharpEdge};
-use level_topology::Level;
+use level_topology::{Child, Level};
 use mask_rules::Scheme;
 use primvar_refine::{ValueFault, Valued, refine_values};
 use ratio128::{Point3, Steps};
@@ -21,71 +22,64 @@ use std::marker::Brand;
 use std::process::Abort;
 use std::sync::ledger::{Blank, Ledger};
 use std::test::Fail;
-use uniform_refiner::{RefineFault, refine};
+use uniform_refiner::refine;
 
 // The greatest denominator, and the greatest numerator over it.
 const NUMBER_BOUND: u128 = (1 << 126) - 1;
 
-// The points of the cube: a denominator and an amount, with its signs.
-macro_rules! cube_of {
-    ($den:literal, $n:literal) => {
-        concat!($den, " -", $n, " -", $n, " ", $n, "\n", $den, " ", $n, " -", $n, " ", $n, "\n", $den, " -", $n, " ", $n, " ", $n, "\n",
-            $den, " ", $n, " ", $n, " ", $n, "\n", $den, " -", $n, " ", $n, " -", $n, "\n", $den, " ", $n, " ", $n, " -", $n, "\n",
-            $den, " -", $n, " -", $n, " -", $n, "\n", $den, " ", $n, " -", $n, " -", $n)
+// A point: its denominator and its numerators.
+macro_rules! point {
+    ($den:literal, $x:expr, $y:expr, $z:expr) => {
+        Valued { value: Point3 { x: $x, y: $y, z: $z }, den: $den }
     };
 }
 
-const CUBE_POINTS: &str = cube_of!("1", "1");
-
-// The same after one step, each with its denominator: of vertices, of faces, and of edges.
-const CUBE_VALUES: &str = "\
-36 -20 -20 20\n\
-36 20 -20 20\n\
-36 -20 20 20\n\
-36 20 20 20\n\
-36 -20 20 -20\n\
-36 20 20 -20\n\
-36 -20 -20 -20\n\
-36 20 -20 -20\n\
-4 0 0 4\n\
-4 0 4 0\n\
-4 0 0 -4\n\
-4 0 -4 0\n\
-4 4 0 0\n\
-4 -4 0 0\n\
-16 0 -12 12\n\
-16 12 0 12\n\
-16 0 12 12\n\
-16 -12 0 12\n\
-16 12 12 0\n\
-16 0 12 -12\n\
-16 -12 12 0\n\
-16 12 0 -12\n\
-16 0 -12 -12\n\
-16 -12 0 -12\n\
-16 12 -12 0\n\
-16 -12 -12 0";
-
-// A point: its denominator and its numerators.
-fn point_of(line: &str) -> Result<Valued<Point3>, Fail> {
-    let mut words = line.split(' ');
-    let den = words.next().ok_or("a denominator")?.parse::<u128>()?;
-    let x = words.next().ok_or("x")?.parse::<i128>()?;
-    let y = words.next().ok_or("y")?.parse::<i128>()?;
-    let z = words.next().ok_or("z")?.parse::<i128>()?;
-    Ok(Valued {
-        value: Point3 { x, y, z },
-        den,
-    })
+// The points of the cube: a denominator and an amount, with its signs.
+macro_rules! cube_of {
+    ($den:literal, $n:literal) => {
+        &[point!($den, -$n, -$n, $n), point!($den, $n, -$n, $n), point!($den, -$n, $n, $n), point!($den, $n, $n, $n),
+            point!($den, -$n, $n, -$n), point!($den, $n, $n, -$n), point!($den, -$n, -$n, -$n), point!($den, $n, -$n, -$n)]
+    };
 }
 
-// The points of a level, a line for each.
-fn points_of(alloc: Global, text: &str) -> Result<Vec<Valued<Point3>>, Fail> {
-    let mut points = Vec::new(alloc);
-    for line in text.lines() {
-        points.push(point_of(line)?)?;
-    }
-    Ok(points)
+const CUBE_POINTS: &[Valued<Point3>] = cube_of!(1, 1);
+
+// The same after one step, each with its denominator: of vertices, of faces, and of edges.
+const CUBE_VALUES: &[Valued<Point3>] = &[
+    point!(36, -20, -20, 20),
+    point!(36, 20, -20, 20),
+    point!(36, -20, 20, 20),
+    point!(36, 20, 20, 20),
+    point!(36, -20, 20, -20),
+    point!(36, 20, 20, -20),
+    point!(36, -20, -20, -20),
+    point!(36, 20, -20, -20),
+    point!(4, 0, 0, 4),
+    point!(4, 0, 4, 0),
+    point!(4, 0, 0, -4),
+    point!(4, 0, -4, 0),
+    point!(4, 4, 0, 0),
+    point!(4, -4, 0, 0),
+    point!(16, 0, -12, 12),
+    point!(16, 12, 0, 12),
+    point!(16, 0, 12, 12),
+    point!(16, -12, 0, 12),
+    point!(16, 12, 12, 0),
+    point!(16, 0, 12, -12),
+    point!(16, -12, 12, 0),
+    point!(16, 12, 0, -12),
+    point!(16, 0, -12, -12),
+    point!(16, -12, 0, -12),
+    point!(16, 12, -12, 0),
+    point!(16, -12, -12, 0),
+];
+
+fn cube_points() -> &'static [Valued<Point3>] {
+    CUBE_POINTS
+}
+
+fn cube_values() -> &'static [Valued<Point3>] {
+    CUBE_VALUES
 }
 
 // Whether the numbers of a point keep their bounds.
@@ -116,6 +110,22 @@ fn assert_closed(rt: &impl Abort, level: &Level)
     }
 }
 
+// The next level, where there is memory for it.
+fn next_level<L: Ledger>(
+    alloc: Global,
+    level: &Level,
+    steps: &mut Steps<L>,
+) -> Result<Child, ValueFault>
+    requires whole { (v : ℕ) → v < level.now.level.point_count → get_or level.now.complete v false ≡ true }
+    requires short { level.now.level.point_count ≤ 2 ^ 29 }
+    ensures { IfOk result (IsRefined level.now) }
+{
+    match refine(alloc, level, steps) {
+        Ok(child) => Ok(child),
+        Err(_) => Err(ValueFault::Memory),
+    }
+}
+
 // The values of the next level, after what they ask is tested.
 fn values_after<L: Ledger>(
     rt: &impl Abort,
@@ -129,10 +139,7 @@ fn values_after<L: Ledger>(
     assert_good(rt, points);
     assert_whole(rt, level);
     assert_closed(rt, level);
-    let child = match refine(alloc, level, steps) {
-        Ok(child) => child,
-        Err(_) => return Err(ValueFault::Memory),
-    };
+    let child = next_level(alloc, level, steps)?;
     child.facts();
     refine_values(alloc, level, &child, points, Scheme::CatmullClark, steps)
 }
@@ -140,7 +147,7 @@ fn values_after<L: Ledger>(
 fn values_counted<L: Ledger>(
     rt: &impl Abort,
     alloc: Global,
-    mesh: Mesh,
+    level: &Level,
     points: &[Valued<Point3>],
     blank: Blank,
 ) -> Result<Vec<Valued<Point3>>, ValueFault>
@@ -148,9 +155,13 @@ fn values_counted<L: Ledger>(
     requires parts { blank.parts ≡ L.parts }
     requires some { 0 < blank.parts }
 {
-    let mut steps = Steps::start(blank.open::<L>());
-    let level = meshes::build(rt, alloc, &told(mesh), &mut steps)?;
-    values_after(rt, alloc, &level, points, &mut steps)
+    values_after(
+        rt,
+        alloc,
+        level,
+        points,
+        &mut Steps::start(blank.open::<L>()),
+    )
 }
 
 // The values of the next level of the cube with sharp edges.
@@ -160,39 +171,23 @@ fn values_alone(
     edges: &'static [SharpEdge],
     points: &[Valued<Point3>],
 ) -> Result<Vec<Valued<Point3>>, ValueFault> {
-    values_counted::<Brand>(
-        rt,
-        alloc,
-        (CUBE, Method::Normal, edges),
-        points,
-        Blank::new(1),
-    )
+    let level = build_alone(rt, alloc, &told((CUBE, Method::Normal, edges)))?;
+    values_counted::<Brand>(rt, alloc, &level, points, Blank::new(1))
 }
 
-fn expect_points(
-    rt: &impl Abort,
-    alloc: Global,
-    given: &[Valued<Point3>],
-    want: &str,
-) -> Result<(), Fail> {
-    let want = points_of(alloc, want)?;
-    expect_same(rt, &given, &want.as_slice(), &"values");
+fn expect_cube(rt: &impl Abort, alloc: Global) -> Result<(), ValueFault> {
+    let given = values_alone(rt, alloc, &[], cube_points())?;
+    expect_same(rt, &given.as_slice(), &cube_values(), &"values");
     Ok(())
 }
 
-fn expect_cube(rt: &impl Abort, alloc: Global) -> Result<(), Fail> {
-    let points = points_of(alloc, CUBE_POINTS)?;
-    let given = values_alone(rt, alloc, &[], &points)?;
-    expect_points(rt, alloc, &given, CUBE_VALUES)
-}
-
 #[test]
-fn refines_the_points_of_a_cube(rt: HostRuntime) -> Result<(), Fail> {
+fn refines_the_points_of_a_cube(rt: HostRuntime) -> Result<(), ValueFault> {
     expect_cube(&rt, rt.alloc())
 }
 
 // Edges of the cube, its points, and the fault.
-type Fault = (&'static [SharpEdge], &'static str, ValueFault);
+type Fault = (&'static [SharpEdge], &'static [Valued<Point3>], ValueFault);
 
 const FAULTS: &[Fault] = &[
     (
@@ -206,12 +201,12 @@ const FAULTS: &[Fault] = &[
     ),
     (
         &[],
-        cube_of!("2658455991569831745807614120560689152", "1"),
+        cube_of!(2658455991569831745807614120560689152, 1),
         ValueFault::Denominator(0),
     ),
     (
         &[],
-        cube_of!("1", "2363071992506517107384545884942834802"),
+        cube_of!(1, 2363071992506517107384545884942834802),
         ValueFault::TooBig(0),
     ),
 ];
@@ -220,24 +215,17 @@ fn faults() -> &'static [Fault] {
     FAULTS
 }
 
-fn expect_fault(rt: &impl Abort, alloc: Global, row: &Fault) -> Result<(), Fail> {
-    let &(edges, text, want) = row;
-    let points = points_of(alloc, text)?;
-    let given = values_alone(rt, alloc, edges, &points).err();
+fn expect_fault(rt: &impl Abort, alloc: Global, row: &Fault) {
+    let &(edges, points, want) = row;
+    let given = values_alone(rt, alloc, edges, points).err();
     expect_same(rt, &given, &Some(want), row);
-    Ok(())
-}
-
-fn expect_faults(rt: &impl Abort, alloc: Global) -> Result<(), Fail> {
-    for row in faults() {
-        expect_fault(rt, alloc, row)?;
-    }
-    Ok(())
 }
 
 #[test]
-fn refuses_numbers_past_their_bounds(rt: HostRuntime) -> Result<(), Fail> {
-    expect_faults(&rt, rt.alloc())
+fn refuses_numbers_past_their_bounds(rt: HostRuntime) {
+    for row in faults() {
+        expect_fault(&rt, rt.alloc(), row);
+    }
 }
 
 #[test]

@@ -1,10 +1,13 @@
 // A vertex of as many edges as a face may have corners.
 
 ghost use Rattle.std.specs.Prelude.{◌≡◌, ◌+◌, ◌<◌, ◌≤◌, ◌^◌, [], OnOk};
+ghost use Rattle.subdiv_model.specs.Sharpness.{Normal};
+ghost use Rattle.level_topology.specs.Builder.{AreFans, only_points};
 ghost use Rattle.level_tests.specs.Wheel.{open_wheel};
 
 use crate::expect::expect_same;
 use crate::mask_tables::mask_of_vertex;
+use crate::meshes::finish;
 use level_topology::{Level, LevelBuilder};
 use mask_rules::{At, MaskFault, Scheme, Term};
 use ratio128::{Memory, Steps};
@@ -33,16 +36,30 @@ fn add_triangles<L: Ledger>(
     Ok(())
 }
 
-// So many triangles about the point 0, which is complete, and one more that closes the ring.
+// Tells a new builder so many triangles about the point 0, one more that closes the ring, and that the point is complete.
+fn add_wheel<L: Ledger>(
+    builder: &mut LevelBuilder,
+    count: u32,
+    steps: &mut Steps<L>,
+) -> Result<(), Memory>
+    requires ring { 2 ≤ count }
+    requires few { count ≤ 2 ^ 20 }
+    requires alone { builder.old ≡ only_points (count + 2) Normal }
+    ensures { OnOk result (AreFans builder.new) }
+{
+    add_triangles(builder, count, steps)?;
+    builder.add_face(&[0, 1, count + 1], false, steps)?;
+    builder.mark_complete(0);
+    Ok(())
+}
+
 fn make_wheel<L: Ledger>(alloc: Global, count: u32, steps: &mut Steps<L>) -> Result<Level, Memory>
     requires ring { 2 ≤ count }
     requires few { count ≤ 2 ^ 20 }
 {
     let mut builder = LevelBuilder::new(alloc, count + 2, Method::Normal)?;
-    add_triangles(&mut builder, count, steps)?;
-    builder.add_face(&[0, 1, count + 1], false, steps)?;
-    builder.mark_complete(0);
-    builder.finish()
+    let filled = add_wheel(&mut builder, count, steps);
+    finish(builder, filled)
 }
 
 fn wheel_counted<L: Ledger>(alloc: Global, count: u32, blank: Blank) -> Result<Level, Memory>
@@ -55,11 +72,10 @@ fn wheel_counted<L: Ledger>(alloc: Global, count: u32, blank: Blank) -> Result<L
     make_wheel(alloc, count, &mut Steps::start(blank.open::<L>()))
 }
 
-fn wheel_alone(rt: &impl Abort, alloc: Global, spokes: u32) -> Result<Level, MaskFault> {
+fn wheel_alone(rt: &impl Abort, alloc: Global, spokes: u32) -> Result<Level, Memory> {
     assert!(rt; spokes >= 3);
     assert!(rt; spokes <= 1 << 20);
-    let level = wheel_counted::<Brand>(alloc, spokes - 1, Blank::new(1))?;
-    Ok(level)
+    wheel_counted::<Brand>(alloc, spokes - 1, Blank::new(1))
 }
 
 // The sum of the weights; that of the vertex is given, and each other one is 1.

@@ -1,6 +1,6 @@
 use Rattle.std.proofs.Common.{◌≡◌, length, Some}
 use Rattle.subdiv_model.specs.Manifold.{left_after}
-use Rattle.level_tests.specs.Kept.{corners_of}
+use Rattle.level_tests.specs.Faces.{corners_of}
 use Rattle.level_tests.proofs.fans.faces_left.Given as goal
 
 -- the steps that are to come end as all of them

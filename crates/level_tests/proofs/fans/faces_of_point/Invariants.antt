@@ -1,6 +1,6 @@
 use Rattle.std.proofs.Common.{◌≡◌, take}
 use Rattle.subdiv_model.specs.Edges.{faces_of_point}
-use Rattle.level_tests.specs.Kept.{corners_of}
+use Rattle.level_tests.specs.Faces.{corners_of}
 use Rattle.level_tests.proofs.fans.faces_of_point.Given as goal
 
 abbrev pub invariant-loop-face : goal.invariant-loop-face

@@ -1,7 +1,7 @@
 use Rattle.std.proofs.Common.{◌≡◌, length}
 use Rattle.std.specs.List.{find}
 use Rattle.subdiv_model.specs.Manifold.{is_successor}
-use Rattle.level_tests.specs.Kept.{corners_of}
+use Rattle.level_tests.specs.Faces.{corners_of}
 use Rattle.level_tests.proofs.fans.find_successor.Given as goal
 
 abbrev pub invariant-loop-rest : goal.invariant-loop-rest

@@ -1,7 +1,7 @@
 use Rattle.std.proofs.Common.{◌≡◌, false, take}
 use Rattle.std.specs.List.{list_any}
 use Rattle.subdiv_model.specs.Manifold.{walk_meets_all}
-use Rattle.level_tests.specs.Kept.{corners_of}
+use Rattle.level_tests.specs.Faces.{corners_of}
 use Rattle.level_tests.proofs.fans.some_walk_meets_all.Given as goal
 
 abbrev pub invariant-loop-face : goal.invariant-loop-face

@@ -1,4 +1,4 @@
-use Rattle.std.proofs.Common.{◌≡◌, ap, sym, ◌∙◌, subst, length, map}
+use Rattle.std.proofs.Common.{ap, sym, ◌∙◌, subst, length, map}
 use Rattle.subdiv_model.specs.Edges.{edges_of}
 use Rattle.level_topology.specs.Topology.{Topology}
 use Rattle.level_topology.specs.Child.{IsChild, ChildTopology}

@@ -1,0 +1,15 @@
+-- The faces that a builder of levels is told, as polygons, and what it has before points are marked.
+use Rattle.std.specs.Prelude.{ℕ, ◌≡◌, false, List, map, replicate}
+use Rattle.std.specs.Borrow.{Bor}
+use Rattle.subdiv_model.specs.Polygons.{Polygon}
+use Rattle.level_topology.specs.Builder.{Built}
+
+-- the corners of each face
+abbrev pub corners_of : List (Bor (List ℕ)) → List Polygon
+corners_of faces = map (λ face. face.now) faces
+
+-- these faces over so many points, none of which is marked
+pub record IsUnmarked (built : Built) (points : ℕ) (polygons : List Polygon) : Type 0 where
+  pub faces : built.level.polygons ≡ polygons
+  pub count : built.level.point_count ≡ points
+  pub marks : built.complete ≡ replicate points false
