@@ -1,10 +1,10 @@
 -- A channel of any values: its controls as rows, and its refined values in columns.
-use Rattle.std.proofs.Common.{◌≡◌, ℕ, zero, suc, ◌+◌, ◌*◌, ◌<◌, ◌≤◌, max, ℤ, pos, ◌*ℤ◌, unsigned_abs, List, [], ◌∷◌, length, map, get_or, Result, Ok, Err, OnOk, arith, refl, ap, sym, subst, ◌∙◌}
+use Rattle.std.proofs.Common.{◌≡◌, ℕ, zero, suc, ◌+◌, ◌*◌, ◌<◌, ◌≤◌, max, ℤ, pos, ◌*ℤ◌, unsigned_abs, List, [], ◌∷◌, ◌++◌, length, map, take, get_or, Result, Ok, Err, OnOk, arith, refl, ap, sym, subst, ◌∙◌}
 use Rattle.std.specs.Prelude.{MatchResult}
 use Rattle.std.specs.List.{All, AllByRecursion, flat_map, fold}
 use Rattle.std.proofs.Math.IntN.{*ℤ_comm}
 use Rattle.std.proofs.Math.Nat.{mul_comm, mul-le-mul_left, le-max_left, le-max_right, max-le}
-use Rattle.std.proofs.lemmas.List.{length-map, map-append}
+use Rattle.std.proofs.lemmas.List.{length-map, map-append, take_more}
 use Rattle.std.proofs.lemmas.List.Elements.{All-from_recursion, recursion_from_All}
 use Rattle.std.proofs.lemmas.List.Sums.{fold-append}
 use Rattle.subdiv_model.specs.Value.{Value, IsSameValue}
@@ -34,6 +34,16 @@ scaled common x y same = turned x.num y.den ∙ ap (λ z. pos common *ℤ z) sam
         ∙ ap (λ m. pos m *ℤ n) (mul_comm den common)
         ∙ sym (pos-assoc common den n)
         ∙ ap (λ z. pos common *ℤ z) (*ℤ_comm (pos den) n)
+
+-- one control more
+pub next-control : {P : Type 0} (numbers : List P) (i : ℕ) (d p : P) (old new : List (Valued P)) → i < length numbers → p ≡ get_or numbers i d → old ≡ map control_of (take i numbers) →
+    new ≡ old ++ control_of p ∷ [] → new ≡ map control_of (take (i + 1) numbers)
+next-control numbers i d p old new within is before pushed =
+    pushed
+    ∙ ap (λ xs. xs ++ control_of p ∷ []) before
+    ∙ ap (λ x. map control_of (take i numbers) ++ control_of x ∷ []) is
+    ∙ sym (map-append control_of (take i numbers) (get_or numbers i d ∷ []))
+    ∙ ap (map control_of) (sym (take_more numbers i d within))
 
 -- a column of denominators
 dens-by : (rows : List Row) → AllByRecursion (λ row. 0 < row.den) rows → (p : ℕ) → 0 < get_or (dens_of rows) p 1

@@ -1,5 +1,5 @@
 -- What a mesh is refused for, by its faults.
-use Rattle.std.proofs.Common.{◌≡◌, ℕ, ◌<◌, ◌≤◌, Bool, true, false, cond, nat_lt, List, ◌++◌, length, Option, Some, None, IsTrue, arith, refl, ap, ◌∙◌}
+use Rattle.std.proofs.Common.{◌≡◌, ℕ, ◌<◌, ◌≤◌, Bool, true, false, cond, nat_lt, List, ◌++◌, length, Option, Some, None, Result, Ok, Err, IsTrue, IsErr, IsErrAnd, MatchResult, arith, refl, ap, sym, subst, ◌∙◌}
 use Rattle.std.proofs.lemmas.Bool.Decides.{nat_tests}
 use Rattle.subdiv_model.specs.Lists.{first_of}
 use Rattle.subdiv_model.specs.Manifold.{IsManifold, is_manifold}
@@ -16,6 +16,7 @@ use Rattle.mesh_laws.proofs.WalkLemmas.{manifold-decides}
 use Rattle.obj_laws.proofs.ObjMeshLemmas.{faces-over}
 use Rattle.far_engine.specs.Outcome.{is_made, mesh_of, refusal_of_command, refusal_of_mesh, refusal_of_obj}
 use Rattle.far_engine.specs.Replies.{HasManifolds}
+use Rattle.far_engine.specs.declared.fault.FarFault.{FarFault}
 use Rattle.far_engine.proofs.ManifoldLemmas.{levels-manifold}
 
 -- a number within a bound, and beyond it
@@ -123,3 +124,8 @@ text-of-good (Levels depth) bytes h = bytes-text (nat_lt byte_limit (length byte
 text-of-good (Gen seed size depth) bytes h =
     let mesh = generated_mesh seed size in
     unless-text (first_of (count_faults mesh ++ command_faults (Gen seed size depth) mesh)) (command_text (Gen seed size depth) mesh) h
+
+-- what was found is handed on as it came
+pub handed-on : {A : Type 0} (P : A → Type 0) (Q : FarFault → Type 0) (r : Result A FarFault) (f : FarFault) → IsErr r → IsErrAnd r (λ g. g ≡ f) → Q f → MatchResult r P Q
+handed-on P Q (Ok x) f err same q = absurd same
+handed-on P Q (Err g) f err same q = subst Q (sym same) q

@@ -1,9 +1,12 @@
 -- What a run owes at each of its ends.
 use Rattle.std.proofs.Common.{◌≡◌, ℕ, ◌+◌, ◌≤◌, false, true, List, [], ◌++◌, length, take, Option, Some, None, Result, Ok, Err, IfOk, IfErr, IsErr, IsErrAnd, MatchResult, OnOk, OnErr, arith, append-nil, length-append, refl, ap, sym, subst, ◌∙◌}
+use Rattle.far_io.specs.declared.source.InputFault.{InputFault}
+use Rattle.far_io.specs.declared.source.InputFault.TheVariants.{Read as ReadFailed, Long as TooLong, Memory as NoMemory}
 use Rattle.far_io.specs.Bytes.{Rose, Took, TookPrefix, TookMore, Added, AddedPrefix, IsDry}
 use Rattle.subdiv_model.specs.Polygons.{is_over}
 use Rattle.subdiv_model.specs.Manifold.{IsManifold}
 use Rattle.subdiv_model.specs.Words.{command_table, usage_of}
+use Rattle.subdiv_model.specs.ObjMesh.{ObjMesh}
 use Rattle.subdiv_model.specs.ReadObj.{read_obj_mesh}
 use Rattle.subdiv_model.specs.Command.{Command, Gen, command_of, read_or}
 use Rattle.subdiv_model.specs.Generator.{generated_mesh}
@@ -13,7 +16,7 @@ use Rattle.far_engine.specs.Written.{written_text}
 use Rattle.far_engine.specs.Outcome.{refusal_of, refusal_of_command, refusal_of_obj, refusal_of_made, text_of, mesh_of, is_made, input_of, IsAnswered, IsFound, step_limit, least_steps}
 use Rattle.far_engine.specs.Replies.{Called, HasManifolds, IsReady, IsRefused}
 use Rattle.far_engine.specs.Runs.{Runs}
-use Rattle.far_engine.specs.View.{fault_of, outcome_of, reply_text}
+use Rattle.far_engine.specs.View.{fault_of, input_fault_of, outcome_of, reply_text}
 use Rattle.far_engine.specs.declared.fault.FarFault.{FarFault}
 use Rattle.far_engine.specs.declared.fault.FarFault.TheVariants as answered
 use Rattle.far_engine.specs.declared.reply.Reply.{Reply}
@@ -114,7 +117,7 @@ module _ {S : Type 0} (left : S → Option (List ℕ)) (faults : S → ℕ) wher
     told bytes e = sym (ap (λ made. input_of made (left s)) read) ∙ e
 
     -- too much came
-    pub read_long : TookMore byte_limit (left s) (left s') → IsRefused left faults command s s' Long
+    read_long : TookMore byte_limit (left s) (left s') → IsRefused left faults command s s' Long
     read_long more = record {
       called = called_read more.0 more.1;
       whole = λ e. absurd (cc);
@@ -128,7 +131,7 @@ module _ {S : Type 0} (left : S → Option (List ℕ)) (faults : S → ℕ) wher
     }
 
     -- a read failed
-    pub read_failed : TookPrefix (left s) (left s') → Rose (faults s) (faults s') → IsRefused left faults command s s' Read
+    read_failed : TookPrefix (left s) (left s') → Rose (faults s) (faults s') → IsRefused left faults command s s' Read
     read_failed taken rose = record {
       called = called_read taken.0 taken.1;
       whole = λ e. absurd (cc);
@@ -140,7 +143,7 @@ module _ {S : Type 0} (left : S → Option (List ℕ)) (faults : S → ℕ) wher
     }
 
     -- memory ran out
-    pub read_short_of_memory : TookPrefix (left s) (left s') → IsRefused left faults command s s' Memory
+    read_short_of_memory : TookPrefix (left s) (left s') → IsRefused left faults command s s' Memory
     read_short_of_memory taken = record {
       called = called_read taken.0 taken.1;
       whole = λ e. absurd (cc);
@@ -151,6 +154,13 @@ module _ {S : Type 0} (left : S → Option (List ℕ)) (faults : S → ℕ) wher
       long = λ e. absurd (cc);
     }
 
+    -- whichever of these it was
+    pub read_fault : (told : Fault) (fault : InputFault) → told ≡ input_fault_of fault → TookPrefix (left s) (left s') →
+        (fault ≡ TooLong → TookMore byte_limit (left s) (left s')) → (fault ≡ ReadFailed → Rose (faults s) (faults s')) → IsRefused left faults command s s' told
+    read_fault told TooLong is taken more rose = subst (IsRefused left faults command s s') (sym is) (read_long (more refl))
+    read_fault told ReadFailed is taken more rose = subst (IsRefused left faults command s s') (sym is) (read_failed taken (rose refl))
+    read_fault told NoMemory is taken more rose = subst (IsRefused left faults command s s') (sym is) (read_short_of_memory taken)
+
     -- all was read
     module _ (bytes : List ℕ) (took : Took (left s) (left s') bytes) (dry : IsDry (left s')) where
       -- what was read is what the source told
@@ -159,6 +169,11 @@ module _ {S : Type 0} (left : S → Option (List ℕ)) (faults : S → ℕ) wher
 
       same_mesh : (other : List ℕ) → input_of (is_made command) (left s) ≡ Some other → read_obj_mesh bytes 0 ≡ mesh_of command other
       same_mesh other e = ap (λ b. read_obj_mesh b 0) (same_bytes other e) ∙ sym (mesh-of-read command other read)
+
+      -- what is so of the mesh of what was read is so of the mesh of the input
+      pub read_mesh : (slice : List ℕ) → slice ≡ bytes → (Holds : ObjMesh → Type 0) → Holds (read_obj_mesh slice 0) → (other : List ℕ) →
+          input_of (is_made command) (left s) ≡ Some other → Holds (mesh_of command other)
+      read_mesh slice same Holds holds other e = subst Holds (ap (λ b. read_obj_mesh b 0) same ∙ same_mesh other e) holds
 
       same_refusal : length bytes ≤ byte_limit → (other : List ℕ) → input_of (is_made command) (left s) ≡ Some other →
           refusal_of_command command other ≡ refusal_of_obj command bytes
@@ -327,12 +342,12 @@ pub steps_as : (words : List (List ℕ)) (left : Option (List ℕ)) (command : C
 steps_as words left command old new said bound =
     subst (λ c. (bytes : List ℕ) → input_of (is_made c) left ≡ Some bytes → new ≤ old + step_limit c (mesh_of c bytes)) said bound
 
-pub taken-as : (words : List (List ℕ)) (left : Option (List ℕ)) (command : Command) (old new : ℕ) → command ≡ command_of words →
-    ((bytes : List ℕ) → input_of (is_made command) left ≡ Some bytes → old + least_steps command (mesh_of command bytes) ≤ new) →
+pub taken-as : (words : List (List ℕ)) (left : Option (List ℕ)) (result : Result (Unit {0}) FarFault) (command : Command) (old new : ℕ) → command ≡ command_of words →
+    ((bytes : List ℕ) → input_of (is_made command) left ≡ Some bytes → OnOk result (old + least_steps command (mesh_of command bytes) ≤ new)) →
     (bytes : List ℕ) → input_of (is_made (command_of words)) left ≡ Some bytes →
-    old + least_steps (command_of words) (mesh_of (command_of words) bytes) ≤ new
-taken-as words left command old new said bound =
-    subst (λ c. (bytes : List ℕ) → input_of (is_made c) left ≡ Some bytes → old + least_steps c (mesh_of c bytes) ≤ new) said bound
+    OnOk result (old + least_steps (command_of words) (mesh_of (command_of words) bytes) ≤ new)
+taken-as words left result command old new said bound =
+    subst (λ c. (bytes : List ℕ) → input_of (is_made c) left ≡ Some bytes → OnOk result (old + least_steps c (mesh_of c bytes) ≤ new)) said bound
 
 -- a status of 0 is that of a run without a fault
 status_not_0 : (fault : Fault) → fault_status fault ≡ 0 → ⊥

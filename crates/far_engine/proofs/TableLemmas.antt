@@ -1,19 +1,14 @@
 -- What the table of a mesh is refused for, and what is written of it.
-use Rattle.std.proofs.Common.{◌≡◌, ℕ, List, length, Option, Some, None, refl, ap, sym, subst, ◌∙◌}
-use Rattle.std.specs.List.{sum_by}
+use Rattle.std.proofs.Common.{◌≡◌, ℕ, List, length, None, refl, ap, sym, subst, ◌∙◌}
 use Rattle.subdiv_model.specs.Lists.{first_of}
-use Rattle.subdiv_model.specs.Polygons.{Polygon}
 use Rattle.subdiv_model.specs.Base.{base_level}
 use Rattle.subdiv_model.specs.ObjMesh.{ObjMesh}
 use Rattle.subdiv_model.specs.Mask.{CatmullClark}
-use Rattle.subdiv_model.specs.Command.{Command, Stencils, Gen}
-use Rattle.subdiv_model.specs.Fault.{Fault, TooLarge, Positions}
+use Rattle.subdiv_model.specs.Command.{Stencils, Gen}
+use Rattle.subdiv_model.specs.Fault.{Fault, Positions}
 use Rattle.subdiv_model.specs.Channel.{Channel, Tables, channel_faults}
 use Rattle.subdiv_model.specs.Answer.{level_count_faults, positions_of}
 use Rattle.level_topology.specs.Topology.{Topology}
-use Rattle.level_topology.specs.declared.counted.Counted.{Counted}
-use Rattle.level_topology.specs.CountedText.{counted_of}
-use Rattle.mesh_check.specs.Counts.{count_named}
 use Rattle.mesh_check.specs.Checked.{IsAccepted}
 use Rattle.stencil_apply.specs.Table.{Table, IsTable}
 use Rattle.channel_refine.specs.Composed.{IsComposedTo}
@@ -22,24 +17,15 @@ use Rattle.level_text.specs.TableText.{text_of_table}
 use Rattle.level_text.proofs.SameTableLemmas.{table_text-same}
 use Rattle.far_engine.specs.Written.{IsWritten, written_text}
 use Rattle.far_engine.specs.Outcome.{refusal_of_mesh, IsFound}
+use Rattle.far_engine.specs.Levels.{IsFoundWithin}
 use Rattle.far_engine.specs.Tables.{IsComposedOf, IsFoundComposing}
 use Rattle.far_engine.proofs.LevelLemmas.{refusal-of-others}
-use Rattle.far_engine.proofs.SeriesLemmas.{large-level}
 
 -- the faults of a table's levels
 abbrev table_faults : ObjMesh → ℕ → List Fault
 table_faults mesh depth = channel_faults Tables (positions_of mesh) Positions depth
 
 module _ (mesh : ObjMesh) (level : Topology) (depth : ℕ) (accepted : IsAccepted mesh level) where
-  -- a level that would have too many faces
-  pub large-table : (first : ℕ) (found : Option Counted) (counted : Counted) → first ≡ sum_by length level.level.polygons →
-      ((polygons : List Polygon) → first ≡ sum_by length polygons → count_named found ≡ first_of (level_count_faults polygons depth)) → found ≡ Some counted →
-      IsFoundComposing depth mesh (TooLarge (counted_of counted))
-  large-table first found counted sum tells some = record {
-    stencils = large-level (Stencils depth) mesh level depth (table_faults mesh depth) first found counted accepted refl sum tells some;
-    made = λ seed size. large-level (Gen seed size depth) mesh level depth (table_faults mesh depth) first found counted accepted refl sum tells some;
-  }
-
   module _ (few : first_of (level_count_faults mesh.faces depth) ≡ None) where
     -- else the mesh is refused for the first fault of its table
     stencils-refusal : refusal_of_mesh (Stencils depth) mesh ≡ first_of (table_faults mesh depth)
@@ -71,8 +57,8 @@ table-written mesh depth last table is = record {
 }
 
 -- a fault that every command finds is found where a table is composed
-pub found-composing : (depth : ℕ) (mesh : ObjMesh) (fault : Fault) → ((command : Command) → IsFound fault (refusal_of_mesh command mesh)) → IsFoundComposing depth mesh fault
+pub found-composing : (depth : ℕ) (mesh : ObjMesh) (fault : Fault) → IsFoundWithin depth mesh fault → IsFoundComposing depth mesh fault
 found-composing depth mesh fault found = record {
-  stencils = found (Stencils depth);
-  made = λ seed size. found (Gen seed size depth);
+  stencils = found.refused (Stencils depth) (table_faults mesh depth) refl;
+  made = λ seed size. found.refused (Gen seed size depth) (table_faults mesh depth) refl;
 }

@@ -1,6 +1,8 @@
 -- The faults and the outcomes of the code, as those of the definitions.
 use Rattle.std.specs.Prelude.{ℕ, List, map, Option, Some, None, Result, Ok, Err}
 use Rattle.subdiv_model.specs.Fault as model
+use Rattle.far_io.specs.declared.source.InputFault.{InputFault}
+use Rattle.far_io.specs.declared.source.InputFault.TheVariants.{Read as ReadFailed, Long as TooLong, Memory as NoMemory}
 use Rattle.obj_tags.specs.View.{cause_of}
 use Rattle.level_topology.specs.CountedText.{counted_of}
 use Rattle.mesh_check.specs.View.{mesh_fault_of}
@@ -38,6 +40,12 @@ fault_of (TooLarge counted) = model.TooLarge (counted_of counted)
 fault_of (Overflow track level kind) = model.Overflow (track_of track) level (kind_of kind)
 fault_of Write = model.Write
 fault_of Memory = model.Memory
+
+-- why a source could not be read to its end
+abbrev pub input_fault_of : InputFault → model.Fault
+input_fault_of ReadFailed = model.Read
+input_fault_of TooLong = model.Long
+input_fault_of NoMemory = model.Memory
 
 -- the text of a reply
 abbrev pub reply_text : Reply → List ℕ

@@ -1,12 +1,16 @@
-ghost use Rattle.std.specs.Prelude.{◌≡◌, ◌+◌, ◌≤◌, List, ℕ, false, map, Option, Some, string_bytes, IfOk, MatchResult, OnOk};
+ghost use Rattle.std.specs.Prelude.{◌≡◌, ◌+◌, ◌≤◌, List, ℕ, false, length, map, Option, None, Some, string_bytes, IfOk, IfErr, MatchResult, OnOk};
+ghost use Rattle.subdiv_model.specs.Answer.{byte_limit};
 ghost use Rattle.subdiv_model.specs.Command.{command_of};
+ghost use Rattle.subdiv_model.specs.Command as model;
+ghost use Rattle.subdiv_model.specs.Words.{command_table, usage_of};
 ghost use Rattle.subdiv_model.specs.Fault.{Fault, outcome_status};
+ghost use Rattle.far_io.specs.Bytes.{Took, IsDry};
 ghost use Rattle.far_words.specs.View.{command_of_code};
 ghost use Rattle.far_engine.specs.Written.{IsInRange};
 ghost use Rattle.far_engine.specs.Outcome.{is_made, input_of, mesh_of, step_limit, least_steps};
 ghost use Rattle.far_engine.specs.Replies.{IsReady, IsRefused};
 ghost use Rattle.far_engine.specs.Runs.{Runs, Reports};
-ghost use Rattle.far_engine.specs.View.{CanPut, fault_of, outcome_of, reply_text};
+ghost use Rattle.far_engine.specs.View.{CanPut, fault_of, input_fault_of, outcome_of, reply_text};
 
 use crate::fault::{FarFault, report, status};
 use crate::made::reply_to_made;
@@ -20,6 +24,31 @@ use std::sync::ledger::Ledger;
 
 // How many bytes an input may have.
 const LIMIT: usize = 1 << 28;
+
+// What is told of why a source could not be read to its end.
+fn fault_of_input(fault: InputFault) -> FarFault
+    ensures { fault_of result ≡ input_fault_of fault }
+{
+    match fault {
+        InputFault::Read => FarFault::Read,
+        InputFault::Long => FarFault::Long,
+        InputFault::Memory => FarFault::Memory,
+    }
+}
+
+// All that a source has.
+fn bytes_of<S: Source>(alloc: Global, source: &mut S) -> Result<Vec<u8>, FarFault>
+    ensures all { IfOk result (λ bytes. Took (S.left source.old) (S.left source.new) bytes.items) }
+    ensures dry { OnOk result (IsDry (S.left source.new)) }
+    ensures short { IfOk result (λ bytes. length bytes.items ≤ byte_limit) }
+    ensures fault { (command : model.Command) → is_made command ≡ false → IfErr result (λ fault. IsRefused S.left S.faults command source.old source.new (fault_of fault)) }
+    ensures later { S.faults source.old ≤ S.faults source.new }
+{
+    match read_all(alloc, source, LIMIT) {
+        Ok(bytes) => Ok(bytes),
+        Err(fault) => Err(fault_of_input(fault)),
+    }
+}
 
 // What a command that reads writes of a source, which is read to its end.
 fn reply_to_source<S: Source, L: Ledger>(
@@ -39,12 +68,7 @@ fn reply_to_source<S: Source, L: Ledger>(
         → OnOk result (steps.old + least_steps (command_of_code command.now) (mesh_of (command_of_code command.now) bytes) ≤ steps.new) }
     ensures later { steps.old ≤ steps.new }
 {
-    let bytes = match read_all(alloc, source, LIMIT) {
-        Ok(bytes) => bytes,
-        Err(InputFault::Read) => return Err(FarFault::Read),
-        Err(InputFault::Long) => return Err(FarFault::Long),
-        Err(InputFault::Memory) => return Err(FarFault::Memory),
-    };
+    let bytes = bytes_of(alloc, source)?;
     reply_to(alloc, command, &bytes, steps)
 }
 
@@ -71,6 +95,27 @@ fn reply_of<S: Source, L: Ledger>(
             reply_to_source(alloc, command, source, steps)
         }
     }
+}
+
+// Writes the answer of a command into the sink.
+fn answer<S: Source, K: Sink, L: Ledger>(
+    alloc: Global,
+    command: &Command,
+    source: &mut S,
+    sink: &mut K,
+    steps: &mut Steps<L>,
+) -> Result<(), FarFault>
+    requires { IsInRange (command_of_code command.now) }
+    ensures run { (words : List (List ℕ)) → usage_of command_table words ≡ None → command_of_code command.now ≡ command_of words
+        → Runs S.left S.faults K.held K.faults K.fixed words source.old source.new sink.old sink.new (outcome_of result) }
+    ensures steps { (bytes : List ℕ) → input_of (is_made (command_of_code command.now)) (S.left source.old) ≡ Some bytes
+        → steps.new ≤ steps.old + step_limit (command_of_code command.now) (mesh_of (command_of_code command.now) bytes) }
+    ensures taken { (bytes : List ℕ) → input_of (is_made (command_of_code command.now)) (S.left source.old) ≡ Some bytes
+        → OnOk result (steps.old + least_steps (command_of_code command.now) (mesh_of (command_of_code command.now) bytes) ≤ steps.new) }
+    ensures later { steps.old ≤ steps.new }
+{
+    let reply = reply_of(alloc, command, source, steps)?;
+    put_answer(sink, &reply)
 }
 
 /// Does what the words ask for: reads the source to its end, unless the command makes its mesh by itself, and writes the
@@ -124,12 +169,10 @@ pub fn run<S: Source, K: Sink, L: Ledger>(
         → OnOk result (steps.old + least_steps (command_of (map string_bytes words.now.items)) (mesh_of (command_of (map string_bytes words.now.items)) bytes) ≤ steps.new) }
     ensures later { steps.old ≤ steps.new }
 {
-    let command = match read_words(words) {
-        Ok(command) => command,
-        Err(word) => return Err(FarFault::Usage { word }),
-    };
-    let reply = reply_of(alloc, &command, source, steps)?;
-    put_answer(sink, &reply)
+    match read_words(words) {
+        Ok(command) => answer(alloc, &command, source, sink, steps),
+        Err(word) => Err(FarFault::Usage { word }),
+    }
 }
 
 // The status of an outcome: 0 where it is `Ok`, and then `errors` is not called; otherwise that of the

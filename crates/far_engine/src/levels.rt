@@ -1,6 +1,6 @@
 //! The counts of the levels of a mesh, from 0 to a depth.
 
-ghost use Rattle.std.specs.Prelude.{◌≡◌, ℕ, ◌+◌, ◌≤◌, ◌<◌, ◌^◌, List, length, map, None, MatchResult};
+ghost use Rattle.std.specs.Prelude.{◌≡◌, ℕ, ◌+◌, ◌≤◌, ◌<◌, ◌^◌, List, length, map, None, IfOk, IfErr, MatchResult, OnOk};
 ghost use Rattle.std.specs.List.{sum_by};
 ghost use Rattle.obj_tags.specs.Laws.{IsWithin};
 ghost use Rattle.subdiv_model.specs.Polygons.{Polygon};
@@ -12,7 +12,7 @@ ghost use Rattle.mesh_check.specs.Checked.{IsAccepted};
 ghost use Rattle.mesh_check.specs.Counts.{count_named};
 ghost use Rattle.level_counts.specs.Series.{IsSeriesFault};
 ghost use Rattle.level_topology.specs.Topology.{Topology};
-ghost use Rattle.far_engine.specs.Levels.{IsAcceptedLevel, AreCounted};
+ghost use Rattle.far_engine.specs.Levels.{IsAcceptedLevel, IsFoundWithin, AreCounted};
 ghost use Rattle.far_engine.specs.Outcome.{refusal_of_mesh, step_limit, IsFound};
 ghost use Rattle.far_engine.specs.View.{fault_of};
 
@@ -30,8 +30,8 @@ use uniform_refiner::next_faces;
 // How many faces a level after the first may have.
 const MOST_FACES: u64 = 1 << 22;
 
-/// The first level up to the depth that would have too many faces, where level 1 has so many.
-pub(crate) fn level_fault(first: u64, depth: u32) -> Option<Counted>
+// The first level up to the depth that would have too many faces, where level 1 has so many.
+fn level_fault(first: u64, depth: u32) -> Option<Counted>
     requires { first < 2 ^ 28 }
     ensures { (polygons : List Polygon) → first ≡ sum_by length polygons → count_named result ≡ first_of (level_count_faults polygons depth) }
 {
@@ -48,8 +48,8 @@ pub(crate) fn level_fault(first: u64, depth: u32) -> Option<Counted>
     None
 }
 
-/// Level 0 of a mesh that was read.
-pub(crate) fn level_0<L: Ledger>(
+// Level 0 of a mesh that was read.
+fn level_0<L: Ledger>(
     alloc: Global,
     mesh: &RawMesh,
     steps: &mut Steps<L>,
@@ -65,6 +65,27 @@ pub(crate) fn level_0<L: Ledger>(
         Err(CheckFault::Mesh(fault)) => Err(FarFault::Mesh(fault)),
         Err(CheckFault::TooLarge(counted)) => Err(FarFault::TooLarge(counted)),
         Err(CheckFault::Memory) => Err(FarFault::Memory),
+    }
+}
+
+/// Level 0 of a mesh that was read, where no level up to a depth has too many faces.
+pub(crate) fn level_within<L: Ledger>(
+    alloc: Global,
+    mesh: &RawMesh,
+    depth: u32,
+    steps: &mut Steps<L>,
+) -> Result<Level, FarFault>
+    requires { IsWithin mesh.now }
+    ensures accepted { IfOk result (λ level. IsAccepted mesh.now level) }
+    ensures few { OnOk result (first_of (level_count_faults mesh.now.faces depth) ≡ None) }
+    ensures fault { IfErr result (λ fault. IsFoundWithin depth mesh.now (fault_of fault)) }
+    ensures steps { steps.new ≤ steps.old + length mesh.now.faces }
+    ensures later { steps.old ≤ steps.new }
+{
+    let level = level_0(alloc, mesh, steps)?;
+    match level_fault(next_faces(&level), depth) {
+        Some(counted) => Err(FarFault::TooLarge(counted)),
+        None => Ok(level),
     }
 }
 
@@ -86,7 +107,7 @@ fn fault_of_series(fault: SeriesFault) -> FarFault
     }
 }
 
-// The counts of the levels of a mesh, from its level 0 to a depth.
+// The counts of the levels of a mesh, from its level 0 to a depth up to which no level has too many faces.
 fn counts_from<L: Ledger>(
     alloc: Global,
     level: Level,
@@ -95,15 +116,11 @@ fn counts_from<L: Ledger>(
 ) -> Result<Vec<LevelCounts>, FarFault>
     requires depth { depth ≤ 10 }
     requires accepted { IsAcceptedLevel level }
-    ensures counted { (mesh : ObjMesh) → IsAccepted mesh level → MatchResult result (λ counts. AreCounted mesh depth counts.items)
+    ensures counted { (mesh : ObjMesh) → IsAccepted mesh level → first_of (level_count_faults mesh.faces depth) ≡ None → MatchResult result (λ counts. AreCounted mesh depth counts.items)
         (λ fault. IsFound (fault_of fault) (refusal_of_mesh (Levels depth) mesh)) }
     ensures steps { (mesh : ObjMesh) → IsAccepted mesh level → length mesh.faces + steps.new ≤ steps.old + step_limit (Levels depth) mesh }
     ensures later { steps.old ≤ steps.new }
 {
-    match level_fault(next_faces(&level), depth) {
-        Some(counted) => return Err(FarFault::TooLarge(counted)),
-        None => {}
-    }
     match level_counts::count_levels(alloc, level, depth, steps) {
         Ok(counts) => Ok(counts),
         Err(fault) => Err(fault_of_series(fault)),
@@ -124,6 +141,6 @@ pub(crate) fn count_levels<L: Ledger>(
     ensures steps { steps.new ≤ steps.old + step_limit (Levels depth) mesh.now }
     ensures later { steps.old ≤ steps.new }
 {
-    let level = level_0(alloc, mesh, steps)?;
+    let level = level_within(alloc, mesh, depth, steps)?;
     counts_from(alloc, level, depth, steps)
 }

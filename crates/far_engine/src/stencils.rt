@@ -1,9 +1,10 @@
 //! The table of a mesh at a depth.
 
-ghost use Rattle.std.specs.Prelude.{◌≡◌, ◌+◌, ◌≤◌, length, MatchResult, OnOk};
+ghost use Rattle.std.specs.Prelude.{◌≡◌, ◌+◌, ◌≤◌, length, None, MatchResult, OnOk};
 ghost use Rattle.std.specs.List.{All};
 ghost use Rattle.obj_tags.specs.Laws.{IsWithin};
 ghost use Rattle.reading_laws.specs.Short.{IsShortPoint};
+ghost use Rattle.subdiv_model.specs.Lists.{first_of};
 ghost use Rattle.subdiv_model.specs.Command.{Stencils};
 ghost use Rattle.subdiv_model.specs.Answer.{level_count_faults, positions_of};
 ghost use Rattle.mesh_check.specs.Checked.{IsAccepted};
@@ -14,7 +15,7 @@ ghost use Rattle.far_engine.specs.Tables.{IsComposedOf, IsFoundComposing};
 ghost use Rattle.far_engine.specs.View.{fault_of};
 
 use crate::fault::FarFault;
-use crate::levels::{level_0, level_fault};
+use crate::levels::level_within;
 use crate::overflow::Track;
 use crate::positions::greatest_of;
 use crate::track::fault_of_channel;
@@ -26,9 +27,8 @@ use ratio128::Steps;
 use std::alloc::Global;
 use std::sync::ledger::Ledger;
 use stencil_apply::StencilTable;
-use uniform_refiner::next_faces;
 
-// The table of the positions of a mesh at a depth, from its level 0.
+// The table of the positions of a mesh at a depth up to which no level has too many faces, from its level 0.
 fn compose_from<L: Ledger>(
     alloc: Global,
     mesh: &RawMesh,
@@ -39,16 +39,13 @@ fn compose_from<L: Ledger>(
     requires within { IsWithin mesh.now }
     requires short { All IsShortPoint mesh.now.points }
     requires accepted { IsAccepted mesh.now level }
+    requires few { first_of (level_count_faults mesh.now.faces depth) ≡ None }
     requires depth { depth ≤ 10 }
     ensures composed { MatchResult result (λ composed. IsComposedOf mesh.now depth composed.level composed.table)
         (λ fault. IsFoundComposing depth mesh.now (fault_of fault)) }
     ensures steps { length mesh.now.faces + steps.new ≤ steps.old + level_faces_to depth mesh.now }
     ensures later { steps.old ≤ steps.new }
 {
-    match level_fault(next_faces(&level), depth) {
-        Some(counted) => return Err(FarFault::TooLarge(counted)),
-        None => {}
-    }
     let greatest = greatest_of(mesh.points());
     match compose_channel(
         alloc,
@@ -82,7 +79,7 @@ pub(crate) fn compose<L: Ledger>(
     ensures steps { steps.new ≤ steps.old + level_faces_to depth mesh.now }
     ensures later { steps.old ≤ steps.new }
 {
-    let level = level_0(alloc, mesh, steps)?;
+    let level = level_within(alloc, mesh, depth, steps)?;
     compose_from(alloc, mesh, level, depth, steps)
 }
 

@@ -1,16 +1,16 @@
-use Rattle.std.proofs.Common.{◌≡◌, ◌≤◌, ◌+◌, true, length, arith, rules, subst}
+use Rattle.std.proofs.Common.{◌≡◌, ◌≤◌, ◌+◌, true, length, arith, subst}
 use Rattle.subdiv_model.specs.Polygons.{is_over}
 use Rattle.subdiv_model.specs.Command.{ByTable}
 use Rattle.far_engine.specs.Outcome.{level_faces_to, position_steps}
+use Rattle.far_engine.proofs.RefusalLemmas.{handed-on}
 use Rattle.far_engine.proofs.SummaryLemmas.{made-found, made-written, within-over}
 use Rattle.far_engine.proofs.made.reply_to_made.Goals as goal
 
 pub returns-in_err-summarize-clause-reply : goal.returns-in_err-summarize-clause-reply
 returns-in_err-summarize-clause-reply g c =
-    let found =
-    made-found c.args.seed c.args.size c.args.depth c.in_ok-mesh.mesh _ c.in_ok-mesh.ensures.sheet
-    (c.sheets_are_manifolds.ensures.fine c.args.seed c.args.size (omega (arith, c.requires.some))) c.in_err-summarize.ensures.summary in
-    search (rules, found)
+    handed-on _ _ _ _ c.from_residual-in_err-summarize.ensures.0 c.from_residual-in_err-summarize.ensures.1
+    (made-found c.args.seed c.args.size c.args.depth c.in_ok-mesh.mesh _ c.in_ok-mesh.ensures.sheet
+    (c.sheets_are_manifolds.ensures.fine c.args.seed c.args.size (omega (arith, c.requires.some))) c.in_err-summarize.ensures.summary)
 
 pub returns-in_err-summarize-clause-steps : goal.returns-in_err-summarize-clause-steps
 returns-in_err-summarize-clause-steps g c =

@@ -2,18 +2,10 @@ use Rattle.std.proofs.Common.{subst}
 use Rattle.subdiv_model.specs.Channel.{Tables}
 use Rattle.subdiv_model.specs.Answer.{positions_of}
 use Rattle.channel_refine.specs.Refined.{IsChannelFault}
-use Rattle.far_engine.proofs.SeriesLemmas.{few-levels, steps-alone, steps-fit}
+use Rattle.far_engine.proofs.SeriesLemmas.{steps-fit}
 use Rattle.far_engine.proofs.PositionLemmas.{base-of, same-channel, short-channel, refined-not-large}
-use Rattle.far_engine.proofs.TableLemmas.{large-table, found-table, composed-table}
+use Rattle.far_engine.proofs.TableLemmas.{found-table, composed-table}
 use Rattle.far_engine.proofs.stencils.compose_from.Goals as goal
-
-pub returns-in-Some-clause-composed : goal.returns-in-Some-clause-composed
-returns-in-Some-clause-composed g c =
-    large-table c.args.mesh.now c.args.level c.args.depth c.requires.accepted c.next_faces.result c.level_fault.result c.in-Some.counted
-    c.next_faces.ensures c.level_fault.ensures c.in-Some.is
-
-pub returns-in-Some-clause-steps : goal.returns-in-Some-clause-steps
-returns-in-Some-clause-steps g c = steps-alone c.args.mesh.now c.args.depth c.args.steps.now
 
 pub compose_channel-requires-clause-base : goal.compose_channel-requires-clause-base
 compose_channel-requires-clause-base g c = base-of c.args.mesh.now c.args.level c.requires.accepted
@@ -25,8 +17,7 @@ compose_channel-requires-clause-short g c =
 
 pub returns-in-Ok-clause-composed : goal.returns-in-Ok-clause-composed
 returns-in-Ok-clause-composed g c =
-    let few = few-levels c.args.mesh.now c.args.level c.args.depth c.next_faces.result c.level_fault.result c.requires.accepted c.next_faces.ensures c.level_fault.ensures c.in-None.is in
-    composed-table c.args.mesh.now c.args.level c.args.depth c.requires.accepted few _ c.in-Ok.composed.level c.in-Ok.composed.table
+    composed-table c.args.mesh.now c.args.level c.args.depth c.requires.accepted c.requires.few _ c.in-Ok.composed.level c.in-Ok.composed.table
     (same-channel c.args.mesh.now c.args.level c.points.result.now c.greatest_of-greatest.result c.scale.result c.requires.accepted
     c.points.ensures c.greatest_of-greatest.ensures c.scale.ensures)
     c.in-Ok.ensures.composed c.facts.ensures
@@ -36,12 +27,11 @@ returns-in-Ok-clause-steps g c = steps-fit c.args.mesh.now c.args.level c.args.d
 
 pub returns-in-Err-clause-composed : goal.returns-in-Err-clause-composed
 returns-in-Err-clause-composed g c =
-    let few = few-levels c.args.mesh.now c.args.level c.args.depth c.next_faces.result c.level_fault.result c.requires.accepted c.next_faces.ensures c.level_fault.ensures c.in-None.is in
     let same =
     same-channel c.args.mesh.now c.args.level c.points.result.now c.greatest_of-greatest.result c.scale.result c.requires.accepted
     c.points.ensures c.greatest_of-greatest.ensures c.scale.ensures in
-    found-table c.args.mesh.now c.args.level c.args.depth c.requires.accepted few _
-    (c.fault_of_channel.ensures Tables (positions_of c.args.mesh.now) c.args.depth (λ k count. refined-not-large Tables c.args.mesh.now c.args.depth k count few) (subst (λ ch. IsChannelFault Tables ch c.args.depth c.in-Err.fault) same c.in-Err.ensures.composed))
+    found-table c.args.mesh.now c.args.level c.args.depth c.requires.accepted c.requires.few _
+    (c.fault_of_channel.ensures Tables (positions_of c.args.mesh.now) c.args.depth (λ k count. refined-not-large Tables c.args.mesh.now c.args.depth k count c.requires.few) (subst (λ ch. IsChannelFault Tables ch c.args.depth c.in-Err.fault) same c.in-Err.ensures.composed))
 
 pub returns-in-Err-clause-steps : goal.returns-in-Err-clause-steps
 returns-in-Err-clause-steps g c = steps-fit c.args.mesh.now c.args.level c.args.depth c.args.steps.now _ c.requires.accepted c.compose_channel.ensures.steps
