@@ -105,23 +105,3 @@ beside-push starts items list beside more a e f =
 
 pub paired-same : {X : Type 0} {a b : List (List ℕ)} {p q : List (List X)} {m n : ℕ} → a ≡ b → p ≡ q → paired a p m n ≡ paired b q m n
 paired-same e f = cc
-
--- the same lists where there is more room
-pub packed-in : {X : Type 0} (starts items starts_now items_now : List ℕ) (beside beside_now : List X) (list_limit item_limit list_room item_room beside_room list_more item_more beside_more : ℕ)
-    → IsPacked starts items beside list_limit item_limit list_room item_room beside_room
-    → starts_now ≡ starts → items_now ≡ items → beside_now ≡ beside → list_room ≤ list_more → item_room ≤ item_more → beside_room ≤ beside_more
-    → IsPacked starts_now items_now beside_now list_limit item_limit list_more item_more beside_more
-packed-in starts items starts_now items_now beside beside_now list_limit item_limit list_room item_room beside_room list_more item_more beside_more is a b c more_lists more_items more_beside =
-    rw (a, b, c)
-    (record {
-      ascend = is.ascend;
-      begins = is.begins;
-      equal = is.equal;
-      lists_within = is.lists_within;
-      items_within = is.items_within;
-      list_fit = omega (arith, is.list_fit, more_lists);
-      item_fit = omega (arith, is.item_fit, more_items);
-      beside_fit = omega (arith, is.beside_fit, more_beside);
-      few = is.few;
-      short = is.short;
-    })

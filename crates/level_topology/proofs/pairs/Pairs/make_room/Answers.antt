@@ -1,7 +1,7 @@
-use Rattle.std.proofs.Common.{ap, ◌≡◌, ◌≤◌, ◌+◌, ◌-◌, arith, refl, rules, length}
+use Rattle.std.proofs.Common.{ap, ◌≡◌, ◌≤◌, ◌+◌, ◌-◌, arith, rules, length}
 use Rattle.std.specs.List.{sum_by}
 use Rattle.level_topology.specs.Packed.{Paired}
-use Rattle.level_topology.proofs.PieceLemmas.{length-pieces, pieces-whole, packed-in}
+use Rattle.level_topology.proofs.PieceLemmas.{length-pieces, pieces-whole}
 use Rattle.level_topology.proofs.pairs.Pairs.make_room.Goals as goal
 
 pub overflow_add-len : goal.overflow_add-len
@@ -29,13 +29,3 @@ returns-clause-item_room g c =
     let m : c.len-2.result + c.args.items ≤ c.max-self-inside-2.result = search rules in
     rw (c.in_ok-reserve.ensures.items, c.in_ok-reserve-2.ensures.items)
     (omega (arith, n, m, pieces-whole c.self.inside.starts.items c.self.inside.items.items c.self.invariant.ascend c.self.invariant.begins))
-
-pub invariant_of-self-in_err-reserve-2 : goal.invariant_of-self-in_err-reserve-2
-invariant_of-self-in_err-reserve-2 g c =
-    packed-in c.self.inside.starts.items c.self.inside.items.items c.reserve.new.self.items c.reserve-2.new.self.items c.self.inside.beside.items c.self.inside.beside.items _ _ _ _ _ _ _ _
-    c.self.invariant c.in_ok-reserve.ensures.items c.in_err-reserve-2.ensures.items refl c.in_ok-reserve.ensures.capacity c.in_err-reserve-2.ensures.capacity (omega arith)
-
-pub invariant_of-self-in_err-reserve-3 : goal.invariant_of-self-in_err-reserve-3
-invariant_of-self-in_err-reserve-3 g c =
-    packed-in c.self.inside.starts.items c.self.inside.items.items c.reserve.new.self.items c.reserve-2.new.self.items c.self.inside.beside.items c.reserve-3.new.self.items _ _ _ _ _ _ _ _
-    c.self.invariant c.in_ok-reserve.ensures.items c.in_ok-reserve-2.ensures.items c.in_err-reserve-3.ensures.items c.in_ok-reserve.ensures.capacity c.in_ok-reserve-2.ensures.capacity c.in_err-reserve-3.ensures.capacity
