@@ -1,6 +1,9 @@
-use Rattle.std.proofs.Common.{◌≡◌, ◌+◌, ◌-◌, length, take, drop, arith, refl, sym, subst}
+use Rattle.std.proofs.Common.{◌≡◌, ℕ, ◌+◌, ◌-◌, ◌<◌, length, map, take, drop, arith, refl, sym, ◌∙◌, subst}
+use Rattle.std.proofs.lemmas.List.{length-set}
+use Rattle.ratio128.specs.Numbers.{zeros}
 use Rattle.std.specs.List.{All}
-use Rattle.stencil_apply.specs.Table.{entries_of}
+use Rattle.stencil_apply.specs.Table.{entries_of, row_at, sum_of_row}
+use Rattle.stencil_apply.proofs.RangeLemmas.{row-more, done-next, rest-next}
 use Rattle.stencil_apply.proofs.apply.apply_range.Goals as goal
 
 pub loop-k-init : goal.loop-k-init
@@ -25,6 +28,20 @@ sum_at-requires-clause-same_length g c =
 
 pub sum_at-requires-clause-fits : goal.sum_at-requires-clause-fits
 sum_at-requires-clause-fits g c = c.requires.fits
+
+pub loop-k-preserved : goal.loop-k-preserved
+loop-k-preserved g c =
+    let numbers = g.P.Primvar.numbers in
+    let table = c.args.table.now in
+    let inside : c.loop-k.k < length c.loop-k.out = omega (arith, c.loop-k-test.true, c.loop-k.invariant.len) in
+    let there : c.args.from + c.loop-k.k < length table.rows = omega (arith, c.loop-k-test.true, c.requires.forward, c.requires.inside, c.requires.places) in
+    let sums = λ (k : ℕ) (place : g.row.P.Denot). sum_of_row (zeros (numbers place)) (map numbers c.args.controls.now) (row_at table (c.args.from + k)) in
+    record {
+      done = done-next numbers sums c.args.out.now c.loop-k.out c.loop-k.k c.sum_at.result inside c.loop-k.invariant.rest c.loop-k.invariant.done c.index-out-k.result c.sum_at.ensures.sum;
+      rest = rest-next numbers sums c.args.out.now c.loop-k.out c.loop-k.k c.sum_at.result inside c.loop-k.invariant.rest;
+      len = length-set c.loop-k.out c.loop-k.k c.sum_at.result ∙ c.loop-k.invariant.len;
+      taken = omega (arith, c.sum_at.ensures.steps, c.loop-k.invariant.taken, row-more table c.args.from c.loop-k.k there);
+    }
 
 pub returns-clause-sums : goal.returns-clause-sums
 returns-clause-sums g c k d below = c.loop-k.invariant.done k d (omega (arith, below, c.loop-k-test.false))

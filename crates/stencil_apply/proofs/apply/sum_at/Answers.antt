@@ -1,4 +1,4 @@
-use Rattle.std.proofs.Common.{◌+◌, length, ap, sym, ◌∙◌}
+use Rattle.std.proofs.Common.{length, ap, sym, ◌∙◌}
 use Rattle.std.proofs.lemmas.List.{length-map}
 use Rattle.stencil_apply.specs.Table.{Share, row_at, sum_of_shares}
 use Rattle.stencil_apply.proofs.RowLemmas.{zip-row, CanSum-row}
@@ -19,8 +19,3 @@ sum_row-requires-clause-fits g c =
 
 pub returns-clause-sum : goal.returns-clause-sum
 returns-clause-sum g c = c.sum_row.ensures.sum ∙ ap (sum_of_shares _ _) (zip-row _ _ _ c.row_indices.ensures.indices c.row_numerators.ensures)
-
-pub returns-clause-steps : goal.returns-clause-steps
-returns-clause-steps g c =
-    let shares = (row_at c.args.table.now c.args.row).shares in
-    c.sum_row.ensures.steps ∙ ap (λ n. c.args.steps.now + n) (ap length c.row_indices.ensures.indices ∙ length-map shares (λ (share : Share). share.0))
