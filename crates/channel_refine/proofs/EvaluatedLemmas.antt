@@ -17,7 +17,7 @@ use Rattle.primvar_refine.proofs.AmountLemmas.{IsWithin, IsWithin-zeros, greates
 use Rattle.primvar_refine.proofs.TermSumLemmas.{zeros-at}
 use Rattle.stencil_apply.specs.Table.{Share, Row as TableRow, Table, IsRow, IsTable, greatest_of, entries_of, total_of, sum_of_row}
 use Rattle.stencil_apply.specs.Table as table
-use Rattle.stencil_factory.specs.Rows.{share_sum, row_values, AreSameValues}
+use Rattle.stencil_factory.specs.Rows.{share_sum, row_values}
 use Rattle.stencil_factory.specs.Rows as factory
 use Rattle.channel_refine.specs.Refined.{AreControls, IsRefinedTo, column_of}
 use Rattle.channel_refine.proofs.DenominatorLemmas.{each-below}

@@ -1,18 +1,14 @@
 -- A table with the number of each label that was met.
-use Rattle.std.proofs.Common.{◌≡◌, ℕ, ◌-◌, ◌^◌, ◌<◌, ◌≢◌, Bool, true, false, ◌||◌, nat_eq, List, [], ◌∷◌, ◌++◌, length, get_or, replicate, set, slice_set, arith, refl, ap, sym, ◌∙◌, subst, ◌⊎◌, inl, inr, if◌then◌else◌}
+use Rattle.std.proofs.Common.{◌≡◌, ℕ, ◌-◌, ◌^◌, ◌<◌, ◌≢◌, Bool, true, false, ◌||◌, nat_eq, List, [], ◌∷◌, ◌++◌, length, get_or, set, slice_set, arith, refl, ap, sym, ◌∙◌, subst, ◌⊎◌, inl, inr, if◌then◌else◌}
 use Rattle.std.specs.List.{position_or_len}
 use Rattle.std.proofs.lemmas.Bool.Decides.{nat_tests}
 use Rattle.std.proofs.lemmas.Bool.{cases_eq, eq-eqb}
-use Rattle.std.proofs.lemmas.List.{length-set, length-replicate, get_or-set_same, get_or-set_other, get_or-replicate}
+use Rattle.std.proofs.lemmas.List.{length-set, get_or-set_same, get_or-set_other}
 use Rattle.std.proofs.lemmas.List.Folds.{list_any-append}
 use Rattle.subdiv_model.specs.Polygons.{is_among}
 use Rattle.texture_laws.proofs.OnceLemmas.{first-within}
 use Rattle.face_varying.specs.FirstOnes.{met_with, AreKnown}
 use Rattle.face_varying.proofs.FirstOneLemmas.{none-place, place-kept, or-none, with-new, with-listed, with-place}
-
--- a table in which nothing is known
-pub known-none : (n : ℕ) → AreKnown [] (replicate n (2 ^ 32 - 1))
-known-none n = record { entries = λ label h. get_or-replicate n label (2 ^ 32 - 1) 0 (omega (arith, h, length-replicate n (2 ^ 32 - 1))) }
 
 module _ (met known : List ℕ) (label : ℕ) (are : AreKnown met known) (within : label < length known) where
   -- a label that the table does not know was not met

@@ -1,8 +1,8 @@
 -- The texture numbers that are noted for the sides of edges, one side more at a time.
-use Rattle.std.proofs.Common.{◌≡◌, ℕ, ◌+◌, ◌<◌, Bool, true, false, nat_lt, List, length, get_or, replicate, slice_set, arith, refl, ap, sym, ◌∙◌, subst, if◌then◌else◌}
+use Rattle.std.proofs.Common.{◌≡◌, ℕ, ◌+◌, ◌<◌, Bool, true, false, nat_lt, List, length, get_or, slice_set, arith, refl, ap, sym, ◌∙◌, subst, if◌then◌else◌}
 use Rattle.std.specs.List.{list_all}
 use Rattle.std.proofs.lemmas.Bool.{ltb-true, ltb-false}
-use Rattle.std.proofs.lemmas.List.{length-set, length-replicate, get_or-set_same, get_or-set_other}
+use Rattle.std.proofs.lemmas.List.{length-set, get_or-set_same, get_or-set_other}
 use Rattle.subdiv_model.specs.Polygons.{Polygon, has_distinct_sides, polygon_at}
 use Rattle.subdiv_model.specs.Edges.{all_sides, edges_of, edge_number}
 use Rattle.subdiv_model.specs.Manifold.{is_simple}
@@ -39,15 +39,6 @@ noted-length old next false e pair h = ap length h
 kept-length : (old next : List (ℕ × ℕ)) (kept : Bool) (e : ℕ) (pair : ℕ × ℕ) → next ≡ (if kept then old else slice_set old e pair) → length next ≡ length old
 kept-length old next true e pair h = ap length h
 kept-length old next false e pair h = ap length h ∙ length-set old e pair
-
--- nothing is noted of no corner
-pub noted-none : (polygons : List Polygon) (texture : List (List ℕ)) (along against : List (ℕ × ℕ)) (edges count : ℕ) → edges ≡ length (edges_of polygons) → along ≡ replicate edges (0, 0) → against ≡ replicate edges (0, 0)
-    → count ≡ 0 → AreNoted polygons texture along against count
-noted-none polygons texture along against edges count size e_along e_against none = record {
-  along_size = ap length e_along ∙ length-replicate edges (0, 0) ∙ size;
-  against_size = ap length e_against ∙ length-replicate edges (0, 0) ∙ size;
-  each = λ f c inside corner before. absurd (omega arith);
-}
 
 module _ (polygons : List Polygon) (texture : List (List ℕ)) (simple : list_all is_simple polygons ≡ true) (distinct : has_distinct_sides (all_sides polygons) ≡ true) where
   -- the side of one corner more

@@ -8,32 +8,24 @@ use Rattle.subdiv_model.specs.Base.{base_level}
 use Rattle.subdiv_model.specs.Child.{refined_level, faces_after}
 use Rattle.subdiv_model.specs.ObjMesh.{ObjMesh}
 use Rattle.subdiv_model.specs.Command.{Command, Levels}
-use Rattle.subdiv_model.specs.Fault.{Fault, TooLarge, LevelFaces, Overflow, Positions, ChaikinOverflow}
+use Rattle.subdiv_model.specs.Fault.{Fault, TooLarge, Overflow, Positions, ChaikinOverflow}
 use Rattle.subdiv_model.specs.Fault as run
-use Rattle.subdiv_model.specs.Answer.{level_count_faults, count_faults, command_faults, command_text}
+use Rattle.subdiv_model.specs.Answer.{level_count_faults, command_faults, command_text}
 use Rattle.level_topology.specs.Topology.{Topology}
 use Rattle.level_topology.specs.declared.counted.Counted.{Counted}
 use Rattle.level_topology.specs.CountedText.{counted_of}
 use Rattle.mesh_check.specs.Counts.{count_named}
-use Rattle.mesh_check.specs.Checked.{IsAccepted, IsTooLarge}
-use Rattle.channel_refine.proofs.FaultLemmas.{first-here}
+use Rattle.mesh_check.specs.Checked.{IsAccepted}
 use Rattle.level_counts.specs.declared.counts.LevelCounts.{LevelCounts}
 use Rattle.level_counts.specs.Counts.{counts_of, levels_lines}
 use Rattle.level_counts.specs.View.{seen_counts}
 use Rattle.level_counts.specs.Series.{AreMade, IsFirstFault, Overflows, faces_to}
 use Rattle.level_counts.specs.declared.series.SeriesFault.TheVariants as series
 use Rattle.subdiv_model.specs.LevelText.{level_line, levels_text}
-use Rattle.far_engine.specs.Written.{IsInRange, IsWritten, written_text}
+use Rattle.far_engine.specs.Written.{IsWritten, written_text}
 use Rattle.far_engine.specs.Levels.{IsAcceptedLevel, AreCounted}
 use Rattle.far_engine.specs.Outcome.{refusal_of_mesh, step_limit}
-use Rattle.far_engine.proofs.RefusalLemmas.{refusal-of-manifold}
 use Rattle.far_engine.proofs.LevelLemmas.{first-large, levels-fine, level-overflows, next-count, refusal-of-faces, refusal-of-halves, no-refusal, few-points, steps-of-levels}
-
--- a mesh of which there is too much
-pub refusal-of-counts : (command : Command) (mesh : ObjMesh) (counted : run.Counted) → IsTooLarge mesh counted → refusal_of_mesh command mesh ≡ Some (TooLarge counted)
-refusal-of-counts command mesh counted large =
-    refusal-of-manifold command mesh large.manifold
-    ∙ first-here (count_faults mesh) (command_faults command mesh) (TooLarge counted) large.named
 
 -- the levels of a mesh that were made
 made-of : (mesh : ObjMesh) (level : Topology) (n : ℕ) → IsAccepted mesh level → AreMade level.level n → AreMade (base_level mesh) n
@@ -101,12 +93,6 @@ steps-fit mesh level depth old new accepted bound =
     more : (f n : ℕ) → new ≤ old + n → f + new ≤ old + (f + n)
     more f n h = omega (arith, h)
 
-pub steps-alone : (mesh : ObjMesh) (depth old : ℕ) → length mesh.faces + old ≤ old + step_limit (Levels depth) mesh
-steps-alone mesh depth old = more (length mesh.faces) (step_limit (Levels depth) mesh) (level-0-steps mesh depth)
-  where
-    more : (f n : ℕ) → f ≤ n → f + old ≤ old + n
-    more f n h = omega (arith, h)
-
 -- no level has too many faces, as was found of level 0
 pub few-levels : (mesh : ObjMesh) (level : Topology) (depth first : ℕ) (found : Option Counted) → IsAccepted mesh level → first ≡ sum_by length level.level.polygons →
     ((polygons : List Polygon) → first ≡ sum_by length polygons → count_named found ≡ first_of (level_count_faults polygons depth)) → found ≡ None →
@@ -142,6 +128,3 @@ counted-text command depth mesh counts is counted = record {
       ∙ sym (lines-of-levels (base_level mesh) depth)
       ∙ ap (λ c. command_text c mesh) (sym is);
 }
-
-pub small-depth : (command : Command) (depth : ℕ) → command ≡ Levels depth → IsInRange command → depth ≤ 10
-small-depth command depth is built = subst IsInRange is built

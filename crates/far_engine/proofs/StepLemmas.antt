@@ -5,44 +5,12 @@ use Rattle.subdiv_model.specs.Command.{Refine, Uv, By, Tags}
 use Rattle.far_engine.specs.Outcome.{least_steps, step_limit, level_faces_to, position_steps, texture_steps, where_textured}
 use Rattle.far_engine.proofs.SeriesLemmas.{level-0-steps}
 
--- what is counted where there is texture
-pub where-not : (mesh : ObjMesh) (n : ℕ) → mesh.has_texture ≡ false → where_textured mesh n ≡ 0
-where-not mesh n is = go mesh.has_texture is
-  where
-    go : (b : Bool) → b ≡ false → cond b n 0 ≡ 0
-    go true e = absurd (cc)
-    go false e = refl
-
-pub where-so : (mesh : ObjMesh) (n : ℕ) → mesh.has_texture ≡ true → where_textured mesh n ≡ n
-where-so mesh n is = go mesh.has_texture is
-  where
-    go : (b : Bool) → b ≡ true → cond b n 0 ≡ n
-    go true e = refl
-    go false e = absurd (cc)
-
 where-more : (mesh : ObjMesh) (m n : ℕ) → m ≤ n → where_textured mesh m ≤ where_textured mesh n
 where-more mesh m n h = go mesh.has_texture
   where
     go : (b : Bool) → cond b m 0 ≤ cond b n 0
     go true = h
     go false = omega arith
-
--- where no texture is refined, no step is taken for it
-pub none-steps : (mesh : ObjMesh) (m n old : ℕ) → mesh.has_texture ≡ false → where_textured mesh m + old ≤ old + where_textured mesh n
-none-steps mesh m n old is = omega (arith, where-not mesh m is, where-not mesh n is)
-
-pub none-taken : (mesh : ObjMesh) (n old : ℕ) → mesh.has_texture ≡ false → old + where_textured mesh n ≤ old
-none-taken mesh n old is = omega (arith, where-not mesh n is)
-
--- and else as many as its track takes
-pub some-steps : (mesh : ObjMesh) (m n old new : ℕ) → mesh.has_texture ≡ true → m + new ≤ old + n → where_textured mesh m + new ≤ old + where_textured mesh n
-some-steps mesh m n old new is h = omega (arith, h, where-so mesh m is, where-so mesh n is)
-
-pub some-taken : (mesh : ObjMesh) (n old new : ℕ) → mesh.has_texture ≡ true → old + n ≤ new → old + where_textured mesh n ≤ new
-some-taken mesh n old new is h = omega (arith, h, where-so mesh n is)
-
-pub cut-steps : (mesh : ObjMesh) (n old new : ℕ) → mesh.has_texture ≡ true → new ≤ old + n → new ≤ old + where_textured mesh n
-cut-steps mesh n old new is h = omega (arith, h, where-so mesh n is)
 
 module _ (depth : ℕ) (decimals : Option ℕ) (uv : Uv) (by : By) (tags : Tags) (mesh : ObjMesh) where
   abbrev whole : ℕ

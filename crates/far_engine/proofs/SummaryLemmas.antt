@@ -16,9 +16,8 @@ use Rattle.subdiv_model.specs.Command.{Gen, ByTable}
 use Rattle.subdiv_model.specs.Fault.{Fault}
 use Rattle.subdiv_model.specs.Channel.{Tables, greatest_amount}
 use Rattle.subdiv_model.specs.Answer.{answer_of_checked, point_numbers, positions_of, generated_text}
-use Rattle.subdiv_model.specs.Generator.{generated_mesh, draws_of}
+use Rattle.subdiv_model.specs.Generator.{generated_mesh}
 use Rattle.stencil_laws.proofs.SupportLemmas.{length-supports}
-use Rattle.sheet_laws.proofs.GridLemmas.{points-length}
 use Rattle.level_topology.specs.Topology.{Topology}
 use Rattle.obj_tags.specs.Laws.{IsWithin}
 use Rattle.obj_tags.specs.View as reader
@@ -139,13 +138,6 @@ faces-over points (face ∷ faces) all =
 
 pub within-over : (mesh : ObjMesh) → IsWithin mesh → is_over (length mesh.points) mesh.faces ≡ true
 within-over mesh within = faces-over (length mesh.points) mesh.faces (recursion_from_All (λ face. All (λ v. v < length mesh.points) face) mesh.faces within.faces)
-
--- a sheet has points
-pub sheet-some : (seed size : ℕ) → 0 < length (generated_mesh seed size).points
-sheet-some seed size = subst (λ n. 0 < n) (sym (points-length size (draws_of seed size))) (square size)
-  where
-    square : (size : ℕ) → 0 < (size + 1) * (size + 1)
-    square size = omega arith
 
 -- a sheet that is made is refused as if it were read, since nothing is wrong with it
 pub made-refusal : (seed size depth : ℕ) → first_mesh_fault (length (generated_mesh seed size).points) (generated_mesh seed size).faces ≡ None →

@@ -1,5 +1,5 @@
 -- What the table of a mesh is refused for, and what is written of it.
-use Rattle.std.proofs.Common.{◌≡◌, ℕ, List, length, None, refl, ap, sym, subst, ◌∙◌}
+use Rattle.std.proofs.Common.{◌≡◌, ℕ, List, None, refl, ap, sym, subst, ◌∙◌}
 use Rattle.subdiv_model.specs.Lists.{first_of}
 use Rattle.subdiv_model.specs.Base.{base_level}
 use Rattle.subdiv_model.specs.ObjMesh.{ObjMesh}

@@ -9,9 +9,9 @@ use Rattle.std.proofs.lemmas.List.Sums.{AllPass-from_list_all, sum_by-append, su
 use Rattle.subdiv_model.specs.Polygons.{Polygon, sides_of, same_side, same_edge, has_side}
 use Rattle.subdiv_model.specs.Edges.{all_sides, edges_of}
 use Rattle.subdiv_model.specs.Manifold.{has_one_fan}
-use Rattle.subdiv_model.specs.Sharpness.{Method, Sharpness}
+use Rattle.subdiv_model.specs.Sharpness.{Sharpness}
 use Rattle.mesh_laws.proofs.EdgeLemmas.{any-first_named}
-use Rattle.level_topology.specs.Builder.{Built, AreFans, only_points, with_polygon, with_sharp_edge, with_sharp_vertex, with_complete, has_new_sides}
+use Rattle.level_topology.specs.Builder.{Built, AreFans, with_polygon, with_sharp_edge, with_sharp_vertex, with_complete, has_new_sides}
 use Rattle.level_tests.specs.Faces.{corners_of, IsUnmarked}
 
 -- a face that has the side, and the sides of all faces
@@ -47,14 +47,6 @@ edge-found a b kept polygons same found =
     ∙ any-first_named (a, b) (all_sides polygons) ∙ either-way a b (all_sides polygons)
     ∙ ap (λ t. t || list_any (same_side (b, a)) (all_sides polygons)) (sym (any-side (a, b) polygons))
     ∙ ap (λ t. list_any (has_side (a, b)) polygons || t) (sym (any-side (b, a) polygons)) ∙ found
-
--- a builder of points alone
-pub unmarked-points : (built : Built) (points : ℕ) (method : Method) → built ≡ only_points points method → IsUnmarked built points []
-unmarked-points built points method is = record {
-  faces = ap (λ (b : Built). b.level.polygons) is;
-  count = ap (λ (b : Built). b.level.point_count) is;
-  marks = ap (λ (b : Built). b.complete) is;
-}
 
 -- the corners are points of the builder
 pub face-inside : (count points : ℕ) (corners : Polygon) → count ≡ points → All (λ v. v < points) corners → All (λ v. v < count) corners

@@ -5,7 +5,6 @@ use Rattle.std.specs.List.{list_any, list_all, position_or_len}
 use Rattle.std.proofs.lemmas.Grind.{common_steps}
 use Rattle.std.proofs.lemmas.Bool.Decides.{nat_tests}
 use Rattle.std.proofs.lemmas.Bool.{and_parts}
-use Rattle.std.proofs.lemmas.List.{map-append}
 use Rattle.std.proofs.lemmas.List.Elements.{filter-append}
 use Rattle.std.proofs.lemmas.List.Folds.{list_all-append, list_any-append}
 use Rattle.subdiv_model.specs.Polygons.{Polygon, same_side, same_edge, sides_of}
@@ -145,10 +144,6 @@ pub found-number : (found : Option ℕ) (s key : ℕ × ℕ) (keys edges : List 
 found-number None s key keys edges k same there none d =
     let no : list_any (same_edge s) edges ≡ false = sym (known-edge s key keys edges k same) ∙ none in cc
 found-number (Some e) s key keys edges k same there found d = found.1 ∙ known-number s key keys edges k same
-
--- keys with one more
-pub keys-push : (s : ℕ × ℕ) (keys edges : List (ℕ × ℕ)) → keys ≡ map low_first edges → keys ++ low_first s ∷ [] ≡ map low_first (edges ++ s ∷ [])
-keys-push s keys edges same = ap (λ ks. ks ++ low_first s ∷ []) same ∙ sym (map-append low_first edges (s ∷ []))
 
 -- an edge that is not there would get the next number
 pub number-none : (s : ℕ × ℕ) (edges : List (ℕ × ℕ)) → list_any (same_edge s) edges ≡ false → number_in edges s ≡ length edges

@@ -4,9 +4,6 @@ use Rattle.smallvec.specs.SmallVec.{SmallVec, small_vec_len, HasRoomFor}
 use Rattle.mask_rules.specs.declared.mask.Term.{Term}
 use Rattle.mask_rules.specs.Room.{Grows}
 
-pub grows-none : (terms : SmallVec Term) → Grows terms 0 terms
-grows-none terms = record { longer = omega arith; kept = λ room. refl }
-
 -- room for both is room for the second after the first
 pub room-after : (old now : SmallVec Term) (first second : ℕ) → Grows old first now → HasRoomFor old (first + second) → HasRoomFor now second
 room-after old now first second grown room =

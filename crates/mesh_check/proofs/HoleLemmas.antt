@@ -96,11 +96,3 @@ hole-next mesh f face hole before after whole at is pushed so_far =
 
 pub hole-end : (mesh : ObjMesh) (f : ℕ) (holes whole : List Bool) → length mesh.faces ≤ f → holes ++ holes_from mesh f ≡ whole → holes ≡ whole
 hole-end mesh f holes whole h so_far = sym (append-nil holes) ∙ sym (ap (λ fs. holes ++ map (is_base_hole mesh) (enumerate_from f fs)) (drop-all mesh.faces f h)) ∙ so_far
-
--- the same, where the marks are handed as slices
-pub hole-marked : (mesh : ObjMesh) (sides : List (ℕ × ℕ)) (named hiding named_slice hiding_slice tags : List ℕ) (f : ℕ) (face : Polygon) (hole : Bool) → named_slice ≡ named → hiding_slice ≡ hiding → hole ≡ (nat_eq (get_or named_slice f 0) 1 || list_any (λ v. nat_eq (get_or hiding_slice v 0) 1) face) → IsWithin mesh → sides ≡ filter (is_boundary mesh.faces) (all_sides mesh.faces) → tags ≡ mesh.holes → ((j : ℕ) → j < length mesh.faces → nat_eq (get_or named j 0) 1 ≡ is_among tags j) → ((v : ℕ) → v < length mesh.points → nat_eq (get_or hiding v 0) 1 ≡ is_hiding mesh.boundary sides v) → slice_get mesh.faces f ≡ Some face → hole ≡ is_base_hole mesh (f, face)
-hole-marked mesh sides named hiding named_slice hiding_slice tags f face hole one two is within boundary tagged names hides at =
-    is
-    ∙ ap (λ ms. nat_eq (get_or ms f 0) 1 || list_any (λ v. nat_eq (get_or hiding_slice v 0) 1) face) one
-    ∙ ap (λ ms. nat_eq (get_or named f 0) 1 || list_any (λ v. nat_eq (get_or ms v 0) 1) face) two
-    ∙ hole-is mesh sides named hiding tags f face within boundary tagged names hides at

@@ -1,10 +1,9 @@
 -- Numbers that ascend: those that stand a number of places later again stand more often than that.
-use Rattle.std.proofs.Common.{◌≡◌, ℕ, zero, suc, ◌+◌, ◌^◌, ◌<◌, Bool, true, false, ◌&&◌, nat_eq, nat_le, nat_lt, List, [], ◌∷◌, ◌++◌, length, map, take, subst, get_or, arith, refl, ap, sym, ◌∙◌, cond}
+use Rattle.std.proofs.Common.{◌≡◌, ℕ, zero, suc, ◌+◌, ◌^◌, ◌<◌, Bool, true, false, ◌&&◌, nat_eq, nat_le, nat_lt, List, [], ◌∷◌, ◌++◌, map, arith, refl, ap, sym, ◌∙◌, cond}
 use Rattle.std.specs.List.{list_all, count_by, find}
 use Rattle.std.specs.List.Sorted.{IsPermutation}
 use Rattle.std.proofs.lemmas.Bool.Decides.{nat_tests}
 use Rattle.std.proofs.lemmas.Bool.{and_parts, and_from, eqb-true}
-use Rattle.std.proofs.lemmas.List.{take_more, map-append}
 use Rattle.std.proofs.lemmas.List.Sorted.{sum_by-IsPermutation}
 use Rattle.subdiv_model.specs.Polygons.{same_side, same_edge, is_among}
 use Rattle.number_laws.proofs.CountLemmas.{count-cons, one_if}
@@ -128,19 +127,6 @@ low-second s h = go (nat_le s.0 s.1) refl
 -- and two edges
 pub edge-key-same : (s t : ℕ × ℕ) → IsWord s → IsWord t → nat_eq (edge_key s) (edge_key t) ≡ same_edge s t
 edge-key-same s t h k = side-key-same (low_first s) (low_first t) (low-second s h) (low-second t k) ∙ low-same s t
-
-words-push : (sides : List (ℕ × ℕ)) (s : ℕ × ℕ) → AreWords sides → IsWord s → AreWords (sides ++ s ∷ [])
-words-push [] s words word = (word, tt)
-words-push (t ∷ sides) s words word = (words.0, words-push sides s words.1 word)
-
--- one side more
-pub words-more : (sides : List (ℕ × ℕ)) (i : ℕ) (d : ℕ × ℕ) → i < length sides → AreWords (take i sides) → IsWord (get_or sides i d) → AreWords (take (i + 1) sides)
-words-more sides i d h words word = subst AreWords (sym (take_more sides i d h)) (words-push (take i sides) (get_or sides i d) words word)
-
--- the number of one side more
-pub keys-more : (key : ℕ × ℕ → ℕ) (sides : List (ℕ × ℕ)) (i : ℕ) (d : ℕ × ℕ) (x : ℕ) (before after : List ℕ) → i < length sides → before ≡ map key (take i sides) → x ≡ key (get_or sides i d) → after ≡ before ++ x ∷ [] → after ≡ map key (take (i + 1) sides)
-keys-more key sides i d x before after h b is a =
-    a ∙ ap (λ ks. ks ++ x ∷ []) b ∙ ap (λ k. map key (take i sides) ++ k ∷ []) is ∙ sym (ap (map key) (take_more sides i d h) ∙ map-append key (take i sides) (get_or sides i d ∷ []))
 
 -- numbers of sides are counted as the sides are
 pub count-keys : (key : ℕ × ℕ → ℕ) (same : ℕ × ℕ → ℕ × ℕ → Bool) → ((s t : ℕ × ℕ) → IsWord s → IsWord t → nat_eq (key s) (key t) ≡ same s t) → (s : ℕ × ℕ) → IsWord s → (sides : List (ℕ × ℕ)) → AreWords sides → count_by (nat_eq (key s)) (map key sides) ≡ count_by (same s) sides

@@ -10,15 +10,12 @@ use Rattle.subdiv_model.specs.Edges.{edges_of_point}
 use Rattle.subdiv_model.specs.Level.{Level}
 use Rattle.subdiv_model.specs.ObjMesh.{ObjMesh}
 use Rattle.subdiv_model.specs.Base.{base_level}
-use Rattle.subdiv_model.specs.MeshFault.{first_mesh_fault}
 use Rattle.subdiv_model.specs.Fault.{Fault, TooLarge, Points, Faces, FaceSize, Valence}
 use Rattle.subdiv_model.specs.Channel.{fault_where}
 use Rattle.subdiv_model.specs.Answer.{mesh_limit, size_limit, large_faces, count_faults}
 use Rattle.level_topology.specs.declared.counted.Counted.{Counted}
-use Rattle.level_topology.specs.CountedText.{counted_of}
 use Rattle.mesh_check.specs.Counts.{size_faults, valence_faults, count_named}
-use Rattle.mesh_check.specs.Checked.{IsTooLarge}
-use Rattle.mesh_check.proofs.FaultLemmas.{first-here, first-behind}
+use Rattle.mesh_check.proofs.FaultLemmas.{first-behind}
 
 -- the vertices from one on
 abbrev pub valence_faults_from : Level → ℕ → List Fault
@@ -55,25 +52,6 @@ counts-joined mesh =
     let large = map (λ (face : ℕ × Polygon). TooLarge (FaceSize face.0 (length face.1))) (large_faces mesh) in
     let valences = valence_faults (base_level mesh) in
     sym (append_assoc points (faces ++ large) valences ∙ ap (λ faults. points ++ faults) (append_assoc faces large valences))
-
--- what the mesh has too much of is the first of its counts
-pub size-refused : (mesh : ObjMesh) (found : Option Counted) (counted : Counted) → first_mesh_fault (length mesh.points) mesh.faces ≡ None → found ≡ Some counted → count_named found ≡ first_of (size_faults mesh) → IsTooLarge mesh (counted_of counted)
-size-refused mesh found counted sound at first = record {
-  manifold = sound;
-  named =
-      ap first_of (counts-joined mesh)
-      ∙ first-here (size_faults mesh) (valence_faults (base_level mesh)) (TooLarge (counted_of counted)) (sym first ∙ ap count_named at);
-}
-
--- and where it has nothing else too much of, what its level has too much of
-pub valence-refused : (mesh : ObjMesh) (found : Option Counted) (counted : Counted) → first_mesh_fault (length mesh.points) mesh.faces ≡ None → first_of (size_faults mesh) ≡ None → found ≡ Some counted → count_named found ≡ first_of (valence_faults (base_level mesh)) → IsTooLarge mesh (counted_of counted)
-valence-refused mesh found counted sound few at first = record {
-  manifold = sound;
-  named =
-      ap first_of (counts-joined mesh)
-      ∙ first-behind (size_faults mesh) (valence_faults (base_level mesh)) few
-      ∙ sym first ∙ ap count_named at;
-}
 
 -- where neither has too much of anything, no count passes its limit
 pub counts-small : (mesh : ObjMesh) (found : Option Counted) → first_of (size_faults mesh) ≡ None → found ≡ None → count_named found ≡ first_of (valence_faults (base_level mesh)) → first_of (count_faults mesh) ≡ None

@@ -1,11 +1,11 @@
 -- Channels: their common denominators line by line, which only grow; and the texture channel by counting: it is there where
 -- there is a face and as many corners have a texture value as there are corners.
-use Rattle.std.proofs.Common.{◌≡◌, ◌≢◌, ℕ, ◌+◌, ◌^◌, ◌<◌, ◌≤◌, Bool, true, false, ◌&&◌, nat_eq, nat_lt, List, [], ◌∷◌, ◌++◌, length, map, take, drop, arith, refl, ap, sym, subst, true≢false, inl, inr, ◌⊎◌, suc, ◌∙◌, if◌then◌else◌, append-nil}
+use Rattle.std.proofs.Common.{◌≡◌, ◌≢◌, ℕ, ◌+◌, ◌^◌, ◌<◌, ◌≤◌, Bool, true, false, ◌&&◌, nat_eq, nat_lt, List, [], ◌∷◌, ◌++◌, length, map, arith, refl, ap, sym, subst, true≢false, inl, inr, ◌⊎◌, suc, ◌∙◌, if◌then◌else◌, append-nil}
 use Rattle.std.specs.Int.{◌∣◌}
 use Rattle.std.specs.List.{AllByRecursion, list_all, list_any, filter, flat_map, fold, count_by}
 use Rattle.std.proofs.lemmas.Bool.{cases_eq, eq-eqb, ne_eqb, lt-ltb, ltb-true}
 use Rattle.std.proofs.lemmas.Grind.{flat_map-append}
-use Rattle.std.proofs.lemmas.List.{map-append, take-append-drop}
+use Rattle.std.proofs.lemmas.List.{map-append}
 use Rattle.std.proofs.lemmas.List.Elements.{filter-append}
 use Rattle.std.proofs.lemmas.List.Sums.{count_by-le-length, fold-append}
 use Rattle.std.proofs.lemmas.Nat.Gcd.{le_of_dvd}
@@ -14,7 +14,7 @@ use Rattle.subdiv_model.specs.ObjLine.{is_face_line}
 use Rattle.subdiv_model.specs.ObjWord.{has_texture_part}
 use Rattle.subdiv_model.specs.ReadObj.{values_of, has_texture_channel, kept_coordinates, denominator_of, common_over, passes_bound}
 use Rattle.number_laws.proofs.CountLemmas.{all-flat_map, one_if, count-cons}
-use Rattle.number_laws.proofs.MultipleLemmas.{fold-lcm-multiple, fold-lcm-positive, fold-lcm-divided}
+use Rattle.number_laws.proofs.MultipleLemmas.{fold-lcm-multiple, fold-lcm-positive}
 use Rattle.obj_laws.proofs.NumeralTermsLemmas.{terms-positive}
 
 -- a list of what those have that pass a test
@@ -103,9 +103,6 @@ common-positive start lines positive =
 pub common-multiple : (start : ℕ) (lines : List Line) → start ∣ common_over start lines
 common-multiple start lines = fold-lcm-multiple start (denominators lines)
 
-pub common-divided : (start : ℕ) (lines : List Line) → AllByRecursion (λ a. a ∣ common_over start lines) (denominators lines)
-common-divided start lines = fold-lcm-divided start (denominators lines)
-
 -- and so it is a multiple of that over fewer lines
 pub common-longer : (start : ℕ) (lines more : List Line) → common_over start lines ∣ common_over start (lines ++ more)
 common-longer start lines more =
@@ -124,18 +121,3 @@ passes-longer kind start lines more positive past =
     let far : 10 ^ 37 < common_over start (filter kind lines) = ltb-true (10 ^ 37) (common_over start (filter kind lines)) past in
     ap (λ kept. nat_lt (10 ^ 37) (common_over start kept)) (filter-append kind lines more)
     ∙ lt-ltb (10 ^ 37) (common_over start (filter kind lines ++ filter kind more)) (omega arith)
-
--- so all lines pass it where the first ones do
-pub passes-whole : (kind : Line → Bool) (start : ℕ) (lines : List Line) (n : ℕ) → 0 < start
-    → passes_bound kind start (take n lines) ≡ true → passes_bound kind start lines ≡ true
-passes-whole kind start lines n positive past =
-    ap (passes_bound kind start) (sym (take-append-drop n lines)) ∙ passes-longer kind start (take n lines) (drop n lines) positive past
-
--- and where all do not, none of the first ones do
-pub within-first : (kind : Line → Bool) (start : ℕ) (lines : List Line) (n : ℕ) → 0 < start
-    → passes_bound kind start lines ≡ false → passes_bound kind start (take n lines) ≡ false
-within-first kind start lines n positive within = step (passes_bound kind start (take n lines)) refl
-  where
-    step : (b : Bool) → b ≡ passes_bound kind start (take n lines) → passes_bound kind start (take n lines) ≡ false
-    step true e = absurd (true≢false (sym (passes-whole kind start lines n positive (sym e)) ∙ within))
-    step false e = sym e

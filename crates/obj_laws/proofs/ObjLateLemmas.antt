@@ -1,18 +1,8 @@
 -- Lines of another channel have no late fault, and the lines of a kind by their places.
-use Rattle.std.proofs.Common.{◌≡◌, ℕ, suc, ◌+◌, ◌<◌, Bool, false, List, [], ◌∷◌, length, map, get_or, None, arith, refl, ap, sym, ◌∙◌}
+use Rattle.std.proofs.Common.{◌≡◌, ℕ, suc, ◌+◌, ◌<◌, Bool, List, [], ◌∷◌, length, map, get_or, arith, refl, ap, sym, ◌∙◌}
 use Rattle.std.specs.List.{filter}
 use Rattle.std.proofs.lemmas.Bool.{cond_both, cond-true, cond-false}
 use Rattle.subdiv_model.specs.Lists.{places, places_from}
-use Rattle.subdiv_model.specs.ReadObj.{wide_fault, long_fault}
-
--- a line of another kind makes its channel neither too wide nor a number of it too long
-pub wide-other : (is_of_channel : List (List ℕ) → Bool) (start : ℕ) (lines : List (List (List ℕ))) (i : ℕ)
-    → is_of_channel (get_or lines i []) ≡ false → wide_fault is_of_channel start lines i ≡ None
-wide-other is_of_channel start lines i other = rw other refl
-
-pub long-other : (is_of_channel : List (List ℕ) → Bool) (common : ℕ) (lines : List (List (List ℕ))) (i : ℕ)
-    → is_of_channel (get_or lines i []) ≡ false → long_fault is_of_channel common lines i ≡ None
-long-other is_of_channel common lines i other = rw other refl
 
 filter-places-from : {X : Type 0} (kind : X → Bool) (f : ℕ → X) (d : X) (place : ℕ) (xs : List X)
     → ((i : ℕ) → i < length xs → f (place + i) ≡ get_or xs i d) → map f (places_from place kind xs) ≡ filter kind xs

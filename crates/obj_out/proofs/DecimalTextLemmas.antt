@@ -48,11 +48,6 @@ last-digits-rest (suc d) whole units =
     ∙ ap (λ m. last_digits d (whole * 10 ^ d + units / 10) ++ ((m + 48) ∷ [])) low
     ∙ ap (λ ds. ds ++ ((units % 10 + 48) ∷ [])) (last-digits-rest d whole (units / 10))
 
--- a number without decimals, and one with them
-pub decimal-none : (d whole units : ℕ) → d ≡ 0 → units < 10 ^ d → decimal_text d (whole * 10 ^ d + units) ≡ number_text whole
-decimal-none zero whole units none below = let same : whole * 1 + units ≡ whole = omega arith in ap number_text same
-decimal-none (suc d) whole units none below = absurd (omega arith)
-
 pub decimal-some : (d whole units : ℕ) → d ≢ 0 → units < 10 ^ d →
     decimal_text d (whole * 10 ^ d + units) ≡ number_text whole ++ (codes "." ++ last_digits d units)
 decimal-some zero whole units some below = absurd (some refl)

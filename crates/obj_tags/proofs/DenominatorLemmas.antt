@@ -1,29 +1,21 @@
 -- A common denominator with one more denominator, with those of a line, and with those of a text.
-use Rattle.std.proofs.Common.{◌≡◌, ℕ, zero, suc, ◌+◌, ◌-◌, ◌%◌, ◌^◌, ◌<◌, ◌≤◌, nat_eq, nat_le, ℤ, Bool, true, false, cond, lit<, List, [], ◌∷◌, take, Option, Some, None, add-one, arith, refl, ap, sym, ◌∙◌, ◌⊎◌, inl, inr}
+use Rattle.std.proofs.Common.{◌≡◌, ℕ, suc, ◌+◌, ◌-◌, ◌%◌, ◌^◌, ◌<◌, ◌≤◌, nat_eq, nat_le, ℤ, Bool, true, false, cond, lit<, List, [], ◌∷◌, take, Option, Some, None, add-one, arith, refl, ap, sym, ◌∙◌, ◌⊎◌, inl, inr}
 use Rattle.std.specs.Prelude.{is_some}
 use Rattle.std.specs.List.{fold, count_by}
 use Rattle.std.proofs.lemmas.List.Sums.{sum_by-cons}
 use Rattle.std.proofs.lemmas.Bool.Decides.{nat_tests}
 use Rattle.std.proofs.lemmas.Bool.{eqb-true}
 use Rattle.std.proofs.lemmas.Nat.Gcd.{dvd_antisymm, dvd_of_mod-eq-zero}
-use Rattle.std.proofs.Math.Nat.{mod-one, one-le-pow}
+use Rattle.std.proofs.Math.Nat.{one-le-pow}
 use Rattle.subdiv_model.specs.Multiples.{lcm_of}
-use Rattle.subdiv_model.specs.Numeral.{numeral_form}
-use Rattle.subdiv_model.specs.ObjFault.{ObjCause}
-use Rattle.subdiv_model.specs.ObjWord.{numeral_fault}
-use Rattle.subdiv_model.specs.ReadObj.{kept_coordinates}
 use Rattle.ratio128.specs.Ratio.{IsLcm}
 use Rattle.obj_laws.proofs.RangeLemmas.{grows}
 use Rattle.number_laws.proofs.CountLemmas.{one_if}
 use Rattle.number_laws.proofs.MultipleLemmas.{lcm-first, lcm-second, lcm-least, lcm-absorbs, lcm-positive}
 use Rattle.obj_tags.specs.Line.{Line}
-use Rattle.obj_tags.specs.Survey.{with_denominator, with_word, with_line, surveyed}
+use Rattle.obj_tags.specs.Survey.{with_denominator, with_line, surveyed}
 use Rattle.obj_tags.specs.declared.survey.Common.{Common}
 use Rattle.obj_tags.proofs.WalkLemmas.{take-first}
-
--- 1 divides each number
-pub one-divides : (common den : ℕ) → den ≡ 1 → nat_eq (common % den) 0 ≡ true
-one-divides common den e = rw e (ap (λ r. nat_eq r 0) (mod-one common))
 
 is-lcm : (a b : ℕ) → 0 < b → IsLcm a b (lcm_of a b)
 is-lcm a b positive = record { first = lcm-first a b; second = lcm-second a b; least = λ n p q. lcm-least a b n positive p q }
@@ -36,11 +28,6 @@ le-yes a b h = grind (arith, nat_tests)
 
 le-no : (a b : ℕ) → b < a → nat_le a b ≡ false
 le-no a b h = grind (arith, nat_tests)
-
--- a channel that is too wide stays as it is, and so does one whose common denominator the denominator divides
-wide-same : (number value place den : ℕ)
-    → record { value = value; wide = Some place } ≡ with_denominator number (record { value = value; wide = Some place }) den
-wide-same number value place den = refl
 
 divided-same : (number value den : ℕ) (wide : Option ℕ) → 0 < den → value ≤ 10 ^ 37 → nat_eq (value % den) 0 ≡ true
     → record { value = value; wide = wide } ≡ with_denominator number (record { value = value; wide = wide }) den
@@ -74,40 +61,10 @@ with-wide number common den positive narrow far =
     let more = far (lcm_of common.value den) (is-lcm common.value den positive) in
     rw (narrow, le-no (lcm_of common.value den) (10 ^ 37) more) refl
 
--- the denominator of a word that is kept, and none of one that is refused
-pub word-kept : (number : ℕ) (common : Common) (num : ℤ) (den : ℕ) (word : List ℕ) → numeral_fault word ≡ None
-    → (num, den) ≡ numeral_form word → with_denominator number common den ≡ with_word number common word
-word-kept number common num den word kept form =
-    let same : den ≡ (numeral_form word).1 = ap (λ (t : ℤ × ℕ). t.1) form in rw kept (ap (with_denominator number common) same)
-
-pub word-refused : (number : ℕ) (common : Common) (word : List ℕ) (cause : ObjCause) → numeral_fault word ≡ Some cause
-    → common ≡ with_word number common word
-word-refused number common word cause e = rw e refl
-
 -- one more word of some
 pub fold-taken : {X : Type 0} (f : X → List ℕ → X) (x : X) (n : ℕ) (word : List ℕ) (left next : Line) → 0 < n → left ≡ word ∷ next
     → fold f (f x word) (take (n - 1) next) ≡ fold f x (take n left)
 fold-taken f x n word left next h e = sym (ap (λ ws. fold f x (take n ws)) e ∙ ap (fold f x) (take-first n word next h))
-
-pub fold-ended : {X : Type 0} (f : X → List ℕ → X) (x : X) (n : ℕ) (left : Line) → left ≡ [] → fold f x (take n left) ≡ x
-fold-ended f x n left e = ap (λ ws. fold f x (take n ws)) e ∙ none n
-  where
-    none : (k : ℕ) → fold f x (take k []) ≡ x
-    none zero = refl
-    none (suc k) = refl
-
-pub fold-no-more : {X : Type 0} (f : X → List ℕ → X) (x : X) (n : ℕ) (left : Line) → n ≤ 0 → fold f x (take n left) ≡ x
-fold-no-more f x zero left h = refl
-fold-no-more f x (suc n) left h = absurd (omega arith)
-
--- the words of a line of the channel, and of another
-pub line-yes : (kind : Line → Bool) (number : ℕ) (common : Common) (line words : Line) (n : ℕ) → kind line ≡ true
-    → kept_coordinates line ≡ take n words → fold (with_word number) common (take n words) ≡ with_line kind number common line
-line-yes kind number common line words n is e = rw is (ap (fold (with_word number) common) (sym e))
-
-pub line-no : (kind : Line → Bool) (number : ℕ) (common : Common) (line : Line) → kind line ≡ false
-    → common ≡ with_line kind number common line
-line-no kind number common line other = rw other refl
 
 -- one more line of a text
 pub survey-step : (kind : Line → Bool) (n : ℕ) (common next : Common) (line : Line) (others lines : List Line) → lines ≡ line ∷ others
@@ -116,9 +73,6 @@ survey-step kind n common next line others lines e step =
     ap (λ c. surveyed kind (suc (n + 1)) c others) step
     ∙ ap (λ k. surveyed kind (suc k) (with_line kind k common line) others) (add-one n)
     ∙ ap (surveyed kind (suc n) common) (sym e)
-
-pub survey-ended : (kind : Line → Bool) (n : ℕ) (common : Common) (lines : List Line) → lines ≡ [] → surveyed kind n common lines ≡ common
-survey-ended kind n common lines e = ap (surveyed kind n common) e
 
 -- a power of ten to start with
 pub tens-bounded : (n : ℕ) → n ≤ 18 → (0 < 10 ^ n) × (10 ^ n ≤ 10 ^ 37)

@@ -148,9 +148,6 @@ sharp-kept word num den decimals kept form few sign fine =
 pub product-fits : (num : ℤ) (factor : ℕ) → unsigned_abs num * factor < 10 ^ 37 → FitsSigned w128 (num *ℤ pos factor)
 product-fits num factor h = fits_signed_from_abs w128 _ (omega (arith, unsigned_abs-mul num (pos factor), h))
 
-pub factor-fits : (common den : ℕ) → common ≤ 10 ^ 37 → FitsSigned w128 (pos (common / den))
-factor-fits common den h = let less = div-le_self common den in fits_signed_from_abs w128 _ (omega (arith, less, h))
-
 -- a number of up to eight digits with one more digit has up to nine, and fits 32 bits
 pub digits-more : (i n d : ℕ) → i < 9 → n < 10 ^ i → d < 10 → (n * 10 < 2 ^ 32) × (n * 10 + d < 2 ^ 32) × (n * 10 + d < 10 ^ (i + 1))
 digits-more i n d short below digit =

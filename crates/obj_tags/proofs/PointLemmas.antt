@@ -8,11 +8,9 @@ use Rattle.subdiv_model.specs.ObjFault.{ObjCause, first_cause}
 use Rattle.subdiv_model.specs.ObjLine.{is_vertex_line}
 use Rattle.subdiv_model.specs.ObjWord.{numeral_fault, number_over}
 use Rattle.subdiv_model.specs.ReadObj.{is_texture_line, is_long_over, has_long_number, point_over, texture_over}
-use Rattle.obj_text.specs.declared.numeral.Numeral.{Numeral}
 use Rattle.ratio128.specs.declared.point.Point2.{Point2}
 use Rattle.ratio128.specs.declared.point.Point3.{Point3}
-use Rattle.obj_tags.specs.Channel.{over_common, IsShortNumber, are_long, IsPointOver, IsTextureOver, point_from, texture_from, point_or_origin, texture_or_origin, first_long, AddsPosition, AddsTextureValue}
-use Rattle.obj_tags.specs.Kept.{IsNumeralOf}
+use Rattle.obj_tags.specs.Channel.{IsShortNumber, are_long, IsPointOver, IsTextureOver, point_from, texture_from, point_or_origin, texture_or_origin, first_long, AddsPosition, AddsTextureValue}
 use Rattle.obj_tags.specs.Line.{Line}
 use Rattle.obj_tags.specs.View.{point_of, texture_of}
 use Rattle.obj_tags.specs.declared.channel.Positions.{Positions}
@@ -20,14 +18,6 @@ use Rattle.obj_tags.specs.declared.channel.TextureValues.{TextureValues}
 use Rattle.obj_tags.proofs.ChannelLemmas.{channel-more}
 use Rattle.obj_tags.proofs.WalkLemmas.{cause-none, cause-some}
 use Rattle.obj_tags.proofs.FineLemmas.{vertex-kept, texture-kept}
-
--- a numeral that was read, over a common denominator
-pub over-read : (common : ℕ) (n : Numeral) (word : List ℕ) → IsNumeralOf n word → over_common common n ≡ number_over common word
-over-read common n word is = ap (λ (t : ℤ × ℕ). t.0 *ℤ pos (common / t.1)) is.terms
-
-pub short-read : (common : ℕ) (read : Option ℤ) (n : Numeral) (word : List ℕ) → IsNumeralOf n word
-    → IsShortNumber read (over_common common n) → IsShortNumber read (number_over common word)
-short-read common read n word is short = subst (IsShortNumber read) (over-read common n word is) short
 
 -- a missing coordinate
 pub zero-short : (common : ℕ) → IsShortNumber (Some (pos 0)) (number_over common (codes "0"))

@@ -80,9 +80,6 @@ terms-lowest n d rest twos num fives two five =
 pub fives-fit : (k : ℕ) → k ≤ 37 → 5 ^ k < 2 ^ 128
 fives-fit k few = let grows : 5 ^ k ≤ 5 ^ 37 = pow-le-pow_right {n = 5} (lit< tt) {i = k} {j = 37} few in omega arith
 
-pub twos-fit : (k : ℕ) → k ≤ 37 → 2 ^ k < 2 ^ 128
-twos-fit k few = let grows : 2 ^ k ≤ 2 ^ 37 = pow-le-pow_right {n = 2} (lit< tt) {i = k} {j = 37} few in omega arith
-
 -- twos and fives of at most d are at most ten to the d
 pub over-most : (d twos fives : ℕ) → twos ≤ d → fives ≤ d → 2 ^ twos * 5 ^ fives ≤ 10 ^ d
 over-most d twos fives few less =

@@ -3,7 +3,7 @@ use Rattle.std.proofs.Common.{◌≡◌, ℕ, ◌+◌, ◌<◌, ◌⊎◌, inl, 
 use Rattle.std.specs.List.{All, list_any}
 use Rattle.std.proofs.lemmas.List.{take_more, map-append}
 use Rattle.std.proofs.lemmas.List.Elements.{All-append, All-from_recursion}
-use Rattle.std.proofs.lemmas.List.Folds.{list_any-append, list_any_at}
+use Rattle.std.proofs.lemmas.List.Folds.{list_any-append}
 use Rattle.subdiv_model.specs.Polygons.{polygon_at}
 use Rattle.subdiv_model.specs.Level.{Level}
 use Rattle.subdiv_model.specs.Mask.{Scheme, OfFace, Mask, has_source, weigh_points, face_mask}
@@ -12,22 +12,16 @@ use Rattle.subdiv_model.specs.Channel.{transition_overflows_at}
 use Rattle.sharpness_laws.proofs.MaskValueLemmas.{joined-mask_of}
 use Rattle.level_topology.specs.Topology.{Topology, IsTopology}
 use Rattle.level_topology.specs.Child.{PointOrigin, FromVertex, FromFace, FromEdge, same_origin}
-use Rattle.level_topology.proofs.ChildLemmas.{same_origin-refl, same_origin-true}
+use Rattle.level_topology.proofs.ChildLemmas.{same_origin-true}
 use Rattle.mask_rules.specs.Masks.{corners_over}
 use Rattle.mask_rules.proofs.EdgeLemmas.{face-mask}
-use Rattle.primvar_refine.specs.Step.{mask_from, masks_from, has_origin}
+use Rattle.primvar_refine.specs.Step.{mask_from, masks_from}
 use Rattle.primvar_refine.specs.declared.survey.Survey.{Survey}
 use Rattle.primvar_refine.specs.Survey.{within_bound}
 use Rattle.primvar_refine.specs.Found.{dens_from, ArePointDenominators, AreFaceDenominators, IsAdded, IsSurveyOf}
 use Rattle.primvar_refine.proofs.SourceLemmas.{corner-dens}
 use Rattle.primvar_refine.proofs.AmongLemmas.{sources-same}
 use Rattle.primvar_refine.proofs.AddLemmas.{tells}
-
--- the origin of a point is one of the origins
-pub has-origin : (origins : List PointOrigin) (p : ℕ) (origin : PointOrigin) → p < length origins → get_or origins p (FromVertex 0) ≡ origin
-    → has_origin origins origin ≡ true
-has-origin origins p origin inside e =
-    list_any_at (same_origin origin) origins p (FromVertex 0) inside (ap (same_origin origin) e ∙ same_origin-refl origin)
 
 -- the mask of a face has its points alone
 no-face : (points : List ℕ) (g : ℕ) → has_source (weigh_points 1 points) (OfFace g) ≡ false

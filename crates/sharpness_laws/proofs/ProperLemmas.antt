@@ -9,7 +9,7 @@ use Rattle.subdiv_model.specs.Edges.{edges_of, edge_number}
 use Rattle.subdiv_model.specs.Fractions.{gcd_of, lowest, minus_fraction, sum_of_fractions}
 use Rattle.subdiv_model.specs.Sharpness.{Sharpness, Smooth, Semi, Infinite, Method, Normal, Chaikin, is_proper_sharpness, semi_of, semi_values, sharpness_of, uniform_child, chaikin_value, chaikin_half, half_child}
 use Rattle.subdiv_model.specs.Level.{Level, edge_sharpness_of, vertex_sharpness_of, edges_at, ring_at, is_well_formed}
-use Rattle.subdiv_model.specs.Child.{half_sharpness, half_at, halves_of, sharpness_among, child_polygons, child_edge_sharpness, child_vertex_sharpness, child_level, refined_level}
+use Rattle.subdiv_model.specs.Child.{half_sharpness, half_at, halves_of, sharpness_among, child_polygons, child_edge_sharpness, child_vertex_sharpness, child_level}
 use Rattle.subdiv_model.specs.Mask.{is_proper_at}
 use Rattle.number_laws.proofs.FractionLemmas.{gcd_of-is}
 use Rattle.number_laws.proofs.DivisorLemmas.{lowest-coprime, lowest-positive, lowest-below}
@@ -121,7 +121,3 @@ module _ (level : Level) (h : IsProper level) where
 
   pub proper-child : IsProper (child_level level)
   proper-child = (proper-child_edges, proper-child_vertices)
-
-pub proper-levels : (level : Level) (k : ℕ) → IsProper level → IsProper (refined_level level k)
-proper-levels level zero h = h
-proper-levels level (suc k) h = proper-child (refined_level level k) (proper-levels level k h)

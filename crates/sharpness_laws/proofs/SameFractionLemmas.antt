@@ -8,9 +8,6 @@ use Rattle.subdiv_model.specs.Rule.{at_most_one}
 use Rattle.number_laws.proofs.DivisorLemmas.{lowest-same}
 use Rattle.sharpness_laws.specs.SameFraction.{IsSameFraction}
 
-pub same_fraction-refl : (x : ℕ × ℕ) → IsSameFraction x x
-same_fraction-refl x = refl
-
 pub same-plus : (x y u v : ℕ × ℕ) → IsSameFraction x u → IsSameFraction y v → IsSameFraction (plus_fraction x y) (plus_fraction u v)
 same-plus x y u v p q = over x.0 x.1 y.0 y.1 u.0 u.1 v.0 v.1 p q
   where

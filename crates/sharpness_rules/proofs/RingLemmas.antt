@@ -1,10 +1,9 @@
 -- The values of a ring.
 use Rattle.std.proofs.Common.{◌≡◌, ℕ, zero, suc, ◌+◌, ◌-◌, ◌*◌, ◌^◌, ◌<◌, ◌≤◌, arith, refl, subst, sym, ap, ◌∙◌, true, false, cond, List, [], ◌∷◌, ◌++◌, length, map, take, drop, get_or, append_assoc, length-append}
 use Rattle.std.specs.Int.{◌∣◌}
-use Rattle.std.specs.List.{flat_map, sum_by}
+use Rattle.std.specs.List.{flat_map}
 use Rattle.std.proofs.lemmas.Bool.{cond-true, cond-false, lt-ltb}
 use Rattle.std.proofs.lemmas.List.{drop_more, get_or-map, length-map, take-map, take_more, flat_map_more}
-use Rattle.std.proofs.lemmas.List.Sums.{sum_by-append, sum_by_push}
 use Rattle.std.proofs.lemmas.Nat.Gcd.{dvd_trans}
 use Rattle.std.proofs.Math.Nat.{mul-le-mul_right}
 use Rattle.subdiv_model.specs.Multiples.{common_denominator}
@@ -14,7 +13,6 @@ use Rattle.subdiv_model.specs.Sharpness.{is_sharp, semi_values}
 use Rattle.sharpness_rules.specs.declared.sharpness.Semi.{Semi}
 use Rattle.sharpness_rules.specs.declared.sharpness.Sharpness.{Sharpness}
 use Rattle.sharpness_rules.specs.declared.sharpness.Sharpness.TheVariants as variant
-use Rattle.sharpness_rules.specs.Totals.{parts_over}
 use Rattle.sharpness_rules.specs.View.{sharpness_of}
 use Rattle.sharpness_rules.proofs.MultipleLemmas.{IsProper, AreProper, AreProper-append, common_denominator-prefix, common_denominator-more, common_denominator-push, lcm_of-is, too_fine-several}
 
@@ -134,21 +132,11 @@ middle-divides prefix after x =
     let P : ℕ → Type 0 = λ m. x.1 ∣ m in
     dvd_trans x.1 (subst P (sym (common_denominator-push prefix x)) (lcm_of-is (common_denominator prefix) x.1).second) (common_denominator-prefix (prefix ++ x ∷ []) after)
 
-middle-parts : (prefix after : List (ℕ × ℕ)) (x : ℕ × ℕ) (den : ℕ)
-    → parts_over den x ≤ sum_by (parts_over den) ((prefix ++ x ∷ []) ++ after)
-middle-parts prefix after x den = omega (arith, sum_by-append (parts_over den) (prefix ++ x ∷ []) after, sum_by_push (parts_over den) prefix x)
-
 pub edge-divides : (ring : List Sharpness) (at : ℕ) (d : Sharpness) (value : Semi) → at < length ring
     → get_or ring at d ≡ variant.Semi value → value.den ∣ common_denominator (ring_values ring)
 edge-divides ring at d value within read =
     let P : List (ℕ × ℕ) → Type 0 = λ values. value.den ∣ common_denominator values in
     subst P (sym (edge-split ring at d value within read)) (middle-divides _ _ (value.num, value.den))
-
-pub edge-parts : (ring : List Sharpness) (at : ℕ) (d : Sharpness) (value : Semi) (den : ℕ) → at < length ring
-    → get_or ring at d ≡ variant.Semi value → parts_over den (value.num, value.den) ≤ sum_by (parts_over den) (ring_values ring)
-edge-parts ring at d value den within read =
-    let P : List (ℕ × ℕ) → Type 0 = λ values. parts_over den (value.num, value.den) ≤ sum_by (parts_over den) values in
-    subst P (sym (edge-split ring at d value within read)) (middle-parts (flat_map semi_values (take at (map sharpness_of ring))) (flat_map semi_values (drop (suc at) (map sharpness_of ring))) (value.num, value.den) den)
 
 -- where the ring is too fine, its semi-sharp edges have no halves
 pub ring-overflows : (ring : List Sharpness) → 2 ^ 60 < common_denominator (ring_values ring)

@@ -1,10 +1,9 @@
 -- Sums by place: what an addition changes, and what stands in the shares that are taken of them.
 use Rattle.std.proofs.Common.{◌≡◌, ℕ, zero, suc, ◌+◌, ◌*◌, ◌<◌, ◌≤◌, Bool, true, false, ◌||◌, nat_eq, nat_lt, if◌then◌else◌, ℤ, pos, ◌+ℤ◌, ◌*ℤ◌, List, [], ◌∷◌, length, get_or, replicate, arith, refl, ap, sym, ◌∙◌, subst}
-use Rattle.std.specs.List.{All, AllByRecursion}
+use Rattle.std.specs.List.{AllByRecursion}
 use Rattle.std.specs.List.Sorted.{IsStrictlyIncreasing}
 use Rattle.std.proofs.lemmas.Bool.Decides.{nat_tests}
 use Rattle.std.proofs.lemmas.Int.{ints}
-use Rattle.std.proofs.lemmas.List.Elements.{recursion_from_All}
 use Rattle.std.proofs.lemmas.List.Folds.{sum_by-replicate}
 use Rattle.std.proofs.lemmas.List.Sums.{sum_by-cons}
 use Rattle.std.proofs.Math.Nat.{mul-pos}
@@ -50,10 +49,6 @@ sum-added_shares factor [] sums inside = omega arith
 sum-added_shares factor (share ∷ shares) sums inside =
     let later = sum-added_shares factor shares (added_at share.0 (factor * share.1) sums) (inside-added share.0 (factor * share.1) shares sums inside.1) in
     omega (arith, later, sum-added_at share.0 (factor * share.1) sums inside.0, total-first factor share shares)
-
--- the same where each share is inside by its index
-pub sum-added_all : (factor : ℕ) (shares : List Share) (sums : List ℕ) → All (λ share. share.0 < length sums) shares → sum_of (added_shares factor shares sums) ≡ sum_of sums + factor * total_of shares
-sum-added_all factor shares sums inside = sum-added_shares factor shares sums (recursion_from_All _ shares inside)
 
 -- no sum is more than all together
 pub place-le-sum : (v : ℕ) (sums : List ℕ) → get_or sums v 0 ≤ sum_of sums

@@ -34,9 +34,6 @@ turn-low size i h = go (nat_eq i 0) refl
     go true e = rw e (omega (arith, h))
     go false e = let some : i ≢ 0 = (λ same. absurd (let yes = eq-eqb i 0 same in cc)) in rw e (omega (arith, h, some))
 
-turn-zero : (size : ℕ) → turn_at size 0 ≡ 0
-turn-zero size = refl
-
 turn-some : (size i : ℕ) → i ≢ 0 → turn_at size i ≡ size - i
 turn-some size i some = let no = ne_eqb i 0 some in rw no refl
 

@@ -16,13 +16,6 @@ use Rattle.uniform_refiner.proofs.PutPointLemmas.{points-none}
 use Rattle.uniform_refiner.proofs.WholeLemmas.{corners-total}
 use Rattle.uniform_refiner.specs.Uniform.{IsUniform, origins_in, all_places}
 
--- before any face, before any edge, and before any point
-pub start-children : (level : Level) (counts : Counts) (method : Method) (rows : Rows) → rows ≡ no_rows counts method → rows ≡ with_children level 0 rows
-start-children level counts method rows e = subst (λ (r : Rows). r ≡ with_children level 0 r) (sym e) refl
-
-pub start-edges : (level : Level) (counts : Counts) (method : Method) (k : ℕ) (rows : Rows) → rows ≡ with_children level k (no_rows counts method) → rows ≡ with_child_edges level 0 rows
-start-edges level counts method k rows e = subst (λ (r : Rows). r ≡ with_child_edges level 0 r) (sym e) refl
-
 pub start-points : (level : Level) (counts : Counts) (method : Method) (m k : ℕ) (rows : Rows) → rows ≡ with_child_edges level m (with_children level k (no_rows counts method)) → rows ≡ without_points rows
 start-points level counts method m k rows e = subst (λ (r : Rows). r ≡ without_points r) (sym e) refl
 

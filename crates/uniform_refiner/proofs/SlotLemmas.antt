@@ -1,5 +1,5 @@
 -- The numbers of child faces, and the slots of their edges.
-use Rattle.std.proofs.Common.{◌≡◌, ℕ, zero, suc, ◌+◌, ◌-◌, ◌<◌, ◌≤◌, ◌^◌, Bool, true, false, nat_eq, List, [], ◌∷◌, length, map, take, get_or, arith, refl, ap, sym, ◌∙◌}
+use Rattle.std.proofs.Common.{◌≡◌, ℕ, zero, suc, ◌+◌, ◌-◌, ◌<◌, ◌≤◌, ◌^◌, Bool, true, false, nat_eq, List, [], ◌∷◌, length, map, take, get_or, arith, refl, ap, ◌∙◌}
 use Rattle.std.specs.List.{sum_by}
 use Rattle.std.proofs.lemmas.List.{take_all}
 use Rattle.std.proofs.lemmas.List.Sums.{sum_by-cons}
@@ -84,18 +84,7 @@ edge-there-before polygons f c b size edges e s is h =
 pub few-edges : (t : Topology) → IsTopology t → length (edges_of t.level.polygons) < 2 ^ 28
 few-edges t is = omega (arith, edges-corners t.level.polygons, is.small.corners)
 
--- the next face's child faces follow those of a face
-pub first-next : (polygons : List Polygon) (f : ℕ) → f < length polygons → first_child polygons (f + 1) ≡ first_child polygons f + length (polygon_at polygons f)
-first-next [] f h = absurd (omega arith)
-first-next (p ∷ polygons) zero h = omega (arith, sum_by-cons length p [])
-first-next (p ∷ polygons) (suc f) h =
-    let behind : first_child polygons (suc f) ≡ first_child polygons f + length (polygon_at polygons f) = ap (first_child polygons) (one-more f) ∙ first-next polygons f (omega arith) in
-    ap (first_child (p ∷ polygons)) (sym (one-more (suc f))) ∙ omega (arith, behind, sum_by-cons length p (take (suc f) polygons), sum_by-cons length p (take f polygons))
-  where
-    one-more : (n : ℕ) → suc n ≡ n + 1
-    one-more n = omega arith
-
--- and those of all faces are all
+-- the child faces of all faces are all
 pub first-all : (polygons : List Polygon) → first_child polygons (length polygons) ≡ sum_by length polygons
 first-all polygons = ap (sum_by length) (take_all (length polygons) polygons (omega arith))
 

@@ -49,25 +49,6 @@ module _ (slots table : List ℕ) (a e : ℕ) (is : IsInverse slots table) (insi
 pub known-slot : (face : ℕ) (n : Slotted) (a e : ℕ) (s pair : ℕ × ℕ) → is_among n.slots a ≡ true → e ≡ number_at n.slots a → pair ≡ get_or n.faces e (0, 0) → slotted n.count n.slots n.ends (slice_set n.faces e (pair.0, face)) ≡ with_slot face n (a, s)
 known-slot face n a e s pair there number is = rw (there, ← number, ← is) refl
 
--- an edge more
-pub new-slot : (face : ℕ) (n : Slotted) (a : ℕ) (s : ℕ × ℕ) → is_among n.slots a ≡ false → slotted n.count (n.slots ++ a ∷ []) (n.ends ++ s ∷ []) (n.faces ++ (face, face) ∷ []) ≡ with_slot face n (a, s)
-new-slot face n a s none = rw none refl
-
--- a side gives one edge more at most, and no slot more
-pub slot-length : (face : ℕ) (n : Slotted) (s : ℕ × (ℕ × ℕ)) → length (with_slot face n s).ends ≤ length n.ends + 1
-slot-length face n s = go (is_among n.slots s.0) refl
-  where
-    go : (b : Bool) → is_among n.slots s.0 ≡ b → length (with_slot face n s).ends ≤ length n.ends + 1
-    go true e = rw e (omega arith)
-    go false e = rw e (omega (arith, length-append n.ends (s.1 ∷ [])))
-
-pub slot-count : (face : ℕ) (n : Slotted) (s : ℕ × (ℕ × ℕ)) → (with_slot face n s).count ≡ n.count
-slot-count face n s = go (is_among n.slots s.0) refl
-  where
-    go : (b : Bool) → is_among n.slots s.0 ≡ b → (with_slot face n s).count ≡ n.count
-    go true e = rw e refl
-    go false e = rw e refl
-
 -- a table with one more edge
 pub table-more : (table slots : List ℕ) (ends faces : List (ℕ × ℕ)) (a e : ℕ) (s pair : ℕ × ℕ) (slots' : List ℕ) (ends' faces' : List (ℕ × ℕ)) → IsSlotTable table (slotted (length table) slots ends faces) → a < length table → is_among slots a ≡ false → e ≡ length ends → length ends < 2 ^ 31
     → slots' ≡ slots ++ a ∷ [] → ends' ≡ ends ++ s ∷ [] → faces' ≡ faces ++ pair ∷ []

@@ -4,7 +4,7 @@ use Rattle.level_text.specs.Points.{CanBeWritten}
 use Rattle.far_words.specs.View.{by_of_code, uv_of_code, tags_of_code}
 use Rattle.far_engine.proofs.RefusalLemmas.{manifold-of, handed-on}
 use Rattle.far_engine.proofs.RefineLemmas.{positions-found, texture-found, none-found, refined-written, texture-can}
-use Rattle.far_engine.proofs.StepLemmas.{positions-alone, all-steps}
+use Rattle.far_engine.proofs.StepLemmas.{positions-alone}
 use Rattle.far_engine.proofs.refine.refine_tracks.Goals as goal
 
 pub returns-in_err-positions-clause-refined : goal.returns-in_err-positions-clause-refined
