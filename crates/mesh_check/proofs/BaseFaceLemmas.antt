@@ -2,7 +2,7 @@
 use Rattle.std.proofs.Common.{◌≡◌, ℕ, ◌+◌, ◌-◌, ◌<◌, ◌≤◌, ◌^◌, Bool, true, false, not, ◌&&◌, List, [], ◌∷◌, ◌++◌, length, get_or, take, drop, replicate, arith, ap, sym, ◌∙◌, Some, length-append, if◌then◌else◌}
 use Rattle.std.specs.List.{slice_get, list_all, list_any, sum_by}
 use Rattle.std.proofs.lemmas.Bool.{and_parts, false_from_ne_true}
-use Rattle.std.proofs.lemmas.List.{take_more, replicate-append-replicate, take-append-drop}
+use Rattle.std.proofs.lemmas.List.{take_more, take_all, replicate-append-replicate, take-append-drop}
 use Rattle.std.proofs.lemmas.List.Folds.{list_any_at, list_all-append}
 use Rattle.std.proofs.lemmas.List.Sums.{list_all-from_AllPass, sum_by_more_le, sum_by_more}
 use Rattle.std.proofs.lemmas.Grind.{flat_map-append}
@@ -118,3 +118,8 @@ faces-more points method polygons holes f polygon old new at marks before after 
     ∙ ap (λ (xs : List Sharpness). built_of points (take f polygons ++ polygon ∷ []) (take f holes ++ hole ∷ []) xs (replicate points Smooth) method (replicate points false)) smooth
     ∙ ap (λ (ps : List Polygon). smooth_built points method ps (take f holes ++ hole ∷ [])) (sym (taken polygons f polygon at))
     ∙ ap (λ (hs : List Bool). smooth_built points method (take (f + 1) polygons) hs) (sym (take_more holes f false (omega (arith, slice_get_within polygons f polygon at, marks))))
+
+-- at the end all faces are there
+pub faces-all : (points : ℕ) (method : Method) (polygons : List Polygon) (holes : List Bool) (f : ℕ) (built : Built) → length polygons ≤ f → length holes ≤ f → built ≡ smooth_built points method (take f polygons) (take f holes) → built ≡ smooth_built points method polygons holes
+faces-all points method polygons holes f built all marks is =
+    is ∙ ap (λ (ps : List Polygon). smooth_built points method ps (take f holes)) (take_all f polygons all) ∙ ap (λ (hs : List Bool). smooth_built points method polygons hs) (take_all f holes marks)

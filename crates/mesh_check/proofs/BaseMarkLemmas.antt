@@ -1,10 +1,11 @@
 -- Marks at points, and how many corners are at each.
-use Rattle.std.proofs.Common.{◌≡◌, ℕ, suc, ◌+◌, ◌-◌, ◌<◌, ◌≤◌, ◌^◌, Bool, true, false, nat_eq, List, [], ◌∷◌, ◌++◌, length, get_or, take, drop, slice_set, replicate, arith, refl, ap, sym, ◌∙◌, Some, append_assoc, if◌then◌else◌}
+use Rattle.std.proofs.Common.{◌≡◌, ℕ, suc, ◌+◌, ◌-◌, ◌<◌, ◌≤◌, ◌^◌, Bool, true, false, nat_eq, List, [], ◌∷◌, ◌++◌, length, get_or, take, drop, slice_set, replicate, arith, refl, ap, sym, ◌∙◌, Some, append_assoc, get_or-set_other, if◌then◌else◌}
 use Rattle.std.specs.List.{slice_get, filter, list_all, count_by, sum_by, range_with_len}
-use Rattle.std.proofs.lemmas.Bool.{and_parts}
+use Rattle.std.proofs.lemmas.Bool.Decides.{nat_tests}
+use Rattle.std.proofs.lemmas.Bool.{and_parts, eqb-true}
 use Rattle.std.proofs.lemmas.List.{drop_more, length-take, length-replicate, set-append_right}
-use Rattle.std.proofs.lemmas.List.Sums.{count_by-le-length, sum_by_more, sum_by_more_le_part, sum_by-cons}
-use Rattle.std.proofs.lemmas.Grind.{get_or_default_zero}
+use Rattle.std.proofs.lemmas.List.Sums.{count_by-le-length, count_by_more_yes, count_by_more_no, sum_by_more, sum_by_more_le_part, sum_by-cons}
+use Rattle.std.proofs.lemmas.Grind.{get_or_default_zero, get_or-set_at}
 use Rattle.std.proofs.lemmas.Option.{get_or_from_slice_get, slice_get_within}
 use Rattle.number_laws.proofs.CountLemmas.{count-some, count-none}
 use Rattle.subdiv_model.specs.Polygons.{Polygon, has_corner, is_distinct}
@@ -34,6 +35,18 @@ pub count-room : (face counts : List ℕ) (i v start now d : ℕ) → i < length
     → now ≡ get_or counts v d → get_or counts v 0 ≡ start + count_by (nat_eq v) (take i face) → now + 1 < 2 ^ 32
 count-room face counts i v start now d h there room read is =
     omega (arith, read, get_or_default_zero counts v d there, is, count_by-le-length (nat_eq v) (take i face), length-take i face)
+
+-- one corner more is counted at its vertex, and at no other
+pub count-more : (face counts : List ℕ) (i v w start now d : ℕ) → i < length face → w ≡ get_or face i 0 → w < length counts
+    → now ≡ get_or counts w d → get_or counts v 0 ≡ start + count_by (nat_eq v) (take i face) → get_or (slice_set counts w (now + 1)) v 0 ≡ start + count_by (nat_eq v) (take (i + 1) face)
+count-more face counts i v w start now d h at there read is = go (nat_eq v w) refl
+  where
+    go : (b : Bool) → nat_eq v w ≡ b → get_or (slice_set counts w (now + 1)) v 0 ≡ start + count_by (nat_eq v) (take (i + 1) face)
+    go true e =
+        let same : v ≡ w = eqb-true v w e in
+        omega (arith, is, read, get_or_default_zero counts w d there, ap (λ k. get_or counts k 0) same, get_or-set_at counts w v (now + 1) 0 same there, count_by_more_yes (nat_eq v) face i 0 h (ap (nat_eq v) (sym at) ∙ e))
+    go false e =
+        omega (arith, is, get_or-set_other counts w v (now + 1) 0 (λ k. grind (arith, nat_tests)), count_by_more_no (nat_eq v) face i 0 h (ap (nat_eq v) (sym at) ∙ e))
 
 -- the counts stay small while all corners are few
 pub counts-room : (polygons : List Polygon) (f v now : ℕ) (polygon : Polygon) → sum_by length polygons < 2 ^ 27 → slice_get polygons f ≡ Some polygon → now ≡ sum_by (count_by (nat_eq v)) (take f polygons) → now + length polygon < 2 ^ 32

@@ -1,17 +1,18 @@
 -- What tags do to the sharpness of edges and of vertices: of the tags that name one, the last counts.
-use Rattle.std.proofs.Common.{◌≡◌, ℕ, zero, suc, ◌+◌, ◌<◌, ◌≤◌, Bool, true, false, ◌||◌, nat_eq, List, [], ◌∷◌, map, slice_set, arith, refl, ap, sym, ◌∙◌, if◌then◌else◌}
-use Rattle.std.specs.List.{filter, list_any, count_by, position_or_len, range_with_len}
+use Rattle.std.proofs.Common.{◌≡◌, ℕ, zero, suc, ◌+◌, ◌<◌, ◌≤◌, Bool, true, false, ◌||◌, nat_eq, List, [], ◌∷◌, length, get_or, map, slice_set, arith, refl, ap, sym, ◌∙◌, if◌then◌else◌}
+use Rattle.std.specs.List.{filter, list_all, list_any, count_by, position_or_len, range_with_len}
 use Rattle.std.proofs.lemmas.Bool.Decides.{nat_tests}
-use Rattle.std.proofs.lemmas.Bool.{false_from_ne_true}
+use Rattle.std.proofs.lemmas.Bool.{and_parts, false_from_ne_true}
 use Rattle.subdiv_model.specs.Polygons.{Polygon, same_edge}
 use Rattle.subdiv_model.specs.Edges.{all_sides, edges_of}
-use Rattle.subdiv_model.specs.Lists.{last_of}
+use Rattle.subdiv_model.specs.Lists.{last_of, places_from}
 use Rattle.subdiv_model.specs.Sharpness.{Sharpness, Infinite, Method}
 use Rattle.number_laws.proofs.CountLemmas.{count-cons, count-some, one_if}
 use Rattle.mesh_laws.proofs.SideLemmas.{same_edge-sym}
 use Rattle.mesh_laws.proofs.EdgeLemmas.{first_named-once}
-use Rattle.level_topology.specs.Builder.{Built, built_of}
-use Rattle.mesh_check.specs.Base.{with_edge_tags, with_vertex_tags, infinite}
+use Rattle.level_topology.specs.Builder.{Built, built_of, with_sharp_edge, with_sharp_vertex}
+use Rattle.mesh_check.proofs.RestLemmas.{others, at-first}
+use Rattle.mesh_check.specs.Base.{with_edge_tag, with_edge_tags, with_vertex_tags, infinite}
 
 -- what two functions give is the same list where they give the same
 pub map-alike : {X Y : Type 0} (f g : X → Y) → ((x : X) → f x ≡ g x) → (xs : List X) → map f xs ≡ map g xs
@@ -132,3 +133,46 @@ last-infinite {K = K} same named f k = go named (f k)
             ≡ (if b || list_any (same k) named then Infinite else s)
         here true behind = behind Infinite ∙ stays (list_any (same k) named)
         here false behind = behind s
+
+-- the first side is made sharp, and the others follow
+module _ (sides : List (ℕ × ℕ)) (old new : Built) (some : 1 ≤ length sides) (edges : list_all (λ s. list_any (same_edge s) (edges_of old.level.polygons)) sides ≡ true) (is : new ≡ with_sharp_edge (get_or sides 0 (0, 0)) Infinite old) where
+  parts : (list_any (same_edge (get_or sides 0 (0, 0))) (edges_of old.level.polygons) ≡ true) × (list_all (λ s. list_any (same_edge s) (edges_of old.level.polygons)) (others sides) ≡ true)
+  parts = and_parts _ _ (sym (at-first (list_all (λ s. list_any (same_edge s) (edges_of old.level.polygons))) sides (0, 0) some) ∙ edges)
+
+  pub side-put : (all : Built) → with_edge_tags (infinite sides) old ≡ all → with_edge_tags (infinite (others sides)) new ≡ all
+  side-put all whole =
+      ap (with_edge_tags (infinite (others sides))) is
+      ∙ sym (ap (λ b. with_edge_tags (infinite (others sides)) (if b then with_sharp_edge (get_or sides 0 (0, 0)) Infinite old else old)) parts.0)
+      ∙ sym (at-first (λ ss. with_edge_tags (infinite ss) old) sides (0, 0) some)
+      ∙ whole
+
+  pub side-edges : list_all (λ s. list_any (same_edge s) (edges_of new.level.polygons)) (others sides) ≡ true
+  side-edges = ap (λ (b : Built). list_all (λ s. list_any (same_edge s) (edges_of b.level.polygons)) (others sides)) is ∙ parts.1
+
+-- a tag leaves the polygons as they are
+pub tag-polygons : (tag : (ℕ × ℕ) × Sharpness) (old new : Built) → new ≡ with_edge_tag tag old → new.level.polygons ≡ old.level.polygons
+tag-polygons tag old new is = ap (λ (b : Built). b.level.polygons) is ∙ stays (list_any (same_edge tag.0) (edges_of old.level.polygons))
+  where
+    stays : (b : Bool) → (if b then with_sharp_edge tag.0 tag.1 old else old).level.polygons ≡ old.level.polygons
+    stays true = refl
+    stays false = refl
+
+-- a vertex with one corner is made sharp, and the others follow
+module _ (counts : List ℕ) (v : ℕ) (old new : Built) (is : new ≡ (if nat_eq (get_or counts 0 0) 1 then with_sharp_vertex v Infinite old else old)) where
+  pub single-put : (all : Built) → 1 ≤ length counts → with_vertex_tags (infinite (places_from v (λ count. nat_eq count 1) counts)) old ≡ all → with_vertex_tags (infinite (places_from (v + 1) (λ count. nat_eq count 1) (others counts))) new ≡ all
+  single-put all some whole = go (nat_eq (get_or counts 0 0) 1) refl is ∙ sym (at-first (λ ns. with_vertex_tags (infinite (places_from v (λ count. nat_eq count 1) ns)) old) counts 0 some) ∙ whole
+    where
+      later : List ℕ
+      later = places_from (v + 1) (λ count. nat_eq count 1) (others counts)
+
+      go : (b : Bool) → nat_eq (get_or counts 0 0) 1 ≡ b → new ≡ (if b then with_sharp_vertex v Infinite old else old)
+          → with_vertex_tags (infinite later) new ≡ with_vertex_tags (infinite (places_from v (λ count. nat_eq count 1) (get_or counts 0 0 ∷ others counts))) old
+      go true e made = ap (with_vertex_tags (infinite later)) made ∙ sym (ap (λ b. with_vertex_tags (infinite (if b then v ∷ later else later)) old) e)
+      go false e made = ap (with_vertex_tags (infinite later)) made ∙ sym (ap (λ b. with_vertex_tags (infinite (if b then v ∷ later else later)) old) e)
+
+  pub single-points : new.level.point_count ≡ old.level.point_count
+  single-points = ap (λ (b : Built). b.level.point_count) is ∙ stays (nat_eq (get_or counts 0 0) 1)
+    where
+      stays : (b : Bool) → (if b then with_sharp_vertex v Infinite old else old).level.point_count ≡ old.level.point_count
+      stays true = refl
+      stays false = refl

@@ -1,6 +1,7 @@
 mod KeyLemmas
 mod AloneLemmas
 mod PlaceLemmas
+mod RestLemmas
 mod SearchLemmas
 mod MarkLemmas
 mod EdgeFaultLemmas

@@ -1,10 +1,12 @@
 -- A list whose numbers are marked as they are met has none twice where none was marked before.
-use Rattle.std.proofs.Common.{◌≡◌, ℕ, zero, suc, ◌+◌, ◌<◌, ◌≤◌, ◌≢◌, Bool, true, false, not, ◌&&◌, ◌||◌, nat_eq, List, [], ◌∷◌, ◌++◌, length, drop, replicate, get_or, slice_set, add-one, arith, refl, ap, sym, subst, ◌∙◌, get_or-set_other, get_or-set_same}
-use Rattle.std.specs.List.{All, list_all}
+use Rattle.std.proofs.Common.{◌≡◌, ℕ, zero, suc, ◌+◌, ◌<◌, ◌≤◌, ◌≢◌, Bool, true, false, not, ◌&&◌, ◌||◌, nat_eq, List, [], ◌∷◌, ◌++◌, length, drop, replicate, get_or, slice_set, add-one, arith, refl, ap, sym, subst, ◌∙◌, get_or-set_other, get_or-set_same, Some}
+use Rattle.std.specs.List.{All, list_all, slice_get}
 use Rattle.std.proofs.lemmas.Bool.Decides.{nat_tests}
-use Rattle.std.proofs.lemmas.List.{length-set}
-use Rattle.std.proofs.lemmas.Option.{slice_get-get_or}
-use Rattle.subdiv_model.specs.Polygons.{is_among, is_distinct}
+use Rattle.std.proofs.lemmas.Bool.{eqb-true, eq-eqb}
+use Rattle.std.proofs.lemmas.Grind.{get_or-set_at}
+use Rattle.std.proofs.lemmas.List.{length-set, length-replicate}
+use Rattle.std.proofs.lemmas.Option.{slice_get-get_or, get_or_from_slice_get, slice_get_within}
+use Rattle.subdiv_model.specs.Polygons.{Polygon, is_among, is_distinct}
 use Rattle.mesh_laws.proofs.FaultLemmas.{all-always}
 use Rattle.mesh_check.proofs.PlaceLemmas.{drop-here, drop-all}
 use Rattle.mesh_check.specs.Marks.{is_new}
@@ -113,3 +115,46 @@ none-marked (suc n) (suc v) = none-marked n v
 -- what is below one length is below an equal one
 pub inside-at : (face : List ℕ) (m n i : ℕ) → All (λ v. v < m) face → n ≡ m → i < length face → get_or face i 0 < n
 inside-at face m n i inside e h = omega (arith, inside i 0 h, e)
+
+-- of so many marks none is set
+pub none-set : (marks : List ℕ) (n v : ℕ) → marks ≡ no_marks n → get_or marks v 0 ≡ 0
+none-set marks n v is = ap (λ ms. get_or ms v 0) is ∙ none-marked n v
+
+-- there are as many marks as points
+pub as-many : (marks : List ℕ) (n m : ℕ) → marks ≡ no_marks n → n ≡ m → length marks ≡ m
+as-many marks n m is same = ap length is ∙ length-replicate n 0 ∙ same
+
+-- the corners of a face are inside, where there are as many marks as points
+pub face-inside : (polygons : List Polygon) (f n m : ℕ) (face : Polygon) → All (λ polygon. All (λ v. v < n) polygon) polygons → slice_get polygons f ≡ Some face → m ≡ n → All (λ v. v < m) face
+face-inside polygons f n m face inside at same =
+    let corners : All (λ v. v < n) face = subst (All (λ v. v < n)) (get_or_from_slice_get polygons f face face at) (inside f face (slice_get_within polygons f face at)) in
+    subst (λ k. All (λ v. v < k) face) (sym same) corners
+
+-- the mark 1 is set at a place, and the others are as they were
+pub set-one : (marks new : List ℕ) (v w : ℕ) → w < length marks → new ≡ slice_set marks v 1 → nat_eq (get_or new w 0) 1 ≡ (nat_eq w v || nat_eq (get_or marks w 0) 1)
+set-one marks new v w h is = ap (λ ms. nat_eq (get_or ms w 0) 1) is ∙ go (nat_eq w v) refl
+  where
+    go : (b : Bool) → nat_eq w v ≡ b → nat_eq (get_or (slice_set marks v 1) w 0) 1 ≡ (b || nat_eq (get_or marks w 0) 1)
+    go true e =
+        let same : w ≡ v = eqb-true w v e in
+        eq-eqb _ 1 (get_or-set_at marks v w 1 0 same (omega arith))
+    go false e = ap (λ n. nat_eq n 1) (get_or-set_other marks v w 1 0 (λ k. grind (arith, nat_tests)))
+
+-- a place is marked or passes among the others exactly where it was marked or passes among all
+pub marked-next : (marks new : List ℕ) (v w : ℕ) (rest : Bool) → w < length marks → new ≡ slice_set marks v 1 → (nat_eq (get_or new w 0) 1 || rest) ≡ (nat_eq (get_or marks w 0) 1 || (nat_eq w v || rest))
+marked-next marks new v w rest h is = ap (λ b. b || rest) (set-one marks new v w h is) ∙ turn (nat_eq w v) (nat_eq (get_or marks w 0) 1)
+  where
+    turn : (a b : Bool) → ((a || b) || rest) ≡ (b || (a || rest))
+    turn true true = refl
+    turn true false = refl
+    turn false true = refl
+    turn false false = refl
+
+pub either : (a b c : Bool) → ((a || b) || c) ≡ (a || (b || c))
+either true b c = refl
+either false b c = refl
+
+-- or nothing more
+pub or-none : (a : Bool) → a ≡ (a || false)
+or-none true = refl
+or-none false = refl

@@ -1,5 +1,5 @@
 -- The first place of what passes a test, found from a place on.
-use Rattle.std.proofs.Common.{◌≡◌, ℕ, zero, suc, ◌+◌, ◌≤◌, Bool, true, false, List, [], ◌∷◌, ◌++◌, length, drop, take, append-nil, arith, refl, ap, sym, ◌∙◌, Some, add-one}
+use Rattle.std.proofs.Common.{◌≡◌, ℕ, zero, suc, ◌+◌, ◌≤◌, Bool, true, false, List, [], ◌∷◌, ◌++◌, length, drop, take, append-nil, arith, refl, ap, sym, ◌∙◌, Some, None, add-one}
 use Rattle.std.specs.List.{slice_get}
 use Rattle.std.proofs.lemmas.List.{take_more}
 use Rattle.std.proofs.lemmas.Grind.{flat_map-append}
@@ -31,6 +31,10 @@ drop-all [] zero h = refl
 drop-all [] (suc i) h = refl
 drop-all (y ∷ ys) zero h = absurd (omega arith)
 drop-all (y ∷ ys) (suc i) h = drop-all ys i (omega arith)
+
+-- and no place is found there
+pub place-none : {X : Type 0} (test : X → Bool) (xs : List X) (i : ℕ) → length xs ≤ i → None ≡ first_of (places_from i test (drop i xs))
+place-none test xs i h = rw (drop-all xs i h) refl
 
 -- the sides of one face more
 pub sides-next : (polygons : List Polygon) (i : ℕ) (face : Polygon) (before after : List (ℕ × ℕ)) → slice_get polygons i ≡ Some face → before ≡ all_sides (take i polygons) → after ≡ before ++ sides_of face → after ≡ all_sides (take (i + 1) polygons)

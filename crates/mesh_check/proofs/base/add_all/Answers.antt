@@ -1,4 +1,4 @@
-use Rattle.std.proofs.Common.{ap, sym, ◌∙◌, length}
+use Rattle.std.proofs.Common.{arith, ap, sym, ◌∙◌, length}
 use Rattle.std.proofs.lemmas.List.{length-replicate}
 use Rattle.level_topology.specs.Builder.{Built}
 use Rattle.mesh_check.specs.Base.{all_complete, tagged_built}
@@ -21,3 +21,6 @@ mark_points-requires-clause-marks g c =
 
 pub returns-clause-all : goal.returns-clause-all
 returns-clause-all g c = c.mark_points.ensures ∙ ap all_complete (c.in_ok-add_tags.ensures ∙ ap (λ (b : Built). tagged_built c.args.raw.now b.level.holes) c.in_ok-add_faces.ensures.faces)
+
+pub overflow_cast-points : goal.overflow_cast-points
+overflow_cast-points g c = omega (arith, point-count c.points.result.now _ c.points.ensures, c.requires.fit.points)

@@ -1,7 +1,7 @@
-use Rattle.std.proofs.Common.{arith, subst, sym, ◌+◌, ◌<◌, ◌^◌, ◌≡◌, length, get_or, true}
+use Rattle.std.proofs.Common.{arith, ◌≤◌, subst, sym, ◌+◌, ◌<◌, ◌^◌, ◌≡◌, length, get_or, true}
 use Rattle.std.specs.List.{sum_by}
 use Rattle.level_topology.specs.Builder.{Built, has_new_sides}
-use Rattle.mesh_check.proofs.BaseFaceLemmas.{face-simple, face-size, face-inside, face-short, sides-new, faces-more}
+use Rattle.mesh_check.proofs.BaseFaceLemmas.{face-simple, face-size, face-inside, face-short, sides-new, faces-more, faces-all}
 use Rattle.mesh_check.proofs.base.add_faces.Goals as goal
 
 pub add_face-requires-clause-simple : goal.add_face-requires-clause-simple
@@ -24,3 +24,8 @@ loop-f-preserved g c = record {
   faces = faces-more (length c.args.raw.now.points) c.args.raw.now.method c.args.raw.now.faces c.args.holes.now c.loop-f.f c.face.result.now _ _ c.face.ensures c.requires.holes c.loop-f.invariant.faces c.in_ok-add_face.ensures.added;
   steps = omega (arith, c.add_face.ensures.steps, c.loop-f.invariant.steps);
 }
+
+pub returns-clause-faces : goal.returns-clause-faces
+returns-clause-faces g c =
+    let all : length c.args.raw.now.faces ≤ c.loop-f.f = omega (arith, c.loop-f-test.false, c.faces-f-end.ensures) in
+    faces-all (length c.args.raw.now.points) c.args.raw.now.method c.args.raw.now.faces c.args.holes.now c.loop-f.f c.loop-f.builder all (omega (arith, all, c.requires.holes)) c.loop-f.invariant.faces

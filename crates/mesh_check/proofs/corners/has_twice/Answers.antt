@@ -4,6 +4,9 @@ use Rattle.std.proofs.lemmas.List.{length-set}
 use Rattle.mesh_check.proofs.MarkLemmas.{new-met, new-passed, new-end, new-distinct, low-with, inside-at}
 use Rattle.mesh_check.proofs.corners.has_twice.Goals as goal
 
+pub mark_at-requires : goal.mark_at-requires
+mark_at-requires c = inside-at c.args.face.now (length c.args.marks.now.items) _ c.loop-i.i c.requires.inside c.loop-i.invariant.size (omega arith)
+
 pub returns-then-mark_at-clause-twice : goal.returns-then-mark_at-clause-twice
 returns-then-mark_at-clause-twice c =
     let met = new-met c.args.mark c.args.marks.now.items c.loop-i.marks.items c.args.face.now c.loop-i.i (omega arith) c.loop-i.invariant.decides (sym c.mark_at.ensures.was ∙ c.if-mark_at.true) in

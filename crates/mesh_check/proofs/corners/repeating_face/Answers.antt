@@ -1,6 +1,8 @@
-use Rattle.std.proofs.Common.{◌∙◌, sym, not}
+use Rattle.std.proofs.Common.{arith, refl, length, ◌∙◌, sym, not}
 use Rattle.subdiv_model.specs.Polygons.{Polygon, is_distinct}
-use Rattle.mesh_check.proofs.PlaceLemmas.{place-found, place-passed}
+use Rattle.mesh_check.proofs.PlaceLemmas.{place-found, place-passed, place-none}
+use Rattle.mesh_check.proofs.CountLemmas.{point-count}
+use Rattle.mesh_check.proofs.MarkLemmas.{none-set, as-many, face-inside}
 use Rattle.mesh_check.proofs.corners.repeating_face.Goals as goal
 
 pub returns-then-has_twice : goal.returns-then-has_twice
@@ -13,3 +15,16 @@ loop-f-preserved c = record {
   low = λ v. c.has_twice.ensures.marks v;
   size = c.has_twice.ensures.size ∙ c.loop-f.invariant.size;
 }
+
+pub loop-f-init : goal.loop-f-init
+loop-f-init c = record {
+  decides = refl;
+  low = λ v. omega (arith, none-set c.in_ok-marks.marks.items (length c.points.result.now) v c.in_ok-marks.ensures);
+  size = as-many c.in_ok-marks.marks.items _ _ c.in_ok-marks.ensures (point-count c.points.result.now _ c.points.ensures);
+}
+
+pub has_twice-requires-clause-inside : goal.has_twice-requires-clause-inside
+has_twice-requires-clause-inside c = face-inside c.args.raw.now.faces c.loop-f.f _ _ c.face.result.now c.requires.faces c.face.ensures c.loop-f.invariant.size
+
+pub returns : goal.returns
+returns c = place-none (λ (polygon : Polygon). not (is_distinct polygon)) c.args.raw.now.faces c.loop-f.f (omega (arith, c.loop-f-test.false, c.faces-f-end.ensures)) ∙ c.loop-f.invariant.decides
