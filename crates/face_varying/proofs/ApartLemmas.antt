@@ -1,9 +1,10 @@
 -- The faces of an edge are apart where the numbers that are noted for its two sides differ.
-use Rattle.std.proofs.Common.{◌≡◌, ◌≢◌, ℕ, ◌<◌, Bool, true, false, not, ◌||◌, nat_eq, List, [], ◌∷◌, length, get_or, Option, Some, None, is_none, arith, ap, sym, ◌∙◌, subst, ◌⊎◌, inl, inr}
+use Rattle.std.proofs.Common.{◌≡◌, ◌≢◌, ℕ, ◌+◌, ◌<◌, ◌≤◌, Bool, true, false, not, ◌||◌, nat_eq, List, [], ◌∷◌, ◌++◌, length, map, take, get_or, Option, Some, None, is_none, arith, ap, sym, ◌∙◌, subst, ◌⊎◌, inl, inr}
 use Rattle.std.specs.List.{position_or_len}
 use Rattle.std.specs.Option.{option_to_list}
 use Rattle.std.proofs.lemmas.Bool.Decides.{nat_tests}
 use Rattle.std.proofs.lemmas.Bool.{eq-eqb, false_from_ne_true, eqb-true}
+use Rattle.std.proofs.lemmas.List.{map_more, take_all}
 use Rattle.subdiv_model.specs.Polygons.{Polygon, sides_of, same_edge, has_side, has_edge, polygon_at}
 use Rattle.subdiv_model.specs.Edges.{all_sides, edges_of, edge_number, faces_of_edge}
 use Rattle.subdiv_model.specs.ObjMesh.{ObjMesh}
@@ -13,7 +14,7 @@ use Rattle.mesh_laws.proofs.FanLemmas.{any-side, owner-unique, distinct-at}
 use Rattle.texture_laws.proofs.JoinLemmas.{edge-cases}
 use Rattle.level_topology.specs.Topology.{Topology, IsTopology, edge_at, side_at, corner_after}
 use Rattle.level_topology.proofs.LawLemmas.{edge-face, edge-order, either-number}
-use Rattle.face_varying.specs.Corners.{is_apart}
+use Rattle.face_varying.specs.Corners.{is_apart, apart_marks}
 use Rattle.face_varying.specs.CornerPlaces.{start_of}
 use Rattle.face_varying.specs.Cut.{IsCuttable}
 use Rattle.face_varying.specs.Sides.{AreNoted, is_along, by_end, noted}
@@ -136,3 +137,16 @@ module _ (mesh : ObjMesh) (base : Topology) (cuttable : IsCuttable mesh base) (i
         (face-noted first (omega (arith, at_f.exists, f_is)) (ap (λ (n : ℕ). has_edge edge (polygon_at faces n)) (sym f_is) ∙ at_f.has))
         (face-noted g (omega (arith, at_g.exists, g_is)) (ap (λ (n : ℕ). has_edge edge (polygon_at faces n)) (sym g_is) ∙ at_g.has))
         ∙ sym (apart-by (first ∷ (g ∷ [])) (sym same))
+
+-- the mark of one edge more
+pub marks-more : (mesh : ObjMesh) (polygons : List Polygon) (e : ℕ) (old new : List Bool) (mark : Bool) → polygons ≡ mesh.faces → e < length (edges_of polygons) → mark ≡ is_apart mesh (edge_at polygons e) → new ≡ old ++ mark ∷ []
+    → old ≡ map (is_apart mesh) (take e (edges_of mesh.faces)) → new ≡ map (is_apart mesh) (take (e + 1) (edges_of mesh.faces))
+marks-more mesh polygons e old new mark same inside is put whole =
+    put
+    ∙ ap (λ b. old ++ b ∷ []) (is ∙ ap (λ (ps : List Polygon). is_apart mesh (edge_at ps e)) same)
+    ∙ ap (λ bs. bs ++ is_apart mesh (edge_at mesh.faces e) ∷ []) whole
+    ∙ sym (map_more (is_apart mesh) (edges_of mesh.faces) e (0, 0) (omega (arith, inside, ap (λ (ps : List Polygon). length (edges_of ps)) same)))
+
+-- at the end all edges have their marks
+pub marks-all : (mesh : ObjMesh) (polygons : List Polygon) (e : ℕ) (marks : List Bool) → polygons ≡ mesh.faces → length (edges_of polygons) ≤ e → marks ≡ map (is_apart mesh) (take e (edges_of mesh.faces)) → marks ≡ apart_marks mesh
+marks-all mesh polygons e marks same all whole = whole ∙ ap (map (is_apart mesh)) (take_all e (edges_of mesh.faces) (omega (arith, all, ap (λ (ps : List Polygon). length (edges_of ps)) same)))

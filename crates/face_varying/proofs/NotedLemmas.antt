@@ -1,8 +1,8 @@
 -- The texture numbers that are noted for the sides of edges, one side more at a time.
-use Rattle.std.proofs.Common.{◌≡◌, ℕ, ◌+◌, ◌<◌, Bool, true, false, nat_lt, List, length, get_or, slice_set, arith, refl, ap, sym, ◌∙◌, subst, if◌then◌else◌}
+use Rattle.std.proofs.Common.{◌≡◌, ℕ, ◌+◌, ◌<◌, Bool, true, false, nat_lt, List, length, get_or, replicate, slice_set, arith, refl, ap, sym, ◌∙◌, subst, if◌then◌else◌}
 use Rattle.std.specs.List.{list_all}
 use Rattle.std.proofs.lemmas.Bool.{ltb-true, ltb-false}
-use Rattle.std.proofs.lemmas.List.{length-set, get_or-set_same, get_or-set_other}
+use Rattle.std.proofs.lemmas.List.{length-set, length-replicate, get_or-set_same, get_or-set_other}
 use Rattle.subdiv_model.specs.Polygons.{Polygon, has_distinct_sides, polygon_at}
 use Rattle.subdiv_model.specs.Edges.{all_sides, edges_of, edge_number}
 use Rattle.subdiv_model.specs.Manifold.{is_simple}
@@ -73,3 +73,11 @@ module _ (polygons : List Polygon) (texture : List (List ℕ)) (simple : list_al
           let same = place-once polygons g d f c inside_g corner_g inside corner (omega (arith, h, ltb-false _ _ last)) in
           subst (λ (n : ℕ). noted next_along next_against (is_along polygons (side_at (polygon_at polygons n) d)) (edge_number polygons (side_at (polygon_at polygons n) d)) ≡ by_end (is_along polygons (side_at (polygon_at polygons n) d)) (side_at (polygon_at texture n) d)) (sym same.0)
           (subst (λ (n : ℕ). noted next_along next_against (is_along polygons (side_at (polygon_at polygons f) n)) (edge_number polygons (side_at (polygon_at polygons f) n)) ≡ by_end (is_along polygons (side_at (polygon_at polygons f) n)) (side_at (polygon_at texture f) n)) (sym same.1) here)
+
+-- at first nothing is noted
+pub none-noted : (polygons : List Polygon) (texture : List (List ℕ)) (along against : List (ℕ × ℕ)) (edges : ℕ) → along ≡ replicate edges (0, 0) → against ≡ replicate edges (0, 0) → edges ≡ length (edges_of polygons) → AreNoted polygons texture along against 0
+none-noted polygons texture along against edges first second many = record {
+  along_size = ap length first ∙ length-replicate edges (0, 0) ∙ many;
+  against_size = ap length second ∙ length-replicate edges (0, 0) ∙ many;
+  each = λ f c inside place before. absurd (omega (arith, before));
+}
