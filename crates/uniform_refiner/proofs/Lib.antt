@@ -1,4 +1,5 @@
 pub mod SlotLemmas
+pub mod ChildNumberLemmas
 pub mod SlotTableLemmas
 pub mod SlotTellLemmas
 pub mod QuadLemmas

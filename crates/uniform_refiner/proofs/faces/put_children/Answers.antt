@@ -1,11 +1,13 @@
-use Rattle.std.proofs.Common.{rules, ◌≡◌, ◌<◌, ap, sym, subst, arith, length, true, List, ℕ}
+use Rattle.std.proofs.Common.{rules, ◌≡◌, ◌+◌, ◌<◌, ◌∙◌, ap, sym, subst, arith, length, true, List, ℕ}
 use Rattle.std.specs.List.{All, sum_by}
 use Rattle.subdiv_model.specs.Polygons.{polygon_at, is_among}
 use Rattle.level_topology.specs.Rows.{Rows}
-use Rattle.uniform_refiner.specs.Slots.{slots_at}
+use Rattle.uniform_refiner.specs.Slots.{first_child, slots_at}
+use Rattle.uniform_refiner.specs.Put.{with_children}
 use Rattle.uniform_refiner.proofs.FaceWalkLemmas.{slots-below}
 use Rattle.uniform_refiner.proofs.ChildEdgeLemmas.{slots-there}
 use Rattle.uniform_refiner.proofs.PutFaceLemmas.{children-room, children-step}
+use Rattle.uniform_refiner.proofs.ChildNumberLemmas.{first-more}
 use Rattle.uniform_refiner.proofs.faces.put_children.Goals as goal
 
 pub numbers_of-numbers-requires-clause-slots : goal.numbers_of-numbers-requires-clause-slots
@@ -39,3 +41,9 @@ loop-c-preserved g c =
           c.child_corners-corners.ensures c.child_slots.ensures c.numbers_of-numbers.ensures c.is_child_hole-hole.ensures c.put_face.ensures.put;
       steps = search rules;
     }
+
+pub returns-clause-put : goal.returns-clause-put
+returns-clause-put g c =
+    let polygons = c.args.level.now.level.polygons in
+    let all : first_child polygons c.args.f + c.loop-c.c ≡ first_child polygons (c.args.f + 1) = omega (arith, c.loop-c-test.false, c.loop-c.auto.c-end, ap length c.face_vertices-c-end.ensures, first-more polygons c.args.f c.requires.face) in
+    c.loop-c.invariant.put ∙ ap (λ k. with_children c.args.level.now.level k c.args.rows.now) all

@@ -52,3 +52,9 @@ returns c =
     let same = overflow-is t c.facts.ensures c.args.v c.requires.known c.method.result c.args.ring.now c.method.ensures c.requires.ring in
     let tested = c.overflows.ensures c.method.result c.args.ring.now c.of-around.ensures in
     point-done t c.facts.ensures c.args.v c.requires.known c.loop-i.i (map sharpness_of c.loop-i.halves) all (sym same ∙ sym tested ∙ c.if-overflows.false) c.loop-i.invariant
+
+pub bounds-ring-i : goal.bounds-ring-i
+bounds-ring-i c = omega (arith, c.loop-i-test.true, ap length c.vertex_edges-edges.ensures, ring-long c.args.level.now c.facts.ensures c.args.v c.requires.known c.args.ring.now c.requires.ring)
+
+pub offset_bounds-ring-i : goal.offset_bounds-ring-i
+offset_bounds-ring-i c = omega (arith, c.loop-i-test.true, ap length c.vertex_edges-edges.ensures, ring-short c.args.level.now c.facts.ensures c.args.v c.requires.known)

@@ -1,5 +1,6 @@
 use Rattle.std.proofs.Common.{◌≡◌, ◌+◌, ◌<◌, ◌∙◌, ◌++◌, ap, sym, arith, map, take, length, List, ℕ}
 use Rattle.std.specs.List.{range_with_len}
+use Rattle.std.proofs.lemmas.List.{take_all}
 use Rattle.subdiv_model.specs.Polygons.{polygon_at}
 use Rattle.uniform_refiner.specs.Uniform.{all_places}
 use Rattle.uniform_refiner.proofs.UniformLemmas.{places-more}
@@ -14,3 +15,6 @@ loop-f-preserved c =
     c.in_ok-put_corners.ensures ∙ ap (λ (xs : List (ℕ × ℕ)). xs ++ last c.loop-f.f) c.loop-f.invariant
     ∙ ap (λ (k : ℕ). all_places 0 (take c.loop-f.f polygons) ++ last k) same
     ∙ sym (places-more 0 polygons c.loop-f.f inside)
+
+pub returns : goal.returns
+returns c = c.loop-f.invariant ∙ ap (all_places 0) (take_all c.loop-f.f c.args.level.now.level.polygons (omega (arith, c.loop-f-test.false, c.faces-f-end.ensures)))

@@ -1,8 +1,10 @@
-use Rattle.std.proofs.Common.{rules, ◌+◌, ◌<◌, ap, sym, subst, arith, length, List, ℕ}
+use Rattle.std.proofs.Common.{rules, ◌≡◌, ◌+◌, ◌<◌, ap, sym, subst, arith, length, List, ℕ}
 use Rattle.std.specs.List.{All}
 use Rattle.subdiv_model.specs.Polygons.{polygon_at}
 use Rattle.uniform_refiner.specs.Slots.{first_child, slots_at}
+use Rattle.uniform_refiner.specs.Walked.{IsWalked}
 use Rattle.uniform_refiner.proofs.SlotLemmas.{first-below}
+use Rattle.uniform_refiner.proofs.ChildNumberLemmas.{first-more, child-few}
 use Rattle.uniform_refiner.proofs.FaceWalkLemmas.{walked-few, slots-below, corner-step}
 use Rattle.uniform_refiner.proofs.walk.number_face.Goals as goal
 
@@ -25,3 +27,12 @@ loop-c-preserved c =
     let h : c.loop-c.c < length (polygon_at polygons c.args.f) = omega (arith, c.loop-c-test.true, ap length c.face_vertices-c-end.ensures) in
     corner-step c.args.level.now c.facts.ensures c.args.f c.loop-c.c (c.first_child_of-first.result + c.loop-c.c) c.loop-c.edges _ c.child_slots.result c.child_corners.result h c.loop-c.invariant
     (ap (λ n. n + c.loop-c.c) c.first_child_of-first.ensures) c.child_slots.ensures c.child_corners.ensures (search rules)
+
+pub overflow_add-face : goal.overflow_add-face
+overflow_add-face c = omega (arith, c.first_child_of-first.ensures, child-few c.args.level.now c.facts.ensures c.args.f c.loop-c.c (omega (arith, c.loop-c-test.true, ap length c.face_vertices-c-end.ensures)))
+
+pub returns : goal.returns
+returns c =
+    let polygons = c.args.level.now.level.polygons in
+    let all : c.loop-c.c ≡ length (polygon_at polygons c.args.f) = omega (arith, c.loop-c-test.false, c.loop-c.auto.c-end, ap length c.face_vertices-c-end.ensures) in
+    subst (λ k. IsWalked c.args.level.now.level.point_count polygons k c.loop-c.edges) (omega (arith, all, first-more polygons c.args.f c.requires.face)) c.loop-c.invariant
