@@ -1,5 +1,5 @@
 -- Amounts added one after another, from the first of a slice on.
-use Rattle.std.proofs.Common.{◌≡◌, ℕ, ◌-◌, ◌*◌, ◌/◌, ◌<◌, ◌≤◌, List, [], ◌∷◌, ◌++◌, length, get_or, take, drop, arith, refl, ap, sym, ◌∙◌, subst}
+use Rattle.std.proofs.Common.{◌≡◌, ℕ, ◌-◌, ◌*◌, ◌/◌, ◌+◌, ◌<◌, ◌≤◌, List, [], ◌∷◌, ◌++◌, length, get_or, take, drop, arith, refl, ap, sym, ◌∙◌, subst}
 use Rattle.std.specs.List.{All, AllByRecursion}
 use Rattle.std.proofs.lemmas.List.{take_all, get_or_default}
 use Rattle.std.proofs.lemmas.List.Elements.{recursion_from_All, All-from_recursion}
@@ -7,18 +7,24 @@ use Rattle.std.proofs.lemmas.List.Sums.{sum_by-append}
 use Rattle.subdiv_model.specs.Polygons.{polygon_at}
 use Rattle.subdiv_model.specs.Mask.{OfFace}
 use Rattle.subdiv_model.specs.Level.{Level}
+use Rattle.subdiv_model.specs.Channel.{number_bound}
 use Rattle.mask_rules.specs.declared.mask.At.TheVariants.{Point}
 use Rattle.mask_rules.specs.declared.mask.Term.{Term}
 use Rattle.mask_rules.specs.View.{source_of, terms_of}
 use Rattle.stencil_apply.specs.Table.{Share}
-use Rattle.stencil_factory.specs.Scratch.{added_at, added_shares}
-use Rattle.stencil_factory.specs.Flat.{corner_shares, source_shares, flat_shares, CanAddAll, CanWeighTerm}
+use Rattle.stencil_factory.specs.Scratch.{added_at, added_shares, sum_of}
+use Rattle.stencil_factory.specs.Flat.{corner_shares, source_shares, flat_shares, CanAddAll, CanWeigh, CanWeighTerm}
 use Rattle.stencil_factory.proofs.ScratchLemmas.{length-added_shares, sum-added_shares}
 
 -- a slice is its first element and the others
 pub first-and-others : {X : Type 0} (xs : List X) (d : X) → 1 ≤ length xs → xs ≡ get_or xs 0 d ∷ take (length xs - 1) (drop 1 xs)
 first-and-others [] d some = absurd (omega arith)
 first-and-others (x ∷ xs) d some = ap (λ l. x ∷ l) (sym (take_all (length (x ∷ xs) - 1) xs (omega arith)))
+
+-- a slice without a first element has none
+pub none-left : {X : Type 0} (xs : List X) → length xs < 1 → xs ≡ []
+none-left [] none = refl
+none-left (x ∷ xs) none = absurd (omega arith)
 
 -- one share is an amount at its place
 pub added-one : (place amount : ℕ) (sums : List ℕ) → added_shares 1 ((place, amount) ∷ []) sums ≡ added_at place amount sums
@@ -97,6 +103,13 @@ module _ (dens : List ℕ) (factor multiple : ℕ) (corners : List ℕ) (some : 
   corners-split : corner_shares dens factor multiple corners ≡ (first ∷ []) ++ corner_shares dens factor multiple others
   corners-split = ap (corner_shares dens factor multiple) (first-and-others corners 0 some)
 
+  -- the first can be added
+  pub first-can : (sums : List ℕ) (amount : ℕ) → CanAddAll (corner_shares dens factor multiple corners) sums → amount ≡ factor * (multiple / get_or dens corner 0) → (corner < length sums) × (0 < amount) × (sum_of sums + amount ≤ number_bound)
+  first-can sums amount can is =
+      let one = can-first _ (first ∷ []) (corner_shares dens factor multiple others) corners-split sums can in
+      let same : factor * (multiple / get_or dens corner 1) ≡ amount = point-amount dens multiple factor corner amount (within 0 0 (omega (arith, some))) is in
+      (one.inside.0, subst (λ n. 0 < n) same one.each.0, omega (arith, one.fits, same))
+
   -- once the first is added
   module _ (sums new : List ℕ) (can : CanAddAll (corner_shares dens factor multiple corners) sums) (amount : ℕ)
       (is : amount ≡ factor * (multiple / get_or dens corner 0)) (added : new ≡ added_at corner amount sums) where
@@ -125,6 +138,9 @@ module _ (level : Level) (dens faces : List ℕ) (m : ℕ) (terms : List Term) (
 
   abbrev own_shares : List Share
   own_shares = source_shares level dens faces m own.weight (source_of own.at)
+
+  pub weigh-first : AllByRecursion (CanWeighTerm level dens faces m) (terms_of terms) → CanWeigh level dens faces m own.weight (source_of own.at)
+  weigh-first h = (subst (λ l. AllByRecursion (CanWeighTerm level dens faces m) (terms_of l)) (first-and-others terms none some) h).0
 
   pub weigh-next : AllByRecursion (CanWeighTerm level dens faces m) (terms_of terms) → AllByRecursion (CanWeighTerm level dens faces m) (terms_of later)
   weigh-next h = (subst (λ l. AllByRecursion (CanWeighTerm level dens faces m) (terms_of l)) (first-and-others terms none some) h).1

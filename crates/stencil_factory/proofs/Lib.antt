@@ -2,6 +2,7 @@ pub mod ScratchLemmas
 pub mod TouchedLemmas
 pub mod EntryLemmas
 pub mod AddedLemmas
+pub mod OriginLemmas
 pub mod FlatLemmas
 pub mod WeightLemmas
 pub mod KnownLemmas

@@ -1,11 +1,14 @@
-use Rattle.std.proofs.Common.{◌+◌, ◌<◌, ◌≤◌, ◌∙◌, arith, ap, length, get_or}
+use Rattle.std.proofs.Common.{refl, sym, subst, ◌+◌, ◌<◌, ◌≤◌, ◌∙◌, arith, ap, length, get_or}
 use Rattle.level_topology.specs.Topology.{Topology}
 use Rattle.level_topology.specs.Child.{FromVertex}
 use Rattle.mask_rules.specs.View.{scheme_of}
 use Rattle.primvar_refine.specs.Step.{mask_from}
 use Rattle.subdiv_model.specs.Support.{source_support}
 use Rattle.stencil_factory.specs.Rows.{supports_of}
-use Rattle.std.proofs.lemmas.List.{take_all}
+use Rattle.std.specs.List.{All}
+use Rattle.std.proofs.lemmas.List.{take_all, length-replicate}
+use Rattle.std.proofs.lemmas.List.Elements.{All-replicate}
+use Rattle.stencil_factory.specs.Met.{Places}
 use Rattle.stencil_factory.specs.Composed.{entries_from}
 use Rattle.stencil_factory.proofs.ComposedLemmas.{entries-less, entries-more}
 use Rattle.stencil_factory.proofs.MarkLemmas.{support-few}
@@ -53,3 +56,15 @@ returns c =
       c.loop-p.invariant.counted ∙ ap (λ l. entries_from c.args.parent.now.level (scheme_of c.args.scheme) l c.args.table.now) (take_all c.loop-p.p c.args.child.now.origins past),
       c.loop-p.invariant.few,
     )
+
+pub loop-p-init : goal.loop-p-init
+loop-p-init c = record {
+  points = ap (λ (m : Places). m.count) c.in_ok-room.ensures.0 ∙ c.points.ensures;
+  round = ap (λ (m : Places). m.mark) c.in_ok-room.ensures.0;
+  marks = record {
+    count = ap length c.in_ok-room.ensures.1 ∙ length-replicate _ _ ∙ c.controls.ensures;
+    below = subst (All (λ mark. mark ≤ 0)) (sym c.in_ok-room.ensures.1) (All-replicate (λ mark. mark ≤ 0) _ 0 (omega arith));
+  };
+  counted = refl;
+  few = omega arith;
+}

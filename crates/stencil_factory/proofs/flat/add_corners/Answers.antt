@@ -1,5 +1,7 @@
-use Rattle.std.proofs.Common.{refl, ◌∙◌}
-use Rattle.stencil_factory.proofs.AddedLemmas.{within-next, corners-can, corners-same}
+use Rattle.std.proofs.Common.{arith, refl, ap, sym, ◌∙◌}
+use Rattle.stencil_factory.specs.Scratch.{added_shares}
+use Rattle.stencil_factory.specs.Flat.{corner_shares}
+use Rattle.stencil_factory.proofs.AddedLemmas.{none-left, within-next, first-can, corners-can, corners-same}
 use Rattle.stencil_factory.proofs.flat.add_corners.Goals as goal
 
 pub loop-rest-init : goal.loop-rest-init
@@ -24,3 +26,18 @@ loop-rest-preserved c =
       same = corners-same dens c.args.factor c.args.multiple rest some before.within c.loop-rest.scratch c.add.new.self before.can
           c.weight_over-amount.result c.weight_over-amount.ensures c.in_ok-add.ensures ∙ before.same;
     }
+
+pub weight_over-amount-requires-clause-small : goal.weight_over-amount-requires-clause-small
+weight_over-amount-requires-clause-small c = omega (arith, (first-can c.args.dens.now c.args.factor c.args.multiple c.loop-rest.rest.now c.in-len1-up.len_at_least c.loop-rest.invariant.within c.loop-rest.scratch _ c.loop-rest.invariant.can refl).2)
+
+pub add-requires-clause-inside : goal.add-requires-clause-inside
+add-requires-clause-inside c = (first-can c.args.dens.now c.args.factor c.args.multiple c.loop-rest.rest.now c.in-len1-up.len_at_least c.loop-rest.invariant.within c.loop-rest.scratch _ c.loop-rest.invariant.can refl).0
+
+pub add-requires-clause-some : goal.add-requires-clause-some
+add-requires-clause-some c = (first-can c.args.dens.now c.args.factor c.args.multiple c.loop-rest.rest.now c.in-len1-up.len_at_least c.loop-rest.invariant.within c.loop-rest.scratch c.weight_over-amount.result c.loop-rest.invariant.can c.weight_over-amount.ensures).1
+
+pub add-requires-clause-fits : goal.add-requires-clause-fits
+add-requires-clause-fits c = (first-can c.args.dens.now c.args.factor c.args.multiple c.loop-rest.rest.now c.in-len1-up.len_at_least c.loop-rest.invariant.within c.loop-rest.scratch c.weight_over-amount.result c.loop-rest.invariant.can c.weight_over-amount.ensures).2
+
+pub returns : goal.returns
+returns c = sym (ap (λ l. added_shares 1 (corner_shares c.args.dens.now c.args.factor c.args.multiple l) c.loop-rest.scratch) (none-left c.loop-rest.rest.now c.in_default.len_below)) ∙ c.loop-rest.invariant.same

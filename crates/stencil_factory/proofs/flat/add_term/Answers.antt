@@ -1,9 +1,10 @@
-use Rattle.std.proofs.Common.{◌≡◌, ◌*◌, ◌/◌, ◌<◌, ◌≤◌, OnOk, ◌∷◌, [], arith, sym, ◌∙◌, subst}
+use Rattle.std.proofs.Common.{◌≡◌, ◌*◌, ◌/◌, ◌<◌, ◌≤◌, OnOk, ◌∷◌, [], arith, ap, length, sym, ◌∙◌, subst}
 use Rattle.std.proofs.lemmas.List.{get_or_default}
 use Rattle.std.proofs.lemmas.Result.{on_ok_weaker}
 use Rattle.subdiv_model.specs.Channel.{number_bound}
 use Rattle.mask_rules.specs.View.{source_of}
 use Rattle.primvar_refine.proofs.FaceLemmas.{face-corners}
+use Rattle.primvar_refine.proofs.ReadyLemmas.{some-corners}
 use Rattle.stencil_factory.specs.Scratch.{added_shares}
 use Rattle.stencil_factory.specs.Flat.{source_shares, CanAddAll, CanWeigh}
 use Rattle.stencil_factory.proofs.AddedLemmas.{added-one, point-amount, face-amounts}
@@ -155,3 +156,8 @@ returns-in-FacePoint c =
     c.weight_over-factor.ensures c.divide.ensures in
     subst (λ at. OnOk c.add_corners.result (c.add_corners.new.scratch ≡ added_shares 1 (source_shares level dens faces m weight (source_of at)) c.args.scratch.now)) (sym c.in-FacePoint.is)
     (subst (λ l. OnOk c.add_corners.result (c.add_corners.new.scratch ≡ added_shares 1 l c.args.scratch.now)) (sym shares) c.add_corners.ensures)
+
+pub divide-requires : goal.divide-requires
+divide-requires c =
+    let weigh = subst (λ at. CanWeigh c.args.parent.now.level c.args.dens.now c.args.faces.now c.args.multiple c.args.term.now.weight (source_of at)) c.in-FacePoint.is c.requires.weigh in
+    omega (arith, some-corners c.args.parent.now c.facts.ensures c.in-FacePoint.f weigh.0, ap length c.face_vertices-corners.ensures)

@@ -1,5 +1,8 @@
-use Rattle.std.proofs.Common.{◌∙◌}
-use Rattle.stencil_factory.proofs.AddedLemmas.{weigh-next, term-can, terms-can, terms-same}
+use Rattle.std.proofs.Common.{ap, sym, ◌∙◌}
+use Rattle.mask_rules.specs.View.{terms_of}
+use Rattle.stencil_factory.specs.Scratch.{added_shares}
+use Rattle.stencil_factory.specs.Flat.{flat_shares}
+use Rattle.stencil_factory.proofs.AddedLemmas.{none-left, weigh-first, weigh-next, term-can, terms-can, terms-same}
 use Rattle.stencil_factory.proofs.flat.add_terms.Goals as goal
 
 pub add_term-requires-clause-can : goal.add_term-requires-clause-can
@@ -20,3 +23,9 @@ loop-rest-preserved c =
       can = terms-can level dens faces c.args.multiple rest some c.loop-rest.scratch before.can c.add_term.new.scratch c.in_ok-add_term.ensures;
       same = terms-same level dens faces c.args.multiple rest some c.loop-rest.scratch before.can c.add_term.new.scratch c.in_ok-add_term.ensures ∙ before.same;
     }
+
+pub returns : goal.returns
+returns c = sym (ap (λ l. added_shares 1 (flat_shares c.args.parent.now.level c.args.dens.now c.args.faces.now c.args.multiple (terms_of l)) c.loop-rest.scratch) (none-left c.loop-rest.rest.now c.in_default.len_below)) ∙ c.loop-rest.invariant.same
+
+pub add_term-requires-clause-weigh : goal.add_term-requires-clause-weigh
+add_term-requires-clause-weigh c = weigh-first c.args.parent.now.level c.args.dens.now c.args.faces.now c.args.multiple c.loop-rest.rest.now c.in-len1-up.len_at_least c.loop-rest.invariant.weigh
