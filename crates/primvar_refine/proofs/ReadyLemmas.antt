@@ -405,3 +405,22 @@ pub all-made : {X E : Type 0} (parent : Topology) (child : ChildTopology) (schem
     → OnOk result (AreOthersMade parent.level scheme rows child.origins (length child.origins) made) → OnOk result (AreAllMade parent child scheme rows hidden made)
 all-made parent child scheme rows hidden made (Ok x) faces others = record { faces = faces; others = others }
 all-made parent child scheme rows hidden made (Err e) faces others = tt
+
+-- the face that a child point comes from is one of the parent's
+pub face-within : (child : ChildTopology) (count p f : ℕ) → HasParent child → length child.parent_sizes ≡ count → p < length child.origins → origin_at child.origins p ≡ FromFace f → f < count
+face-within child count p f has same inside from =
+    let own = has.parent in
+    let faces : length own.level.polygons ≡ count = sym (ap (λ (t : ChildTopology). length t.parent_sizes) has.of ∙ length-map own.level.polygons length) ∙ same in
+    let below : f < length own.level.polygons =
+    subst (IsOriginWithin own.level.point_count (length own.level.polygons) (length (edges_of own.level.polygons))) from (has.is.origins_within p (FromVertex 0) inside) in
+    subst (λ n. f < n) faces below
+
+-- after the child points there is room for the hidden faces
+pub hidden-room : {P : Type 0} (numbers : P → List ℤ) (parent : Topology) (child : ChildTopology) (scheme : Scheme) (rows : List Row) (named : List Bool) (hidden places : List ℕ)
+    (before after : List (Valued P)) (list : List ℕ) (first : ℕ) → IsReady parent child scheme rows named hidden places (rows_of numbers before)
+    → KeepDens (rows_of numbers before) (rows_of numbers after) → list ≡ hidden → first ≡ length child.origins → first + length list ≡ length after
+hidden-room numbers parent child scheme rows named hidden places before after list first ready keep same at =
+    let all = length-append child.origins (map FromFace hidden) in
+    let faces = length-map hidden FromFace in
+    let new = length-map after (row_of numbers) in
+    omega (arith, keep.count, ready.each, all, faces, new, ap length same, at)

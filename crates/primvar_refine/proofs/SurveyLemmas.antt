@@ -1,19 +1,19 @@
 -- The survey of all child points.
-use Rattle.std.proofs.Common.{◌≡◌, ◌≢◌, ℕ, ◌<◌, ◌≤◌, ℤ, List, length, take, get_or, ap, sym, ◌∙◌, subst}
+use Rattle.std.proofs.Common.{arith, ◌≡◌, ◌≢◌, ℕ, ◌<◌, ◌≤◌, ℤ, List, length, take, get_or, ap, sym, ◌∙◌, subst}
 use Rattle.std.specs.List.{All}
 use Rattle.std.proofs.lemmas.List.Elements.{All-map}
-use Rattle.std.proofs.lemmas.List.{take_all, length-map}
+use Rattle.std.proofs.lemmas.List.{take_all, length-map, length-take}
 use Rattle.subdiv_model.specs.Level.{Level}
 use Rattle.subdiv_model.specs.Mask.{Scheme, OfFace}
-use Rattle.subdiv_model.specs.Refined.{source_denominator}
+use Rattle.subdiv_model.specs.Refined.{mask_denominator, source_denominator}
 use Rattle.subdiv_model.specs.Channel.{number_bound}
 use Rattle.level_topology.specs.Child.{PointOrigin}
 use Rattle.primvar_refine.specs.declared.survey.Survey.{Survey}
 use Rattle.primvar_refine.specs.declared.valued.Valued.{Valued}
 use Rattle.primvar_refine.specs.Rows.{Row, dens_of, AreGood}
 use Rattle.primvar_refine.specs.View.{row_of, rows_of}
-use Rattle.primvar_refine.specs.Step.{refined_dens, HasNoTransition, IsFirstDenominator}
-use Rattle.primvar_refine.specs.Survey.{within_bound}
+use Rattle.primvar_refine.specs.Step.{mask_from, masks_from, refined_dens, HasNoTransition, IsFirstDenominator}
+use Rattle.primvar_refine.specs.Survey.{within_bound, IsSurvey}
 use Rattle.primvar_refine.specs.Found.{dens_from, IsSurveyOf, IsFoundOver, ArePointDenominators}
 use Rattle.primvar_refine.proofs.FoundLemmas.{short-all, found-all, first-over}
 
@@ -55,3 +55,19 @@ good-dens numbers values level dens good count e = subst (ArePointDenominators l
   positive = All-map (λ den. 0 < den) (λ (row : Row). row.den) (rows_of numbers values) good.positive;
   short = All-map (λ den. den ≤ number_bound) (λ (row : Row). row.den) (rows_of numbers values) good.short;
 })
+
+-- there is a denominator for each point at most
+pub survey-short : (level : Level) (scheme : Scheme) (origins : List PointOrigin) (dens : List ℕ) (p : ℕ) (survey : Survey) → IsSurveyOf level scheme (take p origins) dens survey
+    → length survey.dens.items ≤ length origins
+survey-short level scheme origins dens p survey is =
+    let points = take p origins in
+    let masks = length-map points (mask_from level scheme) in
+    let found = length-map (masks_from level scheme points) (mask_denominator (source_denominator level dens)) in
+    let kept = length-map (dens_from level scheme dens points) within_bound in
+    omega (arith, ap length is.found, masks, found, kept, length-take p origins)
+
+-- and one for each where the survey is whole
+pub survey-count : (level : Level) (scheme : Scheme) (origins : List PointOrigin) (rows : List Row) (survey : Survey) → IsSurvey level scheme origins rows survey
+    → length survey.dens.items ≡ length origins
+survey-count level scheme origins rows survey is =
+    ap length is.dens ∙ length-map (masks_from level scheme origins) (mask_denominator (source_denominator level (dens_of rows))) ∙ length-map origins (mask_from level scheme)

@@ -2,6 +2,7 @@
 use Rattle.std.proofs.Common.{◌≡◌, ℕ, zero, suc, ◌+◌, ◌*◌, ◌/◌, ◌^◌, ◌<◌, ◌≤◌, ℤ, pos, ◌+ℤ◌, ◌*ℤ◌, List, [], ◌∷◌, length, take, get_or, arith, refl, ap, sym, ◌∙◌, subst}
 use Rattle.std.specs.List.{AllByRecursion}
 use Rattle.std.specs.Int.{◌∣◌}
+use Rattle.std.proofs.lemmas.List.{take_all}
 use Rattle.std.proofs.lemmas.List.Sums.{sum_by-cons, sum_by_more_le, sum_by_more, fold_more}
 use Rattle.std.proofs.Math.IntN.{*ℤ-zero, +ℤ_idl, +ℤ_idr, +ℤ_assoc}
 use Rattle.std.proofs.Math.Nat.{div-mul_cancel, mul_assoc, div-le_self, mul-le-mul_right, mul-le-mul_left}
@@ -179,3 +180,8 @@ module _ (m most size : ℕ) (row : SourcePoint → Row) (start : List ℤ) (siz
           where
             distributed : (a b k : ℕ) → a * k + b * k ≡ (a + b) * k
             distributed a b k = omega arith
+
+-- and after all terms it is the sum
+pub sum-ends : (m most : ℕ) (row : SourcePoint → Row) (start : List ℤ) (terms : List Term) (i : ℕ) (sums : List ℤ) → length terms ≤ i
+    → IsSumSoFar m most row start terms i sums → sums ≡ term_sums m row start terms
+sum-ends m most row start terms i sums past here = here.sums_are ∙ ap (term_sums m row start) (take_all i terms past)

@@ -8,6 +8,7 @@ use Rattle.primvar_refine.specs.View.{rows_of}
 use Rattle.subdiv_model.specs.Mask.{face_mask}
 use Rattle.primvar_refine.specs.Made.{CanMake, KeepDens, AreFacesMade, terms_of_face, is_from_face, origin_at}
 use Rattle.primvar_refine.proofs.PutLemmas.{dens-put, faces-put, faces-pass, faces-all, none-faces, none-put, still-inside, terms-all, terms-more}
+use Rattle.primvar_refine.proofs.ReadyLemmas.{face-within}
 use Rattle.primvar_refine.proofs.face_puts.put_faces.Goals as goal
 use Rattle.primvar_refine.proofs.face_puts.put_faces.Goals.{in-Face, in-Vertex}
 
@@ -26,6 +27,12 @@ loop-p-init g c = record {
   faces = none-faces c.args.parent.now.level (rows_of g.P.Primvar.numbers c.args.values.now) c.args.child.now.origins (rows_of g.P.Primvar.numbers c.args.made.now);
   taken = omega arith;
 }
+
+pub put_face-requires-clause-known : goal.put_face-requires-clause-known
+put_face-requires-clause-known g c =
+    let inside : c.loop-p.p < length c.args.child.now.origins =
+    omega (arith, c.loop-p-test.true, c.points-p-end.ensures, c.facts.ensures.is.each_point, ap (λ t. t.level.point_count) c.level.ensures) in
+    face-within c.args.child.now (length c.args.parent.now.level.polygons) c.loop-p.p c.in-Face.f c.facts.ensures c.requires.faces inside (sym c.in-Face.ensures)
 
 pub put_face-requires-clause-inside : goal.put_face-requires-clause-inside
 put_face-requires-clause-inside g c =

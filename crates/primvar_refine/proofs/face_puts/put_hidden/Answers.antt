@@ -3,7 +3,7 @@ use Rattle.std.proofs.lemmas.List.Sums.{sum_by_more}
 use Rattle.primvar_refine.specs.View.{rows_of}
 use Rattle.subdiv_model.specs.Mask.{face_mask}
 use Rattle.primvar_refine.specs.Made.{CanMake, terms_of_hidden}
-use Rattle.primvar_refine.proofs.PutLemmas.{dens-put, hidden-put, kept-put, still-inside, none-put, none-hidden}
+use Rattle.primvar_refine.proofs.PutLemmas.{dens-put, hidden-put, kept-put, still-inside, none-put, none-hidden, terms-all}
 use Rattle.primvar_refine.proofs.face_puts.put_hidden.Goals as goal
 
 pub loop-i-init : goal.loop-i-init
@@ -39,3 +39,8 @@ loop-i-preserved g c = record {
       (rows_of g.P.Primvar.numbers c.loop-i.made) (rows_of g.P.Primvar.numbers c.put_face.new.made) c.loop-i.invariant.faces c.put_face.ensures.put c.put_face.ensures.made;
   taken = omega (arith, c.put_face.ensures.steps, c.loop-i.invariant.taken, sum_by_more (terms_of_hidden c.args.parent.now.level) c.args.hidden.now c.loop-i.i 0 c.loop-i-test.true);
 }
+
+pub returns-clause-steps : goal.returns-clause-steps
+returns-clause-steps g c =
+    let all = terms-all (terms_of_hidden c.args.parent.now.level) c.args.hidden.now c.loop-i.i c.loop-i-test.false in
+    omega (arith, c.loop-i.invariant.taken, all)

@@ -1,4 +1,4 @@
-use Rattle.std.proofs.Common.{arith, ◌≡◌, ◌+◌, ◌<◌, List, [], length, ℕ, get_or, ap, sym, ◌∙◌, subst}
+use Rattle.std.proofs.Common.{arith, ◌≡◌, ◌+◌, ◌<◌, ◌≤◌, List, [], length, ℕ, get_or, ap, sym, ◌∙◌, subst}
 use Rattle.std.proofs.lemmas.List.{get_or-map, length-map}
 use Rattle.subdiv_model.specs.Mask.{Term, OfPoint, weigh, weigh_points}
 use Rattle.ratio128.specs.Numbers.{zeros}
@@ -6,7 +6,7 @@ use Rattle.primvar_refine.specs.Rows.{Row, least_bound}
 use Rattle.primvar_refine.specs.View.{rows_of, row_of}
 use Rattle.primvar_refine.specs.Sums.{source_row}
 use Rattle.primvar_refine.proofs.AmountLemmas.{IsWithin-zeros, length-zeros}
-use Rattle.primvar_refine.proofs.TermSumLemmas.{IsSumSoFar, CanTake, none, sum-begins, can-take, sum-goes_on}
+use Rattle.primvar_refine.proofs.TermSumLemmas.{IsSumSoFar, CanTake, none, sum-begins, can-take, sum-goes_on, sum-ends}
 use Rattle.primvar_refine.proofs.sums.sum_of_corners.Given as given
 use Rattle.primvar_refine.proofs.sums.sum_of_corners.Goals as goal
 
@@ -70,3 +70,9 @@ loop-v-preserved g c =
           (there ∙ ap (λ (t : Term). source_row (rows_of g.P.Primvar.numbers c.args.values.now) [] [] t.source) same));
       taken = omega (arith, c.add_over.ensures.step, c.loop-v.invariant.taken);
     }
+
+pub returns-clause-sum : goal.returns-clause-sum
+returns-clause-sum g c =
+    let past : length (weigh_points 1 c.args.corners.now) ≤ c.loop-v.v-index = rw length-map c.loop-v-test.false in
+    sum-ends c.args.multiple (least_bound (rows_of g.P.Primvar.numbers c.args.values.now)) _ (zeros (g.P.Primvar.numbers c.args.zero.now)) (weigh_points 1 c.args.corners.now) c.loop-v.v-index
+    (g.P.Primvar.numbers c.loop-v.sum) past c.loop-v.invariant.so_far

@@ -1,4 +1,4 @@
-use Rattle.std.proofs.Common.{arith, ◌≡◌, ◌+◌, ◌<◌, List, length, ℕ, get_or, ap, sym, ◌∙◌, subst}
+use Rattle.std.proofs.Common.{arith, ◌≡◌, ◌+◌, ◌<◌, ◌≤◌, List, length, ℕ, get_or, ap, sym, ◌∙◌, subst}
 use Rattle.std.proofs.lemmas.List.{get_or-map, length-map}
 use Rattle.subdiv_model.specs.Mask as model
 use Rattle.ratio128.specs.Numbers.{zeros}
@@ -9,7 +9,7 @@ use Rattle.primvar_refine.specs.Rows.{least_bound}
 use Rattle.primvar_refine.specs.View.{rows_of, row_of}
 use Rattle.primvar_refine.specs.Sums.{source_row}
 use Rattle.primvar_refine.proofs.AmountLemmas.{IsWithin-zeros, length-zeros}
-use Rattle.primvar_refine.proofs.TermSumLemmas.{IsSumSoFar, CanTake, none, sum-begins, can-take, sum-goes_on}
+use Rattle.primvar_refine.proofs.TermSumLemmas.{IsSumSoFar, CanTake, none, sum-begins, can-take, sum-goes_on, sum-ends}
 use Rattle.primvar_refine.proofs.sums.sum_of_terms.Given as given
 use Rattle.primvar_refine.proofs.sums.sum_of_terms.Goals as goal
 
@@ -67,3 +67,9 @@ loop-term-preserved g c =
           (c.source.ensures ∙ ap (λ (t : model.Term). source_row (rows_of g.P.Primvar.numbers c.args.values.now) (rows_of g.P.Primvar.numbers c.args.made.now) c.args.places.now t.source) same));
       taken = omega (arith, c.add_over.ensures.step, c.loop-term.invariant.taken);
     }
+
+pub returns-clause-sum : goal.returns-clause-sum
+returns-clause-sum g c =
+    let past : length (terms_of c.args.terms.now) ≤ c.loop-term.term-index = rw length-map c.loop-term-test.false in
+    sum-ends c.args.multiple (least_bound (rows_of g.P.Primvar.numbers c.args.values.now)) _ (zeros (g.P.Primvar.numbers c.args.zero.now)) (terms_of c.args.terms.now) c.loop-term.term-index
+    (g.P.Primvar.numbers c.loop-term.sum) past c.loop-term.invariant.so_far

@@ -1,8 +1,16 @@
 use Rattle.std.proofs.Common.{◌≤◌, arith, length, ap, ◌∙◌}
 use Rattle.level_topology.specs.Topology.{Topology}
 use Rattle.mask_rules.specs.View.{scheme_of}
-use Rattle.primvar_refine.proofs.SurveyLemmas.{survey-whole, survey-over}
+use Rattle.primvar_refine.proofs.SurveyLemmas.{survey-whole, survey-over, survey-short}
 use Rattle.primvar_refine.proofs.survey.survey_over.Goals as goal
+
+pub loop-p-init : goal.loop-p-init
+loop-p-init c = c.in_ok-survey.ensures (scheme_of c.args.scheme)
+
+pub first_zero-requires : goal.first_zero-requires
+first_zero-requires c =
+    let short = survey-short c.args.parent.now.level (scheme_of c.args.scheme) c.args.child.now.origins c.args.dens.now c.loop-p.p c.loop-p.survey c.loop-p.invariant in
+    omega (arith, short, c.facts-2.ensures.is.each_point, c.facts-2.ensures.level_is.small.points)
 
 pub returns-in-Err : goal.returns-in-Err
 returns-in-Err c rows e = c.fault_of_all.ensures rows

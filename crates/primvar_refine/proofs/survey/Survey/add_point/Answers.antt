@@ -1,11 +1,33 @@
-use Rattle.std.proofs.Common.{sym, subst, length}
+use Rattle.std.proofs.Common.{arith, sym, subst, length}
 use Rattle.subdiv_model.specs.Edges.{edges_of}
 use Rattle.level_topology.specs.Child.{FromVertex, FromFace, FromEdge, IsOriginWithin}
 use Rattle.mask_rules.specs.View.{scheme_of}
 use Rattle.primvar_refine.specs.Found.{IsPointFault}
-use Rattle.primvar_refine.proofs.ReadyLemmas.{origin-within}
+use Rattle.primvar_refine.proofs.ReadyLemmas.{origin-within, face-within}
 use Rattle.primvar_refine.proofs.PointLemmas.{survey-next, added-face, own-vertex, no-vertex-edge, no-vertex-face, outcome-weaker}
+use Rattle.primvar_refine.proofs.PlaceLemmas.{has-own}
 use Rattle.primvar_refine.proofs.survey.Survey.add_point.Goals as goal
+
+pub add_vertex-requires-clause-complete : goal.add_vertex-requires-clause-complete
+add_vertex-requires-clause-complete c =
+    c.requires.child.complete c.in-Vertex.v (has-own c.args.child.now.origins (FromVertex c.in-Vertex.v) c.args.p c.requires.known (sym c.in-Vertex.ensures))
+
+pub add_vertex-requires-clause-boundary : goal.add_vertex-requires-clause-boundary
+add_vertex-requires-clause-boundary c smooth =
+    c.requires.child.boundary smooth c.in-Vertex.v (has-own c.args.child.now.origins (FromVertex c.in-Vertex.v) c.args.p c.requires.known (sym c.in-Vertex.ensures))
+
+pub add_vertex-requires-clause-fine : goal.add_vertex-requires-clause-fine
+add_vertex-requires-clause-fine c smooth =
+    c.requires.child.fine smooth c.in-Vertex.v (has-own c.args.child.now.origins (FromVertex c.in-Vertex.v) c.args.p c.requires.known (sym c.in-Vertex.ensures))
+
+pub add_edge-requires-clause-inside : goal.add_edge-requires-clause-inside
+add_edge-requires-clause-inside c smooth =
+    c.requires.child.inside smooth c.in-Edge.e (has-own c.args.child.now.origins (FromEdge c.in-Edge.e) c.args.p c.requires.known (sym c.in-Edge.ensures))
+
+pub add_face-requires : goal.add_face-requires
+add_face-requires c =
+    let own = face-within c.args.child.now (length c.args.parent.now.level.polygons) c.args.p c.in-Face.f c.facts-2.ensures c.requires.child.faces c.requires.known (sym c.in-Face.ensures) in
+    omega (arith, own, c.requires.so_far.face.count)
 
 pub returns-in-Vertex : goal.returns-in-Vertex
 returns-in-Vertex c =
