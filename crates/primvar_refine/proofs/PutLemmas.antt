@@ -111,6 +111,10 @@ pub faces-all : (level : Level) (rows : List Row) (origins : List PointOrigin) (
     → AreFacesMade level rows origins p made → AreFacesMade level rows origins (length origins) made
 faces-all level rows origins p made past are = record { each = λ q f below inside from. are.each q f (omega (arith, past, below)) inside from }
 
+pub hidden-all : (level : Level) (rows : List Row) (first i : ℕ) (hidden : List ℕ) (made : List Row) → length hidden ≤ i
+    → AreHiddenMade level rows first hidden i made → AreHiddenMade level rows first hidden (length hidden) made
+hidden-all level rows first i hidden made past are = record { each = λ k below inside. are.each k (omega (arith, past, below)) inside }
+
 -- rows before the first stay
 pub kept-put : (first i : ℕ) (start before after : List Row) → ((q : ℕ) → q < first → row_at before q ≡ row_at start q) → IsPut before (first + i) after
     → (q : ℕ) → q < first → row_at after q ≡ row_at start q

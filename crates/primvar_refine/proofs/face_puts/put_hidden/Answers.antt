@@ -3,7 +3,7 @@ use Rattle.std.proofs.lemmas.List.Sums.{sum_by_more}
 use Rattle.primvar_refine.specs.View.{rows_of}
 use Rattle.subdiv_model.specs.Mask.{face_mask}
 use Rattle.primvar_refine.specs.Made.{CanMake, terms_of_hidden}
-use Rattle.primvar_refine.proofs.PutLemmas.{dens-put, hidden-put, kept-put, still-inside, none-put, none-hidden, terms-all}
+use Rattle.primvar_refine.proofs.PutLemmas.{dens-put, hidden-put, kept-put, still-inside, none-put, none-hidden, hidden-all, terms-all}
 use Rattle.primvar_refine.proofs.face_puts.put_hidden.Goals as goal
 
 pub loop-i-init : goal.loop-i-init
@@ -39,6 +39,16 @@ loop-i-preserved g c = record {
       (rows_of g.P.Primvar.numbers c.loop-i.made) (rows_of g.P.Primvar.numbers c.put_face.new.made) c.loop-i.invariant.faces c.put_face.ensures.put c.put_face.ensures.made;
   taken = omega (arith, c.put_face.ensures.steps, c.loop-i.invariant.taken, sum_by_more (terms_of_hidden c.args.parent.now.level) c.args.hidden.now c.loop-i.i 0 c.loop-i-test.true);
 }
+
+pub returns-clause-dens : goal.returns-clause-dens
+returns-clause-dens g c = c.loop-i.invariant.dens
+
+pub returns-clause-kept : goal.returns-clause-kept
+returns-clause-kept g c = c.loop-i.invariant.kept
+
+pub returns-clause-made : goal.returns-clause-made
+returns-clause-made g c =
+    hidden-all c.args.parent.now.level (rows_of g.P.Primvar.numbers c.args.values.now) c.args.first c.loop-i.i c.args.hidden.now (rows_of g.P.Primvar.numbers c.loop-i.made) c.loop-i-test.false c.loop-i.invariant.faces
 
 pub returns-clause-steps : goal.returns-clause-steps
 returns-clause-steps g c =
