@@ -1,4 +1,4 @@
-use Rattle.std.proofs.Common.{ap, sym, subst, ◌∙◌}
+use Rattle.std.proofs.Common.{arith, ap, sym, subst, ◌∙◌}
 use Rattle.std.specs.Prelude.{MatchResult}
 use Rattle.subdiv_model.specs.Channel.{Values}
 use Rattle.mask_rules.specs.View.{scheme_of}
@@ -18,3 +18,15 @@ returns-clause-refined g c =
     subst (λ controls.
     MatchResult c.refine_channel.result (λ refined. IsRefinedTo Values channel controls c.args.depth refined.level (rows_of numbers refined.values.items)) (λ fault. IsChannelFault Values channel c.args.depth fault))
     (ap (rows_of numbers) c.in_ok-values.ensures ∙ sym (control-rows numbers c.args.controls.now)) c.refine_channel.ensures.refined
+
+pub returns-in_err-values-clause-steps : goal.returns-in_err-values-clause-steps
+returns-in_err-values-clause-steps g c = omega arith
+
+pub returns-clause-taken : goal.returns-clause-taken
+returns-clause-taken g c = c.refine_channel.ensures.taken
+
+pub returns-clause-steps : goal.returns-clause-steps
+returns-clause-steps g c = c.refine_channel.ensures.steps
+
+pub returns-clause-later : goal.returns-clause-later
+returns-clause-later g c = c.refine_channel.ensures.later
