@@ -1,6 +1,7 @@
-use Rattle.std.proofs.Common.{◌≡◌, ◌≤◌, ◌+◌, true, length, arith, subst}
+use Rattle.std.proofs.Common.{◌≡◌, ◌≤◌, ◌+◌, true, length, arith, ap, subst}
 use Rattle.subdiv_model.specs.Polygons.{is_over}
 use Rattle.subdiv_model.specs.Command.{ByTable}
+use Rattle.subdiv_model.specs.ObjMesh.{ObjMesh}
 use Rattle.far_engine.specs.Outcome.{level_faces_to, position_steps}
 use Rattle.far_engine.proofs.RefusalLemmas.{handed-on}
 use Rattle.far_engine.proofs.SummaryLemmas.{made-found, made-written, within-over}
@@ -28,3 +29,13 @@ returns-clause-over g c =
 pub returns-clause-steps : goal.returns-clause-steps
 returns-clause-steps g c =
     subst (λ mesh. c.summarize.new.steps ≤ c.args.steps.now + (level_faces_to c.args.depth mesh + position_steps ByTable c.args.depth mesh)) c.in_ok-mesh.ensures.sheet c.summarize.ensures.steps
+
+pub returns-clause-manifold : goal.returns-clause-manifold
+returns-clause-manifold g c = c.sheets_are_manifolds.ensures.manifold c.args.seed c.args.size (omega (arith, c.requires.some))
+
+pub returns-clause-taken : goal.returns-clause-taken
+returns-clause-taken g c =
+    subst (λ mesh. c.args.steps.now + position_steps ByTable c.args.depth mesh ≤ c.summarize.new.steps) c.in_ok-mesh.ensures.sheet c.in_ok-summarize.ensures.taken
+
+pub summarize-requires-clause-whole : goal.summarize-requires-clause-whole
+summarize-requires-clause-whole g c = ap (λ (mesh : ObjMesh). mesh.common) c.in_ok-mesh.ensures.sheet
