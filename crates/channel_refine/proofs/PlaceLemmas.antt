@@ -37,6 +37,12 @@ pub none-over : {X : Type 0} (numbers : X → List ℤ) (r : Option (Bor X)) (co
     → option_copied r ≡ slice_get controls 0 → r ≡ None → table.rows ≡ []
 none-over numbers r controls table is each copied none = no-rows table.controls table.rows is.rows (sym each ∙ no-first numbers r controls copied none)
 
+-- and the numbers of the first are the first numbers
+pub first-numbers : {X : Type 0} (numbers : X → List ℤ) (r : Option (Bor X)) (xs : List X) (b : Bor X) → option_copied r ≡ slice_get xs 0 → r ≡ Some b
+    → numbers b.now ≡ get_or (map numbers xs) 0 []
+first-numbers numbers r [] b copied some = let both : Some b.now ≡ None = ap option_copied (sym some) ∙ copied in absurd (cc)
+first-numbers numbers r (x ∷ xs) b copied some = let both : Some b.now ≡ Some x = ap option_copied (sym some) ∙ copied in let same : b.now ≡ x = cc in ap numbers same
+
 -- the one list of several that are one
 one-at : (xs : List (List ℤ)) (x d : List ℤ) (k : ℕ) → xs ≡ x ∷ [] → k < length xs → get_or xs k d ≡ x
 one-at xs x d k e h = ap (λ ys. get_or ys k d) e ∙ first k (omega (arith, h, ap length e))

@@ -2,7 +2,7 @@ use Rattle.std.proofs.Common.{map, arith, ap, sym, ◌∙◌}
 use Rattle.stencil_apply.specs.Table.{entries_of}
 use Rattle.primvar_refine.specs.View.{rows_of}
 use Rattle.channel_refine.proofs.EvaluatedLemmas.{evaluated_rows}
-use Rattle.channel_refine.proofs.PlaceLemmas.{none-over}
+use Rattle.channel_refine.proofs.PlaceLemmas.{none-over, first-numbers}
 use Rattle.channel_refine.proofs.evaluated.evaluate.Goals as goal
 
 pub returns-in_default-clause-values : goal.returns-in_default-clause-values
@@ -14,3 +14,6 @@ pub returns-in_default-clause-taken : goal.returns-in_default-clause-taken
 returns-in_default-clause-taken g c =
     let none = none-over g.P.Primvar.numbers c.first.result c.args.controls.now c.args.table.now c.facts.ensures c.requires.each c.first.ensures.value c.in_default.is in
     omega (arith, ap entries_of none)
+
+pub push_rows-requires-clause-like : goal.push_rows-requires-clause-like
+push_rows-requires-clause-like g c = first-numbers g.P.Primvar.numbers c.first.result c.args.controls.now c.in-Some.like c.first.ensures.value c.in-Some.is
