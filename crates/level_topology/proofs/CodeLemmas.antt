@@ -4,7 +4,7 @@ use Rattle.std.proofs.lemmas.List.{map_push, get_or_append_left, length-map}
 use Rattle.subdiv_model.specs.Sharpness.{Sharpness, Smooth}
 use Rattle.sharpness_rules.specs.declared.sharpness.Sharpness as declared
 use Rattle.sharpness_rules.specs.View.{sharpness_of}
-use Rattle.level_topology.specs.Coded.{kept, decoded}
+use Rattle.level_topology.specs.Coded.{kept, decoded, Kept}
 
 -- codes keep what they say when more values come after
 decoded-more : (values more : List Sharpness) (codes : List ℕ) → ((k : ℕ) → k < length codes → get_or codes k 0 < length values) → decoded (values ++ more) codes ≡ decoded values codes
@@ -28,3 +28,7 @@ kept-push old new s codes code limit each how value = ap (λ xs. kept xs limit) 
 -- an item has a code
 pub code-inside : (values : List Sharpness) (codes : List ℕ) (i : ℕ) (said : List Sharpness) → decoded values codes ≡ said → i < length said → i < length codes
 code-inside values codes i said is inside = omega (arith, inside, ap length is, length-map codes (λ code. get_or values code Smooth))
+
+-- there are fewer codes than there may be
+pub fewer : (values : List Sharpness) (codes : List ℕ) (limit : ℕ) (said : Kept) → kept (decoded values codes) limit ≡ said → length said.sharpness < said.limit → length codes < limit
+fewer values codes limit said is less = omega (arith, less, ap (λ (k : Kept). length k.sharpness) is, ap (λ (k : Kept). k.limit) is, length-map codes (λ code. get_or values code Smooth))

@@ -1,5 +1,5 @@
 use Rattle.std.proofs.Common.{subst, ◌≡◌, ◌<◌, ◌-◌, ◌+◌, arith, length, get_or, refl}
-use Rattle.level_topology.proofs.BuilderPlaceLemmas.{AreChains, chains-link}
+use Rattle.level_topology.proofs.BuilderPlaceLemmas.{AreChains, chains-link, chains-none}
 use Rattle.level_topology.proofs.builder_places.chains_of.Goals as goal
 
 pub link-requires-clause-number : goal.link-requires-clause-number
@@ -21,3 +21,6 @@ loop-place-preserved c =
           (c.requires.inside (c.loop-place.place - 1) 0 inside)
           (subst (λ k. AreChains c.args.numbers.now c.loop-place.firsts.items c.loop-place.next.items c.args.limit k) next c.loop-place.invariant.linked));
     }
+
+pub loop-place-init : goal.loop-place-init
+loop-place-init c = record { within = omega arith; linked = rw (c.in_ok-firsts.ensures, c.in_ok-next.ensures) (chains-none c.args.numbers.now c.args.limit) }

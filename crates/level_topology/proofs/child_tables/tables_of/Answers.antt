@@ -1,6 +1,6 @@
 use Rattle.std.proofs.Common.{rules, ◌≡◌, ℕ, List, ◌<◌, length, map, get_or, vec_len, arith, ap, ◌∙◌, subst}
 use Rattle.std.specs.List.{sum_by}
-use Rattle.std.proofs.lemmas.List.{get_or_read}
+use Rattle.std.proofs.lemmas.List.{get_or_read, length-map}
 use Rattle.level_topology.specs.Child.{child_of}
 use Rattle.level_topology.specs.declared.child_tables.ChildTables.{ChildTables}
 use Rattle.level_topology.specs.ChildTables.{origin_of, place_of, corner_number, IsInverse, child_in, AreOfChild}
@@ -76,3 +76,9 @@ returns-clause-same c = (both c).0
 
 pub returns-clause-tables : goal.returns-clause-tables
 returns-clause-tables c = (both c).1
+
+pub place_faces-requires-clause-few : goal.place_faces-requires-clause-few
+place_faces-requires-clause-few c = omega (arith, c.requires.each_face, c.facts-2.ensures.small.faces, length-map c.args.places.now place_of)
+
+pub number_points-requires-clause-few : goal.number_points-requires-clause-few
+number_points-requires-clause-few c = omega (arith, c.requires.each_point, c.facts-2.ensures.small.points, length-map c.args.origins.now origin_of)

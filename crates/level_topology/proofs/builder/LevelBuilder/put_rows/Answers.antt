@@ -8,6 +8,8 @@ use Rattle.level_topology.specs.Builder.{Built}
 use Rattle.level_topology.proofs.BuilderPlaceLemmas.{pairs-total}
 use Rattle.level_topology.proofs.TurnLemmas.{edges-listed}
 use Rattle.level_topology.proofs.PointRowLemmas.{push-room, sum-push, rows-none, rows-push, below-none}
+use Rattle.std.proofs.lemmas.List.{length-map}
+use Rattle.level_topology.specs.Topology.{corner_of, end_of}
 use Rattle.level_topology.proofs.builder.LevelBuilder.put_rows.Goals as goal
 
 pub push-requires-clause-short : goal.push-requires-clause-short
@@ -58,3 +60,11 @@ loop-v-init c =
       edge_limit = ap (λ (p : Paired ℕ). p.list_limit) c.requires.no_edges ∙ sym points;
       edge_room = ap (λ (p : Paired ℕ). p.item_limit) c.requires.no_edges;
     }
+
+pub push-requires-clause-equal : goal.push-requires-clause-equal
+push-requires-clause-equal c =
+    ap length (c.deref-in-loop-v.ensures.value ∙ c.in_ok-ordered_row.ensures.row.corners_are) ∙ length-map c.ordered_row.new.turning.row.faces.items (corner_of c.args.self.now.level.polygons c.loop-v.v) ∙ ap length (sym c.deref.ensures.value)
+
+pub push-requires-in-loop-v-clause-equal : goal.push-requires-in-loop-v-clause-equal
+push-requires-in-loop-v-clause-equal c =
+    ap length (c.deref-in-loop-v-3.ensures.value ∙ c.in_ok-ordered_row.ensures.row.ends_are) ∙ length-map c.ordered_row.new.turning.row.edges.items (end_of c.args.self.now.level.polygons c.loop-v.v) ∙ ap length (sym c.deref-in-loop-v-2.ensures.value)

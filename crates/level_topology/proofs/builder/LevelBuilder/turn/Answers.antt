@@ -41,3 +41,15 @@ returns-clause-row c =
     (c.in_ok-put_corners.ensures ∙ ap (map (λ f. get_or c.deref-2.result.now f 0)) c.deref.ensures.value)
     edges
     (c.in_ok-put_ends.ensures ∙ ap (map (end_of polygons c.args.v)) c.deref-7.ensures.value)
+
+pub put_edges_before-requires-clause-there : goal.put_edges_before-requires-clause-there
+put_edges_before-requires-clause-there c =
+    let polygons = c.args.self.now.level.polygons in
+    subst (λ xs. All (λ f. has_corner c.args.v (polygon_at polygons f) ≡ true) xs) (sym c.deref-3.ensures.value)
+    (turned-there polygons c.facts.ensures.simple c.facts.ensures.sides_once c.args.v c.in_ok-is_path.is_path c.put_fan.new.faces.items c.in_ok-is_path.ensures.turned)
+
+pub put_last_edge-requires-clause-there : goal.put_last_edge-requires-clause-there
+put_last_edge-requires-clause-there c =
+    let polygons = c.args.self.now.level.polygons in
+    subst (λ xs. All (λ f. has_corner c.args.v (polygon_at polygons f) ≡ true) xs) (sym c.deref-5.ensures.value)
+    (turned-there polygons c.facts.ensures.simple c.facts.ensures.sides_once c.args.v c.in_ok-is_path.is_path c.put_fan.new.faces.items c.in_ok-is_path.ensures.turned)

@@ -1,5 +1,6 @@
-use Rattle.std.proofs.Common.{rules}
+use Rattle.std.proofs.Common.{rules, ◌++◌, ◌∙◌, ap, arith}
 use Rattle.level_topology.proofs.BuilderPlaceLemmas.{push-take, push-same, push-range}
+use Rattle.std.proofs.lemmas.List.{take_all}
 use Rattle.level_topology.proofs.builder_places.Places.add.Goals as goal
 
 pub loop-c-preserved : goal.loop-c-preserved
@@ -14,3 +15,6 @@ loop-c-preserved c = record {
   owner_capacity = search rules;
   place_capacity = search rules;
 }
+
+pub returns-clause-items : goal.returns-clause-items
+returns-clause-items c = c.loop-c.invariant.items ∙ ap (λ xs. c.args.self.now.items.items ++ xs) (take_all c.loop-c.c c.args.list.now (omega (arith, c.loop-c-test.false)))

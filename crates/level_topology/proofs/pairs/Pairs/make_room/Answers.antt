@@ -1,7 +1,7 @@
 use Rattle.std.proofs.Common.{ap, ◌≡◌, ◌≤◌, ◌+◌, ◌-◌, arith, rules, length}
 use Rattle.std.specs.List.{sum_by}
 use Rattle.level_topology.specs.Packed.{Paired}
-use Rattle.level_topology.proofs.PieceLemmas.{length-pieces, pieces-whole}
+use Rattle.level_topology.proofs.PieceLemmas.{length-pieces, pieces-whole, ascend-some}
 use Rattle.level_topology.proofs.pairs.Pairs.make_room.Goals as goal
 
 pub overflow_add-len : goal.overflow_add-len
@@ -29,3 +29,8 @@ returns-clause-item_room g c =
     let m : c.len-2.result + c.args.items ≤ c.max-self-inside-2.result = search rules in
     rw (c.in_ok-reserve.ensures.items, c.in_ok-reserve-2.ensures.items)
     (omega (arith, n, m, pieces-whole c.self.inside.starts.items c.self.inside.items.items c.self.invariant.ascend c.self.invariant.begins))
+
+pub overflow_sub-len : goal.overflow_sub-len
+overflow_sub-len g c =
+    let n : c.len.result ≡ length c.self.inside.starts.items = search rules in
+    omega (arith, n, ascend-some c.self.inside.starts.items (length c.self.inside.items.items) c.self.invariant.ascend)
