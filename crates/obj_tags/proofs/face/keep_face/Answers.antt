@@ -1,4 +1,4 @@
-use Rattle.std.proofs.Common.{◌≡◌, ◌+◌, ◌++◌, ◌∷◌, [], Err, rules, subst, ap, sym, ◌∙◌, append-nil, length, length-append, map, get_or}
+use Rattle.std.proofs.Common.{◌≡◌, ◌+◌, ◌++◌, ◌∷◌, [], Err, rules, arith, subst, ap, sym, ◌∙◌, append-nil, length, length-append, map, get_or}
 use Rattle.std.specs.List.{flat_map}
 use Rattle.std.proofs.lemmas.List.{length-map}
 use Rattle.subdiv_model.specs.ObjFault.{first_cause}
@@ -65,3 +65,11 @@ returns c =
         starts = search (rules, size);
       },
     )
+
+pub overflow_cast-len : goal.overflow_cast-len
+overflow_cast-len c =
+    let named = named_point (counts_of c.args.before) (counts_of c.args.all) in
+    let n : c.len.result ≡ length c.loop-word.faces.corners.items = search rules in
+    let now = length-append c.loop-word.faces.corners.items (map named (words_left c.loop-word.words)) in
+    let all = length-append c.args.faces.now.corners.items (map named (words_left c.args.words.now)) in
+    record { fits = omega (arith, n, now, all, ap length c.loop-word.invariant.points, length-map (words_left c.args.words.now) named, c.requires.few) }
