@@ -6,34 +6,18 @@ ghost use Rattle.subdiv_model.specs.Sharpness.{Smooth, Infinite, is_chaikin};
 ghost use Rattle.level_topology.specs.Topology.{edge_at};
 ghost use Rattle.mask_rules.specs.Around.{HasSharpBoundaryAt};
 
-use crate::edge_rows::{EdgeRow, FaceRow, edges, faces};
+use crate::edge_rows::{EdgeRow, edges, faces};
 use crate::expect::expect_same;
-use crate::meshes;
+use crate::meshes::{self, with_level};
 use crate::solids::{Mesh, ZERO};
 use crate::vertex_rows::{VertexRow, corners, longest, open, refused, rules, transitions};
 use level_topology::Level;
 use mask_rules::{
     At, EdgeMask, MaskFault, Scheme, Term, VertexMask, edge_mask, face_mask, vertex_mask,
 };
-use ratio128::Memory;
 use sharpness_rules::{Method, Sharpness};
 use std::alloc::Global;
 use std::process::Abort;
-
-// The level of the mesh of a row.
-fn level_of(rt: &impl Abort, alloc: Global, mesh: Mesh) -> Result<Level, Memory> {
-    let (solid, edges, vertex, sharpness) = mesh;
-    let told = meshes::Mesh {
-        solid,
-        method: Method::Normal,
-        holes: &[],
-        edges,
-        vertices: &[(vertex, sharpness)],
-        complete_from: 0,
-        key: None,
-    };
-    meshes::build_alone(rt, alloc, &told)
-}
 
 // Whether an edge has two faces.
 pub fn has_two_faces(level: &Level, e: u32) -> bool
@@ -157,22 +141,6 @@ fn expect_masks(
     expect_alone(rt, alloc, level, row.mesh.2)
 }
 
-fn expect_vertex(rt: &impl Abort, alloc: Global, row: &VertexRow) -> Result<(), MaskFault> {
-    let level = level_of(rt, alloc, row.mesh)?;
-    expect_masks(rt, alloc, &level, row)
-}
-
-fn expect_vertices(
-    rt: &impl Abort,
-    alloc: Global,
-    rows: &'static [VertexRow],
-) -> Result<(), MaskFault> {
-    for row in rows {
-        expect_vertex(rt, alloc, row)?;
-    }
-    Ok(())
-}
-
 // Only the scheme of Catmull and Clark refuses.
 fn expect_refusal(
     rt: &impl Abort,
@@ -183,11 +151,6 @@ fn expect_refusal(
     let fault = mask_of_vertex(rt, alloc, level, mesh.2, Scheme::CatmullClark).err();
     expect_same(rt, &fault, &Some(MaskFault::Transition), &mesh.1);
     expect_alone(rt, alloc, level, mesh.2)
-}
-
-fn expect_refused(rt: &impl Abort, alloc: Global, mesh: Mesh) -> Result<(), MaskFault> {
-    let level = level_of(rt, alloc, mesh)?;
-    expect_refusal(rt, alloc, &level, mesh)
 }
 
 // The linear scheme takes the middle of the two points.
@@ -207,21 +170,57 @@ fn expect_edge_masks(rt: &impl Abort, level: &Level, row: &EdgeRow) {
     expect_middle(rt, level, row.edge, row.points);
 }
 
-fn expect_edge(rt: &impl Abort, alloc: Global, row: &EdgeRow) -> Result<(), MaskFault> {
-    let level = level_of(rt, alloc, row.mesh)?;
-    expect_edge_masks(rt, &level, row);
-    Ok(())
-}
-
 fn expect_size(rt: &impl Abort, level: &Level, f: u32, size: u32) {
     assert!(rt; f < level.faces());
     expect_same(rt, &face_mask(level, f).size(), &size, &size);
 }
 
-fn expect_face(rt: &impl Abort, alloc: Global, row: &FaceRow) -> Result<(), MaskFault> {
-    let (solid, f, size) = *row;
-    let level = level_of(rt, alloc, (solid, &[], 0, ZERO))?;
-    expect_size(rt, &level, f, size);
+// What is expected of the level of a mesh.
+#[derive(Clone, Copy)]
+enum Case {
+    Vertex(&'static VertexRow),
+    Refusal(Mesh),
+    Edge(&'static EdgeRow),
+    Face { f: u32, size: u32 },
+}
+
+fn expect_on(rt: &impl Abort, alloc: Global, level: &Level, case: Case) -> Result<(), MaskFault> {
+    match case {
+        Case::Vertex(row) => expect_masks(rt, alloc, level, row),
+        Case::Refusal(mesh) => expect_refusal(rt, alloc, level, mesh),
+        Case::Edge(row) => {
+            expect_edge_masks(rt, level, row);
+            Ok(())
+        }
+        Case::Face { f, size } => {
+            expect_size(rt, level, f, size);
+            Ok(())
+        }
+    }
+}
+
+fn expect_case(rt: &impl Abort, alloc: Global, mesh: Mesh, case: Case) -> Result<(), MaskFault> {
+    let (solid, edges, vertex, sharpness) = mesh;
+    let told = meshes::Mesh {
+        solid,
+        method: Method::Normal,
+        holes: &[],
+        edges,
+        vertices: &[(vertex, sharpness)],
+        complete_from: 0,
+        key: None,
+    };
+    with_level(rt, alloc, &told, |level| expect_on(rt, alloc, level, case))
+}
+
+fn expect_vertices(
+    rt: &impl Abort,
+    alloc: Global,
+    rows: &'static [VertexRow],
+) -> Result<(), MaskFault> {
+    for row in rows {
+        expect_case(rt, alloc, row.mesh, Case::Vertex(row))?;
+    }
     Ok(())
 }
 
@@ -241,7 +240,7 @@ fn masks_vertices(rt: HostRuntime) -> Result<(), MaskFault> {
 #[test]
 fn refuses_a_weight_past_the_greatest_denominator(rt: HostRuntime) -> Result<(), MaskFault> {
     for mesh in refused() {
-        expect_refused(&rt, rt.alloc(), *mesh)?;
+        expect_case(&rt, rt.alloc(), *mesh, Case::Refusal(*mesh))?;
     }
     Ok(())
 }
@@ -249,7 +248,7 @@ fn refuses_a_weight_past_the_greatest_denominator(rt: HostRuntime) -> Result<(),
 #[test]
 fn masks_an_edge_by_its_sharpness(rt: HostRuntime) -> Result<(), MaskFault> {
     for row in edges() {
-        expect_edge(&rt, rt.alloc(), row)?;
+        expect_case(&rt, rt.alloc(), row.mesh, Case::Edge(row))?;
     }
     Ok(())
 }
@@ -257,7 +256,13 @@ fn masks_an_edge_by_its_sharpness(rt: HostRuntime) -> Result<(), MaskFault> {
 #[test]
 fn masks_a_face_by_its_corners(rt: HostRuntime) -> Result<(), MaskFault> {
     for row in faces() {
-        expect_face(&rt, rt.alloc(), row)?;
+        let &(solid, f, size) = row;
+        expect_case(
+            &rt,
+            rt.alloc(),
+            (solid, &[], 0, ZERO),
+            Case::Face { f, size },
+        )?;
     }
     Ok(())
 }

@@ -81,7 +81,19 @@ fn build<L: Ledger>(
     finish(builder, filled)
 }
 
-// The level of a mesh.
 pub fn build_alone(rt: &impl Abort, alloc: Global, mesh: &Mesh) -> Result<Level, Memory> {
     build::<Brand>(rt, alloc, mesh, Blank::new(1))
+}
+
+// Lends the level of a mesh to a test.
+pub fn with_level<E: From<Memory>, F: FnOnce(&Level) -> Result<(), E>>(
+    rt: &impl Abort,
+    alloc: Global,
+    mesh: &Mesh,
+    test: F,
+) -> Result<(), E>
+    requires { F.IsAlwaysCallable test }
+{
+    let level = build_alone(rt, alloc, mesh)?;
+    test(&level)
 }

@@ -5,7 +5,7 @@ ghost use Rattle.std.specs.Prelude.{◌≡◌, ℕ, ◌<◌, true, false, length
 ghost use Rattle.subdiv_model.specs.Edges.{edges_of};
 
 use crate::expect::expect_same;
-use crate::meshes::{self, build_alone, fraction_of};
+use crate::meshes::{self, fraction_of, with_level};
 use crate::solids::{CUBE, Fraction, GRID, HALF, SharpEdge, Solid, THREE_HALVES, TOP, ZERO};
 use level_topology::{Child, Level, Origin};
 use ratio128::{Memory, Steps};
@@ -22,8 +22,11 @@ pub type Mesh = (&'static Solid<'static>, Method, &'static [SharpEdge]);
 // The origins of the ends of an edge that is sharp, in its direction, and its sharpness.
 type Sharp = ((Origin, Origin), Fraction);
 
-// A mesh; how many points, edges, faces and boundary edges its next level has; and its sharp edges in their order.
-type Case = (Mesh, (u32, u32, u32, usize), &'static [Sharp]);
+// How many points, edges, faces and boundary edges a level has.
+type Counts = (u32, u32, u32, u32);
+
+// A mesh, and the counts and the sharp edges of its next level in their order.
+type Case = (Mesh, Counts, &'static [Sharp]);
 
 const FIVE_HALVES: Fraction = (5, 2);
 
@@ -103,65 +106,24 @@ pub fn assert_whole(rt: &impl Abort, level: &Level)
     }
 }
 
-// The next level of a level, after what it asks is tested.
-fn refine_level<L: Ledger>(
-    rt: &impl Abort,
-    alloc: Global,
-    level: &Level,
-    steps: &mut Steps<L>,
-) -> Result<Child, RefineFault> {
-    assert!(rt; level.points() < 100);
-    assert_whole(rt, level);
-    refine(alloc, level, steps)
-}
-
-fn refine_counted<L: Ledger>(
-    rt: &impl Abort,
-    alloc: Global,
-    level: &Level,
-    blank: Blank,
-) -> Result<Child, RefineFault>
-    requires name { blank.name ≡ L.name }
-    requires parts { blank.parts ≡ L.parts }
-    requires some { 0 < blank.parts }
-{
-    refine_level(rt, alloc, level, &mut Steps::start(blank.open::<L>()))
-}
-
-// The next level of a mesh.
-fn refine_alone(rt: &impl Abort, alloc: Global, mesh: Mesh) -> Result<Child, RefineFault> {
-    let level = build_alone(rt, alloc, &told(mesh))?;
-    refine_counted::<Brand>(rt, alloc, &level, Blank::new(1))
-}
-
-// The edges of one face.
-fn boundary_of(alloc: Global, level: &Level) -> Result<Vec<u32>, Memory> {
-    let mut edges = Vec::new(alloc);
+// How many edges have one face.
+fn boundary_of(level: &Level) -> u32 {
+    let mut count: u32 = 0;
     for e in 0..level.edges() {
         if level.edge_faces(e).second.is_none() {
-            edges.push(e)?;
+            count = count.saturating_add(1);
         }
     }
-    Ok(edges)
+    count
 }
 
-fn expect_counts(
-    rt: &impl Abort,
-    alloc: Global,
-    level: &Level,
-    want: (u32, u32, u32, usize),
-) -> Result<(), Memory> {
-    let (points, edges, faces, boundary) = want;
-    expect_same(rt, &level.points(), &points, &"points");
-    expect_same(rt, &level.edges(), &edges, &"edges");
-    expect_same(rt, &level.faces(), &faces, &"faces");
-    expect_same(
-        rt,
-        &boundary_of(alloc, level)?.len(),
-        &boundary,
-        &"boundary",
-    );
-    Ok(())
+fn counts_of(level: &Level) -> Counts {
+    (
+        level.points(),
+        level.edges(),
+        level.faces(),
+        boundary_of(level),
+    )
 }
 
 // Where the ends of an edge come from.
@@ -175,17 +137,26 @@ fn origins_of(rt: &impl Abort, child: &Child, e: u32) -> (Origin, Origin)
     (child.origin(a), child.origin(b))
 }
 
+// The sharpness of an edge with the origins of its ends, unless it is smooth.
+fn sharp_of(rt: &impl Abort, child: &Child, e: u32) -> Option<Sharp>
+    requires { e < length (edges_of child.now.topology.level.polygons) }
+{
+    let s = fraction_of(child.level().edge_sharpness(e));
+    if s == ZERO {
+        return None;
+    }
+    Some((origins_of(rt, child, e), s))
+}
+
 fn expect_sharp(rt: &impl Abort, child: &Child, want: &[Sharp]) {
-    let mut rest = want.iter();
-    let level = child.level();
-    for e in 0..level.edges() {
-        let s = fraction_of(level.edge_sharpness(e));
-        if s != ZERO {
-            let sharp = (origins_of(rt, child, e), s);
-            expect_same(rt, &Some(&sharp), &rest.next(), &e);
+    let mut count: usize = 0;
+    for e in 0..child.level().edges() {
+        if let Some(sharp) = sharp_of(rt, child, e) {
+            expect_same(rt, &Some(&sharp), &want.get(count), &e);
+            count = count.saturating_add(1);
         }
     }
-    expect_same(rt, &rest.next(), &None, &"sharp edges");
+    expect_same(rt, &count, &want.len(), &"sharp edges");
 }
 
 // A quad alone, and where the points of its next level come from.
@@ -222,49 +193,88 @@ fn expect_origins(rt: &impl Abort, child: &Child, want: &[Origin]) {
     }
 }
 
-fn expect_quad(rt: &impl Abort, alloc: Global) -> Result<(), RefineFault> {
-    let (mesh, origins) = quad();
-    let child = refine_alone(rt, alloc, mesh)?;
-    expect_origins(rt, &child, origins);
-    Ok(())
+// What is expected of the next level of a mesh.
+#[derive(Clone, Copy)]
+enum Next {
+    Parts(Counts, &'static [Sharp]),
+    Origins(&'static [Origin]),
+    Fault(RefineFault),
+}
+
+fn expect_parts(rt: &impl Abort, child: &Child, counts: Counts, sharp: &[Sharp]) {
+    expect_same(rt, &counts_of(child.level()), &counts, &"counts");
+    expect_sharp(rt, child, sharp);
+}
+
+fn made<'a>(rt: &impl Abort, given: &'a Result<Child, RefineFault>) -> &'a Child {
+    match given {
+        Ok(child) => child,
+        Err(fault) => panic!(rt; "{fault:?}"),
+    }
+}
+
+fn expect_result(rt: &impl Abort, given: &Result<Child, RefineFault>, want: &Next) {
+    match want {
+        Next::Parts(counts, sharp) => expect_parts(rt, made(rt, given), *counts, sharp),
+        Next::Origins(origins) => expect_origins(rt, made(rt, given), origins),
+        Next::Fault(fault) => expect_same(rt, &given.as_ref().err(), &Some(fault), &"fault"),
+    }
+}
+
+// Refines a level, after what that asks is tested.
+fn expect_refined<L: Ledger>(
+    rt: &impl Abort,
+    alloc: Global,
+    level: &Level,
+    want: &Next,
+    steps: &mut Steps<L>,
+) {
+    assert!(rt; level.points() < 100);
+    assert_whole(rt, level);
+    expect_result(rt, &refine(alloc, level, steps), want);
+}
+
+fn expect_refined_counted<L: Ledger>(
+    rt: &impl Abort,
+    alloc: Global,
+    level: &Level,
+    want: &Next,
+    blank: Blank,
+)
+    requires name { blank.name ≡ L.name }
+    requires parts { blank.parts ≡ L.parts }
+    requires some { 0 < blank.parts }
+{
+    expect_refined(rt, alloc, level, want, &mut Steps::start(blank.open::<L>()))
+}
+
+fn expect_refined_alone(rt: &impl Abort, alloc: Global, level: &Level, want: &Next) {
+    expect_refined_counted::<Brand>(rt, alloc, level, want, Blank::new(1))
+}
+
+fn expect_next(rt: &impl Abort, alloc: Global, mesh: Mesh, want: &Next) -> Result<(), Memory> {
+    with_level(rt, alloc, &told(mesh), |level| {
+        expect_refined_alone(rt, alloc, level, want);
+        Ok(())
+    })
 }
 
 #[test]
-fn orders_points_by_their_origins(rt: HostRuntime) -> Result<(), RefineFault> {
-    expect_quad(&rt, rt.alloc())
+fn orders_points_by_their_origins(rt: HostRuntime) -> Result<(), Memory> {
+    let (mesh, origins) = quad();
+    expect_next(&rt, rt.alloc(), mesh, &Next::Origins(origins))
 }
 
-fn expect_child(
-    rt: &impl Abort,
-    alloc: Global,
-    child: &Child,
-    case: &Case,
-) -> Result<(), RefineFault> {
-    let (_, counts, sharp) = *case;
-    expect_counts(rt, alloc, child.level(), counts)?;
-    expect_sharp(rt, child, sharp);
-    Ok(())
-}
-
-fn expect_case(rt: &impl Abort, alloc: Global, case: &Case) -> Result<(), RefineFault> {
-    let child = refine_alone(rt, alloc, case.0)?;
-    expect_child(rt, alloc, &child, case)
-}
-
-fn expect_cases(rt: &impl Abort, alloc: Global) -> Result<(), RefineFault> {
-    for case in cases() {
-        expect_case(rt, alloc, case)?;
+#[test]
+fn refines_a_cube_and_a_grid(rt: HostRuntime) -> Result<(), Memory> {
+    for (mesh, counts, sharp) in cases() {
+        expect_next(&rt, rt.alloc(), *mesh, &Next::Parts(*counts, sharp))?;
     }
     Ok(())
 }
 
 #[test]
-fn refines_a_cube_and_a_grid(rt: HostRuntime) -> Result<(), RefineFault> {
-    expect_cases(&rt, rt.alloc())
-}
-
-#[test]
-fn refuses_the_first_vertex_whose_halves_overflow(rt: HostRuntime) {
-    let result = refine_alone(&rt, rt.alloc(), fine());
-    expect_same(&rt, &result.err(), &Some(RefineFault::Chaikin(2)), &"fault");
+fn refuses_the_first_vertex_whose_halves_overflow(rt: HostRuntime) -> Result<(), Memory> {
+    let fault = RefineFault::Chaikin(2);
+    expect_next(&rt, rt.alloc(), fine(), &Next::Fault(fault))
 }

@@ -1,6 +1,6 @@
 // The values of the points of the next level of a cube, and why there are none.
 
-ghost use Rattle.std.specs.Prelude.{◌≡◌, ℕ, ◌<◌, ◌≤◌, ◌^◌, true, false, length, get_or, IfOk};
+ghost use Rattle.std.specs.Prelude.{◌≡◌, ℕ, ◌<◌, ◌≤◌, ◌^◌, true, false, length, get_or};
 ghost use Rattle.std.specs.List.{All};
 ghost use Rattle.subdiv_model.specs.Edges.{edges_of, faces_of_edge};
 ghost use Rattle.level_topology.specs.Topology.{edge_at};
@@ -9,7 +9,7 @@ ghost use Rattle.level_tests.specs.Values.{IsGoodPoint};
 
 use crate::expect::expect_same;
 use crate::mask_tables::has_two_faces;
-use crate::meshes::build_alone;
+use crate::meshes::with_level;
 use crate::refined::{assert_whole, told};
 use crate::solids::{CUBE, SharpEdge};
 use level_topology::{Child, Level};
@@ -22,7 +22,7 @@ use std::marker::Brand;
 use std::process::Abort;
 use std::sync::ledger::{Blank, Ledger};
 use std::test::Fail;
-use uniform_refiner::refine;
+use uniform_refiner::{RefineFault, refine};
 
 // The greatest denominator, and the greatest numerator over it.
 const NUMBER_BOUND: u128 = (1 << 126) - 1;
@@ -74,12 +74,43 @@ const CUBE_VALUES: &[Valued<Point3>] = &[
     point!(16, -12, -12, 0),
 ];
 
-fn cube_points() -> &'static [Valued<Point3>] {
-    CUBE_POINTS
+// Edges of the cube, its points, and the values of the next level or why there are none.
+type Case = (
+    &'static [SharpEdge],
+    &'static [Valued<Point3>],
+    Result<&'static [Valued<Point3>], ValueFault>,
+);
+
+const REFINED: &[Case] = &[(&[], CUBE_POINTS, Ok(CUBE_VALUES))];
+
+fn refined() -> &'static [Case] {
+    REFINED
 }
 
-fn cube_values() -> &'static [Valued<Point3>] {
-    CUBE_VALUES
+const REFUSED: &[Case] = &[
+    (
+        &[
+            (1, 0, (1, 1_000_000)),
+            (1, 3, (1, 999_994)),
+            (1, 7, (1, 768_619)),
+        ],
+        CUBE_POINTS,
+        Err(ValueFault::Transition(1)),
+    ),
+    (
+        &[],
+        cube_of!(2658455991569831745807614120560689152, 1),
+        Err(ValueFault::Denominator(0)),
+    ),
+    (
+        &[],
+        cube_of!(1, 2363071992506517107384545884942834802),
+        Err(ValueFault::TooBig(0)),
+    ),
+];
+
+fn refused() -> &'static [Case] {
+    REFUSED
 }
 
 // Whether the numbers of a point keep their bounds.
@@ -110,122 +141,93 @@ fn assert_closed(rt: &impl Abort, level: &Level)
     }
 }
 
-// The next level, where there is memory for it.
-fn next_level<L: Ledger>(
-    alloc: Global,
-    level: &Level,
-    steps: &mut Steps<L>,
-) -> Result<Child, ValueFault>
-    requires whole { (v : ℕ) → v < level.now.level.point_count → get_or level.now.complete v false ≡ true }
-    requires short { level.now.level.point_count ≤ 2 ^ 29 }
-    ensures { IfOk result (IsRefined level.now) }
-{
-    match refine(alloc, level, steps) {
-        Ok(child) => Ok(child),
-        Err(_) => Err(ValueFault::Memory),
-    }
+fn expect_result(rt: &impl Abort, given: &Result<Vec<Valued<Point3>>, ValueFault>, case: &Case) {
+    let values = match given {
+        Ok(values) => Ok(values.as_slice()),
+        Err(fault) => Err(*fault),
+    };
+    expect_same(rt, &values, &case.2, case);
 }
 
-// The values of the next level, after what they ask is tested.
-fn values_after<L: Ledger>(
+// Refines values, after what that asks is tested.
+fn expect_values<L: Ledger>(
     rt: &impl Abort,
     alloc: Global,
     level: &Level,
-    points: &[Valued<Point3>],
+    child: &Child,
+    case: &Case,
     steps: &mut Steps<L>,
-) -> Result<Vec<Valued<Point3>>, ValueFault> {
-    assert!(rt; level.points() < 100);
+)
+    requires whole { (v : ℕ) → v < level.now.level.point_count → get_or level.now.complete v false ≡ true }
+    requires child { IsRefined level.now child.now }
+{
+    let &(_, points, _) = case;
     assert!(rt; points.len() == level.points() as usize);
     assert_good(rt, points);
-    assert_whole(rt, level);
     assert_closed(rt, level);
-    let child = next_level(alloc, level, steps)?;
     child.facts();
-    refine_values(alloc, level, &child, points, Scheme::CatmullClark, steps)
+    let given = refine_values(alloc, level, child, points, Scheme::CatmullClark, steps);
+    expect_result(rt, &given, case);
 }
 
-fn values_counted<L: Ledger>(
+fn expect_refined<L: Ledger>(
     rt: &impl Abort,
     alloc: Global,
     level: &Level,
-    points: &[Valued<Point3>],
+    case: &Case,
+    steps: &mut Steps<L>,
+) -> Result<(), RefineFault> {
+    assert!(rt; level.points() < 100);
+    assert_whole(rt, level);
+    let child = refine(alloc, level, steps)?;
+    expect_values(rt, alloc, level, &child, case, steps);
+    Ok(())
+}
+
+fn expect_refined_counted<L: Ledger>(
+    rt: &impl Abort,
+    alloc: Global,
+    level: &Level,
+    case: &Case,
     blank: Blank,
-) -> Result<Vec<Valued<Point3>>, ValueFault>
+) -> Result<(), RefineFault>
     requires name { blank.name ≡ L.name }
     requires parts { blank.parts ≡ L.parts }
     requires some { 0 < blank.parts }
 {
-    values_after(
-        rt,
-        alloc,
-        level,
-        points,
-        &mut Steps::start(blank.open::<L>()),
-    )
+    expect_refined(rt, alloc, level, case, &mut Steps::start(blank.open::<L>()))
 }
 
-// The values of the next level of the cube with sharp edges.
-fn values_alone(
+fn expect_refined_alone(
     rt: &impl Abort,
     alloc: Global,
-    edges: &'static [SharpEdge],
-    points: &[Valued<Point3>],
-) -> Result<Vec<Valued<Point3>>, ValueFault> {
-    let level = build_alone(rt, alloc, &told((CUBE, Method::Normal, edges)))?;
-    values_counted::<Brand>(rt, alloc, &level, points, Blank::new(1))
+    level: &Level,
+    case: &Case,
+) -> Result<(), RefineFault> {
+    expect_refined_counted::<Brand>(rt, alloc, level, case, Blank::new(1))
 }
 
-fn expect_cube(rt: &impl Abort, alloc: Global) -> Result<(), ValueFault> {
-    let given = values_alone(rt, alloc, &[], cube_points())?;
-    expect_same(rt, &given.as_slice(), &cube_values(), &"values");
+fn expect_case(rt: &impl Abort, alloc: Global, case: &Case) -> Result<(), RefineFault> {
+    let mesh = told((CUBE, Method::Normal, case.0));
+    with_level(rt, alloc, &mesh, |level| {
+        expect_refined_alone(rt, alloc, level, case)
+    })
+}
+
+#[test]
+fn refines_the_points_of_a_cube(rt: HostRuntime) -> Result<(), RefineFault> {
+    for case in refined() {
+        expect_case(&rt, rt.alloc(), case)?;
+    }
     Ok(())
 }
 
 #[test]
-fn refines_the_points_of_a_cube(rt: HostRuntime) -> Result<(), ValueFault> {
-    expect_cube(&rt, rt.alloc())
-}
-
-// Edges of the cube, its points, and the fault.
-type Fault = (&'static [SharpEdge], &'static [Valued<Point3>], ValueFault);
-
-const FAULTS: &[Fault] = &[
-    (
-        &[
-            (1, 0, (1, 1_000_000)),
-            (1, 3, (1, 999_994)),
-            (1, 7, (1, 768_619)),
-        ],
-        CUBE_POINTS,
-        ValueFault::Transition(1),
-    ),
-    (
-        &[],
-        cube_of!(2658455991569831745807614120560689152, 1),
-        ValueFault::Denominator(0),
-    ),
-    (
-        &[],
-        cube_of!(1, 2363071992506517107384545884942834802),
-        ValueFault::TooBig(0),
-    ),
-];
-
-fn faults() -> &'static [Fault] {
-    FAULTS
-}
-
-fn expect_fault(rt: &impl Abort, alloc: Global, row: &Fault) {
-    let &(edges, points, want) = row;
-    let given = values_alone(rt, alloc, edges, points).err();
-    expect_same(rt, &given, &Some(want), row);
-}
-
-#[test]
-fn refuses_numbers_past_their_bounds(rt: HostRuntime) {
-    for row in faults() {
-        expect_fault(&rt, rt.alloc(), row);
+fn refuses_numbers_past_their_bounds(rt: HostRuntime) -> Result<(), RefineFault> {
+    for case in refused() {
+        expect_case(&rt, rt.alloc(), case)?;
     }
+    Ok(())
 }
 
 #[test]
