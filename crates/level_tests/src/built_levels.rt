@@ -1,28 +1,12 @@
 // Levels by a builder, against tables.
 
-ghost use Rattle.std.specs.Prelude.{◌<◌, length};
-ghost use Rattle.subdiv_model.specs.Edges.{edges_of};
-
-use crate::expect::expect_same;
-use crate::meshes::{Mesh, build_alone, fraction_of};
-use crate::solids::{Fraction, INFINITE, Solid, ZERO};
-use level_topology::{EdgeFaces, Level};
+use crate::meshes::{Mesh, with_level};
+use crate::shown::expect_shown;
+use crate::solids::{INFINITE, Solid, ZERO};
 use ratio128::Memory;
 use sharpness_rules::Method;
 use std::alloc::Global;
 use std::process::Abort;
-
-const INNER: Fraction = ZERO;
-
-const OUTER: Fraction = INFINITE;
-
-// What a level says: of a face its corners, its edges and whether it is a hole; of an edge its ends, its faces and its
-// sharpness; of a point its faces with its corners there, its edges with its ends there, its sharpness and its mark.
-type Face<'a> = (&'a [u32], &'a [u32], bool);
-
-type Edge = ((u32, u32), u32, Option<u32>, Fraction);
-
-type Vertex<'a> = (&'a [u32], &'a [u16], &'a [u32], &'a [u16], Fraction, bool);
 
 // The cube.
 const CUBE: Mesh<'static> = Mesh {
@@ -45,40 +29,35 @@ const CUBE: Mesh<'static> = Mesh {
     key: None,
 };
 
-const CUBE_FACES: &[Face<'static>] = &[
-    (&[0, 3, 2, 1], &[0, 1, 2, 3], false),
-    (&[4, 5, 6, 7], &[4, 5, 6, 7], false),
-    (&[0, 1, 5, 4], &[3, 8, 4, 9], false),
-    (&[1, 2, 6, 5], &[2, 10, 5, 8], false),
-    (&[2, 3, 7, 6], &[1, 11, 6, 10], false),
-    (&[3, 0, 4, 7], &[0, 9, 7, 11], false),
-];
-
-const CUBE_EDGES: &[Edge] = &[
-    ((0, 3), 0, Some(5), INNER),
-    ((3, 2), 0, Some(4), INNER),
-    ((2, 1), 0, Some(3), INNER),
-    ((1, 0), 0, Some(2), INNER),
-    ((4, 5), 1, Some(2), INNER),
-    ((5, 6), 1, Some(3), INNER),
-    ((6, 7), 1, Some(4), INNER),
-    ((7, 4), 1, Some(5), INNER),
-    ((1, 5), 2, Some(3), INNER),
-    ((4, 0), 2, Some(5), INNER),
-    ((2, 6), 3, Some(4), INNER),
-    ((3, 7), 4, Some(5), INNER),
-];
-
-const CUBE_VERTICES: &[Vertex<'static>] = &[
-    (&[0, 5, 2], &[0, 1, 0], &[3, 0, 9], &[1, 0, 1], INNER, true),
-    (&[0, 2, 3], &[3, 1, 0], &[2, 3, 8], &[1, 0, 0], INNER, true),
-    (&[0, 3, 4], &[2, 1, 0], &[1, 2, 10], &[1, 0, 0], INNER, true),
-    (&[0, 4, 5], &[1, 1, 0], &[0, 1, 11], &[1, 0, 0], INNER, true),
-    (&[1, 2, 5], &[0, 3, 2], &[7, 4, 9], &[1, 0, 0], INNER, true),
-    (&[1, 3, 2], &[1, 3, 2], &[4, 5, 8], &[1, 0, 1], INNER, true),
-    (&[1, 4, 3], &[2, 3, 2], &[5, 6, 10], &[1, 0, 1], INNER, true),
-    (&[1, 5, 4], &[3, 3, 2], &[6, 7, 11], &[1, 0, 1], INNER, true),
-];
+const CUBE_LINES: &str = "\
+Normal
+face ([0, 3, 2, 1], [0, 1, 2, 3], false)
+face ([4, 5, 6, 7], [4, 5, 6, 7], false)
+face ([0, 1, 5, 4], [3, 8, 4, 9], false)
+face ([1, 2, 6, 5], [2, 10, 5, 8], false)
+face ([2, 3, 7, 6], [1, 11, 6, 10], false)
+face ([3, 0, 4, 7], [0, 9, 7, 11], false)
+edge ((0, 3), 0, Some(5), (0, 1))
+edge ((3, 2), 0, Some(4), (0, 1))
+edge ((2, 1), 0, Some(3), (0, 1))
+edge ((1, 0), 0, Some(2), (0, 1))
+edge ((4, 5), 1, Some(2), (0, 1))
+edge ((5, 6), 1, Some(3), (0, 1))
+edge ((6, 7), 1, Some(4), (0, 1))
+edge ((7, 4), 1, Some(5), (0, 1))
+edge ((1, 5), 2, Some(3), (0, 1))
+edge ((4, 0), 2, Some(5), (0, 1))
+edge ((2, 6), 3, Some(4), (0, 1))
+edge ((3, 7), 4, Some(5), (0, 1))
+point ([0, 5, 2], [0, 1, 0], [3, 0, 9], [1, 0, 1], (0, 1), true)
+point ([0, 2, 3], [3, 1, 0], [2, 3, 8], [1, 0, 0], (0, 1), true)
+point ([0, 3, 4], [2, 1, 0], [1, 2, 10], [1, 0, 0], (0, 1), true)
+point ([0, 4, 5], [1, 1, 0], [0, 1, 11], [1, 0, 0], (0, 1), true)
+point ([1, 2, 5], [0, 3, 2], [7, 4, 9], [1, 0, 0], (0, 1), true)
+point ([1, 3, 2], [1, 3, 2], [4, 5, 8], [1, 0, 1], (0, 1), true)
+point ([1, 4, 3], [2, 3, 2], [5, 6, 10], [1, 0, 1], (0, 1), true)
+point ([1, 5, 4], [3, 3, 2], [6, 7, 11], [1, 0, 1], (0, 1), true)
+";
 
 // Four quads over three by three points, a hole among them, and a point without faces. Two edges and two points are
 // named twice.
@@ -90,58 +69,46 @@ const GRID: Mesh<'static> = Mesh {
     method: Method::Chaikin,
     holes: &[2],
     edges: &[
-        (1, 0, INNER),
-        (4, 5, OUTER),
-        (0, 1, OUTER),
-        (5, 4, INNER),
-        (8, 7, OUTER),
+        (1, 0, ZERO),
+        (4, 5, INFINITE),
+        (0, 1, INFINITE),
+        (5, 4, ZERO),
+        (8, 7, INFINITE),
     ],
-    vertices: &[(4, OUTER), (8, INNER), (8, OUTER), (4, INNER)],
+    vertices: &[(4, INFINITE), (8, ZERO), (8, INFINITE), (4, ZERO)],
     complete_from: 0,
     key: None,
 };
 
-const GRID_FACES: &[Face<'static>] = &[
-    (&[0, 1, 4, 3], &[0, 1, 2, 3], false),
-    (&[1, 2, 5, 4], &[4, 5, 6, 1], false),
-    (&[3, 4, 7, 6], &[2, 7, 8, 9], true),
-    (&[4, 5, 8, 7], &[6, 10, 11, 7], false),
-];
-
-const GRID_EDGES: &[Edge] = &[
-    ((0, 1), 0, None, OUTER),
-    ((1, 4), 0, Some(1), INNER),
-    ((4, 3), 0, Some(2), INNER),
-    ((3, 0), 0, None, INNER),
-    ((1, 2), 1, None, INNER),
-    ((2, 5), 1, None, INNER),
-    ((5, 4), 1, Some(3), INNER),
-    ((4, 7), 2, Some(3), INNER),
-    ((7, 6), 2, None, INNER),
-    ((6, 3), 2, None, INNER),
-    ((5, 8), 3, None, INNER),
-    ((8, 7), 3, None, OUTER),
-];
-
-const GRID_VERTICES: &[Vertex<'static>] = &[
-    (&[0], &[0], &[3, 0], &[1, 0], INNER, true),
-    (&[0, 1], &[1, 0], &[0, 1, 4], &[1, 0, 0], INNER, true),
-    (&[1], &[1], &[4, 5], &[1, 0], INNER, true),
-    (&[2, 0], &[0, 3], &[9, 2, 3], &[1, 1, 0], INNER, true),
-    (
-        &[0, 2, 3, 1],
-        &[2, 1, 0, 3],
-        &[1, 2, 7, 6],
-        &[1, 0, 0, 1],
-        INNER,
-        true,
-    ),
-    (&[1, 3], &[2, 1], &[5, 6, 10], &[1, 0, 0], INNER, true),
-    (&[2], &[3], &[8, 9], &[1, 0], INNER, true),
-    (&[3, 2], &[3, 2], &[11, 7, 8], &[1, 1, 0], INNER, true),
-    (&[3], &[2], &[10, 11], &[1, 0], OUTER, true),
-    (&[], &[], &[], &[], INNER, true),
-];
+const GRID_LINES: &str = "\
+Chaikin
+face ([0, 1, 4, 3], [0, 1, 2, 3], false)
+face ([1, 2, 5, 4], [4, 5, 6, 1], false)
+face ([3, 4, 7, 6], [2, 7, 8, 9], true)
+face ([4, 5, 8, 7], [6, 10, 11, 7], false)
+edge ((0, 1), 0, None, (10, 1))
+edge ((1, 4), 0, Some(1), (0, 1))
+edge ((4, 3), 0, Some(2), (0, 1))
+edge ((3, 0), 0, None, (0, 1))
+edge ((1, 2), 1, None, (0, 1))
+edge ((2, 5), 1, None, (0, 1))
+edge ((5, 4), 1, Some(3), (0, 1))
+edge ((4, 7), 2, Some(3), (0, 1))
+edge ((7, 6), 2, None, (0, 1))
+edge ((6, 3), 2, None, (0, 1))
+edge ((5, 8), 3, None, (0, 1))
+edge ((8, 7), 3, None, (10, 1))
+point ([0], [0], [3, 0], [1, 0], (0, 1), true)
+point ([0, 1], [1, 0], [0, 1, 4], [1, 0, 0], (0, 1), true)
+point ([1], [1], [4, 5], [1, 0], (0, 1), true)
+point ([2, 0], [0, 3], [9, 2, 3], [1, 1, 0], (0, 1), true)
+point ([0, 2, 3, 1], [2, 1, 0, 3], [1, 2, 7, 6], [1, 0, 0, 1], (0, 1), true)
+point ([1, 3], [2, 1], [5, 6, 10], [1, 0, 0], (0, 1), true)
+point ([2], [3], [8, 9], [1, 0], (0, 1), true)
+point ([3, 2], [3, 2], [11, 7, 8], [1, 1, 0], (0, 1), true)
+point ([3], [2], [10, 11], [1, 0], (10, 1), true)
+point ([], [], [], [], (0, 1), true)
+";
 
 // Two triangles back to back.
 const PAIR: Mesh<'static> = Mesh {
@@ -157,22 +124,17 @@ const PAIR: Mesh<'static> = Mesh {
     key: None,
 };
 
-const PAIR_FACES: &[Face<'static>] = &[
-    (&[0, 1, 2], &[0, 1, 2], false),
-    (&[0, 2, 1], &[2, 1, 0], false),
-];
-
-const PAIR_EDGES: &[Edge] = &[
-    ((0, 1), 0, Some(1), INNER),
-    ((1, 2), 0, Some(1), INNER),
-    ((2, 0), 0, Some(1), INNER),
-];
-
-const PAIR_VERTICES: &[Vertex<'static>] = &[
-    (&[0, 1], &[0, 0], &[2, 0], &[1, 0], INNER, true),
-    (&[0, 1], &[1, 2], &[0, 1], &[1, 0], INNER, true),
-    (&[0, 1], &[2, 1], &[1, 2], &[1, 0], INNER, true),
-];
+const PAIR_LINES: &str = "\
+Normal
+face ([0, 1, 2], [0, 1, 2], false)
+face ([0, 2, 1], [2, 1, 0], false)
+edge ((0, 1), 0, Some(1), (0, 1))
+edge ((1, 2), 0, Some(1), (0, 1))
+edge ((2, 0), 0, Some(1), (0, 1))
+point ([0, 1], [0, 0], [2, 0], [1, 0], (0, 1), true)
+point ([0, 1], [1, 2], [0, 1], [1, 0], (0, 1), true)
+point ([0, 1], [2, 1], [1, 2], [1, 0], (0, 1), true)
+";
 
 // Two triangles that meet at a point, which is not complete, and a third at an edge of the second.
 const TIE: Mesh<'static> = Mesh {
@@ -188,31 +150,26 @@ const TIE: Mesh<'static> = Mesh {
     key: None,
 };
 
-const TIE_FACES: &[Face<'static>] = &[
-    (&[3, 0, 4], &[0, 1, 2], false),
-    (&[1, 2, 0], &[3, 4, 5], false),
-    (&[2, 1, 5], &[3, 6, 7], false),
-];
-
-const TIE_EDGES: &[Edge] = &[
-    ((3, 0), 0, None, INNER),
-    ((0, 4), 0, None, INNER),
-    ((4, 3), 0, None, INNER),
-    ((1, 2), 1, Some(2), INNER),
-    ((2, 0), 1, None, INNER),
-    ((0, 1), 1, None, INNER),
-    ((1, 5), 2, None, INNER),
-    ((5, 2), 2, None, INNER),
-];
-
-const TIE_VERTICES: &[Vertex<'static>] = &[
-    (&[0, 1], &[1, 2], &[0, 1, 4, 5], &[1, 0, 1, 0], INNER, false),
-    (&[1, 2], &[0, 1], &[5, 3, 6], &[1, 0, 0], INNER, true),
-    (&[2, 1], &[0, 1], &[7, 3, 4], &[1, 1, 0], INNER, true),
-    (&[0], &[0], &[2, 0], &[1, 0], INNER, true),
-    (&[0], &[2], &[1, 2], &[1, 0], INNER, true),
-    (&[2], &[2], &[6, 7], &[1, 0], INNER, true),
-];
+const TIE_LINES: &str = "\
+Normal
+face ([3, 0, 4], [0, 1, 2], false)
+face ([1, 2, 0], [3, 4, 5], false)
+face ([2, 1, 5], [3, 6, 7], false)
+edge ((3, 0), 0, None, (0, 1))
+edge ((0, 4), 0, None, (0, 1))
+edge ((4, 3), 0, None, (0, 1))
+edge ((1, 2), 1, Some(2), (0, 1))
+edge ((2, 0), 1, None, (0, 1))
+edge ((0, 1), 1, None, (0, 1))
+edge ((1, 5), 2, None, (0, 1))
+edge ((5, 2), 2, None, (0, 1))
+point ([0, 1], [1, 2], [0, 1, 4, 5], [1, 0, 1, 0], (0, 1), false)
+point ([1, 2], [0, 1], [5, 3, 6], [1, 0, 0], (0, 1), true)
+point ([2, 1], [0, 1], [7, 3, 4], [1, 1, 0], (0, 1), true)
+point ([0], [0], [2, 0], [1, 0], (0, 1), true)
+point ([0], [2], [1, 2], [1, 0], (0, 1), true)
+point ([2], [2], [6, 7], [1, 0], (0, 1), true)
+";
 
 // The square.
 const SQUARE: Mesh<'static> = Mesh {
@@ -222,174 +179,54 @@ const SQUARE: Mesh<'static> = Mesh {
     },
     method: Method::Normal,
     holes: &[],
-    edges: &[(0, 1, OUTER), (1, 2, OUTER), (2, 3, OUTER), (3, 0, OUTER)],
-    vertices: &[(3, OUTER)],
+    edges: &[
+        (0, 1, INFINITE),
+        (1, 2, INFINITE),
+        (2, 3, INFINITE),
+        (3, 0, INFINITE),
+    ],
+    vertices: &[(3, INFINITE)],
     complete_from: 0,
     key: None,
 };
 
-const SQUARE_FACES: &[Face<'static>] = &[(&[0, 1, 2, 3], &[0, 1, 2, 3], false)];
-
-const SQUARE_EDGES: &[Edge] = &[
-    ((0, 1), 0, None, OUTER),
-    ((1, 2), 0, None, OUTER),
-    ((2, 3), 0, None, OUTER),
-    ((3, 0), 0, None, OUTER),
-];
-
-const SQUARE_VERTICES: &[Vertex<'static>] = &[
-    (&[0], &[0], &[3, 0], &[1, 0], INNER, true),
-    (&[0], &[1], &[0, 1], &[1, 0], INNER, true),
-    (&[0], &[2], &[1, 2], &[1, 0], INNER, true),
-    (&[0], &[3], &[2, 3], &[1, 0], OUTER, true),
-];
-
-fn face_of<'a>(level: &'a Level, f: u32) -> Face<'a>
-    requires { f < length level.now.level.polygons }
-{
-    (
-        level.face_vertices(f),
-        level.face_edges(f),
-        level.is_hole(f),
-    )
-}
-
-fn edge_of(level: &Level, e: u32) -> Edge
-    requires { e < length (edges_of level.now.level.polygons) }
-{
-    let EdgeFaces { first, second } = level.edge_faces(e);
-    (
-        level.edge_vertices(e),
-        first,
-        second,
-        fraction_of(level.edge_sharpness(e)),
-    )
-}
-
-fn vertex_of<'a>(level: &'a Level, v: u32) -> Vertex<'a>
-    requires { v < level.now.level.point_count }
-{
-    (
-        level.vertex_faces(v),
-        level.vertex_faces_at(v),
-        level.vertex_edges(v),
-        level.vertex_edges_at(v),
-        fraction_of(level.vertex_sharpness(v)),
-        level.is_complete(v),
-    )
-}
-
-fn expect_faces(rt: &impl Abort, level: &Level, want: &[Face<'static>]) {
-    expect_same(rt, &(level.faces() as usize), &want.len(), &"faces");
-    for f in 0..level.faces() {
-        expect_same(rt, &Some(&face_of(level, f)), &want.get(f as usize), &f);
-    }
-}
-
-fn expect_edges(rt: &impl Abort, level: &Level, want: &[Edge]) {
-    expect_same(rt, &(level.edges() as usize), &want.len(), &"edges");
-    for e in 0..level.edges() {
-        expect_same(rt, &Some(&edge_of(level, e)), &want.get(e as usize), &e);
-    }
-}
-
-fn expect_vertices(rt: &impl Abort, level: &Level, want: &[Vertex<'static>]) {
-    expect_same(rt, &(level.points() as usize), &want.len(), &"points");
-    for v in 0..level.points() {
-        expect_same(rt, &Some(&vertex_of(level, v)), &want.get(v as usize), &v);
-    }
-}
-
-// Two levels with the same answers to all questions.
-pub fn expect_same_levels(rt: &impl Abort, given: &Level, want: &Level) {
-    expect_same(rt, &given.method(), &want.method(), &"method");
-    let counts = (given.points(), given.edges(), given.faces());
-    assert!(rt; counts == (want.points(), want.edges(), want.faces()));
-    for f in 0..given.faces() {
-        assert!(rt; f < want.faces());
-        expect_same(rt, &face_of(given, f), &face_of(want, f), &f);
-    }
-    for e in 0..given.edges() {
-        assert!(rt; e < want.edges());
-        expect_same(rt, &edge_of(given, e), &edge_of(want, e), &e);
-    }
-    for v in 0..given.points() {
-        assert!(rt; v < want.points());
-        expect_same(rt, &vertex_of(given, v), &vertex_of(want, v), &v);
-    }
-}
-
-// What a level says.
-pub struct Tables {
-    method: Method,
-    faces: &'static [Face<'static>],
-    edges: &'static [Edge],
-    vertices: &'static [Vertex<'static>],
-}
-
-pub fn expect_tables(rt: &impl Abort, level: &Level, want: &Tables) {
-    expect_same(rt, &level.method(), &want.method, &"method");
-    expect_faces(rt, level, want.faces);
-    expect_edges(rt, level, want.edges);
-    expect_vertices(rt, level, want.vertices);
-}
+const SQUARE_LINES: &str = "\
+Normal
+face ([0, 1, 2, 3], [0, 1, 2, 3], false)
+edge ((0, 1), 0, None, (10, 1))
+edge ((1, 2), 0, None, (10, 1))
+edge ((2, 3), 0, None, (10, 1))
+edge ((3, 0), 0, None, (10, 1))
+point ([0], [0], [3, 0], [1, 0], (0, 1), true)
+point ([0], [1], [0, 1], [1, 0], (0, 1), true)
+point ([0], [2], [1, 2], [1, 0], (0, 1), true)
+point ([0], [3], [2, 3], [1, 0], (10, 1), true)
+";
 
 // Meshes, and what their levels say.
-const BUILT: &[(Mesh<'static>, &'static Tables)] = &[
-    (
-        CUBE,
-        &Tables {
-            method: Method::Normal,
-            faces: CUBE_FACES,
-            edges: CUBE_EDGES,
-            vertices: CUBE_VERTICES,
-        },
-    ),
-    (
-        GRID,
-        &Tables {
-            method: Method::Chaikin,
-            faces: GRID_FACES,
-            edges: GRID_EDGES,
-            vertices: GRID_VERTICES,
-        },
-    ),
-    (
-        PAIR,
-        &Tables {
-            method: Method::Normal,
-            faces: PAIR_FACES,
-            edges: PAIR_EDGES,
-            vertices: PAIR_VERTICES,
-        },
-    ),
-    (
-        TIE,
-        &Tables {
-            method: Method::Normal,
-            faces: TIE_FACES,
-            edges: TIE_EDGES,
-            vertices: TIE_VERTICES,
-        },
-    ),
-    (SQUARE, SQUARE_TABLES),
+const BUILT: &[(Mesh<'static>, &str)] = &[
+    (CUBE, CUBE_LINES),
+    (GRID, GRID_LINES),
+    (PAIR, PAIR_LINES),
+    (TIE, TIE_LINES),
+    (SQUARE, SQUARE_LINES),
 ];
 
-const SQUARE_TABLES: &Tables = &Tables {
-    method: Method::Normal,
-    faces: SQUARE_FACES,
-    edges: SQUARE_EDGES,
-    vertices: SQUARE_VERTICES,
-};
-
-fn built() -> &'static [(Mesh<'static>, &'static Tables)] {
+fn built() -> &'static [(Mesh<'static>, &'static str)] {
     BUILT
 }
 
-fn expect_built(rt: &impl Abort, alloc: Global, mesh: &Mesh, want: &Tables) -> Result<(), Memory> {
-    let level = build_alone(rt, alloc, mesh)?;
-    expect_tables(rt, &level, want);
-    Ok(())
+pub fn square_lines() -> &'static str {
+    SQUARE_LINES
+}
+
+fn expect_built(rt: &impl Abort, alloc: Global, mesh: &Mesh, want: &str) -> Result<(), Memory> {
+    with_level(
+        rt,
+        alloc,
+        mesh,
+        |level| expect_shown(rt, alloc, level, want),
+    )
 }
 
 fn expect_all_built(rt: &impl Abort, alloc: Global) -> Result<(), Memory> {
@@ -402,8 +239,4 @@ fn expect_all_built(rt: &impl Abort, alloc: Global) -> Result<(), Memory> {
 #[test]
 fn builds_levels(rt: HostRuntime) -> Result<(), Memory> {
     expect_all_built(&rt, rt.alloc())
-}
-
-pub fn square_tables() -> &'static Tables {
-    SQUARE_TABLES
 }

@@ -1,8 +1,8 @@
 // Edges that collide under the key 0, numbered under two keys.
 
-use crate::built_levels::expect_same_levels;
 use crate::expect::expect_same;
-use crate::meshes::{Mesh, build_alone};
+use crate::meshes::{Mesh, with_level};
+use crate::shown::{expect_shown, text_of};
 use crate::solids::Solid;
 use level_topology::Level;
 use ratio128::Memory;
@@ -238,52 +238,57 @@ fn faces_of(alloc: Global, triangles: &[[u32; 3]]) -> Result<Vec<&[u32]>, Memory
     Ok(faces)
 }
 
-// No point is marked complete.
-fn level_under(
+const KEY: u128 = 0x1234_5678_9abc_def0_0fed_cba9_8765_4321;
+
+// The level says the same under another key.
+fn expect_under_a_key(
     rt: &impl Abort,
     alloc: Global,
-    solid: &Solid,
-    key: Option<u128>,
-) -> Result<Level, Memory> {
+    mesh: &Mesh,
+    want: &str,
+) -> Result<(), Memory> {
+    let keyed = Mesh {
+        key: Some(KEY),
+        ..*mesh
+    };
+    with_level(rt, alloc, &keyed, |level| {
+        expect_shown(rt, alloc, level, want)
+    })
+}
+
+fn expect_same_under_a_key(
+    rt: &impl Abort,
+    alloc: Global,
+    mesh: &Mesh,
+    plain: &Level,
+) -> Result<(), Memory> {
+    expect_same(rt, &(plain.faces(), plain.edges()), &(200, 600), &"counts");
+    let text = text_of(alloc, plain)?;
+    expect_under_a_key(rt, alloc, mesh, text.as_str())
+}
+
+fn expect_numbers(rt: &impl Abort, alloc: Global, mesh: &Mesh) -> Result<(), Memory> {
+    with_level(rt, alloc, mesh, |plain| {
+        expect_same_under_a_key(rt, alloc, mesh, plain)
+    })
+}
+
+// No point is marked complete.
+fn expect_triangles(rt: &impl Abort, alloc: Global, triangles: &[[u32; 3]]) -> Result<(), Memory> {
+    let faces = faces_of(alloc, triangles)?;
     let mesh = Mesh {
-        solid,
+        solid: &Solid {
+            points: 2000,
+            faces: &faces,
+        },
         method: Method::Normal,
         holes: &[],
         edges: &[],
         vertices: &[],
-        complete_from: solid.points,
-        key,
+        complete_from: 2000,
+        key: None,
     };
-    build_alone(rt, alloc, &mesh)
-}
-
-const KEY: u128 = 0x1234_5678_9abc_def0_0fed_cba9_8765_4321;
-
-// The same edges have the same numbers under another key.
-fn expect_same_under_a_key(
-    rt: &impl Abort,
-    alloc: Global,
-    solid: &Solid,
-    plain: &Level,
-) -> Result<(), Memory> {
-    let keyed = level_under(rt, alloc, solid, Some(KEY))?;
-    expect_same_levels(rt, plain, &keyed);
-    Ok(())
-}
-
-fn expect_numbers(rt: &impl Abort, alloc: Global, solid: &Solid) -> Result<(), Memory> {
-    let plain = level_under(rt, alloc, solid, None)?;
-    expect_same(rt, &(plain.faces(), plain.edges()), &(200, 600), &"counts");
-    expect_same_under_a_key(rt, alloc, solid, &plain)
-}
-
-fn expect_triangles(rt: &impl Abort, alloc: Global, triangles: &[[u32; 3]]) -> Result<(), Memory> {
-    let faces = faces_of(alloc, triangles)?;
-    let solid = Solid {
-        points: 2000,
-        faces: &faces,
-    };
-    expect_numbers(rt, alloc, &solid)
+    expect_numbers(rt, alloc, &mesh)
 }
 
 fn expect_collisions(rt: &impl Abort, alloc: Global) -> Result<(), Memory> {

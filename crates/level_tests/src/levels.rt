@@ -3,7 +3,8 @@
 ghost use Rattle.std.specs.Prelude.{◌≡◌, ◌<◌, ◌≤◌, length, IfOk};
 ghost use Rattle.level_tests.specs.Squares.{square, quarter, IsQuarter};
 
-use crate::built_levels::{expect_tables, square_tables};
+use crate::built_levels::square_lines;
+use crate::shown::expect_shown;
 use level_topology::{Child, EdgeFaces, FacePlace, Level, LevelRows, Origin};
 use ratio128::{Memory, Steps};
 use sharpness_rules::{Method, Sharpness};
@@ -137,7 +138,7 @@ fn expect_square<L: Ledger>(
     steps: &mut Steps<L>,
 ) -> Result<(), Memory> {
     let level = make_square(alloc, steps)?;
-    expect_tables(rt, &level, square_tables());
+    expect_shown(rt, alloc, &level, square_lines())?;
     expect_joined(rt, alloc, &level, steps)
 }
 

@@ -24,6 +24,8 @@ mod refined;
 #[cfg(test)]
 mod sharpness;
 #[cfg(test)]
+mod shown;
+#[cfg(test)]
 mod solids;
 #[cfg(test)]
 mod values;

@@ -81,7 +81,7 @@ fn build<L: Ledger>(
     finish(builder, filled)
 }
 
-pub fn build_alone(rt: &impl Abort, alloc: Global, mesh: &Mesh) -> Result<Level, Memory> {
+fn build_alone(rt: &impl Abort, alloc: Global, mesh: &Mesh) -> Result<Level, Memory> {
     build::<Brand>(rt, alloc, mesh, Blank::new(1))
 }
 

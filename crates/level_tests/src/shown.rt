@@ -1,0 +1,79 @@
+// A level as a text of what it says, a line for each part.
+
+ghost use Rattle.std.specs.Prelude.{◌<◌, length};
+ghost use Rattle.subdiv_model.specs.Edges.{edges_of};
+
+use crate::expect::expect_same;
+use crate::meshes::fraction_of;
+use level_topology::{EdgeFaces, Level};
+use ratio128::Memory;
+use std::alloc::Global;
+use std::fmt::{self, Display, Formatter, Write};
+use std::process::Abort;
+
+// Shows of a face its corners, its edges and whether it is a hole; of an edge its ends, its faces and its sharpness; of a
+// point its faces with its corners there, its edges with its ends there, its sharpness and its mark.
+#[derive(Clone, Copy)]
+struct Shown<'a>(&'a Level);
+
+fn show_faces<W: Write>(level: &Level, f: &mut Formatter<W>) -> fmt::Result {
+    for face in 0..level.faces() {
+        let row = (
+            level.face_vertices(face),
+            level.face_edges(face),
+            level.is_hole(face),
+        );
+        writeln!(f, "face {row:?}")?;
+    }
+    Ok(())
+}
+
+fn show_edges<W: Write>(level: &Level, f: &mut Formatter<W>) -> fmt::Result {
+    for edge in 0..level.edges() {
+        let EdgeFaces { first, second } = level.edge_faces(edge);
+        let s = fraction_of(level.edge_sharpness(edge));
+        let row = (level.edge_vertices(edge), first, second, s);
+        writeln!(f, "edge {row:?}")?;
+    }
+    Ok(())
+}
+
+fn show_points<W: Write>(level: &Level, f: &mut Formatter<W>) -> fmt::Result {
+    for v in 0..level.points() {
+        let row = (
+            level.vertex_faces(v),
+            level.vertex_faces_at(v),
+            level.vertex_edges(v),
+            level.vertex_edges_at(v),
+            fraction_of(level.vertex_sharpness(v)),
+            level.is_complete(v),
+        );
+        writeln!(f, "point {row:?}")?;
+    }
+    Ok(())
+}
+
+impl Display for Shown<'_> {
+    fn fmt<W: Write>(&self, f: &mut Formatter<W>) -> fmt::Result {
+        writeln!(f, "{:?}", self.0.method())?;
+        show_faces(self.0, f)?;
+        show_edges(self.0, f)?;
+        show_points(self.0, f)
+    }
+}
+
+pub fn text_of(alloc: Global, level: &Level) -> Result<String, Memory> {
+    Ok(format!(in alloc; "{}", Shown(level))?)
+}
+
+// The level says what the text does.
+pub fn expect_shown(
+    rt: &impl Abort,
+    alloc: Global,
+    level: &Level,
+    want: &str,
+) -> Result<(), Memory> {
+    let text = text_of(alloc, level)?;
+    expect_same(rt, &text.as_str(), &want, &"level");
+    Ok(())
+}
