@@ -1,9 +1,14 @@
 // The square, and one of its quarters alone, put together by hand.
 
-ghost use Rattle.std.specs.Prelude.{◌≡◌, ◌<◌, ◌≤◌, length, IfOk};
-ghost use Rattle.level_tests.specs.Squares.{square, quarter, IsQuarter};
+ghost use Rattle.std.specs.Prelude.{◌≡◌, ◌+◌, ◌<◌, ◌≤◌, [], ◌∷◌, length, IfOk};
+ghost use Rattle.std.specs.List.{sum_by};
+ghost use Rattle.subdiv_model.specs.Sharpness.{Normal};
+ghost use Rattle.sharpness_rules.specs.View.{sharpness_of};
+ghost use Rattle.level_topology.specs.Rows.{no_rows, with_vertex};
+ghost use Rattle.level_tests.specs.Squares.{square, quarter, square_rows, quarter_rows, IsQuarter};
 
 use crate::built_levels::square_lines;
+use crate::expect::expect_same;
 use crate::shown::expect_shown;
 use level_topology::{Child, EdgeFaces, FacePlace, Level, LevelRows, Origin};
 use ratio128::{Memory, Steps};
@@ -17,44 +22,74 @@ const INNER: Sharpness = Sharpness::Smooth;
 
 const OUTER: Sharpness = Sharpness::Infinite;
 
-fn one(first: u32) -> EdgeFaces
-    ensures { result ≡ record { first = first; second = None } }
+// The one face alone.
+const ALONE: EdgeFaces = EdgeFaces {
+    first: 0,
+    second: None,
+};
+
+// Puts a point of the one face: its corner there, and its two edges with its end of each.
+fn put_point(
+    rows: &mut LevelRows,
+    corner: u16,
+    edges: (u32, u32),
+    ends: (u16, u16),
+    s: Sharpness,
+    is_complete: bool,
+)
+    requires points { length rows.old.complete < rows.old.counts.points }
+    requires face_places { sum_by length rows.old.vertex_faces < rows.old.counts.face_places }
+    requires edge_places { sum_by length rows.old.vertex_edges + 2 ≤ rows.old.counts.edge_places }
+    ensures { rows.new ≡ with_vertex (0 ∷ []) (corner ∷ []) (edges.0 ∷ edges.1 ∷ []) (ends.0 ∷ ends.1 ∷ []) (sharpness_of s) is_complete rows.old }
 {
-    EdgeFaces {
-        first,
-        second: None,
-    }
+    let edges = [edges.0, edges.1];
+    let ends = [ends.0, ends.1];
+    rows.put_vertex(&[0], &[corner], &edges, &ends, s, is_complete);
+}
+
+fn put_square<L: Ledger>(rows: &mut LevelRows, steps: &mut Steps<L>)
+    requires { rows.old ≡ no_rows square_rows.counts Normal }
+    ensures { rows.new ≡ square_rows }
+{
+    rows.put_face(&[0, 1, 2, 3], &[0, 1, 2, 3], false, steps);
+    rows.put_edge(0, 1, ALONE, OUTER);
+    rows.put_edge(1, 2, ALONE, OUTER);
+    rows.put_edge(2, 3, ALONE, OUTER);
+    rows.put_edge(3, 0, ALONE, OUTER);
+    put_point(rows, 0, (3, 0), (1, 0), INNER, true);
+    put_point(rows, 1, (0, 1), (1, 0), INNER, true);
+    put_point(rows, 2, (1, 2), (1, 0), INNER, true);
+    put_point(rows, 3, (2, 3), (1, 0), OUTER, true);
 }
 
 fn make_square<L: Ledger>(alloc: Global, steps: &mut Steps<L>) -> Result<Level, Memory>
     ensures { IfOk result (λ level. level ≡ square) }
 {
     let mut rows = LevelRows::new(alloc, 4, 4, 1, 4, 4, 8, Method::Normal)?;
-    rows.put_face(&[0, 1, 2, 3], &[0, 1, 2, 3], false, steps);
-    rows.put_edge(0, 1, one(0), OUTER);
-    rows.put_edge(1, 2, one(0), OUTER);
-    rows.put_edge(2, 3, one(0), OUTER);
-    rows.put_edge(3, 0, one(0), OUTER);
-    rows.put_vertex(&[0], &[0], &[3, 0], &[1, 0], INNER, true);
-    rows.put_vertex(&[0], &[1], &[0, 1], &[1, 0], INNER, true);
-    rows.put_vertex(&[0], &[2], &[1, 2], &[1, 0], INNER, true);
-    rows.put_vertex(&[0], &[3], &[2, 3], &[1, 0], OUTER, true);
+    put_square(&mut rows, steps);
     Ok(rows.finish())
+}
+
+fn put_quarter<L: Ledger>(rows: &mut LevelRows, steps: &mut Steps<L>)
+    requires { rows.old ≡ no_rows quarter_rows.counts Normal }
+    ensures { rows.new ≡ quarter_rows }
+{
+    rows.put_face(&[0, 3, 1, 2], &[0, 1, 2, 3], false, steps);
+    rows.put_edge(0, 3, ALONE, OUTER);
+    rows.put_edge(3, 1, ALONE, INNER);
+    rows.put_edge(1, 2, ALONE, INNER);
+    rows.put_edge(2, 0, ALONE, OUTER);
+    put_point(rows, 0, (0, 3), (0, 1), INNER, false);
+    put_point(rows, 2, (1, 2), (1, 0), INNER, false);
+    put_point(rows, 3, (2, 3), (1, 0), INNER, false);
+    put_point(rows, 1, (0, 1), (1, 0), INNER, false);
 }
 
 fn make_quarter<L: Ledger>(alloc: Global, steps: &mut Steps<L>) -> Result<Level, Memory>
     ensures { IfOk result (λ level. level ≡ quarter) }
 {
     let mut rows = LevelRows::new(alloc, 4, 4, 1, 4, 4, 8, Method::Normal)?;
-    rows.put_face(&[0, 3, 1, 2], &[0, 1, 2, 3], false, steps);
-    rows.put_edge(0, 3, one(0), OUTER);
-    rows.put_edge(3, 1, one(0), INNER);
-    rows.put_edge(1, 2, one(0), INNER);
-    rows.put_edge(2, 0, one(0), OUTER);
-    rows.put_vertex(&[0], &[0], &[0, 3], &[0, 1], INNER, false);
-    rows.put_vertex(&[0], &[2], &[1, 2], &[1, 0], INNER, false);
-    rows.put_vertex(&[0], &[3], &[2, 3], &[1, 0], INNER, false);
-    rows.put_vertex(&[0], &[1], &[0, 1], &[1, 0], INNER, false);
+    put_quarter(&mut rows, steps);
     Ok(rows.finish())
 }
 
@@ -79,44 +114,45 @@ fn join_to<L: Ledger>(alloc: Global, parent: &Level, steps: &mut Steps<L>) -> Re
     Ok(child)
 }
 
-// The points that come from a vertex and an edge of the square with one number, and the face of the corner.
-fn has(child: &Child, i: u32, vertex: Option<u32>, edge: Option<u32>, face: Option<u32>) -> bool
-    requires { IsQuarter child.now }
-{
-    i < 4
-        && child.vertex_point(i) == vertex
-        && child.edge_point(i) == edge
-        && child.child_face(0, i) == face
+// Of each point of the quarter its origin; and of the number itself the points that come from the vertex and the edge of
+// the square, and the face of its corner.
+type Part = (Origin, Option<u32>, Option<u32>, Option<u32>);
+
+const PARTS: &[Part] = &[
+    (Origin::Vertex(1), None, Some(2), None),
+    (Origin::Face(0), Some(0), Some(3), Some(0)),
+    (Origin::Edge(0), None, None, None),
+    (Origin::Edge(1), None, None, None),
+];
+
+fn parts() -> &'static [Part] {
+    PARTS
 }
 
-fn has_origins(child: &Child, origins: &[Origin]) -> bool
-    requires { length origins.now ≤ child.now.topology.level.point_count }
+fn part_of(child: &Child, i: u32) -> Part
+    requires quarter { IsQuarter child.now }
+    requires inside { i < 4 }
 {
-    for (p, origin) in origins.iter().enumerate() {
-        if p > 9 || child.origin(p as u32) != *origin {
-            return false;
-        }
-    }
-    true
+    (
+        child.origin(i),
+        child.vertex_point(i),
+        child.edge_point(i),
+        child.child_face(0, i),
+    )
 }
 
 fn expect_quarter(rt: &impl Abort, child: &Child)
     requires { IsQuarter child.now }
 {
-    assert!(rt; child.face_point(0) == Some(1));
-    assert!(rt; has(child, 0, None, Some(2), None));
-    assert!(rt; has(child, 1, Some(0), Some(3), Some(0)));
-    assert!(rt; has(child, 2, None, None, None));
-    assert!(rt; has(child, 3, None, None, None));
-    let origins = [
-        Origin::Vertex(1),
-        Origin::Face(0),
-        Origin::Edge(0),
-        Origin::Edge(1),
-    ];
-    assert!(rt; has_origins(child, &origins));
+    for i in 0..4 {
+        let part = part_of(child, i);
+        expect_same(rt, &Some(&part), &parts().get(i as usize), &i);
+    }
+    expect_same(rt, &child.face_point(0), &Some(1), &"face point");
     let level = child.level();
-    assert!(rt; level.points() == 4 && level.faces() == 1 && !level.is_complete(0));
+    let counts = (level.points(), level.faces());
+    expect_same(rt, &counts, &(4, 1), &"counts");
+    expect_same(rt, &level.is_complete(0), &false, &"mark");
 }
 
 fn expect_joined<L: Ledger>(
@@ -132,14 +168,25 @@ fn expect_joined<L: Ledger>(
     Ok(())
 }
 
+fn expect_parent<L: Ledger>(
+    rt: &impl Abort,
+    alloc: Global,
+    level: &Level,
+    steps: &mut Steps<L>,
+) -> Result<(), Memory>
+    requires { level.now ≡ square }
+{
+    expect_shown(rt, alloc, level, square_lines())?;
+    expect_joined(rt, alloc, level, steps)
+}
+
 fn expect_square<L: Ledger>(
     rt: &impl Abort,
     alloc: Global,
     steps: &mut Steps<L>,
 ) -> Result<(), Memory> {
     let level = make_square(alloc, steps)?;
-    expect_shown(rt, alloc, &level, square_lines())?;
-    expect_joined(rt, alloc, &level, steps)
+    expect_parent(rt, alloc, &level, steps)
 }
 
 fn expect_square_counted<L: Ledger>(
