@@ -237,9 +237,11 @@ fn names_faults_of_values(rt: HostRuntime) -> Result<(), Fail> {
     let value = ValueFault::TooBig(3);
     let memory = ValueFault::Memory;
     let text = format!(in rt.alloc(); "{vertex}; {point}; {value}; {memory}")?;
-    assert_eq!(rt;
-        text.as_str(),
-        "vertex 1: a denominator passes 2^60; point 2: the denominator is too great; point 3: a numerator may be too great; out of memory"
+    expect_same(
+        &rt,
+        &text.as_str(),
+        &"vertex 1: a denominator passes 2^60; point 2: the denominator is too great; point 3: a numerator may be too great; out of memory",
+        &"faults",
     );
     Ok(())
 }

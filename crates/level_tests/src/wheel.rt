@@ -9,7 +9,7 @@ use crate::expect::expect_same;
 use crate::mask_tables::mask_of_vertex;
 use crate::meshes::finish;
 use level_topology::{Level, LevelBuilder};
-use mask_rules::{At, MaskFault, Scheme, Term};
+use mask_rules::{At, MaskFault, Scheme, Term, VertexMask};
 use ratio128::{Memory, Steps};
 use sharpness_rules::Method;
 use std::alloc::Global;
@@ -91,6 +91,15 @@ fn sum_of_weights(rt: &impl Abort, terms: &[Term], vertex: u128) -> u128 {
     sum
 }
 
+fn expect_weights(rt: &impl Abort, mask: &VertexMask, spokes: u32) {
+    assert!(rt; 3 <= spokes && spokes <= 1 << 20);
+    let n = spokes as u128;
+    expect_same(rt, &(mask.terms().len() as u128), &(1 + 2 * n), &n);
+    let sum = sum_of_weights(rt, mask.terms(), n * (n - 2));
+    expect_same(rt, &sum, &(n * n), &"sum");
+    expect_same(rt, &mask.denominator(), &(n * n), &"denominator");
+}
+
 fn expect_mask(
     rt: &impl Abort,
     alloc: Global,
@@ -98,12 +107,7 @@ fn expect_mask(
     spokes: u32,
 ) -> Result<(), MaskFault> {
     let mask = mask_of_vertex(rt, alloc, level, 0, Scheme::CatmullClark)?;
-    assert!(rt; 3 <= spokes && spokes <= 1 << 20);
-    let n = spokes as u128;
-    expect_same(rt, &(mask.terms().len() as u128), &(1 + 2 * n), &n);
-    let sum = sum_of_weights(rt, mask.terms(), n * (n - 2));
-    expect_same(rt, &sum, &(n * n), &"sum");
-    expect_same(rt, &mask.denominator(), &(n * n), &"denominator");
+    expect_weights(rt, &mask, spokes);
     Ok(())
 }
 
