@@ -214,20 +214,21 @@ fn expect_case(rt: &impl Abort, alloc: Global, case: &Case) -> Result<(), Refine
     })
 }
 
-#[test]
-fn refines_the_points_of_a_cube(rt: HostRuntime) -> Result<(), RefineFault> {
-    for case in refined() {
-        expect_case(&rt, rt.alloc(), case)?;
+fn expect_cases(rt: &impl Abort, alloc: Global, cases: &'static [Case]) -> Result<(), RefineFault> {
+    for case in cases {
+        expect_case(rt, alloc, case)?;
     }
     Ok(())
 }
 
 #[test]
+fn refines_the_points_of_a_cube(rt: HostRuntime) -> Result<(), RefineFault> {
+    expect_cases(&rt, rt.alloc(), refined())
+}
+
+#[test]
 fn refuses_numbers_past_their_bounds(rt: HostRuntime) -> Result<(), RefineFault> {
-    for case in refused() {
-        expect_case(&rt, rt.alloc(), case)?;
-    }
-    Ok(())
+    expect_cases(&rt, rt.alloc(), refused())
 }
 
 #[test]
