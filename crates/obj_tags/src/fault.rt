@@ -123,7 +123,7 @@ impl From<AllocError> for ReadFault {
 }
 
 /// Why a line was not kept.
-#[derive(Clone, Copy, Debug, PartialEq, Eq)]
+#[derive(Clone, Copy)]
 pub(crate) enum LineFault {
     Cause(ObjCause),
     Memory,

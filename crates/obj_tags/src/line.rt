@@ -19,7 +19,7 @@ use obj_text::{Words, words_of};
 use std::alloc::Global;
 
 /// What the first word of a line says.
-#[derive(Clone, Copy, Debug, PartialEq, Eq)]
+#[derive(Clone, Copy)]
 pub(crate) enum Keyword {
     Position,
     Texture,

@@ -8,7 +8,7 @@ ghost use Rattle.obj_tags.specs.View.{kind_of};
 use crate::words::{is_word, split_slash};
 
 /// What a tag says.
-#[derive(Clone, Copy, Debug, PartialEq, Eq)]
+#[derive(Clone, Copy)]
 pub(crate) enum TagKind {
     Crease,
     Corner,
