@@ -1,3 +1,4 @@
+use Rattle.std.proofs.lemmas.Grind.{common_steps}
 use Rattle.std.proofs.Common.{arith, map, ap, ◌∙◌}
 use Rattle.std.proofs.lemmas.List.{take_all}
 use Rattle.stencil_apply.specs.Table.{entries_of}
@@ -29,3 +30,7 @@ pub returns-clause-steps : goal.returns-clause-steps
 returns-clause-steps g c =
     let all = ap entries_of (take_all c.loop-row.row c.args.table.now.rows (omega (arith, c.loop-row-test.false, c.rows-row-end.ensures))) in
     omega (arith, c.loop-row.invariant.taken, all)
+
+-- asked for by name, so that a body that breaks it is refused at once
+pub loop-row-preserved : goal.loop-row-preserved
+loop-row-preserved g c = grind (arith, common_steps)

@@ -1,4 +1,4 @@
-use Rattle.std.proofs.Common.{arith, inl, inr}
+use Rattle.std.proofs.Common.{rules, arith, inl, inr}
 use Rattle.obj_text.proofs.TermsLemmas.{without-start, without-step}
 use Rattle.obj_text.proofs.terms.without_fives.Goals as goal
 
@@ -16,3 +16,7 @@ returns-else-rest-eq0 c = record { value = c.loop-left.invariant.value; few = c.
 
 pub returns-after-loop-left : goal.returns-after-loop-left
 returns-after-loop-left c = record { value = c.loop-left.invariant.value; few = c.loop-left.invariant.few; ends = inl (omega (arith, c.loop-left-test.false)) }
+
+-- asked for by name, so that a body that breaks it is refused at once
+pub returns-then-amount : goal.returns-then-amount
+returns-then-amount c = search rules

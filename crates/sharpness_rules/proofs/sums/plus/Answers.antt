@@ -1,4 +1,4 @@
-use Rattle.std.proofs.Common.{◌+◌, ◌*◌, ◌/◌, ◌<◌, arith, refl, ap}
+use Rattle.std.proofs.Common.{rules, ◌+◌, ◌*◌, ◌/◌, ◌<◌, arith, refl, ap}
 use Rattle.sharpness_rules.proofs.MultipleLemmas.{IsLcm-positive}
 use Rattle.sharpness_rules.proofs.TotalLemmas.{IsTotal-push, scaled-bounded, product-bounded, push-too_fine}
 use Rattle.sharpness_rules.proofs.sums.plus.Goals as goal
@@ -34,3 +34,7 @@ pub returns : goal.returns
 returns c = λ values is.
     rw c.in-Semi.is
     (IsTotal-push values (c.in-Semi.value.num, c.in-Semi.value.den) c.args.total _ is (rw (← c.den.ensures) c.in-Some.ensures.multiple) refl (ap (λ n. c.args.total.num * (c.in-Some.den / c.args.total.den) + n) c.parts_of.ensures.parts))
+
+-- asked for by name, so that a body that breaks it is refused at once
+pub returns-in_default : goal.returns-in_default
+returns-in_default c = search rules

@@ -1,4 +1,5 @@
-use Rattle.std.proofs.Common.{length, ap, sym, ◌∙◌}
+use Rattle.std.proofs.lemmas.Grind.{common_steps}
+use Rattle.std.proofs.Common.{arith, length, ap, sym, ◌∙◌}
 use Rattle.std.proofs.lemmas.List.{length-map}
 use Rattle.stencil_apply.specs.Table.{Share, row_at, sum_of_shares}
 use Rattle.stencil_apply.proofs.RowLemmas.{zip-row, CanSum-row}
@@ -19,3 +20,7 @@ sum_row-requires-clause-fits g c =
 
 pub returns-clause-sum : goal.returns-clause-sum
 returns-clause-sum g c = c.sum_row.ensures.sum ∙ ap (sum_of_shares _ _) (zip-row _ _ _ c.row_indices.ensures.indices c.row_numerators.ensures)
+
+-- asked for by name, so that a body that breaks it is refused at once
+pub returns-clause-steps : goal.returns-clause-steps
+returns-clause-steps g c = grind (arith, common_steps)

@@ -1,4 +1,4 @@
-use Rattle.std.proofs.Common.{◌∙◌, length, arith, ap}
+use Rattle.std.proofs.Common.{rules, ◌∙◌, length, arith, ap}
 use Rattle.stencil_apply.specs.Table.{Table, entries_of}
 use Rattle.stencil_factory.proofs.ControlLemmas.{rows-count, entries-count, rows-more}
 use Rattle.stencil_factory.proofs.controls.identity.Goals as goal
@@ -11,3 +11,7 @@ add_row-requires-clause-entries c = omega (arith, entries-count 0 c.loop-v.v, ap
 
 pub loop-v-preserved : goal.loop-v-preserved
 loop-v-preserved c = c.in_ok-add_row.ensures.added ∙ rows-more c.args.points c.loop-v.v c.loop-v.builder.table c.loop-v.invariant
+
+-- asked for by name, so that a body that breaks it is refused at once
+pub returns : goal.returns
+returns c = search rules

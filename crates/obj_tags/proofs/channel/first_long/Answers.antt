@@ -1,0 +1,6 @@
+use Rattle.std.proofs.Common.{rules}
+use Rattle.obj_tags.proofs.channel.first_long.Goals as goal
+
+-- asked for by name, so that a body that breaks it is refused at once
+pub returns-in-Some : goal.returns-in-Some
+returns-in-Some c = search rules

@@ -1,0 +1,6 @@
+use Rattle.std.proofs.Common.{rules}
+use Rattle.stencil_factory.proofs.compose.sum_rows.Goals as goal
+
+-- asked for by name, so that a body that breaks it is refused at once
+pub returns-clause-entries : goal.returns-clause-entries
+returns-clause-entries c = search rules
