@@ -1,5 +1,6 @@
-use Rattle.std.proofs.Common.{◌∙◌, pos}
-use Rattle.obj_out.proofs.PutsLemmas.{puts-next, puts-stop}
+use Rattle.std.proofs.Common.{ap, take_all, ◌∙◌, pos}
+use Rattle.std.specs.List.{flat_map}
+use Rattle.obj_out.proofs.PutsLemmas.{puts-next, puts-same, puts-stop}
 use Rattle.ratio128.specs.declared.point.Point3.{Point3}
 use Rattle.primvar_refine.specs.declared.valued.Valued.{Valued}
 use Rattle.level_text.specs.Lines.{valued_line}
@@ -21,3 +22,7 @@ loop-p-preserved g c = record {
       puts-next _ _ _ (valued_line c.args.decimals c.args.common) c.args.points.now c.loop-p.p-index none c.loop-p-test.true _ _ _ _ _ _ _ _ _ _ c.loop-p.invariant.puts
       c.in_ok-put_valued.ensures.puts;
 }
+
+pub returns-clause-puts : goal.returns-clause-puts
+returns-clause-puts g c =
+    puts-same _ _ _ _ _ _ _ _ _ _ _ _ (ap (flat_map (valued_line c.args.decimals c.args.common)) (take_all c.loop-p.p-index c.args.points.now c.loop-p-test.false)) c.loop-p.invariant.puts
