@@ -33,7 +33,7 @@ RUST = set(
     Display Vec get split_once
     """.split()
 )
-RATTLE = set("abbrev data ensures ghost invariant new old record requires result rt rw search std subst unfoldable".split())
+RATTLE = set("abbrev data ensures ghost grind invariant new old record requires result rt rw search std subst unfoldable".split())
 TOOLCHAIN = {"proved"}
 CASE_FILES = {"stdin", "stdout", "stderr"}
 REFUSED = {"V", "nan"}
