@@ -16,6 +16,7 @@ pub mod LineLemmas
 pub mod PiecesLemmas
 pub mod QuadLemmas
 pub mod TagLemmas
+pub mod TagNameLemmas
 pub mod TagKindLemmas
 pub mod TagKeptLemmas
 pub mod DraftLemmas

@@ -1,5 +1,5 @@
 -- Numbers of OBJ text: those that are kept, those over a common denominator, and what a sharpness says.
-use Rattle.std.proofs.Common.{◌≡◌, ℕ, zero, suc, ◌+◌, ◌*◌, ◌/◌, ◌^◌, ◌<◌, ◌≤◌, ℤ, pos, unsigned_abs, ◌*ℤ◌, Bool, true, false, ◌&&◌, ◌||◌, nat_lt, nat_le, List, None, Some, arith, refl, ap, sym, ◌∙◌, FitsSigned, if◌then◌else◌, ◌⊎◌, inl, inr}
+use Rattle.std.proofs.Common.{◌≡◌, ℕ, zero, suc, ◌+◌, ◌*◌, ◌^◌, ◌<◌, ◌≤◌, ℤ, pos, unsigned_abs, ◌*ℤ◌, Bool, true, false, ◌&&◌, ◌||◌, nat_lt, nat_le, List, None, Some, arith, refl, ap, sym, ◌∙◌, FitsSigned, if◌then◌else◌, ◌⊎◌, inl, inr}
 use Rattle.std.specs.Int.{w128}
 use Rattle.std.proofs.lemmas.Bool.Decides.{nat_tests}
 use Rattle.std.proofs.lemmas.Grind.{pow_more}

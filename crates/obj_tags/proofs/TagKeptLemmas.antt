@@ -1,13 +1,10 @@
 -- A line of tags is kept by the kind of its tag.
-use Rattle.std.proofs.Common.{◌≡◌, ℕ, ◌+◌, ◌<◌, Bool, true, false, List, [], ◌∷◌, ◌++◌, length, map, take, get_or, Option, Some, None, Result, arith, refl, ap, sym, subst, ◌∙◌, append-nil, codes}
-use Rattle.std.specs.Bool.{if◌then◌else◌}
-use Rattle.std.specs.Str.{bytes_eq}
+use Rattle.std.proofs.Common.{◌≡◌, ℕ, ◌+◌, ◌<◌, true, List, [], ◌∷◌, ◌++◌, length, map, take, get_or, Option, Some, None, Result, arith, refl, ap, sym, subst, ◌∙◌, append-nil, codes}
 use Rattle.std.proofs.lemmas.Bool.{eqb-true}
 use Rattle.std.proofs.lemmas.Result.{MatchResult-weaker}
-use Rattle.std.proofs.lemmas.Slice.Eq.{bytes_eq-Decides}
 use Rattle.subdiv_model.specs.ObjFault as fault
 use Rattle.subdiv_model.specs.ObjWord.{Counts}
-use Rattle.subdiv_model.specs.ObjTag.{CreaseTag, CornerTag, HoleTag, BoundaryTag, MethodTag, DroppedTag, kind_of_name, is_dropped_name, tag_values, whole_count, numeral_count, string_count, fits_counts, mode_fault, method_fault, mode_of_word, method_of_word, tag_index_fault, tag_fault, tag_creases, tag_corners, tag_indices}
+use Rattle.subdiv_model.specs.ObjTag.{CreaseTag, CornerTag, HoleTag, BoundaryTag, MethodTag, DroppedTag, tag_values, whole_count, numeral_count, string_count, fits_counts, mode_fault, method_fault, mode_of_word, method_of_word, tag_index_fault, tag_fault, tag_creases, tag_corners, tag_indices}
 use Rattle.sharpness_rules.specs.View.{method_of}
 use Rattle.sharpness_rules.specs.declared.child.Method as sharp
 use Rattle.obj_tags.specs.Kept.{IsLineFault, KeptUnless}
@@ -19,67 +16,8 @@ use Rattle.obj_tags.specs.declared.mesh.Boundary as declared
 use Rattle.obj_tags.specs.declared.mesh.Tags.{Tags}
 use Rattle.obj_tags.specs.declared.tag_counts.TagCounts.{TagCounts}
 use Rattle.obj_tags.specs.declared.tag_counts.TagKind.TheVariants as kind
+use Rattle.obj_tags.proofs.TagNameLemmas.{tag-named}
 use Rattle.obj_tags.proofs.TagKindLemmas.{and-last, boundary-counts, method-counts, boundary-wholes, method-strings, boundary-sound, method-sound, adds-boundary, adds-method}
-
--- the tests of a name, by the kind that they find
-crease-test : (a b c d e f : Bool)
-    → (if a then Some CreaseTag else if b then Some CornerTag else if c then Some HoleTag else if d then Some BoundaryTag else if e then Some MethodTag else if f then Some DroppedTag else None) ≡ Some CreaseTag
-    → a ≡ true
-crease-test true b c d e f h = refl
-crease-test false true c d e f h = cc
-crease-test false false true d e f h = cc
-crease-test false false false true e f h = cc
-crease-test false false false false true f h = cc
-crease-test false false false false false true h = cc
-crease-test false false false false false false h = cc
-
-corner-test : (a b c d e f : Bool)
-    → (if a then Some CreaseTag else if b then Some CornerTag else if c then Some HoleTag else if d then Some BoundaryTag else if e then Some MethodTag else if f then Some DroppedTag else None) ≡ Some CornerTag
-    → b ≡ true
-corner-test true b c d e f h = cc
-corner-test false true c d e f h = refl
-corner-test false false true d e f h = cc
-corner-test false false false true e f h = cc
-corner-test false false false false true f h = cc
-corner-test false false false false false true h = cc
-corner-test false false false false false false h = cc
-
-hole-test : (a b c d e f : Bool)
-    → (if a then Some CreaseTag else if b then Some CornerTag else if c then Some HoleTag else if d then Some BoundaryTag else if e then Some MethodTag else if f then Some DroppedTag else None) ≡ Some HoleTag
-    → c ≡ true
-hole-test true b c d e f h = cc
-hole-test false true c d e f h = cc
-hole-test false false true d e f h = refl
-hole-test false false false true e f h = cc
-hole-test false false false false true f h = cc
-hole-test false false false false false true h = cc
-hole-test false false false false false false h = cc
-
-dropped-test : (a b c d e f : Bool)
-    → (if a then Some CreaseTag else if b then Some CornerTag else if c then Some HoleTag else if d then Some BoundaryTag else if e then Some MethodTag else if f then Some DroppedTag else None) ≡ Some DroppedTag
-    → (a ≡ false) × (b ≡ false) × (c ≡ false) × (d ≡ false) × (e ≡ false)
-dropped-test true b c d e f h = cc
-dropped-test false true c d e f h = cc
-dropped-test false false true d e f h = cc
-dropped-test false false false true e f h = cc
-dropped-test false false false false true f h = cc
-dropped-test false false false false false true h = (refl, refl, refl, refl, refl)
-dropped-test false false false false false false h = cc
-
-crease-name : (name : List ℕ) → kind_of_name name ≡ Some CreaseTag → name ≡ codes "crease"
-crease-name name e =
-    (bytes_eq-Decides name (codes "crease")).0
-    (crease-test (bytes_eq name (codes "crease")) (bytes_eq name (codes "corner")) (bytes_eq name (codes "hole")) (bytes_eq name (codes "interpolateboundary")) (bytes_eq name (codes "creasemethod")) (is_dropped_name name) e)
-
-corner-name : (name : List ℕ) → kind_of_name name ≡ Some CornerTag → name ≡ codes "corner"
-corner-name name e =
-    (bytes_eq-Decides name (codes "corner")).0
-    (corner-test (bytes_eq name (codes "crease")) (bytes_eq name (codes "corner")) (bytes_eq name (codes "hole")) (bytes_eq name (codes "interpolateboundary")) (bytes_eq name (codes "creasemethod")) (is_dropped_name name) e)
-
-hole-name : (name : List ℕ) → kind_of_name name ≡ Some HoleTag → name ≡ codes "hole"
-hole-name name e =
-    (bytes_eq-Decides name (codes "hole")).0
-    (hole-test (bytes_eq name (codes "crease")) (bytes_eq name (codes "corner")) (bytes_eq name (codes "hole")) (bytes_eq name (codes "interpolateboundary")) (bytes_eq name (codes "creasemethod")) (is_dropped_name name) e)
 
 -- the first fault of one word
 one-cause : (fault_of : List ℕ → Option fault.ObjCause) (word : List ℕ) (found : Option fault.ObjCause) → fault_of word ≡ found
@@ -110,7 +48,7 @@ pub kept-crease : (r : Result (Unit {0}) LineFault) (whole : Counts) (words left
     → KeptUnless r (tag_fault whole (codes "t" ∷ words)) (λ _. AddsTag (codes "t" ∷ words) before after)
 kept-crease r whole words left counts before after head corners holes boundary method said =
     let line = codes "t" ∷ words in
-    let name : get_or words 0 [] ≡ codes "crease" = crease-name (get_or words 0 []) head.name in
+    let name : get_or words 0 [] ≡ codes "crease" = tag-named (get_or words 0 []) CreaseTag head.name in
     let same : tag_fault whole line ≡ value_fault whole.point_count counts left = rw (head.name, head.fits, head.numbers.integers, head.numbers.numerals, head.rest) refl in
     let says : chain_creases (indices_said counts left) (sharpnesses_said counts left) ≡ tag_creases line = rw (head.numbers.integers, head.numbers.numerals, head.rest) refl in
     MatchResult-weaker r said
@@ -134,7 +72,7 @@ pub kept-corners : (r : Result (Unit {0}) LineFault) (whole : Counts) (words lef
     → KeptUnless r (tag_fault whole (codes "t" ∷ words)) (λ _. AddsTag (codes "t" ∷ words) before after)
 kept-corners r whole words left counts before after head creases holes boundary method said =
     let line = codes "t" ∷ words in
-    let name : get_or words 0 [] ≡ codes "corner" = corner-name (get_or words 0 []) head.name in
+    let name : get_or words 0 [] ≡ codes "corner" = tag-named (get_or words 0 []) CornerTag head.name in
     let same : tag_fault whole line ≡ value_fault whole.point_count counts left = rw (head.name, head.fits, head.numbers.integers, head.numbers.numerals, head.rest) refl in
     let says : vertex_tags (indices_said counts left) (sharpnesses_said counts left) ≡ tag_corners line = rw (head.numbers.integers, head.numbers.numerals, head.rest) refl in
     MatchResult-weaker r said
@@ -158,7 +96,7 @@ pub kept-holes : (r : Result (Unit {0}) LineFault) (whole : Counts) (words left 
     → KeptUnless r (tag_fault whole (codes "t" ∷ words)) (λ _. AddsTag (codes "t" ∷ words) before after)
 kept-holes r whole words left counts before after head creases corners boundary method said =
     let line = codes "t" ∷ words in
-    let name : get_or words 0 [] ≡ codes "hole" = hole-name (get_or words 0 []) head.name in
+    let name : get_or words 0 [] ≡ codes "hole" = tag-named (get_or words 0 []) HoleTag head.name in
     let same : tag_fault whole line ≡ fault.first_cause (tag_index_fault whole.face_count) (take counts.integers left) = rw (head.name, head.fits, head.numbers.integers, head.rest) refl in
     let says : indices_said counts left ≡ tag_indices line = rw (head.numbers.integers, head.rest) refl in
     MatchResult-weaker r said
@@ -210,8 +148,7 @@ kept-method r whole words (word ∷ rest) counts before method head some said =
 pub kept-dropped : (whole : Counts) (words left : List (List ℕ)) (counts : TagCounts) (tags : Tags) → IsHeadOf kind.Dropped counts left (codes "t" ∷ words)
     → (tag_fault whole (codes "t" ∷ words) ≡ None) × AddsTag (codes "t" ∷ words) tags tags
 kept-dropped whole words left counts tags head =
-    let name = get_or words 0 [] in
-    let other = dropped-test (bytes_eq name (codes "crease")) (bytes_eq name (codes "corner")) (bytes_eq name (codes "hole")) (bytes_eq name (codes "interpolateboundary")) (bytes_eq name (codes "creasemethod")) (is_dropped_name name) head.name in (
+    let other = tag-named (get_or words 0 []) DroppedTag head.name in (
       rw (head.name, head.fits),
       record {
         creases = rw (other.0, append-nil);

@@ -1,10 +1,7 @@
 -- A tag of one value: the boundary mode or the method.
 use Rattle.std.proofs.Common.{◌≡◌, ℕ, ◌+◌, Bool, true, false, ◌&&◌, nat_eq, List, [], ◌∷◌, length, take, drop, get_or, Some, None, arith, refl, ap, sym, ◌∙◌, append-nil, codes}
-use Rattle.std.specs.Bool.{if◌then◌else◌}
-use Rattle.std.specs.Str.{bytes_eq}
 use Rattle.std.proofs.lemmas.Bool.{eqb-true}
 use Rattle.std.proofs.lemmas.Bool.Decides.{nat_tests}
-use Rattle.std.proofs.lemmas.Slice.Eq.{bytes_eq-Decides}
 use Rattle.subdiv_model.specs.ObjWord.{Counts}
 use Rattle.subdiv_model.specs.Boundary.{Boundary}
 use Rattle.subdiv_model.specs.Sharpness.{Method}
@@ -14,7 +11,8 @@ use Rattle.obj_tags.specs.View.{boundary_of}
 use Rattle.obj_tags.specs.TagAdded.{AddsTag}
 use Rattle.obj_tags.specs.declared.mesh.Boundary as declared
 use Rattle.obj_tags.specs.declared.mesh.Tags.{Tags}
-use Rattle.subdiv_model.specs.ObjTag.{CreaseTag, CornerTag, HoleTag, BoundaryTag, MethodTag, DroppedTag, kind_of_name, is_dropped_name, tag_name, tag_values, tag_wholes, tag_strings, whole_count, numeral_count, string_count, may_have, fits_counts, mode_of_word, method_of_word, tag_fault, tag_mode, tag_method}
+use Rattle.obj_tags.proofs.TagNameLemmas.{tag-named}
+use Rattle.subdiv_model.specs.ObjTag.{BoundaryTag, MethodTag, kind_of_name, tag_name, tag_values, tag_wholes, tag_strings, whole_count, numeral_count, string_count, may_have, fits_counts, mode_of_word, method_of_word, tag_fault, tag_mode, tag_method}
 
 pub and-last : (a b c : Bool) → (a && b && c) ≡ true → (b ≡ true) × (c ≡ true)
 and-last true true c e = (refl, e)
@@ -63,45 +61,12 @@ method-sound whole line word rest method kind fits e says =
     let strings : tag_strings line ≡ word ∷ [] = method-strings line word rest fits e in
     (rw (kind, fits, strings, says), rw (strings, says))
 
--- the names of the two kinds, by which of the tests of a name is met
-boundary-test : (a b c d e f : Bool)
-    → (if a then Some CreaseTag else if b then Some CornerTag else if c then Some HoleTag else if d then Some BoundaryTag else if e then Some MethodTag else if f then Some DroppedTag else None) ≡ Some BoundaryTag
-    → d ≡ true
-boundary-test true b c d e f h = cc
-boundary-test false true c d e f h = cc
-boundary-test false false true d e f h = cc
-boundary-test false false false true e f h = refl
-boundary-test false false false false true f h = cc
-boundary-test false false false false false true h = cc
-boundary-test false false false false false false h = cc
-
-method-test : (a b c d e f : Bool)
-    → (if a then Some CreaseTag else if b then Some CornerTag else if c then Some HoleTag else if d then Some BoundaryTag else if e then Some MethodTag else if f then Some DroppedTag else None) ≡ Some MethodTag
-    → e ≡ true
-method-test true b c d e f h = cc
-method-test false true c d e f h = cc
-method-test false false true d e f h = cc
-method-test false false false true e f h = cc
-method-test false false false false true f h = refl
-method-test false false false false false true h = cc
-method-test false false false false false false h = cc
-
-boundary-name : (name : List ℕ) → kind_of_name name ≡ Some BoundaryTag → name ≡ codes "interpolateboundary"
-boundary-name name e =
-    (bytes_eq-Decides name (codes "interpolateboundary")).0
-    (boundary-test (bytes_eq name (codes "crease")) (bytes_eq name (codes "corner")) (bytes_eq name (codes "hole")) (bytes_eq name (codes "interpolateboundary")) (bytes_eq name (codes "creasemethod")) (is_dropped_name name) e)
-
-method-name : (name : List ℕ) → kind_of_name name ≡ Some MethodTag → name ≡ codes "creasemethod"
-method-name name e =
-    (bytes_eq-Decides name (codes "creasemethod")).0
-    (method-test (bytes_eq name (codes "crease")) (bytes_eq name (codes "corner")) (bytes_eq name (codes "hole")) (bytes_eq name (codes "interpolateboundary")) (bytes_eq name (codes "creasemethod")) (is_dropped_name name) e)
-
 -- such a tag sets the mode, or the method, and nothing else
 pub adds-boundary : (words : List (List ℕ)) (before : Tags) (mode : declared.Boundary)
     → kind_of_name (tag_name (codes "t" ∷ words)) ≡ Some BoundaryTag → tag_mode (codes "t" ∷ words) ≡ boundary_of mode
     → AddsTag (codes "t" ∷ words) before (record before { boundary = mode })
 adds-boundary words before mode kind says =
-    let name : get_or words 0 [] ≡ codes "interpolateboundary" = boundary-name (get_or words 0 []) kind in
+    let name : get_or words 0 [] ≡ codes "interpolateboundary" = tag-named (get_or words 0 []) BoundaryTag kind in
     record {
       creases = rw (name, append-nil);
       corners = rw (name, append-nil);
@@ -114,7 +79,7 @@ pub adds-method : (words : List (List ℕ)) (before : Tags) (method : sharp.Meth
     → kind_of_name (tag_name (codes "t" ∷ words)) ≡ Some MethodTag → tag_method (codes "t" ∷ words) ≡ method_of method
     → AddsTag (codes "t" ∷ words) before (record before { method = method })
 adds-method words before method kind says =
-    let name : get_or words 0 [] ≡ codes "creasemethod" = method-name (get_or words 0 []) kind in
+    let name : get_or words 0 [] ≡ codes "creasemethod" = tag-named (get_or words 0 []) MethodTag kind in
     record {
       creases = rw (name, append-nil);
       corners = rw (name, append-nil);

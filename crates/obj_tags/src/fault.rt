@@ -31,7 +31,7 @@ pub enum ObjCause {
     /// A sharpness is below 0, or below 10 and a decimal of more than six decimals, or a fraction whose
     /// denominator in lowest terms passes 10^6.
     SharpnessRange,
-    /// A move names no control point. Moves are not built yet, and `read_obj` never answers this.
+    /// A move names no control point. Moves are no OBJ text: `read_obj` never answers this.
     MoveIndex,
     /// A move has more decimals than the scale; `read_obj` never answers this.
     TooFine,
