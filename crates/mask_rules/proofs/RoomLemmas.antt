@@ -1,5 +1,5 @@
 -- Room for terms that are put one after another.
-use Rattle.std.proofs.Common.{◌≡◌, ℕ, ◌+◌, ◌≤◌, arith, refl, ◌∙◌}
+use Rattle.std.proofs.Common.{◌≡◌, ℕ, ◌+◌, ◌≤◌, arith, ◌∙◌}
 use Rattle.smallvec.specs.SmallVec.{SmallVec, small_vec_len, HasRoomFor}
 use Rattle.mask_rules.specs.declared.mask.Term.{Term}
 use Rattle.mask_rules.specs.Room.{Grows}

@@ -1,4 +1,4 @@
-use Rattle.std.proofs.Common.{◌≡◌, map, ap, rules, ◌∙◌}
+use Rattle.std.proofs.Common.{map, ap, rules, ◌∙◌}
 use Rattle.stencil_apply.specs.Table.{Row, Table}
 use Rattle.stencil_apply.proofs.TableLemmas.{dens_are}
 use Rattle.stencil_apply.proofs.table.StencilTable.denominators.Goals as goal
