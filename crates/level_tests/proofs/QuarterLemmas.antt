@@ -13,6 +13,18 @@ use Rattle.level_topology.specs.Child.{PointOrigin, same_origin, same_place, IsO
 use Rattle.level_topology.proofs.ChildLemmas.{same_origin-refl, same_origin-true, same_place-refl, same_place-true}
 use Rattle.level_tests.specs.Squares.{square_rows, quarter_rows, quarter_origins, quarter_places, square, quarter}
 
+-- what holds of 0, or of the first four numbers, holds of all below 1, or below 4
+by-one : (P : ℕ → Type 0) → P 0 → (k : ℕ) → k < 1 → P k
+by-one P a zero h = a
+by-one P a (suc k) h = absurd (omega arith)
+
+by-four : (P : ℕ → Type 0) → P 0 → P 1 → P 2 → P 3 → (k : ℕ) → k < 4 → P k
+by-four P a b c d zero h = a
+by-four P a b c d (suc zero) h = b
+by-four P a b c d (suc (suc zero)) h = c
+by-four P a b c d (suc (suc (suc zero))) h = d
+by-four P a b c d (suc (suc (suc (suc k)))) h = absurd (omega arith)
+
 -- one face at a point, the edge before it and the edge after it
 fan-of-one : (polygons : List Polygon) (v f before after : ℕ) → edge_before polygons v f ≡ before → edge_after polygons v f ≡ after → IsFan polygons v (f ∷ []) (before ∷ after ∷ [])
 fan-of-one polygons v f before after e g = record {
@@ -42,8 +54,7 @@ quads-short (polygon ∷ polygons) each zero d h = omega (arith, each 0 (omega a
 quads-short (polygon ∷ polygons) each (suc k) d h = quads-short polygons (λ j inside. each (suc j) (omega arith)) k d (omega arith)
 
 square-quads : (k : ℕ) → k < 1 → length (get_or square_rows.face_vertices k []) ≡ 4
-square-quads zero h = refl
-square-quads (suc k) h = absurd (omega arith)
+square-quads = by-one (λ k. length (get_or square_rows.face_vertices k []) ≡ 4) refl
 
 square-listed : (v : ℕ) → v < 4 → IsListedAt (topology_of square_rows) v
 square-listed zero h = record {
@@ -77,8 +88,7 @@ square-listed (suc (suc (suc zero))) h = record {
 square-listed (suc (suc (suc (suc v)))) h = absurd (omega arith)
 
 quarter-quads : (k : ℕ) → k < 1 → length (get_or quarter_rows.face_vertices k []) ≡ 4
-quarter-quads zero h = refl
-quarter-quads (suc k) h = absurd (omega arith)
+quarter-quads = by-one (λ k. length (get_or quarter_rows.face_vertices k []) ≡ 4) refl
 
 quarter-listed : (v : ℕ) → v < 4 → IsListedAt (topology_of quarter_rows) v
 quarter-listed zero h = record {
@@ -128,23 +138,9 @@ square-of-level = record {
   edge_faces = refl;
   faces_listed = refl;
   edges_listed = refl;
-  corners = corners;
-  ends = ends;
+  corners = by-four (λ v. get_or square_rows.vertex_faces_at v [] ≡ map (corner_of square_rows.face_vertices v) (get_or square_rows.vertex_faces v [])) refl refl refl refl;
+  ends = by-four (λ v. get_or square_rows.vertex_edges_at v [] ≡ map (end_of square_rows.face_vertices v) (get_or square_rows.vertex_edges v [])) refl refl refl refl;
 }
-  where
-    corners : (v : ℕ) → v < 4 → get_or square_rows.vertex_faces_at v [] ≡ map (corner_of square_rows.face_vertices v) (get_or square_rows.vertex_faces v [])
-    corners zero h = refl
-    corners (suc zero) h = refl
-    corners (suc (suc zero)) h = refl
-    corners (suc (suc (suc zero))) h = refl
-    corners (suc (suc (suc (suc v)))) h = absurd (omega arith)
-
-    ends : (v : ℕ) → v < 4 → get_or square_rows.vertex_edges_at v [] ≡ map (end_of square_rows.face_vertices v) (get_or square_rows.vertex_edges v [])
-    ends zero h = refl
-    ends (suc zero) h = refl
-    ends (suc (suc zero)) h = refl
-    ends (suc (suc (suc zero))) h = refl
-    ends (suc (suc (suc (suc v)))) h = absurd (omega arith)
 
 pub quarter-of-level : AreOfLevel quarter_rows
 quarter-of-level = record {
@@ -163,23 +159,9 @@ quarter-of-level = record {
   edge_faces = refl;
   faces_listed = refl;
   edges_listed = refl;
-  corners = corners;
-  ends = ends;
+  corners = by-four (λ v. get_or quarter_rows.vertex_faces_at v [] ≡ map (corner_of quarter_rows.face_vertices v) (get_or quarter_rows.vertex_faces v [])) refl refl refl refl;
+  ends = by-four (λ v. get_or quarter_rows.vertex_edges_at v [] ≡ map (end_of quarter_rows.face_vertices v) (get_or quarter_rows.vertex_edges v [])) refl refl refl refl;
 }
-  where
-    corners : (v : ℕ) → v < 4 → get_or quarter_rows.vertex_faces_at v [] ≡ map (corner_of quarter_rows.face_vertices v) (get_or quarter_rows.vertex_faces v [])
-    corners zero h = refl
-    corners (suc zero) h = refl
-    corners (suc (suc zero)) h = refl
-    corners (suc (suc (suc zero))) h = refl
-    corners (suc (suc (suc (suc v)))) h = absurd (omega arith)
-
-    ends : (v : ℕ) → v < 4 → get_or quarter_rows.vertex_edges_at v [] ≡ map (end_of quarter_rows.face_vertices v) (get_or quarter_rows.vertex_edges v [])
-    ends zero h = refl
-    ends (suc zero) h = refl
-    ends (suc (suc zero)) h = refl
-    ends (suc (suc (suc zero))) h = refl
-    ends (suc (suc (suc (suc v)))) h = absurd (omega arith)
 
 -- the levels are those of the tables
 pub square-is : square ≡ topology_of square_rows
@@ -226,8 +208,7 @@ quarter-places-within zero d h = omega arith
 quarter-places-within (suc k) d h = absurd (omega arith)
 
 quarter-corners : (f : ℕ) → f < 1 → origins_along quarter_origins (get_or quarter_rows.face_vertices f []) ≡ corner_origins square_rows.face_vertices (get_or quarter_places f (0, 0))
-quarter-corners zero h = refl
-quarter-corners (suc f) h = absurd (omega arith)
+quarter-corners = by-one (λ f. origins_along quarter_origins (get_or quarter_rows.face_vertices f []) ≡ corner_origins square_rows.face_vertices (get_or quarter_places f (0, 0))) refl
 
 quarter-distinct : IsDistinct same_origin quarter_origins
 unfolding IsDistinct
