@@ -25,22 +25,27 @@ maps-equal f g d e (x ∷ xs) (y ∷ ys) same h =
     let behind = maps-equal f g d e xs ys (omega (arith, same)) (λ k inside. h (suc k) (omega (arith, inside))) in
     ap (λ z. z ∷ map f xs) first ∙ ap (λ zs. g y ∷ zs) behind
 
-pub of-level : (counts : Counts) (polygons : List Polygon) (holes : List Bool) (n : Numbered) (vertices : List Sharpness) (method : Method) (complete : List Bool) (numbers faces at edges ends : List (List ℕ)) → IsBuilt (built_of (length complete) polygons holes n.sharpness vertices method complete) n numbers → AreRows polygons complete (length complete) faces at edges ends → AreOfLevel (record {
+-- the tables of these lists
+abbrev pub tables_of : Counts → List Polygon → List Bool → List (ℕ × ℕ) → List (ℕ × ℕ) → List Sharpness → List Sharpness → Method → List Bool → List (List ℕ) → List (List ℕ) → List (List ℕ) → List (List ℕ) → List (List ℕ) → Rows
+tables_of counts polygons holes ends pairs sharp vertices method complete numbers faces at edges others = record {
   counts = counts;
   method = method;
   face_vertices = polygons;
   face_edges = numbers;
   holes = holes;
-  edge_vertices = n.ends;
-  edge_faces = map faces_of_pair n.faces;
-  edge_sharpness = n.sharpness;
+  edge_vertices = ends;
+  edge_faces = map faces_of_pair pairs;
+  edge_sharpness = sharp;
   vertex_faces = faces;
   vertex_faces_at = at;
   vertex_edges = edges;
-  vertex_edges_at = ends;
+  vertex_edges_at = others;
   vertex_sharpness = vertices;
   complete = complete;
-})
+}
+
+-- they are those of the level that was built
+pub of-level : (counts : Counts) (polygons : List Polygon) (holes : List Bool) (n : Numbered) (vertices : List Sharpness) (method : Method) (complete : List Bool) (numbers faces at edges ends : List (List ℕ)) → IsBuilt (built_of (length complete) polygons holes n.sharpness vertices method complete) n numbers → AreRows polygons complete (length complete) faces at edges ends → AreOfLevel (tables_of counts polygons holes n.ends n.faces n.sharpness vertices method complete numbers faces at edges ends)
 of-level counts polygons holes n vertices method complete numbers faces at edges ends is are =
     let own = numbered-ends polygons n is.numbering in
     record {
@@ -69,41 +74,8 @@ of-level counts polygons holes n vertices method complete numbers faces at edges
       ends = λ v h. (are.rows v h).ends_are;
     }
 
-abbrev tables_of : Counts → List Polygon → List Bool → List (ℕ × ℕ) → List (ℕ × ℕ) → List Sharpness → List Sharpness → Method → List Bool → List (List ℕ) → List (List ℕ) → List (List ℕ) → List (List ℕ) → List (List ℕ) → Rows
-tables_of counts polygons holes ends pairs sharp vertices method complete numbers faces at edges others = record {
-  counts = counts;
-  method = method;
-  face_vertices = polygons;
-  face_edges = numbers;
-  holes = holes;
-  edge_vertices = ends;
-  edge_faces = map faces_of_pair pairs;
-  edge_sharpness = sharp;
-  vertex_faces = faces;
-  vertex_faces_at = at;
-  vertex_edges = edges;
-  vertex_edges_at = others;
-  vertex_sharpness = vertices;
-  complete = complete;
-}
-
 -- the same for tables that are equal to these
-pub of-level-same : (counts : Counts) (polygons : List Polygon) (holes : List Bool) (n : Numbered) (vertices : List Sharpness) (method : Method) (complete : List Bool) (numbers faces at edges others : List (List ℕ)) (ends pairs : List (ℕ × ℕ)) (sharp kept : List Sharpness) → IsBuilt (built_of (length complete) polygons holes n.sharpness vertices method complete) n numbers → AreRows polygons complete (length complete) faces at edges others → ends ≡ n.ends → pairs ≡ n.faces → sharp ≡ n.sharpness → kept ≡ vertices → AreOfLevel (record {
-  counts = counts;
-  method = method;
-  face_vertices = polygons;
-  face_edges = numbers;
-  holes = holes;
-  edge_vertices = ends;
-  edge_faces = map faces_of_pair pairs;
-  edge_sharpness = sharp;
-  vertex_faces = faces;
-  vertex_faces_at = at;
-  vertex_edges = edges;
-  vertex_edges_at = others;
-  vertex_sharpness = kept;
-  complete = complete;
-})
+pub of-level-same : (counts : Counts) (polygons : List Polygon) (holes : List Bool) (n : Numbered) (vertices : List Sharpness) (method : Method) (complete : List Bool) (numbers faces at edges others : List (List ℕ)) (ends pairs : List (ℕ × ℕ)) (sharp kept : List Sharpness) → IsBuilt (built_of (length complete) polygons holes n.sharpness vertices method complete) n numbers → AreRows polygons complete (length complete) faces at edges others → ends ≡ n.ends → pairs ≡ n.faces → sharp ≡ n.sharpness → kept ≡ vertices → AreOfLevel (tables_of counts polygons holes ends pairs sharp kept method complete numbers faces at edges others)
 of-level-same counts polygons holes n vertices method complete numbers faces at edges others ends pairs sharp kept is are e p s k =
     subst (λ x. AreOfLevel (tables_of counts polygons holes ends pairs sharp x method complete numbers faces at edges others)) (sym k)
     (subst (λ x. AreOfLevel (tables_of counts polygons holes ends pairs x vertices method complete numbers faces at edges others)) (sym s)
