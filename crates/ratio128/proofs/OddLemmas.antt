@@ -1,6 +1,6 @@
 -- Factors of two: what is left of a number without them, and that a common divisor may be found without them.
 use Rattle.std.proofs.Common.{◌≡◌, ◌≢◌, ◌⊎◌, ℕ, zero, suc, ◌+◌, ◌-◌, ◌*◌, ◌/◌, ◌%◌, ◌^◌, ◌<◌, ◌≤◌, min, inl, inr, arith, subst, sym, ap, ◌∙◌}
-use Rattle.std.specs.Int.{IsGcd, ◌∣◌, bit_at, w128, trailing_zeros}
+use Rattle.std.specs.Int.{IsGcd, ◌∣◌, bit_at, w64, w128, trailing_zeros}
 use Rattle.std.proofs.lemmas.Bool.{cases_lt}
 use Rattle.std.proofs.lemmas.Nat.{pow_pos, pow-add, shr-shr}
 use Rattle.std.proofs.lemmas.Nat.Bits.{bit_at-suc, bit_at_lowest, bit_at-trailing_zeros}
@@ -105,3 +105,11 @@ quotient-without-twos a b some fits =
 
 pub odd-part-positive : (b : ℕ) → 0 < b → b < 2 ^ 128 → 0 < b / 2 ^ trailing_zeros w128 b
 odd-part-positive b some fits = let odd = odd-part b some fits in omega (arith, odd)
+
+-- a number that is 1 without its factors of two divides as that power of two
+pub power-quotient : (a b : ℕ) → 0 < b → b < 2 ^ 64 → b / 2 ^ trailing_zeros w64 b ≡ 1 → a / 2 ^ trailing_zeros w64 b ≡ a / b
+power-quotient a b some fits one =
+    let twos = trailing_zeros w64 b in
+    let whole : b / 2 ^ twos * 2 ^ twos ≡ b = whole-multiple twos b (bit_at-trailing_zeros w64 b some fits).2 in
+    let once : 2 ^ twos ≡ 1 * 2 ^ twos = omega arith in
+    ap (λ n. a / n) (once ∙ ap (λ n. n * 2 ^ twos) (sym one) ∙ whole)
