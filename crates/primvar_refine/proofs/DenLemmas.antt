@@ -1,4 +1,4 @@
--- The denominators of all that is made are short: that of a face that some mask names divides the mask's.
+-- The denominators of all that is made: they are above 0, and that of a face that some mask names divides the mask's.
 use Rattle.std.proofs.Common.{◌≡◌, ℕ, zero, suc, ◌*◌, ◌<◌, ◌≤◌, Bool, true, false, nat_lt, nat_le, List, [], ◌∷◌, length, map, get_or, arith, refl, ap, sym, ◌∙◌, subst}
 use Rattle.std.specs.List.{AllByRecursion, list_any}
 use Rattle.std.specs.Int.{◌∣◌}
@@ -12,7 +12,7 @@ use Rattle.subdiv_model.specs.Level.{Level, edge_sharpness_of}
 use Rattle.subdiv_model.specs.Multiples.{lcm_of_all}
 use Rattle.subdiv_model.specs.Mask.{Scheme, CatmullClark, Linear, SourcePoint, OfPoint, OfFace, Term, same_source, has_source, is_source_of, edge_mask, vertex_mask, mask_of_edge, sharp_edge_mask, blended_edge_mask}
 use Rattle.subdiv_model.specs.Refined.{mask_denominator, source_denominator}
-use Rattle.number_laws.proofs.MultipleLemmas.{lcm_of_all-positive, each-divides}
+use Rattle.number_laws.proofs.MultipleLemmas.{lcm_of_all-positive, each-divides, product-positive}
 use Rattle.sharpness_laws.proofs.JoinedWeightLemmas.{source-eq}
 use Rattle.mask_laws.proofs.ListLemmas.{each-passes}
 use Rattle.mask_rules.specs.Around.{HasSharpBoundaryAt}
@@ -133,3 +133,13 @@ module _ (parent : Topology) (child : ChildTopology) (scheme : Scheme) (rows : L
       bound : (a b c q : ℕ) → a ≡ b → a ≤ c → 0 < q → b ≤ q * c
       bound a b c zero e h k = absurd (omega (arith, k))
       bound a b c (suc q) e h k = omega (arith, e, h, grown c q)
+
+  -- the denominator of each child point is above 0
+  pub den-positive : (p : ℕ) → p < length child.origins → 0 < den_of (origin_at child.origins p)
+  den-positive p inside =
+      let origin = origin_at child.origins p in
+      let within : Within origin = origin-within parent child scheme has can p inside in
+      let mask = mask_from parent.level scheme origin in
+      let passed = each-passes (λ (t : Term). is_source_of parent.level t.source) mask.terms (mask-inside parent.level (is-over parent is) scheme origin within) in
+      product-positive mask.denominator (lcm_of_all (map (λ t. source_denominator parent.level (dens_of rows) t.source) mask.terms)) (mask-positive origin (there-at p inside) within)
+      (lcm_of_all-positive (map (λ t. source_denominator parent.level (dens_of rows) t.source) mask.terms) (positive-terms mask.terms passed))

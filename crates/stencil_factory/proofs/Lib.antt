@@ -11,7 +11,6 @@ pub mod ControlLemmas
 pub mod RowSumLemmas
 pub mod SupportLemmas
 pub mod RowLemmas
-pub mod PositiveLemmas
 pub mod SurveyLemmas
 pub mod ComposedLemmas
 pub mod MarkLemmas

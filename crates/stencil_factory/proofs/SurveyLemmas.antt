@@ -16,7 +16,7 @@ use Rattle.primvar_refine.specs.Survey.{IsSurvey}
 use Rattle.primvar_refine.specs.Found.{ArePointDenominators, dens_from, IsFoundOver, IsFaultOver}
 use Rattle.primvar_refine.specs.declared.survey.Survey.{Survey}
 use Rattle.primvar_refine.specs.declared.fault.ValueFault.TheVariants.{Transition, Denominator}
-use Rattle.stencil_factory.proofs.PositiveLemmas.{den-positive}
+use Rattle.primvar_refine.proofs.DenLemmas.{den-positive}
 use Rattle.stencil_apply.specs.Table.{Row, Table, IsTable}
 use Rattle.stencil_factory.specs.Rows.{dens_of}
 
