@@ -13,7 +13,7 @@ use Rattle.subdiv_model.specs.Channel.{Channel, Tables, number_bound}
 use Rattle.ratio128.specs.Numbers.{zeros, greatest_amount}
 use Rattle.level_topology.specs.Topology.{Topology}
 use Rattle.primvar_refine.specs.Rows.{Row, row_at, dens_of, value_at, StandFor}
-use Rattle.primvar_refine.proofs.AmountLemmas.{IsWithin, IsWithin-zeros, greatest-within, length-zeros}
+use Rattle.ratio128.proofs.AmountLemmas.{IsWithin, IsWithin-zeros, greatest-within, length-zeros}
 use Rattle.primvar_refine.proofs.TermSumLemmas.{zeros-at}
 use Rattle.stencil_apply.specs.Table.{Share, Row as TableRow, Table, IsRow, IsTable, greatest_of, entries_of, total_of, sum_of_row}
 use Rattle.stencil_apply.specs.Table as table

@@ -9,7 +9,7 @@ use Rattle.primvar_refine.specs.Rows as rows
 use Rattle.primvar_refine.specs.View.{row_of, rows_of}
 use Rattle.subdiv_model.specs.Channel.{number_bound}
 use Rattle.ratio128.specs.Numbers.{zeros, greatest_amount}
-use Rattle.primvar_refine.proofs.AmountLemmas.{length-zeros}
+use Rattle.ratio128.proofs.AmountLemmas.{length-zeros}
 use Rattle.stencil_apply.specs.Table.{Share, Row, Table, IsRow, IsTable, greatest_of, total_of, row_at, sum_of_row}
 use Rattle.channel_refine.specs.Evaluated.{CanEvaluate}
 

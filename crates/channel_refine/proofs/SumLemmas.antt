@@ -5,7 +5,7 @@ use Rattle.std.proofs.Math.IntN.{*ℤ-zero, +ℤ_idl, +ℤ_idr, +ℤ_assoc}
 use Rattle.std.proofs.lemmas.List.Sums.{sum_by-cons}
 use Rattle.ratio128.specs.Numbers.{plus_times, greatest_amount}
 use Rattle.stencil_apply.specs.Table.{Share, total_of, sum_of_shares}
-use Rattle.primvar_refine.proofs.AmountLemmas.{IsWithin, IsWithin-greatest, IsWithin-plus_times, length-plus_times}
+use Rattle.ratio128.proofs.AmountLemmas.{IsWithin, IsWithin-greatest, IsWithin-plus_times, length-plus_times}
 use Rattle.stencil_factory.specs.Rows.{share_sum}
 use Rattle.channel_refine.specs.Refined.{column_of}
 use Rattle.channel_refine.specs.Evaluated.{control_rows}

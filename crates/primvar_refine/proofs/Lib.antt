@@ -10,7 +10,6 @@ pub mod TransitionLemmas
 pub mod FoundLemmas
 pub mod SurveyLemmas
 pub mod BoundLemmas
-pub mod AmountLemmas
 pub mod TermSumLemmas
 pub mod MadeLemmas
 pub mod SeenLemmas

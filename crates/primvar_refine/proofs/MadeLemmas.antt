@@ -25,7 +25,7 @@ use Rattle.mask_rules.specs.Masks.{IsMask}
 use Rattle.primvar_refine.specs.Rows.{Row, row_at, dens_of, StandFor, AreWithin, AreGood, least_bound, rounded_up}
 use Rattle.primvar_refine.specs.Sums.{source_row, HasRow, term_sums, IsSummand, CanSum}
 use Rattle.primvar_refine.specs.Made.{IsRowOf, IsMade, CanMake}
-use Rattle.primvar_refine.proofs.AmountLemmas.{IsWithin-zeros, greatest-within, length-zeros}
+use Rattle.ratio128.proofs.AmountLemmas.{IsWithin-zeros, greatest-within, length-zeros}
 use Rattle.primvar_refine.proofs.TermSumLemmas.{term_sums-at, term_sums-within, length-term_sums, zeros-at}
 
 -- a point's own row

@@ -13,7 +13,7 @@ use Rattle.mask_laws.proofs.SumLemmas.{weighted_sum}
 use Rattle.ratio128.specs.Numbers.{plus_times, CanAdd, zeros, greatest_amount}
 use Rattle.primvar_refine.specs.Rows.{Row}
 use Rattle.primvar_refine.specs.Sums.{weight_over, term_sums, IsSummand, CanSum}
-use Rattle.primvar_refine.proofs.AmountLemmas.{IsWithin, IsWithin-greatest, IsWithin-plus_times, CanAdd-within, length-plus_times}
+use Rattle.ratio128.proofs.AmountLemmas.{IsWithin, IsWithin-greatest, IsWithin-plus_times, CanAdd-within, length-plus_times}
 
 -- one number of the sum
 plus_times-at : (w : ℤ) (xs ys : List ℤ) (c : ℕ) → length xs ≡ length ys

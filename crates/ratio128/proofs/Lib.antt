@@ -1,3 +1,4 @@
 pub mod RatioLemmas
 pub mod LcmLemmas
 pub mod OddLemmas
+pub mod AmountLemmas

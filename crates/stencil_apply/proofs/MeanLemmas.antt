@@ -10,7 +10,7 @@ use Rattle.ratio128.specs.Numbers.{plus_times}
 use Rattle.stencil_apply.specs.Table.{Share, Row, IsRow, total_of, sum_of_shares, sum_of_row}
 use Rattle.stencil_apply.specs.Means.{moved}
 use Rattle.stencil_apply.proofs.ArrayLemmas.{cons_both}
-use Rattle.stencil_apply.proofs.SumLemmas.{length-plus_times}
+use Rattle.ratio128.proofs.AmountLemmas.{length-plus_times}
 
 -- what is true of each is true of the first, and of each after it
 pub all-first : {X : Type 0} (P : X → Type 0) (x : X) (xs : List X) → All P (x ∷ xs) → P x

@@ -1,82 +1,18 @@
--- Bounds of sums of products, and one more entry of a row.
-use Rattle.std.proofs.Common.{◌≡◌, ℕ, suc, ◌+◌, ◌*◌, ◌/◌, ◌^◌, ◌<◌, ◌≤◌, ℤ, pos, negsuc, ◌+ℤ◌, ◌*ℤ◌, unsigned_abs, List, [], ◌∷◌, length, map, take, get_or, to_z, FitsSigned, arith, refl, sym, ap, ◌∙◌}
+-- One more entry of a row.
+use Rattle.std.proofs.Common.{◌≡◌, ℕ, ◌+◌, ◌*◌, ◌/◌, ◌<◌, ◌≤◌, ℤ, pos, List, [], length, map, take, get_or, to_z, FitsSigned, arith, sym, ap, ◌∙◌}
 use Rattle.std.specs.Int.{w128}
 use Rattle.std.specs.List.{zip}
-use Rattle.std.proofs.Math.IntN.{sub_ℕ}
-use Rattle.std.proofs.Math.Nat.{mul-le-mul_left, mul-le-mul_right, mul-div-le, mul_comm}
-use Rattle.std.proofs.lemmas.Bool.Decides.{nat_tests}
-use Rattle.std.proofs.lemmas.Int.{unsigned_abs-mul, to_z_pos}
+use Rattle.std.proofs.Math.Nat.{mul-le-mul_right, mul-div-le, mul_comm}
+use Rattle.std.proofs.lemmas.Int.{to_z_pos}
 use Rattle.std.proofs.lemmas.List.{get_or-map, length-map, take_all}
 use Rattle.std.proofs.lemmas.List.Sums.{sum_by_more_le, sum_by_more, fold_more}
 use Rattle.std.proofs.lemmas.Nat.{le-div}
 use Rattle.std.proofs.lemmas.Slice.Zip.{length-zip, get_or-zip}
 use Rattle.subdiv_model.specs.Channel.{number_bound}
-use Rattle.ratio128.specs.Numbers.{plus_times, CanAdd, zeros, greatest_amount}
+use Rattle.ratio128.specs.Numbers.{plus_times, CanAdd, greatest_amount}
+use Rattle.ratio128.proofs.AmountLemmas.{IsWithin, IsWithin-more, IsWithin-greatest, IsWithin-plus_times, CanAdd-within}
 use Rattle.stencil_apply.specs.Table.{Share, total_of, sum_of_shares}
 use Rattle.stencil_apply.specs.Means.{CanSum}
-
--- no amount passes the bound
-abbrev pub IsWithin : ℕ → List ℤ → Type 0
-IsWithin m [] = Unit {0}
-IsWithin m (x ∷ xs) = (unsigned_abs x ≤ m) × IsWithin m xs
-
--- the same of a greater bound
-pub IsWithin-more : (m n : ℕ) (xs : List ℤ) → m ≤ n → IsWithin m xs → IsWithin n xs
-IsWithin-more m n [] h w = tt
-IsWithin-more m n (x ∷ xs) h w = (omega (arith, w.0), IsWithin-more m n xs h w.1)
-
--- zeros are within each bound
-pub IsWithin-zeros : (m : ℕ) (xs : List ℤ) → IsWithin m (zeros xs)
-IsWithin-zeros m [] = tt
-IsWithin-zeros m (x ∷ xs) = (omega arith, IsWithin-zeros m xs)
-
--- a bound of the greatest amount is one of all
-pub IsWithin-greatest : (m : ℕ) (xs : List ℤ) → greatest_amount xs ≤ m → IsWithin m xs
-IsWithin-greatest m [] h = tt
-IsWithin-greatest m (x ∷ xs) h = (omega arith, IsWithin-greatest m xs (omega arith))
-
--- the amount of a difference and of a sum is at most the sum of both amounts
-unsigned_abs-sub_ℕ : (a b : ℕ) → unsigned_abs (sub_ℕ a b) ≤ a + b
-unsigned_abs-sub_ℕ a b = grind (arith, nat_tests)
-
-pub unsigned_abs-add : (x y : ℤ) → unsigned_abs (x +ℤ y) ≤ unsigned_abs x + unsigned_abs y
-unsigned_abs-add (pos a) (pos b) = omega arith
-unsigned_abs-add (pos a) (negsuc b) = unsigned_abs-sub_ℕ a (suc b)
-unsigned_abs-add (negsuc a) (pos b) = omega (arith, unsigned_abs-sub_ℕ b (suc a))
-unsigned_abs-add (negsuc a) (negsuc b) = omega arith
-
--- the amount of a product
-pub unsigned_abs-times : (w : ℕ) (y : ℤ) (m : ℕ) → unsigned_abs y ≤ m → unsigned_abs (pos w *ℤ y) ≤ w * m
-unsigned_abs-times w y m h = rw unsigned_abs-mul (mul-le-mul_left w h)
-
--- sums keep their length, and so do zeros
-pub length-plus_times : (w : ℤ) (xs ys : List ℤ) → length (plus_times w xs ys) ≡ length xs
-length-plus_times w [] ys = refl
-length-plus_times w (x ∷ xs) [] = refl
-length-plus_times w (x ∷ xs) (y ∷ ys) = grind (arith, length-plus_times w xs ys)
-
-pub length-zeros : (xs : List ℤ) → length (zeros xs) ≡ length xs
-length-zeros [] = refl
-length-zeros (x ∷ xs) = grind (arith, length-zeros xs)
-
--- where amounts are within s and m, those after one more product are within s + w * m
-pub IsWithin-plus_times : (s w m : ℕ) (xs ys : List ℤ) → IsWithin s xs → IsWithin m ys → IsWithin (s + w * m) (plus_times (pos w) xs ys)
-IsWithin-plus_times s w m [] ys hx hy = tt
-IsWithin-plus_times s w m (x ∷ xs) [] hx hy = (omega (arith, hx.0), IsWithin-more s (s + w * m) xs (omega arith) hx.1)
-IsWithin-plus_times s w m (x ∷ xs) (y ∷ ys) hx hy = (
-  omega (arith, unsigned_abs-add x (pos w *ℤ y), unsigned_abs-times w y m hy.0, hx.0),
-  IsWithin-plus_times s w m xs ys hx.1 hy.1,
-)
-
--- what stays below 2^127 can be added
-pub CanAdd-within : (s w m : ℕ) (xs ys : List ℤ) → IsWithin s xs → IsWithin m ys → s + w * m < 2 ^ 127 → CanAdd (pos w) xs ys
-CanAdd-within s w m [] ys hx hy h = tt
-CanAdd-within s w m (x ∷ xs) [] hx hy h = tt
-CanAdd-within s w m (x ∷ xs) (y ∷ ys) hx hy h = (
-  record { kept = omega (arith, unsigned_abs-times w y m hy.0) },
-  record { kept = omega (arith, unsigned_abs-add x (pos w *ℤ y), unsigned_abs-times w y m hy.0, hx.0) },
-  CanAdd-within s w m xs ys hx.1 hy.1 h,
-)
 
 -- an amount that the whole row can be multiplied by
 pub amount_within : (total a bound : ℕ) → 0 < total → total * a ≤ bound → a ≤ bound / total

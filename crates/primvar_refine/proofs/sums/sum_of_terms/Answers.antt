@@ -8,7 +8,7 @@ use Rattle.mask_rules.specs.declared.mask.At.TheVariants.{Point}
 use Rattle.primvar_refine.specs.Rows.{least_bound}
 use Rattle.primvar_refine.specs.View.{rows_of, row_of}
 use Rattle.primvar_refine.specs.Sums.{source_row}
-use Rattle.primvar_refine.proofs.AmountLemmas.{IsWithin-zeros, length-zeros}
+use Rattle.ratio128.proofs.AmountLemmas.{IsWithin-zeros, length-zeros}
 use Rattle.primvar_refine.proofs.TermSumLemmas.{IsSumSoFar, CanTake, none, sum-begins, can-take, sum-goes_on, sum-ends}
 use Rattle.primvar_refine.proofs.sums.sum_of_terms.Given as given
 use Rattle.primvar_refine.proofs.sums.sum_of_terms.Goals as goal

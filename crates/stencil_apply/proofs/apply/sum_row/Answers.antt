@@ -1,5 +1,6 @@
 use Rattle.std.proofs.Common.{arith, length, ap, sym, ◌∙◌}
-use Rattle.stencil_apply.proofs.SumLemmas.{IsWithin-zeros, length-zeros, length-plus_times, in_controls, weight-fits, can_add, within-more, sums-more, sums-all}
+use Rattle.ratio128.proofs.AmountLemmas.{IsWithin-zeros, length-zeros, length-plus_times}
+use Rattle.stencil_apply.proofs.SumLemmas.{in_controls, weight-fits, can_add, within-more, sums-more, sums-all}
 use Rattle.stencil_apply.proofs.apply.sum_row.Goals as goal
 
 pub loop-at-init : goal.loop-at-init

@@ -3,7 +3,7 @@ use Rattle.std.specs.List.{zip}
 use Rattle.subdiv_model.specs.Channel.{number_bound}
 use Rattle.ratio128.specs.Numbers.{zeros}
 use Rattle.stencil_apply.specs.Table.{total_of, sum_of_shares}
-use Rattle.stencil_apply.proofs.SumLemmas.{IsWithin}
+use Rattle.ratio128.proofs.AmountLemmas.{IsWithin}
 use Rattle.stencil_apply.proofs.apply.sum_row.Given as goal
 
 -- the sum so far, its length and its bound, and the steps so far

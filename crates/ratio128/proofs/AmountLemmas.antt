@@ -12,7 +12,7 @@ IsWithin m [] = Unit {0}
 IsWithin m (x ∷ xs) = (unsigned_abs x ≤ m) × IsWithin m xs
 
 -- a greater bound
-IsWithin-more : (m n : ℕ) (xs : List ℤ) → m ≤ n → IsWithin m xs → IsWithin n xs
+pub IsWithin-more : (m n : ℕ) (xs : List ℤ) → m ≤ n → IsWithin m xs → IsWithin n xs
 IsWithin-more m n [] h w = tt
 IsWithin-more m n (x ∷ xs) h w = (omega (arith, w.0), IsWithin-more m n xs h w.1)
 
