@@ -5,10 +5,10 @@ use Rattle.std.proofs.lemmas.List.{take_all, get_or_default}
 use Rattle.std.proofs.lemmas.List.Elements.{recursion_from_All, All-from_recursion}
 use Rattle.std.proofs.lemmas.List.Sums.{sum_by-append}
 use Rattle.subdiv_model.specs.Polygons.{polygon_at}
-use Rattle.subdiv_model.specs.Mask.{OfFace}
 use Rattle.subdiv_model.specs.Level.{Level}
 use Rattle.subdiv_model.specs.Channel.{number_bound}
-use Rattle.mask_rules.specs.declared.mask.At.TheVariants.{Point}
+use Rattle.mask_rules.specs.declared.mask.At.{At}
+use Rattle.mask_rules.specs.declared.mask.At.TheVariants.{Point, FacePoint}
 use Rattle.mask_rules.specs.declared.mask.Term.{Term}
 use Rattle.mask_rules.specs.View.{source_of, terms_of}
 use Rattle.stencil_apply.specs.Table.{Share}
@@ -30,19 +30,55 @@ none-left (x ∷ xs) none = absurd (omega arith)
 pub added-one : (place amount : ℕ) (sums : List ℕ) → added_shares 1 ((place, amount) ∷ []) sums ≡ added_at place amount sums
 added-one place amount sums = let once : 1 * amount ≡ amount = omega arith in ap (λ n. added_at place n sums) once
 
--- the share of a point, and those of the corners of a face, by what was read and divided
-pub point-amount : (dens : List ℕ) (m weight v amount : ℕ) → v < length dens → amount ≡ weight * (m / get_or dens v 0) → weight * (m / get_or dens v 1) ≡ amount
+-- the share of a point, by what was read and divided
+point-amount : (dens : List ℕ) (m weight v amount : ℕ) → v < length dens → amount ≡ weight * (m / get_or dens v 0) → weight * (m / get_or dens v 1) ≡ amount
 point-amount dens m weight v amount inside is = ap (λ den. weight * (m / den)) (get_or_default dens v 1 0 inside) ∙ sym is
 
-pub face-amounts : (level : Level) (dens faces : List ℕ) (m weight f factor multiple : ℕ) (corners : List ℕ) → f < length faces → corners ≡ polygon_at level.polygons f
-    → factor ≡ weight * (m / get_or faces f 0) → multiple ≡ get_or faces f 0 / length corners → source_shares level dens faces m weight (OfFace f) ≡ corner_shares dens factor multiple corners
-face-amounts level dens faces m weight f factor multiple corners inside is by over =
-    let den : get_or faces f 1 ≡ get_or faces f 0 = get_or_default faces f 1 0 inside in
-    let own : weight * (m / get_or faces f 1) ≡ factor = ap (λ n. weight * (m / n)) den ∙ sym by in
-    let part : get_or faces f 1 / length (polygon_at level.polygons f) ≡ multiple = ap (λ n. n / length (polygon_at level.polygons f)) den ∙ ap (λ l. get_or faces f 0 / length l) (sym is) ∙ sym over in
-    ap (λ n. corner_shares dens n (get_or faces f 1 / length (polygon_at level.polygons f)) (polygon_at level.polygons f)) own
-    ∙ ap (λ n. corner_shares dens factor n (polygon_at level.polygons f)) part
-    ∙ ap (λ l. corner_shares dens factor multiple l) (sym is)
+-- A term whose weight can be kept, by where it stands.
+module _ (level : Level) (dens faces : List ℕ) (m : ℕ) (term : Term) (weigh : CanWeigh level dens faces m term.weight (source_of term.at)) where
+  abbrev shares : At → List Share
+  shares at = source_shares level dens faces m term.weight (source_of at)
+
+  -- a point has a denominator, and the weight over it is short
+  pub weigh-point : (v : ℕ) → term.at ≡ Point v → (v < length dens) × (term.weight * (m / get_or dens v 0) ≤ number_bound)
+  weigh-point v is =
+      let own : CanWeigh level dens faces m term.weight (source_of (Point v)) = subst (λ at. CanWeigh level dens faces m term.weight (source_of at)) is weigh in
+      (own.0, subst (λ den. term.weight * (m / den) ≤ number_bound) (get_or_default dens v 1 0 own.0) own.1)
+
+  -- and so has a face
+  pub weigh-face : (f : ℕ) → term.at ≡ FacePoint f → (f < length level.polygons) × (f < length faces) × (0 < get_or faces f 0) × (term.weight * (m / get_or faces f 0) ≤ number_bound)
+  weigh-face f is =
+      let own : CanWeigh level dens faces m term.weight (source_of (FacePoint f)) = subst (λ at. CanWeigh level dens faces m term.weight (source_of at)) is weigh in
+      let den : get_or faces f 1 ≡ get_or faces f 0 = get_or_default faces f 1 0 own.1 in
+      (own.0, own.1, subst (λ n. 0 < n) den own.2, subst (λ n. term.weight * (m / n) ≤ number_bound) den own.3)
+
+  -- at a point
+  module _ (v amount : ℕ) (is : term.at ≡ Point v) (by : amount ≡ term.weight * (m / get_or dens v 0)) where
+    -- the term adds one amount
+    point-shares : shares term.at ≡ (v, amount) ∷ []
+    point-shares = ap shares is ∙ ap (λ n. (v, n) ∷ []) (point-amount dens m term.weight v amount (weigh-point v is).0 by)
+
+    -- there is room for it
+    pub point-can : (sums : List ℕ) → CanAddAll (shares term.at) sums → (v < length sums) × (0 < amount) × (sum_of sums + amount ≤ number_bound)
+    point-can sums can =
+        let own : CanAddAll ((v, amount) ∷ []) sums = subst (λ l. CanAddAll l sums) point-shares can in
+        (own.inside.0, own.each.0, omega (arith, own.fits))
+
+    -- and it is all that the term adds
+    pub point-added : (sums new : List ℕ) → new ≡ added_at v amount sums → new ≡ added_shares 1 (shares term.at) sums
+    point-added sums new added = added ∙ sym (added-one v amount sums) ∙ ap (λ l. added_shares 1 l sums) (sym point-shares)
+
+  -- at a face point it adds amounts at the corners, by what was read and divided
+  pub face-shares : (f factor multiple : ℕ) (corners : List ℕ) → term.at ≡ FacePoint f → corners ≡ polygon_at level.polygons f
+      → factor ≡ term.weight * (m / get_or faces f 0) → multiple ≡ get_or faces f 0 / length corners → shares term.at ≡ corner_shares dens factor multiple corners
+  face-shares f factor multiple corners at is by over =
+      let den : get_or faces f 1 ≡ get_or faces f 0 = get_or_default faces f 1 0 (weigh-face f at).1 in
+      let own : term.weight * (m / get_or faces f 1) ≡ factor = ap (λ n. term.weight * (m / n)) den ∙ sym by in
+      let part : get_or faces f 1 / length (polygon_at level.polygons f) ≡ multiple = ap (λ n. n / length (polygon_at level.polygons f)) den ∙ ap (λ l. get_or faces f 0 / length l) (sym is) ∙ sym over in
+      ap shares at
+      ∙ ap (λ n. corner_shares dens n (get_or faces f 1 / length (polygon_at level.polygons f)) (polygon_at level.polygons f)) own
+      ∙ ap (λ n. corner_shares dens factor n (polygon_at level.polygons f)) part
+      ∙ ap (λ l. corner_shares dens factor multiple l) (sym is)
 
 -- shares after others
 added-append : (xs ys : List Share) (sums : List ℕ) → added_shares 1 (xs ++ ys) sums ≡ added_shares 1 ys (added_shares 1 xs sums)
