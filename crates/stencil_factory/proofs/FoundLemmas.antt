@@ -35,7 +35,7 @@ module _ (level : Level) (scheme : Scheme) (origins : List PointOrigin) (dens : 
       (sym (ap length dens-are ∙ length-map (masks_from level scheme origins) (mask_denominator (source_denominator level dens)) ∙ length-map origins (mask_from level scheme))) inside
 
   -- which is that of its mask
-  pub found-den : (p d : ℕ) → p < length origins
+  found-den : (p d : ℕ) → p < length origins
       → get_or survey.dens.items p d ≡ mask_denominator (source_denominator level dens) (mask_from level scheme (get_or origins p (FromVertex 0)))
   found-den p d inside =
       let none : Mask = record { terms = []; denominator = 0 } in
@@ -45,8 +45,16 @@ module _ (level : Level) (scheme : Scheme) (origins : List PointOrigin) (dens : 
       ∙ ap (mask_denominator (source_denominator level dens)) (get_or-map (mask_from level scheme) origins p (FromVertex 0) none inside)
 
   -- and within its bound
-  pub found-short : (p d : ℕ) → p < length origins → get_or survey.dens.items p d ≤ number_bound
+  found-short : (p d : ℕ) → p < length origins → get_or survey.dens.items p d ≤ number_bound
   found-short p d inside = (subst (All (λ den. den ≤ number_bound)) (sym is.dens) is.short) p d (found-inside p inside)
+
+  -- so what was read of a point is the denominator for the part that it comes from, and within its bound
+  pub found-read : (p den : ℕ) (origin : PointOrigin) → p < length origins → origin ≡ get_or origins p (FromVertex 0) → den ≡ get_or survey.dens.items p den
+      → (den ≡ mask_denominator (source_denominator level dens) (mask_from level scheme origin)) × (den ≤ number_bound)
+  found-read p den origin inside is read = (
+    read ∙ found-den p den inside ∙ ap (λ o. mask_denominator (source_denominator level dens) (mask_from level scheme o)) (sym is),
+    subst (λ n. n ≤ number_bound) (sym read) (found-short p den inside),
+  )
 
   -- the faces have theirs
   pub found-faces : AreFaceDenominators level dens survey.faces.items

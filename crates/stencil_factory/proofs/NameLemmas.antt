@@ -1,5 +1,5 @@
 -- The points that the terms of a mask name, met one after another.
-use Rattle.std.proofs.Common.{◌≡◌, ℕ, ◌-◌, ◌<◌, ◌≤◌, true, false, ◌||◌, nat_eq, nat_lt, List, [], ◌∷◌, length, get_or, take, drop, refl, ap, sym, ◌∙◌, subst, arith}
+use Rattle.std.proofs.Common.{◌≡◌, ℕ, ◌+◌, ◌-◌, ◌<◌, ◌≤◌, true, false, ◌||◌, nat_eq, nat_lt, List, [], ◌∷◌, length, get_or, take, drop, Result, OnOk, refl, ap, sym, ◌∙◌, subst, arith}
 use Rattle.std.specs.List.{All, AllByRecursion, list_all, list_any}
 use Rattle.std.proofs.Math.Bool.{or_assoc, or-false}
 use Rattle.std.proofs.lemmas.Bool.{ltb-true}
@@ -30,6 +30,7 @@ use Rattle.stencil_factory.specs.Met.{Places, with_places}
 use Rattle.stencil_factory.specs.Named.{points_of, with_terms, CanName, CanNameTerm, AreNamed}
 use Rattle.stencil_factory.proofs.AddedLemmas.{first-and-others, none}
 use Rattle.stencil_factory.proofs.MetLemmas.{count-places, mark-places, among-places}
+use Rattle.stencil_factory.proofs.OriginLemmas.{of-point}
 
 -- the first term of some, and the others
 module _ (level : Level) (terms : List Term) (some : 1 ≤ length terms) (places : Places) (can : AllByRecursion (CanNameTerm level places.count) (terms_of terms)) where
@@ -150,3 +151,11 @@ module _ (t : Topology) (is : IsTopology t) where
       each : (terms : List model.Term) → AllByRecursion (λ s. is_source_of t.level s.source ≡ true) terms → AllByRecursion (CanNameTerm t.level t.level.point_count) terms
       each [] h = tt
       each (s ∷ terms) h = (source-can s.source h.0, each terms h.1)
+
+-- what the mask of a part names after a start is what the mask of the point names
+pub named-since : {E : Type 0} (r : Result (Unit {0}) E) (level : Level) (scheme : Scheme) (origin own : PointOrigin) → origin ≡ own
+    → (old start : Places) → start ≡ record { count = old.count; mark = old.mark + 1; met = [] } → (new : Places)
+    → OnOk r (AreNamed level (mask_from level scheme origin) start.mark new) → OnOk r (AreNamed level (mask_from level scheme own) (old.mark + 1) new)
+named-since r level scheme origin own is old start started new named =
+    of-point r (λ mask. AreNamed level mask (old.mark + 1) new) level scheme origin own is
+    (subst (λ n. OnOk r (AreNamed level (mask_from level scheme origin) n new)) (ap (λ (p : Places). p.mark) started) named)
