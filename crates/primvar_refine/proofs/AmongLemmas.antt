@@ -8,7 +8,7 @@ use Rattle.std.proofs.lemmas.List.Sorted.{list_any-IsPermutation, All-permutatio
 use Rattle.std.specs.List.Sorted.{IsPermutation}
 use Rattle.subdiv_model.specs.Edges.{edges_of}
 use Rattle.subdiv_model.specs.Level.{Level}
-use Rattle.subdiv_model.specs.Mask.{Scheme, CatmullClark, Linear, SourcePoint, OfPoint, OfFace, Mask, has_source, same_source, ends_at, other_end, edge_mask, vertex_mask, is_source_of}
+use Rattle.subdiv_model.specs.Mask.{Scheme, SourcePoint, OfPoint, OfFace, Mask, has_source, same_source, is_source_of}
 use Rattle.subdiv_model.specs.Mask as model
 use Rattle.level_laws.proofs.WellFormedLemmas.{first-of-six}
 use Rattle.sharpness_laws.specs.SameWeights.{is_joined}

@@ -3,7 +3,7 @@ use Rattle.std.proofs.Common.{◌≡◌, ℕ, zero, suc, ◌+◌, ◌-◌, ◌*�
 use Rattle.std.specs.List.{All, fold}
 use Rattle.std.specs.Ordering.{ord_max, nat_cmp}
 use Rattle.std.proofs.lemmas.Bool.Decides.{nat_tests}
-use Rattle.std.proofs.lemmas.List.{take_more, take_all, length-map, get_or-map, map-append}
+use Rattle.std.proofs.lemmas.List.{take_more, length-map, get_or-map, map-append}
 use Rattle.std.proofs.lemmas.List.Elements.{All-from_recursion}
 use Rattle.std.proofs.lemmas.List.Sums.{fold-append}
 use Rattle.std.proofs.Math.ListN.{get_or-append}
@@ -91,11 +91,6 @@ module _ {P : Type 0} (numbers : P → List ℤ) (values : List (Valued P)) (goo
       let le = rounded-le (greatest_amount (numbers v.value)) v.den (den-positive i v inside e) in
       let kept = numbers-kept i v inside e in
       omega arith
-
-  -- the bound with all values
-  pub bound-all : (i m : ℕ) → length values ≤ i → m ≡ least_bound (take i (rows_of numbers values)) → m ≡ least_bound (rows_of numbers values)
-  bound-all i m past h =
-      h ∙ ap least_bound (take_all i (rows_of numbers values) (subst (λ n. n ≤ i) (sym (length-map values (row_of numbers))) past))
 
 -- a denominator too great for the values is above 1, and so some point has it
 pub too-big : (dens all : List ℕ) (den place most : ℕ) → dens ≡ all → All (λ d. d ≤ number_bound) all → IsGreatestAt dens den place → most ≤ number_bound

@@ -52,9 +52,6 @@ module _ (level : Level) (scheme : Scheme) (origins : List PointOrigin) (rows re
     (made : (p : ℕ) → p < length origins → IsMade level rows (mask_from level scheme (origin_at origins p)) (row_at refined p))
     (fine : HasNoTransition level scheme origins) (short : All (λ den. den ≤ number_bound) (refined_dens level scheme origins rows))
     (kept : greatest_of (refined_dens level scheme origins rows) * least_bound rows ≤ number_bound) where
-  abbrev own : PointOrigin → ℕ
-  own o = mask_denominator (source_denominator level (dens_of rows)) (mask_from level scheme o)
-
   none : Mask
   none = record { terms = []; denominator = 0 }
 

@@ -4,7 +4,7 @@ use Rattle.std.specs.List.{All, AllByRecursion, fold}
 use Rattle.std.proofs.lemmas.List.{take_more, length-map, get_or-map}
 use Rattle.std.proofs.lemmas.List.Elements.{recursion_from_All}
 use Rattle.std.proofs.lemmas.List.Folds.{list_any-append}
-use Rattle.subdiv_model.specs.Mask.{SourcePoint, OfPoint, OfFace, has_source, same_source}
+use Rattle.subdiv_model.specs.Mask.{SourcePoint, OfFace, has_source, same_source}
 use Rattle.subdiv_model.specs.Mask as model
 use Rattle.subdiv_model.specs.Multiples.{lcm_of, lcm_of_all}
 use Rattle.number_laws.proofs.MultipleLemmas.{lcm_of_all-positive}
@@ -85,11 +85,3 @@ marked-more old some new terms i d inside h k =
 -- equally many faces
 pub among-same : (m n : ℕ) (source : SourcePoint) → m ≡ n → IsFaceAmong n source → IsFaceAmong m source
 among-same m n source e h = subst (λ k. IsFaceAmong k source) (sym e) h
-
--- a term that names one of so many points and faces names no face beyond them
-pub faces-among : (points faces : ℕ) (terms : List Term) → All (λ t. IsAmong points faces (source_of t.at)) terms → All (λ t. IsFaceAmong faces (source_of t.at)) terms
-faces-among points faces terms h k d inside = weaker (source_of (get_or terms k d).at) (h k d inside)
-  where
-    weaker : (source : SourcePoint) → IsAmong points faces source → IsFaceAmong faces source
-    weaker (OfPoint v) g = tt
-    weaker (OfFace f) g = g

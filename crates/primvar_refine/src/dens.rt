@@ -1,7 +1,7 @@
 //! Lists of denominators.
 
-ghost use Rattle.std.specs.Prelude.{◌≡◌, ◌≢◌, ℕ, ◌<◌, ◌≤◌, ◌^◌, length, get_or, map, MatchOption, IfOk};
-ghost use Rattle.primvar_refine.specs.Rows.{dens_of, greatest_of};
+ghost use Rattle.std.specs.Prelude.{◌≡◌, ◌≢◌, ℕ, ◌<◌, ◌^◌, length, get_or, MatchOption, IfOk};
+ghost use Rattle.primvar_refine.specs.Rows.{dens_of};
 ghost use Rattle.primvar_refine.specs.View.{rows_of};
 
 use crate::valued::Valued;

@@ -1,7 +1,7 @@
 //! The denominators of the new points of faces.
 
 ghost use Rattle.std.specs.Prelude.{◌≡◌, ◌<◌, ◌≤◌, length, map, get_or, IfOk};
-ghost use Rattle.std.specs.List.{All, range_with_len};
+ghost use Rattle.std.specs.List.{All};
 ghost use Rattle.subdiv_model.specs.Multiples.{lcm_of_all};
 ghost use Rattle.subdiv_model.specs.Mask.{OfFace};
 ghost use Rattle.subdiv_model.specs.Refined.{source_denominator};

@@ -1,8 +1,6 @@
 //! The values of masks.
 
-ghost use Rattle.std.specs.Prelude.{◌≡◌, ◌+◌, ◌<◌, ◌≤◌, IsTrue, [], length, get_or, IfOk, OnOk, OnErr, true, false, ◌⊎◌};
-ghost use Rattle.std.specs.List.{All};
-ghost use Rattle.subdiv_model.specs.Polygons.{polygon_at};
+ghost use Rattle.std.specs.Prelude.{◌≡◌, ◌+◌, ◌<◌, IsTrue, [], length, get_or, IfOk, OnOk, OnErr, true, false, ◌⊎◌};
 ghost use Rattle.subdiv_model.specs.Edges.{edges_of, faces_of_edge};
 ghost use Rattle.subdiv_model.specs.Sharpness.{Smooth};
 ghost use Rattle.subdiv_model.specs.Mask.{CatmullClark, face_mask, edge_mask, vertex_mask};

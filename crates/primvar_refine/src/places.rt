@@ -1,6 +1,6 @@
 //! Where the values of the new points of the parent's faces are kept.
 
-ghost use Rattle.std.specs.Prelude.{◌≡◌, ◌+◌, ◌<◌, ◌≤◌, ◌^◌, false, not, ◌&&◌, ◌++◌, ◌∷◌, [], length, get_or, map, IfOk, OnOk, if◌then◌else◌};
+ghost use Rattle.std.specs.Prelude.{◌≡◌, ◌+◌, ◌<◌, ◌≤◌, ◌^◌, not, ◌&&◌, ◌++◌, ◌∷◌, [], length, IfOk, OnOk, if◌then◌else◌};
 ghost use Rattle.std.specs.List.{filter, range_with_len};
 ghost use Rattle.level_topology.specs.Child.{FromFace};
 ghost use Rattle.primvar_refine.specs.Step.{has_origin};

@@ -1,6 +1,6 @@
 //! The values of the child points that come from vertices and edges, put where they are kept.
 
-ghost use Rattle.std.specs.Prelude.{◌≡◌, ◌+◌, ◌<◌, ◌≤◌, true, false, length, OnOk, OnErr, IfOk};
+ghost use Rattle.std.specs.Prelude.{◌≡◌, ◌+◌, ◌<◌, ◌≤◌, true, false, length, OnOk, OnErr};
 ghost use Rattle.std.specs.List.{sum_by};
 ghost use Rattle.subdiv_model.specs.Mask.{edge_mask, vertex_mask};
 ghost use Rattle.level_topology.specs.Topology.{edge_at};

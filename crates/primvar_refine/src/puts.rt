@@ -1,6 +1,6 @@
 //! The values of the new points of faces, put where they are kept.
 
-ghost use Rattle.std.specs.Prelude.{◌≡◌, ◌+◌, ◌<◌, ◌≤◌, [], length, get_or, map};
+ghost use Rattle.std.specs.Prelude.{◌≡◌, ◌+◌, ◌<◌, [], length};
 ghost use Rattle.subdiv_model.specs.Mask.{face_mask};
 ghost use Rattle.primvar_refine.specs.Rows.{row_at};
 ghost use Rattle.primvar_refine.specs.View.{rows_of};

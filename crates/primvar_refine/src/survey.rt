@@ -1,15 +1,15 @@
 //! What is known of a step before any value of it is made.
 
-ghost use Rattle.std.specs.Prelude.{◌≡◌, ℕ, ◌+◌, ◌<◌, ◌≤◌, ◌⊎◌, false, true, IsTrue, List, [], length, map, get_or, take, OnOk, MatchResult, IfOk};
+ghost use Rattle.std.specs.Prelude.{◌≡◌, ℕ, ◌+◌, ◌<◌, ◌⊎◌, false, true, IsTrue, List, [], length, get_or, take, OnOk, MatchResult, IfOk};
 ghost use Rattle.std.specs.List.{All};
 ghost use Rattle.subdiv_model.specs.Sharpness.{Smooth};
 ghost use Rattle.subdiv_model.specs.Edges.{edges_of, faces_of_edge};
-ghost use Rattle.subdiv_model.specs.Mask.{SourcePoint, CatmullClark, vertex_mask, edge_mask, face_mask, OfFace};
+ghost use Rattle.subdiv_model.specs.Mask.{SourcePoint, CatmullClark, vertex_mask, edge_mask};
 ghost use Rattle.subdiv_model.specs.Mask as model;
 ghost use Rattle.subdiv_model.specs.Refined.{mask_denominator, source_denominator};
 ghost use Rattle.subdiv_model.specs.Channel.{chaikin_overflows_at, transition_overflows_at};
 ghost use Rattle.level_topology.specs.Topology.{edge_at};
-ghost use Rattle.level_topology.specs.Child.{FromVertex, FromEdge, FromFace};
+ghost use Rattle.level_topology.specs.Child.{FromVertex};
 ghost use Rattle.mask_rules.specs.View.{scheme_of, source_of, terms_of};
 ghost use Rattle.mask_rules.specs.Masks.{is_at_least_one};
 ghost use Rattle.mask_rules.specs.Around.{HasSharpBoundaryAt};

@@ -1,6 +1,6 @@
 //! How many entries the rows of a step have, without their numerators.
 
-ghost use Rattle.std.specs.Prelude.{◌≡◌, ◌+◌, ◌^◌, ◌<◌, ◌≤◌, [], nat_eq, length, get_or, replicate, set, IfOk, OnOk, MatchOption};
+ghost use Rattle.std.specs.Prelude.{◌≡◌, ◌+◌, ◌<◌, ◌≤◌, [], nat_eq, length, get_or, replicate, set, IfOk, OnOk, MatchOption};
 ghost use Rattle.std.specs.List.{All, count_by};
 ghost use Rattle.subdiv_model.specs.Channel.{entry_bound};
 ghost use Rattle.subdiv_model.specs.Support.{mask_support, source_support};
