@@ -1,6 +1,5 @@
 -- Sides and edges as numbers, and the numbers that stand often among numbers that ascend.
-use Rattle.std.specs.Prelude.{◌≡◌, ℕ, ◌+◌, ◌*◌, ◌^◌, ◌<◌, Bool, false, not, ◌&&◌, ◌||◌, nat_eq, nat_le, nat_lt, List, [], ◌∷◌, length, map, get_or, IsTrue, if◌then◌else◌}
-use Rattle.std.specs.Prelude.{◌≡◌, ℕ, ◌+◌, ◌*◌, ◌/◌, ◌%◌, ◌^◌, ◌<◌, Bool, not, ◌&&◌, nat_eq, nat_le, nat_lt, List, [], ◌∷◌, length, map, get_or, IsTrue, if◌then◌else◌}
+use Rattle.std.specs.Prelude.{◌≡◌, ℕ, ◌+◌, ◌*◌, ◌/◌, ◌%◌, ◌^◌, ◌<◌, Bool, false, not, ◌&&◌, ◌||◌, nat_eq, nat_le, nat_lt, List, [], ◌∷◌, length, map, get_or, IsTrue, if◌then◌else◌}
 use Rattle.std.specs.List.{list_all, count_by}
 use Rattle.level_topology.specs.BuilderEdges.{low_first}
 
@@ -20,6 +19,10 @@ side_key s = s.0 * 2 ^ 32 + s.1
 -- an edge as one number, the same in both directions
 abbrev pub edge_key : ℕ × ℕ → ℕ
 edge_key s = side_key (low_first s)
+
+-- the number of a side, or of its edge where directions do not count
+abbrev pub key_by : Bool → ℕ × ℕ → ℕ
+key_by directed s = if directed then side_key s else edge_key s
 
 -- the numbers ascend, and some may be equal
 abbrev pub Rises : List ℕ → Type 0

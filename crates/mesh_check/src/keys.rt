@@ -1,9 +1,9 @@
 //! Numbers that stand often in a list, found by sorting.
 
-ghost use Rattle.std.specs.Prelude.{◌≡◌, ℕ, ◌+◌, ◌*◌, ◌^◌, ◌<◌, ◌≤◌, nat_eq, nat_lt, ◌&&◌, [], ◌∷◌, ◌++◌, length, get_or, map, IfOk, OnOk, if◌then◌else◌};
+ghost use Rattle.std.specs.Prelude.{◌≡◌, ℕ, nat_eq, nat_lt, ◌&&◌, [], ◌∷◌, ◌++◌, map, IfOk, OnOk, if◌then◌else◌};
 ghost use Rattle.std.specs.List.{count_by};
 ghost use Rattle.subdiv_model.specs.Polygons.{is_among};
-ghost use Rattle.mesh_check.specs.Keys.{IsWord, AreWords, side_key, edge_key, Rises, is_again, repeats};
+ghost use Rattle.mesh_check.specs.Keys.{IsWord, AreWords, side_key, edge_key, key_by, Rises, is_again, repeats};
 
 use ratio128::Memory;
 use std::alloc::Global;
@@ -28,18 +28,38 @@ pub(crate) fn edge_key(side: (u32, u32)) -> u64
     }
 }
 
-// The numbers of all sides.
-pub(crate) fn side_keys(alloc: Global, sides: &[(u32, u32)]) -> Result<Vec<u64>, Memory>
-    ensures keys { IfOk result (λ keys. keys.items ≡ map side_key sides.now) }
+// The number of a side, or of its edge where directions do not count.
+fn key_by(side: (u32, u32), directed: bool) -> u64
+    ensures key { result ≡ key_by directed side }
+    ensures word { IsWord side }
+{
+    if directed {
+        side_key(side)
+    } else {
+        edge_key(side)
+    }
+}
+
+// This number of each side.
+fn keys_by(alloc: Global, sides: &[(u32, u32)], directed: bool) -> Result<Vec<u64>, Memory>
+    ensures keys { IfOk result (λ keys. keys.items ≡ map (key_by directed) sides.now) }
     ensures words { OnOk result (AreWords sides.now) }
 {
     let mut keys = Vec::with_capacity(alloc, sides.len())?;
     let mut rest = sides;
     while let [side, others @ ..] = rest {
-        keys.push(side_key(*side))?;
+        keys.push(key_by(*side, directed))?;
         rest = others;
     }
     Ok(keys)
+}
+
+// The numbers of all sides.
+pub(crate) fn side_keys(alloc: Global, sides: &[(u32, u32)]) -> Result<Vec<u64>, Memory>
+    ensures keys { IfOk result (λ keys. keys.items ≡ map side_key sides.now) }
+    ensures words { OnOk result (AreWords sides.now) }
+{
+    keys_by(alloc, sides, true)
 }
 
 // The numbers of their edges.
@@ -47,13 +67,7 @@ pub(crate) fn edge_keys(alloc: Global, sides: &[(u32, u32)]) -> Result<Vec<u64>,
     ensures keys { IfOk result (λ keys. keys.items ≡ map edge_key sides.now) }
     ensures words { OnOk result (AreWords sides.now) }
 {
-    let mut keys = Vec::with_capacity(alloc, sides.len())?;
-    let mut rest = sides;
-    while let [side, others @ ..] = rest {
-        keys.push(edge_key(*side))?;
-        rest = others;
-    }
-    Ok(keys)
+    keys_by(alloc, sides, false)
 }
 
 // Whether a number stands so many places after the first as well.

@@ -1,11 +1,11 @@
 use Rattle.std.proofs.Common.{◌≡◌, ◌++◌, map, length}
-use Rattle.mesh_check.specs.Keys.{AreWords, edge_key}
-use Rattle.mesh_check.proofs.keys.edge_keys.Given as goal
+use Rattle.mesh_check.specs.Keys.{AreWords, key_by}
+use Rattle.mesh_check.proofs.keys.keys_by.Given as goal
 
 -- the numbers that are there, and those of the rest, are all
 abbrev pub invariant-loop-rest : goal.invariant-loop-rest
 invariant-loop-rest l = record {
-  keys : l.keys.items ++ map edge_key l.rest ≡ map edge_key l.sides;
+  keys : l.keys.items ++ map (key_by l.directed) l.rest ≡ map (key_by l.directed) l.sides;
   words : AreWords l.rest → AreWords l.sides;
 }
 
