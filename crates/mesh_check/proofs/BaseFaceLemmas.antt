@@ -1,6 +1,6 @@
 -- The faces of a manifold, added one after another.
-use Rattle.std.proofs.Common.{◌≡◌, ℕ, ◌+◌, ◌-◌, ◌<◌, ◌≤◌, ◌^◌, Bool, true, false, not, ◌&&◌, List, [], ◌∷◌, ◌++◌, length, get_or, take, drop, replicate, arith, ap, sym, ◌∙◌, Some, length-append, if◌then◌else◌}
-use Rattle.std.specs.List.{slice_get, list_all, list_any, sum_by}
+use Rattle.std.proofs.Common.{◌≡◌, ℕ, ◌+◌, ◌-◌, ◌<◌, ◌≤◌, ◌^◌, Bool, true, false, not, ◌&&◌, List, [], ◌∷◌, ◌++◌, length, get_or, take, drop, replicate, arith, ap, sym, ◌∙◌, Some, None, length-append, if◌then◌else◌}
+use Rattle.std.specs.List.{slice_get, list_all, list_any, sum_by, range_with_len}
 use Rattle.std.proofs.lemmas.Bool.{and_parts, false_from_ne_true}
 use Rattle.std.proofs.lemmas.List.{take_more, take_all, replicate-append-replicate, take-append-drop}
 use Rattle.std.proofs.lemmas.List.Folds.{list_any_at, list_all-append}
@@ -11,6 +11,7 @@ use Rattle.number_laws.proofs.CountLemmas.{count-append, count-some}
 use Rattle.subdiv_model.specs.Polygons.{Polygon, same_side, same_edge, sides_of, has_distinct_sides}
 use Rattle.subdiv_model.specs.Edges.{all_sides, edges_of, first_named}
 use Rattle.subdiv_model.specs.Manifold.{is_simple, has_one_fan, is_manifold}
+use Rattle.subdiv_model.specs.MeshFault.{first_mesh_fault}
 use Rattle.subdiv_model.specs.Sharpness.{Sharpness, Smooth, Method}
 use Rattle.subdiv_model.specs.ObjMesh.{ObjMesh}
 use Rattle.mesh_laws.proofs.SideLemmas.{same_side-refl, distinct-count}
@@ -22,21 +23,26 @@ use Rattle.level_topology.specs.Builder.{Built, has_new_sides, with_polygon, bui
 use Rattle.level_topology.proofs.BuilderEdgeLemmas.{first_named-all}
 use Rattle.mesh_check.specs.Base.{IsFit, smooth_built}
 use Rattle.mesh_check.proofs.PlaceLemmas.{drop-here}
-use Rattle.std.specs.List.{range_with_len}
 
--- the faces of a mesh without fault are simple, no side occurs twice, and the faces at each point are one fan
-fit-parts : (mesh : ObjMesh) → IsFit mesh → (list_all is_simple mesh.faces ≡ true) × (has_distinct_sides (all_sides mesh.faces) ≡ true) × (list_all (has_one_fan mesh.faces) (range_with_len 0 (length mesh.points)) ≡ true)
-fit-parts mesh fit =
-    let whole : is_manifold (length mesh.points) mesh.faces ≡ true = (fault-decides (length mesh.points) mesh.faces).0 fit.sound in
-    let outer = and_parts (list_all is_simple mesh.faces && has_distinct_sides (all_sides mesh.faces)) (list_all (has_one_fan mesh.faces) (range_with_len 0 (length mesh.points))) whole in
-    let inner = and_parts (list_all is_simple mesh.faces) (has_distinct_sides (all_sides mesh.faces)) outer.0 in
+-- faces without fault are simple, no side of them occurs twice, and those at each point are one fan
+sound-parts : (points : ℕ) (polygons : List Polygon) → first_mesh_fault points polygons ≡ None → (list_all is_simple polygons ≡ true) × (has_distinct_sides (all_sides polygons) ≡ true) × (list_all (has_one_fan polygons) (range_with_len 0 points) ≡ true)
+sound-parts points polygons sound =
+    let whole : is_manifold points polygons ≡ true = (fault-decides points polygons).0 sound in
+    let outer = and_parts (list_all is_simple polygons && has_distinct_sides (all_sides polygons)) (list_all (has_one_fan polygons) (range_with_len 0 points)) whole in
+    let inner = and_parts (list_all is_simple polygons) (has_distinct_sides (all_sides polygons)) outer.0 in
     (inner.0, inner.1, outer.1)
 
-pub fit-simple : (mesh : ObjMesh) → IsFit mesh → list_all is_simple mesh.faces ≡ true
-fit-simple mesh fit = (fit-parts mesh fit).0
+-- they are simple
+pub sound-simple : (points : ℕ) (polygons : List Polygon) → first_mesh_fault points polygons ≡ None → list_all is_simple polygons ≡ true
+sound-simple points polygons sound = (sound-parts points polygons sound).0
 
+-- no side of them occurs twice
+pub sound-sides : (points : ℕ) (polygons : List Polygon) → first_mesh_fault points polygons ≡ None → has_distinct_sides (all_sides polygons) ≡ true
+sound-sides points polygons sound = (sound-parts points polygons sound).1
+
+-- the faces at each point of a mesh without fault are one fan
 pub fit-fans : (mesh : ObjMesh) (v : ℕ) → IsFit mesh → v < length mesh.points → has_one_fan mesh.faces v ≡ true
-fit-fans mesh v fit h = range-at (has_one_fan mesh.faces) 0 (length mesh.points) v (fit-parts mesh fit).2 (omega arith) (omega (arith, h))
+fit-fans mesh v fit h = range-at (has_one_fan mesh.faces) 0 (length mesh.points) v (sound-parts (length mesh.points) mesh.faces fit.sound).2 (omega arith) (omega (arith, h))
 
 -- a list up to one place more
 taken : {X : Type 0} (xs : List X) (i : ℕ) (x : X) → slice_get xs i ≡ Some x → take (i + 1) xs ≡ take i xs ++ x ∷ []
@@ -55,20 +61,19 @@ sides-apart xs ys once = list_all-from_AllPass (λ s. not (list_any (same_side s
     )))))
 
 -- the sides of a face are none of those before it
-pub sides-new : (mesh : ObjMesh) (f : ℕ) (polygon : Polygon) → IsFit mesh → slice_get mesh.faces f ≡ Some polygon → has_new_sides (take f mesh.faces) polygon ≡ true
-sides-new mesh f polygon fit at =
-    let polygons = mesh.faces in
+pub sides-new : (polygons : List Polygon) (f : ℕ) (polygon : Polygon) → has_distinct_sides (all_sides polygons) ≡ true → slice_get polygons f ≡ Some polygon → has_new_sides (take f polygons) polygon ≡ true
+sides-new polygons f polygon once at =
     let split : polygons ≡ take f polygons ++ (polygon ∷ drop (f + 1) polygons) =
     sym (take-append-drop f polygons) ∙ ap (λ (ps : List Polygon). take f polygons ++ ps) (drop-here polygons f polygon at) in
     let sides : all_sides polygons ≡ all_sides (take f polygons) ++ (sides_of polygon ++ all_sides (drop (f + 1) polygons)) =
     ap all_sides split ∙ flat_map-append sides_of (take f polygons) (polygon ∷ drop (f + 1) polygons) in
-    let apart = sides-apart (all_sides (take f polygons)) (sides_of polygon ++ all_sides (drop (f + 1) polygons)) (ap has_distinct_sides (sym sides) ∙ (fit-parts mesh fit).1) in
+    let apart = sides-apart (all_sides (take f polygons)) (sides_of polygon ++ all_sides (drop (f + 1) polygons)) (ap has_distinct_sides (sym sides) ∙ once) in
     (and_parts (has_new_sides (take f polygons) polygon) _ (sym (list_all-append (λ s. not (list_any (same_side s) (all_sides (take f polygons)))) (sides_of polygon) (all_sides (drop (f + 1) polygons))) ∙ apart)).0
 
 -- what is asked of a face before it is added
 pub face-simple : (mesh : ObjMesh) (f : ℕ) (polygon : Polygon) → IsFit mesh → slice_get mesh.faces f ≡ Some polygon → is_simple polygon ≡ true
 face-simple mesh f polygon fit at =
-    ap is_simple (sym (get_or_from_slice_get mesh.faces f polygon [] at)) ∙ all-at is_simple mesh.faces f [] (slice_get_within mesh.faces f polygon at) (fit-simple mesh fit)
+    ap is_simple (sym (get_or_from_slice_get mesh.faces f polygon [] at)) ∙ all-at is_simple mesh.faces f [] (slice_get_within mesh.faces f polygon at) (sound-simple (length mesh.points) mesh.faces fit.sound)
 
 pub face-size : (mesh : ObjMesh) (f : ℕ) (polygon : Polygon) → IsFit mesh → slice_get mesh.faces f ≡ Some polygon → length polygon ≤ 2 ^ 16
 face-size mesh f polygon fit at =

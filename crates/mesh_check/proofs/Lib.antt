@@ -21,8 +21,8 @@ mod HoleLemmas
 mod OnceLemmas
 mod EndLemmas
 mod ValenceLemmas
-mod BaseFaceLemmas
-mod BaseMarkLemmas
+pub mod BaseFaceLemmas
+pub mod BaseMarkLemmas
 mod BaseTagLemmas
 mod BaseEdgeLemmas
 mod BaseLemmas

@@ -1,7 +1,7 @@
 use Rattle.std.proofs.Common.{arith, ◌≤◌, subst, sym, ◌+◌, ◌<◌, ◌^◌, ◌≡◌, length, get_or, true}
 use Rattle.std.specs.List.{sum_by}
 use Rattle.level_topology.specs.Builder.{Built, has_new_sides}
-use Rattle.mesh_check.proofs.BaseFaceLemmas.{face-simple, face-size, face-inside, face-short, sides-new, faces-more, faces-all}
+use Rattle.mesh_check.proofs.BaseFaceLemmas.{face-simple, face-size, face-inside, face-short, sound-sides, sides-new, faces-more, faces-all}
 use Rattle.mesh_check.proofs.base.add_faces.Goals as goal
 
 pub add_face-requires-clause-simple : goal.add_face-requires-clause-simple
@@ -17,7 +17,7 @@ pub add_face-requires-clause-short : goal.add_face-requires-clause-short
 add_face-requires-clause-short g c = subst (λ (b : Built). sum_by length b.level.polygons + length c.face.result.now < 2 ^ 28) (sym c.loop-f.invariant.faces) (omega (arith, face-short c.args.raw.now c.loop-f.f c.face.result.now c.requires.fit c.face.ensures))
 
 pub add_face-requires-clause-new_sides : goal.add_face-requires-clause-new_sides
-add_face-requires-clause-new_sides g c = subst (λ (b : Built). has_new_sides b.level.polygons c.face.result.now ≡ true) (sym c.loop-f.invariant.faces) (sides-new c.args.raw.now c.loop-f.f c.face.result.now c.requires.fit c.face.ensures)
+add_face-requires-clause-new_sides g c = subst (λ (b : Built). has_new_sides b.level.polygons c.face.result.now ≡ true) (sym c.loop-f.invariant.faces) (sides-new c.args.raw.now.faces c.loop-f.f c.face.result.now (sound-sides (length c.args.raw.now.points) c.args.raw.now.faces c.requires.fit.sound) c.face.ensures)
 
 pub loop-f-preserved : goal.loop-f-preserved
 loop-f-preserved g c = record {
