@@ -1,5 +1,5 @@
 -- How many edges end at a point, by the numbers of the edges.
-use Rattle.std.proofs.Common.{◌≡◌, ℕ, suc, ◌+◌, ◌*◌, ◌/◌, ◌%◌, ◌<◌, ◌≤◌, ◌^◌, Bool, true, false, not, nat_eq, nat_le, nat_lt, List, [], ◌∷◌, length, map, arith, refl, ap, sym, ◌∙◌, length-append, get_or, subst, take, drop, ◌⊎◌, inl, inr, if◌then◌else◌}
+use Rattle.std.proofs.Common.{◌≡◌, ℕ, suc, ◌+◌, ◌*◌, ◌/◌, ◌%◌, ◌<◌, ◌≤◌, ◌^◌, Bool, true, false, not, nat_eq, nat_le, nat_lt, List, [], ◌∷◌, length, map, arith, refl, ap, sym, ◌∙◌, get_or, subst, take, drop, ◌⊎◌, inl, inr, if◌then◌else◌}
 use Rattle.std.specs.List.{All, list_all, list_any, count_by, sum_by}
 use Rattle.std.specs.List.Sorted.{IsPermutation}
 use Rattle.std.proofs.lemmas.Bool.Decides.{nat_tests}
@@ -14,10 +14,9 @@ use Rattle.subdiv_model.specs.Manifold.{is_simple}
 use Rattle.number_laws.proofs.CountLemmas.{any-count, any-weaker, all-flat_map, all-weaker, count-cons, one_if}
 use Rattle.number_laws.proofs.ListLemmas.{all-kept}
 use Rattle.mesh_laws.proofs.ChildCountLemmas.{is_inside, sides-inside}
-use Rattle.mesh_laws.proofs.EdgeLemmas.{length-first}
 use Rattle.mesh_laws.proofs.PointLemmas.{among-themselves}
 use Rattle.mesh_laws.proofs.SideLemmas.{no-side-back}
-use Rattle.level_laws.proofs.FaceLemmas.{sides_of-length}
+use Rattle.level_topology.proofs.ChildLemmas.{edges-corners}
 use Rattle.level_topology.proofs.FanOrderLemmas.{same-permutation}
 use Rattle.level_topology.specs.BuilderEdges.{low_first}
 use Rattle.mesh_check.specs.Keys.{IsWord, AreWords, AreEdgeKeys, edge_key, ends_of_key, is_again, each_once}
@@ -107,11 +106,6 @@ ends-counted polygons keys v simple are =
     ∙ keys-ends v (edges_of polygons) (words-named (all_sides polygons) are.words) (open-named (all_sides polygons) (sides-open polygons simple))
     ∙ sym (length-filter (has_end v) (edges_of polygons))
 
-sides-count : (polygons : List Polygon) → length (all_sides polygons) ≡ sum_by length polygons
-sides-count [] = refl
-sides-count (polygon ∷ polygons) =
-    omega (arith, sides-count polygons, length-append (sides_of polygon) (all_sides polygons), sides_of-length polygon, sum_by-cons length polygon polygons)
-
 -- there are no more edges than corners
 pub once-few : (polygons : List Polygon) (keys : List ℕ) → AreEdgeKeys (all_sides polygons) keys → length (each_once keys) ≤ sum_by length polygons
 once-few polygons keys are =
@@ -119,8 +113,7 @@ once-few polygons keys are =
       arith,
       length_permutation (map edge_key (edges_of polygons)) (each_once keys) (edges-once (all_sides polygons) keys are),
       length-map (edges_of polygons) edge_key,
-      length-first (all_sides polygons),
-      sides-count polygons,
+      edges-corners polygons,
     )
 
 -- both ends of the edge that a number names are points

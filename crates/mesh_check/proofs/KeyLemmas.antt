@@ -1,5 +1,5 @@
 -- Numbers that ascend: those that stand a number of places later again stand more often than that.
-use Rattle.std.proofs.Common.{◌≡◌, ℕ, zero, suc, ◌+◌, ◌^◌, ◌<◌, Bool, true, false, ◌&&◌, nat_eq, nat_le, nat_lt, List, [], ◌∷◌, ◌++◌, map, arith, refl, ap, sym, ◌∙◌, cond}
+use Rattle.std.proofs.Common.{◌≡◌, ℕ, zero, suc, ◌+◌, ◌^◌, ◌<◌, Bool, true, false, ◌&&◌, nat_eq, nat_le, nat_lt, List, [], ◌∷◌, map, arith, refl, ap, sym, ◌∙◌, cond}
 use Rattle.std.specs.List.{list_all, count_by, find}
 use Rattle.std.specs.List.Sorted.{IsPermutation}
 use Rattle.std.proofs.lemmas.Bool.Decides.{nat_tests}
@@ -8,6 +8,7 @@ use Rattle.std.proofs.lemmas.List.Sorted.{sum_by-IsPermutation}
 use Rattle.subdiv_model.specs.Polygons.{same_side, same_edge, is_among}
 use Rattle.number_laws.proofs.CountLemmas.{count-cons, one_if}
 use Rattle.level_topology.specs.BuilderEdges.{low_first}
+use Rattle.level_topology.proofs.BuilderEdgeLemmas.{low-same}
 use Rattle.mesh_check.specs.Keys.{IsWord, AreWords, side_key, edge_key, Rises, is_again, repeats}
 
 -- what is below all numbers is below those that are kept
@@ -107,15 +108,6 @@ side-key-same s t h k = go (nat_eq s.0 t.0) refl (nat_eq s.1 t.1) refl
   where
     go : (a : Bool) → nat_eq s.0 t.0 ≡ a → (b : Bool) → nat_eq s.1 t.1 ≡ b → nat_eq (side_key s) (side_key t) ≡ (nat_eq s.0 t.0 && nat_eq s.1 t.1)
     go a e b f = grind (arith, nat_tests)
-
-low-same : (s t : ℕ × ℕ) → same_side (low_first s) (low_first t) ≡ same_edge s t
-low-same s t = go (nat_le s.0 s.1) refl (nat_le t.0 t.1) refl
-  where
-    go : (a : Bool) → nat_le s.0 s.1 ≡ a → (b : Bool) → nat_le t.0 t.1 ≡ b → same_side (low_first s) (low_first t) ≡ same_edge s t
-    go true e true f = rw (e, f) (grind (arith, nat_tests))
-    go true e false f = rw (e, f) (grind (arith, nat_tests))
-    go false e true f = rw (e, f) (grind (arith, nat_tests))
-    go false e false f = rw (e, f) (grind (arith, nat_tests))
 
 low-second : (s : ℕ × ℕ) → IsWord s → (low_first s).1 < 2 ^ 32
 low-second s h = go (nat_le s.0 s.1) refl

@@ -1,5 +1,5 @@
 -- A list whose numbers are marked as they are met has none twice where none was marked before.
-use Rattle.std.proofs.Common.{◌≡◌, ℕ, zero, suc, ◌+◌, ◌<◌, ◌≤◌, ◌≢◌, Bool, true, false, not, ◌&&◌, ◌||◌, nat_eq, List, [], ◌∷◌, ◌++◌, length, drop, replicate, get_or, slice_set, add-one, arith, refl, ap, sym, subst, ◌∙◌, get_or-set_other, get_or-set_same, Some}
+use Rattle.std.proofs.Common.{◌≡◌, ℕ, zero, suc, ◌+◌, ◌<◌, ◌≤◌, ◌≢◌, Bool, true, false, not, ◌&&◌, ◌||◌, nat_eq, List, [], ◌∷◌, length, drop, replicate, get_or, slice_set, arith, refl, ap, sym, subst, ◌∙◌, get_or-set_other, get_or-set_same, Some}
 use Rattle.std.specs.List.{All, list_all, slice_get}
 use Rattle.std.proofs.lemmas.Bool.Decides.{nat_tests}
 use Rattle.std.proofs.lemmas.Bool.{eqb-true, eq-eqb}
@@ -94,14 +94,6 @@ low-with marks v mark low h w = go (nat_eq v w) refl
     go false e =
         let apart : w ≢ v = λ k. grind (arith, nat_tests) in
         omega (arith, get_or-set_other marks v w mark 0 apart, low w)
-
--- one more of the same
-pub replicate-push : (n k : ℕ) → replicate (n + 1) k ≡ replicate n k ++ k ∷ []
-replicate-push n k = rw add-one (go n)
-  where
-    go : (n : ℕ) → replicate (suc n) k ≡ replicate n k ++ k ∷ []
-    go zero = refl
-    go (suc n) = ap (λ xs. k ∷ xs) (go n)
 
 abbrev no_marks : ℕ → List ℕ
 no_marks n = replicate n 0

@@ -1,14 +1,12 @@
 -- A walk step by step, with a mark at each item that it met.
-use Rattle.std.proofs.Common.{◌≡◌, ℕ, zero, suc, ◌+◌, ◌-◌, ◌<◌, ◌≤◌, ◌≢◌, Bool, true, false, not, ◌&&◌, ◌||◌, nat_eq, nat_lt, List, [], ◌∷◌, ◌++◌, length, get_or, slice_set, replicate, arith, refl, ap, sym, subst, ◌∙◌, inl, inr, Option, Some, None}
+use Rattle.std.proofs.Common.{◌≡◌, ℕ, zero, suc, ◌-◌, ◌<◌, Bool, true, false, not, ◌&&◌, nat_eq, nat_lt, List, length, get_or, slice_set, replicate, arith, refl, ap, sym, ◌∙◌}
 use Rattle.std.specs.List.{All, list_all}
-use Rattle.std.specs.Option.{MatchOption, unwrap_or}
 use Rattle.std.proofs.lemmas.Bool.Decides.{nat_tests}
 use Rattle.std.proofs.lemmas.List.{length-replicate}
 use Rattle.std.proofs.lemmas.List.Sums.{AllPass-from_list_all}
 use Rattle.std.proofs.lemmas.Grind.{get_or_default_zero}
-use Rattle.subdiv_model.specs.Polygons.{is_among}
 use Rattle.mesh_check.specs.Marks.{is_new}
-use Rattle.mesh_check.specs.Chain.{walked, is_long_walk, goes_on, IsStart}
+use Rattle.mesh_check.specs.Chain.{walked, is_long_walk, goes_on}
 use Rattle.mesh_check.proofs.MarkLemmas.{new-distinct, none-marked}
 
 goes-split : (mark : ℕ) (next marks : List ℕ) (n i : ℕ) → goes_on mark next marks n i ≡ (list_all (λ k. nat_lt k (length next)) (walked next n i) && is_new mark marks (walked next n i))
@@ -49,10 +47,3 @@ step-on mark next marks (suc steps) i h inside k =
     let one : suc steps - 1 ≡ steps = omega arith in
     let same : get_or next i 0 ≡ get_or next i (length next) = sym (get_or_default_zero next i (length next) inside) in
     ap (λ n. goes_on mark next (slice_set marks i mark) n (get_or next i 0)) one ∙ ap (goes_on mark next (slice_set marks i mark) steps) same ∙ sym (rw (less, k) refl)
-
--- the first item without a mark is a start, or the item 0 where each has one
-pub start-from : (next led : List ℕ) (found : Option ℕ) (s : ℕ) → length led ≡ length next → ((j : ℕ) → j < length next → nat_eq (get_or led j 0) 1 ≡ is_among next j) → MatchOption found ((j : ℕ) → j < length led → nat_eq (get_or led j 0) 1 ≡ true) (λ k. (k < length led) × (nat_eq (get_or led k 0) 1 ≡ false)) → s ≡ unwrap_or found 0 → IsStart next s
-start-from next led None s size is all e = inr (e, λ j h. sym (is j h) ∙ all j (omega (arith, h, size)))
-start-from next led (Some k) s size is bare e =
-    let inside : k < length next = omega (arith, bare.0, size) in
-    subst (IsStart next) (sym e) (inl (inside, sym (is k inside) ∙ bare.1))

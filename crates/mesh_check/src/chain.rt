@@ -1,6 +1,6 @@
 //! Whether items that each lead to one other at most stand in one chain.
 
-ghost use Rattle.std.specs.Prelude.{◌≡◌, ℕ, ◌+◌, ◌^◌, ◌<◌, true, false, nat_eq, length, get_or, IfOk, MatchOption};
+ghost use Rattle.std.specs.Prelude.{◌≡◌, ℕ, ◌^◌, ◌<◌, true, false, nat_eq, length, get_or, IfOk, MatchOption};
 ghost use Rattle.mesh_check.specs.Chain.{IsOneChain, IsStart, is_long_walk};
 
 use crate::marks::{mark_at, marks_of, no_marks};
