@@ -1,5 +1,5 @@
 -- An edge of the cut mesh is at its boundary exactly where the faces on the two sides of its edge in the mesh are apart.
-use Rattle.std.proofs.Common.{◌≡◌, ℕ, zero, suc, ◌+◌, ◌<◌, ◌≤◌, Bool, true, false, ◌||◌, nat_eq, List, [], ◌∷◌, length, map, get_or, arith, refl, ap, sym, ◌∙◌, ◌⊎◌, inl, inr, if◌then◌else◌}
+use Rattle.std.proofs.Common.{◌≡◌, ℕ, suc, ◌+◌, ◌<◌, ◌≤◌, Bool, true, false, ◌||◌, nat_eq, List, [], ◌∷◌, length, map, get_or, arith, refl, ap, sym, ◌∙◌, ◌⊎◌, inl, inr, if◌then◌else◌}
 use Rattle.std.specs.List.{list_any, list_all, filter}
 use Rattle.std.proofs.lemmas.Bool.{or_cases, or_left, or_right, eqb-true, eq-eqb, false_from_ne_true}
 use Rattle.std.proofs.lemmas.List.{get_or-map, length-map}
@@ -64,12 +64,6 @@ places-kept {X} d p q test n (x ∷ xs) weaker same =
     here false true e k first behind = rw (e, k, first, e) behind
     here false false e k first behind = rw (e, k) behind
 
--- the polygon at a place of polygons with other names
-named-at : (name : ℕ → ℕ) (polygons : List Polygon) (g : ℕ) → polygon_at (map (map name) polygons) g ≡ map name (polygon_at polygons g)
-named-at name [] g = refl
-named-at name (polygon ∷ polygons) zero = refl
-named-at name (polygon ∷ polygons) (suc g) = named-at name polygons g
-
 -- an edge has the edge by other names where the polygon has it
 named-edge : (name : ℕ → ℕ) (s : ℕ × ℕ) (polygon : Polygon) → has_edge s polygon ≡ true → has_edge (renamed name s) (map name polygon) ≡ true
 named-edge name s polygon h =
@@ -119,11 +113,6 @@ module _ (mesh : ObjMesh) where
       -- a face that has the edge in the cut mesh has it in the mesh
       cut-whole-edge : (polygon : Polygon) → has_edge cut_side polygon ≡ true → has_edge s (map (vertex_of mesh) polygon) ≡ true
       cut-whole-edge polygon h = ap (λ (t : ℕ × ℕ). has_edge t (map (vertex_of mesh) polygon)) (sym vertices) ∙ named-edge (vertex_of mesh) cut_side polygon h
-
-      -- the same for the face with a number
-      cut-mesh-edge : (g : ℕ) → has_cut_side g ≡ true → has_edge s (polygon_at mesh.faces g) ≡ true
-      cut-mesh-edge g h =
-          ap (λ (polygons : List Polygon). has_edge s (polygon_at polygons g)) (sym (cut-whole mesh)) ∙ ap (has_edge s) (named-at (vertex_of mesh) (cut_faces mesh) g) ∙ cut-whole-edge (polygon_at (cut_faces mesh) g) h
 
       -- and has the same point at an end
       end-point : (g v : ℕ) → has_corner v (polygon_at mesh.faces f) ≡ true → has_end (point_of mesh f v) cut_side ≡ true → has_cut_side g ≡ true → (has_corner v (polygon_at mesh.faces g) ≡ true) × (point_of mesh g v ≡ point_of mesh f v)

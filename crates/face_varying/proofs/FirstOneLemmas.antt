@@ -1,5 +1,5 @@
 -- Items numbered by first appearance: the numbers, what they are places of, and where an item is new.
-use Rattle.std.proofs.Common.{◌≡◌, ℕ, suc, ◌+◌, ◌≤◌, Bool, true, false, not, ◌||◌, nat_eq, cond, List, [], ◌∷◌, ◌++◌, length, map, arith, refl, ap, sym, ◌∙◌, if◌then◌else◌}
+use Rattle.std.proofs.Common.{◌≡◌, ℕ, ◌+◌, ◌≤◌, Bool, true, false, not, ◌||◌, nat_eq, cond, List, [], ◌∷◌, ◌++◌, length, map, arith, refl, ap, sym, ◌∙◌, if◌then◌else◌}
 use Rattle.std.specs.List.{filter, list_any, position_or_len}
 use Rattle.std.proofs.lemmas.Bool.Decides.{nat_tests}
 use Rattle.std.proofs.lemmas.Bool.{or_left, or_right, or_parts, eq-eqb, not-true, not-false, not_from_true, not_from_false}
@@ -42,10 +42,6 @@ module _ {X : Type 0} (same : X → X → Bool) where
   pub numbers-push : (met xs : List X) (x : X) → numbers_after same met (xs ++ x ∷ []) ≡ numbers_after same met xs ++ position_or_len (same x) (met_after same met xs) ∷ []
   numbers-push met [] x = refl
   numbers-push met (y ∷ xs) x = ap (λ (ns : List ℕ). position_or_len (same y) met ∷ ns) (numbers-push (met_with same met y) xs x)
-
-  pub numbers-length : (met xs : List X) → length (numbers_after same met xs) ≡ length xs
-  numbers-length met [] = refl
-  numbers-length met (x ∷ xs) = ap suc (numbers-length (met_with same met x) xs)
 
   pub with-known : (met : List X) (x : X) → list_any (same x) met ≡ true → met_with same met x ≡ met
   with-known met x h = rw h refl
