@@ -9,10 +9,10 @@ use Rattle.subdiv_model.specs.Cut.{texture_number, channel_point}
 use Rattle.mesh_laws.proofs.SideLemmas.{among-place}
 use Rattle.mesh_laws.proofs.ClosedLemmas.{all-at}
 use Rattle.level_topology.specs.Topology.{Topology}
+use Rattle.mesh_check.proofs.BaseFaceLemmas.{sound-simple, sound-sides}
 use Rattle.face_varying.specs.Corners.{corner_points}
 use Rattle.face_varying.specs.Cut.{IsCuttable}
 use Rattle.face_varying.specs.TextureValues.{value_at, value_of}
-use Rattle.face_varying.proofs.AcceptedLemmas.{accepted-simple, accepted-sides}
 use Rattle.face_varying.proofs.CornerLemmas.{from_corners}
 use Rattle.face_varying.proofs.EdgeSideLemmas.{corner-own}
 use Rattle.face_varying.proofs.CuttableLemmas.{same-faces, texture-length}
@@ -65,9 +65,9 @@ module _ (mesh : ObjMesh) (base : Topology) (cuttable : IsCuttable mesh base) wh
   corner-value f c inside corner =
       let polygon : Polygon = polygon_at mesh.faces f in
       let v : ℕ = get_or polygon c 0 in
-      let simple = accepted-simple mesh base cuttable.accepted in
+      let simple = sound-simple (length mesh.points) mesh.faces cuttable.accepted.manifold in
       let shape = and_parts (nat_le 3 (length polygon)) (is_distinct polygon) (all-at is_simple mesh.faces f [] inside simple) in
-      sym (point-number-at mesh simple (accepted-sides mesh base cuttable.accepted) f v (among-place v polygon c corner refl) ∙ ap (λ k. get_or (polygon_at mesh.texture_corners f) k 0) (corner-own polygon c shape.1 corner))
+      sym (point-number-at mesh simple (sound-sides (length mesh.points) mesh.faces cuttable.accepted.manifold) f v (among-place v polygon c corner refl) ∙ ap (λ k. get_or (polygon_at mesh.texture_corners f) k 0) (corner-own polygon c shape.1 corner))
 
   face-values : (f : ℕ) → f < length mesh.faces → map (value_at mesh.texture) (polygon_at mesh.texture_corners f) ≡ map (λ v. value_of mesh (channel_point mesh f v)) (polygon_at mesh.faces f)
   face-values f inside =

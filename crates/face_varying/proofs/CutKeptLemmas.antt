@@ -15,6 +15,7 @@ use Rattle.mesh_laws.proofs.Laws.{all-simple}
 use Rattle.level_topology.specs.Topology.{face_edges_of, side_at, corner_after}
 use Rattle.level_topology.proofs.BuilderFaceLemmas.{faces-alike}
 use Rattle.level_topology.proofs.LawLemmas.{edges-as-many}
+use Rattle.mesh_check.proofs.BaseMarkLemmas.{corners-faces}
 use Rattle.texture_laws.specs.CutMesh.{cut_faces, cut_point_count}
 use Rattle.texture_laws.proofs.ChannelLemmas.{any-mapped, cut-count, cut-corners}
 use Rattle.texture_laws.proofs.CutFanLemmas.{cut-manifold}
@@ -26,7 +27,7 @@ use Rattle.face_varying.proofs.EdgeSideLemmas.{after-within}
 use Rattle.face_varying.proofs.SideListLemmas.{with_own, sides-listed, all-listed}
 use Rattle.face_varying.proofs.CutFitLemmas.{corner-there}
 use Rattle.face_varying.proofs.CutSharpLemmas.{side-mark}
-use Rattle.face_varying.proofs.KeptLemmas.{marks-are, ends-length, ends-marked, corners-faces, corners-counted, sides-edges}
+use Rattle.face_varying.proofs.KeptLemmas.{marks-are, ends-length, ends-marked, corners-counted, sides-edges}
 
 -- two numbers as a pair
 abbrev pair : ℕ → ℕ → ℕ × ℕ

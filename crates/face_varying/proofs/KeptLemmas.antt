@@ -1,20 +1,17 @@
 -- The points that are marked, of one corner and at the boundary of the cut mesh.
 use Rattle.std.proofs.Common.{◌≡◌, ◌≢◌, ℕ, ◌+◌, ◌<◌, ◌≤◌, Bool, true, false, not, ◌&&◌, ◌||◌, nat_eq, min, List, [], ◌∷◌, ◌++◌, length, map, get_or, take, slice_set, append-nil, arith, refl, ap, sym, ◌∙◌, if◌then◌else◌}
-use Rattle.std.specs.List.{filter, flat_map, list_all, list_any, count_by, sum_by, range_with_len, enumerate_from}
+use Rattle.std.specs.List.{filter, flat_map, list_any, count_by, sum_by, range_with_len, enumerate_from}
 use Rattle.std.proofs.lemmas.Bool.Decides.{nat_tests}
-use Rattle.std.proofs.lemmas.Bool.{and_parts, eqb-true, eqb-false}
+use Rattle.std.proofs.lemmas.Bool.{eqb-true, eqb-false}
 use Rattle.std.proofs.lemmas.List.{get_or-set_same, get_or-set_other, length-set, ext_get_or, map-append}
 use Rattle.std.proofs.lemmas.List.FromFn.{map-range_with_len_more, length-map-range_with_len, get_or-map-range_with_len}
 use Rattle.std.proofs.lemmas.List.Sums.{sum_by-cons, count_by_more_yes, count_by_more_no}
 use Rattle.std.proofs.lemmas.Grind.{flat_map-append}
 use Rattle.std.proofs.lemmas.Simd.{map-map}
-use Rattle.number_laws.proofs.CountLemmas.{count-append, count-some, count-none}
-use Rattle.subdiv_model.specs.Lists.{places_from}
-use Rattle.subdiv_model.specs.Polygons.{Polygon, same_edge, has_corner, is_distinct, polygon_at}
+use Rattle.number_laws.proofs.CountLemmas.{count-append}
+use Rattle.subdiv_model.specs.Polygons.{Polygon, same_edge, polygon_at}
 use Rattle.subdiv_model.specs.Edges.{first_named, has_end}
-use Rattle.subdiv_model.specs.Manifold.{is_simple}
 use Rattle.subdiv_model.specs.Level.{Level}
-use Rattle.mesh_laws.proofs.SideLemmas.{distinct-number-count}
 use Rattle.level_topology.specs.Topology.{face_edges_of, corner_after}
 use Rattle.face_varying.specs.CornerPlaces.{start_of}
 use Rattle.face_varying.specs.Kept.{side_from, first_ends, ends_at, ends_before, with_ends_of, with_ends}
@@ -159,18 +156,6 @@ ends-marked (side ∷ sides) marks p h =
     turn : (a b c : Bool) → ((a || b) || c) ≡ (a || (b || c))
     turn true b c = refl
     turn false b c = refl
-
--- a simple face has a vertex once at most, so that its corners there are its faces
-pub corners-faces : (v place : ℕ) (polygons : List Polygon) → list_all is_simple polygons ≡ true → length (places_from place (has_corner v) polygons) ≡ sum_by (count_by (nat_eq v)) polygons
-corners-faces v place [] simple = refl
-corners-faces v place (polygon ∷ polygons) simple =
-    let parts = and_parts (is_simple polygon) (list_all is_simple polygons) simple in
-    here (has_corner v polygon) refl (distinct-number-count v polygon (and_parts _ (is_distinct polygon) parts.0).1) (corners-faces v (place + 1) polygons parts.1)
-  where
-    here : (b : Bool) → has_corner v polygon ≡ b → count_by (nat_eq v) polygon ≤ 1 → length (places_from (place + 1) (has_corner v) polygons) ≡ sum_by (count_by (nat_eq v)) polygons
-        → length (places_from place (has_corner v) (polygon ∷ polygons)) ≡ sum_by (count_by (nat_eq v)) (polygon ∷ polygons)
-    here true h once behind = rw h (omega (arith, sum_by-cons (count_by (nat_eq v)) polygon polygons, count-some (nat_eq v) polygon h))
-    here false h once behind = rw h (omega (arith, sum_by-cons (count_by (nat_eq v)) polygon polygons, count-none (nat_eq v) polygon h))
 
 -- the numbers at all corners, counted face by face
 pub corners-counted : {X : Type 0} (test : ℕ → Bool) (g : ℕ → ℕ → X) (number : X → ℕ) (place : ℕ) (faces : List Polygon)

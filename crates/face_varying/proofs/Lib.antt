@@ -20,7 +20,6 @@ mod LabelLemmas
 mod FanEdgeLemmas
 mod JoinedRunLemmas
 mod CornerLabelLemmas
-mod AcceptedLemmas
 mod CornerValueLemmas
 mod FirstOneLemmas
 mod FirstOneStepLemmas

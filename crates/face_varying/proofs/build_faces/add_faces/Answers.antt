@@ -1,7 +1,7 @@
 use Rattle.std.proofs.Common.{arith, sym, subst, ◌≡◌, ◌+◌, ◌<◌, ◌^◌, length, get_or, true}
 use Rattle.std.specs.List.{sum_by}
 use Rattle.level_topology.specs.Builder.{Built, has_new_sides}
-use Rattle.face_varying.proofs.BuiltFaceLemmas.{face-simple, face-size, face-inside, face-short, face-few, face-new, faces-more, all-faces}
+use Rattle.face_varying.proofs.BuiltFaceLemmas.{face-simple, face-size, face-inside, face-short, face-few, face-new, cut-faces-more, all-faces}
 use Rattle.face_varying.proofs.build_faces.add_faces.Goals as goal
 
 pub add_face-requires-clause-simple : goal.add_face-requires-clause-simple
@@ -47,7 +47,7 @@ loop-f-preserved g c =
     let faces = c.args.level.now.level.polygons in
     let numbers = c.args.numbers.now in
     record {
-      faces = faces-more c.args.builder.now.level.point_count c.args.builder.now.level.method faces numbers c.args.level.now.level.holes c.loop-f.f c.faces-f-end.result c.cut_face.result.now c.is_hole.result c.loop-f.builder c.add_face.new.self c.loop-f-test.true c.faces-f-end.ensures c.cut_face.ensures c.requires.holes c.is_hole.ensures
+      faces = cut-faces-more c.args.builder.now.level.point_count c.args.builder.now.level.method faces numbers c.args.level.now.level.holes c.loop-f.f c.faces-f-end.result c.cut_face.result.now c.is_hole.result c.loop-f.builder c.add_face.new.self c.loop-f-test.true c.faces-f-end.ensures c.cut_face.ensures c.requires.holes c.is_hole.ensures
           c.loop-f.invariant.faces c.in_ok-add_face.ensures.added;
       steps = omega (arith, c.add_face.ensures.steps, c.loop-f.invariant.steps);
     }
