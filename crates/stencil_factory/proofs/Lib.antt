@@ -16,4 +16,3 @@ pub mod ComposedLemmas
 pub mod MarkLemmas
 pub mod MetLemmas
 pub mod NameLemmas
-pub mod DivideLemmas

@@ -8,11 +8,10 @@ ghost use Rattle.primvar_refine.specs.Found.{ArePointDenominators};
 ghost use Rattle.stencil_factory.specs.Scratch.{added_shares};
 ghost use Rattle.stencil_factory.specs.Flat.{corner_shares, source_shares, flat_shares, CanAddAll, CanWeigh, CanWeighTerm};
 
-use crate::divide::divide;
 use crate::scratch::Scratch;
 use level_topology::Level;
 use mask_rules::{At, Term};
-use ratio128::Memory;
+use ratio128::{Memory, quotient};
 
 // A weight over a multiple of a denominator. Where both are one number nothing is divided.
 fn weight_over(weight: u128, multiple: u128, den: u128) -> u128
@@ -23,7 +22,7 @@ fn weight_over(weight: u128, multiple: u128, den: u128) -> u128
     if den == multiple {
         return weight;
     }
-    weight * divide(multiple, den)
+    weight * quotient(multiple, den)
 }
 
 /// Adds a factor at each corner, over a multiple of the corners' denominators.
@@ -73,7 +72,7 @@ fn add_term(
                 scratch,
                 corners,
                 factor,
-                divide(den, corners.len() as u128),
+                quotient(den, corners.len() as u128),
                 dens,
             )
         }

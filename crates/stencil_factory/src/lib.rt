@@ -6,7 +6,6 @@
 mod compose;
 mod controls;
 mod count;
-mod divide;
 mod fault;
 mod flat;
 mod met;

@@ -17,13 +17,12 @@ ghost use Rattle.stencil_apply.specs.Arrays.{shares_of};
 ghost use Rattle.stencil_factory.specs.Weights.{AreWeights};
 ghost use Rattle.stencil_factory.specs.Flat.{IsWeighed};
 
-use crate::divide::divide;
 use crate::flat::{add_corners, add_terms};
 use crate::scratch::Scratch;
 use level_topology::{Child, Level, Origin};
 use mask_rules::{Scheme, edge_mask, face_mask, vertex_mask};
 use primvar_refine::Survey;
-use ratio128::Memory;
+use ratio128::{Memory, quotient};
 use std::alloc::Global;
 use stencil_apply::Entry;
 
@@ -44,7 +43,7 @@ fn weigh_face(
 {
     parent.facts();
     let mask = face_mask(parent, f);
-    let multiple = divide(den, mask.size() as u128);
+    let multiple = quotient(den, mask.size() as u128);
     add_corners(scratch, parent.face_vertices(f), 1, multiple, dens)
 }
 
@@ -71,7 +70,7 @@ fn weigh_edge(
 {
     parent.facts();
     let mask = edge_mask(parent, e, scheme);
-    let multiple = divide(den, mask.denominator());
+    let multiple = quotient(den, mask.denominator());
     add_terms(scratch, parent, mask.terms(), multiple, dens, faces)
 }
 
@@ -100,7 +99,7 @@ fn weigh_vertex(
     parent.facts();
     match &vertex_mask(alloc, parent, v, scheme) {
         Ok(mask) => {
-            let multiple = divide(den, mask.denominator());
+            let multiple = quotient(den, mask.denominator());
             add_terms(scratch, parent, mask.terms(), multiple, dens, faces)
         }
         Err(_) => Err(Memory),

@@ -42,8 +42,8 @@ weight_over-factor-requires-clause-positive c =
 pub weight_over-factor-requires-clause-small : goal.weight_over-factor-requires-clause-small
 weight_over-factor-requires-clause-small c = (weigh-face c.args.parent.now.level c.args.dens.now c.args.faces.now c.args.multiple c.args.term.now c.requires.weigh c.in-FacePoint.f c.in-FacePoint.is).3
 
-pub divide-requires : goal.divide-requires
-divide-requires c =
+pub quotient-requires : goal.quotient-requires
+quotient-requires c =
     let known = (weigh-face c.args.parent.now.level c.args.dens.now c.args.faces.now c.args.multiple c.args.term.now c.requires.weigh c.in-FacePoint.f c.in-FacePoint.is).0 in
     omega (arith, some-corners c.args.parent.now c.facts.ensures c.in-FacePoint.f known, ap length c.face_vertices-corners.ensures)
 
@@ -58,8 +58,8 @@ add_corners-requires-clause-positive c = c.requires.dens.positive
 pub add_corners-requires-clause-can : goal.add_corners-requires-clause-can
 add_corners-requires-clause-can c =
     let shares = face-shares c.args.parent.now.level c.args.dens.now c.args.faces.now c.args.multiple c.args.term.now
-    c.requires.weigh c.in-FacePoint.f c.weight_over-factor.result c.divide.result c.face_vertices-corners.result.now c.in-FacePoint.is
-    c.face_vertices-corners.ensures c.weight_over-factor.ensures c.divide.ensures in
+    c.requires.weigh c.in-FacePoint.f c.weight_over-factor.result c.quotient.result c.face_vertices-corners.result.now c.in-FacePoint.is
+    c.face_vertices-corners.ensures c.weight_over-factor.ensures c.quotient.ensures in
     subst (λ l. CanAddAll l c.args.scratch.now) shares c.requires.can
 
 pub returns-in-Point : goal.returns-in-Point
@@ -71,6 +71,6 @@ returns-in-Point c =
 pub returns-in-FacePoint : goal.returns-in-FacePoint
 returns-in-FacePoint c =
     let shares = face-shares c.args.parent.now.level c.args.dens.now c.args.faces.now c.args.multiple c.args.term.now
-    c.requires.weigh c.in-FacePoint.f c.weight_over-factor.result c.divide.result c.face_vertices-corners.result.now c.in-FacePoint.is
-    c.face_vertices-corners.ensures c.weight_over-factor.ensures c.divide.ensures in
+    c.requires.weigh c.in-FacePoint.f c.weight_over-factor.result c.quotient.result c.face_vertices-corners.result.now c.in-FacePoint.is
+    c.face_vertices-corners.ensures c.weight_over-factor.ensures c.quotient.ensures in
     on_ok_weaker c.add_corners.result (λ added. added ∙ ap (λ l. added_shares 1 l c.args.scratch.now) (sym shares)) c.add_corners.ensures

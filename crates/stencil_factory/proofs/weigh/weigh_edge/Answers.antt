@@ -10,14 +10,14 @@ add_terms-requires-clause-weigh c =
     part-weigh c.args.parent.now c.facts.ensures (scheme_of c.args.scheme) (FromEdge c.args.e) c.requires.known c.args.dens.now c.args.faces.now c.requires.dens c.requires.faces
     (seen_edge c.edge_mask-mask.result) c.edge_mask-mask.ensures (joined-edge_mask c.args.parent.now.level (edge_at c.args.parent.now.level.polygons c.args.e) (scheme_of c.args.scheme))
     c.args.den c.requires.den c.requires.short (terms_of c.terms.result.now) c.terms.ensures
-    c.denominator.result c.divide-multiple.result c.denominator.ensures c.divide-multiple.ensures c.args.scratch.now c.requires.clear
+    c.denominator.result c.quotient-multiple.result c.denominator.ensures c.quotient-multiple.ensures c.args.scratch.now c.requires.clear
 
 pub add_terms-requires-clause-can : goal.add_terms-requires-clause-can
 add_terms-requires-clause-can c =
     part-can c.args.parent.now c.facts.ensures (scheme_of c.args.scheme) (FromEdge c.args.e) c.requires.known c.args.dens.now c.args.faces.now c.requires.dens c.requires.faces
     (seen_edge c.edge_mask-mask.result) c.edge_mask-mask.ensures (joined-edge_mask c.args.parent.now.level (edge_at c.args.parent.now.level.polygons c.args.e) (scheme_of c.args.scheme))
     c.args.den c.requires.den c.requires.short (terms_of c.terms.result.now) c.terms.ensures
-    c.denominator.result c.divide-multiple.result c.denominator.ensures c.divide-multiple.ensures c.args.scratch.now c.requires.clear
+    c.denominator.result c.quotient-multiple.result c.denominator.ensures c.quotient-multiple.ensures c.args.scratch.now c.requires.clear
 
 pub returns : goal.returns
 returns c =
@@ -25,5 +25,5 @@ returns c =
     (part-weighed c.args.parent.now c.facts.ensures (scheme_of c.args.scheme) (FromEdge c.args.e) c.requires.known c.args.dens.now c.args.faces.now c.requires.dens c.requires.faces
     (seen_edge c.edge_mask-mask.result) c.edge_mask-mask.ensures (joined-edge_mask c.args.parent.now.level (edge_at c.args.parent.now.level.polygons c.args.e) (scheme_of c.args.scheme))
     c.args.den c.requires.den c.requires.short (terms_of c.terms.result.now) c.terms.ensures
-    c.denominator.result c.divide-multiple.result c.denominator.ensures c.divide-multiple.ensures c.args.scratch.now c.requires.clear c.add_terms.new.scratch)
+    c.denominator.result c.quotient-multiple.result c.denominator.ensures c.quotient-multiple.ensures c.args.scratch.now c.requires.clear c.add_terms.new.scratch)
     c.add_terms.ensures

@@ -18,14 +18,14 @@ add_corners-requires-clause-positive c = c.requires.dens.positive
 
 pub add_corners-requires-clause-can : goal.add_corners-requires-clause-can
 add_corners-requires-clause-can c =
-    subst (λ l. CanAddAll l c.args.scratch.now) (flat-corners c.args.parent.now.level c.args.dens.now [] c.divide-multiple.result c.face_vertices.result.now)
+    subst (λ l. CanAddAll l c.args.scratch.now) (flat-corners c.args.parent.now.level c.args.dens.now [] c.quotient-multiple.result c.face_vertices.result.now)
     (given-can c.args.parent.now.level c.args.dens.now [] c.requires.dens (corners_over (polygon_at c.args.parent.now.level.polygons c.args.f) c.face_mask-mask.result.size) _ c.face_mask-mask.ensures.mask
     (joined-corners (polygon_at c.args.parent.now.level.polygons c.args.f))
     (known-corners c.args.parent.now.level c.args.dens.now [] c.requires.dens (polygon_at c.args.parent.now.level.polygons c.args.f)
     (recursion_from_All (λ v. v < length c.args.dens.now) (polygon_at c.args.parent.now.level.polygons c.args.f)
     (face-corners c.args.parent.now c.facts.ensures c.args.f c.requires.known c.args.dens.now c.requires.dens)))
     c.args.den c.requires.den c.requires.short (weigh_points 1 c.face_vertices.result.now) (ap (weigh_points 1) c.face_vertices.ensures)
-    c.size.result c.divide-multiple.result c.size.ensures c.divide-multiple.ensures c.args.scratch.now c.requires.clear)
+    c.size.result c.quotient-multiple.result c.size.ensures c.quotient-multiple.ensures c.args.scratch.now c.requires.clear)
 
 pub returns : goal.returns
 returns c =
@@ -36,6 +36,6 @@ returns c =
     (recursion_from_All (λ v. v < length c.args.dens.now) (polygon_at c.args.parent.now.level.polygons c.args.f)
     (face-corners c.args.parent.now c.facts.ensures c.args.f c.requires.known c.args.dens.now c.requires.dens)))
     c.args.den c.requires.den c.requires.short (weigh_points 1 c.face_vertices.result.now) (ap (weigh_points 1) c.face_vertices.ensures)
-    c.size.result c.divide-multiple.result c.size.ensures c.divide-multiple.ensures c.args.scratch.now c.requires.clear c.add_corners.new.scratch
-    (added ∙ ap (λ l. added_shares 1 l c.args.scratch.now) (sym (flat-corners c.args.parent.now.level c.args.dens.now [] c.divide-multiple.result c.face_vertices.result.now))))
+    c.size.result c.quotient-multiple.result c.size.ensures c.quotient-multiple.ensures c.args.scratch.now c.requires.clear c.add_corners.new.scratch
+    (added ∙ ap (λ l. added_shares 1 l c.args.scratch.now) (sym (flat-corners c.args.parent.now.level c.args.dens.now [] c.quotient-multiple.result c.face_vertices.result.now))))
     c.add_corners.ensures
