@@ -9,7 +9,6 @@ use Rattle.subdiv_model.specs.Child.{refined_level, faces_after}
 use Rattle.subdiv_model.specs.ObjMesh.{ObjMesh}
 use Rattle.subdiv_model.specs.Command.{Command, Levels}
 use Rattle.subdiv_model.specs.Fault.{Fault, TooLarge, Overflow, Positions, ChaikinOverflow}
-use Rattle.subdiv_model.specs.Fault as run
 use Rattle.subdiv_model.specs.Answer.{level_count_faults, command_faults, command_text}
 use Rattle.level_topology.specs.Topology.{Topology}
 use Rattle.level_topology.specs.declared.counted.Counted.{Counted}

@@ -1,6 +1,6 @@
 //! The counts of the levels of a mesh, from 0 to a depth.
 
-ghost use Rattle.std.specs.Prelude.{◌≡◌, ℕ, ◌+◌, ◌≤◌, ◌<◌, ◌^◌, List, length, map, None, IfOk, IfErr, MatchResult, OnOk};
+ghost use Rattle.std.specs.Prelude.{◌≡◌, ℕ, ◌+◌, ◌≤◌, ◌<◌, ◌^◌, List, length, None, IfOk, IfErr, MatchResult, OnOk};
 ghost use Rattle.std.specs.List.{sum_by};
 ghost use Rattle.obj_tags.specs.Laws.{IsWithin};
 ghost use Rattle.subdiv_model.specs.Polygons.{Polygon};

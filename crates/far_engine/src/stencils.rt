@@ -1,12 +1,12 @@
 //! The table of a mesh at a depth.
 
-ghost use Rattle.std.specs.Prelude.{◌≡◌, ◌+◌, ◌≤◌, length, None, MatchResult, OnOk};
+ghost use Rattle.std.specs.Prelude.{◌≡◌, ◌+◌, ◌≤◌, length, None, MatchResult};
 ghost use Rattle.std.specs.List.{All};
 ghost use Rattle.obj_tags.specs.Laws.{IsWithin};
 ghost use Rattle.reading_laws.specs.Short.{IsShortPoint};
 ghost use Rattle.subdiv_model.specs.Lists.{first_of};
 ghost use Rattle.subdiv_model.specs.Command.{Stencils};
-ghost use Rattle.subdiv_model.specs.Answer.{level_count_faults, positions_of};
+ghost use Rattle.subdiv_model.specs.Answer.{level_count_faults};
 ghost use Rattle.mesh_check.specs.Checked.{IsAccepted};
 ghost use Rattle.level_text.specs.TableText.{text_of_table};
 ghost use Rattle.far_engine.specs.Written.{IsWritten};
