@@ -9,7 +9,7 @@ use Rattle.subdiv_model.specs.ObjMesh.{ObjMesh}
 use Rattle.subdiv_model.specs.Mask.{CatmullClark}
 use Rattle.subdiv_model.specs.Command.{By}
 use Rattle.subdiv_model.specs.Fault.{Positions}
-use Rattle.subdiv_model.specs.Channel.{Channel, Asked, greatest_amount, number_bound}
+use Rattle.subdiv_model.specs.Channel.{Asked, greatest_amount, number_bound}
 use Rattle.subdiv_model.specs.Value.{Value}
 use Rattle.subdiv_model.specs.Refined.{refined_values, control_values}
 use Rattle.subdiv_model.specs.Answer.{level_count_faults, point_numbers, positions_of}
@@ -91,12 +91,14 @@ refined-points asked mesh points depth last values said some is =
     }
 
 -- The same of what a refinement answers.
-pub refined-result : (asked : Asked) (mesh : ObjMesh) (points : List Point3) (depth : ℕ) → map reader.point_of points ≡ mesh.points → 0 < mesh.common →
-    (r : Result (RefinedChannel Point3) ChannelFault) (channel : Channel) → channel ≡ positions_of mesh →
-    MatchResult r (λ refined. IsRefinedTo asked channel (control_rows (map numbers points)) depth refined.level (rows_of numbers refined.values.items)) (λ fault. IsChannelFault asked channel depth fault) →
+pub refined-result : (mesh : ObjMesh) (level : Topology) (points : List Point3) (greatest common : ℕ) → IsAccepted mesh level → map reader.point_of points ≡ mesh.points →
+    greatest ≡ greatest_amount (point_numbers (map reader.point_of points)) → common ≡ mesh.common → 0 < mesh.common → (asked : Asked) (depth : ℕ) (r : Result (RefinedChannel Point3) ChannelFault) →
+    MatchResult r (λ refined. IsRefinedTo asked (channel_of level.level CatmullClark greatest common) (control_rows (map numbers points)) depth refined.level (rows_of numbers refined.values.items))
+    (λ fault. IsChannelFault asked (channel_of level.level CatmullClark greatest common) depth fault) →
     MatchResult r (λ refined. AreRefined asked mesh depth refined.level refined.values.items) (λ fault. IsChannelFault asked (positions_of mesh) depth fault)
-refined-result asked mesh points depth said some r channel same is =
-    refined-as numbers asked (positions_of mesh) points depth (AreRefined asked mesh depth) (λ last values. refined-points asked mesh points depth last values said some) r channel same is
+refined-result mesh level points greatest common accepted said most over some asked depth r is =
+    refined-as numbers asked (positions_of mesh) points depth (AreRefined asked mesh depth) (λ last values. refined-points asked mesh points depth last values said some) r _
+    (same-channel mesh level points greatest common accepted said most over) is
 
 -- The steps of a refinement: those of its levels, and of its terms or entries.
 module _ (mesh : ObjMesh) (level : Topology) (by : By) (depth : ℕ) (accepted : IsAccepted mesh level) where

@@ -1,5 +1,5 @@
 -- The steps of a refinement, by those of its parts.
-use Rattle.std.proofs.Common.{◌≡◌, ℕ, ◌+◌, ◌≤◌, Bool, true, false, cond, length, Option, arith, refl}
+use Rattle.std.proofs.Common.{ℕ, ◌+◌, ◌≤◌, Bool, true, false, cond, length, Option, arith}
 use Rattle.subdiv_model.specs.ObjMesh.{ObjMesh}
 use Rattle.subdiv_model.specs.Command.{Refine, Uv, By, Tags}
 use Rattle.far_engine.specs.Outcome.{least_steps, step_limit, level_faces_to, position_steps, texture_steps, where_textured}
@@ -53,10 +53,9 @@ module _ (depth : ℕ) (decimals : Option ℕ) (uv : Uv) (by : By) (tags : Tags)
       fits : (f l p w v : ℕ) → between ≤ old + w → f + after ≤ between + (l + p) → w + new ≤ after + v → f + new ≤ old + (l + p + v)
       fits f l p w v a b c = omega (arith, a, b, c)
 
-  pub all-taken : (old between after new : ℕ) → old ≤ between → between + position_steps by depth mesh ≤ after →
-      after + where_textured mesh (texture_steps by uv depth mesh) ≤ new → old + least_steps (Refine depth decimals uv by tags) mesh ≤ new
-  all-taken old between after new g h i =
-      fits (position_steps by depth mesh) (where_textured mesh (texture_steps by uv depth mesh)) g h i
+  pub all-taken : (old between new : ℕ) → old + position_steps by depth mesh ≤ between →
+      between + where_textured mesh (texture_steps by uv depth mesh) ≤ new → old + least_steps (Refine depth decimals uv by tags) mesh ≤ new
+  all-taken old between new g h = fits (position_steps by depth mesh) (where_textured mesh (texture_steps by uv depth mesh)) g h
     where
-      fits : (p t : ℕ) → old ≤ between → between + p ≤ after → after + t ≤ new → old + (p + t) ≤ new
-      fits p t a b c = omega (arith, a, b, c)
+      fits : (p t : ℕ) → old + p ≤ between → between + t ≤ new → old + (p + t) ≤ new
+      fits p t a b = omega (arith, a, b)

@@ -7,14 +7,12 @@ ghost use Rattle.reading_laws.specs.Short.{IsShortPoint, IsShortTexture};
 ghost use Rattle.subdiv_model.specs.Lists.{first_of};
 ghost use Rattle.subdiv_model.specs.Manifold.{IsManifold};
 ghost use Rattle.subdiv_model.specs.Command.{Refine};
-ghost use Rattle.subdiv_model.specs.Fault.{Positions};
-ghost use Rattle.subdiv_model.specs.Channel.{channel_faults};
-ghost use Rattle.subdiv_model.specs.Answer.{level_count_faults, positions_of, asked_of};
+ghost use Rattle.subdiv_model.specs.Answer.{level_count_faults};
 ghost use Rattle.mesh_check.specs.Checked.{IsAccepted};
 ghost use Rattle.far_words.specs.View.{uv_of_code, by_of_code, tags_of_code};
 ghost use Rattle.far_engine.specs.Written.{IsWritten};
-ghost use Rattle.far_engine.specs.Outcome.{refusal_of_mesh, least_steps, step_limit, where_textured, position_steps, texture_steps, level_faces_to, IsFound};
-ghost use Rattle.far_engine.specs.Refine.{AreRefined, IsCutAs, IsTextureFound, IsTextureOf, CanBePut, refined_text};
+ghost use Rattle.far_engine.specs.Outcome.{refusal_of_mesh, least_steps, step_limit, where_textured, texture_steps, level_faces_to, IsFound};
+ghost use Rattle.far_engine.specs.Refine.{IsCutAs, IsTextureFound, IsTextureOf, CanBePut, refined_text};
 ghost use Rattle.far_engine.specs.View.{fault_of};
 
 use crate::fault::FarFault;
@@ -111,32 +109,6 @@ fn refine_cut<L: Ledger>(
     }
 }
 
-// The positions refined to a depth. No level has too many faces.
-fn refine_points<L: Ledger>(
-    alloc: Global,
-    mesh: &RawMesh,
-    level: Level,
-    depth: u32,
-    by: By,
-    steps: &mut Steps<L>,
-) -> Result<RefinedChannel<Point3>, FarFault>
-    requires within { IsWithin mesh.now }
-    requires short { All IsShortPoint mesh.now.points }
-    requires accepted { IsAccepted mesh.now level }
-    requires few { first_of (level_count_faults mesh.now.faces depth) ≡ None }
-    requires depth { depth ≤ 10 }
-    ensures refined { MatchResult result (λ refined. AreRefined (asked_of (by_of_code by)) mesh.now depth refined.level refined.values.items)
-        (λ fault. IsFound (fault_of fault) (first_of (channel_faults (asked_of (by_of_code by)) (positions_of mesh.now) Positions depth))) }
-    ensures taken { OnOk result (steps.old + position_steps (by_of_code by) depth mesh.now ≤ steps.new) }
-    ensures steps { length mesh.now.faces + steps.new ≤ steps.old + (level_faces_to depth mesh.now + position_steps (by_of_code by) depth mesh.now) }
-    ensures later { steps.old ≤ steps.new }
-{
-    match refine_positions(alloc, mesh, level, depth, by, steps) {
-        Ok(positions) => Ok(positions),
-        Err(fault) => Err(fault_of_channel(fault, Track::Positions)),
-    }
-}
-
 // The positions and the texture of a mesh refined to a depth, from its level 0 and its cut mesh.
 fn refine_tracks<L: Ledger>(
     alloc: Global,
@@ -167,7 +139,7 @@ fn refine_tracks<L: Ledger>(
         → length mesh.now.faces + steps.new ≤ before + step_limit (Refine depth decimals (uv_of_code uv) (by_of_code by) (tags_of_code tags)) mesh.now }
     ensures later { steps.old ≤ steps.new }
 {
-    let positions = refine_points(alloc, mesh, level, depth, by, steps)?;
+    let positions = refine_positions(alloc, mesh, level, depth, by, steps)?;
     let texture = refine_cut(alloc, mesh, channel, uv, depth, by, steps)?;
     Ok(Refined {
         level: positions.level,

@@ -4,7 +4,7 @@ use Rattle.level_text.specs.Points.{CanBeWritten}
 use Rattle.far_words.specs.View.{by_of_code, uv_of_code, tags_of_code}
 use Rattle.far_engine.proofs.RefusalLemmas.{manifold-of, handed-on}
 use Rattle.far_engine.proofs.RefineLemmas.{positions-found, texture-found, none-found, refined-written, texture-can}
-use Rattle.far_engine.proofs.StepLemmas.{positions-alone}
+use Rattle.far_engine.proofs.StepLemmas.{positions-alone, all-steps, all-taken}
 use Rattle.far_engine.proofs.refine.refine_tracks.Goals as goal
 
 pub returns-in_err-positions-clause-refined : goal.returns-in_err-positions-clause-refined
@@ -16,7 +16,7 @@ returns-in_err-positions-clause-refined g c =
 pub returns-in_err-positions-clause-steps : goal.returns-in_err-positions-clause-steps
 returns-in_err-positions-clause-steps g c = λ before h.
     positions-alone c.args.depth c.args.decimals (uv_of_code c.args.uv) (by_of_code c.args.by) (tags_of_code c.args.tags) c.args.mesh.now before _ _
-    h c.refine_points.ensures.steps
+    h c.refine_positions.ensures.steps
 
 pub refine_cut-requires-clause-manifold : goal.refine_cut-requires-clause-manifold
 refine_cut-requires-clause-manifold g c = manifold-of c.args.mesh.now c.requires.accepted.manifold
@@ -42,3 +42,13 @@ returns-clause-put g c = record {
       c.in_ok-positions.ensures.refined c.in_ok-texture.ensures.texture;
   decimals = c.requires.decimals;
 }
+
+pub returns-clause-taken : goal.returns-clause-taken
+returns-clause-taken g c =
+    all-taken c.args.depth c.args.decimals (uv_of_code c.args.uv) (by_of_code c.args.by) (tags_of_code c.args.tags) c.args.mesh.now _ _ _
+    c.in_ok-positions.ensures.taken c.in_ok-texture.ensures.taken
+
+pub returns-clause-steps : goal.returns-clause-steps
+returns-clause-steps g c = λ before h.
+    all-steps c.args.depth c.args.decimals (uv_of_code c.args.uv) (by_of_code c.args.by) (tags_of_code c.args.tags) c.args.mesh.now before _ _ _
+    h c.refine_positions.ensures.steps c.refine_cut.ensures.steps
