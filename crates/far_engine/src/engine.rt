@@ -115,7 +115,10 @@ fn answer<S: Source, K: Sink, L: Ledger>(
     ensures later { steps.old ≤ steps.new }
 {
     let reply = reply_of(alloc, command, source, steps)?;
-    put_answer(sink, &reply)
+    let result = put_answer(sink, &reply);
+    // by name, since a drop by name is proved once for its type
+    drop(reply);
+    result
 }
 
 /// Does what the words ask for: reads the source to its end, unless the command makes its mesh by itself, and writes the

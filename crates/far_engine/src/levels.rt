@@ -84,7 +84,11 @@ pub(crate) fn level_within<L: Ledger>(
 {
     let level = level_0(alloc, mesh, steps)?;
     match level_fault(next_faces(&level), depth) {
-        Some(counted) => Err(FarFault::TooLarge(counted)),
+        Some(counted) => {
+            // by name, since a drop by name is proved once for its type
+            drop(level);
+            Err(FarFault::TooLarge(counted))
+        }
         None => Ok(level),
     }
 }

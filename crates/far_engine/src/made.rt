@@ -105,7 +105,10 @@ fn summarize<L: Ledger>(
     ensures later { steps.old ≤ steps.new }
 {
     let composed = compose(alloc, mesh, depth, steps)?;
-    summary_at(alloc, mesh, depth, &composed, steps)
+    let summary = summary_at(alloc, mesh, depth, &composed, steps);
+    // by name, since a drop by name is proved once for its type
+    drop(composed);
+    summary
 }
 
 /// What is told of a sheet of `size` times `size` quads, from 1 to 256, refined to a depth by its table.

@@ -99,5 +99,7 @@ pub(crate) fn stencils<L: Ledger>(
     ensures later { steps.old ≤ steps.new }
 {
     let composed = compose(alloc, mesh, depth, steps)?;
+    // by name, since a drop by name is proved once for its type
+    drop(composed.level);
     Ok(composed.table)
 }

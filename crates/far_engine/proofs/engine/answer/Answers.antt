@@ -7,8 +7,8 @@ returns-in_err-reply-clause-run g c = λ words good said.
 
 pub returns-clause-run : goal.returns-clause-run
 returns-clause-run g c = λ words good said.
-    runs_put _ _ _ _ _ words _ _ _ good said _ _ _ _ c.in_ok-reply.ensures.reply c.put_answer.ensures.ok c.put_answer.ensures.fault
-    c.put_answer.ensures.prefix c.put_answer.ensures.cause c.put_answer.ensures.later c.put_answer.ensures.fixed
+    runs_put _ _ _ _ _ words _ _ _ good said _ _ _ _ c.in_ok-reply.ensures.reply c.put_answer-result.ensures.ok c.put_answer-result.ensures.fault
+    c.put_answer-result.ensures.prefix c.put_answer-result.ensures.cause c.put_answer-result.ensures.later c.put_answer-result.ensures.fixed
 
 pub returns-clause-taken : goal.returns-clause-taken
-returns-clause-taken g c = λ bytes e. on-ok c.put_answer.result (c.in_ok-reply.ensures.taken bytes e)
+returns-clause-taken g c = λ bytes e. on-ok c.put_answer-result.result (c.in_ok-reply.ensures.taken bytes e)
