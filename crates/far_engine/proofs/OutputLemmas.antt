@@ -3,7 +3,7 @@ use Rattle.std.proofs.Common.{◌≡◌, ℕ, ◌≤◌, ◌⊎◌, inl, inr, Bo
 use Rattle.far_io.specs.Bytes.{Rose, Added, AddedPrefix}
 use Rattle.far_io.specs.declared.sink.WriteFailed.{WriteFailed}
 use Rattle.obj_out.specs.Puts.{Puts}
-use Rattle.obj_out.proofs.PutsLemmas.{puts-none, puts-fine, whole-at-end, prefix-at-end}
+use Rattle.obj_out.proofs.PutsLemmas.{puts-fine, whole-at-end, prefix-at-end}
 
 risen : (b : Bool) (k l m : ℕ) → b ≡ false → k ≤ l → IsTrue b ⊎ Rose l m → Rose k m
 risen b k l m fine h (inl failed) = absurd (cc)
@@ -18,9 +18,6 @@ module _ {K : Type 0} (held : K → Option (List ℕ)) (faults fixed : K → ℕ
       subst (λ (b : Bool). Puts held faults fixed k l [] v b is text r) h
       (subst (λ (x : List ℕ). Puts held faults fixed k l x v was is text r) f
       (subst (λ (x : K). Puts held faults fixed x l w v was is text r) e p))
-
-  pub none-new : (k n : K) (w : List ℕ) (was : Bool) → n ≡ k → w ≡ [] → was ≡ false → Puts held faults fixed k n [] w false was [] (Ok tt)
-  none-new k n w was e f h = from-new k n n w w was was [] (Ok tt) e f h (puts-none held faults fixed n w was h)
 
   -- where a put failed
   pub cut-prefix : (k l : K) (v : List ℕ) (is : Bool) (text : List ℕ) (r : Result (Unit {0}) WriteFailed) →
