@@ -15,13 +15,13 @@ use Rattle.mesh_laws.proofs.ChildCornerLemmas.{corner-place}
 use Rattle.level_topology.specs.Topology.{Topology, IsTopology, edge_at, corner_of, corner_after, edge_before, edge_after, side_at}
 use Rattle.level_topology.proofs.LawLemmas.{edge-joins}
 use Rattle.level_topology.proofs.FanWalkLemmas.{after-is, before-is, before-after}
-use Rattle.uniform_refiner.specs.Slots.{first_child, corner_at, edge_from, before_in, half_slot, inner_slot, numbered_edge_point, quad_at}
-use Rattle.uniform_refiner.specs.Slotted.{Slotted, number_at}
-use Rattle.uniform_refiner.specs.Put.{AreChildEdges}
-use Rattle.uniform_refiner.proofs.SlotLemmas.{before-within}
-use Rattle.uniform_refiner.proofs.SlotTellLemmas.{edge-tells}
-use Rattle.uniform_refiner.proofs.QuadLemmas.{face-below}
-use Rattle.uniform_refiner.proofs.ChildEdgeLemmas.{quad-side}
+use Rattle.child_slots.specs.Slots.{first_child, corner_at, edge_from, before_in, half_slot, inner_slot, numbered_edge_point, quad_at}
+use Rattle.child_slots.specs.Slotted.{Slotted, number_at}
+use Rattle.child_slots.specs.Walked.{AreChildEdges}
+use Rattle.child_slots.proofs.SlotLemmas.{before-within}
+use Rattle.child_slots.proofs.SlotTellLemmas.{edge-tells}
+use Rattle.child_slots.proofs.QuadLemmas.{face-below}
+use Rattle.child_slots.proofs.ChildEdgeLemmas.{quad-side}
 use Rattle.uniform_refiner.proofs.PointLemmas.{corner-there, kids, kid-place, kid-quad, kid-corner, kid-after, kid-before}
 use Rattle.uniform_refiner.proofs.FacePointLemmas.{corner-low}
 

@@ -16,13 +16,13 @@ use Rattle.level_topology.specs.Topology.{Topology, IsTopology, corner_of, corne
 use Rattle.level_topology.specs.BuilderFan.{IsRow, IsFanFrom, last_face}
 use Rattle.level_topology.proofs.LawLemmas.{ascend-distinct}
 use Rattle.level_topology.proofs.FanOrderLemmas.{among-at}
-use Rattle.uniform_refiner.specs.Slots.{first_child, corner_at, edge_from, before_in, turn_at, inner_slot, numbered_edge_point, quad_at}
-use Rattle.uniform_refiner.specs.Slotted.{Slotted, number_at}
-use Rattle.uniform_refiner.specs.Put.{AreChildEdges, end_in}
-use Rattle.uniform_refiner.proofs.SlotLemmas.{over-of}
-use Rattle.uniform_refiner.proofs.SlotTableLemmas.{among-number}
-use Rattle.uniform_refiner.proofs.QuadLemmas.{face-below}
-use Rattle.uniform_refiner.proofs.ChildEdgeLemmas.{quad-side, slots-there, ends-all}
+use Rattle.child_slots.specs.Slots.{first_child, corner_at, edge_from, before_in, turn_at, inner_slot, numbered_edge_point, quad_at}
+use Rattle.child_slots.specs.Slotted.{Slotted, number_at, end_in}
+use Rattle.child_slots.specs.Walked.{AreChildEdges}
+use Rattle.child_slots.proofs.SlotLemmas.{over-of}
+use Rattle.child_slots.proofs.SlotTableLemmas.{among-number}
+use Rattle.child_slots.proofs.QuadLemmas.{face-below}
+use Rattle.child_slots.proofs.ChildEdgeLemmas.{quad-side, slots-there, ends-all}
 use Rattle.uniform_refiner.proofs.PointLemmas.{path-from, kids, kids-simple, kids-distinct, kid-place, kid-quad, kid-corner, kid-before, row-of}
 use Rattle.uniform_refiner.proofs.VertexLemmas.{map-all}
 

@@ -1,11 +1,3 @@
-pub mod SlotLemmas
-pub mod ChildNumberLemmas
-pub mod SlotTableLemmas
-pub mod SlotTellLemmas
-pub mod QuadLemmas
-pub mod WalkLemmas
-pub mod FaceWalkLemmas
-pub mod ChildEdgeLemmas
 pub mod PutFaceLemmas
 pub mod PutEdgeLemmas
 pub mod PointLemmas
@@ -20,4 +12,3 @@ pub mod PutPointLemmas
 pub mod UniformLemmas
 pub mod WholeLemmas
 pub mod RefineLemmas
-pub mod HalfTableLemmas

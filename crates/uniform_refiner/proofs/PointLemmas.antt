@@ -18,13 +18,13 @@ use Rattle.level_topology.specs.Topology.{Topology, IsTopology, face_edges_of, c
 use Rattle.level_topology.specs.BuilderFan.{IsTurned, IsRow, last_face}
 use Rattle.level_topology.proofs.FanWalkLemmas.{before-after, fan-permutation}
 use Rattle.level_topology.proofs.TurnLemmas.{turned-edges}
-use Rattle.uniform_refiner.specs.Slots.{first_child, corner_at, edge_from, before_in, numbered_edge_point, quad_at, slots_at}
-use Rattle.uniform_refiner.specs.Slotted.{Slotted, number_at}
-use Rattle.uniform_refiner.specs.Put.{AreChildEdges}
-use Rattle.uniform_refiner.proofs.SlotLemmas.{over-of}
-use Rattle.uniform_refiner.proofs.SlotTableLemmas.{among-number}
-use Rattle.uniform_refiner.proofs.QuadLemmas.{child-quad, face-below}
-use Rattle.uniform_refiner.proofs.ChildEdgeLemmas.{numbers-quad}
+use Rattle.child_slots.specs.Slots.{first_child, corner_at, edge_from, before_in, numbered_edge_point, quad_at, slots_at}
+use Rattle.child_slots.specs.Slotted.{Slotted, number_at}
+use Rattle.child_slots.specs.Walked.{AreChildEdges}
+use Rattle.child_slots.proofs.SlotLemmas.{over-of}
+use Rattle.child_slots.proofs.SlotTableLemmas.{among-number}
+use Rattle.child_slots.proofs.QuadLemmas.{child-quad, face-below}
+use Rattle.child_slots.proofs.ChildEdgeLemmas.{numbers-quad}
 
 -- each child face is that of a corner
 pub record IsPlace (polygons : List Polygon) (k : ℕ) : Type 0 where

@@ -7,11 +7,11 @@ use Rattle.subdiv_model.specs.Sharpness.{Method}
 use Rattle.level_topology.specs.Topology.{Topology, IsTopology}
 use Rattle.level_topology.specs.Rows.{Counts, Rows, no_rows}
 use Rattle.level_topology.specs.Child.{PointOrigin, ChildTopology, child_of}
-use Rattle.uniform_refiner.specs.Put.{AreChildEdges, with_children, with_child_edges}
-use Rattle.uniform_refiner.specs.Slotted.{Slotted}
-use Rattle.uniform_refiner.specs.Walked.{IsWalked}
+use Rattle.child_slots.specs.Walked.{AreChildEdges, IsWalked}
+use Rattle.uniform_refiner.specs.Put.{with_children, with_child_edges}
+use Rattle.child_slots.specs.Slotted.{Slotted}
 use Rattle.uniform_refiner.specs.Points.{ArePoints, counts_for, without_points}
-use Rattle.uniform_refiner.proofs.ChildEdgeLemmas.{ends-all}
+use Rattle.child_slots.proofs.ChildEdgeLemmas.{ends-all}
 use Rattle.uniform_refiner.proofs.PutPointLemmas.{points-none}
 use Rattle.uniform_refiner.proofs.WholeLemmas.{corners-total}
 use Rattle.uniform_refiner.specs.Uniform.{IsUniform, origins_in, all_places}

@@ -14,10 +14,10 @@ use Rattle.level_topology.specs.Topology.{Topology, IsTopology}
 use Rattle.level_topology.specs.Child.{PointOrigin, FromVertex, FromFace, FromEdge, IsOriginWithin, IsPlaceWithin, IsChild, origins_along, corner_origins}
 use Rattle.level_topology.specs.ChildTables.{numbered_origin, point_number}
 use Rattle.level_topology.proofs.LawLemmas.{edge-exists}
-use Rattle.uniform_refiner.specs.Slots.{first_child, corner_at, edge_from, before_in, quad_at, numbered_edge_point}
+use Rattle.child_slots.specs.Slots.{first_child, corner_at, edge_from, before_in, quad_at, numbered_edge_point}
 use Rattle.uniform_refiner.specs.Uniform.{all_origins, all_places, origins_in}
-use Rattle.uniform_refiner.proofs.SlotLemmas.{before-within}
-use Rattle.uniform_refiner.proofs.QuadLemmas.{child-quad, face-below}
+use Rattle.child_slots.proofs.SlotLemmas.{before-within}
+use Rattle.child_slots.proofs.QuadLemmas.{child-quad, face-below}
 use Rattle.uniform_refiner.proofs.PointLemmas.{place-of}
 use Rattle.uniform_refiner.proofs.FacePointLemmas.{corner-low}
 

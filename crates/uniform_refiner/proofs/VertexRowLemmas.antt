@@ -1,32 +1,26 @@
 -- The row of a vertex, as its lists are put.
-use Rattle.std.proofs.Common.{◌≡◌, ℕ, ◌+◌, ◌<◌, Bool, true, false, nat_eq, nat_lt, List, [], ◌∷◌, length, map, get_or, replicate, arith, refl, ap, sym, ◌∙◌, subst}
+use Rattle.std.proofs.Common.{◌≡◌, ℕ, ◌+◌, ◌<◌, Bool, true, false, nat_lt, List, [], ◌∷◌, length, map, get_or, replicate, arith, refl, ap, sym, ◌∙◌, subst}
 use Rattle.std.specs.List.{All}
 use Rattle.std.proofs.lemmas.Bool.Decides.{nat_tests}
 use Rattle.std.proofs.lemmas.Bool.{eq-eqb}
 use Rattle.std.proofs.lemmas.List.{get_or-map, length-map}
 use Rattle.std.proofs.lemmas.List.Sorted.{length_permutation}
 use Rattle.subdiv_model.specs.Polygons.{polygon_at, has_corner, is_among}
-use Rattle.subdiv_model.specs.Edges.{edges_of, faces_of_point, has_end}
+use Rattle.subdiv_model.specs.Edges.{edges_of, faces_of_point}
 use Rattle.mesh_laws.proofs.FanLemmas.{faces-among}
-use Rattle.level_topology.specs.Topology.{Topology, IsTopology, edge_at, end_at, end_of, edge_numbers_at, corner_of}
+use Rattle.level_topology.specs.Topology.{Topology, IsTopology, edge_at, end_of, edge_numbers_at, corner_of}
 use Rattle.level_topology.specs.BuilderFan.{IsRow}
 use Rattle.level_topology.proofs.LawLemmas.{edges-each}
 use Rattle.level_topology.proofs.TurnLemmas.{empty-row, edges-none, nothing-there}
-use Rattle.uniform_refiner.specs.Slots.{first_child, half_slot}
-use Rattle.uniform_refiner.specs.Slotted.{Slotted, number_at}
-use Rattle.uniform_refiner.specs.Put.{AreChildEdges, end_in}
-use Rattle.uniform_refiner.proofs.SlotLemmas.{end-low}
-use Rattle.uniform_refiner.proofs.SlotTableLemmas.{among-number}
-use Rattle.uniform_refiner.proofs.ChildEdgeLemmas.{ends-all}
+use Rattle.child_slots.specs.Slots.{first_child, half_slot}
+use Rattle.child_slots.specs.Slotted.{Slotted, number_at, end_in}
+use Rattle.child_slots.specs.Walked.{AreChildEdges}
+use Rattle.child_slots.proofs.SlotLemmas.{end-low}
+use Rattle.child_slots.proofs.SlotTableLemmas.{among-number}
+use Rattle.child_slots.proofs.ChildEdgeLemmas.{ends-all}
+use Rattle.child_slots.proofs.EndLemmas.{end-has}
 use Rattle.uniform_refiner.proofs.PointLemmas.{kids}
 use Rattle.uniform_refiner.proofs.VertexLemmas.{kid, kid-of, some-row, half-among}
-
-pub end-has : (v k : ℕ) (edge : ℕ × ℕ) → end_at edge k ≡ v → has_end v edge ≡ true
-end-has v k edge same = go (nat_eq k 0) refl
-  where
-    go : (b : Bool) → nat_eq k 0 ≡ b → has_end v edge ≡ true
-    go true e = let first : edge.0 ≡ v = rw e at same in let yes = eq-eqb v edge.0 (sym first) in grind (arith, nat_tests)
-    go false e = let second : edge.1 ≡ v = rw e at same in let yes = eq-eqb v edge.1 (sym second) in grind (arith, nat_tests)
 
 module _ (t : Topology) (is : IsTopology t) (n : Slotted) (are : AreChildEdges t.level n) (v : ℕ) (low : v < t.level.point_count) where
   -- the halves at the vertex are there

@@ -1,9 +1,5 @@
 pub mod FaultText
-pub mod Slots
-pub mod Slotted
-pub mod Walked
 pub mod Put
 pub mod Points
 pub mod Uniform
-pub mod HalfTable
 pub mod Refined

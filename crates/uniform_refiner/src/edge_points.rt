@@ -5,13 +5,11 @@ ghost use Rattle.subdiv_model.specs.Polygons.{is_among};
 ghost use Rattle.subdiv_model.specs.Edges.{edges_of};
 ghost use Rattle.subdiv_model.specs.Child.{child_polygons};
 ghost use Rattle.level_topology.specs.BuilderFan.{IsRow};
-ghost use Rattle.uniform_refiner.specs.Slots.{numbered_edge_point};
-ghost use Rattle.uniform_refiner.specs.Slotted.{number_at};
-ghost use Rattle.uniform_refiner.specs.Put.{AreChildEdges};
+ghost use Rattle.child_slots.specs.Slots.{numbered_edge_point};
+ghost use Rattle.child_slots.specs.Slotted.{number_at};
+ghost use Rattle.child_slots.specs.Walked.{AreChildEdges};
 
-use crate::corners::edge_point_of;
-use crate::numbering::SlotEdges;
-use crate::row::{Row, put_ends};
+use child_slots::{Row, SlotEdges, edge_point_of, put_ends};
 use level_topology::Level;
 use ratio128::Memory;
 

@@ -5,9 +5,11 @@ ghost use Rattle.subdiv_model.specs.Sharpness.{Smooth};
 ghost use Rattle.sharpness_rules.specs.View.{sharpness_of};
 ghost use Rattle.level_topology.specs.Topology.{Topology, IsTopology};
 ghost use Rattle.level_topology.specs.View.{listed, faces_of_pair};
-ghost use Rattle.uniform_refiner.specs.Put.{AreChildEdges, HasHalves, with_child_edges};
+ghost use Rattle.child_slots.specs.Walked.{AreChildEdges};
+ghost use Rattle.child_slots.specs.HalfTable.{HasHalves};
+ghost use Rattle.uniform_refiner.specs.Put.{with_child_edges};
 
-use crate::numbering::SlotEdges;
+use child_slots::SlotEdges;
 use level_topology::{EdgeFaces, Level, LevelRows};
 use sharpness_rules::Sharpness;
 

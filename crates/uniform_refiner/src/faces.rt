@@ -3,12 +3,12 @@
 ghost use Rattle.std.specs.Prelude.{◌≡◌, ◌+◌, ◌*◌, ◌<◌, true, false, [], ◌∷◌, length, get_or};
 ghost use Rattle.std.specs.List.{All, sum_by};
 ghost use Rattle.subdiv_model.specs.Polygons.{polygon_at, is_among};
-ghost use Rattle.uniform_refiner.specs.Slots.{first_child};
-ghost use Rattle.uniform_refiner.specs.Slotted.{number_at};
-ghost use Rattle.uniform_refiner.specs.Put.{AreChildEdges, with_children};
+ghost use Rattle.child_slots.specs.Slots.{first_child};
+ghost use Rattle.child_slots.specs.Slotted.{number_at};
+ghost use Rattle.child_slots.specs.Walked.{AreChildEdges};
+ghost use Rattle.uniform_refiner.specs.Put.{with_children};
 
-use crate::corners::{child_corners, child_slots};
-use crate::numbering::SlotEdges;
+use child_slots::{SlotEdges, child_corners, side_slots};
 use level_topology::{Level, LevelRows};
 use ratio128::Steps;
 use std::sync::ledger::Ledger;
@@ -55,7 +55,7 @@ fn put_children<L: Ledger>(
     let hole = is_child_hole(level, f);
     for c in 0..level.face_vertices(f).len() {
         let corners = child_corners(level, f, c);
-        let numbers = numbers_of(edges, child_slots(level, f, c));
+        let numbers = numbers_of(edges, side_slots(level, f, c));
         rows.put_face(&corners, &numbers, hole, steps);
     }
 }

@@ -1,103 +1,20 @@
-//! The sharpness of the halves of all edges, by their slots. No half sees the order of the edges at its point.
+//! The halves of all edges, or why there is no next level.
 
-ghost use Rattle.std.specs.Prelude.{◌≡◌, ℕ, ◌+◌, ◌*◌, ◌^◌, ◌<◌, ◌≤◌, false, List, length, map, get_or, IfOk, MatchResult, OnOk};
+ghost use Rattle.std.specs.Prelude.{◌≡◌, ◌*◌, ◌^◌, ◌≤◌, length, map, MatchResult};
 ghost use Rattle.std.specs.List.{sum_by};
-ghost use Rattle.subdiv_model.specs.Sharpness.{half_child};
 ghost use Rattle.subdiv_model.specs.Edges.{edges_of};
-ghost use Rattle.sharpness_rules.specs.declared.child.Method.{Method};
-ghost use Rattle.sharpness_rules.specs.declared.sharpness.Sharpness.{Sharpness};
-ghost use Rattle.sharpness_rules.specs.View.{sharpness_of, method_of};
-ghost use Rattle.sharpness_rules.specs.Halves.{AreHalves, halves_overflow};
-ghost use Rattle.uniform_refiner.specs.HalfTable.{AreHalvesPut, AreAllHalves, ring_listed};
+ghost use Rattle.sharpness_rules.specs.View.{sharpness_of};
+ghost use Rattle.child_slots.specs.HalfTable.{AreAllHalves};
 ghost use Rattle.uniform_refiner.specs.Refined.{IsRefusal};
 
-use crate::corners::half_slot_of;
 use crate::fault::RefineFault;
+use child_slots::{HalfFault, put_all_halves};
 use level_topology::Level;
-use ratio128::Memory;
-use sharpness_rules::{Halves, Sharpness};
+use sharpness_rules::Sharpness;
 use std::alloc::Global;
 
-// The sharpness of the edges at a point, in the order of its list. The room of the ring is kept.
-fn put_ring(level: &Level, v: u32, ring: &mut Vec<Sharpness>) -> Result<(), Memory>
-    requires known { v < level.now.level.point_count }
-    ensures { OnOk result (map sharpness_of ring.new.items ≡ ring_listed level.now v) }
-{
-    level.facts();
-    ring.clear();
-    let edges = level.vertex_edges(v);
-    for i in 0..edges.len() {
-        ring.push(level.edge_sharpness(edges[i]))?;
-    }
-    Ok(())
-}
-
-// The half of an edge, by its sharpness, of a ring whose halves do not overflow.
-fn half_of(around: Halves, s: Sharpness) -> Sharpness
-    ensures { (method : Method) (ring : List Sharpness) (at : ℕ) → AreHalves method ring around → halves_overflow method ring ≡ false
-        → at < length ring → s ≡ get_or ring at s → sharpness_of result ≡ half_child (method_of method) (map sharpness_of ring) (sharpness_of s) }
-{
-    match around.half(s) {
-        Ok(half) => half,
-        Err(_) => s,
-    }
-}
-
-// Puts the halves of the edges at a point, if they do not overflow.
-fn put_halves(
-    level: &Level,
-    v: u32,
-    ring: &[Sharpness],
-    halves: &mut [Sharpness],
-) -> Result<(), RefineFault>
-    requires known { v < level.now.level.point_count }
-    requires few { sum_by length level.now.level.polygons ≤ 2 ^ 22 }
-    requires ring { map sharpness_of ring.now ≡ ring_listed level.now v }
-    requires before { AreHalvesPut level.now v 0 (map sharpness_of halves.old) }
-    ensures { MatchResult result (λ _. AreHalvesPut level.now (v + 1) 0 (map sharpness_of halves.new)) (IsRefusal level.now) }
-{
-    level.facts();
-    let around = Halves::of(level.method(), ring);
-    if around.overflows() {
-        return Err(RefineFault::Chaikin(v));
-    }
-    let edges = level.vertex_edges(v);
-    for i in 0..edges.len() {
-        let slot = half_slot_of(level, v, edges[i]);
-        halves[slot as usize] = half_of(around, ring[i]);
-    }
-    Ok(())
-}
-
-// A table for the halves of all edges.
-pub(crate) fn table_for(alloc: Global, level: &Level) -> Result<Vec<Sharpness>, Memory>
-    ensures { IfOk result (λ halves. length halves.items ≡ 2 * length (edges_of level.now.level.polygons)) }
-{
-    level.facts();
-    let count = 2 * level.edges() as usize;
-    Ok(vec![in alloc; Sharpness::Smooth; count]?)
-}
-
-// Puts the halves of all edges, or finds the first point at which they overflow. The ring is room.
-fn put_by_points(
-    level: &Level,
-    ring: &mut Vec<Sharpness>,
-    halves: &mut [Sharpness],
-) -> Result<(), RefineFault>
-    requires few { sum_by length level.now.level.polygons ≤ 2 ^ 22 }
-    requires size { length halves.old ≡ 2 * length (edges_of level.now.level.polygons) }
-    ensures { MatchResult result (λ _. AreAllHalves level.now (map sharpness_of halves.new)) (IsRefusal level.now) }
-{
-    level.facts();
-    for v in 0..level.points() {
-        put_ring(level, v, ring)?;
-        put_halves(level, v, ring, halves)?;
-    }
-    Ok(())
-}
-
 // Puts the halves of all edges, or finds the first point at which they overflow.
-pub(crate) fn put_all_halves(
+pub(crate) fn put_halves(
     alloc: Global,
     level: &Level,
     halves: &mut [Sharpness],
@@ -106,6 +23,9 @@ pub(crate) fn put_all_halves(
     requires size { length halves.old ≡ 2 * length (edges_of level.now.level.polygons) }
     ensures { MatchResult result (λ _. AreAllHalves level.now (map sharpness_of halves.new)) (IsRefusal level.now) }
 {
-    let mut ring = Vec::new(alloc);
-    put_by_points(level, &mut ring, halves)
+    match put_all_halves(alloc, level, halves) {
+        Ok(()) => Ok(()),
+        Err(HalfFault::Chaikin(v)) => Err(RefineFault::Chaikin(v)),
+        Err(HalfFault::Memory) => Err(RefineFault::Memory),
+    }
 }

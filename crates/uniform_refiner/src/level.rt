@@ -5,13 +5,14 @@ ghost use Rattle.std.specs.List.{sum_by};
 ghost use Rattle.sharpness_rules.specs.View.{sharpness_of};
 ghost use Rattle.subdiv_model.specs.Child.{child_level, child_points};
 ghost use Rattle.level_topology.specs.Rows.{no_rows};
-ghost use Rattle.uniform_refiner.specs.Put.{AreChildEdges, HasHalves};
+ghost use Rattle.child_slots.specs.Walked.{AreChildEdges};
+ghost use Rattle.child_slots.specs.HalfTable.{HasHalves};
 ghost use Rattle.uniform_refiner.specs.Points.{counts_for};
 
 use crate::edges::put_edges;
 use crate::faces::put_faces;
-use crate::numbering::SlotEdges;
 use crate::points::put_points;
+use child_slots::SlotEdges;
 use level_topology::{Level, LevelRows};
 use ratio128::{Memory, Steps};
 use sharpness_rules::Sharpness;

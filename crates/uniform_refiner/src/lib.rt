@@ -1,7 +1,6 @@
 //! The next uniform level of a level, made from its tables without a map and without a scan.
 #![tactic(auto)]
 
-mod corners;
 mod count;
 mod edge_points;
 mod edges;
@@ -10,13 +9,10 @@ mod faces;
 mod fault;
 mod halves;
 mod level;
-mod numbering;
 mod origins;
 mod points;
-mod row;
 mod uniform;
 mod vertices;
-mod walk;
 
 pub use count::next_faces;
 pub use fault::RefineFault;

@@ -6,7 +6,7 @@ ghost use Rattle.subdiv_model.specs.Polygons.{polygon_at};
 ghost use Rattle.level_topology.specs.ChildTables.{origin_of, place_of, numbered_origin};
 ghost use Rattle.uniform_refiner.specs.Uniform.{all_places, origins_in};
 
-use crate::corners::first_child_of;
+use child_slots::first_child_of;
 use level_topology::{FacePlace, Level, Origin};
 use ratio128::Memory;
 use std::alloc::Global;

@@ -6,15 +6,13 @@ ghost use Rattle.subdiv_model.specs.Sharpness.{Smooth};
 ghost use Rattle.subdiv_model.specs.Child.{child_points, child_vertex_sharpness};
 ghost use Rattle.sharpness_rules.specs.View.{sharpness_of};
 ghost use Rattle.level_topology.specs.BuilderFan.{IsRow};
-ghost use Rattle.uniform_refiner.specs.Put.{AreChildEdges};
+ghost use Rattle.child_slots.specs.Walked.{AreChildEdges};
 ghost use Rattle.uniform_refiner.specs.Points.{ArePoints, children_of, without_points};
 
-use crate::corners::edge_point_of;
 use crate::edge_points::put_edge_row;
 use crate::face_points::put_face_row;
-use crate::numbering::SlotEdges;
-use crate::row::Row;
 use crate::vertices::put_vertex_row;
+use child_slots::{Row, SlotEdges, edge_point_of};
 use level_topology::{Level, LevelRows};
 use ratio128::Memory;
 use sharpness_rules::{Sharpness, uniform_child};

@@ -6,19 +6,19 @@ ghost use Rattle.sharpness_rules.specs.View.{sharpness_of};
 ghost use Rattle.subdiv_model.specs.Edges.{edges_of};
 ghost use Rattle.subdiv_model.specs.Child.{child_level, child_points};
 ghost use Rattle.level_topology.specs.ChildTables.{origin_of, place_of};
-ghost use Rattle.uniform_refiner.specs.Slots.{slot_count};
-ghost use Rattle.uniform_refiner.specs.Slotted.{no_slots};
-ghost use Rattle.uniform_refiner.specs.Put.{AreChildEdges, HasHalves};
+ghost use Rattle.child_slots.specs.Slots.{slot_count};
+ghost use Rattle.child_slots.specs.Slotted.{no_slots};
+ghost use Rattle.child_slots.specs.Walked.{AreChildEdges};
+ghost use Rattle.child_slots.specs.HalfTable.{HasHalves};
 ghost use Rattle.uniform_refiner.specs.Uniform.{IsUniform, all_places, origins_in};
 ghost use Rattle.uniform_refiner.specs.Refined.{IsRefined, IsRefusal};
 
 use crate::count::next_faces;
 use crate::fault::RefineFault;
-use crate::halves::{put_all_halves, table_for};
+use crate::halves::put_halves;
 use crate::level::{put_level, room_for};
-use crate::numbering::SlotEdges;
 use crate::origins::{put_origins, put_places};
-use crate::walk::{no_edges, number_edges};
+use child_slots::{SlotEdges, half_table, no_edges, number_edges};
 use level_topology::{Child, FacePlace, Level, Origin};
 use ratio128::{Memory, Steps};
 use sharpness_rules::Sharpness;
@@ -142,7 +142,7 @@ fn refine_small<L: Ledger>(
     ensures steps { steps.new ≤ steps.old + sum_by length level.now.level.polygons }
     ensures later { steps.old ≤ steps.new }
 {
-    put_all_halves(alloc, level, halves)?;
+    put_halves(alloc, level, halves)?;
     let mut edges = no_edges(alloc, level)?;
     let child = refine_with(alloc, level, faces, &mut edges, halves, steps)?;
     Ok(child)
@@ -165,6 +165,6 @@ pub fn refine<L: Ledger>(
     if faces > MOST_FACES {
         return Err(RefineFault::TooLarge(faces));
     }
-    let mut halves = table_for(alloc, level)?;
+    let mut halves = half_table(alloc, level)?;
     refine_small(alloc, level, faces as u32, &mut halves, steps)
 }

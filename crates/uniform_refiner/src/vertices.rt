@@ -4,13 +4,11 @@ ghost use Rattle.std.specs.Prelude.{◌≡◌, ◌+◌, ◌<◌, true, false, []
 ghost use Rattle.level_topology.specs.Topology.{corner_of};
 ghost use Rattle.level_topology.specs.BuilderFan.{IsRow};
 ghost use Rattle.subdiv_model.specs.Child.{child_polygons};
-ghost use Rattle.uniform_refiner.specs.Slots.{first_child, half_slot};
-ghost use Rattle.uniform_refiner.specs.Slotted.{number_at};
-ghost use Rattle.uniform_refiner.specs.Put.{AreChildEdges};
+ghost use Rattle.child_slots.specs.Slots.{first_child, half_slot};
+ghost use Rattle.child_slots.specs.Slotted.{number_at};
+ghost use Rattle.child_slots.specs.Walked.{AreChildEdges};
 
-use crate::corners::{first_child_of, half_slot_of};
-use crate::numbering::SlotEdges;
-use crate::row::{Row, put_corner, put_ends};
+use child_slots::{Row, SlotEdges, first_child_of, half_slot_of, put_corner, put_ends};
 use level_topology::Level;
 use ratio128::Memory;
 

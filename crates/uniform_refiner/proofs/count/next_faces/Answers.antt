@@ -1,5 +1,5 @@
 use Rattle.std.proofs.Common.{◌∙◌, ap, arith, get_or}
-use Rattle.uniform_refiner.proofs.SlotLemmas.{start-last}
+use Rattle.child_slots.proofs.SlotLemmas.{start-last}
 use Rattle.uniform_refiner.proofs.count.next_faces.Goals as goal
 
 pub bounds-corner_starts-faces : goal.bounds-corner_starts-faces

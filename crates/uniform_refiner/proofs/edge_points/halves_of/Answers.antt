@@ -1,6 +1,6 @@
 use Rattle.std.proofs.Common.{◌+◌, ◌*◌, arith}
-use Rattle.uniform_refiner.proofs.SlotLemmas.{few-edges}
-use Rattle.uniform_refiner.proofs.SlotTableLemmas.{among-number}
+use Rattle.child_slots.proofs.SlotLemmas.{few-edges}
+use Rattle.child_slots.proofs.SlotTableLemmas.{among-number}
 use Rattle.uniform_refiner.proofs.EdgeWayLemmas.{halves-there}
 use Rattle.uniform_refiner.proofs.edge_points.halves_of.Goals as goal
 

@@ -1,7 +1,7 @@
 use Rattle.std.proofs.Common.{◌+◌, ◌*◌, ◌∙◌, ap, arith}
 use Rattle.subdiv_model.specs.Polygons.{is_among}
-use Rattle.uniform_refiner.specs.Slotted.{number_at}
-use Rattle.uniform_refiner.proofs.SlotLemmas.{few-edges}
+use Rattle.child_slots.specs.Slotted.{number_at}
+use Rattle.child_slots.proofs.SlotLemmas.{few-edges}
 use Rattle.uniform_refiner.proofs.edge_points.inner_of.Goals as goal
 
 pub overflow_mul-edges : goal.overflow_mul-edges

@@ -1,6 +1,6 @@
 use Rattle.std.proofs.Common.{◌<◌, ◌∙◌, ◌++◌, ◌∷◌, [], ap, sym, subst, length, map, List, ℕ}
 use Rattle.std.specs.List.{All}
-use Rattle.uniform_refiner.specs.Put.{end_in}
+use Rattle.child_slots.specs.Slotted.{end_in}
 use Rattle.uniform_refiner.proofs.EdgeWayLemmas.{same-three, edge-ways, start-inner, boundary-inside, boundary-row}
 use Rattle.uniform_refiner.proofs.edge_points.put_boundary_row.Goals as goal
 

@@ -1,6 +1,6 @@
 use Rattle.std.proofs.Common.{◌<◌, ◌∙◌, ◌++◌, ◌∷◌, [], ap, sym, subst, length, map, List, ℕ}
 use Rattle.std.specs.List.{All}
-use Rattle.uniform_refiner.specs.Put.{end_in}
+use Rattle.child_slots.specs.Slotted.{end_in}
 use Rattle.uniform_refiner.proofs.EdgeWayLemmas.{same-four, edge-ways, start-inner, back-inner, inside-inside, inside-row}
 use Rattle.uniform_refiner.proofs.edge_points.put_inside_row.Goals as goal
 

@@ -2,8 +2,8 @@ use Rattle.std.proofs.Common.{◌≡◌, ◌<◌, ◌∙◌, ◌+◌, ◌++◌, 
 use Rattle.std.specs.List.{range_with_len}
 use Rattle.std.proofs.lemmas.List.FromFn.{map-range_with_len_more}
 use Rattle.subdiv_model.specs.Polygons.{polygon_at}
-use Rattle.uniform_refiner.specs.Slots.{first_child, turn_at}
-use Rattle.uniform_refiner.proofs.ChildNumberLemmas.{child-few}
+use Rattle.child_slots.specs.Slots.{first_child, turn_at}
+use Rattle.child_slots.proofs.ChildNumberLemmas.{child-few}
 use Rattle.uniform_refiner.proofs.FacePointLemmas.{turn-low}
 use Rattle.uniform_refiner.proofs.face_points.put_children_of.Goals as goal
 

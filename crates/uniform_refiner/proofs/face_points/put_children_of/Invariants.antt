@@ -1,7 +1,7 @@
 use Rattle.std.proofs.Common.{◌≡◌, ◌+◌, map, length}
 use Rattle.std.specs.List.{range_with_len}
 use Rattle.subdiv_model.specs.Polygons.{polygon_at}
-use Rattle.uniform_refiner.specs.Slots.{first_child, turn_at}
+use Rattle.child_slots.specs.Slots.{first_child, turn_at}
 use Rattle.uniform_refiner.proofs.face_points.put_children_of.Given as goal
 
 -- those so far are put

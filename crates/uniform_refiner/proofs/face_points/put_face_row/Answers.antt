@@ -1,7 +1,7 @@
 use Rattle.std.proofs.Common.{◌≡◌, ◌+◌, ◌<◌, ◌∙◌, ap, sym, subst, length, rules, ℕ, List, map, replicate}
 use Rattle.std.specs.List.{All}
 use Rattle.subdiv_model.specs.Child.{face_point}
-use Rattle.uniform_refiner.specs.Put.{end_in}
+use Rattle.child_slots.specs.Slotted.{end_in}
 use Rattle.uniform_refiner.proofs.FacePointLemmas.{inner-inside, face-row}
 use Rattle.uniform_refiner.proofs.face_points.put_face_row.Goals as goal
 

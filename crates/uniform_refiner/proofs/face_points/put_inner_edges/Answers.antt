@@ -2,9 +2,9 @@ use Rattle.std.proofs.Common.{◌≡◌, ◌<◌, ◌∙◌, ◌++◌, ◌∷◌
 use Rattle.std.specs.List.{range_with_len}
 use Rattle.std.proofs.lemmas.List.FromFn.{map-range_with_len_more}
 use Rattle.subdiv_model.specs.Polygons.{polygon_at, is_among}
-use Rattle.uniform_refiner.specs.Slots.{inner_slot, turn_at}
-use Rattle.uniform_refiner.specs.Slotted.{number_at}
-use Rattle.uniform_refiner.proofs.SlotLemmas.{first-below}
+use Rattle.child_slots.specs.Slots.{inner_slot, turn_at}
+use Rattle.child_slots.specs.Slotted.{number_at}
+use Rattle.child_slots.proofs.SlotLemmas.{first-below}
 use Rattle.uniform_refiner.proofs.FacePointLemmas.{inner-there, turn-low}
 use Rattle.uniform_refiner.proofs.face_points.put_inner_edges.Goals as goal
 

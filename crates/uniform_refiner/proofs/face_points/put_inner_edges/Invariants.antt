@@ -1,8 +1,8 @@
 use Rattle.std.proofs.Common.{◌≡◌, map, length}
 use Rattle.std.specs.List.{range_with_len}
 use Rattle.subdiv_model.specs.Polygons.{polygon_at}
-use Rattle.uniform_refiner.specs.Slots.{inner_slot, turn_at}
-use Rattle.uniform_refiner.specs.Slotted.{number_at}
+use Rattle.child_slots.specs.Slots.{inner_slot, turn_at}
+use Rattle.child_slots.specs.Slotted.{number_at}
 use Rattle.uniform_refiner.proofs.face_points.put_inner_edges.Given as goal
 
 -- those so far are put

@@ -2,24 +2,24 @@ use Rattle.std.proofs.Common.{rules, ◌≡◌, ◌+◌, ◌<◌, ◌∙◌, ap,
 use Rattle.std.specs.List.{All, sum_by}
 use Rattle.subdiv_model.specs.Polygons.{polygon_at, is_among}
 use Rattle.level_topology.specs.Rows.{Rows}
-use Rattle.uniform_refiner.specs.Slots.{first_child, slots_at}
+use Rattle.child_slots.specs.Slots.{first_child, slots_at}
 use Rattle.uniform_refiner.specs.Put.{with_children}
-use Rattle.uniform_refiner.proofs.FaceWalkLemmas.{slots-below}
-use Rattle.uniform_refiner.proofs.ChildEdgeLemmas.{slots-there}
+use Rattle.child_slots.proofs.FaceWalkLemmas.{slots-below}
+use Rattle.child_slots.proofs.ChildEdgeLemmas.{slots-there}
 use Rattle.uniform_refiner.proofs.PutFaceLemmas.{children-room, children-step}
-use Rattle.uniform_refiner.proofs.ChildNumberLemmas.{first-more}
+use Rattle.child_slots.proofs.ChildNumberLemmas.{first-more}
 use Rattle.uniform_refiner.proofs.faces.put_children.Goals as goal
 
 pub numbers_of-numbers-requires-clause-slots : goal.numbers_of-numbers-requires-clause-slots
 numbers_of-numbers-requires-clause-slots g c =
     let h : c.loop-c.c < length (polygon_at c.args.level.now.level.polygons c.args.f) = omega (arith, c.loop-c-test.true, ap length c.face_vertices-c-end.ensures) in
-    subst (λ (xs : List ℕ). All (λ a. a < c.args.edges.now.count) xs) (sym c.child_slots.ensures)
+    subst (λ (xs : List ℕ). All (λ a. a < c.args.edges.now.count) xs) (sym c.side_slots.ensures)
     (subst (λ (n : ℕ). All (λ a. a < n) (slots_at c.args.level.now.level.polygons c.args.f c.loop-c.c)) (sym c.requires.edges.count_is) (slots-below c.args.level.now c.facts.ensures c.args.f c.loop-c.c h))
 
 pub numbers_of-numbers-requires-clause-there : goal.numbers_of-numbers-requires-clause-there
 numbers_of-numbers-requires-clause-there g c =
     let h : c.loop-c.c < length (polygon_at c.args.level.now.level.polygons c.args.f) = omega (arith, c.loop-c-test.true, ap length c.face_vertices-c-end.ensures) in
-    subst (λ (xs : List ℕ). All (λ a. is_among c.args.edges.now.slots a ≡ true) xs) (sym c.child_slots.ensures) (slots-there c.args.level.now c.facts.ensures c.args.edges.now c.requires.edges c.args.f c.loop-c.c h)
+    subst (λ (xs : List ℕ). All (λ a. is_among c.args.edges.now.slots a ≡ true) xs) (sym c.side_slots.ensures) (slots-there c.args.level.now c.facts.ensures c.args.edges.now c.requires.edges c.args.f c.loop-c.c h)
 
 pub put_face-requires-clause-faces : goal.put_face-requires-clause-faces
 put_face-requires-clause-faces g c =
@@ -37,8 +37,8 @@ pub loop-c-preserved : goal.loop-c-preserved
 loop-c-preserved g c =
     let h : c.loop-c.c < length (polygon_at c.args.level.now.level.polygons c.args.f) = omega (arith, c.loop-c-test.true, ap length c.face_vertices-c-end.ensures) in
     record {
-      put = children-step c.args.level.now c.facts.ensures c.args.edges.now c.args.f c.loop-c.c c.args.rows.now c.loop-c.rows _ c.child_corners-corners.result c.child_slots.result c.numbers_of-numbers.result c.is_child_hole-hole.result c.requires.edges h c.loop-c.invariant.put
-          c.child_corners-corners.ensures c.child_slots.ensures c.numbers_of-numbers.ensures c.is_child_hole-hole.ensures c.put_face.ensures.put;
+      put = children-step c.args.level.now c.facts.ensures c.args.edges.now c.args.f c.loop-c.c c.args.rows.now c.loop-c.rows _ c.child_corners-corners.result c.side_slots.result c.numbers_of-numbers.result c.is_child_hole-hole.result c.requires.edges h c.loop-c.invariant.put
+          c.child_corners-corners.ensures c.side_slots.ensures c.numbers_of-numbers.ensures c.is_child_hole-hole.ensures c.put_face.ensures.put;
       steps = search rules;
     }
 

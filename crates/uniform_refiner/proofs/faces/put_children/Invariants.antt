@@ -1,5 +1,5 @@
 use Rattle.std.proofs.Common.{◌≡◌, ◌+◌}
-use Rattle.uniform_refiner.specs.Slots.{first_child}
+use Rattle.child_slots.specs.Slots.{first_child}
 use Rattle.uniform_refiner.specs.Put.{with_children}
 use Rattle.uniform_refiner.proofs.faces.put_children.Given as goal
 

@@ -1,8 +1,8 @@
 use Rattle.std.proofs.Common.{◌≡◌, ◌+◌, ◌∙◌, ap, arith, length}
-use Rattle.uniform_refiner.specs.Slots.{first_child}
+use Rattle.child_slots.specs.Slots.{first_child}
 use Rattle.uniform_refiner.specs.Put.{with_children}
-use Rattle.uniform_refiner.proofs.SlotLemmas.{first-all}
-use Rattle.uniform_refiner.proofs.ChildNumberLemmas.{first-more}
+use Rattle.child_slots.proofs.SlotLemmas.{first-all}
+use Rattle.child_slots.proofs.ChildNumberLemmas.{first-more}
 use Rattle.uniform_refiner.proofs.faces.put_faces.Goals as goal
 
 pub loop-f-preserved : goal.loop-f-preserved

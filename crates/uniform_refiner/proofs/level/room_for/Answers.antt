@@ -1,6 +1,6 @@
 use Rattle.std.proofs.Common.{arith}
 use Rattle.level_topology.proofs.ChildLemmas.{edges-corners}
-use Rattle.uniform_refiner.proofs.FaceWalkLemmas.{walked-few}
+use Rattle.child_slots.proofs.FaceWalkLemmas.{walked-few}
 use Rattle.uniform_refiner.proofs.RefineLemmas.{walked-as}
 use Rattle.uniform_refiner.proofs.level.room_for.Goals as goal
 

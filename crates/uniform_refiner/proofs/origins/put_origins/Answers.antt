@@ -4,7 +4,7 @@ use Rattle.std.proofs.lemmas.List.{map_push}
 use Rattle.std.proofs.lemmas.List.FromFn.{map-range_with_len_more}
 use Rattle.level_topology.specs.Child.{PointOrigin}
 use Rattle.level_topology.specs.ChildTables.{origin_of, numbered_origin}
-use Rattle.uniform_refiner.proofs.SlotLemmas.{few-edges}
+use Rattle.child_slots.proofs.SlotLemmas.{few-edges}
 use Rattle.uniform_refiner.proofs.origins.put_origins.Goals as goal
 
 pub overflow_add-count-2 : goal.overflow_add-count-2

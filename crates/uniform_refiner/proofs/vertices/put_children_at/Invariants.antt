@@ -1,6 +1,6 @@
 use Rattle.std.proofs.Common.{◌≡◌, ◌+◌, take, map, get_or, []}
 use Rattle.level_topology.specs.Topology.{corner_of}
-use Rattle.uniform_refiner.specs.Slots.{first_child}
+use Rattle.child_slots.specs.Slots.{first_child}
 use Rattle.uniform_refiner.proofs.vertices.put_children_at.Given as goal
 
 -- those so far are put

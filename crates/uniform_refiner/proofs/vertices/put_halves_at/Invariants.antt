@@ -1,6 +1,6 @@
 use Rattle.std.proofs.Common.{◌≡◌, take, map, get_or, []}
-use Rattle.uniform_refiner.specs.Slots.{half_slot}
-use Rattle.uniform_refiner.specs.Slotted.{number_at}
+use Rattle.child_slots.specs.Slots.{half_slot}
+use Rattle.child_slots.specs.Slotted.{number_at}
 use Rattle.uniform_refiner.proofs.vertices.put_halves_at.Given as goal
 
 -- those so far are put

@@ -1,6 +1,6 @@
 use Rattle.std.proofs.Common.{◌≡◌, ◌<◌, ◌∙◌, ap, sym, subst, length, rules, ℕ, List, map, replicate}
 use Rattle.std.specs.List.{All}
-use Rattle.uniform_refiner.specs.Put.{end_in}
+use Rattle.child_slots.specs.Slotted.{end_in}
 use Rattle.uniform_refiner.proofs.VertexRowLemmas.{halves-inside, vertex-row}
 use Rattle.uniform_refiner.proofs.vertices.put_vertex_row.Goals as goal
 

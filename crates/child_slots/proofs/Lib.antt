@@ -1,0 +1,10 @@
+pub mod SlotLemmas
+pub mod ChildNumberLemmas
+pub mod SlotTableLemmas
+pub mod SlotTellLemmas
+pub mod QuadLemmas
+pub mod WalkLemmas
+pub mod FaceWalkLemmas
+pub mod ChildEdgeLemmas
+pub mod EndLemmas
+pub mod HalfTableLemmas

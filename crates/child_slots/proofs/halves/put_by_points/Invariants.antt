@@ -1,0 +1,8 @@
+use Rattle.std.proofs.Common.{map}
+use Rattle.sharpness_rules.specs.View.{sharpness_of}
+use Rattle.child_slots.specs.HalfTable.{AreHalvesPut}
+use Rattle.child_slots.proofs.halves.put_by_points.Given as goal
+
+-- those at the points so far are put
+abbrev pub invariant-loop-v : goal.invariant-loop-v
+invariant-loop-v l = AreHalvesPut l.level l.v 0 (map sharpness_of l.halves)

@@ -1,0 +1,7 @@
+use Rattle.std.proofs.Common.{◌≡◌, take, map}
+use Rattle.child_slots.specs.Slotted.{end_in}
+use Rattle.child_slots.proofs.row.put_ends.Given as goal
+
+-- those so far are put
+abbrev pub invariant-loop-i : goal.invariant-loop-i
+invariant-loop-i l = l.ends.items ≡ map (end_in l.edges.ends l.point) (take l.i l.list)

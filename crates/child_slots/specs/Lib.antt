@@ -1,0 +1,4 @@
+pub mod Slots
+pub mod Slotted
+pub mod Walked
+pub mod HalfTable

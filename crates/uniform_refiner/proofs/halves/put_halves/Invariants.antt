@@ -1,8 +1,0 @@
-use Rattle.std.proofs.Common.{map}
-use Rattle.sharpness_rules.specs.View.{sharpness_of}
-use Rattle.uniform_refiner.specs.HalfTable.{AreHalvesPut}
-use Rattle.uniform_refiner.proofs.halves.put_halves.Given as goal
-
--- those of the edges so far are put
-abbrev pub invariant-loop-i : goal.invariant-loop-i
-invariant-loop-i l = AreHalvesPut l.level l.v l.i (map sharpness_of l.halves)

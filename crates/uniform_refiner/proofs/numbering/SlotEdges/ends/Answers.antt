@@ -1,7 +1,0 @@
-use Rattle.std.proofs.lemmas.Grind.{common_steps}
-use Rattle.std.proofs.Common.{arith}
-use Rattle.uniform_refiner.proofs.numbering.SlotEdges.ends.Goals as goal
-
--- asked for by name, so that a body that breaks it is refused at once
-pub returns : goal.returns
-returns c = grind (arith, common_steps)

@@ -1,5 +1,0 @@
-use Rattle.uniform_refiner.proofs.FaceWalkLemmas.{walked-none}
-use Rattle.uniform_refiner.proofs.walk.number_edges.Goals as goal
-
-pub loop-f-init : goal.loop-f-init
-loop-f-init c = walked-none c.args.level.now.level.point_count c.args.level.now.level.polygons c.args.edges.now c.requires.none
