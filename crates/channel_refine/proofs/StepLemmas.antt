@@ -27,7 +27,8 @@ use Rattle.uniform_refiner.specs.Refined.{IsRefined}
 use Rattle.primvar_refine.specs.View.{rows_of}
 use Rattle.primvar_refine.specs.declared.valued.Valued.{Valued}
 use Rattle.primvar_refine.specs.Rows.{Row, dens_of, StandFor, AreWithin, rounded_up, least_bound, greatest_of}
-use Rattle.primvar_refine.specs.Step.{masks_from, has_origin, step_terms, CanRefine, AreRefined, IsFirstTransition, IsFirstDenominator, IsTooBig, HasNoTransition}
+use Rattle.child_masks.specs.Masks.{masks_from, has_origin, step_terms, CanRefine, IsFirstTransition, IsFirstDenominator, HasNoTransition}
+use Rattle.primvar_refine.specs.Step.{AreRefined, IsTooBig}
 use Rattle.channel_refine.specs.declared.fault.ChannelFault.{ChannelFault}
 use Rattle.channel_refine.specs.declared.fault.ChannelFault.TheVariants.{TooLarge, Chaikin, Transition, Denominator, Entries, Value as ValueFault, Memory}
 use Rattle.channel_refine.specs.Step.{IsReady, AreNextValues, IsStep, IsToldAt, IsValueFault, IsStepFault}

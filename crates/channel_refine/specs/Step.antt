@@ -13,7 +13,8 @@ use Rattle.level_topology.specs.Topology.{Topology}
 use Rattle.level_topology.specs.Child.{PointOrigin}
 use Rattle.level_counts.specs.Series.{Overflows}
 use Rattle.primvar_refine.specs.Rows.{Row, row_at, dens_of, StandFor, AreGood, AreWithin, least_bound, greatest_of}
-use Rattle.primvar_refine.specs.Step.{IsFirstTransition, IsFirstDenominator, IsTooBig, HasNoTransition, refined_dens}
+use Rattle.child_masks.specs.Masks.{IsFirstTransition, IsFirstDenominator, HasNoTransition}
+use Rattle.primvar_refine.specs.Step.{IsTooBig, refined_dens}
 use Rattle.channel_refine.specs.declared.fault.ChannelFault.{ChannelFault}
 use Rattle.channel_refine.specs.declared.fault.ChannelFault.TheVariants.{TooLarge, Chaikin, Transition, Denominator, Entries, Value as ValueFault, Memory}
 

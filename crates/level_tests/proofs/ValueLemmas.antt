@@ -15,7 +15,7 @@ use Rattle.uniform_refiner.specs.Refined.{IsRefined}
 use Rattle.primvar_refine.specs.declared.valued.Valued.{Valued}
 use Rattle.primvar_refine.specs.View.{row_of, rows_of}
 use Rattle.primvar_refine.specs.Rows.{Row, row_at, AreGood}
-use Rattle.primvar_refine.specs.Step.{has_origin, CanRefine}
+use Rattle.child_masks.specs.Masks.{has_origin, CanRefine}
 use Rattle.level_tests.specs.Values.{IsGoodPoint}
 
 -- an origin that is among some is within their bounds

@@ -14,15 +14,17 @@ use Rattle.subdiv_model.specs.Channel.{number_bound}
 use Rattle.level_topology.specs.Topology.{Topology, IsTopology}
 use Rattle.level_topology.specs.Child.{PointOrigin, FromVertex, FromFace, FromEdge, ChildTopology, HasParent}
 use Rattle.primvar_refine.specs.Rows.{Row, row_at, dens_of, AreGood, least_bound, greatest_of}
-use Rattle.primvar_refine.specs.Step.{mask_from, masks_from, has_origin, CanRefine, refined_dens, hidden_faces, step_terms}
-use Rattle.primvar_refine.specs.Survey.{IsSurvey, within_bound}
-use Rattle.primvar_refine.specs.declared.survey.Survey.{Survey}
-use Rattle.primvar_refine.specs.Made.{origin_at, terms_of_face, terms_of_hidden, terms_of_other}
+use Rattle.child_masks.specs.Masks.{mask_from, masks_from, has_origin, CanRefine, hidden_faces, step_terms, origin_at}
+use Rattle.primvar_refine.specs.Step.{refined_dens}
+use Rattle.child_masks.specs.Survey.{IsSurvey, within_bound}
+use Rattle.child_masks.specs.declared.survey.Survey.{Survey}
+use Rattle.primvar_refine.specs.Made.{terms_of_face, terms_of_hidden, terms_of_other}
 use Rattle.primvar_refine.specs.Places.{is_hidden, all_origins, ArePlaces}
 use Rattle.primvar_refine.specs.Ready.{IsReady, all_terms}
+use Rattle.primvar_refine.proofs.SurveyLemmas.{good-positive}
 use Rattle.primvar_refine.proofs.MadeLemmas.{all-below-fold}
-use Rattle.primvar_refine.proofs.SourceLemmas.{corner-dens, map-same}
-use Rattle.primvar_refine.proofs.DenLemmas.{some-place, named-den}
+use Rattle.child_masks.proofs.SourceLemmas.{corner-dens, map-same}
+use Rattle.child_masks.proofs.DenLemmas.{some-place, named-den}
 
 -- what is kept of a list passes the test, and has what all of it have
 kept-both : {X : Type 0} (test : X → Bool) (P : X → Type 0) (xs : List X) → AllByRecursion P xs → AllByRecursion (λ x. P x × (test x ≡ true)) (filter test xs)
@@ -61,7 +63,7 @@ record IsShort (most n : ℕ) : Type 0 where
   kept : n * most ≤ number_bound
 
 module _ (parent : Topology) (child : ChildTopology) (scheme : Scheme) (rows : List Row) (survey : Survey) (is : IsTopology parent) (has : HasParent child)
-    (can : CanRefine parent child scheme) (good : AreGood rows) (survey_is : IsSurvey parent.level scheme child.origins rows survey)
+    (can : CanRefine parent child scheme) (good : AreGood rows) (survey_is : IsSurvey parent.level scheme child.origins (dens_of rows) survey)
     (kept : greatest_of survey.dens.items * least_bound rows ≤ number_bound) where
   abbrev own_den : PointOrigin → ℕ
   own_den origin = mask_denominator (source_denominator parent.level (dens_of rows)) (mask_from parent.level scheme origin)
@@ -107,7 +109,7 @@ module _ (parent : Topology) (child : ChildTopology) (scheme : Scheme) (rows : L
       let below : place.at < length child.origins = subst (λ n. place.at < n) (length-map child.origins (mask_from parent.level scheme)) place.inside in
       let here : get_or masks place.at none ≡ mask_from parent.level scheme (origin_at child.origins place.at) =
       get_or-map (mask_from parent.level scheme) child.origins place.at (FromVertex 0) none below in
-      let less = named-den parent child scheme rows is has can good place.at f below (ap (λ (m : Mask). has_source m.terms (OfFace f)) (sym here) ∙ place.passes) in
+      let less = named-den parent child scheme (dens_of rows) is has can (good-positive rows good) place.at f below (ap (λ (m : Mask). has_source m.terms (OfFace f)) (sym here) ∙ place.passes) in
       let short = child-short place.at below in
       record {
         short = chain _ _ less short.short;

@@ -2,7 +2,6 @@
 use Rattle.std.proofs.Common.{◌≡◌, ℕ, ◌+◌, ◌-◌, ◌*◌, ◌/◌, ◌<◌, ◌≤◌, ℤ, pos, ◌+ℤ◌, ◌*ℤ◌, List, [], ◌∷◌, length, map, get_or, max, IsTrue, arith, refl, ap, sym, ◌∙◌, subst}
 use Rattle.std.specs.List.{All, AllByRecursion, fold}
 use Rattle.std.specs.Int.{◌∣◌}
-use Rattle.std.proofs.lemmas.Bool.Decides.{nat_tests}
 use Rattle.std.proofs.lemmas.List.{get_or-map, length-map}
 use Rattle.std.proofs.lemmas.List.Elements.{recursion_from_All, All-from_recursion}
 use Rattle.std.specs.List.Sorted.{IsPermutation}
@@ -22,6 +21,7 @@ use Rattle.sharpness_laws.proofs.MaskValueLemmas.{same-value, same-denominator}
 use Rattle.mask_laws.proofs.SumLemmas.{weighted_sum, IsOver, over-multiple, terms-over}
 use Rattle.ratio128.specs.Numbers.{zeros, greatest_amount}
 use Rattle.mask_rules.specs.Masks.{IsMask}
+use Rattle.child_masks.proofs.MeanLemmas.{mean-positive, mean-total}
 use Rattle.primvar_refine.specs.Rows.{Row, row_at, dens_of, StandFor, AreWithin, AreGood, least_bound, rounded_up}
 use Rattle.primvar_refine.specs.Sums.{source_row, HasRow, term_sums, IsSummand, CanSum}
 use Rattle.primvar_refine.specs.Made.{IsRowOf, IsMade, CanMake}
@@ -41,14 +41,6 @@ point-row level rows v good inside =
   where
     turned : (x : Value) (n : ℤ) (c : ℕ) → x.num *ℤ pos c ≡ n *ℤ pos x.den → IsOver c x n
     turned x n c e = *ℤ_comm (pos c) x.num ∙ e ∙ *ℤ_comm n (pos x.den)
-
--- the denominator of a mean is above 0
-pub mean-positive : (mask : Mask) → IsTrue (is_mean mask) → 0 < mask.denominator
-mean-positive mask mean = grind (arith, nat_tests, mean)
-
--- and it is the sum of the weights
-pub mean-total : (mask : Mask) → IsTrue (is_mean mask) → total_weight mask.terms ≡ mask.denominator
-mean-total mask mean = grind (arith, nat_tests, mean)
 
 -- no value passes the least bound
 pub all-below-fold : (numbers : List ℕ) (start : ℕ) → (start ≤ fold max start numbers) × AllByRecursion (λ n. n ≤ fold max start numbers) numbers

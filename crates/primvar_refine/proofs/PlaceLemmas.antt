@@ -8,16 +8,10 @@ use Rattle.std.proofs.lemmas.List.Elements.{filter-append}
 use Rattle.std.proofs.lemmas.List.Quantifiers.{position-Some}
 use Rattle.std.proofs.lemmas.List.FromFn.{length-range_with_len}
 use Rattle.level_topology.specs.Child.{PointOrigin, FromVertex, FromFace, same_origin}
-use Rattle.level_topology.proofs.ChildLemmas.{same_origin-true, same_origin-refl}
-use Rattle.primvar_refine.specs.Step.{has_origin}
-use Rattle.primvar_refine.specs.Made.{origin_at}
+use Rattle.level_topology.proofs.ChildLemmas.{same_origin-true}
+use Rattle.child_masks.specs.Masks.{has_origin, origin_at}
+use Rattle.child_masks.proofs.OriginLemmas.{any-at}
 use Rattle.primvar_refine.specs.Places.{is_hidden, all_origins, IsPlace, ArePlaces}
-
--- what passes at a place passes in the list
-pub any-at : {X : Type 0} (p : X → Bool) (xs : List X) (i : ℕ) (d : X) → i < length xs → p (get_or xs i d) ≡ true → list_any p xs ≡ true
-any-at p [] i d h e = absurd (omega arith)
-any-at p (x ∷ xs) zero d h e = grind (arith, nat_tests, e)
-any-at p (x ∷ xs) (suc i) d h e = let rest = any-at p xs i d (omega arith) e in grind (arith, nat_tests, rest)
 
 -- a point comes from the origin where its place is found, and none where there is no place
 pub found : (origins : List PointOrigin) (origin : PointOrigin) (p : ℕ) → position (same_origin origin) origins ≡ Some p
@@ -142,10 +136,6 @@ filter-short p (x ∷ xs) =
 pub hidden-short : (origins : List PointOrigin) (named : List Bool) (hidden : List ℕ) (f : ℕ) → hidden ≡ filter (is_hidden origins named) (range_with_len 0 f) → length hidden ≤ f
 hidden-short origins named hidden f e =
     omega (arith, ap length e, filter-short (is_hidden origins named) (range_with_len 0 f), length-range_with_len 0 f)
-
--- a point comes from its origin
-pub has-own : (origins : List PointOrigin) (origin : PointOrigin) (p : ℕ) → p < length origins → origin_at origins p ≡ origin → has_origin origins origin ≡ true
-has-own origins origin p inside from = any-at (same_origin origin) origins p (FromVertex 0) inside (ap (same_origin origin) from ∙ same_origin-refl origin)
 
 -- what passes has a place
 exists-at : {X : Type 0} (p : X → Bool) (xs : List X) → list_any p xs ≡ true → position_or_len p xs < length xs

@@ -12,8 +12,8 @@ use Rattle.level_topology.specs.ChildTables.{origin_of}
 use Rattle.level_topology.specs.declared.child_origin.Origin.{Origin}
 use Rattle.primvar_refine.specs.Rows.{Row, row_at}
 use Rattle.primvar_refine.specs.View.{row_of, rows_of}
-use Rattle.primvar_refine.specs.Step.{mask_from}
-use Rattle.primvar_refine.specs.Made.{IsMade, is_from_face, origin_at, IsPut, AreFacesMade, AreHiddenMade, KeepDens, terms_of_other}
+use Rattle.child_masks.specs.Masks.{mask_from, origin_at}
+use Rattle.primvar_refine.specs.Made.{IsMade, is_from_face, IsPut, AreFacesMade, AreHiddenMade, KeepDens, terms_of_other}
 use Rattle.primvar_refine.specs.Ready.{CanPut}
 use Rattle.primvar_refine.specs.declared.valued.Valued.{Valued}
 

@@ -1,18 +1,15 @@
 -- What is asked for the value of each point is there.
-use Rattle.std.proofs.Common.{◌≡◌, ◌≢◌, ℕ, ◌+◌, ◌-◌, ◌*◌, ◌<◌, ◌≤◌, Bool, true, false, ◌&&◌, nat_lt, nat_le, ℤ, List, [], ◌∷◌, length, map, get_or, Result, Ok, Err, OnOk, arith, refl, ap, sym, ◌∙◌, subst, inl, inr, ◌⊎◌, length-append}
+use Rattle.std.proofs.Common.{◌≡◌, ◌≢◌, ℕ, ◌+◌, ◌-◌, ◌*◌, ◌<◌, ◌≤◌, Bool, true, false, nat_lt, ℤ, List, [], ◌∷◌, length, map, get_or, Result, Ok, Err, OnOk, arith, refl, ap, sym, ◌∙◌, subst, inl, inr, ◌⊎◌, length-append}
 use Rattle.std.specs.List.{All, AllByRecursion, list_any}
-use Rattle.std.proofs.lemmas.Bool.{cases_lt, and_parts, leb-true}
+use Rattle.std.proofs.lemmas.Bool.{cases_lt}
 use Rattle.std.proofs.lemmas.Bool.Decides.{nat_tests}
-use Rattle.std.proofs.lemmas.List.{get_or-map, length-map, get_or_past, get_or_append_left, get_or-append-add}
+use Rattle.std.proofs.lemmas.List.{get_or-map, length-map, get_or_append_left, get_or-append-add}
 use Rattle.std.proofs.lemmas.List.Elements.{All-from_recursion}
-use Rattle.subdiv_model.specs.Polygons.{polygon_at, is_distinct, is_over}
 use Rattle.subdiv_model.specs.Edges.{edges_of}
-use Rattle.subdiv_model.specs.Manifold.{is_simple}
 use Rattle.subdiv_model.specs.Level.{Level}
 use Rattle.subdiv_model.specs.Mask.{Scheme, CatmullClark, SourcePoint, OfPoint, OfFace, Term, Mask, same_source, has_source, is_source_of, face_mask}
 use Rattle.subdiv_model.specs.Refined.{mask_denominator, source_denominator}
 use Rattle.subdiv_model.specs.Channel.{number_bound}
-use Rattle.number_laws.proofs.MultipleLemmas.{lcm_of_all-positive, product-positive}
 use Rattle.sharpness_laws.proofs.JoinedWeightLemmas.{source-refl}
 use Rattle.mask_laws.proofs.ListLemmas.{each-passes}
 use Rattle.level_topology.specs.Topology.{Topology, IsTopology}
@@ -21,57 +18,20 @@ use Rattle.level_topology.proofs.ChildLemmas.{same_origin-refl}
 use Rattle.primvar_refine.specs.Rows.{Row, row_at, dens_of, AreGood, least_bound}
 use Rattle.primvar_refine.specs.declared.valued.Valued.{Valued}
 use Rattle.primvar_refine.specs.View.{row_of, rows_of}
-use Rattle.primvar_refine.specs.Step.{mask_from, masks_from, has_origin, CanRefine}
+use Rattle.child_masks.specs.Masks.{mask_from, masks_from, has_origin, origin_at}
 use Rattle.primvar_refine.specs.Sums.{source_row, HasRow}
-use Rattle.primvar_refine.specs.Made.{IsRowOf, IsMade, AreHeld, CanMake, is_from_face, origin_at, IsPut, CanMakeFaces, AreFacesMade, AreOthersMade, AreHiddenMade, KeepDens}
+use Rattle.primvar_refine.specs.Made.{IsRowOf, IsMade, AreHeld, CanMake, is_from_face, IsPut, CanMakeFaces, AreFacesMade, AreOthersMade, AreHiddenMade, KeepDens}
 use Rattle.primvar_refine.specs.Places.{all_origins}
 use Rattle.primvar_refine.specs.Ready.{CanPut, IsReady, AreAllMade}
+use Rattle.child_masks.proofs.DenLemmas.{face-positive}
+use Rattle.primvar_refine.proofs.SurveyLemmas.{good-positive}
 use Rattle.primvar_refine.proofs.MadeLemmas.{point-row}
-use Rattle.primvar_refine.proofs.SourceLemmas.{mask-inside, corners-only, face-row, test-at}
-use Rattle.primvar_refine.proofs.PlaceLemmas.{any-at}
+use Rattle.child_masks.proofs.SourceLemmas.{mask-inside, corners-only, test-at}
+use Rattle.primvar_refine.proofs.FaceRowLemmas.{face-row}
+use Rattle.child_masks.proofs.OriginLemmas.{any-at, some-corners, is-over, origin-within}
 
 abbrev blank : Row
 blank = record { numbers = []; den = 1 }
-
--- all denominators are at least 1
-pub dens-positive : (rows : List Row) → AreGood rows → (v : ℕ) → 0 < get_or (dens_of rows) v 1
-dens-positive rows good v = at (cases_lt v (length rows))
-  where
-    den : Row → ℕ
-    den r = r.den
-
-    at : (v < length rows) ⊎ (length rows ≤ v) → 0 < get_or (dens_of rows) v 1
-    at (inl inside) = subst (λ n. 0 < n) (sym (get_or-map (λ (r : Row). r.den) rows v blank 1 inside)) (good.positive v blank inside)
-    at (inr past) =
-        let gone : get_or (dens_of rows) v 1 ≡ 1 = get_or_past (dens_of rows) v 1 (rw length-map past) in omega (arith, gone)
-
--- and so is that of a face
-pub face-positive : (level : Level) (rows : List Row) (f : ℕ) → AreGood rows → 0 < length (polygon_at level.polygons f)
-    → 0 < mask_denominator (source_denominator level (dens_of rows)) (face_mask level f)
-face-positive level rows f good some =
-    product-positive (length (polygon_at level.polygons f)) _ some
-    (lcm_of_all-positive _ (of-terms (face_mask level f).terms
-    (corners-only level f (λ s. 0 < source_denominator level (dens_of rows) s) (λ v. dens-positive rows good v))))
-  where
-    of-terms : (terms : List Term) → AllByRecursion (λ t. 0 < source_denominator level (dens_of rows) t.source) terms
-        → AllByRecursion (λ a. 0 < a) (map (λ t. source_denominator level (dens_of rows) t.source) terms)
-    of-terms [] h = tt
-    of-terms (t ∷ terms) h = (h.0, of-terms terms h.1)
-
--- a face has corners
-pub some-corners : (parent : Topology) → IsTopology parent → (f : ℕ) → f < length parent.level.polygons → 0 < length (polygon_at parent.level.polygons f)
-some-corners parent is f inside =
-    let polygon = polygon_at parent.level.polygons f in
-    let simple : is_simple polygon ≡ true = test-at is_simple parent.level.polygons f [] is.simple inside in
-    let long : 3 ≤ length polygon = leb-true 3 (length polygon) (and_parts (nat_le 3 (length polygon)) (is_distinct polygon) simple).0 in
-    omega (arith, long)
-
--- the corners of polygons are points
-pub is-over : (parent : Topology) → IsTopology parent → is_over parent.level.point_count parent.level.polygons ≡ true
-is-over parent is = first (is_over parent.level.point_count parent.level.polygons) _ _ _ _ _ is.formed
-  where
-    first : (a b c d e f : Bool) → (a && b && c && d && e && f) ≡ true → a ≡ true
-    first a b c d e f h = grind (arith, nat_tests)
 
 -- a source has its own row
 record Holds (level : Level) (rows made : List Row) (places : List ℕ) (s : SourcePoint) : Type 0 where
@@ -148,7 +108,7 @@ module _ (parent : Topology) (child : ChildTopology) (scheme : Scheme) (rows : L
         let at = ready.find.each f inside in
         let p = get_or places f 0 in
         let row = face-row parent.level f rows (row_at made p) (faces.each p f (at.inside name) (at.inside name) (at.there name)) in
-        let some = face-positive parent.level rows f ready.good (some-corners parent is f inside) in
+        let some = face-positive parent.level (dens_of rows) f (good-positive rows ready.good) (some-corners parent is f inside) in
         let den = (faces.each p f (at.inside name) (at.inside name) (at.there name)).den_is in
         record {
           there = (omega (arith, inside, ready.find.counted), omega (arith, at.inside name, ready.each));
@@ -222,20 +182,6 @@ module _ (parent : Topology) (child : ChildTopology) (scheme : Scheme) (rows : L
           },
           subst Make (sym e) (all-can p inside (subst Within e within)),
         )
-
--- the parts that points come from are parts of the parent
-pub origin-within : (parent : Topology) (child : ChildTopology) (scheme : Scheme) → HasParent child → CanRefine parent child scheme → (p : ℕ) → p < length child.origins
-    → IsOriginWithin parent.level.point_count (length parent.level.polygons) (length (edges_of parent.level.polygons)) (origin_at child.origins p)
-origin-within parent child scheme has can p inside =
-    let own = has.parent in
-    let points : own.level.point_count ≡ parent.level.point_count = sym (ap (λ (t : ChildTopology). t.parent_points) has.of) ∙ can.vertices in
-    let faces : length own.level.polygons ≡ length parent.level.polygons =
-    sym (ap (λ (t : ChildTopology). length t.parent_sizes) has.of ∙ length-map own.level.polygons length) ∙ can.faces in
-    let edges : length (edges_of own.level.polygons) ≡ length (edges_of parent.level.polygons) = sym (ap (λ (t : ChildTopology). t.parent_edges) has.of) ∙ can.edges in
-    let O : PointOrigin = origin_at child.origins p in
-    subst (λ n. IsOriginWithin n (length parent.level.polygons) (length (edges_of parent.level.polygons)) O) points
-    (subst (λ n. IsOriginWithin own.level.point_count n (length (edges_of parent.level.polygons)) O) faces
-    (subst (λ n. IsOriginWithin own.level.point_count (length own.level.polygons) n O) edges (has.is.origins_within p (FromVertex 0) inside)))
 
 -- denominators that stay are as good
 pub ready-kept : (parent : Topology) (child : ChildTopology) (scheme : Scheme) (rows : List Row) (named : List Bool) (hidden places : List ℕ) (before after : List Row)
@@ -405,15 +351,6 @@ pub all-made : {X E : Type 0} (parent : Topology) (child : ChildTopology) (schem
     → OnOk result (AreOthersMade parent.level scheme rows child.origins (length child.origins) made) → OnOk result (AreAllMade parent child scheme rows hidden made)
 all-made parent child scheme rows hidden made (Ok x) faces others = record { faces = faces; others = others }
 all-made parent child scheme rows hidden made (Err e) faces others = tt
-
--- the face that a child point comes from is one of the parent's
-pub face-within : (child : ChildTopology) (count p f : ℕ) → HasParent child → length child.parent_sizes ≡ count → p < length child.origins → origin_at child.origins p ≡ FromFace f → f < count
-face-within child count p f has same inside from =
-    let own = has.parent in
-    let faces : length own.level.polygons ≡ count = sym (ap (λ (t : ChildTopology). length t.parent_sizes) has.of ∙ length-map own.level.polygons length) ∙ same in
-    let below : f < length own.level.polygons =
-    subst (IsOriginWithin own.level.point_count (length own.level.polygons) (length (edges_of own.level.polygons))) from (has.is.origins_within p (FromVertex 0) inside) in
-    subst (λ n. f < n) faces below
 
 -- after the child points there is room for the hidden faces
 pub hidden-room : {P : Type 0} (numbers : P → List ℤ) (parent : Topology) (child : ChildTopology) (scheme : Scheme) (rows : List Row) (named : List Bool) (hidden places : List ℕ)

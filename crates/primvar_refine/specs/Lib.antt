@@ -2,8 +2,6 @@ pub mod Rows
 pub mod View
 pub mod FaultText
 pub mod Step
-pub mod Survey
-pub mod Found
 pub mod Greatest
 pub mod Sums
 pub mod Made

@@ -11,7 +11,7 @@ use Rattle.ratio128.specs.Numbers.{greatest_amount}
 use Rattle.level_topology.specs.Topology.{edge_at}
 use Rattle.level_topology.specs.Child.{PointOrigin, FromVertex, FromFace, FromEdge}
 use Rattle.primvar_refine.specs.Rows.{Row, row_at, dens_of, StandFor, AreWithin, AreGood, least_bound}
-use Rattle.primvar_refine.specs.Step.{mask_from}
+use Rattle.child_masks.specs.Masks.{mask_from, origin_at}
 use Rattle.primvar_refine.specs.Sums.{source_row, HasRow}
 
 -- Over this denominator the row has the values that follow from those of the level, and none is above a whole number in amount
@@ -34,9 +34,6 @@ abbrev pub is_from_face : PointOrigin → Bool
 is_from_face (FromVertex v) = false
 is_from_face (FromFace f) = true
 is_from_face (FromEdge e) = false
-
-abbrev pub origin_at : List PointOrigin → ℕ → PointOrigin
-origin_at origins p = get_or origins p (FromVertex 0)
 
 -- each source of the terms has a row that is its own
 pub record AreHeld (level : Level) (rows made : List Row) (places : List ℕ) (terms : List Term) : Type 0 where

@@ -1,8 +1,7 @@
 -- The places of the values of faces in the list that is made: first come the child points, then the hidden faces.
 use Rattle.std.specs.Prelude.{ℕ, ◌≡◌, ◌<◌, Bool, true, false, not, ◌&&◌, List, ◌++◌, length, map, get_or}
 use Rattle.level_topology.specs.Child.{PointOrigin, FromFace}
-use Rattle.primvar_refine.specs.Step.{has_origin}
-use Rattle.primvar_refine.specs.Made.{origin_at}
+use Rattle.child_masks.specs.Masks.{has_origin, origin_at}
 
 -- some mask names the face, and no point comes from it
 abbrev pub is_hidden : List PointOrigin → List Bool → ℕ → Bool

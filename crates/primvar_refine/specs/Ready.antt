@@ -11,8 +11,8 @@ use Rattle.level_topology.specs.Child.{PointOrigin, FromVertex, FromFace, FromEd
 use Rattle.mask_rules.specs.Masks.{is_at_least_one}
 use Rattle.mask_rules.specs.Around.{HasSharpBoundaryAt}
 use Rattle.primvar_refine.specs.Rows.{Row, row_at, dens_of, AreGood, least_bound}
-use Rattle.primvar_refine.specs.Step.{mask_from, masks_from, HasNoTransition, CanRefine}
-use Rattle.primvar_refine.specs.Made.{CanMake, AreFacesMade, AreOthersMade, origin_at, terms_of_face, terms_of_hidden, terms_of_other}
+use Rattle.child_masks.specs.Masks.{mask_from, masks_from, HasNoTransition, CanRefine, origin_at}
+use Rattle.primvar_refine.specs.Made.{CanMake, AreFacesMade, AreOthersMade, terms_of_face, terms_of_hidden, terms_of_other}
 use Rattle.primvar_refine.specs.Places.{all_origins, ArePlaces}
 
 -- the mask of a vertex can be had

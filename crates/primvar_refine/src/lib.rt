@@ -4,9 +4,7 @@
 #![tactic(auto)]
 
 mod bound;
-mod common;
 mod dens;
-mod face;
 mod face_puts;
 mod fault;
 mod mask_values;
@@ -16,12 +14,9 @@ mod puts;
 mod refine;
 mod sums;
 mod survey;
-mod terms;
-mod transition;
 mod valued;
 mod values;
 
 pub use fault::ValueFault;
 pub use refine::refine_values;
-pub use survey::{Survey, survey_over};
 pub use valued::Valued;

@@ -3,10 +3,10 @@
 ghost use Rattle.std.specs.Prelude.{◌≡◌, ◌+◌, ◌<◌, ◌≤◌, ◌^◌, not, ◌&&◌, ◌++◌, ◌∷◌, [], length, IfOk, OnOk, if◌then◌else◌};
 ghost use Rattle.std.specs.List.{filter, range_with_len};
 ghost use Rattle.level_topology.specs.Child.{FromFace};
-ghost use Rattle.primvar_refine.specs.Step.{has_origin};
+ghost use Rattle.child_masks.specs.Masks.{has_origin};
 ghost use Rattle.primvar_refine.specs.Places.{is_hidden, ArePlaces, IsPlace};
 
-use crate::survey::Survey;
+use child_masks::Survey;
 use level_topology::Child;
 use ratio128::Memory;
 use std::alloc::Global;

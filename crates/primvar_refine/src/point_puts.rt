@@ -8,7 +8,7 @@ ghost use Rattle.level_topology.specs.ChildTables.{origin_of};
 ghost use Rattle.mask_rules.specs.View.{scheme_of};
 ghost use Rattle.primvar_refine.specs.Rows.{row_at};
 ghost use Rattle.primvar_refine.specs.View.{rows_of};
-ghost use Rattle.primvar_refine.specs.Step.{mask_from};
+ghost use Rattle.child_masks.specs.Masks.{mask_from};
 ghost use Rattle.primvar_refine.specs.Made.{CanMake, IsPut, IsMade, KeepDens, AreFacesMade, AreOthersMade, is_from_face, terms_of_other};
 ghost use Rattle.primvar_refine.specs.Places.{all_origins};
 ghost use Rattle.primvar_refine.specs.Ready.{CanPut, IsEdgeReady, IsReady, IsVertexReady};
@@ -16,8 +16,8 @@ ghost use Rattle.primvar_refine.specs.Ready.{CanPut, IsEdgeReady, IsReady, IsVer
 use crate::mask_values::{edge_value, vertex_value};
 use crate::places::Places;
 use crate::puts::{den_at, put_value};
-use crate::survey::Survey;
 use crate::valued::Valued;
+use child_masks::Survey;
 use level_topology::{Child, Level, Origin};
 use mask_rules::Scheme;
 use ratio128::{Memory, Primvar, Steps};

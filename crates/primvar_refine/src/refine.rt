@@ -4,10 +4,10 @@ ghost use Rattle.std.specs.Prelude.{◌≡◌, ◌+◌, ◌≤◌, length, Match
 ghost use Rattle.mask_rules.specs.View.{scheme_of};
 ghost use Rattle.primvar_refine.specs.Rows.{AreGood};
 ghost use Rattle.primvar_refine.specs.View.{rows_of};
-ghost use Rattle.primvar_refine.specs.Step.{CanRefine, AreRefined, IsValueFault, step_terms};
+ghost use Rattle.child_masks.specs.Masks.{CanRefine, step_terms};
+ghost use Rattle.primvar_refine.specs.Step.{AreRefined, IsValueFault};
 
-use crate::bound::{greatest_of, least_bound};
-use crate::common::BOUND;
+use crate::bound::{BOUND, greatest_of, least_bound};
 use crate::fault::ValueFault;
 use crate::survey::survey_step;
 use crate::valued::Valued;

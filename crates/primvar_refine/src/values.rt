@@ -6,16 +6,17 @@ ghost use Rattle.subdiv_model.specs.Channel.{number_bound};
 ghost use Rattle.mask_rules.specs.View.{scheme_of};
 ghost use Rattle.primvar_refine.specs.Rows.{dens_of, row_at, AreGood, least_bound, greatest_of};
 ghost use Rattle.primvar_refine.specs.View.{rows_of};
-ghost use Rattle.primvar_refine.specs.Step.{CanRefine, AreRefined, step_terms};
-ghost use Rattle.primvar_refine.specs.Survey.{IsSurvey};
+ghost use Rattle.child_masks.specs.Masks.{CanRefine, step_terms};
+ghost use Rattle.primvar_refine.specs.Step.{AreRefined};
+ghost use Rattle.child_masks.specs.Survey.{IsSurvey};
 ghost use Rattle.primvar_refine.specs.Made.{KeepDens};
 ghost use Rattle.primvar_refine.specs.Ready.{IsReady, AreAllMade, all_terms};
 
 use crate::face_puts::{put_faces, put_hidden};
 use crate::places::{Places, find_places};
 use crate::point_puts::put_points;
-use crate::survey::Survey;
 use crate::valued::Valued;
+use child_masks::Survey;
 use level_topology::{Child, Level};
 use mask_rules::Scheme;
 use ratio128::{Memory, Primvar, Steps};
@@ -114,7 +115,7 @@ fn make_all<P: Primvar<L>, L: Ledger>(
     requires each { length values.now ≡ parent.now.level.point_count }
     requires good { AreGood (rows_of P.numbers values.now) }
     requires alike { length (P.numbers zero.now) ≡ length (row_at (rows_of P.numbers values.now) 0).numbers }
-    requires survey { IsSurvey parent.now.level (scheme_of scheme) child.now.origins (rows_of P.numbers values.now) survey.now }
+    requires survey { IsSurvey parent.now.level (scheme_of scheme) child.now.origins (dens_of (rows_of P.numbers values.now)) survey.now }
     requires kept { greatest_of survey.now.dens.items * least_bound (rows_of P.numbers values.now) ≤ number_bound }
     ensures refined { IfOk result (λ refined. AreRefined parent.now.level (scheme_of scheme) child.now.origins (rows_of P.numbers values.now) (rows_of P.numbers refined.items)) }
     ensures taken { OnOk result (steps.new ≡ steps.old + step_terms parent.now.level (scheme_of scheme) child.now.origins) }
@@ -148,7 +149,7 @@ pub(crate) fn make_values<P: Primvar<L>, L: Ledger>(
     requires child { CanRefine parent.now child.now (scheme_of scheme) }
     requires each { length values.now ≡ parent.now.level.point_count }
     requires good { AreGood (rows_of P.numbers values.now) }
-    requires survey { IsSurvey parent.now.level (scheme_of scheme) child.now.origins (rows_of P.numbers values.now) survey.now }
+    requires survey { IsSurvey parent.now.level (scheme_of scheme) child.now.origins (dens_of (rows_of P.numbers values.now)) survey.now }
     requires kept { greatest_of survey.now.dens.items * least_bound (rows_of P.numbers values.now) ≤ number_bound }
     ensures refined { IfOk result (λ refined. AreRefined parent.now.level (scheme_of scheme) child.now.origins (rows_of P.numbers values.now) (rows_of P.numbers refined.items)) }
     ensures taken { OnOk result (steps.new ≡ steps.old + step_terms parent.now.level (scheme_of scheme) child.now.origins) }

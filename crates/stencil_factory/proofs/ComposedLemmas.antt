@@ -11,9 +11,9 @@ use Rattle.subdiv_model.specs.Refined.{mask_value, source_value, mask_denominato
 use Rattle.subdiv_model.specs.Support.{mask_support, source_support}
 use Rattle.mask_laws.proofs.SumLemmas.{IsOver}
 use Rattle.level_topology.specs.Child.{PointOrigin, FromVertex}
-use Rattle.primvar_refine.specs.Step.{mask_from, masks_from, HasNoTransition}
-use Rattle.primvar_refine.specs.Found.{IsFoundOver}
-use Rattle.primvar_refine.specs.declared.survey.Survey.{Survey}
+use Rattle.child_masks.specs.Masks.{mask_from, masks_from, HasNoTransition}
+use Rattle.child_masks.specs.Survey.{IsSurvey}
+use Rattle.child_masks.specs.declared.survey.Survey.{Survey}
 use Rattle.stencil_apply.specs.Table.{Share, Row, Table, total_of, entries_of}
 use Rattle.stencil_apply.specs.Arrays.{shares_of, row_of}
 use Rattle.stencil_apply.specs.declared.entry.Entry.{Entry}
@@ -31,7 +31,7 @@ row-some level table mask row is = some row.shares (omega (arith, is.is.positive
     some (share ∷ shares) h = omega arith
 
 -- the row of a point, as it is read for the builder
-pub row-read : (level : Level) (table : Table) (scheme : Scheme) (origins : List PointOrigin) (survey : Survey) (p den : ℕ) (made read : List Entry) → IsFoundOver level scheme origins (dens_of table) survey → p < length origins
+pub row-read : (level : Level) (table : Table) (scheme : Scheme) (origins : List PointOrigin) (survey : Survey) (p den : ℕ) (made read : List Entry) → IsSurvey level scheme origins (dens_of table) survey → p < length origins
     → IsComposedRow level table (mask_from level scheme (get_or origins p (FromVertex 0))) (record { den = get_or survey.dens.items p 0; shares = shares_of made })
     → den ≡ get_or survey.dens.items p den → read ≡ made → IsComposedRow level table (mask_from level scheme (get_or origins p (FromVertex 0))) (row_of den read)
 row-read level table scheme origins survey p den made read found inside is e same =

@@ -23,14 +23,14 @@ use Rattle.level_topology.specs.Topology.{Topology, IsTopology}
 use Rattle.level_topology.specs.Child.{PointOrigin, IsOriginWithin}
 use Rattle.mask_rules.specs.Masks.{IsMask}
 use Rattle.mask_rules.proofs.EdgeLemmas.{face-mask}
-use Rattle.primvar_refine.specs.Step.{mask_from}
-use Rattle.primvar_refine.specs.Found.{ArePointDenominators, AreFaceDenominators}
-use Rattle.primvar_refine.proofs.WithinLemmas.{within-kept}
-use Rattle.primvar_refine.proofs.FaceLemmas.{face-corners, face-same}
-use Rattle.primvar_refine.proofs.AmongLemmas.{part-sources}
-use Rattle.primvar_refine.proofs.AddLemmas.{tells}
-use Rattle.primvar_refine.proofs.MadeLemmas.{mean-positive}
-use Rattle.primvar_refine.proofs.ReadyLemmas.{some-corners}
+use Rattle.child_masks.specs.Masks.{mask_from}
+use Rattle.child_masks.specs.Found.{ArePointDenominators, AreFaceDenominators}
+use Rattle.child_masks.proofs.WithinLemmas.{within-kept}
+use Rattle.child_masks.proofs.FaceLemmas.{face-corners, face-same}
+use Rattle.child_masks.proofs.AmongLemmas.{part-sources}
+use Rattle.child_masks.proofs.AddLemmas.{tells}
+use Rattle.child_masks.proofs.MeanLemmas.{mean-positive}
+use Rattle.child_masks.proofs.OriginLemmas.{some-corners}
 use Rattle.stencil_apply.specs.Table.{Share}
 use Rattle.stencil_factory.specs.Rows.{share_sum}
 use Rattle.stencil_factory.specs.Scratch.{added_shares}

@@ -6,7 +6,6 @@ pub mod OriginLemmas
 pub mod FlatLemmas
 pub mod WeightLemmas
 pub mod KnownLemmas
-pub mod FoundLemmas
 pub mod ControlLemmas
 pub mod RowSumLemmas
 pub mod SupportLemmas

@@ -23,8 +23,8 @@ use Rattle.mask_rules.specs.Masks.{IsMask, corners_over}
 use Rattle.mask_rules.specs.View.{source_of, terms_of}
 use Rattle.mask_rules.specs.declared.mask.Term.{Term}
 use Rattle.mask_rules.proofs.EdgeLemmas.{face-mask}
-use Rattle.primvar_refine.specs.Step.{mask_from}
-use Rattle.primvar_refine.proofs.AmongLemmas.{part-sources}
+use Rattle.child_masks.specs.Masks.{mask_from}
+use Rattle.child_masks.proofs.AmongLemmas.{part-sources}
 use Rattle.stencil_factory.specs.Weights.{names_point, is_named}
 use Rattle.stencil_factory.specs.Met.{Places, with_places}
 use Rattle.stencil_factory.specs.Named.{points_of, with_terms, CanName, CanNameTerm, AreNamed}

@@ -13,8 +13,8 @@ use Rattle.sharpness_laws.proofs.JoinedWeightLemmas.{source-eq, weight_in-mask_o
 use Rattle.mask_laws.proofs.JoinedLemmas.{joined-all}
 use Rattle.mesh_laws.proofs.FanLemmas.{any-number, number-any}
 use Rattle.stencil_laws.proofs.UnionLemmas.{among-union}
-use Rattle.primvar_refine.proofs.DenLemmas.{some-place}
-use Rattle.primvar_refine.proofs.PlaceLemmas.{any-at}
+use Rattle.child_masks.proofs.DenLemmas.{some-place}
+use Rattle.child_masks.proofs.OriginLemmas.{any-at}
 use Rattle.stencil_apply.specs.Table.{Share, Row, Table, row_at}
 use Rattle.stencil_factory.specs.Rows.{support_of, supports_of}
 use Rattle.stencil_factory.specs.Scratch.{shares_from}

@@ -18,8 +18,8 @@ use Rattle.subdiv_model.specs.Channel.{number_bound}
 use Rattle.number_laws.proofs.MultipleLemmas.{lcm_of_all-positive, all-divide_lcm}
 use Rattle.number_laws.proofs.WholeNumberLemmas.{times-one}
 use Rattle.mask_laws.proofs.SumLemmas.{weighted_sum, IsOver, terms-over}
-use Rattle.primvar_refine.specs.Found.{ArePointDenominators}
-use Rattle.primvar_refine.proofs.MadeLemmas.{mean-positive, mean-total}
+use Rattle.child_masks.specs.Found.{ArePointDenominators}
+use Rattle.child_masks.proofs.MeanLemmas.{mean-positive, mean-total}
 use Rattle.stencil_apply.specs.Table.{Share, total_of}
 use Rattle.stencil_factory.specs.Rows.{support_of, share_sum, values_over, AreSameValues}
 use Rattle.stencil_factory.specs.Scratch.{added_shares, AreSharesOf}

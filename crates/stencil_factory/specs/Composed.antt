@@ -8,8 +8,7 @@ use Rattle.subdiv_model.specs.Mask.{Scheme}
 use Rattle.subdiv_model.specs.Support.{mask_support, source_support}
 use Rattle.subdiv_model.specs.Channel.{number_bound, entry_bound}
 use Rattle.level_topology.specs.Child.{PointOrigin}
-use Rattle.primvar_refine.specs.Step.{masks_from, values_from, HasNoTransition, IsFirstTransition, IsFirstDenominator}
-use Rattle.primvar_refine.specs.Found.{dens_from}
+use Rattle.child_masks.specs.Masks.{masks_from, values_from, HasNoTransition, IsFirstTransition, IsFirstDenominator, dens_from}
 use Rattle.stencil_apply.specs.Table.{Table}
 use Rattle.stencil_factory.specs.Rows.{supports_of, dens_of, row_values, AreSameValues}
 use Rattle.stencil_factory.specs.declared.fault.TableFault.{TableFault}

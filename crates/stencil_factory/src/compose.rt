@@ -6,8 +6,8 @@ ghost use Rattle.subdiv_model.specs.Mask as model;
 ghost use Rattle.subdiv_model.specs.Channel.{entry_bound};
 ghost use Rattle.level_topology.specs.Child.{PointOrigin, FromVertex};
 ghost use Rattle.mask_rules.specs.View.{scheme_of};
-ghost use Rattle.primvar_refine.specs.Step.{CanRefine, mask_from};
-ghost use Rattle.primvar_refine.specs.Found.{IsFoundOver, IsFaultOver};
+ghost use Rattle.child_masks.specs.Masks.{CanRefine, mask_from};
+ghost use Rattle.child_masks.specs.Survey.{IsSurvey, IsSurveyFault};
 ghost use Rattle.stencil_apply.specs.Table.{Table};
 ghost use Rattle.stencil_apply.specs.Built.{no_rows};
 ghost use Rattle.stencil_apply.specs.Arrays.{shares_of};
@@ -20,9 +20,9 @@ use crate::count::count_entries;
 use crate::fault::TableFault;
 use crate::scratch::Scratch;
 use crate::weigh::weigh_point;
+use child_masks::{Survey, SurveyFault, survey_over};
 use level_topology::{Child, Level};
 use mask_rules::Scheme;
-use primvar_refine::{Survey, ValueFault, survey_over};
 use ratio128::Memory;
 use std::alloc::Global;
 use stencil_apply::{Entry, StencilTable, TableBuilder};
@@ -50,14 +50,14 @@ impl Room {
     }
 }
 
-// The fault of a step whose survey has one. A survey looks at no numbers, so that it finds none too big.
-fn table_fault(fault: ValueFault) -> TableFault
-    ensures { (level : model_level.Level) (scheme : model.Scheme) (origins : List PointOrigin) (table : Table) → IsFaultOver level scheme origins (dens_of table) fault → IsTableFault level scheme origins table result }
+// The fault of a step whose survey has one.
+fn table_fault(fault: SurveyFault) -> TableFault
+    ensures { (level : model_level.Level) (scheme : model.Scheme) (origins : List PointOrigin) (table : Table) → IsSurveyFault level scheme origins (dens_of table) fault → IsTableFault level scheme origins table result }
 {
     match fault {
-        ValueFault::Transition(point) => TableFault::Transition { point },
-        ValueFault::Denominator(point) => TableFault::Denominator { point },
-        ValueFault::TooBig(_) | ValueFault::Memory => TableFault::Memory,
+        SurveyFault::Transition(point) => TableFault::Transition { point },
+        SurveyFault::Denominator(point) => TableFault::Denominator { point },
+        SurveyFault::Memory => TableFault::Memory,
     }
 }
 
@@ -107,7 +107,7 @@ fn compose_row(
     requires child { CanRefine parent.now child.now (scheme_of scheme) }
     requires each { length table.now.rows ≡ parent.now.level.point_count }
     requires known { p < length child.now.origins }
-    requires survey { IsFoundOver parent.now.level (scheme_of scheme) child.now.origins (dens_of table.now) survey.now }
+    requires survey { IsSurvey parent.now.level (scheme_of scheme) child.now.origins (dens_of table.now) survey.now }
     requires points { room.old.points ≡ replicate parent.now.level.point_count 0 }
     requires controls { room.old.controls ≡ replicate table.now.controls 0 }
     ensures points { OnOk result (room.new.points ≡ replicate parent.now.level.point_count 0) }
@@ -146,7 +146,7 @@ fn put_rows(
 ) -> Result<(), Memory>
     requires child { CanRefine parent.now child.now (scheme_of scheme) }
     requires each { length table.now.rows ≡ parent.now.level.point_count }
-    requires survey { IsFoundOver parent.now.level (scheme_of scheme) child.now.origins (dens_of table.now) survey.now }
+    requires survey { IsSurvey parent.now.level (scheme_of scheme) child.now.origins (dens_of table.now) survey.now }
     requires few { entries_from parent.now.level (scheme_of scheme) child.now.origins table.now ≤ entry_bound }
     requires points { room.old.points ≡ replicate parent.now.level.point_count 0 }
     requires controls { room.old.controls ≡ replicate table.now.controls 0 }
@@ -176,7 +176,7 @@ fn rows_in(
 ) -> Result<StencilTable, Memory>
     requires child { CanRefine parent.now child.now (scheme_of scheme) }
     requires each { length table.now.rows ≡ parent.now.level.point_count }
-    requires survey { IsFoundOver parent.now.level (scheme_of scheme) child.now.origins (dens_of table.now) survey.now }
+    requires survey { IsSurvey parent.now.level (scheme_of scheme) child.now.origins (dens_of table.now) survey.now }
     requires counted { entries ≡ entries_from parent.now.level (scheme_of scheme) child.now.origins table.now }
     requires few { entries ≤ entry_bound }
     requires points { room.old.points ≡ replicate parent.now.level.point_count 0 }
@@ -212,7 +212,7 @@ fn compose_rows(
 ) -> Result<StencilTable, Memory>
     requires child { CanRefine parent.now child.now (scheme_of scheme) }
     requires each { length table.now.rows ≡ parent.now.level.point_count }
-    requires survey { IsFoundOver parent.now.level (scheme_of scheme) child.now.origins (dens_of table.now) survey.now }
+    requires survey { IsSurvey parent.now.level (scheme_of scheme) child.now.origins (dens_of table.now) survey.now }
     requires counted { entries ≡ entries_from parent.now.level (scheme_of scheme) child.now.origins table.now }
     requires few { entries ≤ entry_bound }
     ensures { IfOk result (λ composed. IsComposed parent.now.level (scheme_of scheme) child.now.origins table.now composed) }
@@ -236,7 +236,7 @@ fn compose_found(
 ) -> Result<StencilTable, TableFault>
     requires child { CanRefine parent.now child.now (scheme_of scheme) }
     requires each { length table.now.rows ≡ parent.now.level.point_count }
-    requires survey { IsFoundOver parent.now.level (scheme_of scheme) child.now.origins (dens_of table.now) survey.now }
+    requires survey { IsSurvey parent.now.level (scheme_of scheme) child.now.origins (dens_of table.now) survey.now }
     ensures { MatchResult result
         (λ composed. IsComposed parent.now.level (scheme_of scheme) child.now.origins table.now composed)
         (λ fault. IsTableFault parent.now.level (scheme_of scheme) child.now.origins table.now fault) }

@@ -6,7 +6,7 @@ ghost use Rattle.subdiv_model.specs.Channel.{entry_bound};
 ghost use Rattle.subdiv_model.specs.Support.{mask_support, source_support};
 ghost use Rattle.level_topology.specs.Child.{FromVertex};
 ghost use Rattle.mask_rules.specs.View.{scheme_of};
-ghost use Rattle.primvar_refine.specs.Step.{CanRefine, mask_from};
+ghost use Rattle.child_masks.specs.Masks.{CanRefine, mask_from};
 ghost use Rattle.stencil_factory.specs.Rows.{supports_of};
 ghost use Rattle.stencil_factory.specs.Marks.{marked_all, marked_rows, AreMarks};
 ghost use Rattle.stencil_factory.specs.Composed.{entries_from};

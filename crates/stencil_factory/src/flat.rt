@@ -4,7 +4,7 @@ ghost use Rattle.std.specs.Prelude.{◌≡◌, ◌*◌, ◌/◌, ◌<◌, ◌≤
 ghost use Rattle.std.specs.List.{All, AllByRecursion};
 ghost use Rattle.subdiv_model.specs.Channel.{number_bound};
 ghost use Rattle.mask_rules.specs.View.{source_of, terms_of};
-ghost use Rattle.primvar_refine.specs.Found.{ArePointDenominators};
+ghost use Rattle.child_masks.specs.Found.{ArePointDenominators};
 ghost use Rattle.stencil_factory.specs.Scratch.{added_shares};
 ghost use Rattle.stencil_factory.specs.Flat.{corner_shares, source_shares, flat_shares, CanAddAll, CanWeigh, CanWeighTerm};
 

@@ -11,7 +11,7 @@ ghost use Rattle.level_topology.specs.Child.{FromVertex};
 ghost use Rattle.mask_rules.specs.View.{scheme_of, source_of, terms_of};
 ghost use Rattle.mask_rules.specs.Masks.{is_at_least_one};
 ghost use Rattle.mask_rules.specs.Around.{HasSharpBoundaryAt};
-ghost use Rattle.primvar_refine.specs.Step.{CanRefine, mask_from};
+ghost use Rattle.child_masks.specs.Masks.{CanRefine, mask_from};
 ghost use Rattle.stencil_factory.specs.Met.{with_places};
 ghost use Rattle.stencil_factory.specs.Named.{points_of, with_terms, CanName, CanNameTerm, AreNamed};
 

@@ -11,17 +11,18 @@ ghost use Rattle.level_topology.specs.Child.{FromVertex};
 ghost use Rattle.mask_rules.specs.View.{scheme_of};
 ghost use Rattle.mask_rules.specs.Masks.{is_at_least_one};
 ghost use Rattle.mask_rules.specs.Around.{HasSharpBoundaryAt};
-ghost use Rattle.primvar_refine.specs.Step.{CanRefine, mask_from};
-ghost use Rattle.primvar_refine.specs.Found.{ArePointDenominators, AreFaceDenominators, IsFoundOver};
+ghost use Rattle.child_masks.specs.Masks.{CanRefine, mask_from};
+ghost use Rattle.child_masks.specs.Found.{ArePointDenominators, AreFaceDenominators};
+ghost use Rattle.child_masks.specs.Survey.{IsSurvey};
 ghost use Rattle.stencil_apply.specs.Arrays.{shares_of};
 ghost use Rattle.stencil_factory.specs.Weights.{AreWeights};
 ghost use Rattle.stencil_factory.specs.Flat.{IsWeighed};
 
 use crate::flat::{add_corners, add_terms};
 use crate::scratch::Scratch;
+use child_masks::Survey;
 use level_topology::{Child, Level, Origin};
 use mask_rules::{Scheme, edge_mask, face_mask, vertex_mask};
-use primvar_refine::Survey;
 use ratio128::{Memory, quotient};
 use std::alloc::Global;
 use stencil_apply::Entry;
@@ -120,7 +121,7 @@ fn weigh_origin(
     requires child { CanRefine parent.now child.now (scheme_of scheme) }
     requires known { p < length child.now.origins }
     requires dens { ArePointDenominators parent.now.level dens.now }
-    requires survey { IsFoundOver parent.now.level (scheme_of scheme) child.now.origins dens.now survey.now }
+    requires survey { IsSurvey parent.now.level (scheme_of scheme) child.now.origins dens.now survey.now }
     requires clear { scratch.old ≡ replicate parent.now.level.point_count 0 }
     ensures { OnOk result (IsWeighed parent.now.level dens.now (mask_from parent.now.level (scheme_of scheme) (get_or child.now.origins p (FromVertex 0))) scratch.new) }
 {
@@ -151,7 +152,7 @@ pub(crate) fn weigh_point(
     requires child { CanRefine parent.now child.now (scheme_of scheme) }
     requires known { p < length child.now.origins }
     requires dens { ArePointDenominators parent.now.level dens.now }
-    requires survey { IsFoundOver parent.now.level (scheme_of scheme) child.now.origins dens.now survey.now }
+    requires survey { IsSurvey parent.now.level (scheme_of scheme) child.now.origins dens.now survey.now }
     requires clear { scratch.old ≡ replicate parent.now.level.point_count 0 }
     ensures clear { OnOk result (scratch.new ≡ replicate parent.now.level.point_count 0) }
     ensures weights { OnOk result (AreWeights parent.now.level dens.now (mask_from parent.now.level (scheme_of scheme) (get_or child.now.origins p (FromVertex 0))) (shares_of weights.new.items)) }

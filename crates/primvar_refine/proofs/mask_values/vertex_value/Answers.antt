@@ -2,7 +2,7 @@ use Rattle.mask_rules.specs.View.{scheme_of, seen_vertex, terms_of}
 use Rattle.mask_rules.proofs.EqualLemmas.{joined-vertex_mask}
 use Rattle.primvar_refine.specs.View.{rows_of}
 use Rattle.primvar_refine.proofs.SeenLemmas.{rows-there, count-seen}
-use Rattle.primvar_refine.proofs.ResultLemmas.{of-ok}
+use Rattle.child_masks.proofs.ResultLemmas.{of-ok}
 use Rattle.primvar_refine.proofs.MadeLemmas.{given-there, given-can, given-made, given-count}
 use Rattle.primvar_refine.proofs.mask_values.vertex_value.Goals as goal
 

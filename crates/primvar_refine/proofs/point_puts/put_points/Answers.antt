@@ -10,7 +10,8 @@ use Rattle.primvar_refine.specs.Made.{terms_of_other}
 use Rattle.primvar_refine.specs.Places.{all_origins}
 use Rattle.primvar_refine.specs.Ready.{CanPut}
 use Rattle.primvar_refine.proofs.PutLemmas.{dens-put, none-put, terms-all, terms-more}
-use Rattle.primvar_refine.proofs.ReadyLemmas.{ready-kept, can-put, origin-within, faces-stay, others-put, point-inside, none-made, others-all}
+use Rattle.primvar_refine.proofs.ReadyLemmas.{ready-kept, can-put, faces-stay, others-put, point-inside, none-made, others-all}
+use Rattle.child_masks.proofs.OriginLemmas.{origin-within}
 use Rattle.primvar_refine.proofs.point_puts.put_points.Goals as goal
 
 pub loop-p-init : goal.loop-p-init

@@ -1,14 +1,15 @@
 use Rattle.std.proofs.Common.{arith, not, ap, ◌∙◌, ◌<◌, ◌*◌}
 use Rattle.subdiv_model.specs.Channel.{number_bound}
 use Rattle.mask_rules.specs.View.{scheme_of}
+use Rattle.primvar_refine.specs.Rows.{dens_of}
 use Rattle.primvar_refine.specs.View.{rows_of}
 use Rattle.primvar_refine.proofs.BoundLemmas.{too-big}
-use Rattle.primvar_refine.proofs.SurveyLemmas.{survey-count}
+use Rattle.child_masks.proofs.SurveyLemmas.{survey-count}
 use Rattle.primvar_refine.proofs.refine.refine_values.Goals as goal
 
 pub greatest_of-greatest-requires : goal.greatest_of-greatest-requires
 greatest_of-greatest-requires g c =
-    let count = survey-count c.args.parent.now.level (scheme_of c.args.scheme) c.args.child.now.origins (rows_of g.P.Primvar.numbers c.args.values.now) c.in_ok-survey.survey c.in_ok-survey.ensures in
+    let count = survey-count c.args.parent.now.level (scheme_of c.args.scheme) c.args.child.now.origins (dens_of (rows_of g.P.Primvar.numbers c.args.values.now)) c.in_ok-survey.survey c.in_ok-survey.ensures in
     omega (arith, count, c.facts.ensures.is.each_point, c.facts.ensures.level_is.small.points)
 
 pub returns-then-is_none-clause-refined : goal.returns-then-is_none-clause-refined

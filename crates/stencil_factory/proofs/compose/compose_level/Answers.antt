@@ -1,6 +1,7 @@
 use Rattle.std.proofs.Common.{sym, subst}
 use Rattle.mask_rules.specs.View.{scheme_of}
-use Rattle.primvar_refine.specs.Found.{ArePointDenominators, IsFoundOver, IsFaultOver}
+use Rattle.child_masks.specs.Found.{ArePointDenominators}
+use Rattle.child_masks.specs.Survey.{IsSurvey, IsSurveyFault}
 use Rattle.stencil_factory.proofs.SurveyLemmas.{point-dens}
 use Rattle.stencil_factory.proofs.compose.compose_level.Goals as goal
 
@@ -10,7 +11,7 @@ survey_over-requires-clause-dens c =
 
 pub compose_found-requires-clause-survey : goal.compose_found-requires-clause-survey
 compose_found-requires-clause-survey c =
-    subst (λ dens. IsFoundOver c.args.parent.now.level (scheme_of c.args.scheme) c.args.child.now.origins dens c.in-Ok.survey) c.denominators.ensures c.in-Ok.ensures
+    subst (λ dens. IsSurvey c.args.parent.now.level (scheme_of c.args.scheme) c.args.child.now.origins dens c.in-Ok.survey) c.denominators.ensures c.in-Ok.ensures
 
 pub returns-in-Err : goal.returns-in-Err
 returns-in-Err c =
@@ -18,4 +19,4 @@ returns-in-Err c =
     let scheme = scheme_of c.args.scheme in
     let origins = c.args.child.now.origins in
     c.table_fault.ensures level scheme origins c.args.table.now
-    (subst (λ dens. IsFaultOver level scheme origins dens c.in-Err.fault) c.denominators.ensures c.in-Err.ensures)
+    (subst (λ dens. IsSurveyFault level scheme origins dens c.in-Err.fault) c.denominators.ensures c.in-Err.ensures)

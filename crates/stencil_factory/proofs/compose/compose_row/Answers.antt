@@ -1,14 +1,16 @@
 use Rattle.std.proofs.Common.{sym, subst, get_or}
 use Rattle.level_topology.specs.Child.{FromVertex}
 use Rattle.mask_rules.specs.View.{scheme_of}
-use Rattle.primvar_refine.specs.Step.{mask_from}
-use Rattle.primvar_refine.specs.Found.{ArePointDenominators, IsFoundOver}
+use Rattle.child_masks.specs.Masks.{mask_from}
+use Rattle.child_masks.specs.Found.{ArePointDenominators}
+use Rattle.child_masks.specs.Survey.{IsSurvey}
 use Rattle.stencil_apply.specs.Arrays.{shares_of}
 use Rattle.stencil_factory.specs.Rows.{dens_of}
 use Rattle.stencil_factory.specs.Weights.{AreWeights}
 use Rattle.stencil_factory.specs.Composing.{CanAddRows}
 use Rattle.std.proofs.lemmas.Result.{on_ok_weaker}
-use Rattle.stencil_factory.proofs.SurveyLemmas.{point-dens, found-den, own-short, own-positive}
+use Rattle.child_masks.proofs.DenLemmas.{den-positive}
+use Rattle.stencil_factory.proofs.SurveyLemmas.{point-dens, found-den, own-short}
 use Rattle.stencil_factory.proofs.RowLemmas.{can-add, composed}
 use Rattle.stencil_factory.proofs.compose.compose_row.Goals as goal
 
@@ -18,7 +20,7 @@ weigh_point-requires-clause-dens c =
 
 pub weigh_point-requires-clause-survey : goal.weigh_point-requires-clause-survey
 weigh_point-requires-clause-survey c =
-    subst (λ dens. IsFoundOver c.args.parent.now.level (scheme_of c.args.scheme) c.args.child.now.origins dens c.args.survey.now) (sym c.denominators-dens.ensures) c.requires.survey
+    subst (λ dens. IsSurvey c.args.parent.now.level (scheme_of c.args.scheme) c.args.child.now.origins dens c.args.survey.now) (sym c.denominators-dens.ensures) c.requires.survey
 
 pub sum_rows-requires-clause-can : goal.sum_rows-requires-clause-can
 sum_rows-requires-clause-can c =
@@ -40,7 +42,7 @@ returns-clause-row c =
     let weights = shares_of c.weigh_point.new.weights.items in
     let short = own-short level scheme origins (dens_of table) c.args.survey.now c.requires.survey c.args.p c.requires.known in
     let den = found-den level scheme origins (dens_of table) c.args.survey.now c.requires.survey c.args.p c.requires.known in
-    let positive = own-positive c.args.parent.now c.args.child.now scheme (dens_of table) c.args.p c.facts.ensures c.facts-2.ensures c.requires.child (point-dens table level c.facts-3.ensures c.requires.each) c.requires.known in
+    let positive = den-positive c.args.parent.now c.args.child.now scheme (dens_of table) c.facts.ensures c.facts-2.ensures c.requires.child (point-dens table level c.facts-3.ensures c.requires.each).positive c.args.p c.requires.known in
     let are = subst (λ dens. AreWeights level dens mask weights) c.denominators-dens.ensures c.in_ok-weigh_point.ensures.weights in
     on_ok_weaker c.sum_rows.result
     (λ entries. composed level table mask weights c.facts-3.ensures c.requires.each are short (shares_of c.sum_rows.new.entries.items) (get_or c.args.survey.now.dens.items c.args.p 0) entries den positive)

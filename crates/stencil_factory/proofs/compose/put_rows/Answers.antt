@@ -3,14 +3,13 @@ use Rattle.std.proofs.lemmas.List.{length-map}
 use Rattle.level_topology.specs.Topology.{Topology}
 use Rattle.level_topology.specs.Child.{FromVertex}
 use Rattle.mask_rules.specs.View.{scheme_of}
-use Rattle.primvar_refine.specs.Step.{mask_from, masks_from}
+use Rattle.child_masks.specs.Masks.{mask_from, masks_from}
 use Rattle.stencil_apply.specs.Table.{Share, Table, IsRow}
 use Rattle.stencil_apply.specs.Arrays.{row_of}
 use Rattle.stencil_apply.specs.declared.entry.Entry.{Entry}
 use Rattle.stencil_factory.specs.Rows.{dens_of}
 use Rattle.stencil_factory.specs.Composing.{IsComposedRow, AreComposedRows}
-use Rattle.stencil_factory.proofs.FoundLemmas.{found-inside}
-use Rattle.stencil_factory.proofs.SurveyLemmas.{found-fine}
+use Rattle.stencil_factory.proofs.SurveyLemmas.{found-inside}
 use Rattle.stencil_factory.proofs.ComposedLemmas.{row-read, next-rows, next-entries, next-count, are-composed}
 use Rattle.stencil_factory.proofs.compose.put_rows.Goals as goal
 
@@ -89,4 +88,4 @@ returns c =
     let points = c.points-p-end.ensures ∙ ap (λ (t : Topology). t.level.point_count) c.level.ensures in
     let past : length origins ≤ c.loop-p.p = omega (arith, c.loop-p-test.false, points, c.facts-2.ensures.is.each_point) in
     are-composed level table scheme origins c.loop-p.p c.loop-p.builder.table past c.loop-p.invariant.same c.loop-p.invariant.rows
-    (found-fine level scheme origins (dens_of table) c.args.survey.now c.requires.survey)
+    c.requires.survey.fine

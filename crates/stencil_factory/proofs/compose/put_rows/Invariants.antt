@@ -1,6 +1,6 @@
 use Rattle.std.proofs.Common.{◌≡◌, replicate, take}
 use Rattle.mask_rules.specs.View.{scheme_of}
-use Rattle.primvar_refine.specs.Step.{masks_from}
+use Rattle.child_masks.specs.Masks.{masks_from}
 use Rattle.stencil_factory.specs.Composing.{AreComposedRows}
 use Rattle.stencil_factory.proofs.compose.put_rows.Given as goal
 

@@ -2,7 +2,7 @@ use Rattle.std.proofs.Common.{refl, sym, subst, ◌+◌, ◌<◌, ◌≤◌, ◌
 use Rattle.level_topology.specs.Topology.{Topology}
 use Rattle.level_topology.specs.Child.{FromVertex}
 use Rattle.mask_rules.specs.View.{scheme_of}
-use Rattle.primvar_refine.specs.Step.{mask_from}
+use Rattle.child_masks.specs.Masks.{mask_from}
 use Rattle.subdiv_model.specs.Support.{source_support}
 use Rattle.stencil_factory.specs.Rows.{supports_of}
 use Rattle.std.specs.List.{All}

@@ -2,7 +2,7 @@ use Rattle.std.proofs.Common.{◌<◌, ◌∙◌, get_or, sym, subst}
 use Rattle.std.specs.List.{All}
 use Rattle.level_topology.specs.Child.{FromVertex}
 use Rattle.mask_rules.specs.View.{scheme_of}
-use Rattle.primvar_refine.specs.Step.{mask_from}
+use Rattle.child_masks.specs.Masks.{mask_from}
 use Rattle.stencil_factory.proofs.MarkLemmas.{marks-after, fresh-marks, read-named}
 use Rattle.stencil_factory.proofs.count.count_row.Goals as goal
 

@@ -1,7 +1,7 @@
 use Rattle.std.proofs.Common.{arith, ap, length, sym, ◌∙◌, subst}
 use Rattle.std.proofs.lemmas.Result.{on_ok_weaker}
-use Rattle.primvar_refine.proofs.FaceLemmas.{face-corners}
-use Rattle.primvar_refine.proofs.ReadyLemmas.{some-corners}
+use Rattle.child_masks.proofs.FaceLemmas.{face-corners}
+use Rattle.child_masks.proofs.OriginLemmas.{some-corners}
 use Rattle.stencil_factory.specs.Scratch.{added_shares}
 use Rattle.stencil_factory.specs.Flat.{CanAddAll}
 use Rattle.stencil_factory.proofs.AddedLemmas.{weigh-point, weigh-face, point-can, point-added, face-shares}

@@ -2,7 +2,7 @@ use Rattle.std.proofs.Common.{ap, ◌∙◌}
 use Rattle.level_topology.specs.Child.{FromVertex, FromFace, FromEdge}
 use Rattle.mask_rules.specs.View.{scheme_of}
 use Rattle.stencil_factory.specs.Met.{Places}
-use Rattle.stencil_factory.proofs.OriginLemmas.{origin-known}
+use Rattle.child_masks.proofs.OriginLemmas.{origin-known}
 use Rattle.stencil_factory.proofs.NameLemmas.{named-since}
 use Rattle.stencil_factory.proofs.name.name_point.Goals as goal
 

@@ -1,7 +1,7 @@
 use Rattle.level_topology.specs.Child.{FromVertex}
 use Rattle.mask_rules.specs.View.{scheme_of, seen_vertex, terms_of}
 use Rattle.mask_rules.proofs.EqualLemmas.{joined-vertex_mask}
-use Rattle.primvar_refine.proofs.ResultLemmas.{of-ok}
+use Rattle.child_masks.proofs.ResultLemmas.{of-ok}
 use Rattle.stencil_factory.proofs.KnownLemmas.{ok-weaker}
 use Rattle.stencil_factory.proofs.NameLemmas.{terms-named, terms-can-name}
 use Rattle.stencil_factory.proofs.name.name_vertex.Goals as goal

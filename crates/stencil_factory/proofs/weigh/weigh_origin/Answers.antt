@@ -1,10 +1,11 @@
 use Rattle.std.proofs.Common.{arith, sym, subst}
 use Rattle.level_topology.specs.Child.{FromVertex, FromFace, FromEdge}
 use Rattle.mask_rules.specs.View.{scheme_of}
-use Rattle.primvar_refine.specs.Found.{AreFaceDenominators}
+use Rattle.child_masks.specs.Found.{AreFaceDenominators}
 use Rattle.stencil_factory.specs.Flat.{IsWeighed}
-use Rattle.stencil_factory.proofs.FoundLemmas.{found-inside, found-read, found-faces}
-use Rattle.stencil_factory.proofs.OriginLemmas.{origin-known, of-point}
+use Rattle.stencil_factory.proofs.SurveyLemmas.{found-inside, found-read, found-faces}
+use Rattle.child_masks.proofs.OriginLemmas.{origin-known}
+use Rattle.stencil_factory.proofs.OriginLemmas.{of-point}
 use Rattle.stencil_factory.proofs.weigh.weigh_origin.Goals as goal
 
 pub index-den-requires : goal.index-den-requires

@@ -1,7 +1,7 @@
 use Rattle.level_topology.specs.Child.{FromVertex}
 use Rattle.mask_rules.specs.View.{scheme_of, seen_vertex, terms_of}
 use Rattle.mask_rules.proofs.EqualLemmas.{joined-vertex_mask}
-use Rattle.primvar_refine.proofs.ResultLemmas.{of-ok}
+use Rattle.child_masks.proofs.ResultLemmas.{of-ok}
 use Rattle.stencil_factory.proofs.KnownLemmas.{part-weigh, part-can, part-weighed, ok-weaker}
 use Rattle.stencil_factory.proofs.weigh.weigh_vertex.Goals as goal
 

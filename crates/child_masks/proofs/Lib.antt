@@ -1,0 +1,15 @@
+pub mod ResultLemmas
+pub mod MeanLemmas
+pub mod WithinLemmas
+pub mod FoldLemmas
+pub mod SourceLemmas
+pub mod OriginLemmas
+pub mod TermLemmas
+pub mod FaceLemmas
+pub mod AmongLemmas
+pub mod AddLemmas
+pub mod PointLemmas
+pub mod TransitionLemmas
+pub mod FoundLemmas
+pub mod SurveyLemmas
+pub mod DenLemmas

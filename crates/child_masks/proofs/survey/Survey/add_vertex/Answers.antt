@@ -1,0 +1,28 @@
+use Rattle.subdiv_model.specs.Mask.{vertex_mask}
+use Rattle.subdiv_model.specs.Refined.{source_denominator}
+use Rattle.level_topology.specs.Child.{FromVertex}
+use Rattle.mask_rules.specs.View.{scheme_of}
+use Rattle.mask_rules.proofs.EqualLemmas.{joined-vertex_mask}
+use Rattle.child_masks.proofs.AmongLemmas.{part-sources, among-level}
+use Rattle.child_masks.proofs.ResultLemmas.{of-ok}
+use Rattle.child_masks.proofs.AddLemmas.{tells, added-mask}
+use Rattle.child_masks.proofs.survey.Survey.add_vertex.Goals as goal
+
+pub add_mask-requires-clause-among : goal.add_mask-requires-clause-among
+add_mask-requires-clause-among c =
+    let level = c.args.parent.now.level in
+    let scheme = scheme_of c.args.scheme in
+    among-level level _ _ _ (vertex_mask level scheme c.args.v) c.terms.result.now (of-ok _ _ c.vertex_mask.result c.in-Ok.mask c.in-Ok.is c.vertex_mask.ensures.mask).0 (joined-vertex_mask level c.args.v scheme)
+    (part-sources c.args.parent.now scheme (FromVertex c.args.v) c.facts.ensures c.requires.known) c.terms.ensures c.requires.dens.count c.requires.faces.count
+
+pub returns-in-Ok : goal.returns-in-Ok
+returns-in-Ok c =
+    let level = c.args.parent.now.level in
+    let scheme = scheme_of c.args.scheme in
+    let dens = c.args.dens.now in
+    let faces = c.args.self.now.faces.items in (
+      added-mask (source_denominator level dens) dens faces _ (vertex_mask level scheme c.args.v) _ _ c.args.self.now c.add_mask.new.self
+          (tells c.args.parent.now dens faces c.facts.ensures c.requires.dens c.requires.faces) (of-ok _ _ c.vertex_mask.result c.in-Ok.mask c.in-Ok.is c.vertex_mask.ensures.mask).0 (joined-vertex_mask level c.args.v scheme) c.terms.ensures c.denominator.ensures
+          c.in_ok-add_mask-in-Ok.ensures,
+      (of-ok _ _ c.vertex_mask.result c.in-Ok.mask c.in-Ok.is c.vertex_mask.ensures.mask).1,
+    )

@@ -1,0 +1,67 @@
+-- How far a survey has come, and what each mask adds to it.
+use Rattle.std.specs.Prelude.{ℕ, ◌≡◌, ◌<◌, ◌≤◌, Bool, true, false, ◌||◌, List, [], ◌∷◌, ◌++◌, length, map, get_or}
+use Rattle.std.specs.List.{All, list_any}
+use Rattle.subdiv_model.specs.Level.{Level}
+use Rattle.subdiv_model.specs.Mask.{Scheme, SourcePoint, OfPoint, OfFace, Term, has_source}
+use Rattle.subdiv_model.specs.Refined.{source_denominator}
+use Rattle.subdiv_model.specs.Channel.{number_bound, transition_overflows_at}
+use Rattle.level_topology.specs.Child.{PointOrigin, FromVertex}
+use Rattle.child_masks.specs.Masks.{masks_from, dens_from, HasNoTransition}
+use Rattle.child_masks.specs.Survey.{within_bound}
+use Rattle.child_masks.specs.declared.survey.Survey.{Survey}
+use Rattle.child_masks.specs.declared.fault.SurveyFault.{SurveyFault}
+use Rattle.child_masks.specs.declared.fault.SurveyFault.TheVariants.{Transition, Denominator, Memory}
+
+-- one of so many points, or of the new points of so many faces
+abbrev pub IsAmong : ℕ → ℕ → SourcePoint → Type 0
+IsAmong points faces (OfPoint v) = v < points
+IsAmong points faces (OfFace f) = f < faces
+
+-- a face is one of so many
+abbrev pub IsFaceAmong : ℕ → SourcePoint → Type 0
+IsFaceAmong faces (OfPoint v) = Unit {0}
+IsFaceAmong faces (OfFace f) = f < faces
+
+-- two lists have the denominators of the sources, all of at least 1, and 0 where one passes the bound
+pub record Tell (denominator : SourcePoint → ℕ) (dens faces : List ℕ) : Type 0 where
+  pub positive : (source : SourcePoint) → IsAmong (length dens) (length faces) source → 0 < denominator source
+  pub point : (v : ℕ) → v < length dens → get_or dens v 0 ≡ within_bound (denominator (OfPoint v))
+  pub face : (f : ℕ) → f < length faces → get_or faces f 0 ≡ within_bound (denominator (OfFace f))
+
+-- the denominators of the points of a level, within their bounds
+pub record ArePointDenominators (level : Level) (dens : List ℕ) : Type 0 where
+  pub count : length dens ≡ level.point_count
+  pub positive : All (λ den. 0 < den) dens
+  pub short : All (λ den. den ≤ number_bound) dens
+
+-- those of the new points of its faces, 0 where one passes the bound
+pub record AreFaceDenominators (level : Level) (dens faces : List ℕ) : Type 0 where
+  pub count : length faces ≡ length level.polygons
+  pub each : (f : ℕ) → f < length level.polygons → get_or faces f 0 ≡ within_bound (source_denominator level dens (OfFace f))
+
+-- the faces that the terms name are marked too
+pub record AreMarked (old : List Bool) (terms : List Term) (new : List Bool) : Type 0 where
+  pub count : length new ≡ length old
+  pub each : (f : ℕ) → f < length old → get_or new f false ≡ (get_or old f false || has_source terms (OfFace f))
+
+-- a denominator is put after the others, and the faces that the terms name are marked
+pub record IsAdded (den : ℕ) (terms : List Term) (old new : Survey) : Type 0 where
+  pub positive : 0 < den
+  pub faces : new.faces.items ≡ old.faces.items
+  pub dens : new.dens.items ≡ old.dens.items ++ within_bound den ∷ []
+  pub named : AreMarked old.named.items terms new.named.items
+
+-- the survey of the child points so far: none is refused
+pub record IsSurveyOf (level : Level) (scheme : Scheme) (origins : List PointOrigin) (dens : List ℕ) (survey : Survey) : Type 0 where
+  pub positive : All (λ den. 0 < den) (dens_from level scheme dens origins)
+  pub found : survey.dens.items ≡ map within_bound (dens_from level scheme dens origins)
+  pub fine : HasNoTransition level scheme origins
+  pub face : AreFaceDenominators level dens survey.faces.items
+  pub named_count : length survey.named.items ≡ length level.polygons
+  pub named : (f : ℕ) → f < length level.polygons → get_or survey.named.items f false ≡ list_any (λ mask. has_source mask.terms (OfFace f)) (masks_from level scheme origins)
+
+-- why a child point has no denominator
+abbrev pub IsPointFault : Level → Scheme → PointOrigin → SurveyFault → Type 0
+IsPointFault level scheme origin (Transition v) = (origin ≡ FromVertex v) × (transition_overflows_at level scheme v ≡ true)
+IsPointFault level scheme origin (Denominator p) = ⊥
+IsPointFault level scheme origin Memory = Unit {0}

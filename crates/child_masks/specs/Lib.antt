@@ -1,0 +1,4 @@
+pub mod Masks
+pub mod Survey
+pub mod Found
+pub mod Known

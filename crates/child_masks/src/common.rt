@@ -1,0 +1,56 @@
+//! Common denominators up to their bound, as whole numbers that are 0 where they pass it.
+
+ghost use Rattle.std.specs.Prelude.{◌≡◌, ℕ, ◌*◌, ◌<◌, true};
+ghost use Rattle.std.specs.Int.{◌∣◌};
+ghost use Rattle.subdiv_model.specs.Multiples.{lcm_of};
+ghost use Rattle.child_masks.specs.Survey.{within_bound};
+
+use ratio128::{lcm_within, times_within};
+
+/// The greatest denominator and the greatest numerator.
+pub(crate) const BOUND: u128 = (1 << 126) - 1;
+
+// Whether a number is a power of two that divides another, by their lowest bits alone.
+fn is_shift(c: u128, m: u128) -> bool
+    requires c { 0 < c }
+    requires m { 0 < m }
+    ensures { result ≡ true → c ∣ m }
+{
+    let twos = c.trailing_zeros();
+    twos <= m.trailing_zeros() && c >> twos == 1
+}
+
+// The least common multiple of two numbers that are not 0.
+fn multiple(m: u128, c: u128) -> u128
+    requires m { 0 < m }
+    requires c { 0 < c }
+    ensures { result ≡ within_bound (lcm_of m c) }
+{
+    lcm_within(m, c, BOUND).unwrap_or(0)
+}
+
+/// The least common multiple of two denominators.
+pub(crate) fn joined(m: u128, c: u128) -> u128
+    ensures { (a b : ℕ) → 0 < a → 0 < b → m ≡ within_bound a → c ≡ within_bound b → result ≡ within_bound (lcm_of a b) }
+{
+    if c == m || c == 1 {
+        return m;
+    }
+    if m == 0 || c == 0 {
+        return 0;
+    }
+    if is_shift(c, m) {
+        return m;
+    }
+    if is_shift(m, c) {
+        return c;
+    }
+    multiple(m, c)
+}
+
+/// A denominator times a number.
+pub(crate) fn scaled(q: u128, m: u128) -> u128
+    ensures { (a : ℕ) → 0 < q → 0 < a → m ≡ within_bound a → result ≡ within_bound (q * a) }
+{
+    times_within(q, m, BOUND).unwrap_or(0)
+}

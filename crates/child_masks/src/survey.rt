@@ -1,0 +1,218 @@
+//! What is known of the masks of child points before any value is made.
+
+ghost use Rattle.std.specs.Prelude.{◌≡◌, ℕ, ◌+◌, ◌<◌, ◌⊎◌, false, true, IsTrue, List, [], length, get_or, take, OnOk, MatchResult, IfOk};
+ghost use Rattle.std.specs.List.{All};
+ghost use Rattle.subdiv_model.specs.Sharpness.{Smooth};
+ghost use Rattle.subdiv_model.specs.Edges.{edges_of, faces_of_edge};
+ghost use Rattle.subdiv_model.specs.Mask.{SourcePoint, CatmullClark, vertex_mask, edge_mask};
+ghost use Rattle.subdiv_model.specs.Mask as model;
+ghost use Rattle.subdiv_model.specs.Refined.{mask_denominator, source_denominator};
+ghost use Rattle.subdiv_model.specs.Channel.{chaikin_overflows_at, transition_overflows_at};
+ghost use Rattle.level_topology.specs.Topology.{edge_at};
+ghost use Rattle.level_topology.specs.Child.{FromVertex};
+ghost use Rattle.mask_rules.specs.View.{scheme_of, source_of, terms_of};
+ghost use Rattle.mask_rules.specs.Masks.{is_at_least_one};
+ghost use Rattle.mask_rules.specs.Around.{HasSharpBoundaryAt};
+ghost use Rattle.child_masks.specs.Masks.{CanRefine};
+ghost use Rattle.child_masks.specs.Survey.{within_bound, IsSurvey, IsSurveyFault};
+ghost use Rattle.child_masks.specs.Found.{IsAmong, Tell, ArePointDenominators, AreFaceDenominators, IsAdded, IsSurveyOf, IsPointFault};
+
+use crate::common::scaled;
+use crate::dens::first_zero;
+use crate::face::face_denominators;
+use crate::fault::SurveyFault;
+use crate::terms::{mark_faces, multiple_of_terms};
+use crate::transition::least_refused;
+use level_topology::{Child, Level, Origin};
+use mask_rules::{MaskFault, Scheme, Term, edge_mask, vertex_mask};
+use ratio128::Memory;
+use std::alloc::Global;
+
+/// What the survey of the child points of a level found.
+#[derive(Drop)]
+pub struct Survey {
+    /// The common denominator of each child point, in their order.
+    pub dens: Vec<u128>,
+    /// The common denominator of the new point of each face of the parent; 0 where it passes 2^126 - 1.
+    pub faces: Vec<u128>,
+    /// Whether some mask of a child point names the new point of the face.
+    pub named: Vec<bool>,
+}
+
+impl Survey {
+    // The denominators of the faces, and nothing of the child points.
+    fn start(alloc: Global, parent: &Level, dens: &[u128], points: u32) -> Result<Survey, Memory>
+        requires { ArePointDenominators parent.now.level dens.now }
+        ensures { IfOk result (λ survey. (scheme : model.Scheme) → IsSurveyOf parent.now.level scheme [] dens.now survey) }
+    {
+        let faces = face_denominators(alloc, parent, dens)?;
+        let named = vec![in alloc; false; parent.faces() as usize]?;
+        Ok(Survey {
+            dens: Vec::with_capacity(alloc, points as usize)?,
+            faces,
+            named,
+        })
+    }
+
+    // What the mask of a child point tells.
+    fn add_mask(&mut self, dens: &[u128], terms: &[Term], denominator: u128) -> Result<(), Memory>
+        requires among { All (λ t. IsAmong (length dens.now) (length self.old.faces.items) (source_of t.at)) terms.now }
+        requires beside { length self.old.named.items ≡ length self.old.faces.items }
+        ensures { OnOk result ((value : SourcePoint → ℕ) → Tell value dens.now self.old.faces.items → 0 < denominator
+            → IsAdded (mask_denominator value (record { terms = terms_of terms.now; denominator = denominator })) (terms_of terms.now) self.old self.new) }
+    {
+        let multiple = multiple_of_terms(terms, dens, &self.faces);
+        self.dens.push(scaled(denominator, multiple))?;
+        mark_faces(&mut self.named, terms);
+        Ok(())
+    }
+
+    // What a child point of a vertex tells.
+    fn add_vertex(
+        &mut self,
+        alloc: Global,
+        parent: &Level,
+        v: u32,
+        scheme: Scheme,
+        dens: &[u128],
+    ) -> Result<(), SurveyFault>
+        requires known { v < parent.now.level.point_count }
+        requires complete { get_or parent.now.complete v false ≡ true }
+        requires boundary { scheme_of scheme ≡ CatmullClark → HasSharpBoundaryAt parent.now.level v }
+        requires fine { scheme_of scheme ≡ CatmullClark → chaikin_overflows_at parent.now.level v ≡ false }
+        requires dens { ArePointDenominators parent.now.level dens.now }
+        requires faces { AreFaceDenominators parent.now.level dens.now self.old.faces.items }
+        requires marks { length self.old.named.items ≡ length parent.now.level.polygons }
+        ensures { MatchResult result
+            (λ _. IsAdded (mask_denominator (source_denominator parent.now.level dens.now) (vertex_mask parent.now.level (scheme_of scheme) v))
+            (vertex_mask parent.now.level (scheme_of scheme) v).terms self.old self.new × (transition_overflows_at parent.now.level (scheme_of scheme) v ≡ false))
+            (IsPointFault parent.now.level (scheme_of scheme) (FromVertex v)) }
+    {
+        parent.facts();
+        match &vertex_mask(alloc, parent, v, scheme) {
+            Ok(mask) => {
+                self.add_mask(dens, mask.terms(), mask.denominator())?;
+                Ok(())
+            }
+            Err(MaskFault::Transition) => Err(SurveyFault::Transition(v)),
+            Err(MaskFault::Memory) => Err(SurveyFault::Memory),
+        }
+    }
+
+    // What a child point of an edge tells.
+    fn add_edge(
+        &mut self,
+        parent: &Level,
+        e: u32,
+        scheme: Scheme,
+        dens: &[u128],
+    ) -> Result<(), Memory>
+        requires known { e < length (edges_of parent.now.level.polygons) }
+        requires inside { scheme_of scheme ≡ CatmullClark
+            → (length (faces_of_edge parent.now.level.polygons (edge_at parent.now.level.polygons e)) ≡ 2)
+            ⊎ IsTrue (is_at_least_one (get_or parent.now.level.edge_sharpness e Smooth)) }
+        requires dens { ArePointDenominators parent.now.level dens.now }
+        requires faces { AreFaceDenominators parent.now.level dens.now self.old.faces.items }
+        requires marks { length self.old.named.items ≡ length parent.now.level.polygons }
+        ensures { OnOk result (IsAdded (mask_denominator (source_denominator parent.now.level dens.now) (edge_mask parent.now.level (scheme_of scheme) (edge_at parent.now.level.polygons e)))
+            (edge_mask parent.now.level (scheme_of scheme) (edge_at parent.now.level.polygons e)).terms self.old self.new) }
+    {
+        parent.facts();
+        let mask = edge_mask(parent, e, scheme);
+        self.add_mask(dens, mask.terms(), mask.denominator())
+    }
+
+    // What a child point of a face tells: its mask names no face.
+    fn add_face(&mut self, f: u32) -> Result<(), Memory>
+        requires { f < length self.old.faces.items }
+        ensures { OnOk result ((den : ℕ) → 0 < den → get_or self.old.faces.items f 0 ≡ within_bound den → IsAdded den [] self.old self.new) }
+    {
+        self.dens.push(self.faces[f as usize])?;
+        Ok(())
+    }
+
+    // What a child point tells.
+    fn add_point(
+        &mut self,
+        alloc: Global,
+        parent: &Level,
+        child: &Child,
+        p: u32,
+        scheme: Scheme,
+        dens: &[u128],
+    ) -> Result<(), SurveyFault>
+        requires child { CanRefine parent.now child.now (scheme_of scheme) }
+        requires known { p < length child.now.origins }
+        requires dens { ArePointDenominators parent.now.level dens.now }
+        requires so_far { IsSurveyOf parent.now.level (scheme_of scheme) (take p child.now.origins) dens.now self.old }
+        ensures { MatchResult result
+            (λ _. IsSurveyOf parent.now.level (scheme_of scheme) (take (p + 1) child.now.origins) dens.now self.new)
+            (IsPointFault parent.now.level (scheme_of scheme) (get_or child.now.origins p (FromVertex 0))) }
+    {
+        parent.facts();
+        child.facts();
+        match child.origin(p) {
+            Origin::Vertex(v) => self.add_vertex(alloc, parent, v, scheme, dens),
+            Origin::Edge(e) => {
+                self.add_edge(parent, e, scheme, dens)?;
+                Ok(())
+            }
+            Origin::Face(f) => {
+                self.add_face(f)?;
+                Ok(())
+            }
+        }
+    }
+}
+
+// The fault of a whole step where a child point has one.
+fn fault_of_all(
+    alloc: Global,
+    parent: &Level,
+    child: &Child,
+    p: u32,
+    scheme: Scheme,
+    fault: SurveyFault,
+) -> SurveyFault
+    requires child { CanRefine parent.now child.now (scheme_of scheme) }
+    requires known { p < length child.now.origins }
+    requires fault { IsPointFault parent.now.level (scheme_of scheme) (get_or child.now.origins p (FromVertex 0)) fault }
+    ensures { (dens : List ℕ) → IsSurveyFault parent.now.level (scheme_of scheme) child.now.origins dens result }
+{
+    child.facts();
+    match fault {
+        SurveyFault::Transition(v) => least_refused(alloc, parent, child, scheme, v),
+        other => other,
+    }
+}
+
+/// The survey of a child of a level, from the denominators of the level's points, each from 1 to 2^126 - 1; or the first fault:
+/// `Transition` with the least vertex, of those with a child point, whose mask is refused, and then `Denominator` with the least
+/// child point whose denominator passes 2^126 - 1.
+pub fn survey_over(
+    alloc: Global,
+    parent: &Level,
+    child: &Child,
+    dens: &[u128],
+    scheme: Scheme,
+) -> Result<Survey, SurveyFault>
+    requires child { CanRefine parent.now child.now (scheme_of scheme) }
+    requires dens { ArePointDenominators parent.now.level dens.now }
+    ensures { MatchResult result
+        (IsSurvey parent.now.level (scheme_of scheme) child.now.origins dens.now)
+        (IsSurveyFault parent.now.level (scheme_of scheme) child.now.origins dens.now) }
+{
+    parent.facts();
+    child.facts();
+    let points = child.level().points();
+    let mut survey = Survey::start(alloc, parent, dens, points)?;
+    for p in 0..points {
+        if let Err(fault) = survey.add_point(alloc, parent, child, p, scheme, dens) {
+            return Err(fault_of_all(alloc, parent, child, p, scheme, fault));
+        }
+    }
+    match first_zero(&survey.dens) {
+        Some(p) => Err(SurveyFault::Denominator(p)),
+        None => Ok(survey),
+    }
+}

@@ -1,0 +1,60 @@
+//! The least vertex that is refused.
+
+ghost use Rattle.std.specs.Prelude.{◌≡◌, ℕ, ◌<◌, true, false, List, IsTrue, MatchOption};
+ghost use Rattle.subdiv_model.specs.Channel.{transition_overflows_at};
+ghost use Rattle.level_topology.specs.Child.{FromVertex};
+ghost use Rattle.mask_rules.specs.View.{scheme_of};
+ghost use Rattle.child_masks.specs.Masks.{CanRefine, has_origin};
+ghost use Rattle.child_masks.specs.Survey.{IsSurveyFault};
+ghost use Rattle.child_masks.specs.Found.{IsPointFault};
+
+use crate::fault::SurveyFault;
+use level_topology::{Child, Level};
+use mask_rules::{MaskFault, Scheme, vertex_mask};
+use std::alloc::Global;
+
+// Why a vertex has no mask, if it has a child point.
+fn refusal(
+    alloc: Global,
+    parent: &Level,
+    child: &Child,
+    v: u32,
+    scheme: Scheme,
+) -> Option<SurveyFault>
+    requires child { CanRefine parent.now child.now (scheme_of scheme) }
+    requires known { v < parent.now.level.point_count }
+    ensures { MatchOption result
+        (IsTrue (has_origin child.now.origins (FromVertex v)) → transition_overflows_at parent.now.level (scheme_of scheme) v ≡ false)
+        (λ fault. IsTrue (has_origin child.now.origins (FromVertex v)) × IsPointFault parent.now.level (scheme_of scheme) (FromVertex v) fault) }
+{
+    if child.vertex_point(v).is_none() {
+        return None;
+    }
+    match vertex_mask(alloc, parent, v, scheme) {
+        Ok(_) => None,
+        Err(MaskFault::Transition) => Some(SurveyFault::Transition(v)),
+        Err(MaskFault::Memory) => Some(SurveyFault::Memory),
+    }
+}
+
+/// The fault of a step in which a vertex is refused: the least of those that are.
+pub(crate) fn least_refused(
+    alloc: Global,
+    parent: &Level,
+    child: &Child,
+    scheme: Scheme,
+    refused: u32,
+) -> SurveyFault
+    requires child { CanRefine parent.now child.now (scheme_of scheme) }
+    requires known { refused < parent.now.level.point_count }
+    requires has { IsTrue (has_origin child.now.origins (FromVertex refused)) }
+    requires refused { transition_overflows_at parent.now.level (scheme_of scheme) refused ≡ true }
+    ensures { (dens : List ℕ) → IsSurveyFault parent.now.level (scheme_of scheme) child.now.origins dens result }
+{
+    for v in 0..refused {
+        if let Some(fault) = refusal(alloc, parent, child, v, scheme) {
+            return fault;
+        }
+    }
+    SurveyFault::Transition(refused)
+}
