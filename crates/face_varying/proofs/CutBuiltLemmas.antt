@@ -12,7 +12,7 @@ use Rattle.subdiv_model.specs.ObjMesh.{ObjMesh}
 use Rattle.subdiv_model.specs.Base.{base_level}
 use Rattle.subdiv_model.specs.Cut.{SeamMode, channel_points, channel_vertex, stays_sharp, cut_vertex_sharpness, cut_level}
 use Rattle.mesh_laws.proofs.Laws.{all-simple}
-use Rattle.obj_tags.specs.Laws.{IsWithin}
+use Rattle.raw_mesh.specs.Laws.{IsWithin}
 use Rattle.level_topology.specs.Topology.{Topology, IsTopology, IsSmallEnough}
 use Rattle.level_topology.specs.Builder.{Built, AreFans, built_of, only_points}
 use Rattle.mesh_check.specs.Base.{smooth_built}

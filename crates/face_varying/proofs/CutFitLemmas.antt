@@ -20,7 +20,7 @@ use Rattle.mesh_laws.proofs.ChildCornerLemmas.{corner-point}
 use Rattle.mesh_laws.proofs.FaultLemmas.{fault-decides}
 use Rattle.mesh_laws.proofs.Laws.{all-simple}
 use Rattle.mesh_laws.proofs.WalkLemmas.{manifold-decides, one_fan-test}
-use Rattle.obj_tags.specs.Laws.{IsWithin}
+use Rattle.raw_mesh.specs.Laws.{IsWithin}
 use Rattle.level_topology.specs.Topology.{IsSmallEnough}
 use Rattle.level_topology.specs.Builder.{Built, AreFans}
 use Rattle.texture_laws.specs.CutMesh.{cut_faces, cut_point_count, point_of, vertex_of}

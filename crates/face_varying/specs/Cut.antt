@@ -3,8 +3,8 @@
 use Rattle.std.specs.Prelude.{◌≡◌, true, List, length, map, replicate}
 use Rattle.subdiv_model.specs.ObjMesh.{ObjMesh}
 use Rattle.subdiv_model.specs.Cut.{SeamMode, channel_points, channel_values, cut_level}
-use Rattle.obj_tags.specs.Laws.{IsWithin}
-use Rattle.obj_tags.specs.View.{texture_of}
+use Rattle.raw_mesh.specs.Laws.{IsWithin}
+use Rattle.raw_mesh.specs.View.{texture_of}
 use Rattle.level_topology.specs.Topology.{Topology}
 use Rattle.mesh_check.specs.Checked.{IsAccepted}
 use Rattle.ratio128.specs.declared.point.Point2.{Point2}

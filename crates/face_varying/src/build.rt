@@ -13,8 +13,8 @@ use crate::build_sides::add_sides;
 use crate::kept::kept_points;
 use crate::mode::SeamMode;
 use level_topology::Level;
-use obj_tags::RawMesh;
 use ratio128::{Memory, Steps};
+use raw_mesh::RawMesh;
 use std::alloc::Global;
 use std::sync::ledger::Ledger;
 

@@ -1,7 +1,7 @@
 //! The cut mesh of a texture channel.
 
 ghost use Rattle.std.specs.Prelude.{◌≡◌, ◌+◌, ◌≤◌, true, length, IfOk};
-ghost use Rattle.obj_tags.specs.Laws.{IsWithin};
+ghost use Rattle.raw_mesh.specs.Laws.{IsWithin};
 ghost use Rattle.mesh_check.specs.Checked.{IsAccepted};
 ghost use Rattle.face_varying.specs.Corners.{apart_marks, corner_numbers};
 ghost use Rattle.face_varying.specs.Cut.{IsCut, IsCuttable};
@@ -15,8 +15,8 @@ use crate::numbers::number_corners;
 use crate::points::channel_points;
 use crate::seams::apart_edges;
 use level_topology::Level;
-use obj_tags::RawMesh;
 use ratio128::{Memory, Steps};
+use raw_mesh::RawMesh;
 use std::alloc::Global;
 use std::sync::ledger::Ledger;
 

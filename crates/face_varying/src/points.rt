@@ -3,15 +3,15 @@
 ghost use Rattle.std.specs.Prelude.{◌≡◌, ◌<◌, ◌++◌, ◌∷◌, [], nat_eq, length, map, IfOk, OnOk, if◌then◌else◌};
 ghost use Rattle.std.specs.List.{All};
 ghost use Rattle.subdiv_model.specs.Cut.{channel_points, channel_values};
-ghost use Rattle.obj_tags.specs.View.{texture_of};
+ghost use Rattle.raw_mesh.specs.View.{texture_of};
 ghost use Rattle.face_varying.specs.Corners.{corner_numbers};
 ghost use Rattle.face_varying.specs.Cut.{IsCuttable};
 ghost use Rattle.face_varying.specs.FirstOnes.{first_ones};
 ghost use Rattle.face_varying.specs.TextureValues.{value_at};
 
 use level_topology::Level;
-use obj_tags::RawMesh;
 use ratio128::{Memory, Point2};
+use raw_mesh::RawMesh;
 use std::alloc::Global;
 
 // The vertex and the texture value of each channel point.

@@ -10,8 +10,8 @@ ghost use Rattle.face_varying.specs.Sides.{AreNoted};
 
 use crate::cut_faces::corner_after;
 use level_topology::Level;
-use obj_tags::RawMesh;
 use ratio128::Memory;
+use raw_mesh::RawMesh;
 use std::alloc::Global;
 
 // For each edge the texture numbers at its first end and at its second, as they are in the face whose side goes along the edge, and

@@ -8,8 +8,8 @@ use Rattle.subdiv_model.specs.Channel.{number_bound, greatest_amount}
 use Rattle.subdiv_model.specs.Refined.{point_value, over_common, points_of_coordinates}
 use Rattle.subdiv_model.specs.Answer.{point_numbers}
 use Rattle.number_laws.proofs.MultipleLemmas.{product-positive}
-use Rattle.obj_tags.specs.View as reader
-use Rattle.reading_laws.specs.Short.{IsShortPoint}
+use Rattle.raw_mesh.specs.View as reader
+use Rattle.raw_mesh.specs.Short.{IsShortPoint}
 use Rattle.ratio128.specs.declared.point.Point3.{Point3}
 use Rattle.ratio128.specs.Numbers as primvar
 use Rattle.primvar_refine.specs.declared.valued.Valued.{Valued}

@@ -16,9 +16,9 @@ use Rattle.subdiv_model.specs.Answer.{level_count_faults, point_numbers, positio
 use Rattle.mask_laws.proofs.BoundaryLemmas.{boundary-base}
 use Rattle.level_topology.specs.Topology.{Topology}
 use Rattle.mesh_check.specs.Checked.{IsAccepted}
-use Rattle.obj_tags.specs.Laws.{IsWithin}
-use Rattle.obj_tags.specs.View as reader
-use Rattle.reading_laws.specs.Short.{IsShortPoint}
+use Rattle.raw_mesh.specs.Laws.{IsWithin}
+use Rattle.raw_mesh.specs.View as reader
+use Rattle.raw_mesh.specs.Short.{IsShortPoint}
 use Rattle.ratio128.specs.declared.point.Point3.{Point3}
 use Rattle.primvar_refine.specs.declared.valued.Valued.{Valued}
 use Rattle.primvar_refine.specs.View.{rows_of}

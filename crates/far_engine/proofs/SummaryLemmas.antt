@@ -19,8 +19,8 @@ use Rattle.subdiv_model.specs.Answer.{answer_of_checked, point_numbers, position
 use Rattle.subdiv_model.specs.Generator.{generated_mesh}
 use Rattle.stencil_laws.proofs.SupportLemmas.{length-supports}
 use Rattle.level_topology.specs.Topology.{Topology}
-use Rattle.obj_tags.specs.Laws.{IsWithin}
-use Rattle.obj_tags.specs.View as reader
+use Rattle.raw_mesh.specs.Laws.{IsWithin}
+use Rattle.raw_mesh.specs.View as reader
 use Rattle.ratio128.specs.declared.point.Point3.{Point3}
 use Rattle.primvar_refine.specs.declared.valued.Valued.{Valued}
 use Rattle.primvar_refine.specs.View.{row_of, rows_of}

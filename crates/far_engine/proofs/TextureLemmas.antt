@@ -28,9 +28,9 @@ use Rattle.texture_laws.proofs.ChannelLemmas.{over_corners, cut-count}
 use Rattle.texture_laws.proofs.CutFanLemmas.{cut-manifold}
 use Rattle.texture_laws.proofs.CutLevelLemmas.{cut-boundary}
 use Rattle.level_topology.specs.Topology.{Topology}
-use Rattle.obj_tags.specs.Laws.{IsWithin}
-use Rattle.obj_tags.specs.View.{texture_of as value_of}
-use Rattle.reading_laws.specs.Short.{IsShortTexture}
+use Rattle.raw_mesh.specs.Laws.{IsWithin}
+use Rattle.raw_mesh.specs.View.{texture_of as value_of}
+use Rattle.raw_mesh.specs.Short.{IsShortTexture}
 use Rattle.ratio128.specs.declared.point.Point2.{Point2}
 use Rattle.ratio128.specs.Numbers as primvar
 use Rattle.primvar_refine.specs.declared.valued.Valued.{Valued}

@@ -2,7 +2,7 @@
 
 ghost use Rattle.std.specs.Prelude.{◌≡◌, ℕ, ◌+◌, ◌≤◌, ◌<◌, ◌^◌, List, length, None, IfOk, IfErr, MatchResult, OnOk};
 ghost use Rattle.std.specs.List.{sum_by};
-ghost use Rattle.obj_tags.specs.Laws.{IsWithin};
+ghost use Rattle.raw_mesh.specs.Laws.{IsWithin};
 ghost use Rattle.subdiv_model.specs.Polygons.{Polygon};
 ghost use Rattle.subdiv_model.specs.Lists.{first_of};
 ghost use Rattle.subdiv_model.specs.Command.{Command, Levels};
@@ -21,8 +21,8 @@ use crate::overflow::{OverflowKind, Track};
 use level_counts::{LevelCounts, SeriesFault};
 use level_topology::{Counted, Level};
 use mesh_check::{CheckFault, check_mesh};
-use obj_tags::RawMesh;
 use ratio128::Steps;
+use raw_mesh::RawMesh;
 use std::alloc::Global;
 use std::sync::ledger::Ledger;
 use uniform_refiner::next_faces;

@@ -2,8 +2,8 @@
 
 ghost use Rattle.std.specs.Prelude.{◌≡◌, ◌+◌, ◌-◌, ◌<◌, ◌≤◌, length, get_or, true, None, IfOk, MatchResult, OnOk};
 ghost use Rattle.std.specs.List.{All};
-ghost use Rattle.obj_tags.specs.Laws.{IsWithin};
-ghost use Rattle.reading_laws.specs.Short.{IsShortPoint};
+ghost use Rattle.raw_mesh.specs.Laws.{IsWithin};
+ghost use Rattle.raw_mesh.specs.Short.{IsShortPoint};
 ghost use Rattle.subdiv_model.specs.Polygons.{is_over};
 ghost use Rattle.subdiv_model.specs.Manifold.{IsManifold};
 ghost use Rattle.subdiv_model.specs.Command.{Gen, ByTable};
@@ -21,9 +21,9 @@ use crate::reply::Reply;
 use crate::stencils::compose;
 use channel_refine::{ComposedChannel, evaluate};
 use level_text::Summary;
-use obj_tags::RawMesh;
 use primvar_refine::Valued;
 use ratio128::{Point3, Steps};
+use raw_mesh::RawMesh;
 use sheet_laws::sheets_are_manifolds;
 use sheet_maker::make_sheet;
 use std::alloc::Global;

@@ -2,9 +2,9 @@
 
 ghost use Rattle.std.specs.Prelude.{◌≡◌, ◌+◌, ◌≤◌, length, map, None, MatchResult, OnOk};
 ghost use Rattle.std.specs.List.{All};
-ghost use Rattle.obj_tags.specs.Laws.{IsWithin};
-ghost use Rattle.obj_tags.specs.View.{point_of};
-ghost use Rattle.reading_laws.specs.Short.{IsShortPoint};
+ghost use Rattle.raw_mesh.specs.Laws.{IsWithin};
+ghost use Rattle.raw_mesh.specs.View.{point_of};
+ghost use Rattle.raw_mesh.specs.Short.{IsShortPoint};
 ghost use Rattle.subdiv_model.specs.Lists.{first_of};
 ghost use Rattle.subdiv_model.specs.Fault.{Positions};
 ghost use Rattle.subdiv_model.specs.Channel.{greatest_amount, channel_faults};
@@ -22,8 +22,8 @@ use channel_refine::RefinedChannel;
 use far_words::By;
 use level_topology::Level;
 use mask_rules::Scheme;
-use obj_tags::RawMesh;
 use ratio128::{Point3, Steps};
+use raw_mesh::RawMesh;
 use std::alloc::Global;
 use std::sync::ledger::Ledger;
 

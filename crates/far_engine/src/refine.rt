@@ -2,8 +2,8 @@
 
 ghost use Rattle.std.specs.Prelude.{ℕ, ◌≡◌, ◌+◌, ◌≤◌, length, None, IfOk, IfSome, MatchResult, OnOk};
 ghost use Rattle.std.specs.List.{All};
-ghost use Rattle.obj_tags.specs.Laws.{IsWithin};
-ghost use Rattle.reading_laws.specs.Short.{IsShortPoint, IsShortTexture};
+ghost use Rattle.raw_mesh.specs.Laws.{IsWithin};
+ghost use Rattle.raw_mesh.specs.Short.{IsShortPoint, IsShortTexture};
 ghost use Rattle.subdiv_model.specs.Lists.{first_of};
 ghost use Rattle.subdiv_model.specs.Manifold.{IsManifold};
 ghost use Rattle.subdiv_model.specs.Command.{Refine};
@@ -25,9 +25,9 @@ use channel_refine::RefinedChannel;
 use face_varying::{Channel, cut};
 use far_words::{By, Tags, Uv};
 use level_topology::Level;
-use obj_tags::RawMesh;
 use primvar_refine::Valued;
 use ratio128::{Memory, Point2, Point3, Steps};
+use raw_mesh::RawMesh;
 use std::alloc::Global;
 use std::sync::ledger::Ledger;
 

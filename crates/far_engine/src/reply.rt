@@ -2,8 +2,8 @@
 
 ghost use Rattle.std.specs.Prelude.{◌≡◌, ◌+◌, ◌≤◌, ◌^◌, false, length, None, IfOk, MatchResult, OnOk};
 ghost use Rattle.std.specs.List.{All};
-ghost use Rattle.obj_tags.specs.Laws.{IsWithin};
-ghost use Rattle.reading_laws.specs.Short.{IsShortPoint, IsShortTexture};
+ghost use Rattle.raw_mesh.specs.Laws.{IsWithin};
+ghost use Rattle.raw_mesh.specs.Short.{IsShortPoint, IsShortTexture};
 ghost use Rattle.subdiv_model.specs.ReadObj.{read_obj_mesh};
 ghost use Rattle.far_words.specs.View.{command_of_code};
 ghost use Rattle.far_engine.specs.Written.{IsInRange, IsWritten, written_text};
@@ -17,8 +17,9 @@ use crate::stencils::stencils;
 use far_words::Command;
 use level_counts::LevelCounts;
 use level_text::Summary;
-use obj_tags::{ObjFault, RawMesh, ReadFault, read_obj};
+use obj_tags::{ObjFault, ReadFault, read_obj};
 use ratio128::Steps;
+use raw_mesh::RawMesh;
 use std::alloc::Global;
 use std::sync::ledger::Ledger;
 use stencil_apply::StencilTable;

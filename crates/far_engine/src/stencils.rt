@@ -2,8 +2,8 @@
 
 ghost use Rattle.std.specs.Prelude.{◌≡◌, ◌+◌, ◌≤◌, length, None, MatchResult};
 ghost use Rattle.std.specs.List.{All};
-ghost use Rattle.obj_tags.specs.Laws.{IsWithin};
-ghost use Rattle.reading_laws.specs.Short.{IsShortPoint};
+ghost use Rattle.raw_mesh.specs.Laws.{IsWithin};
+ghost use Rattle.raw_mesh.specs.Short.{IsShortPoint};
 ghost use Rattle.subdiv_model.specs.Lists.{first_of};
 ghost use Rattle.subdiv_model.specs.Command.{Stencils};
 ghost use Rattle.subdiv_model.specs.Answer.{level_count_faults};
@@ -22,8 +22,8 @@ use crate::track::fault_of_channel;
 use channel_refine::{ComposedChannel, compose_channel};
 use level_topology::Level;
 use mask_rules::Scheme;
-use obj_tags::RawMesh;
 use ratio128::Steps;
+use raw_mesh::RawMesh;
 use std::alloc::Global;
 use std::sync::ledger::Ledger;
 use stencil_apply::StencilTable;

@@ -2,9 +2,9 @@
 
 ghost use Rattle.std.specs.Prelude.{◌≡◌, ◌+◌, ◌≤◌, length, map, MatchResult, OnOk};
 ghost use Rattle.std.specs.List.{All};
-ghost use Rattle.obj_tags.specs.Laws.{IsWithin};
-ghost use Rattle.obj_tags.specs.View.{texture_of as value_of};
-ghost use Rattle.reading_laws.specs.Short.{IsShortTexture};
+ghost use Rattle.raw_mesh.specs.Laws.{IsWithin};
+ghost use Rattle.raw_mesh.specs.View.{texture_of as value_of};
+ghost use Rattle.raw_mesh.specs.Short.{IsShortTexture};
 ghost use Rattle.subdiv_model.specs.Manifold.{IsManifold};
 ghost use Rattle.subdiv_model.specs.Channel.{greatest_amount};
 ghost use Rattle.subdiv_model.specs.Answer.{texture_numbers, texture_of, seams_of, scheme_of, asked_of};
@@ -21,8 +21,8 @@ use channel_refine::{ChannelFault, RefinedChannel};
 use face_varying::{Channel, SeamMode};
 use far_words::{By, Uv};
 use mask_rules::Scheme;
-use obj_tags::RawMesh;
 use ratio128::{Point2, Steps};
+use raw_mesh::RawMesh;
 use std::alloc::Global;
 use std::sync::ledger::Ledger;
 

@@ -2,7 +2,7 @@
 
 ghost use Rattle.std.specs.Prelude.{◌≡◌, ◌<◌, ◌≤◌, ◌^◌, true};
 ghost use Rattle.std.specs.List.{All};
-ghost use Rattle.obj_tags.specs.Laws.{IsWithin};
+ghost use Rattle.raw_mesh.specs.Laws.{IsWithin};
 ghost use Rattle.far_tests.specs.Controls.{IsControl};
 
 use crate::expect::expect_same;
@@ -11,9 +11,10 @@ use channel_refine::{ChannelFault, RefinedChannel, refine_channel};
 use level_topology::Level;
 use mask_rules::Scheme;
 use mesh_check::check_mesh;
-use obj_tags::{RawMesh, read_obj};
+use obj_tags::read_obj;
 use primvar_refine::Valued;
 use ratio128::{Point3, Steps};
+use raw_mesh::RawMesh;
 use std::alloc::{AllocError, Global};
 use std::marker::Brand;
 use std::process::Abort;

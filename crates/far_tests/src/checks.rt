@@ -1,14 +1,15 @@
 // Meshes with the counts of their level 0, or what is wrong with them.
 
 ghost use Rattle.std.specs.Prelude.{◌≡◌, ◌<◌};
-ghost use Rattle.obj_tags.specs.Laws.{IsWithin};
+ghost use Rattle.raw_mesh.specs.Laws.{IsWithin};
 
 use crate::expect::expect_same;
 use level_counts::LevelCounts;
 use level_topology::Counted;
 use mesh_check::{CheckFault, MeshFault, check_mesh};
-use obj_tags::{RawMesh, ReadFault, read_obj};
+use obj_tags::{ReadFault, read_obj};
 use ratio128::Steps;
+use raw_mesh::RawMesh;
 use std::alloc::{AllocError, Global};
 use std::marker::Brand;
 use std::process::Abort;

@@ -2,7 +2,7 @@
 
 ghost use Rattle.std.specs.Prelude.{◌≡◌, ◌+◌, ◌*◌, ◌<◌, ◌≤◌, ◌∷◌, [], length};
 ghost use Rattle.std.specs.List.{All};
-ghost use Rattle.obj_tags.specs.Laws.{IsWithin};
+ghost use Rattle.raw_mesh.specs.Laws.{IsWithin};
 ghost use Rattle.subdiv_model.specs.Channel.{number_bound};
 ghost use Rattle.ratio128.specs.Numbers.{greatest_amount};
 ghost use Rattle.stencil_apply.specs.Table.{entries_of, greatest_of};
@@ -14,8 +14,9 @@ use crate::tables::{NUMBER_BOUND, Row, assert_fits, counts_of, cube, expect_row}
 use channel_refine::{ChannelFault, ComposedChannel, compose_channel};
 use mask_rules::Scheme;
 use mesh_check::check_mesh;
-use obj_tags::{RawMesh, read_obj};
+use obj_tags::read_obj;
 use ratio128::{Point3, Steps};
+use raw_mesh::RawMesh;
 use std::alloc::Global;
 use std::marker::Brand;
 use std::process::Abort;

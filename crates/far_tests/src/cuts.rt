@@ -1,7 +1,7 @@
 // Cut meshes of texture channels.
 
 ghost use Rattle.std.specs.Prelude.{◌≡◌, ◌<◌, true};
-ghost use Rattle.obj_tags.specs.Laws.{IsWithin};
+ghost use Rattle.raw_mesh.specs.Laws.{IsWithin};
 ghost use Rattle.mesh_check.specs.Checked.{IsAccepted};
 
 use crate::expect::expect_same;
@@ -9,8 +9,9 @@ use crate::inputs::{ONE_CHART, TWO_CHARTS};
 use face_varying::{Channel, SeamMode, cut};
 use level_topology::Level;
 use mesh_check::{CheckFault, check_mesh};
-use obj_tags::{RawMesh, read_obj};
+use obj_tags::read_obj;
 use ratio128::{Point2, Steps};
+use raw_mesh::RawMesh;
 use sharpness_rules::Sharpness;
 use std::alloc::Global;
 use std::marker::Brand;

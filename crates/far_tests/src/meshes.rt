@@ -1,9 +1,10 @@
 // OBJ texts: their faults, and the meshes that they give.
 
 use crate::expect::expect_same;
-use obj_tags::{Boundary, CornerTag, Crease, ObjCause, ObjFault, RawMesh, ReadFault, read_obj};
+use obj_tags::{ObjCause, ObjFault, ReadFault, read_obj};
 use obj_text::NumeralFault;
 use ratio128::{Point2, Point3};
+use raw_mesh::{Boundary, CornerTag, Crease, RawMesh};
 use sharpness_rules::{Method, SharpOverflow, Sharpness};
 use std::process::Abort;
 use std::test::Fail;

@@ -15,8 +15,8 @@ use Rattle.subdiv_model.specs.ObjMesh.{ObjMesh}
 use Rattle.subdiv_model.specs.Base.{base_level, base_edge_sharpness, base_vertex_sharpness, tagged_edge, tagged_vertex, is_end_corner, is_base_hole}
 use Rattle.subdiv_model.specs.Manifold.{has_one_fan}
 use Rattle.mesh_laws.proofs.ChildClosedLemmas.{numbered-length}
-use Rattle.obj_tags.specs.View.{corner_tag_of}
-use Rattle.obj_tags.specs.declared.mesh.CornerTag.{CornerTag}
+use Rattle.raw_mesh.specs.View.{corner_tag_of}
+use Rattle.raw_mesh.specs.declared.tags.CornerTag.{CornerTag}
 use Rattle.level_topology.specs.Builder.{Built, built_of, AreFans}
 use Rattle.mesh_check.specs.Base.{IsFit, smooth_built, with_edge_tags, with_vertex_tags, infinite, tagged_built, all_complete}
 use Rattle.mesh_check.proofs.BaseFaceLemmas.{fit-fans}

@@ -4,7 +4,7 @@ use Rattle.std.specs.List.{filter, slice_get, enumerate_from}
 use Rattle.std.proofs.lemmas.Bool.Decides.{nat_tests}
 use Rattle.std.proofs.lemmas.List.{length-map}
 use Rattle.ratio128.specs.declared.point.Point3.{Point3}
-use Rattle.obj_tags.specs.View.{point_of}
+use Rattle.raw_mesh.specs.View.{point_of}
 use Rattle.subdiv_model.specs.Lists.{first_of}
 use Rattle.subdiv_model.specs.Polygons.{Polygon}
 use Rattle.subdiv_model.specs.ObjMesh.{ObjMesh}

@@ -11,7 +11,7 @@ use Rattle.subdiv_model.specs.Edges.{all_sides, first_named, is_boundary, has_en
 use Rattle.subdiv_model.specs.Boundary.{Boundary, Hidden, EdgeOnly, EdgeAndCorner}
 use Rattle.subdiv_model.specs.Base.{is_at_boundary, is_hidden, is_base_hole}
 use Rattle.subdiv_model.specs.ObjMesh.{ObjMesh}
-use Rattle.obj_tags.specs.Laws.{IsWithin}
+use Rattle.raw_mesh.specs.Laws.{IsWithin}
 use Rattle.number_laws.proofs.CountLemmas.{count-agree}
 use Rattle.number_laws.proofs.ListLemmas.{any-both, places-from-length}
 use Rattle.mesh_laws.proofs.SideLemmas.{same_edge-alike}

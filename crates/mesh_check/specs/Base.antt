@@ -8,7 +8,7 @@ use Rattle.subdiv_model.specs.Sharpness.{Sharpness, Smooth, Infinite, Method}
 use Rattle.subdiv_model.specs.Base.{base_edge_sharpness, base_vertex_sharpness}
 use Rattle.subdiv_model.specs.MeshFault.{first_mesh_fault}
 use Rattle.subdiv_model.specs.ObjMesh.{ObjMesh}
-use Rattle.obj_tags.specs.Laws.{IsWithin}
+use Rattle.raw_mesh.specs.Laws.{IsWithin}
 use Rattle.level_topology.specs.Builder.{Built, with_sharp_edge, with_sharp_vertex}
 use Rattle.mesh_check.specs.Keys.{IsWord, Rises, edge_key}
 

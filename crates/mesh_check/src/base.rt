@@ -5,15 +5,15 @@ ghost use Rattle.std.specs.List.{list_all, list_any, filter, enumerate_from, sum
 ghost use Rattle.subdiv_model.specs.Polygons.{same_edge};
 ghost use Rattle.subdiv_model.specs.Edges.{all_sides, edges_of, is_boundary};
 ghost use Rattle.subdiv_model.specs.Base.{base_level, is_base_hole};
-ghost use Rattle.obj_tags.specs.View.{crease_of, corner_tag_of};
+ghost use Rattle.raw_mesh.specs.View.{crease_of, corner_tag_of};
 ghost use Rattle.level_topology.specs.Builder.{only_points};
 ghost use Rattle.mesh_check.specs.Base.{IsFit, AreEdges, smooth_built, with_edge_tag, with_edge_tags, with_vertex_tags, infinite, tagged_built, all_complete};
 
 use crate::base_corners::add_end_corners;
 use crate::keys::{edge_key, is_known};
 use level_topology::{Level, LevelBuilder};
-use obj_tags::{CornerTag, Crease, RawMesh};
 use ratio128::{Memory, Steps};
+use raw_mesh::{CornerTag, Crease, RawMesh};
 use sharpness_rules::Sharpness;
 use std::alloc::Global;
 use std::hash::{DefaultHasher, Hasher};

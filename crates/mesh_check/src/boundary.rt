@@ -8,8 +8,8 @@ ghost use Rattle.subdiv_model.specs.MeshFault.{first_mesh_fault};
 ghost use Rattle.mesh_check.specs.Keys.{IsWord, edge_key, Rises, AreEdgeKeys};
 
 use crate::keys::{alone, edge_key, edge_keys, is_known};
-use obj_tags::RawMesh;
 use ratio128::Memory;
+use raw_mesh::RawMesh;
 use std::alloc::Global;
 
 // The edges of all sides as numbers, ascending, each as often as sides are that edge.

@@ -1,7 +1,7 @@
 //! The check of a mesh, and level 0.
 
 ghost use Rattle.std.specs.Prelude.{◌≡◌, ◌+◌, ◌≤◌, true, None, length, replicate, IfOk, MatchResult};
-ghost use Rattle.obj_tags.specs.Laws.{IsWithin};
+ghost use Rattle.raw_mesh.specs.Laws.{IsWithin};
 ghost use Rattle.subdiv_model.specs.Lists.{first_of};
 ghost use Rattle.subdiv_model.specs.MeshFault.{first_mesh_fault};
 ghost use Rattle.subdiv_model.specs.Base.{base_level};
@@ -20,8 +20,8 @@ use crate::holes::hole_marks;
 use crate::sides::sides_of_faces;
 use crate::valence::valence_fault;
 use level_topology::Level;
-use obj_tags::RawMesh;
 use ratio128::{Memory, Steps};
+use raw_mesh::RawMesh;
 use std::alloc::Global;
 use std::sync::ledger::Ledger;
 

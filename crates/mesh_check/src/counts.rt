@@ -6,7 +6,7 @@ ghost use Rattle.subdiv_model.specs.Answer.{large_faces};
 ghost use Rattle.mesh_check.specs.Counts.{size_faults, count_named};
 
 use level_topology::Counted;
-use obj_tags::RawMesh;
+use raw_mesh::RawMesh;
 
 // How many points a mesh may have, how many faces, and a face how many corners or a vertex how many edges.
 const MESH_LIMIT: usize = 1 << 20;

@@ -1,7 +1,7 @@
 //! The first fault of a mesh, kind by kind.
 
 ghost use Rattle.std.specs.Prelude.{◌≡◌, length, IfOk};
-ghost use Rattle.obj_tags.specs.Laws.{IsWithin};
+ghost use Rattle.raw_mesh.specs.Laws.{IsWithin};
 ghost use Rattle.subdiv_model.specs.Lists.{first_of};
 ghost use Rattle.subdiv_model.specs.MeshFault.{first_mesh_fault};
 ghost use Rattle.mesh_check.specs.View.{named};
@@ -14,8 +14,8 @@ use crate::fault::MeshFault;
 use crate::sides::sides_of_faces;
 use crate::split::split_vertex;
 use crate::turns::{Turn, has_equal_neighbours, sorted_turns};
-use obj_tags::RawMesh;
 use ratio128::Memory;
+use raw_mesh::RawMesh;
 use std::alloc::Global;
 
 // The first fault of the corners of faces.

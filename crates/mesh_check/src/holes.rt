@@ -5,12 +5,12 @@ ghost use Rattle.std.specs.List.{filter, list_any, enumerate_from};
 ghost use Rattle.subdiv_model.specs.Edges.{all_sides, is_boundary, has_end};
 ghost use Rattle.subdiv_model.specs.Base.{is_base_hole};
 ghost use Rattle.subdiv_model.specs.Polygons.{is_among};
-ghost use Rattle.obj_tags.specs.Laws.{IsWithin};
+ghost use Rattle.raw_mesh.specs.Laws.{IsWithin};
 ghost use Rattle.mesh_check.specs.Holes.{is_hiding};
 
 use crate::marks::{is_marked, marks_of, no_marks, set_mark};
-use obj_tags::{Boundary, RawMesh};
 use ratio128::Memory;
+use raw_mesh::{Boundary, RawMesh};
 use std::alloc::Global;
 
 // Of so many points, the mark 1 at each end of these sides.

@@ -4,8 +4,8 @@ ghost use Rattle.std.specs.Prelude.{◌≡◌, ◌++◌, IfOk, OnOk};
 ghost use Rattle.subdiv_model.specs.Polygons.{sides_of};
 ghost use Rattle.subdiv_model.specs.Edges.{all_sides};
 
-use obj_tags::RawMesh;
 use ratio128::Memory;
+use raw_mesh::RawMesh;
 use std::alloc::Global;
 
 // Puts the directed edges of a face after those that are there.

@@ -2,7 +2,7 @@
 
 ghost use Rattle.std.specs.Prelude.{◌≡◌, ℕ, ◌^◌, ◌<◌, true, nat_eq, List, length, map, IfOk, IsTrue};
 ghost use Rattle.std.specs.List.{list_all, prefix_len};
-ghost use Rattle.obj_tags.specs.Laws.{IsWithin};
+ghost use Rattle.raw_mesh.specs.Laws.{IsWithin};
 ghost use Rattle.subdiv_model.specs.Lists.{first_of};
 ghost use Rattle.subdiv_model.specs.Polygons.{Polygon, is_distinct, has_distinct_sides};
 ghost use Rattle.subdiv_model.specs.Edges.{all_sides};
@@ -14,8 +14,8 @@ ghost use Rattle.mesh_check.specs.Turns.{AreSortedTurns};
 
 use crate::fan::is_fan;
 use crate::turns::Turn;
-use obj_tags::RawMesh;
 use ratio128::Memory;
+use raw_mesh::RawMesh;
 use std::alloc::Global;
 
 // How many corners from the front on are at this vertex.

@@ -6,8 +6,8 @@ ghost use Rattle.mesh_check.specs.Keys.{has_equal_neighbours};
 ghost use Rattle.mesh_check.specs.Turns.{turns_of, turns_after, turn_key, AreSortedTurns};
 
 use crate::keys::side_key;
-use obj_tags::RawMesh;
 use ratio128::Memory;
+use raw_mesh::RawMesh;
 use std::alloc::Global;
 
 // A corner of a face with the corners before and after it.

@@ -6,7 +6,7 @@ ghost use Rattle.subdiv_model.specs.Lists.{first_of};
 ghost use Rattle.subdiv_model.specs.Edges.{all_sides, edges_of_point};
 ghost use Rattle.subdiv_model.specs.Base.{base_level};
 ghost use Rattle.subdiv_model.specs.MeshFault.{first_mesh_fault};
-ghost use Rattle.obj_tags.specs.Laws.{IsWithin};
+ghost use Rattle.raw_mesh.specs.Laws.{IsWithin};
 ghost use Rattle.mesh_check.specs.Keys.{AreEdgeKeys, ends_of_key, each_once};
 ghost use Rattle.mesh_check.specs.Counts.{size_faults, valence_faults, count_named};
 
@@ -15,8 +15,8 @@ use crate::counts::SIZE_LIMIT;
 use crate::keys::is_again;
 use crate::marks::no_marks;
 use level_topology::Counted;
-use obj_tags::RawMesh;
 use ratio128::Memory;
+use raw_mesh::RawMesh;
 use std::alloc::Global;
 
 // Counts an edge at its two ends, where its number does not come again.

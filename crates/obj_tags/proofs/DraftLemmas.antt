@@ -15,9 +15,9 @@ use Rattle.obj_laws.proofs.ObjStepLemmas.{flat-take, last-take, places-take}
 use Rattle.obj_tags.specs.Draft.{AreFaces, AreTags, textures_at}
 use Rattle.obj_tags.specs.Face.{named_point}
 use Rattle.obj_tags.specs.TagAdded.{AddsTag}
-use Rattle.obj_tags.specs.declared.mesh.Faces.{Faces}
-use Rattle.obj_tags.specs.declared.mesh.Tags.{Tags}
-use Rattle.obj_tags.proofs.PiecesLemmas.{Ascend-push, pieces-push}
+use Rattle.raw_mesh.specs.declared.mesh.Faces.{Faces}
+use Rattle.raw_mesh.specs.declared.tags.Tags.{Tags}
+use Rattle.raw_mesh.proofs.PiecesLemmas.{Ascend-push, pieces-push}
 use Rattle.obj_tags.specs.Line.{Line}
 
 -- a tag line without fault

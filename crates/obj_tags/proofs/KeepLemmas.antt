@@ -12,9 +12,9 @@ use Rattle.subdiv_model.specs.ReadObj.{counts_of, is_texture_line, is_tag_line, 
 use Rattle.obj_laws.proofs.ObjLineLemmas.{keyword-first, places-length, count-before}
 use Rattle.obj_tags.specs.Channel.{ArePositions, AreTextureValues, AddsPosition, AddsTextureValue}
 use Rattle.obj_tags.specs.Draft.{IsDraftOf, IsLineAt, HasRoom, textures_at}
-use Rattle.obj_tags.specs.Mesh.{pieces, Ascend}
+use Rattle.raw_mesh.specs.Mesh.{pieces, Ascend}
 use Rattle.obj_tags.specs.View as view
-use Rattle.obj_tags.specs.View.{point_of, texture_of}
+use Rattle.raw_mesh.specs.View.{point_of, texture_of}
 use Rattle.obj_tags.specs.Face.{named_point, named_textures, corners_fault, AddsFace}
 use Rattle.obj_tags.specs.Kept.{IsLineFault, KeptUnless}
 use Rattle.obj_tags.specs.declared.draft.Draft.{Draft}
@@ -27,7 +27,7 @@ use Rattle.obj_tags.specs.TagAdded.{AddsTag}
 use Rattle.obj_tags.proofs.ChannelLemmas.{channel-other}
 use Rattle.obj_tags.proofs.DraftLemmas.{tags-more, tags-other, faces-more, faces-other}
 use Rattle.obj_tags.specs.Line.{Line}
-use Rattle.obj_tags.proofs.PiecesLemmas.{length-pieces}
+use Rattle.raw_mesh.proofs.PiecesLemmas.{length-pieces}
 
 -- a line begins with one keyword
 vertex-only : (line : Line) → is_vertex_line line ≡ true

@@ -13,8 +13,6 @@ pub mod ChannelLemmas
 pub mod LateLemmas
 pub mod PointLemmas
 pub mod LineLemmas
-pub mod PiecesLemmas
-pub mod QuadLemmas
 pub mod TagLemmas
 pub mod TagNameLemmas
 pub mod TagKindLemmas
@@ -22,6 +20,5 @@ pub mod TagKeptLemmas
 pub mod DraftLemmas
 pub mod KeepLemmas
 pub mod ReadLemmas
-pub mod LawLemmas
 pub mod WholeLemmas
 pub mod MeshLemmas

@@ -19,10 +19,10 @@ use Rattle.obj_tags.specs.Survey.{AreCommon, long_fault_at}
 use Rattle.obj_tags.specs.declared.survey.Survey.{Survey}
 use Rattle.obj_tags.proofs.LateLemmas.{late-channel, late-kept, lesser-late}
 use Rattle.obj_tags.specs.Draft.{IsDraftOf, textures_at}
-use Rattle.obj_tags.specs.Mesh.{pieces, Ascend, names_all_texture, mesh_of}
-use Rattle.obj_tags.specs.View.{point_of, texture_of}
+use Rattle.raw_mesh.specs.Mesh.{pieces, Ascend, names_all_texture, mesh_of}
+use Rattle.raw_mesh.specs.View.{point_of, texture_of}
 use Rattle.obj_tags.specs.declared.draft.Draft.{Draft}
-use Rattle.obj_tags.proofs.PiecesLemmas.{pieces-same}
+use Rattle.raw_mesh.proofs.PiecesLemmas.{pieces-same}
 use Rattle.obj_tags.specs.Line.{Line}
 use Rattle.obj_tags.proofs.WholeLemmas.{OfAll, of-all, face-places}
 

@@ -12,7 +12,7 @@ use Rattle.ratio128.specs.declared.point.Point2.{Point2}
 use Rattle.ratio128.specs.declared.point.Point3.{Point3}
 use Rattle.obj_tags.specs.Channel.{IsShortNumber, are_long, IsPointOver, IsTextureOver, point_from, texture_from, point_or_origin, texture_or_origin, first_long, AddsPosition, AddsTextureValue}
 use Rattle.obj_tags.specs.Line.{Line}
-use Rattle.obj_tags.specs.View.{point_of, texture_of}
+use Rattle.raw_mesh.specs.View.{point_of, texture_of}
 use Rattle.obj_tags.specs.declared.channel.Positions.{Positions}
 use Rattle.obj_tags.specs.declared.channel.TextureValues.{TextureValues}
 use Rattle.obj_tags.proofs.ChannelLemmas.{channel-more}

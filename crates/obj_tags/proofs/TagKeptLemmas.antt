@@ -10,10 +10,10 @@ use Rattle.sharpness_rules.specs.declared.child.Method as sharp
 use Rattle.obj_tags.specs.Kept.{IsLineFault, KeptUnless}
 use Rattle.obj_tags.specs.TagAdded.{AddsTag}
 use Rattle.obj_tags.specs.TagView.{value_fault, indices_said, sharpnesses_said, chain_creases, vertex_tags, IsHeadOf}
-use Rattle.obj_tags.specs.View.{boundary_of, crease_of, corner_tag_of}
+use Rattle.raw_mesh.specs.View.{boundary_of, crease_of, corner_tag_of}
 use Rattle.obj_tags.specs.declared.fault.LineFault.{LineFault}
-use Rattle.obj_tags.specs.declared.mesh.Boundary as declared
-use Rattle.obj_tags.specs.declared.mesh.Tags.{Tags}
+use Rattle.raw_mesh.specs.declared.tags.Boundary as declared
+use Rattle.raw_mesh.specs.declared.tags.Tags.{Tags}
 use Rattle.obj_tags.specs.declared.tag_counts.TagCounts.{TagCounts}
 use Rattle.obj_tags.specs.declared.tag_counts.TagKind.TheVariants as kind
 use Rattle.obj_tags.proofs.TagNameLemmas.{tag-named}

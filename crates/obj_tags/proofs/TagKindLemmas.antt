@@ -7,10 +7,10 @@ use Rattle.subdiv_model.specs.Boundary.{Boundary}
 use Rattle.subdiv_model.specs.Sharpness.{Method}
 use Rattle.sharpness_rules.specs.View.{method_of}
 use Rattle.sharpness_rules.specs.declared.child.Method as sharp
-use Rattle.obj_tags.specs.View.{boundary_of}
+use Rattle.raw_mesh.specs.View.{boundary_of}
 use Rattle.obj_tags.specs.TagAdded.{AddsTag}
-use Rattle.obj_tags.specs.declared.mesh.Boundary as declared
-use Rattle.obj_tags.specs.declared.mesh.Tags.{Tags}
+use Rattle.raw_mesh.specs.declared.tags.Boundary as declared
+use Rattle.raw_mesh.specs.declared.tags.Tags.{Tags}
 use Rattle.obj_tags.proofs.TagNameLemmas.{tag-named}
 use Rattle.subdiv_model.specs.ObjTag.{BoundaryTag, MethodTag, kind_of_name, tag_name, tag_values, tag_wholes, tag_strings, whole_count, numeral_count, string_count, may_have, fits_counts, mode_of_word, method_of_word, tag_fault, tag_mode, tag_method}
 

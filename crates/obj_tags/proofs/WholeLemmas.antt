@@ -2,7 +2,7 @@
 use Rattle.std.proofs.Common.{◌≡◌, ℕ, ◌+◌, ◌-◌, ◌*◌, ◌^◌, ◌<◌, ◌≤◌, Bool, true, false, ◌&&◌, nat_lt, List, [], ◌∷◌, length, map, take, get_or, None, arith, refl, ap, sym, subst, ◌∙◌, ⊎_elim}
 use Rattle.std.specs.List.{All, sum_by, list_all, flat_map}
 use Rattle.std.proofs.Math.Seq.{take-length}
-use Rattle.std.proofs.lemmas.Bool.{and_parts, cases_Bool, eqb-true, ltb-true}
+use Rattle.std.proofs.lemmas.Bool.{and_parts, cases_Bool, ltb-true}
 use Rattle.std.proofs.lemmas.List.Concat.{length-flat_map}
 use Rattle.std.proofs.lemmas.List.Elements.{All-nil, All-cons}
 use Rattle.std.proofs.lemmas.List.Folds.{list_all-map, fold-map}
@@ -17,17 +17,15 @@ use Rattle.obj_laws.proofs.ObjMeshLemmas.{AreGood, all-places, vertices-good, cr
 use Rattle.obj_laws.proofs.ObjSizeLemmas.{corners-bytes}
 use Rattle.obj_tags.specs.Draft.{IsDraftOf, AreTags, textures_at}
 use Rattle.obj_tags.specs.Face.{named_textures}
-use Rattle.obj_tags.specs.Mesh.{names_all_texture, pieces, IsWhole}
+use Rattle.raw_mesh.specs.Mesh.{pieces, IsWhole}
 use Rattle.obj_tags.specs.View as view
-use Rattle.obj_tags.specs.View.{crease_of, corner_tag_of}
+use Rattle.raw_mesh.specs.View.{crease_of, corner_tag_of}
 use Rattle.obj_tags.specs.declared.draft.Draft.{Draft}
 use Rattle.obj_tags.specs.declared.face.Counts as face
-use Rattle.obj_tags.specs.declared.mesh.Crease.{Crease}
-use Rattle.obj_tags.specs.declared.mesh.Faces.{Faces}
-use Rattle.obj_tags.specs.declared.mesh.Tags.{Tags}
+use Rattle.raw_mesh.specs.declared.tags.Crease.{Crease}
 use Rattle.obj_tags.specs.declared.survey.Survey.{Survey}
 use Rattle.obj_tags.proofs.KeepLemmas.{counts-kept, some-starts}
-use Rattle.obj_tags.proofs.PiecesLemmas.{length-pieces}
+use Rattle.raw_mesh.proofs.PiecesLemmas.{length-pieces}
 use Rattle.obj_tags.specs.Line.{Line}
 use Rattle.number_laws.proofs.CountLemmas.{all-flat_map}
 
@@ -152,20 +150,4 @@ whole-draft found draft text short is none =
       crease_ends = all-seen crease_of (λ c. nat_lt c.0.0 points && nat_lt c.0.1 points) (λ c. (c.a < length draft.positions.points.items) × (c.b < length draft.positions.points.items)) draft.tags.creases.items _ all.tags.creases (λ c below. crease-sound points (length draft.positions.points.items) c (sym all.points) below) (creases-good lines good);
       corner_vertices = all-seen corner_tag_of (λ c. nat_lt c.0 points) (λ c. c.vertex < length draft.positions.points.items) draft.tags.corners.items _ all.tags.corners (λ c below. let less = ltb-true c.vertex points below in omega (arith, all.points, less)) (corners-good lines good);
       hole_faces = all-from (λ f. nat_lt f (counts_of lines).face_count) (λ f. f + 1 < length draft.faces.starts.items) draft.tags.holes.items (λ f below. let less = ltb-true f (counts_of lines).face_count below in omega (arith, all.faces, less)) (ap (are-below (counts_of lines).face_count) all.tags.holes ∙ holes-good lines good);
-    }
-
--- so it is beside whether all corners have a texture value
-pub whole-mesh : (points values : ℕ) (has : Bool) (faces : Faces) (tags : Tags) → IsWhole points values false faces tags
-    → has ≡ names_all_texture faces → IsWhole points values has faces tags
-whole-mesh points values has faces tags whole e_has =
-    record {
-      ascend = whole.ascend;
-      few = whole.few;
-      short = whole.short;
-      same = λ e. eqb-true _ _ (and_parts (nat_lt 1 (length faces.starts.items)) _ (sym e_has ∙ e)).1;
-      vertices = whole.vertices;
-      texture = whole.texture;
-      crease_ends = whole.crease_ends;
-      corner_vertices = whole.corner_vertices;
-      hole_faces = whole.hole_faces;
     }

@@ -11,7 +11,7 @@ use Rattle.ratio128.specs.declared.point.Point3.{Point3}
 use Rattle.ratio128.specs.declared.point.Point2.{Point2}
 use Rattle.obj_tags.specs.Line.{Line}
 use Rattle.obj_tags.specs.Survey.{long_fault_at}
-use Rattle.obj_tags.specs.View.{point_of, texture_of}
+use Rattle.raw_mesh.specs.View.{point_of, texture_of}
 
 -- a numeral as a whole number over a common denominator
 abbrev pub over_common : ℕ → Numeral → ℤ

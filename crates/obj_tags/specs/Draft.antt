@@ -11,13 +11,13 @@ use Rattle.subdiv_model.specs.ReadObj.{counts_of, values_of, corner_numbers, tag
 use Rattle.obj_tags.specs.Channel.{ArePositions, AreTextureValues}
 use Rattle.obj_tags.specs.Face.{named_textures}
 use Rattle.obj_tags.specs.Line.{Line}
-use Rattle.obj_tags.specs.Mesh.{Ascend, pieces}
-use Rattle.obj_tags.specs.View.{boundary_of, crease_of, corner_tag_of}
+use Rattle.raw_mesh.specs.Mesh.{Ascend, pieces}
+use Rattle.raw_mesh.specs.View.{boundary_of, crease_of, corner_tag_of}
 use Rattle.obj_tags.specs.View as view
 use Rattle.obj_tags.specs.declared.face.Counts as face
 use Rattle.obj_tags.specs.declared.draft.Draft.{Draft}
-use Rattle.obj_tags.specs.declared.mesh.Faces.{Faces}
-use Rattle.obj_tags.specs.declared.mesh.Tags.{Tags}
+use Rattle.raw_mesh.specs.declared.mesh.Faces.{Faces}
+use Rattle.raw_mesh.specs.declared.tags.Tags.{Tags}
 use Rattle.obj_tags.specs.declared.survey.Survey.{Survey}
 
 -- the texture values that the corners of the line at place i name, where they have one

@@ -6,7 +6,7 @@ use Rattle.subdiv_model.specs.ObjWord.{Counts, corner_parts, is_face_corner, sam
 use Rattle.obj_tags.specs.declared.corner.Corner.{Corner}
 use Rattle.obj_tags.specs.declared.face.Places.{Places}
 use Rattle.obj_tags.specs.declared.fault.ObjCause.{ObjCause}
-use Rattle.obj_tags.specs.declared.mesh.Faces.{Faces}
+use Rattle.raw_mesh.specs.declared.mesh.Faces.{Faces}
 use Rattle.obj_tags.specs.Corner.{HasParts, IsCornerOf}
 use Rattle.obj_tags.specs.View.{cause_of}
 

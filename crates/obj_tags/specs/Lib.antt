@@ -8,10 +8,7 @@ pub mod Counts
 pub mod Survey
 pub mod Plain
 pub mod Channel
-pub mod Mesh
-pub mod Made
 pub mod TagView
 pub mod TagAdded
 pub mod Keyword
-pub mod Laws
 pub mod Draft

@@ -3,8 +3,8 @@ use Rattle.std.specs.Prelude.{◌≡◌, [], ◌++◌, map, codes, if◌then◌e
 use Rattle.sharpness_rules.specs.View.{method_of}
 use Rattle.subdiv_model.specs.ObjTag.{is_tag, tag_creases, tag_corners, tag_indices, tag_mode, tag_method}
 use Rattle.obj_tags.specs.Line.{Line}
-use Rattle.obj_tags.specs.View.{boundary_of, crease_of, corner_tag_of}
-use Rattle.obj_tags.specs.declared.mesh.Tags.{Tags}
+use Rattle.raw_mesh.specs.View.{boundary_of, crease_of, corner_tag_of}
+use Rattle.raw_mesh.specs.declared.tags.Tags.{Tags}
 
 -- a tag without fault stands after the tags before it, or sets the mode or the method
 pub record AddsTag (line : Line) (before after : Tags) : Type 0 where

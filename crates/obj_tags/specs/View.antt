@@ -2,23 +2,14 @@
 use Rattle.std.specs.Prelude.{ℕ, ℤ}
 use Rattle.subdiv_model.specs.Fault as run
 use Rattle.subdiv_model.specs.ObjFault as fault
-use Rattle.subdiv_model.specs.Boundary as base
 use Rattle.subdiv_model.specs.ObjWord as words
 use Rattle.subdiv_model.specs.ObjTag as tags
-use Rattle.subdiv_model.specs.Sharpness as sharp
-use Rattle.ratio128.specs.declared.point.Point3.{Point3}
-use Rattle.ratio128.specs.declared.point.Point2.{Point2}
-use Rattle.sharpness_rules.specs.View.{sharpness_of}
-use Rattle.obj_tags.specs.declared.mesh.Crease.{Crease}
-use Rattle.obj_tags.specs.declared.mesh.CornerTag.{CornerTag}
 use Rattle.obj_text.specs.declared.numeral.Numeral.{Numeral}
 use Rattle.obj_tags.specs.declared.fault.ObjCause.{ObjCause}
 use Rattle.obj_tags.specs.declared.fault.ObjCause.TheVariants.{BadNumeral, NumberRange, UnknownKeyword, Continuation, ShortLine, BadCorner, IndexRange, BadTag, TagIndex, SharpnessRange, MoveIndex, TooFine, LongLine}
 use Rattle.obj_tags.specs.declared.fault.ObjFault.{ObjFault}
 use Rattle.obj_tags.specs.declared.fault.ReadFault.{ReadFault}
 use Rattle.obj_tags.specs.declared.fault.ReadFault.TheVariants as read
-use Rattle.obj_tags.specs.declared.mesh.Boundary.{Boundary}
-use Rattle.obj_tags.specs.declared.mesh.Boundary.TheVariants.{Hidden, EdgeAndCorner, EdgeOnly}
 use Rattle.obj_tags.specs.declared.face.Counts.{Counts}
 use Rattle.obj_tags.specs.declared.tag_counts.TagKind.{TagKind}
 use Rattle.obj_tags.specs.declared.tag_counts.TagKind.TheVariants as kind
@@ -45,11 +36,6 @@ abbrev pub read_fault_of : ReadFault → run.Fault
 read_fault_of (read.Obj f) = run.Obj (fault_of f)
 read_fault_of read.Memory = run.Memory
 
-abbrev pub boundary_of : Boundary → base.Boundary
-boundary_of Hidden = base.Hidden
-boundary_of EdgeAndCorner = base.EdgeAndCorner
-boundary_of EdgeOnly = base.EdgeOnly
-
 abbrev pub counts_of : Counts → words.Counts
 counts_of c = record { point_count = c.point_count; texture_count = c.texture_count; face_count = c.face_count }
 
@@ -64,15 +50,3 @@ kind_of kind.Dropped = tags.DroppedTag
 -- a numeral's terms
 abbrev pub terms_of : Numeral → ℤ × ℕ
 terms_of n = (n.num, n.den)
-
-abbrev pub crease_of : Crease → (ℕ × ℕ) × sharp.Sharpness
-crease_of c = ((c.a, c.b), sharpness_of c.sharpness)
-
-abbrev pub corner_tag_of : CornerTag → ℕ × sharp.Sharpness
-corner_tag_of c = (c.vertex, sharpness_of c.sharpness)
-
-abbrev pub point_of : Point3 → ℤ × ℤ × ℤ
-point_of p = (p.x, p.y, p.z)
-
-abbrev pub texture_of : Point2 → ℤ × ℤ
-texture_of p = (p.u, p.v)

@@ -4,8 +4,8 @@ ghost use Rattle.obj_tags.specs.Line.{Line};
 
 use crate::channel::{Positions, TextureValues};
 use crate::face::Counts;
-use crate::mesh::{Boundary, Faces, Tags};
 use crate::survey::Survey;
+use raw_mesh::{Boundary, Faces, Tags};
 use sharpness_rules::Method;
 use std::alloc::{AllocError, Global};
 

@@ -10,10 +10,10 @@ ghost use Rattle.obj_tags.specs.declared.fault.LineFault.TheVariants.{Memory};
 use crate::ObjCause;
 use crate::corner::{Corner, read_corner};
 use crate::fault::LineFault;
-use crate::mesh::Faces;
 use crate::number::place;
 use crate::words::next_word;
 use obj_text::Words;
+use raw_mesh::Faces;
 
 /// How many `v`, `vt` and `f` lines a text has, or some of its lines.
 #[derive(Clone, Copy)]

@@ -8,8 +8,6 @@ mod draft;
 mod face;
 mod fault;
 mod line;
-mod made;
-mod mesh;
 mod number;
 mod plain;
 mod read;
@@ -20,5 +18,5 @@ mod tag_values;
 mod words;
 
 pub use fault::{ObjCause, ObjFault, ReadFault};
-pub use mesh::{Boundary, CornerTag, Crease, RawMesh};
+pub use raw_mesh::{Boundary, CornerTag, Crease, RawMesh};
 pub use read::read_obj;

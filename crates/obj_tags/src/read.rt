@@ -5,19 +5,19 @@ ghost use Rattle.subdiv_model.specs.ReadObj.{read_obj_fault, read_obj_mesh};
 ghost use Rattle.obj_tags.specs.Channel as spec;
 ghost use Rattle.obj_tags.specs.Draft.{IsDraftOf};
 ghost use Rattle.obj_tags.specs.Kept.{IsReadFault, TextKeptUnless};
-ghost use Rattle.obj_tags.specs.Laws.{IsWithin};
+ghost use Rattle.raw_mesh.specs.Laws.{IsWithin};
 ghost use Rattle.obj_tags.specs.Line.{Line};
-ghost use Rattle.obj_tags.specs.Mesh.{names_all_texture, IsWhole};
+ghost use Rattle.raw_mesh.specs.Mesh.{IsWhole};
 ghost use Rattle.obj_tags.specs.Survey.{AreCommon, IsBounded};
 ghost use Rattle.obj_tags.specs.View.{counts_of};
 
 use crate::draft::Draft;
 use crate::fault::LineFault;
 use crate::line::keep_line;
-use crate::mesh::Faces;
 use crate::survey::{Survey, survey_of};
 use crate::words::{first_line, skip_mark};
-use crate::{ObjCause, ObjFault, RawMesh, ReadFault};
+use crate::{ObjCause, ObjFault, ReadFault};
+use raw_mesh::{Coordinates, RawMesh};
 use std::alloc::Global;
 
 // Keeps what all lines say, by what was found in them; the error is that of the first bad line.
@@ -71,13 +71,6 @@ fn least_line(a: Option<u32>, b: Option<u32>) -> Option<u32>
     }
 }
 
-// Whether there is a face, and as many texture values are named as there are corners.
-fn has_texture(faces: &Faces) -> bool
-    ensures { result ≡ names_all_texture faces.now }
-{
-    faces.starts.len() > 1 && faces.texture_corners.len() == faces.corners.len()
-}
-
 // Makes a mesh of what was kept; the error is the least line up to which a channel is too wide, or with
 // a number that is too long.
 fn finish(draft: Draft, all: Survey) -> Result<RawMesh, ReadFault>
@@ -102,16 +95,13 @@ fn finish(draft: Draft, all: Survey) -> Result<RawMesh, ReadFault>
             cause: ObjCause::NumberRange,
         }));
     }
-    let has_texture = has_texture(&faces);
-    Ok(RawMesh {
+    let coordinates = Coordinates {
         points: positions.points,
-        common: all.positions.value,
+        scale: all.positions.value,
         texture: texture.points,
-        texture_common: all.texture.value,
-        faces,
-        has_texture,
-        tags,
-    })
+        texture_scale: all.texture.value,
+    };
+    Ok(RawMesh::of(coordinates, faces, tags))
 }
 
 /// Reads the OBJ text of a mesh, which has at most 2^28 bytes. Positions stand over the least common

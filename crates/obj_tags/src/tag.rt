@@ -1,7 +1,8 @@
 ghost use Rattle.std.specs.Prelude.{◌≡◌, ◌⊎◌, ◌+◌, ◌<◌, ◌≤◌, length, map, take, get_or, [], ◌∷◌, ◌++◌, codes, Some, MatchOption};
 ghost use Rattle.subdiv_model.specs.ObjFault as model;
 ghost use Rattle.subdiv_model.specs.ObjTag.{tag_fault, tag_index_fault, mode_fault, method_fault, mode_of_word, method_of_word};
-ghost use Rattle.obj_tags.specs.View.{boundary_of, counts_of, crease_of, corner_tag_of};
+ghost use Rattle.obj_tags.specs.View.{counts_of};
+ghost use Rattle.raw_mesh.specs.View.{boundary_of, crease_of, corner_tag_of};
 ghost use Rattle.obj_tags.specs.Kept.{KeptUnless};
 ghost use Rattle.obj_tags.specs.TagView.{value_fault, indices_said, sharpnesses_said, AreSaid, chain_creases, vertex_tags, IsBadTag, IsHeadOf};
 ghost use Rattle.obj_tags.specs.TagAdded.{AddsTag};
@@ -11,11 +12,11 @@ ghost use Rattle.sharpness_rules.specs.View.{method_of};
 use crate::ObjCause;
 use crate::face::Counts;
 use crate::fault::LineFault;
-use crate::mesh::{Boundary, CornerTag, Crease, Tags};
 use crate::tag_counts::{TagCounts, TagKind, kind_named, read_counts};
 use crate::tag_values::{add_chain, add_corners, indices, read_boundary, read_method, values};
 use crate::words::next_word;
 use obj_text::Words;
+use raw_mesh::{Boundary, CornerTag, Crease, Tags};
 use sharpness_rules::{Method, Sharpness};
 use std::alloc::Global;
 

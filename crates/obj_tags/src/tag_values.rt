@@ -6,15 +6,15 @@ ghost use Rattle.subdiv_model.specs.Sharpness as model;
 ghost use Rattle.sharpness_rules.specs.View.{sharpness_of, method_of};
 ghost use Rattle.obj_tags.specs.Kept.{KeptUnless, ReadOr};
 ghost use Rattle.obj_tags.specs.TagView.{index_said, sharpness_said, chain_creases, vertex_tags};
-ghost use Rattle.obj_tags.specs.View.{boundary_of, crease_of, corner_tag_of};
+ghost use Rattle.raw_mesh.specs.View.{boundary_of, crease_of, corner_tag_of};
 ghost use Rattle.obj_tags.specs.Walk.{words_left};
 
 use crate::ObjCause;
 use crate::fault::LineFault;
-use crate::mesh::{Boundary, CornerTag, Crease};
 use crate::number::{sharpness, tag_index};
 use crate::words::{is_word, next_word};
 use obj_text::{Words, read_index};
+use raw_mesh::{Boundary, CornerTag, Crease};
 use sharpness_rules::{Method, Sharpness};
 use std::alloc::{AllocError, Global};
 

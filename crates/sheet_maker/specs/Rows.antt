@@ -3,7 +3,7 @@ use Rattle.std.specs.Prelude.{ℕ, ◌+◌, ◌*◌, ◌<◌, ℤ, pos, List, ma
 use Rattle.std.specs.List.{flat_map, range_with_len}
 use Rattle.subdiv_model.specs.Generator.{sheet_point, sheet_quad, row_creases}
 use Rattle.subdiv_model.specs.Sharpness.{Sharpness, sharpness_of}
-use Rattle.obj_tags.specs.declared.mesh.Crease.{Crease}
+use Rattle.raw_mesh.specs.declared.tags.Crease.{Crease}
 
 -- how many points there are
 abbrev pub point_count : ℕ → ℕ

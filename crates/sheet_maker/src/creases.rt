@@ -3,13 +3,13 @@
 ghost use Rattle.std.specs.Prelude.{◌≡◌, ◌+◌, ◌≤◌, ◌<◌, ◌++◌, length, map, drop, get_or, IfOk};
 ghost use Rattle.std.specs.List.{All};
 ghost use Rattle.sharpness_rules.specs.View.{sharpness_of};
-ghost use Rattle.obj_tags.specs.View.{crease_of};
+ghost use Rattle.raw_mesh.specs.View.{crease_of};
 ghost use Rattle.subdiv_model.specs.Generator.{row_creases, sheet_creases};
 ghost use Rattle.sheet_maker.specs.Rows.{point_count, drawn_sharpness, HasEnds};
 
 use crate::number::point_number;
-use obj_tags::Crease;
 use ratio128::Memory;
+use raw_mesh::Crease;
 use sharpness_rules::Sharpness;
 use std::alloc::Global;
 

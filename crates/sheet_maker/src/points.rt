@@ -1,7 +1,7 @@
 //! The points of a sheet.
 
 ghost use Rattle.std.specs.Prelude.{◌≡◌, ◌≤◌, ◌++◌, length, map, IfOk};
-ghost use Rattle.obj_tags.specs.View.{point_of};
+ghost use Rattle.raw_mesh.specs.View.{point_of};
 ghost use Rattle.subdiv_model.specs.Generator.{sheet_points};
 ghost use Rattle.sheet_maker.specs.Rows.{point_count, place_of, row_points};
 

@@ -2,16 +2,16 @@
 
 ghost use Rattle.std.specs.Prelude.{◌≡◌, ◌≤◌, IfOk};
 ghost use Rattle.std.specs.List.{All};
-ghost use Rattle.obj_tags.specs.Laws.{IsWithin};
-ghost use Rattle.reading_laws.specs.Short.{IsShortPoint};
+ghost use Rattle.raw_mesh.specs.Laws.{IsWithin};
+ghost use Rattle.raw_mesh.specs.Short.{IsShortPoint};
 ghost use Rattle.subdiv_model.specs.Generator.{generated_mesh};
 
 use crate::creases::creases_of_rows;
 use crate::draws::draws_of_seed;
 use crate::points::points_of_rows;
 use crate::quads::corners_of_quads;
-use obj_tags::RawMesh;
 use ratio128::Memory;
+use raw_mesh::RawMesh;
 use std::alloc::Global;
 
 /// A sheet of `size` times `size` quads, from 1 to 256: its points stand 10 apart in rows and columns, each at a height that the

@@ -1,6 +1,6 @@
 use Rattle.std.proofs.Common.{ℕ, ◌≡◌, ◌+◌, ◌∙◌, nat_eq, ℤ, pos, List, length, map, get_or, arith, sym, refl, if◌then◌else◌}
 use Rattle.std.proofs.lemmas.List.{length-map, get_or-map}
-use Rattle.obj_tags.specs.View.{texture_of}
+use Rattle.raw_mesh.specs.View.{texture_of}
 use Rattle.face_varying.specs.TextureValues.{value_at}
 use Rattle.face_varying.proofs.FirstOneStepLemmas.{corner-round, corners-end, counted}
 use Rattle.face_varying.proofs.points.add_face.Goals as goal

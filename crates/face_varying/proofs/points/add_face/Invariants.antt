@@ -1,5 +1,5 @@
 use Rattle.std.proofs.Common.{◌≡◌, ◌++◌, length, map, drop}
-use Rattle.obj_tags.specs.View.{texture_of}
+use Rattle.raw_mesh.specs.View.{texture_of}
 use Rattle.face_varying.specs.FirstOnes.{first_ones}
 use Rattle.face_varying.specs.TextureValues.{value_at}
 use Rattle.face_varying.proofs.points.add_face.Given as goal

@@ -5,7 +5,7 @@ use Rattle.subdiv_model.specs.Polygons.{Polygon, polygon_at, same_side}
 use Rattle.subdiv_model.specs.Cut.{channel_point}
 use Rattle.mesh_laws.proofs.SideLemmas.{same_side-refl}
 use Rattle.mesh_laws.proofs.ChildClosedLemmas.{same-pair}
-use Rattle.obj_tags.specs.View.{texture_of}
+use Rattle.raw_mesh.specs.View.{texture_of}
 use Rattle.face_varying.specs.Corners.{corner_points, corner_numbers}
 use Rattle.face_varying.specs.FirstOnes.{first_ones}
 use Rattle.face_varying.specs.TextureValues.{value_at, value_of}

@@ -1,6 +1,6 @@
 use Rattle.std.proofs.Common.{◌≡◌, ◌++◌, length, map, drop}
 use Rattle.std.specs.List.{sum_by}
-use Rattle.obj_tags.specs.View.{texture_of}
+use Rattle.raw_mesh.specs.View.{texture_of}
 use Rattle.face_varying.specs.FirstOnes.{first_ones}
 use Rattle.face_varying.specs.TextureValues.{value_at}
 use Rattle.face_varying.proofs.FirstOneStepLemmas.{joined_lists}

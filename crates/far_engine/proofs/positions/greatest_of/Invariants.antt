@@ -1,6 +1,6 @@
 use Rattle.std.proofs.Common.{◌≡◌, max, unsigned_abs, length, map}
 use Rattle.std.specs.List.{fold}
-use Rattle.obj_tags.specs.View.{point_of}
+use Rattle.raw_mesh.specs.View.{point_of}
 use Rattle.subdiv_model.specs.Channel.{greatest_amount}
 use Rattle.subdiv_model.specs.Answer.{point_numbers}
 use Rattle.far_engine.proofs.positions.greatest_of.Given as goal

@@ -1,6 +1,6 @@
 use Rattle.std.proofs.Common.{◌^◌, ◌≤◌, sym, subst}
 use Rattle.std.specs.List.{All}
-use Rattle.reading_laws.specs.Short.{IsShortPoint, IsShortTexture}
+use Rattle.raw_mesh.specs.Short.{IsShortPoint, IsShortTexture}
 use Rattle.reading_laws.proofs.ShortNumberLemmas.{coordinates-short, texture-short}
 use Rattle.far_engine.proofs.reply.reply_to.Goals as goal
 

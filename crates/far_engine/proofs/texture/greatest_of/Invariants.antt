@@ -1,6 +1,6 @@
 use Rattle.std.proofs.Common.{◌≡◌, max, unsigned_abs, length, map}
 use Rattle.std.specs.List.{fold}
-use Rattle.obj_tags.specs.View.{texture_of as value_of}
+use Rattle.raw_mesh.specs.View.{texture_of as value_of}
 use Rattle.subdiv_model.specs.Channel.{greatest_amount}
 use Rattle.subdiv_model.specs.Answer.{texture_numbers}
 use Rattle.far_engine.proofs.texture.greatest_of.Given as goal

@@ -1,5 +1,5 @@
 use Rattle.std.proofs.Common.{map, ap, sym, ◌∙◌}
-use Rattle.obj_tags.specs.View.{texture_of as value_of}
+use Rattle.raw_mesh.specs.View.{texture_of as value_of}
 use Rattle.subdiv_model.specs.Channel.{greatest_amount}
 use Rattle.subdiv_model.specs.Answer.{texture_numbers, asked_of}
 use Rattle.far_words.specs.View.{by_of_code, uv_of_code}

@@ -1,6 +1,6 @@
 use Rattle.std.proofs.Common.{◌≡◌, nat_lt, true, length, map}
 use Rattle.std.specs.List.{list_all}
-use Rattle.obj_tags.specs.View.{corner_tag_of}
+use Rattle.raw_mesh.specs.View.{corner_tag_of}
 use Rattle.mesh_check.specs.Base.{with_vertex_tags}
 use Rattle.mesh_check.proofs.base.add_corner_tags.Given as goal
 

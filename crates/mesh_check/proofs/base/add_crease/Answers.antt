@@ -1,5 +1,5 @@
 use Rattle.std.proofs.Common.{ap, sym, ◌∙◌, Bool, if◌then◌else◌}
-use Rattle.obj_tags.specs.View.{crease_of}
+use Rattle.raw_mesh.specs.View.{crease_of}
 use Rattle.level_topology.specs.Builder.{with_sharp_edge}
 use Rattle.mesh_check.proofs.BaseEdgeLemmas.{pair-known}
 use Rattle.mesh_check.proofs.base.add_crease.Goals as goal

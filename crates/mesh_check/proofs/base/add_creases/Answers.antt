@@ -1,5 +1,5 @@
 use Rattle.std.proofs.Common.{map, ap, sym, ◌∙◌}
-use Rattle.obj_tags.specs.View.{crease_of}
+use Rattle.raw_mesh.specs.View.{crease_of}
 use Rattle.mesh_check.specs.Base.{with_edge_tags}
 use Rattle.mesh_check.proofs.BaseTagLemmas.{tag-polygons}
 use Rattle.mesh_check.proofs.RestLemmas.{at-item, at-none, others}

@@ -1,5 +1,5 @@
 use Rattle.std.proofs.Common.{◌≡◌, length, map}
-use Rattle.obj_tags.specs.View.{crease_of}
+use Rattle.raw_mesh.specs.View.{crease_of}
 use Rattle.mesh_check.specs.Base.{with_edge_tags}
 use Rattle.mesh_check.proofs.base.add_creases.Given as goal
 

@@ -1,10 +1,8 @@
-use Rattle.std.proofs.Common.{ap, sym, ◌∙◌, option_map}
+use Rattle.std.proofs.Common.{ap, refl, sym, ◌∙◌, option_map}
 use Rattle.obj_tags.specs.Channel.{lesser_line}
 use Rattle.obj_tags.specs.Survey.{long_fault_at}
 use Rattle.obj_tags.proofs.LateLemmas.{lesser-none}
 use Rattle.obj_tags.proofs.MeshLemmas.{late-draft, mesh-draft}
-use Rattle.obj_tags.proofs.LawLemmas.{within}
-use Rattle.obj_tags.proofs.WholeLemmas.{whole-mesh}
 use Rattle.obj_tags.proofs.read.finish.Goals as goal
 
 pub returns-in-Some-clause-read : goal.returns-in-Some-clause-read
@@ -19,12 +17,6 @@ returns-clause-read c lines least are is =
       sym (late-draft c.args.all c.args.draft lines least are is)
           ∙ ap (option_map long_fault_at) (sym (ap (λ a. lesser_line a c.late_line-late_texture.result) c.late_line-late_position.ensures ∙ ap (lesser_line _) c.late_line-late_texture.ensures))
           ∙ ap (option_map long_fault_at) (sym c.in_default.ensures),
-      mesh-draft c.args.all c.args.draft lines least _ are is c.has_texture-has_texture.ensures
+      c.of.ensures.mesh ∙ mesh-draft c.args.all c.args.draft lines least _ are is refl
           (sym c.late_line-late_position.ensures ∙ none.0) (sym c.late_line-late_texture.ensures ∙ none.1),
     )
-
-pub returns-clause-laws : goal.returns-clause-laws
-returns-clause-laws c =
-    within c.args.draft.positions.points.items c.args.all.positions.value c.args.draft.texture.points.items c.args.all.texture.value c.args.draft.faces c.has_texture-has_texture.result c.args.draft.tags
-    c.requires.positions.positive c.requires.positions.short c.requires.texture.positive c.requires.texture.short
-    (whole-mesh _ _ _ c.args.draft.faces c.args.draft.tags c.requires.whole c.has_texture-has_texture.ensures)

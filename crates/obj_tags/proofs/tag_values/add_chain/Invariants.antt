@@ -1,7 +1,7 @@
 use Rattle.std.proofs.Common.{◌≡◌, ◌++◌, length, map, take, zip}
 use Rattle.subdiv_model.specs.ObjTag.{for_each, chain_pairs}
 use Rattle.sharpness_rules.specs.View.{sharpness_of}
-use Rattle.obj_tags.specs.View.{crease_of}
+use Rattle.raw_mesh.specs.View.{crease_of}
 use Rattle.obj_tags.proofs.tag_values.add_chain.Given as goal
 
 -- the pairs so far

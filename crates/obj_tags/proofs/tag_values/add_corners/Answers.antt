@@ -2,7 +2,7 @@ use Rattle.std.proofs.Common.{◌<◌, length, map, get_or, arith, ap}
 use Rattle.subdiv_model.specs.Sharpness.{Smooth}
 use Rattle.subdiv_model.specs.ObjTag.{for_each}
 use Rattle.sharpness_rules.specs.View.{sharpness_of}
-use Rattle.obj_tags.specs.View.{corner_tag_of}
+use Rattle.raw_mesh.specs.View.{corner_tag_of}
 use Rattle.obj_tags.proofs.WalkLemmas.{zipped-more, zipped-all, each-length}
 use Rattle.obj_tags.proofs.tag_values.add_corners.Goals as goal
 

@@ -1,7 +1,7 @@
 use Rattle.std.proofs.Common.{◌≡◌, ◌++◌, length, map, take, zip}
 use Rattle.subdiv_model.specs.ObjTag.{for_each}
 use Rattle.sharpness_rules.specs.View.{sharpness_of}
-use Rattle.obj_tags.specs.View.{corner_tag_of}
+use Rattle.raw_mesh.specs.View.{corner_tag_of}
 use Rattle.obj_tags.proofs.tag_values.add_corners.Given as goal
 
 -- the vertices so far

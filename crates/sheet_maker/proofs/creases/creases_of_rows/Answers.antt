@@ -1,7 +1,7 @@
 use Rattle.std.proofs.Common.{◌<◌, arith, ap, drop, length, map}
 use Rattle.std.proofs.lemmas.List.{length-drop}
 use Rattle.std.proofs.lemmas.List.Elements.{All-nil, All-same}
-use Rattle.obj_tags.specs.View.{crease_of}
+use Rattle.raw_mesh.specs.View.{crease_of}
 use Rattle.sheet_maker.specs.Rows.{point_count, HasEnds}
 use Rattle.sheet_maker.proofs.SheetLemmas.{creases-more, creases-all}
 use Rattle.sheet_maker.proofs.creases.creases_of_rows.Goals as goal

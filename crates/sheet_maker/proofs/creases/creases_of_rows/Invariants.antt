@@ -1,7 +1,7 @@
 use Rattle.std.proofs.Common.{◌≡◌, drop, map}
 use Rattle.std.specs.Prelude.{zip}
 use Rattle.std.specs.List.{All, flat_map, range_with_len}
-use Rattle.obj_tags.specs.View.{crease_of}
+use Rattle.raw_mesh.specs.View.{crease_of}
 use Rattle.sheet_maker.specs.Rows.{point_count, drawn_creases, HasEnds}
 use Rattle.sheet_maker.proofs.creases.creases_of_rows.Given as goal
 

@@ -3,7 +3,7 @@ use Rattle.std.specs.List.{range_with_len}
 use Rattle.std.proofs.lemmas.List.{append-nil}
 use Rattle.std.proofs.lemmas.List.Elements.{All-same, All-push}
 use Rattle.sharpness_rules.specs.View.{sharpness_of}
-use Rattle.obj_tags.specs.View.{crease_of}
+use Rattle.raw_mesh.specs.View.{crease_of}
 use Rattle.sheet_maker.specs.Rows.{crease_at, HasEnds}
 use Rattle.sheet_maker.proofs.SheetLemmas.{row-more}
 use Rattle.sheet_maker.proofs.creases.put_row.Goals as goal

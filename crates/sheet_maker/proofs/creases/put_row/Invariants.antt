@@ -1,7 +1,7 @@
 use Rattle.std.proofs.Common.{◌≡◌, ◌++◌, map}
 use Rattle.std.specs.List.{All, range_with_len}
 use Rattle.sharpness_rules.specs.View.{sharpness_of}
-use Rattle.obj_tags.specs.View.{crease_of}
+use Rattle.raw_mesh.specs.View.{crease_of}
 use Rattle.sheet_maker.specs.Rows.{crease_at, HasEnds}
 use Rattle.sheet_maker.proofs.creases.put_row.Given as goal
 

@@ -1,7 +1,7 @@
 use Rattle.std.proofs.Common.{◌≡◌, ◌+◌, ◌++◌, arith, ap, sym, ◌∙◌, map}
 use Rattle.std.specs.List.{range_with_len}
 use Rattle.std.proofs.lemmas.List.{append-nil}
-use Rattle.obj_tags.specs.View.{point_of}
+use Rattle.raw_mesh.specs.View.{point_of}
 use Rattle.sheet_maker.specs.Rows.{place_of}
 use Rattle.sheet_maker.proofs.SheetLemmas.{row-more}
 use Rattle.sheet_maker.proofs.points.put_row.Goals as goal

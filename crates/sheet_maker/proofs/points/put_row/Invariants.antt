@@ -1,6 +1,6 @@
 use Rattle.std.proofs.Common.{◌≡◌, ◌++◌, map}
 use Rattle.std.specs.List.{range_with_len}
-use Rattle.obj_tags.specs.View.{point_of}
+use Rattle.raw_mesh.specs.View.{point_of}
 use Rattle.sheet_maker.specs.Rows.{place_of}
 use Rattle.sheet_maker.proofs.points.put_row.Given as goal
 

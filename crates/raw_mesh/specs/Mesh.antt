@@ -1,13 +1,14 @@
--- A mesh that was read, seen as that of the definitions.
+-- A mesh in plain lists, seen as that of the definitions.
 use Rattle.std.specs.Prelude.{ℕ, ◌≡◌, ◌+◌, Bool, ◌&&◌, nat_eq, nat_lt, ◌≤◌, ◌<◌, ◌^◌, true, List, [], ◌∷◌, length, map, slice_range, if◌then◌else◌}
 use Rattle.std.specs.List.{All}
 use Rattle.ratio128.specs.declared.point.Point2.{Point2}
 use Rattle.ratio128.specs.declared.point.Point3.{Point3}
 use Rattle.sharpness_rules.specs.View.{method_of}
 use Rattle.subdiv_model.specs.ObjMesh.{ObjMesh}
-use Rattle.obj_tags.specs.View.{boundary_of, crease_of, corner_tag_of, point_of, texture_of}
-use Rattle.obj_tags.specs.declared.mesh.Faces.{Faces}
-use Rattle.obj_tags.specs.declared.mesh.Tags.{Tags}
+use Rattle.raw_mesh.specs.View.{boundary_of, crease_of, corner_tag_of, point_of, texture_of}
+use Rattle.raw_mesh.specs.declared.mesh.Coordinates.{Coordinates}
+use Rattle.raw_mesh.specs.declared.mesh.Faces.{Faces}
+use Rattle.raw_mesh.specs.declared.tags.Tags.{Tags}
 
 -- the pieces of a list between each of these places and the next
 abbrev pub pieces : List ℕ → List ℕ → List (List ℕ)
@@ -41,6 +42,11 @@ mesh_of points common texture texture_common faces has_texture tags = record {
   boundary = boundary_of tags.boundary;
   method = method_of tags.method;
 }
+
+-- the same, with texture where it names all texture
+abbrev pub mesh_of_lists : Coordinates → Faces → Tags → ObjMesh
+mesh_of_lists coordinates faces tags =
+    mesh_of coordinates.points.items coordinates.scale coordinates.texture.items coordinates.texture_scale faces (names_all_texture faces) tags
 
 -- the places of the faces end at the corners, and numbers are in range
 pub record IsWhole (points values : ℕ) (has_texture : Bool) (faces : Faces) (tags : Tags) : Type 0 where

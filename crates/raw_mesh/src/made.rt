@@ -2,10 +2,11 @@
 
 ghost use Rattle.std.specs.Prelude.{◌≡◌, ◌+◌, ◌*◌, ◌%◌, ◌^◌, ◌<◌, ◌≤◌, length, map, IfOk};
 ghost use Rattle.std.specs.List.{All, range_with_len};
-ghost use Rattle.obj_tags.specs.Laws.{IsWithin};
-ghost use Rattle.obj_tags.specs.Made.{AreQuads, AreCreases, mesh_of_quads};
+ghost use Rattle.raw_mesh.specs.Laws.{IsWithin};
+ghost use Rattle.raw_mesh.specs.Made.{AreQuads, AreCreases, mesh_of_quads};
 
-use crate::mesh::{Boundary, Crease, Faces, RawMesh, Tags};
+use crate::mesh::{Coordinates, Faces, RawMesh};
+use crate::tags::{Boundary, Crease, Tags};
 use ratio128::{Memory, Point3};
 use sharpness_rules::Method;
 use std::alloc::Global;

@@ -1,7 +1,7 @@
 use Rattle.std.proofs.Common.{arith, length, ap}
 use Rattle.subdiv_model.specs.ObjMesh.{ObjMesh}
-use Rattle.obj_tags.proofs.PiecesLemmas.{length-pieces}
-use Rattle.obj_tags.proofs.mesh.RawMesh.texture_corners.Goals as goal
+use Rattle.raw_mesh.proofs.PiecesLemmas.{length-pieces}
+use Rattle.raw_mesh.proofs.mesh.RawMesh.texture_corners.Goals as goal
 
 pub piece-requires-clause-inside : goal.piece-requires-clause-inside
 piece-requires-clause-inside c =

@@ -1,7 +1,7 @@
 use Rattle.std.proofs.Common.{arith, false}
-use Rattle.obj_tags.proofs.LawLemmas.{within}
-use Rattle.obj_tags.proofs.QuadLemmas.{quads-whole, quads-mesh}
-use Rattle.obj_tags.proofs.mesh.RawMesh.of_quads.Goals as goal
+use Rattle.raw_mesh.proofs.LawLemmas.{within}
+use Rattle.raw_mesh.proofs.QuadLemmas.{quads-whole, quads-mesh}
+use Rattle.raw_mesh.proofs.mesh.RawMesh.of_quads.Goals as goal
 
 pub invariant_of-result : goal.invariant_of-result
 invariant_of-result c =

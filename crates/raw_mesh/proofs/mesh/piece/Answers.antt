@@ -1,6 +1,6 @@
 use Rattle.std.proofs.Common.{rules}
-use Rattle.obj_tags.proofs.PiecesLemmas.{piece_next, ascend_next}
-use Rattle.obj_tags.proofs.mesh.piece.Goals as goal
+use Rattle.raw_mesh.proofs.PiecesLemmas.{piece_next, ascend_next}
+use Rattle.raw_mesh.proofs.mesh.piece.Goals as goal
 
 pub slice_bounds-result-count : goal.slice_bounds-result-count
 slice_bounds-result-count c = (ascend_next _ _ c.args.f c.requires.ascend c.requires.inside).0

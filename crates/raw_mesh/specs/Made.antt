@@ -7,10 +7,10 @@ use Rattle.subdiv_model.specs.Sharpness.{Normal}
 use Rattle.subdiv_model.specs.Boundary.{EdgeOnly}
 use Rattle.subdiv_model.specs.ObjMesh.{ObjMesh}
 use Rattle.sharpness_rules.specs.View.{method_of}
-use Rattle.obj_tags.specs.View.{boundary_of, crease_of, point_of}
-use Rattle.obj_tags.specs.declared.mesh.Crease.{Crease}
-use Rattle.obj_tags.specs.declared.mesh.Faces.{Faces}
-use Rattle.obj_tags.specs.declared.mesh.Tags.{Tags}
+use Rattle.raw_mesh.specs.View.{boundary_of, crease_of, point_of}
+use Rattle.raw_mesh.specs.declared.tags.Crease.{Crease}
+use Rattle.raw_mesh.specs.declared.mesh.Faces.{Faces}
+use Rattle.raw_mesh.specs.declared.tags.Tags.{Tags}
 
 -- each next four corners as a face, while there are four
 abbrev pub quads_of : List ℕ → List Polygon

@@ -1,6 +1,6 @@
 use Rattle.std.proofs.Common.{arith, ◌*◌, rules}
 use Rattle.std.proofs.lemmas.List.FromFn.{map-range_with_len_more}
-use Rattle.obj_tags.proofs.made.quad_starts.Goals as goal
+use Rattle.raw_mesh.proofs.made.quad_starts.Goals as goal
 
 pub loop-k-preserved : goal.loop-k-preserved
 loop-k-preserved c =

@@ -7,12 +7,12 @@ use Rattle.std.proofs.lemmas.List.FromFn.{length-map-range_with_len}
 use Rattle.std.proofs.Math.Nat.{div-add-mod}
 use Rattle.ratio128.specs.declared.point.Point2.{Point2}
 use Rattle.ratio128.specs.declared.point.Point3.{Point3}
-use Rattle.obj_tags.specs.Mesh.{pieces, Ascend, IsWhole, mesh_of}
-use Rattle.obj_tags.specs.Made.{quads_of, AreQuads, AreCreases, mesh_of_quads}
-use Rattle.obj_tags.specs.declared.mesh.Crease.{Crease}
-use Rattle.obj_tags.proofs.PiecesLemmas.{join-cons}
-use Rattle.obj_tags.specs.declared.mesh.Faces.{Faces}
-use Rattle.obj_tags.specs.declared.mesh.Tags.{Tags}
+use Rattle.raw_mesh.specs.Mesh.{pieces, Ascend, IsWhole, mesh_of}
+use Rattle.raw_mesh.specs.Made.{quads_of, AreQuads, AreCreases, mesh_of_quads}
+use Rattle.raw_mesh.specs.declared.tags.Crease.{Crease}
+use Rattle.raw_mesh.proofs.PiecesLemmas.{join-cons}
+use Rattle.raw_mesh.specs.declared.mesh.Faces.{Faces}
+use Rattle.raw_mesh.specs.declared.tags.Tags.{Tags}
 
 -- the next four corners are a face
 first-quad : (xs : List ℕ) → 4 ≤ length xs → quads_of xs ≡ take 4 xs ∷ quads_of (drop 4 xs)

@@ -1,4 +1,4 @@
--- What is so of every mesh that was read.
+-- What is so of every mesh, read or made of arrays.
 -- Source: this profile.
 use Rattle.std.specs.Prelude.{◌≡◌, ◌<◌, ◌≤◌, ◌^◌, true, length, map}
 use Rattle.std.specs.List.{All, sum_by}

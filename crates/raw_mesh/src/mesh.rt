@@ -1,42 +1,37 @@
-ghost use Rattle.std.specs.Prelude.{◌≡◌, ◌+◌, ◌-◌, ◌<◌, ◌≤◌, ◌^◌, true, length, map, Some, slice_get, [], if◌then◌else◌};
+ghost use Rattle.std.specs.Prelude.{◌≡◌, ◌+◌, ◌-◌, ◌<◌, ◌≤◌, ◌^◌, true, false, length, map, Some, slice_get, [], if◌then◌else◌};
 ghost use Rattle.sharpness_rules.specs.View.{method_of};
 ghost use Rattle.subdiv_model.specs.ObjMesh.{ObjMesh};
-ghost use Rattle.obj_tags.specs.Mesh.{Ascend, pieces, mesh_of, IsWhole};
-ghost use Rattle.obj_tags.specs.View.{boundary_of, crease_of, corner_tag_of, point_of, texture_of};
+ghost use Rattle.raw_mesh.specs.Mesh.{Ascend, pieces, names_all_texture, mesh_of, mesh_of_lists, IsWhole};
+ghost use Rattle.raw_mesh.specs.Laws.{IsWithin};
+ghost use Rattle.raw_mesh.specs.View.{boundary_of, crease_of, corner_tag_of, point_of, texture_of};
 
+use crate::tags::{Boundary, CornerTag, Crease, Tags};
 use ratio128::{Point2, Point3};
-use sharpness_rules::{Method, Sharpness};
+use sharpness_rules::Method;
 use std::marker::Model;
 
-/// How the boundary of a mesh is refined. The names of the three modes stand for this profile's
-/// rules.
-#[derive(Clone, Copy, Debug, PartialEq, Eq)]
-pub enum Boundary {
-    /// Boundary edges are sharp, and a face with a vertex on one counts as a hole.
-    Hidden,
-    /// Boundary edges are sharp, and so is a vertex of one face.
-    EdgeAndCorner,
-    /// Boundary edges are sharp.
-    EdgeOnly,
+/// The points of a mesh and its texture values, as whole numerators, each list over one common denominator.
+#[derive(Drop)]
+pub struct Coordinates {
+    pub points: Vec<Point3>,
+    /// The common denominator of the points.
+    pub scale: u128,
+    pub texture: Vec<Point2>,
+    /// The common denominator of the texture values.
+    pub texture_scale: u128,
 }
 
-/// The sharpness of a pair of vertices, `a` and `b`, counted from 0.
-#[derive(Clone, Copy, Debug, PartialEq, Eq)]
-pub struct Crease {
-    pub a: u32,
-    pub b: u32,
-    pub sharpness: Sharpness,
+/// The corners of all faces, one face after the other: face f has those from `starts[f]` up to
+/// `starts[f + 1]`.
+#[derive(Drop)]
+pub struct Faces {
+    pub starts: Vec<u32>,
+    pub corners: Vec<u32>,
+    /// The texture values of the corners that have one. The mesh has texture where there are as many as corners.
+    pub texture_corners: Vec<u32>,
 }
 
-/// The sharpness of a vertex, counted from 0.
-#[derive(Clone, Copy, Debug, PartialEq, Eq)]
-pub struct CornerTag {
-    pub vertex: u32,
-    pub sharpness: Sharpness,
-}
-
-/// A mesh as it was read, which need not be a manifold. Vertices, texture values and faces are
-/// counted from 0.
+/// A mesh that need not be a manifold. Vertices, texture values and faces are counted from 0.
 #[derive(Drop)]
 pub struct RawMesh {
     pub(crate) points: Vec<Point3>,
@@ -46,25 +41,6 @@ pub struct RawMesh {
     pub(crate) faces: Faces,
     pub(crate) has_texture: bool,
     pub(crate) tags: Tags,
-}
-
-/// The corners of all faces, one face after the other: face f has those from `starts[f]` up to
-/// `starts[f + 1]`. `texture_corners` has those of the faces that have texture numbers.
-#[derive(Drop)]
-pub(crate) struct Faces {
-    pub(crate) starts: Vec<u32>,
-    pub(crate) corners: Vec<u32>,
-    pub(crate) texture_corners: Vec<u32>,
-}
-
-/// The tags, in the order of the text.
-#[derive(Drop)]
-pub(crate) struct Tags {
-    pub(crate) creases: Vec<Crease>,
-    pub(crate) corners: Vec<CornerTag>,
-    pub(crate) holes: Vec<u32>,
-    pub(crate) boundary: Boundary,
-    pub(crate) method: Method,
 }
 
 impl Model for RawMesh {
@@ -86,7 +62,40 @@ fn piece<'a>(starts: &[u32], corners: &'a [u32], f: usize) -> &'a [u32]
     &corners[from..to]
 }
 
+impl Faces {
+    // Whether there is a face, and as many texture values are named as there are corners.
+    fn has_texture(&self) -> bool
+        ensures { result ≡ names_all_texture self.now }
+    {
+        self.starts.len() > 1 && self.texture_corners.len() == self.corners.len()
+    }
+}
+
 impl RawMesh {
+    /// The mesh of these coordinates, faces and tags. Nothing is tested, and no memory is taken.
+    ///
+    /// Each common denominator is from 1 to 10^37. The faces begin in ascending places and end with the corners,
+    /// of which there are fewer than 2^27. Each number of a corner, a texture corner or a tag is below the length
+    /// of the list that it counts.
+    pub fn of(coordinates: Coordinates, faces: Faces, tags: Tags) -> RawMesh
+        requires scale { (0 < coordinates.scale) × (coordinates.scale ≤ 10 ^ 37) }
+        requires texture_scale { (0 < coordinates.texture_scale) × (coordinates.texture_scale ≤ 10 ^ 37) }
+        requires whole { IsWhole (length coordinates.points.items) (length coordinates.texture.items) false faces tags }
+        ensures mesh { result ≡ mesh_of_lists coordinates faces tags }
+        ensures laws { IsWithin result }
+    {
+        let has_texture = faces.has_texture();
+        RawMesh {
+            points: coordinates.points,
+            common: coordinates.scale,
+            texture: coordinates.texture,
+            texture_common: coordinates.texture_scale,
+            faces,
+            has_texture,
+            tags,
+        }
+    }
+
     /// The points, as numerators over the common denominator [`RawMesh::scale`]. Each has at most 37
     /// digits.
     pub fn points(&self) -> &[Point3]
@@ -163,7 +172,7 @@ impl RawMesh {
         self.tags.method
     }
 
-    /// The creases in the order of the text, a chain as its pairs. A pair need not be an edge, and
+    /// The creases in the order given, a chain as its pairs. A pair need not be an edge, and
     /// the last for an edge counts.
     pub fn creases(&self) -> &[Crease]
         ensures { map crease_of result.now ≡ self.now.creases }
@@ -171,14 +180,14 @@ impl RawMesh {
         self.tags.creases.as_slice()
     }
 
-    /// The corner tags in the order of the text. The last for a vertex counts.
+    /// The corner tags in the order given. The last for a vertex counts.
     pub fn corner_tags(&self) -> &[CornerTag]
         ensures { map corner_tag_of result.now ≡ self.now.corner_tags }
     {
         self.tags.corners.as_slice()
     }
 
-    /// The faces that are holes, in the order of the text.
+    /// The faces that are holes, in the order given.
     pub fn holes(&self) -> &[u32]
         ensures { result.now ≡ self.now.holes }
     {

@@ -1,6 +1,6 @@
 use Rattle.std.proofs.Common.{◌≡◌, ◌*◌, map}
 use Rattle.std.specs.List.{range_with_len}
-use Rattle.obj_tags.proofs.made.quad_starts.Given as goal
+use Rattle.raw_mesh.proofs.made.quad_starts.Given as goal
 
 -- the places of the quads so far
 abbrev pub invariant-loop-k : goal.invariant-loop-k

@@ -6,7 +6,7 @@ use Rattle.std.proofs.lemmas.List.{append_assoc}
 use Rattle.std.proofs.lemmas.List.Concat.{length-flat_map}
 use Rattle.std.proofs.lemmas.List.Folds.{fold-map}
 use Rattle.std.proofs.lemmas.List.Sums.{sum_by-cons}
-use Rattle.obj_tags.specs.Mesh.{pieces, Ascend}
+use Rattle.raw_mesh.specs.Mesh.{pieces, Ascend}
 
 pub length-pieces : (starts xs : List ℕ) → length (pieces starts xs) ≡ length starts - 1
 length-pieces [] xs = refl

@@ -1,6 +1,6 @@
 use Rattle.std.proofs.Common.{◌≡◌, arith, length, vec_len, rules}
-use Rattle.obj_tags.proofs.PiecesLemmas.{length-pieces}
-use Rattle.obj_tags.proofs.mesh.RawMesh.faces.Goals as goal
+use Rattle.raw_mesh.proofs.PiecesLemmas.{length-pieces}
+use Rattle.raw_mesh.proofs.mesh.RawMesh.faces.Goals as goal
 
 pub returns : goal.returns
 returns c =

@@ -1,16 +1,17 @@
 -- A mesh that is kept in whole lists has its numbers within the lists that they count.
-use Rattle.std.proofs.Common.{◌≡◌, ℕ, ◌+◌, ◌-◌, ◌^◌, ◌<◌, ◌≤◌, Bool, true, false, if◌then◌else◌, List, [], ◌∷◌, length, map, arith, refl, ap, sym, ◌∙◌, slice_range, drop}
+use Rattle.std.proofs.Common.{◌≡◌, ℕ, ◌+◌, ◌-◌, ◌^◌, ◌<◌, ◌≤◌, Bool, true, false, if◌then◌else◌, List, [], ◌∷◌, length, map, arith, refl, ap, sym, ◌∙◌, slice_range, drop, nat_lt}
 use Rattle.std.specs.List.{All, sum_by}
+use Rattle.std.proofs.lemmas.Bool.{and_parts, eqb-true}
 use Rattle.std.proofs.lemmas.List.{length-map}
 use Rattle.std.proofs.lemmas.List.Elements.{All-nil, All-cons, All-map, All-weaker, All-take, All-drop}
-use Rattle.obj_tags.specs.Mesh.{pieces, Ascend, IsWhole, mesh_of}
-use Rattle.obj_tags.specs.Laws.{IsWithin}
-use Rattle.obj_tags.specs.View.{point_of, texture_of, crease_of, corner_tag_of}
+use Rattle.raw_mesh.specs.Mesh.{pieces, Ascend, names_all_texture, IsWhole, mesh_of}
+use Rattle.raw_mesh.specs.Laws.{IsWithin}
+use Rattle.raw_mesh.specs.View.{point_of, texture_of, crease_of, corner_tag_of}
 use Rattle.ratio128.specs.declared.point.Point3.{Point3}
 use Rattle.ratio128.specs.declared.point.Point2.{Point2}
-use Rattle.obj_tags.specs.declared.mesh.Faces.{Faces}
-use Rattle.obj_tags.specs.declared.mesh.Tags.{Tags}
-use Rattle.obj_tags.proofs.PiecesLemmas.{length-pieces, sum_by-pieces, length-range, head_below}
+use Rattle.raw_mesh.specs.declared.mesh.Faces.{Faces}
+use Rattle.raw_mesh.specs.declared.tags.Tags.{Tags}
+use Rattle.raw_mesh.proofs.PiecesLemmas.{length-pieces, sum_by-pieces, length-range, head_below}
 
 -- each piece of a list has what each of its elements has
 pieces-all : (P : ℕ → Type 0) (starts xs : List ℕ) → All P xs → All (λ piece. All P piece) (pieces starts xs)
@@ -70,4 +71,20 @@ within points common texture texture_common faces has_texture tags positive shor
       corner_tags = All-map (λ c. c.0 < length (map point_of points)) corner_tag_of tags.corners.items (All-weaker (λ c. c.vertex < length points) (λ c. c.vertex < length (map point_of points)) (λ c h. omega (arith, h, as_points)) tags.corners.items whole.corner_vertices);
       holes = All-weaker (λ f. f + 1 < length faces.starts.items) (λ f. f < length polygons) (λ f h. omega (arith, h, as_faces)) tags.holes.items whole.hole_faces;
       few_corners = omega (arith, whole.short, pieces-short faces.starts.items faces.corners.items whole.ascend);
+    }
+
+-- lists that are whole are so beside whether all corners have a texture value
+pub whole-mesh : (points values : ℕ) (has : Bool) (faces : Faces) (tags : Tags) → IsWhole points values false faces tags
+    → has ≡ names_all_texture faces → IsWhole points values has faces tags
+whole-mesh points values has faces tags whole e_has =
+    record {
+      ascend = whole.ascend;
+      few = whole.few;
+      short = whole.short;
+      same = λ e. eqb-true _ _ (and_parts (nat_lt 1 (length faces.starts.items)) _ (sym e_has ∙ e)).1;
+      vertices = whole.vertices;
+      texture = whole.texture;
+      crease_ends = whole.crease_ends;
+      corner_vertices = whole.corner_vertices;
+      hole_faces = whole.hole_faces;
     }

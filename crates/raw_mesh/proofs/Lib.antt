@@ -1,0 +1,3 @@
+pub mod PiecesLemmas
+pub mod LawLemmas
+pub mod QuadLemmas

@@ -1,0 +1,5 @@
+pub mod View
+pub mod Mesh
+pub mod Laws
+pub mod Made
+pub mod Short
