@@ -1,3 +1,5 @@
 pub mod PiecesLemmas
 pub mod LawLemmas
 pub mod QuadLemmas
+pub mod StartLemmas
+pub mod PartLemmas

@@ -3,3 +3,5 @@ pub mod Mesh
 pub mod Laws
 pub mod Made
 pub mod Short
+pub mod Starts
+pub mod Parts

@@ -1,0 +1,101 @@
+ghost use Rattle.std.specs.Prelude.{◌≡◌};
+
+use std::alloc::{AllocError, AllocFailed};
+use std::fmt;
+
+/// What is wrong with the parts of a mesh. A place is that of an item in its array, counted from 0.
+#[derive(Clone, Copy, Debug, PartialEq, Eq)]
+pub enum BadPart {
+    /// The common denominator of the points is not from 1 to 10^37.
+    PointScale,
+    /// The common denominator of the texture values is not from 1 to 10^37.
+    TextureScale,
+    /// The point at this place has a numerator of 10^37 or more in amount.
+    Point(usize),
+    /// The texture value at this place has a numerator of 10^37 or more in amount.
+    TextureValue(usize),
+    /// There are more than 2^28 faces.
+    FaceCount,
+    /// There are 2^27 corners or more.
+    CornerCount,
+    /// The numbers of corners of all faces do not add up to the number of corners.
+    FaceSizes,
+    /// There are texture corners, and not as many as corners.
+    TextureCornerCount,
+    /// The corner at this place names no point.
+    Corner(usize),
+    /// The texture corner at this place names no texture value.
+    TextureCorner(usize),
+    /// An end of the crease at this place names no point.
+    Crease(usize),
+    /// The corner tag at this place names no point.
+    CornerTag(usize),
+    /// The hole at this place names no face.
+    Hole(usize),
+}
+
+impl fmt::Display for BadPart {
+    fn fmt<W: fmt::Write>(&self, f: &mut fmt::Formatter<W>) -> fmt::Result {
+        match *self {
+            BadPart::PointScale => f.write_str("the scale of the points is not from 1 to 10^37"),
+            BadPart::TextureScale => {
+                f.write_str("the scale of the texture values is not from 1 to 10^37")
+            }
+            BadPart::Point(place) => write!(f, "point {place} is too long"),
+            BadPart::TextureValue(place) => write!(f, "texture value {place} is too long"),
+            BadPart::FaceCount => f.write_str("more than 2^28 faces"),
+            BadPart::CornerCount => f.write_str("2^27 corners or more"),
+            BadPart::FaceSizes => f.write_str("the faces do not take all corners"),
+            BadPart::TextureCornerCount => { f.write_str("not as many texture corners as corners") }
+            BadPart::Corner(place) => write!(f, "corner {place} names no point"),
+            BadPart::TextureCorner(place) => {
+                write!(f, "texture corner {place} names no texture value")
+            }
+            BadPart::Crease(place) => write!(f, "crease {place} names no point"),
+            BadPart::CornerTag(place) => write!(f, "corner tag {place} names no point"),
+            BadPart::Hole(place) => write!(f, "hole {place} names no face"),
+        }
+    }
+}
+
+impl std::error::Error for BadPart {}
+
+/// Why no mesh was made of its parts.
+#[derive(Clone, Copy, Debug, PartialEq, Eq)]
+pub enum PartsFault {
+    /// A part is refused.
+    Bad(BadPart),
+    /// Memory ran out.
+    Memory,
+}
+
+impl fmt::Display for PartsFault {
+    fn fmt<W: fmt::Write>(&self, f: &mut fmt::Formatter<W>) -> fmt::Result {
+        match self {
+            PartsFault::Bad(bad) => write!(f, "{bad}"),
+            PartsFault::Memory => f.write_str("out of memory"),
+        }
+    }
+}
+
+impl std::error::Error for PartsFault {}
+
+impl From<AllocError> for PartsFault {
+    ghost use Rattle.raw_mesh.specs.declared.fault.PartsFault.TheVariants.{Memory};
+
+    ghost from_gives = { λ _ e. e ≡ Memory };
+
+    fn from(_: AllocError) -> PartsFault {
+        PartsFault::Memory
+    }
+}
+
+impl<T: Drop> From<AllocFailed<T>> for PartsFault {
+    ghost use Rattle.raw_mesh.specs.declared.fault.PartsFault.TheVariants.{Memory};
+
+    ghost from_gives = { λ _ e. e ≡ Memory };
+
+    fn from(_: AllocFailed<T>) -> PartsFault {
+        PartsFault::Memory
+    }
+}

@@ -1,0 +1,81 @@
+//! Meshes that are made of plain arrays.
+
+ghost use Rattle.std.specs.Prelude.{◌≡◌, ◌+◌, ◌<◌, ◌^◌, length, sum, None, IfOk, MatchResult};
+ghost use Rattle.std.specs.List.{All};
+ghost use Rattle.raw_mesh.specs.Laws.{IsWithin};
+ghost use Rattle.raw_mesh.specs.Parts.{bad_part, mesh_of_parts, IsPartsFault};
+ghost use Rattle.raw_mesh.specs.Short.{IsShortPoint, IsShortTexture};
+ghost use Rattle.raw_mesh.specs.Starts.{starts_from};
+
+use crate::bad_part::first_bad_part;
+use crate::fault::PartsFault;
+use crate::mesh::{Coordinates, Faces, RawMesh};
+use crate::tags::Tags;
+use std::alloc::{AllocError, Global};
+
+/// The parts of a mesh in plain arrays. Points, texture values and faces are counted from 0.
+#[derive(Drop)]
+pub struct MeshParts {
+    pub coordinates: Coordinates,
+    /// Of each face, how many corners it has.
+    pub face_sizes: Vec<u32>,
+    /// The vertices of the corners of all faces, one face after the other.
+    pub corners: Vec<u32>,
+    /// The texture values of these corners; empty where the mesh has no texture.
+    pub texture_corners: Vec<u32>,
+    pub tags: Tags,
+}
+
+// Where each face of these sizes begins, and where the last one ends.
+fn starts_of(alloc: Global, sizes: &[u32]) -> Result<Vec<u32>, AllocError>
+    requires { sum sizes.now < 2 ^ 27 }
+    ensures { IfOk result (λ starts. starts.items ≡ starts_from 0 sizes.now) }
+{
+    let mut starts = Vec::with_capacity(alloc, sizes.len() + 1)?;
+    let mut place = 0;
+    for size in sizes {
+        starts.push(place)?;
+        place += *size;
+    }
+    starts.push(place)?;
+    Ok(starts)
+}
+
+// The mesh of parts with which nothing is wrong.
+fn mesh_of_good(alloc: Global, parts: MeshParts) -> Result<RawMesh, AllocError>
+    requires { bad_part parts ≡ None }
+    ensures mesh { IfOk result (λ mesh. mesh ≡ mesh_of_parts parts) }
+    ensures laws { IfOk result (λ mesh. IsWithin mesh) }
+    ensures short { IfOk result (λ mesh. All IsShortPoint mesh.points) }
+    ensures texture_short { IfOk result (λ mesh. All IsShortTexture mesh.texture) }
+{
+    let starts = starts_of(alloc, &parts.face_sizes)?;
+    let faces = Faces {
+        starts,
+        corners: parts.corners,
+        texture_corners: parts.texture_corners,
+    };
+    Ok(RawMesh::of(parts.coordinates, faces, parts.tags))
+}
+
+impl RawMesh {
+    /// The mesh of these parts. It has texture where there is a face, and a texture corner for each corner.
+    ///
+    /// The error is `Bad` with the first of these that is wrong, each looked for in its whole array before the
+    /// next: the scale of the points and that of the texture values, a point, a texture value, how many faces and
+    /// how many corners there are, whether the faces take all corners, how many texture corners there are, a
+    /// corner, a texture corner, a crease, a corner tag, and a hole. It is `Memory` where memory ran out. The
+    /// array of where faces begin is all that takes memory.
+    pub fn from_parts(alloc: Global, parts: MeshParts) -> Result<RawMesh, PartsFault>
+        ensures made { MatchResult result (λ mesh. (bad_part parts ≡ None) × (mesh ≡ mesh_of_parts parts))
+            (λ fault. IsPartsFault fault (bad_part parts)) }
+        ensures laws { IfOk result (λ mesh. IsWithin mesh) }
+        ensures short { IfOk result (λ mesh. All IsShortPoint mesh.points) }
+        ensures texture_short { IfOk result (λ mesh. All IsShortTexture mesh.texture) }
+    {
+        if let Some(bad) = first_bad_part(&parts) {
+            return Err(PartsFault::Bad(bad));
+        }
+        Ok(mesh_of_good(alloc, parts)?)
+    }
+}
