@@ -3,7 +3,8 @@ ghost use Rattle.std.specs.Prelude.{◌≡◌};
 use std::alloc::{AllocError, AllocFailed};
 use std::fmt;
 
-/// What is wrong with the parts of a mesh. A place is that of an item in its array, counted from 0.
+/// What is wrong with the parts of a mesh. They are tried in the order of these variants, each over its whole
+/// array. A place is that of an item in its array, counted from 0.
 #[derive(Clone, Copy, Debug, PartialEq, Eq)]
 pub enum BadPart {
     /// The common denominator of the points is not from 1 to 10^37.
@@ -41,11 +42,16 @@ impl fmt::Display for BadPart {
             BadPart::TextureScale => {
                 f.write_str("the scale of the texture values is not from 1 to 10^37")
             }
-            BadPart::Point(place) => write!(f, "point {place} is too long"),
-            BadPart::TextureValue(place) => write!(f, "texture value {place} is too long"),
+            BadPart::Point(place) => write!(f, "point {place} has more than 37 digits"),
+            BadPart::TextureValue(place) => write!(
+                f,
+                "texture value {place} has more than 37 digits"
+            ),
             BadPart::FaceCount => f.write_str("more than 2^28 faces"),
             BadPart::CornerCount => f.write_str("2^27 corners or more"),
-            BadPart::FaceSizes => f.write_str("the faces do not take all corners"),
+            BadPart::FaceSizes => f.write_str(
+                "the face sizes do not add up to the number of corners",
+            ),
             BadPart::TextureCornerCount => { f.write_str("not as many texture corners as corners") }
             BadPart::Corner(place) => write!(f, "corner {place} names no point"),
             BadPart::TextureCorner(place) => {

@@ -96,8 +96,8 @@ impl RawMesh {
         }
     }
 
-    /// The points, as numerators over the common denominator [`RawMesh::scale`]. Each has at most 37
-    /// digits.
+    /// The points, as numerators over the common denominator [`RawMesh::scale`]. Those of a mesh that was
+    /// read or made of parts have at most 37 digits.
     pub fn points(&self) -> &[Point3]
         ensures { map point_of result.now ≡ self.now.points }
     {
@@ -111,8 +111,8 @@ impl RawMesh {
         self.common
     }
 
-    /// The texture values, as numerators over the common denominator [`RawMesh::texture_scale`]. Each has
-    /// at most 37 digits.
+    /// The texture values, as numerators over the common denominator [`RawMesh::texture_scale`]. Those of
+    /// a mesh that was read or made of parts have at most 37 digits.
     pub fn texture(&self) -> &[Point2]
         ensures { map texture_of result.now ≡ self.now.texture }
     {

@@ -61,11 +61,11 @@ fn mesh_of_good(alloc: Global, parts: MeshParts) -> Result<RawMesh, AllocError>
 impl RawMesh {
     /// The mesh of these parts. It has texture where there is a face, and a texture corner for each corner.
     ///
-    /// The error is `Bad` with the first of these that is wrong, each looked for in its whole array before the
-    /// next: the scale of the points and that of the texture values, a point, a texture value, how many faces and
-    /// how many corners there are, whether the faces take all corners, how many texture corners there are, a
-    /// corner, a texture corner, a crease, a corner tag, and a hole. It is `Memory` where memory ran out. The
-    /// array of where faces begin is all that takes memory.
+    /// The error is `Bad` with the first part that is wrong, in the order of the variants of [`BadPart`]; of one
+    /// kind it is the least place. It is `Memory` where memory ran out. Only the array of where faces begin takes
+    /// memory.
+    ///
+    /// [`BadPart`]: crate::BadPart
     pub fn from_parts(alloc: Global, parts: MeshParts) -> Result<RawMesh, PartsFault>
         ensures made { MatchResult result (λ mesh. (bad_part parts ≡ None) × (mesh ≡ mesh_of_parts parts))
             (λ fault. IsPartsFault fault (bad_part parts)) }
