@@ -34,6 +34,8 @@ mod numbers;
 #[cfg(test)]
 mod numerals;
 #[cfg(test)]
+mod parts;
+#[cfg(test)]
 mod runs;
 #[cfg(test)]
 mod tables;
