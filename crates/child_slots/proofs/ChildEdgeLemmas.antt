@@ -9,14 +9,14 @@ use Rattle.subdiv_model.specs.Child.{child_polygons}
 use Rattle.level_laws.proofs.FaceLemmas.{child_polygons-length}
 use Rattle.mesh_laws.proofs.ChildCornerLemmas.{side-named}
 use Rattle.level_topology.specs.Topology.{Topology, IsTopology, face_edges_of}
-use Rattle.level_topology.specs.BuilderEdges.{IsNumbering, number_in}
-use Rattle.level_topology.proofs.AcrossLemmas.{numbered-ends}
 use Rattle.child_slots.specs.Slots.{first_child, quad_at, slots_at}
 use Rattle.child_slots.specs.Slotted.{Slotted, number_at}
 use Rattle.child_slots.specs.Walked.{IsSlot, numbered_of, AreChildEdges}
 use Rattle.child_slots.proofs.SlotLemmas.{over-of}
 use Rattle.child_slots.proofs.QuadLemmas.{child-quad, sides-slots, face-below, all-four}
 use Rattle.child_slots.proofs.WalkLemmas.{HasSlots, slot-known}
+use Rattle.level_topology.specs.Numbering.{IsNumbering, number_in}
+use Rattle.level_topology.proofs.NumberingLemmas.{numbered-ends}
 
 -- each corner of a quad has a side to the next one
 pub quad-side : (a b d e : ℕ) → (has_side (a, b) (a ∷ b ∷ d ∷ e ∷ []) ≡ true) × (has_side (b, d) (a ∷ b ∷ d ∷ e ∷ []) ≡ true) × (has_side (d, e) (a ∷ b ∷ d ∷ e ∷ []) ≡ true) × (has_side (e, a) (a ∷ b ∷ d ∷ e ∷ []) ≡ true)

@@ -19,12 +19,12 @@ use Rattle.mesh_laws.proofs.FanLemmas.{owner-unique}
 use Rattle.mesh_laws.proofs.ChildFaceLemmas.{all-child, child-simple}
 use Rattle.mesh_laws.proofs.ChildOnceLemmas.{child-times}
 use Rattle.mesh_laws.proofs.ChildPlaceLemmas.{own-sides}
-use Rattle.level_topology.specs.BuilderEdges.{number_in, with_side, with_sides, IsNumbering}
-use Rattle.level_topology.proofs.BuilderFaceLemmas.{numbering-sides, numbering-face}
 use Rattle.child_slots.specs.Slots.{slot_count}
 use Rattle.child_slots.specs.Slotted.{Slotted, number_at, with_slot, with_slots}
 use Rattle.child_slots.specs.Walked.{IsSlot, IsWalked, numbered_of}
 use Rattle.child_slots.proofs.SlotTellLemmas.{slots-tell}
+use Rattle.level_topology.specs.Numbering.{number_in, with_side, with_sides, IsNumbering}
+use Rattle.level_topology.proofs.NumberingLemmas.{numbering-sides, numbering-face}
 
 -- where slots tell sides, a slot is among others exactly where its side is, and at the same place
 pub told-alike : (a : ℕ) (s : ℕ × ℕ) (slots : List ℕ) (ends : List (ℕ × ℕ)) → length slots ≡ length ends → ((e : ℕ) → e < length ends → nat_eq a (get_or slots e 0) ≡ same_edge s (get_or ends e (0, 0))) → (is_among slots a ≡ list_any (same_edge s) ends) × (number_at slots a ≡ number_in ends s)

@@ -2,7 +2,7 @@
 use Rattle.std.specs.Prelude.{ℕ, ◌≡◌, ◌^◌, ◌≤◌, nat_eq, List, [], ◌∷◌, ◌++◌, length, get_or, if◌then◌else◌}
 use Rattle.std.specs.List.{position_or_len}
 use Rattle.subdiv_model.specs.Polygons.{is_among}
-use Rattle.level_topology.specs.BuilderEdges.{with_last_face}
+use Rattle.level_topology.specs.Numbering.{with_last_face}
 use Rattle.level_topology.specs.ChildTables.{IsInverse}
 
 -- how many slots there may be, and for each edge its slot, its ends in the direction of its first appearance, and its first

@@ -7,9 +7,9 @@ use Rattle.subdiv_model.specs.Child.{child_polygons, face_point}
 use Rattle.subdiv_model.specs.Sharpness.{Smooth}
 use Rattle.subdiv_model.specs.Level.{Level}
 use Rattle.level_topology.specs.Topology.{edge_at}
-use Rattle.level_topology.specs.BuilderEdges.{Numbered, numbered, IsNumbering}
 use Rattle.child_slots.specs.Slots.{half_slot, inner_slot, slot_count, numbered_edge_point, edge_from}
 use Rattle.child_slots.specs.Slotted.{Slotted}
+use Rattle.level_topology.specs.Numbering.{Numbered, numbered, IsNumbering}
 
 -- the slot is that of a half of an edge, and the side is that half, in either direction
 pub record IsHalf (points : ℕ) (polygons : List Polygon) (slot : ℕ) (side : ℕ × ℕ) : Type 0 where

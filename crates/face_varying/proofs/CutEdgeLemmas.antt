@@ -15,7 +15,7 @@ use Rattle.mesh_laws.proofs.FanLemmas.{places-at, side-start, side-end}
 use Rattle.mesh_laws.proofs.ClosedLemmas.{any-side-edge}
 use Rattle.mesh_laws.proofs.TurnedLemmas.{among-map}
 use Rattle.level_topology.specs.Topology.{side_at}
-use Rattle.level_topology.proofs.BuilderFaceLemmas.{faces-alike}
+use Rattle.level_topology.proofs.NumberingLemmas.{faces-alike}
 use Rattle.level_topology.proofs.PlaceLemmas.{side-there}
 use Rattle.texture_laws.specs.CutMesh.{cut_faces, point_of, vertex_of, vertices_of}
 use Rattle.texture_laws.proofs.ChannelLemmas.{any-mapped, channel-vertex, cut-at, cut-whole}

@@ -13,7 +13,7 @@ use Rattle.subdiv_model.specs.Base.{base_level, is_at_boundary}
 use Rattle.subdiv_model.specs.Cut.{SmoothSeams, CornerSeams, BoundarySeams, channel_point, channel_points, stays_sharp}
 use Rattle.mesh_laws.proofs.Laws.{all-simple}
 use Rattle.level_topology.specs.Topology.{face_edges_of, side_at, corner_after}
-use Rattle.level_topology.proofs.BuilderFaceLemmas.{faces-alike}
+use Rattle.level_topology.proofs.NumberingLemmas.{faces-alike}
 use Rattle.level_topology.proofs.LawLemmas.{edges-as-many}
 use Rattle.mesh_check.proofs.BaseMarkLemmas.{corners-faces}
 use Rattle.texture_laws.specs.CutMesh.{cut_faces, cut_point_count}

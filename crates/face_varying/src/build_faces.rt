@@ -2,12 +2,13 @@
 
 ghost use Rattle.std.specs.Prelude.{◌≡◌, ◌+◌, ◌≤◌, ◌^◌, length, IfOk, OnOk};
 ghost use Rattle.std.specs.List.{sum_by};
-ghost use Rattle.level_topology.specs.Builder.{only_points};
+ghost use Rattle.level_builder.specs.Builder.{only_points};
 ghost use Rattle.mesh_check.specs.Base.{smooth_built};
 ghost use Rattle.face_varying.specs.Built.{AreFit, cut_by};
 
 use crate::cut_faces::cut_face;
-use level_topology::{Level, LevelBuilder};
+use level_builder::LevelBuilder;
+use level_topology::Level;
 use ratio128::{Memory, Steps};
 use std::alloc::Global;
 use std::hash::{DefaultHasher, Hasher};

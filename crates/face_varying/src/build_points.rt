@@ -5,7 +5,8 @@ ghost use Rattle.std.specs.List.{All};
 ghost use Rattle.sharpness_rules.specs.View.{sharpness_of};
 ghost use Rattle.face_varying.specs.Built.{point_sharpness, with_points};
 
-use level_topology::{Level, LevelBuilder};
+use level_builder::LevelBuilder;
+use level_topology::Level;
 use sharpness_rules::Sharpness;
 
 // How sharp a point is: infinitely where it is kept so, and else as its vertex.

@@ -8,7 +8,8 @@ ghost use Rattle.sharpness_rules.specs.View.{sharpness_of};
 ghost use Rattle.face_varying.specs.Built.{cut_by, face_sides, side_sharpness, sides_before, with_side, with_sides};
 
 use crate::cut_faces::{corner_after, cut_face};
-use level_topology::{Level, LevelBuilder};
+use level_builder::LevelBuilder;
+use level_topology::Level;
 use sharpness_rules::Sharpness;
 
 // How sharp a side is whose edge in the mesh has this number: infinitely where the faces there are apart.

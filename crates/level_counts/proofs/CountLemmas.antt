@@ -6,7 +6,7 @@ use Rattle.std.proofs.lemmas.List.FromFn.{length-range_with_len}
 use Rattle.std.proofs.lemmas.List.Sums.{count_by-le-length, count_by_more_yes, count_by_more_no}
 use Rattle.std.proofs.lemmas.List.{take_all, length-take}
 use Rattle.number_laws.proofs.CountLemmas.{one_if, count-append, count-cons}
-use Rattle.level_topology.proofs.BuilderPlaceLemmas.{push-range}
+use Rattle.level_topology.proofs.ListPlaceLemmas.{push-range}
 
 as-number : (b : Bool) → from_bool b ≡ one_if b
 as-number true = refl

@@ -3,7 +3,7 @@ use Rattle.std.proofs.Common.{◌≡◌, ℕ, ◌+◌, ◌<◌, Bool, true, fals
 use Rattle.std.proofs.lemmas.List.{take_more, length-take, length-map, map-append}
 use Rattle.subdiv_model.specs.Polygons.{Polygon}
 use Rattle.subdiv_model.specs.Lists.{places}
-use Rattle.level_topology.proofs.BuilderFaceLemmas.{places-push}
+use Rattle.level_topology.proofs.NumberingLemmas.{places-push}
 use Rattle.level_tests.specs.Faces.{corners_of}
 
 -- one more face, whose number is put after the others where it passes

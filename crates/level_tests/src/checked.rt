@@ -4,13 +4,13 @@ ghost use Rattle.std.specs.Prelude.{◌≡◌, ◌≤◌, ◌<◌, ℕ, nat_lt, 
 ghost use Rattle.std.specs.List.{All, list_all};
 ghost use Rattle.subdiv_model.specs.Polygons.{Polygon};
 ghost use Rattle.subdiv_model.specs.Manifold.{is_simple};
-ghost use Rattle.level_topology.specs.Builder.{AreFans, has_new_sides};
+ghost use Rattle.level_builder.specs.Builder.{AreFans, has_new_sides};
 ghost use Rattle.level_tests.specs.Faces.{corners_of, IsUnmarked};
 
 use crate::fans::{has_edge, has_new_sides, has_one_fan, is_simple};
 use crate::meshes::{Mesh, sharpness_of};
 use crate::solids::{Fraction, SharpEdge};
-use level_topology::LevelBuilder;
+use level_builder::LevelBuilder;
 use ratio128::{Memory, Steps};
 use std::alloc::Global;
 use std::process::Abort;

@@ -1,12 +1,13 @@
 // Meshes of tables, and their levels by a builder.
 
 ghost use Rattle.std.specs.Prelude.{◌≡◌, ◌<◌, [], IfOk, OnOk};
-ghost use Rattle.level_topology.specs.Builder.{AreFans};
+ghost use Rattle.level_builder.specs.Builder.{AreFans};
 ghost use Rattle.level_tests.specs.Faces.{IsUnmarked};
 
 use crate::checked::fill;
 use crate::solids::{Fraction, INFINITE, SharpEdge, Solid, TOP, ZERO};
-use level_topology::{Level, LevelBuilder};
+use level_builder::LevelBuilder;
+use level_topology::Level;
 use ratio128::{Memory, Steps};
 use sharpness_rules::{Method, Sharpness};
 use std::alloc::Global;

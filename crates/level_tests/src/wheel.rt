@@ -2,13 +2,14 @@
 
 ghost use Rattle.std.specs.Prelude.{◌≡◌, ◌+◌, ◌<◌, ◌≤◌, ◌^◌, [], OnOk};
 ghost use Rattle.subdiv_model.specs.Sharpness.{Normal};
-ghost use Rattle.level_topology.specs.Builder.{AreFans, only_points};
+ghost use Rattle.level_builder.specs.Builder.{AreFans, only_points};
 ghost use Rattle.level_tests.specs.Wheel.{open_wheel};
 
 use crate::expect::expect_same;
 use crate::mask_tables::mask_of_vertex;
 use crate::meshes::finish;
-use level_topology::{Level, LevelBuilder};
+use level_builder::LevelBuilder;
+use level_topology::Level;
 use mask_rules::{At, MaskFault, Scheme, Term, VertexMask};
 use ratio128::{Memory, Steps};
 use sharpness_rules::Method;

@@ -1,6 +1,6 @@
 -- Codes of kept sharpness.
-use Rattle.std.proofs.Common.{◌≡◌, ℕ, suc, ◌<◌, ◌⊎◌, inl, inr, List, [], ◌∷◌, ◌++◌, length, map, get_or, arith, refl, ap, ◌∙◌}
-use Rattle.std.proofs.lemmas.List.{map_push, get_or_append_left, length-map}
+use Rattle.std.proofs.Common.{◌≡◌, ℕ, suc, ◌+◌, ◌<◌, ◌⊎◌, inl, inr, List, [], ◌∷◌, ◌++◌, length, map, take, get_or, arith, refl, ap, sym, ◌∙◌}
+use Rattle.std.proofs.lemmas.List.{map_push, map-append, take_more, get_or_append_left, length-map}
 use Rattle.subdiv_model.specs.Sharpness.{Sharpness, Smooth}
 use Rattle.sharpness_rules.specs.declared.sharpness.Sharpness as declared
 use Rattle.sharpness_rules.specs.View.{sharpness_of}
@@ -32,3 +32,10 @@ code-inside values codes i said is inside = omega (arith, inside, ap length is, 
 -- there are fewer codes than there may be
 pub fewer : (values : List Sharpness) (codes : List ℕ) (limit : ℕ) (said : Kept) → kept (decoded values codes) limit ≡ said → length said.sharpness < said.limit → length codes < limit
 fewer values codes limit said is less = omega (arith, less, ap (λ (k : Kept). length k.sharpness) is, ap (λ (k : Kept). k.limit) is, length-map codes (λ code. get_or values code Smooth))
+
+-- a sharpness more
+pub kept-more : (values : List declared.Sharpness) (i limit : ℕ) (s : declared.Sharpness) (old new : Kept) → i < length values → old ≡ kept (map sharpness_of (take i values)) limit → s ≡ get_or values i s → new ≡ kept (old.sharpness ++ sharpness_of s ∷ []) old.limit → new ≡ kept (map sharpness_of (take (i + 1) values)) limit
+kept-more values i limit s old new inside e is f =
+    f ∙ ap (λ (k : Kept). kept (k.sharpness ++ sharpness_of s ∷ []) k.limit) e
+    ∙ ap (λ t. kept (map sharpness_of (take i values) ++ sharpness_of t ∷ []) limit) is
+    ∙ ap (λ xs. kept xs limit) (sym (ap (map sharpness_of) (take_more values i s inside) ∙ map-append sharpness_of (take i values) (get_or values i s ∷ [])))

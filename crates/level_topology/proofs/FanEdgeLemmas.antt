@@ -21,7 +21,7 @@ use Rattle.mesh_laws.proofs.ChildCornerLemmas.{side-named}
 use Rattle.mesh_laws.proofs.TurnedLemmas.{among-map, map-among, map-distinct}
 use Rattle.mesh_laws.proofs.Laws.{listed-as-side}
 use Rattle.level_topology.specs.Topology.{IsFan, edge_at, edge_after, edge_before, edge_numbers_at}
-use Rattle.level_topology.specs.BuilderFan.{IsFanFrom, last_face}
+use Rattle.level_topology.specs.PointRows.{IsFanFrom, last_face}
 use Rattle.level_topology.proofs.PlaceLemmas.{places-item, places-ascend}
 use Rattle.level_topology.proofs.LawLemmas.{ascend-distinct, numbers-at, own-number}
 use Rattle.level_topology.proofs.FanOrderLemmas.{among-at, same-permutation, path-at}

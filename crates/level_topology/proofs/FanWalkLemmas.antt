@@ -19,7 +19,7 @@ use Rattle.mesh_laws.proofs.FanLemmas.{faces-among, follower-unique, leader-uniq
 use Rattle.mesh_laws.proofs.WalkLemmas.{same-tests}
 use Rattle.mesh_laws.proofs.ChildPlaceLemmas.{first-within}
 use Rattle.level_topology.specs.Topology.{corner_of, corner_before, corner_after, side_at, edge_after, edge_before, face_edges_of}
-use Rattle.level_topology.specs.BuilderFan.{IsFanFrom}
+use Rattle.level_topology.specs.PointRows.{IsFanFrom}
 use Rattle.level_topology.proofs.PlaceLemmas.{side-there, places-ascend, distinct-permutation}
 use Rattle.level_topology.proofs.LawLemmas.{ascend-distinct}
 use Rattle.level_topology.proofs.FanOrderLemmas.{among-split, among-at, same-permutation, path-at, path-turned, last-at}

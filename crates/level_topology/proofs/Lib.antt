@@ -6,15 +6,10 @@ pub mod LawLemmas
 pub mod ChildTableLemmas
 pub mod ChildLemmas
 pub mod ChildMadeLemmas
-pub mod BuilderEdgeLemmas
-pub mod BuilderFaceLemmas
+pub mod NumberingLemmas
 pub mod FanOrderLemmas
 pub mod FanWalkLemmas
 pub mod FanEdgeLemmas
-pub mod BuilderLemmas
-pub mod BuilderPlaceLemmas
-pub mod AcrossLemmas
+pub mod ListPlaceLemmas
 pub mod TurnLemmas
-pub mod PointPlaceLemmas
 pub mod PointRowLemmas
-pub mod FinishLemmas

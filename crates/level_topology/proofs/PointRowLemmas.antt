@@ -1,20 +1,14 @@
 -- The lists of points one after another, and the room that they take.
 use Rattle.std.proofs.Common.{subst, ◌≡◌, ◌≢◌, ℕ, ◌+◌, ◌<◌, ◌≤◌, Bool, true, false, nat_eq, nat_lt, List, [], ◌∷◌, ◌++◌, length, length-append, get_or, arith, refl, ap, sym, ◌∙◌}
 use Rattle.std.specs.List.{count_by, sum_by}
-use Rattle.std.specs.List.Sorted.{IsPermutation}
 use Rattle.std.proofs.lemmas.Bool.Decides.{nat_tests}
 use Rattle.std.proofs.lemmas.Bool.{eqb-true, eq-eqb}
-use Rattle.std.proofs.lemmas.List.{get_or_append_left, length-map}
+use Rattle.std.proofs.lemmas.List.{get_or_append_left}
 use Rattle.std.proofs.Math.Seq.{get_or-append_seam}
 use Rattle.std.proofs.lemmas.List.Sums.{sum_by-append}
-use Rattle.std.proofs.lemmas.List.Sorted.{length_permutation}
 use Rattle.subdiv_model.specs.Polygons.{Polygon}
-use Rattle.subdiv_model.specs.Lists.{places}
 use Rattle.number_laws.proofs.CountLemmas.{count-cons, one_if}
-use Rattle.number_laws.proofs.ListLemmas.{places-from-length}
-use Rattle.level_topology.specs.BuilderPlaces.{ArePlaces, lists_with}
-use Rattle.level_topology.specs.BuilderFan.{IsRow, AreRows}
-use Rattle.level_topology.proofs.BuilderPlaceLemmas.{joined-length}
+use Rattle.level_topology.specs.PointRows.{IsRow, AreRows}
 
 -- numbers below the next one
 pub below-more : (items : List ℕ) (v : ℕ) → count_by (λ x. nat_lt x (v + 1)) items ≡ count_by (λ x. nat_lt x v) items + count_by (nat_eq v) items
@@ -38,13 +32,6 @@ below-none [] = refl
 below-none (x ∷ items) =
     let here : one_if (nat_lt x 0) ≡ 0 = grind (arith, nat_tests) in
     omega (arith, below-none items, here, count-cons (λ y. nat_lt y 0) x items)
-
--- the lists at a point take the room of its places
-pub push-room : (lists : List Polygon) (items owners within : List ℕ) (v sum : ℕ) (row : List ℕ) → ArePlaces lists items owners within → sum ≡ count_by (λ x. nat_lt x v) items → IsPermutation (lists_with lists v) row → (sum + length row ≡ count_by (λ x. nat_lt x (v + 1)) items) × (sum + length row ≤ sum_by length lists)
-push-room lists items owners within v sum row is e moved =
-    let own : length row ≡ count_by (nat_eq v) items = length_permutation _ _ moved ∙ ap length (sym (is.owners_are v)) ∙ length-map (places (nat_eq v) items) (λ p. get_or owners p 0) ∙ places-from-length (nat_eq v) 0 items in
-    let total : length items ≡ sum_by length lists = ap length is.items_are ∙ joined-length lists in
-    (omega (arith, own, e, below-more items v), omega (arith, own, e, below-more items v, total, count-le (λ x. nat_lt x (v + 1)) items))
 
 pub sum-push : (lists lists' : List (List ℕ)) (row : List ℕ) → lists' ≡ lists ++ row ∷ [] → sum_by length lists' ≡ sum_by length lists + length row
 sum-push lists lists' row e = omega (arith, ap (sum_by length) e, sum_by-append length lists (row ∷ []))

@@ -6,8 +6,6 @@ pub mod View
 pub mod CountedText
 pub mod Child
 pub mod ChildTables
-pub mod BuilderEdges
-pub mod Builder
-pub mod BuilderPlaces
-pub mod PointPlaces
-pub mod BuilderFan
+pub mod Numbering
+pub mod ListPlaces
+pub mod PointRows

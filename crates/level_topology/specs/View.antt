@@ -3,7 +3,7 @@ use Rattle.std.specs.Prelude.{ℕ, ◌≡◌, ◌≤◌, nat_eq, List, [], ◌�
 use Rattle.std.specs.Vec.{vec_capacity}
 use Rattle.std.specs.Option.{option_to_list}
 use Rattle.level_topology.specs.declared.faces.EdgeFaces.{EdgeFaces}
-use Rattle.level_topology.specs.declared.tables.Tables.{Tables}
+use Rattle.level_topology.specs.declared.tables.LevelTables.{LevelTables}
 use Rattle.sharpness_rules.specs.View.{method_of}
 use Rattle.level_topology.specs.Rows.{Rows}
 
@@ -14,7 +14,7 @@ faces_of_pair pair = if nat_eq pair.0 pair.1 then pair.0 ∷ [] else pair.0 ∷ 
 abbrev pub listed : EdgeFaces → List ℕ
 listed faces = faces.first ∷ option_to_list faces.second
 
-abbrev pub rows_of : Tables → Rows
+abbrev pub rows_of : LevelTables → Rows
 rows_of t = record {
   counts = record {
     points = t.vertex_faces.list_limit;
@@ -40,7 +40,7 @@ rows_of t = record {
 }
 
 -- the lists of faces, of edges and of points are equally long each, and there is room for all that may come
-pub record HaveRoom (t : Tables) : Type 0 where
+pub record HaveRoom (t : LevelTables) : Type 0 where
   pub holes : length t.holes.items ≡ length t.faces.lists
   pub edge_vertices : length t.edge_vertices.items ≡ length t.edge_sharpness.sharpness
   pub edge_faces : length t.edge_faces.items ≡ length t.edge_sharpness.sharpness

@@ -8,10 +8,11 @@ ghost use Rattle.subdiv_model.specs.Sharpness.{Smooth};
 ghost use Rattle.sharpness_rules.specs.View.{sharpness_of, method_of};
 ghost use Rattle.level_topology.specs.Packed.{Ascend, gaps};
 ghost use Rattle.level_topology.specs.Topology.{IsTopology, edge_at, face_edges_of, corner_of, end_of};
-ghost use Rattle.level_topology.specs.View.{listed, faces_of_pair};
+ghost use Rattle.level_topology.specs.Rows.{AreOfLevel, topology_of};
+ghost use Rattle.level_topology.specs.View.{listed, faces_of_pair, rows_of};
 
 use crate::faces::EdgeFaces;
-use crate::tables::Tables;
+use crate::tables::LevelTables;
 use sharpness_rules::{Method, Sharpness};
 use std::marker::Model;
 
@@ -19,7 +20,7 @@ use std::marker::Model;
 /// the faces and the edges at each point. Its size never changes, and no accessor takes memory or searches.
 #[derive(Drop)]
 pub struct Level {
-    pub(crate) tables: Tables,
+    pub(crate) tables: LevelTables,
 }
 
 impl Model for Level {
@@ -44,6 +45,14 @@ fn faces_from(pair: (u32, u32)) -> EdgeFaces
 }
 
 impl Level {
+    /// The level with these tables. It copies none of them.
+    pub fn of_tables(tables: LevelTables) -> Level
+        requires { AreOfLevel (rows_of tables) }
+        ensures { result ≡ topology_of (rows_of tables) }
+    {
+        Level { tables }
+    }
+
     /// What holds of each level.
     pub fn facts(&self)
         ensures { IsTopology self.now }

@@ -1,30 +1,29 @@
-//! Levels: six incidence tables, and the tables into a child, built in linear time and read without a search.
+//! Levels: six incidence tables, and the tables into a child, put together in linear time and read without a search.
 #![tactic(auto)]
 
-mod builder;
-mod builder_edges;
-mod builder_fan;
-mod builder_finish;
-mod builder_places;
-mod builder_rows;
-mod builder_turn;
 mod child;
 pub mod child_laws;
 mod child_origin;
 mod child_tables;
+mod corners;
 mod counted;
 mod faces;
 pub mod laws;
 mod level;
-mod pairs;
+mod packed_lists;
+mod point_lists;
 mod rows;
-mod sharps;
+mod sharpness_list;
 mod tables;
 
-pub use builder::LevelBuilder;
 pub use child::Child;
 pub use child_origin::{FacePlace, Origin};
+pub use corners::{corner_after, corner_before};
 pub use counted::Counted;
 pub use faces::EdgeFaces;
 pub use level::Level;
+pub use packed_lists::PackedLists;
+pub use point_lists::PointLists;
 pub use rows::LevelRows;
+pub use sharpness_list::SharpnessList;
+pub use tables::LevelTables;

@@ -8,8 +8,8 @@ ghost use Rattle.level_topology.specs.View.{listed, faces_of_pair, rows_of};
 
 use crate::faces::EdgeFaces;
 use crate::level::Level;
-use crate::pairs::Pairs;
-use crate::tables::{Tables, edge_tables, face_tables, mark_tables};
+use crate::packed_lists::PackedLists;
+use crate::tables::{LevelTables, edge_tables, face_tables, mark_tables};
 use ratio128::{Memory, Steps};
 use sharpness_rules::{Method, Sharpness};
 use std::alloc::Global;
@@ -19,7 +19,7 @@ use std::sync::ledger::Ledger;
 /// The lists of a level, put in the order of the numbers of its faces, edges and points. All memory is taken by `new`.
 #[derive(Drop)]
 pub struct LevelRows {
-    tables: Tables,
+    tables: LevelTables,
 }
 
 impl Model for LevelRows {
@@ -58,10 +58,10 @@ impl LevelRows {
         let (vertex_sharpness, complete) = mark_tables(alloc, points)?;
         let (edge_vertices, edge_faces, edge_sharpness) = edge_tables(alloc, edges)?;
         let (faces, holes) = face_tables(alloc, faces, corners)?;
-        let vertex_faces = Pairs::with_room(alloc, points, face_places)?;
-        let vertex_edges = Pairs::with_room(alloc, points, edge_places)?;
+        let vertex_faces = PackedLists::with_room(alloc, points, face_places)?;
+        let vertex_edges = PackedLists::with_room(alloc, points, edge_places)?;
         Ok(LevelRows {
-            tables: Tables {
+            tables: LevelTables {
                 faces,
                 holes,
                 edge_vertices,
@@ -150,12 +150,12 @@ fn pair_of(faces: EdgeFaces) -> (u32, u32)
 }
 
 // The same tables, with the room given back that no sharpness took.
-fn fitted(tables: Tables) -> Tables
+fn fitted(tables: LevelTables) -> LevelTables
     requires edges { length tables.edge_sharpness.sharpness ≡ tables.edge_sharpness.limit }
     requires points { length tables.vertex_sharpness.sharpness ≡ tables.vertex_sharpness.limit }
     ensures { rows_of result ≡ rows_of tables }
 {
-    Tables {
+    LevelTables {
         edge_sharpness: tables.edge_sharpness.fitted(),
         vertex_sharpness: tables.vertex_sharpness.fitted(),
         ..tables

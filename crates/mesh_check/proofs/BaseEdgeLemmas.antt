@@ -7,7 +7,7 @@ use Rattle.subdiv_model.specs.Edges.{all_sides, edges_of, is_boundary}
 use Rattle.number_laws.proofs.ListLemmas.{any-both, all-kept}
 use Rattle.mesh_laws.proofs.EdgeLemmas.{any-first_named, all-named}
 use Rattle.mesh_laws.proofs.BoundaryLemmas.{boundary-sided}
-use Rattle.level_topology.proofs.BuilderFaceLemmas.{faces-alike}
+use Rattle.level_topology.proofs.NumberingLemmas.{faces-alike}
 use Rattle.mesh_check.specs.Keys.{IsWord, edge_key}
 use Rattle.mesh_check.specs.Base.{AreEdges}
 

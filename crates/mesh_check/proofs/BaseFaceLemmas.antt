@@ -18,9 +18,10 @@ use Rattle.mesh_laws.proofs.SideLemmas.{same_side-refl, distinct-count}
 use Rattle.mesh_laws.proofs.ClosedLemmas.{all-at}
 use Rattle.mesh_laws.proofs.FaultLemmas.{fault-decides}
 use Rattle.mesh_laws.proofs.WalkLemmas.{range-at}
-use Rattle.level_topology.specs.BuilderEdges.{named_with, named_with_all}
-use Rattle.level_topology.specs.Builder.{Built, has_new_sides, with_polygon, built_of}
-use Rattle.level_topology.proofs.BuilderEdgeLemmas.{first_named-all}
+use Rattle.level_topology.specs.Numbering.{named_with}
+use Rattle.level_builder.specs.NumberedEdges.{named_with_all}
+use Rattle.level_builder.specs.Builder.{Built, has_new_sides, with_polygon, built_of}
+use Rattle.level_builder.proofs.EdgeNumberLemmas.{first_named-all}
 use Rattle.mesh_check.specs.Base.{IsFit, smooth_built}
 use Rattle.mesh_check.proofs.PlaceLemmas.{drop-here}
 

@@ -14,7 +14,7 @@ use Rattle.subdiv_model.specs.Manifold.{is_simple}
 use Rattle.subdiv_model.specs.Base.{is_end_corner}
 use Rattle.subdiv_model.specs.Boundary.{EdgeAndCorner}
 use Rattle.mesh_laws.proofs.SideLemmas.{distinct-number-count}
-use Rattle.level_topology.proofs.BuilderPlaceLemmas.{replicate-push}
+use Rattle.level_topology.proofs.ListPlaceLemmas.{replicate-push}
 use Rattle.mesh_check.specs.Base.{single_corners}
 
 -- one mark more behind those that are set

@@ -18,7 +18,7 @@ use Rattle.mesh_laws.proofs.PointLemmas.{among-themselves}
 use Rattle.mesh_laws.proofs.SideLemmas.{no-side-back}
 use Rattle.level_topology.proofs.ChildLemmas.{edges-corners}
 use Rattle.level_topology.proofs.FanOrderLemmas.{same-permutation}
-use Rattle.level_topology.specs.BuilderEdges.{low_first}
+use Rattle.level_builder.specs.NumberedEdges.{low_first}
 use Rattle.mesh_check.specs.Keys.{IsWord, AreWords, AreEdgeKeys, edge_key, ends_of_key, is_again, each_once}
 use Rattle.mesh_check.proofs.OnceLemmas.{once-among, once-distinct, named-among, named-distinct, words-named}
 

@@ -7,8 +7,8 @@ use Rattle.std.proofs.lemmas.Bool.{and_parts, and_from, eqb-true}
 use Rattle.std.proofs.lemmas.List.Sorted.{sum_by-IsPermutation}
 use Rattle.subdiv_model.specs.Polygons.{same_side, same_edge, is_among}
 use Rattle.number_laws.proofs.CountLemmas.{count-cons, one_if}
-use Rattle.level_topology.specs.BuilderEdges.{low_first}
-use Rattle.level_topology.proofs.BuilderEdgeLemmas.{low-same}
+use Rattle.level_builder.specs.NumberedEdges.{low_first}
+use Rattle.level_builder.proofs.EdgeNumberLemmas.{low-same}
 use Rattle.mesh_check.specs.Keys.{IsWord, AreWords, side_key, edge_key, Rises, is_again, repeats}
 
 -- what is below all numbers is below those that are kept

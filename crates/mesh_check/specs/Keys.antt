@@ -1,7 +1,7 @@
 -- Sides and edges as numbers, and the numbers that stand often among numbers that ascend.
 use Rattle.std.specs.Prelude.{◌≡◌, ℕ, ◌+◌, ◌*◌, ◌/◌, ◌%◌, ◌^◌, ◌<◌, Bool, false, not, ◌&&◌, ◌||◌, nat_eq, nat_le, nat_lt, List, [], ◌∷◌, length, map, get_or, IsTrue, if◌then◌else◌}
 use Rattle.std.specs.List.{list_all, count_by}
-use Rattle.level_topology.specs.BuilderEdges.{low_first}
+use Rattle.level_builder.specs.NumberedEdges.{low_first}
 
 -- both ends fit 32 bits
 abbrev pub IsWord : ℕ × ℕ → Type 0

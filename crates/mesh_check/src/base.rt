@@ -6,12 +6,13 @@ ghost use Rattle.subdiv_model.specs.Polygons.{same_edge};
 ghost use Rattle.subdiv_model.specs.Edges.{all_sides, edges_of, is_boundary};
 ghost use Rattle.subdiv_model.specs.Base.{base_level, is_base_hole};
 ghost use Rattle.raw_mesh.specs.View.{crease_of, corner_tag_of};
-ghost use Rattle.level_topology.specs.Builder.{only_points};
+ghost use Rattle.level_builder.specs.Builder.{only_points};
 ghost use Rattle.mesh_check.specs.Base.{IsFit, AreEdges, smooth_built, with_edge_tag, with_edge_tags, with_vertex_tags, infinite, tagged_built, all_complete};
 
 use crate::base_corners::add_end_corners;
 use crate::keys::{edge_key, is_known};
-use level_topology::{Level, LevelBuilder};
+use level_builder::LevelBuilder;
+use level_topology::Level;
 use ratio128::{Memory, Steps};
 use raw_mesh::{CornerTag, Crease, RawMesh};
 use sharpness_rules::Sharpness;

@@ -5,11 +5,11 @@ ghost use Rattle.std.specs.List.{All, count_by, filter, range_with_len, sum_by};
 ghost use Rattle.subdiv_model.specs.Base.{is_end_corner};
 ghost use Rattle.raw_mesh.specs.Laws.{IsWithin};
 ghost use Rattle.subdiv_model.specs.Sharpness.{Infinite};
-ghost use Rattle.level_topology.specs.Builder.{with_sharp_vertex};
+ghost use Rattle.level_builder.specs.Builder.{with_sharp_vertex};
 ghost use Rattle.mesh_check.specs.Base.{IsFit, with_vertex_tags, infinite, single_corners};
 
 use crate::marks::no_marks;
-use level_topology::LevelBuilder;
+use level_builder::LevelBuilder;
 use ratio128::Memory;
 use raw_mesh::{Boundary, RawMesh};
 use sharpness_rules::Sharpness;

@@ -14,16 +14,16 @@ use Rattle.mesh_laws.proofs.WalkLemmas.{same-tests}
 use Rattle.mesh_laws.proofs.ChildCornerLemmas.{corner-place}
 use Rattle.level_topology.specs.Topology.{Topology, IsTopology, edge_at, corner_of}
 use Rattle.level_topology.specs.View.{faces_of_pair}
-use Rattle.level_topology.specs.BuilderFan.{IsRow, IsFanFrom}
+use Rattle.level_topology.specs.PointRows.{IsRow, IsFanFrom}
 use Rattle.level_topology.proofs.LawLemmas.{own-number, either-number}
 use Rattle.level_topology.proofs.PlaceLemmas.{places-ascend}
-use Rattle.level_topology.proofs.BuilderFaceLemmas.{faces-alike, any-same}
 use Rattle.child_slots.specs.Slots.{half_slot, inner_slot, numbered_edge_point}
 use Rattle.child_slots.specs.Slotted.{Slotted, number_at, end_in}
 use Rattle.child_slots.specs.Walked.{IsHalf, AreChildEdges}
 use Rattle.child_slots.proofs.SlotTableLemmas.{among-number}
 use Rattle.child_slots.proofs.SlotTellLemmas.{first-tells, first-order}
 use Rattle.child_slots.proofs.ChildEdgeLemmas.{slot-number, ends-all}
+use Rattle.level_topology.proofs.NumberingLemmas.{faces-alike, any-same}
 use Rattle.uniform_refiner.proofs.PutEdgeLemmas.{faces-are}
 use Rattle.uniform_refiner.proofs.PointLemmas.{corner-there, kids, kids-simple, kids-distinct, vertex-corner, row-of}
 use Rattle.uniform_refiner.proofs.VertexLemmas.{half-among}

@@ -11,7 +11,6 @@ use Rattle.mesh_laws.proofs.FanLemmas.{side-start}
 use Rattle.mesh_laws.proofs.Laws.{listed-as-side}
 use Rattle.level_topology.specs.Topology.{Topology, IsTopology, edge_at, corner_of}
 use Rattle.level_topology.specs.View.{faces_of_pair}
-use Rattle.level_topology.specs.BuilderFan.{IsRow}
 use Rattle.child_slots.specs.Slots.{half_slot, inner_slot, numbered_edge_point}
 use Rattle.child_slots.specs.Slotted.{Slotted, number_at, end_in}
 use Rattle.child_slots.specs.Walked.{AreChildEdges}
@@ -19,6 +18,7 @@ use Rattle.child_slots.proofs.SlotTableLemmas.{among-number}
 use Rattle.child_slots.proofs.ChildEdgeLemmas.{slots-there}
 use Rattle.child_slots.proofs.SlotLemmas.{first-below}
 use Rattle.child_slots.proofs.QuadLemmas.{all-four}
+use Rattle.level_topology.specs.PointRows.{IsRow}
 use Rattle.uniform_refiner.proofs.PointLemmas.{corner-there, kids}
 use Rattle.uniform_refiner.proofs.VertexLemmas.{half-among}
 use Rattle.uniform_refiner.proofs.EdgePointLemmas.{kid}

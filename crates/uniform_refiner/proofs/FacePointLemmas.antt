@@ -13,7 +13,7 @@ use Rattle.mesh_laws.proofs.ClosedLemmas.{all-at}
 use Rattle.mesh_laws.proofs.WalkLemmas.{same-tests}
 use Rattle.mesh_laws.proofs.TurnedLemmas.{among-map, map-among, map-distinct}
 use Rattle.level_topology.specs.Topology.{Topology, IsTopology, corner_of, corner_before, edge_before}
-use Rattle.level_topology.specs.BuilderFan.{IsRow, IsFanFrom, last_face}
+use Rattle.level_topology.specs.PointRows.{IsRow, IsFanFrom, last_face}
 use Rattle.level_topology.proofs.LawLemmas.{ascend-distinct}
 use Rattle.level_topology.proofs.FanOrderLemmas.{among-at}
 use Rattle.child_slots.specs.Slots.{first_child, corner_at, edge_from, before_in, turn_at, inner_slot, numbered_edge_point, quad_at}

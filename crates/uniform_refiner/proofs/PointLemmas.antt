@@ -15,7 +15,7 @@ use Rattle.mesh_laws.proofs.ChildFaceLemmas.{all-child, child-simple}
 use Rattle.mesh_laws.proofs.ChildOnceLemmas.{child-distinct}
 use Rattle.mesh_laws.proofs.ChildCornerLemmas.{corner-place}
 use Rattle.level_topology.specs.Topology.{Topology, IsTopology, face_edges_of, corner_of, corner_before, end_of, edge_before, edge_after}
-use Rattle.level_topology.specs.BuilderFan.{IsTurned, IsRow, last_face}
+use Rattle.level_topology.specs.PointRows.{IsTurned, IsRow, last_face}
 use Rattle.level_topology.proofs.FanWalkLemmas.{before-after, fan-permutation}
 use Rattle.level_topology.proofs.TurnLemmas.{turned-edges}
 use Rattle.child_slots.specs.Slots.{first_child, corner_at, edge_from, before_in, numbered_edge_point, quad_at, slots_at}

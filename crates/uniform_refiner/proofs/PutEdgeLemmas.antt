@@ -13,7 +13,6 @@ use Rattle.level_topology.specs.Topology.{Topology, IsTopology, edge_at}
 use Rattle.level_topology.specs.View.{faces_of_pair}
 use Rattle.level_topology.specs.Rows.{Rows, with_edge}
 use Rattle.level_topology.proofs.LawLemmas.{own-number, edge-order, edge-exists}
-use Rattle.level_topology.proofs.AcrossLemmas.{edge-faces-are}
 use Rattle.child_slots.specs.Slots.{edge_from, numbered_edge_point}
 use Rattle.child_slots.specs.Slotted.{Slotted}
 use Rattle.child_slots.specs.Walked.{IsSlot, numbered_of, AreChildEdges}
@@ -22,6 +21,7 @@ use Rattle.uniform_refiner.specs.Put.{with_child_edges}
 use Rattle.child_slots.proofs.SlotLemmas.{over-of}
 use Rattle.child_slots.proofs.QuadLemmas.{face-below}
 use Rattle.child_slots.proofs.ChildEdgeLemmas.{numbering-all, ends-all}
+use Rattle.level_topology.proofs.NumberingLemmas.{edge-faces-are}
 
 -- the faces of an edge ascend
 pair-order : (pair : ℕ × ℕ) (faces : List ℕ) → faces_of_pair pair ≡ faces → (0 + 1 < length faces → get_or faces 0 0 < get_or faces (0 + 1) 0) → pair.0 ≤ pair.1

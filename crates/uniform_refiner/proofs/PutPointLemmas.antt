@@ -13,11 +13,11 @@ use Rattle.subdiv_model.specs.Child.{child_points, child_vertex_sharpness}
 use Rattle.number_laws.proofs.CountLemmas.{count-append, count-some, count-none}
 use Rattle.mesh_laws.proofs.SideLemmas.{distinct-number-count}
 use Rattle.level_topology.specs.Topology.{Topology, IsTopology, edge_numbers_at}
-use Rattle.level_topology.specs.BuilderFan.{IsRow}
-use Rattle.level_topology.specs.BuilderPlaces.{joined, pair_list, lists_with}
+use Rattle.level_topology.specs.PointRows.{IsRow}
+use Rattle.level_topology.specs.ListPlaces.{joined, pair_list, lists_with}
 use Rattle.level_topology.specs.Rows.{Rows, with_vertex}
-use Rattle.level_topology.proofs.BuilderPlaceLemmas.{joined-length, pairs-total, replicate-push}
-use Rattle.level_topology.proofs.PointPlaceLemmas.{faces-distinct, ends-distinct}
+use Rattle.level_topology.proofs.ListPlaceLemmas.{joined-length, pairs-total, replicate-push}
+use Rattle.level_topology.proofs.ListPlaceLemmas.{faces-distinct, ends-distinct}
 use Rattle.level_topology.proofs.PointRowLemmas.{below-more, below-none, count-le, sum-push, rows-push, rows-none}
 use Rattle.level_topology.proofs.TurnLemmas.{edges-listed}
 use Rattle.uniform_refiner.specs.Points.{ArePoints, children_of, without_points}

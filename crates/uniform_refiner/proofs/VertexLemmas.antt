@@ -14,7 +14,7 @@ use Rattle.mesh_laws.proofs.FanLemmas.{distinct-at, side-start, side-end}
 use Rattle.mesh_laws.proofs.ClosedLemmas.{any-place}
 use Rattle.mesh_laws.proofs.Laws.{listed-as-side}
 use Rattle.level_topology.specs.Topology.{Topology, IsTopology, IsFan, edge_at, corner_of, edge_before, edge_after, end_of}
-use Rattle.level_topology.specs.BuilderFan.{IsRow, IsFanFrom, last_face}
+use Rattle.level_topology.specs.PointRows.{IsRow, IsFanFrom, last_face}
 use Rattle.level_topology.proofs.LawLemmas.{own-number, faces-all, faces-once, edges-once}
 use Rattle.level_topology.proofs.FanOrderLemmas.{among-at}
 use Rattle.level_topology.proofs.FanWalkLemmas.{after-is, before-is, edge-between, from-corner}

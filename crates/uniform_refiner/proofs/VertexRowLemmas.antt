@@ -9,7 +9,7 @@ use Rattle.subdiv_model.specs.Polygons.{polygon_at, has_corner, is_among}
 use Rattle.subdiv_model.specs.Edges.{edges_of, faces_of_point}
 use Rattle.mesh_laws.proofs.FanLemmas.{faces-among}
 use Rattle.level_topology.specs.Topology.{Topology, IsTopology, edge_at, end_of, edge_numbers_at, corner_of}
-use Rattle.level_topology.specs.BuilderFan.{IsRow}
+use Rattle.level_topology.specs.PointRows.{IsRow}
 use Rattle.level_topology.proofs.LawLemmas.{edges-each}
 use Rattle.level_topology.proofs.TurnLemmas.{empty-row, edges-none, nothing-there}
 use Rattle.child_slots.specs.Slots.{first_child, half_slot}

@@ -14,7 +14,7 @@ use Rattle.level_laws.proofs.WellFormedLemmas.{levels-well-formed}
 use Rattle.mesh_laws.proofs.ClosedLemmas.{all-at}
 use Rattle.mesh_laws.proofs.ChildFaceLemmas.{is_child, all-child}
 use Rattle.level_topology.specs.Topology.{Topology, IsTopology, face_edges_of, corner_of, end_of}
-use Rattle.level_topology.specs.BuilderFan.{AreRows}
+use Rattle.level_topology.specs.PointRows.{AreRows}
 use Rattle.level_topology.specs.Rows.{Counts, Rows, AreOfLevel, AreAllPut, no_rows, topology_of}
 use Rattle.level_topology.proofs.ChildLemmas.{edges-corners}
 use Rattle.child_slots.specs.Slotted.{Slotted}

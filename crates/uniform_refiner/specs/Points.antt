@@ -5,8 +5,8 @@ use Rattle.subdiv_model.specs.Polygons.{Polygon}
 use Rattle.subdiv_model.specs.Edges.{edges_of}
 use Rattle.subdiv_model.specs.Child.{child_polygons, child_points, child_vertex_sharpness}
 use Rattle.subdiv_model.specs.Level.{Level}
-use Rattle.level_topology.specs.BuilderFan.{AreRows}
-use Rattle.level_topology.specs.BuilderPlaces.{joined, pair_list}
+use Rattle.level_topology.specs.PointRows.{AreRows}
+use Rattle.level_topology.specs.ListPlaces.{joined, pair_list}
 use Rattle.level_topology.specs.Rows.{Counts, Rows}
 
 -- the lists without those of points

@@ -4,10 +4,10 @@ ghost use Rattle.std.specs.Prelude.{◌≡◌, ◌≢◌, ◌+◌, ◌*◌, ◌<
 ghost use Rattle.subdiv_model.specs.Polygons.{is_among};
 ghost use Rattle.subdiv_model.specs.Edges.{edges_of};
 ghost use Rattle.subdiv_model.specs.Child.{child_polygons};
-ghost use Rattle.level_topology.specs.BuilderFan.{IsRow};
 ghost use Rattle.child_slots.specs.Slots.{numbered_edge_point};
 ghost use Rattle.child_slots.specs.Slotted.{number_at};
 ghost use Rattle.child_slots.specs.Walked.{AreChildEdges};
+ghost use Rattle.level_topology.specs.PointRows.{IsRow};
 
 use child_slots::{Row, SlotEdges, edge_point_of, put_ends};
 use level_topology::Level;

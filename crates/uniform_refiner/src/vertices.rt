@@ -2,7 +2,7 @@
 
 ghost use Rattle.std.specs.Prelude.{◌≡◌, ◌+◌, ◌<◌, true, false, [], map, get_or, OnOk};
 ghost use Rattle.level_topology.specs.Topology.{corner_of};
-ghost use Rattle.level_topology.specs.BuilderFan.{IsRow};
+ghost use Rattle.level_topology.specs.PointRows.{IsRow};
 ghost use Rattle.subdiv_model.specs.Child.{child_polygons};
 ghost use Rattle.child_slots.specs.Slots.{first_child, half_slot};
 ghost use Rattle.child_slots.specs.Slotted.{number_at};

@@ -1,7 +1,7 @@
-use Rattle.level_topology.proofs.BuilderPlaceLemmas.{mapped-more}
 use Rattle.child_slots.specs.Slotted.{end_in}
 use Rattle.child_slots.proofs.ChildNumberLemmas.{mapped-all}
 use Rattle.child_slots.proofs.row.put_ends.Goals as goal
+use Rattle.level_topology.proofs.ListPlaceLemmas.{mapped-more}
 
 pub end_at-requires : goal.end_at-requires
 end_at-requires c = c.requires.inside c.loop-i.i 0 c.loop-i-test.true

@@ -1,5 +1,5 @@
 use Rattle.std.proofs.Common.{◌≡◌}
-use Rattle.level_topology.specs.Builder.{AreFans}
+use Rattle.level_builder.specs.Builder.{AreFans}
 use Rattle.level_tests.specs.Faces.{corners_of}
 use Rattle.level_tests.proofs.checked.fill.Given as goal
 

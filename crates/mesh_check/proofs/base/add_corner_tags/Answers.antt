@@ -2,8 +2,8 @@ use Rattle.std.proofs.Common.{map, nat_lt, ap, sym, ◌∙◌}
 use Rattle.std.specs.List.{list_all}
 use Rattle.std.proofs.lemmas.Bool.{and_parts}
 use Rattle.raw_mesh.specs.declared.tags.CornerTag.{CornerTag}
-use Rattle.level_topology.specs.Builder.{Built}
 use Rattle.raw_mesh.specs.View.{corner_tag_of}
+use Rattle.level_builder.specs.Builder.{Built}
 use Rattle.mesh_check.specs.Base.{with_vertex_tags}
 use Rattle.mesh_check.proofs.RestLemmas.{at-item, at-none, others}
 use Rattle.mesh_check.proofs.base.add_corner_tags.Goals as goal

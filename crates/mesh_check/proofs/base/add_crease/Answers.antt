@@ -1,6 +1,6 @@
 use Rattle.std.proofs.Common.{ap, sym, ◌∙◌, Bool, if◌then◌else◌}
 use Rattle.raw_mesh.specs.View.{crease_of}
-use Rattle.level_topology.specs.Builder.{with_sharp_edge}
+use Rattle.level_builder.specs.Builder.{with_sharp_edge}
 use Rattle.mesh_check.proofs.BaseEdgeLemmas.{pair-known}
 use Rattle.mesh_check.proofs.base.add_crease.Goals as goal
 

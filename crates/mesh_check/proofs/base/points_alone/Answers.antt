@@ -1,6 +1,6 @@
 use Rattle.std.proofs.Common.{arith, length, ap, ◌∙◌}
 use Rattle.std.proofs.lemmas.Result.{IfOk-weaker}
-use Rattle.level_topology.specs.Builder.{only_points}
+use Rattle.level_builder.specs.Builder.{only_points}
 use Rattle.mesh_check.proofs.CountLemmas.{point-count}
 use Rattle.mesh_check.proofs.base.points_alone.Goals as goal
 

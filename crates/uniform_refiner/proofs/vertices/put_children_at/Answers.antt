@@ -1,9 +1,9 @@
 use Rattle.std.proofs.Common.{◌≡◌, ◌<◌, ◌+◌, ◌∙◌, ap, arith, length, get_or, []}
 use Rattle.level_topology.specs.Topology.{corner_of}
 use Rattle.level_topology.proofs.LawLemmas.{faces-each}
-use Rattle.level_topology.proofs.BuilderPlaceLemmas.{mapped-more}
 use Rattle.child_slots.specs.Slots.{first_child}
 use Rattle.child_slots.proofs.ChildNumberLemmas.{child-at, mapped-all}
+use Rattle.level_topology.proofs.ListPlaceLemmas.{mapped-more}
 use Rattle.uniform_refiner.proofs.vertices.put_children_at.Goals as goal
 
 pub first_child_of-requires : goal.first_child_of-requires

@@ -1,9 +1,9 @@
 use Rattle.std.proofs.Common.{◌≡◌, ◌<◌, ◌∙◌, ap, arith, length, get_or, []}
 use Rattle.subdiv_model.specs.Polygons.{is_among}
-use Rattle.level_topology.proofs.BuilderPlaceLemmas.{mapped-more}
 use Rattle.child_slots.specs.Slots.{half_slot}
 use Rattle.child_slots.specs.Slotted.{number_at}
 use Rattle.child_slots.proofs.ChildNumberLemmas.{mapped-all}
+use Rattle.level_topology.proofs.ListPlaceLemmas.{mapped-more}
 use Rattle.uniform_refiner.proofs.VertexRowLemmas.{half-there}
 use Rattle.uniform_refiner.proofs.vertices.put_halves_at.Goals as goal
 

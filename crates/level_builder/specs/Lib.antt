@@ -1,0 +1,4 @@
+pub mod NumberedEdges
+pub mod Builder
+pub mod Chains
+pub mod PointPlaces

@@ -1,0 +1,34 @@
+-- The edges that a builder has so far: the keys that tell them, their numbers and their faces.
+use Rattle.std.specs.Prelude.{ℕ, ◌≡◌, ◌+◌, ◌^◌, ◌<◌, ◌≤◌, nat_eq, nat_le, List, [], ◌∷◌, length, map, if◌then◌else◌}
+use Rattle.level_topology.specs.Numbering.{number_in, named_with}
+
+-- the same two ends, the lower first
+abbrev pub low_first : ℕ × ℕ → ℕ × ℕ
+low_first s = if nat_le s.0 s.1 then s else (s.1, s.0)
+
+-- the edges with these sides, one after another
+abbrev pub named_with_all : List (ℕ × ℕ) → List (ℕ × ℕ) → List (ℕ × ℕ)
+named_with_all edges [] = edges
+named_with_all edges (s ∷ sides) = named_with_all (named_with edges s) sides
+
+-- the numbers of these sides' edges, one side after another
+abbrev pub numbers_in : List (ℕ × ℕ) → List (ℕ × ℕ) → List ℕ
+numbers_in edges [] = []
+numbers_in edges (s ∷ sides) = number_in edges s ∷ numbers_in (named_with edges s) sides
+
+-- of two faces the one that is not this one
+abbrev pub other_of : ℕ × ℕ → ℕ → ℕ
+other_of pair f = if nat_eq pair.0 f then pair.1 else pair.0
+
+-- what the tables of edges owe each other: the keys are the edges with the lower end first, and there is room for all
+-- that may come
+pub record IsEdgeTable (keys ends faces : List (ℕ × ℕ)) (sharpness limit key_room end_room face_room sharp_room : ℕ) : Type 0 where
+  pub keys_are : keys ≡ map low_first ends
+  pub faces_listed : length faces ≡ length ends
+  pub sharp_listed : sharpness ≡ length ends
+  pub within : length ends ≤ limit
+  pub few : limit < 2 ^ 32
+  pub key_fit : limit ≤ length ends + key_room
+  pub end_fit : limit ≤ end_room
+  pub face_fit : limit ≤ face_room
+  pub sharp_fit : limit ≤ sharp_room

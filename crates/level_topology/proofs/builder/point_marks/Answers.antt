@@ -1,7 +1,0 @@
-use Rattle.std.proofs.Common.{◌∙◌, ap, map}
-use Rattle.sharpness_rules.specs.View.{sharpness_of}
-use Rattle.level_topology.proofs.BuilderLemmas.{map-smooth}
-use Rattle.level_topology.proofs.builder.point_marks.Goals as goal
-
-pub returns-clause-smooth : goal.returns-clause-smooth
-returns-clause-smooth c = ap (map sharpness_of) c.in_ok-vertex_sharpness.ensures ∙ map-smooth c.args.points
