@@ -7,29 +7,18 @@ ghost use Rattle.mesh_check.specs.Base.{smooth_built};
 ghost use Rattle.face_varying.specs.Built.{AreFit, cut_by};
 
 use crate::cut_faces::cut_face;
-use level_builder::LevelBuilder;
+use level_builder::{LevelBuilder, MeshKey};
 use level_topology::Level;
 use ratio128::{Memory, Steps};
 use std::alloc::Global;
-use std::hash::{DefaultHasher, Hasher};
 use std::sync::ledger::Ledger;
 
-// Numbers, hashed after what came before.
-fn hash_numbers(hasher: &mut DefaultHasher, numbers: &[u32]) {
-    hasher.write_usize(numbers.len());
-    for number in numbers {
-        hasher.write_u32(*number);
-    }
-}
-
-// A key in which the point of every corner counts, and the size of every face. Whoever chooses the mesh cannot choose its key with it.
+// The key of the faces: the point of every corner counts, and the size of every face.
 fn key_of(level: &Level, numbers: &[u32]) -> u128 {
-    let mut hasher = DefaultHasher::new();
-    hash_numbers(&mut hasher, level.corner_starts());
-    hash_numbers(&mut hasher, numbers);
-    let half = hasher.finish();
-    hasher.write_u64(half);
-    ((half as u128) << 64) + hasher.finish() as u128
+    let mut key = MeshKey::new();
+    key.add(level.corner_starts());
+    key.add(numbers);
+    key.finish()
 }
 
 // How many edges the cut mesh has at most: one for each edge of the mesh, and one more where the faces there are apart.

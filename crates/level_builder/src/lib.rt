@@ -5,8 +5,10 @@ mod builder;
 mod edges;
 mod fan;
 mod finish;
+mod key;
 mod places;
 mod rows;
 mod turn;
 
 pub use builder::LevelBuilder;
+pub use key::MeshKey;

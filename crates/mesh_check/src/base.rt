@@ -11,32 +11,21 @@ ghost use Rattle.mesh_check.specs.Base.{IsFit, AreEdges, smooth_built, with_edge
 
 use crate::base_corners::add_end_corners;
 use crate::keys::{edge_key, is_known};
-use level_builder::LevelBuilder;
+use level_builder::{LevelBuilder, MeshKey};
 use level_topology::Level;
 use ratio128::{Memory, Steps};
 use raw_mesh::{CornerTag, Crease, RawMesh};
 use sharpness_rules::Sharpness;
 use std::alloc::Global;
-use std::hash::{DefaultHasher, Hasher};
 use std::sync::ledger::Ledger;
 
-// A face, hashed after what came before.
-fn hash_face(hasher: &mut DefaultHasher, face: &[u32]) {
-    hasher.write_usize(face.len());
-    for v in face {
-        hasher.write_u32(*v);
-    }
-}
-
-// A key in which every corner of every face counts, and each size. Whoever chooses the mesh cannot choose its key with it.
+// The key of all faces.
 fn key_of(raw: &RawMesh) -> u128 {
-    let mut hasher = DefaultHasher::new();
+    let mut key = MeshKey::new();
     for f in 0..raw.faces() {
-        hash_face(&mut hasher, raw.face(f));
+        key.add(raw.face(f));
     }
-    let half = hasher.finish();
-    hasher.write_u64(half);
-    ((half as u128) << 64) + hasher.finish() as u128
+    key.finish()
 }
 
 // How many corners all faces have.
