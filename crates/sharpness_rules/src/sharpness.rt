@@ -81,7 +81,7 @@ impl Sharpness {
     }
 
     /// Whether it is above 0.
-    pub(crate) fn is_sharp(&self) -> bool
+    pub fn is_sharp(&self) -> bool
         ensures { result ≡ is_sharp (sharpness_of self.now) }
     {
         !matches!(self, Sharpness::Smooth)
