@@ -3,6 +3,7 @@ pub mod CodeLemmas
 pub mod RowLemmas
 pub mod PlaceLemmas
 pub mod LawLemmas
+pub mod ValenceLemmas
 pub mod ChildTableLemmas
 pub mod ChildLemmas
 pub mod ChildMadeLemmas

@@ -1,6 +1,7 @@
 //! Levels: six incidence tables, and the tables into a child, put together in linear time and read without a search.
 #![tactic(auto)]
 
+mod adjacency;
 mod child;
 pub mod child_laws;
 mod child_origin;
