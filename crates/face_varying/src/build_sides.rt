@@ -7,9 +7,9 @@ ghost use Rattle.subdiv_model.specs.Edges.{edges_of};
 ghost use Rattle.sharpness_rules.specs.View.{sharpness_of};
 ghost use Rattle.face_varying.specs.Built.{cut_by, face_sides, side_sharpness, sides_before, with_side, with_sides};
 
-use crate::cut_faces::{corner_after, cut_face};
+use crate::cut_faces::cut_face;
 use level_builder::LevelBuilder;
-use level_topology::Level;
+use level_topology::{Level, corner_after};
 use sharpness_rules::Sharpness;
 
 // How sharp a side is whose edge in the mesh has this number: infinitely where the faces there are apart.

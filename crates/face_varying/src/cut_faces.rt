@@ -2,7 +2,6 @@
 
 ghost use Rattle.std.specs.Prelude.{◌≡◌, ◌<◌, length};
 ghost use Rattle.std.specs.List.{sum_by};
-ghost use Rattle.level_topology.specs.Topology.{corner_after};
 ghost use Rattle.face_varying.specs.Built.{cut_face};
 
 use level_topology::Level;
@@ -17,13 +16,4 @@ pub(crate) fn cut_face<'a>(level: &Level, numbers: &'a [u32], f: u32) -> &'a [u3
     let start = starts[f as usize] as usize;
     let end = starts[f as usize + 1] as usize;
     &numbers[start..end]
-}
-
-// The corner after a corner of a face of so many.
-pub(crate) fn corner_after(size: usize, c: usize) -> usize
-    requires { c < size }
-    ensures after { result ≡ corner_after size c }
-    ensures within { result < size }
-{
-    if c + 1 == size { 0 } else { c + 1 }
 }

@@ -3,8 +3,7 @@
 ghost use Rattle.std.specs.Prelude.{◌≡◌, ◌+◌, ◌<◌, ◌^◌, true, false, length, get_or, slice_set, replicate, IfOk};
 ghost use Rattle.face_varying.specs.Kept.{first_ends, ends_before, with_ends_of, with_ends};
 
-use crate::cut_faces::corner_after;
-use level_topology::Level;
+use level_topology::{Level, corner_after};
 use ratio128::Memory;
 use std::alloc::Global;
 

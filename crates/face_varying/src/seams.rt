@@ -8,8 +8,7 @@ ghost use Rattle.face_varying.specs.CornerPlaces.{start_of};
 ghost use Rattle.face_varying.specs.Cut.{IsCuttable};
 ghost use Rattle.face_varying.specs.Sides.{AreNoted};
 
-use crate::cut_faces::corner_after;
-use level_topology::Level;
+use level_topology::{Level, corner_after};
 use ratio128::Memory;
 use raw_mesh::RawMesh;
 use std::alloc::Global;
