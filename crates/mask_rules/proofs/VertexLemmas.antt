@@ -64,6 +64,10 @@ module _ (t : Topology) (v : ℕ) (is : IsTopology t) (inside : v < t.level.poin
 pub rule-around : (rule : Rule) (vertex : Sharpness) (ring : List Sharpness) (n : ℕ) → rule ≡ vertex_rule vertex ring → length ring ≡ n → IsRuleAmong rule n
 rule-around rule vertex ring n e long = rw e (subst (IsRuleAmong (vertex_rule vertex ring)) long (rule-among ring vertex))
 
+-- as many ends as edges that are listed
+pub many-ends : (t : Topology) (v n : ℕ) → n ≡ length (get_or t.edges_at v []) → n ≡ length (ends_in t v)
+many-ends t v n e = e ∙ sym (length-map (get_or t.edges_at v []) (end_of_edge t.level.polygons v))
+
 pub ring-long : (t : Topology) (v : ℕ) → length (ring_in t v) ≡ length (ends_in t v)
 ring-long t v =
     let items = get_or t.edges_at v [] in

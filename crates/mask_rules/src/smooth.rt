@@ -2,8 +2,7 @@
 
 ghost use Rattle.std.specs.Prelude.{◌≡◌, ◌<◌, true, false, IfErr, MatchResult};
 ghost use Rattle.std.specs.List.{list_any};
-ghost use Rattle.subdiv_model.specs.Sharpness.{Smooth, is_sharp};
-ghost use Rattle.sharpness_rules.specs.View.{sharpness_of};
+ghost use Rattle.subdiv_model.specs.Sharpness.{is_sharp};
 ghost use Rattle.mask_rules.specs.View.{seen_vertex};
 ghost use Rattle.mask_rules.specs.Masks.{IsJoinedAs};
 ghost use Rattle.mask_rules.specs.Around.{ring_in, mask_in, is_refused_in, IsFaultWhere, HasFewTerms};
@@ -12,14 +11,8 @@ ghost use Rattle.mask_rules.specs.Smooth.{IsSmoothAt};
 use crate::mask::MaskFault;
 use crate::vertex::{VertexMask, one_rule};
 use level_topology::Level;
-use sharpness_rules::{Rule, Sharpness};
+use sharpness_rules::Rule;
 use std::alloc::Global;
-
-fn is_smooth(s: Sharpness) -> bool
-    ensures { result ≡ true → sharpness_of s ≡ Smooth }
-{
-    matches!(s, Sharpness::Smooth)
-}
 
 // Whether no edge at the vertex is sharp.
 fn are_smooth(level: &Level, v: u32) -> bool
@@ -28,7 +21,7 @@ fn are_smooth(level: &Level, v: u32) -> bool
 {
     level.facts();
     for e in level.vertex_edges(v) {
-        if !is_smooth(level.edge_sharpness(*e)) {
+        if level.edge_sharpness(*e).is_sharp() {
             return false;
         }
     }
@@ -42,7 +35,7 @@ pub(crate) fn is_smooth_at(level: &Level, v: u32) -> bool
 {
     level.facts();
     !level.vertex_edges(v).is_empty()
-        && is_smooth(level.vertex_sharpness(v))
+        && !level.vertex_sharpness(v).is_sharp()
         && are_smooth(level, v)
 }
 

@@ -14,7 +14,7 @@ ghost use Rattle.mask_rules.specs.Around.{ends_in, faces_in, ring_in, mask_in, i
 use crate::mask::{MaskFault, Scheme};
 use crate::ring::{is_same_mask, put_child_ring, put_ring};
 use crate::smooth::{is_smooth_at, smooth_mask};
-use crate::vertex::{VertexMask, alone, one_rule, two_rules, valence};
+use crate::vertex::{VertexMask, alone, one_rule, two_rules};
 use level_topology::Level;
 use ratio128::Memory;
 use sharpness_rules::{Rule, Sharpness, Weight, transition_weight, uniform_child, vertex_rule};
@@ -112,7 +112,7 @@ fn by_rules(alloc: Global, level: &Level, v: u32) -> Result<VertexMask, MaskFaul
     if is_smooth_at(level, v) {
         return smooth_mask(alloc, level, v);
     }
-    let count = valence(level, v) as usize;
+    let count = level.valence(v) as usize;
     if count <= FEW {
         let mut ring = [Sharpness::Smooth; FEW];
         let mut next = [Sharpness::Smooth; FEW];

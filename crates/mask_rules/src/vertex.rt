@@ -139,15 +139,6 @@ fn put(terms: &mut SmallVec<Term, 16>, at: At, weight: u128) -> Result<(), Memor
     Ok(())
 }
 
-// The end of an edge that is not the vertex.
-fn other_end(level: &Level, v: u32, e: u32) -> u32
-    requires { e < length (edges_of level.now.level.polygons) }
-    ensures { result ≡ end_of_edge level.now.level.polygons v e }
-{
-    let (first, second) = level.edge_vertices(e);
-    if first == v { second } else { first }
-}
-
 // The other ends of the edges.
 fn put_ends(
     terms: &mut SmallVec<Term, 16>,
@@ -166,7 +157,7 @@ fn put_ends(
     for (place, e) in level.vertex_edges(v).iter().enumerate() {
         put(
             terms,
-            At::Point(other_end(level, v, *e)),
+            At::Point(level.other_end(v, *e)),
             parts.of_end(place),
         )?;
     }
@@ -288,7 +279,7 @@ pub(crate) fn two_rules(
     ensures few { HasFewTerms level.now v → IsOk result }
 {
     level.facts();
-    let valence = valence(level, v);
+    let valence = level.valence(v);
     let p = rule_denominator(parent, valence as u64);
     let r = rule_denominator(child, valence as u64);
     let multiple = common_multiple(p, r);
@@ -299,14 +290,4 @@ pub(crate) fn two_rules(
         rest: (weight.den - weight.num) as u128 * (multiple / r),
     };
     spread(alloc, level, v, parts, weight.den as u128 * multiple)
-}
-
-// How many edges meet at a point.
-pub(crate) fn valence(level: &Level, v: u32) -> u32
-    requires { v < level.now.level.point_count }
-    ensures { result ≡ length (ends_in level.now v) }
-{
-    level.facts();
-    let _most = level.edges();
-    level.vertex_edges(v).len() as u32
 }
