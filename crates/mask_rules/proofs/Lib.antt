@@ -10,3 +10,4 @@ pub mod SharpLemmas
 pub mod EqualLemmas
 mod RoomLemmas
 pub mod SmoothLemmas
+pub mod PlainLemmas

@@ -78,7 +78,7 @@ child-long t v = length-map (ring_in t v) (half_child t.level.method (ring_in t 
 
 -- the mask in the order of the level's lists is the definition's
 module _ (t : Topology) (v : ℕ) (is : IsTopology t) (inside : v < t.level.point_count) (sharp : HasSharpBoundaryAt t.level v) where
-  from-joined : (m : Mask) → IsJoinedAs m (mask_in t v) → IsMask m (vertex_mask t.level CatmullClark v)
+  pub from-joined : (m : Mask) → IsJoinedAs m (mask_in t v) → IsMask m (vertex_mask t.level CatmullClark v)
   from-joined m h =
       is-mask m (vertex_mask t.level CatmullClark v) h.joined
       (same_weights-trans m (mask_in t v) (vertex_mask t.level CatmullClark v) h.same (same_weights-sym (vertex_mask t.level CatmullClark v) (mask_in t v) (same-order t v is inside)))

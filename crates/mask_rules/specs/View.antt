@@ -10,6 +10,7 @@ use Rattle.mask_rules.specs.declared.edge.EdgeTerms.{EdgeTerms}
 use Rattle.mask_rules.specs.declared.edge.EdgeTerms.TheVariants.{Ends, EndsAndFaces}
 use Rattle.mask_rules.specs.declared.edge.EdgeMask.{EdgeMask}
 use Rattle.mask_rules.specs.declared.vertex.VertexMask.{VertexMask}
+use Rattle.mask_rules.specs.declared.plain.PlainMask.{PlainMask}
 
 abbrev pub scheme_of : Scheme → model.Scheme
 scheme_of CatmullClark = model.CatmullClark
@@ -34,3 +35,6 @@ seen_edge m = record { terms = terms_of (listed m.terms); denominator = m.denomi
 
 abbrev pub seen_vertex : VertexMask → model.Mask
 seen_vertex m = record { terms = terms_of m.terms.items; denominator = m.denominator }
+
+abbrev pub seen_plain : PlainMask → model.Mask
+seen_plain m = record { terms = terms_of m.terms.items; denominator = m.denominator }
