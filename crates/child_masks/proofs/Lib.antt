@@ -8,6 +8,8 @@ pub mod TermLemmas
 pub mod FaceLemmas
 pub mod AmongLemmas
 pub mod AddLemmas
+pub mod KeptLemmas
+pub mod MaskLemmas
 pub mod PointLemmas
 pub mod TransitionLemmas
 pub mod FoundLemmas

@@ -16,6 +16,7 @@ use Rattle.level_topology.proofs.ChildLemmas.{same_origin-true}
 use Rattle.mask_rules.specs.Masks.{corners_over}
 use Rattle.mask_rules.proofs.EdgeLemmas.{face-mask}
 use Rattle.child_masks.specs.Masks.{mask_from, masks_from, dens_from}
+use Rattle.child_masks.specs.MaskOf.{AreKeptFor}
 use Rattle.child_masks.specs.declared.survey.Survey.{Survey}
 use Rattle.child_masks.specs.Survey.{within_bound}
 use Rattle.child_masks.specs.Found.{ArePointDenominators, AreFaceDenominators, IsAdded, IsSurveyOf}
@@ -64,13 +65,14 @@ or-none true = refl
 or-none false = refl
 
 -- one point more, which is not refused
-pub survey-next : (level : Level) (scheme : Scheme) (origins : List PointOrigin) (dens : List ℕ) (p : ℕ) (origin : PointOrigin) (old new : Survey)
-    → p < length origins → get_or origins p (FromVertex 0) ≡ origin → IsSurveyOf level scheme (take p origins) dens old
-    → IsAdded (mask_denominator (source_denominator level dens) (mask_from level scheme origin)) (mask_from level scheme origin).terms old new
-    → ((v : ℕ) → origin ≡ FromVertex v → transition_overflows_at level scheme v ≡ false) → IsSurveyOf level scheme (take (p + 1) origins) dens new
-survey-next level scheme origins dens p origin old new inside e so_far added fine =
+pub survey-next : (parent : Topology) (scheme : Scheme) (origins : List PointOrigin) (dens : List ℕ) (p : ℕ) (origin : PointOrigin) (old new : Survey)
+    → p < length origins → get_or origins p (FromVertex 0) ≡ origin → IsSurveyOf parent scheme (take p origins) dens old
+    → IsAdded (mask_denominator (source_denominator parent.level dens) (mask_from parent.level scheme origin)) (mask_from parent.level scheme origin).terms old new
+    → ((v : ℕ) → origin ≡ FromVertex v → transition_overflows_at parent.level scheme v ≡ false) → AreKeptFor parent scheme (take (p + 1) origins) new.masks → IsSurveyOf parent scheme (take (p + 1) origins) dens new
+survey-next parent scheme origins dens p origin old new inside e so_far added fine kept =
+    let level = parent.level in
     let next : take (p + 1) origins ≡ take p origins ++ origin ∷ [] = take_more origins p (FromVertex 0) inside ∙ ap (λ o. take p origins ++ o ∷ []) e in
-    subst (λ xs. IsSurveyOf level scheme xs dens new) (sym next) (record {
+    subst (λ xs. IsSurveyOf parent scheme xs dens new) (sym next) (record {
       positive = subst (All (λ den. 0 < den)) (sym more) (All-push (dens_from level scheme dens (take p origins)) (value (mask_from level scheme origin)) so_far.positive added.positive);
       found = added.dens ∙ ap (λ xs. xs ++ within_bound (value (mask_from level scheme origin)) ∷ []) so_far.found
           ∙ sym (map-append within_bound (dens_from level scheme dens (take p origins)) (value (mask_from level scheme origin) ∷ [])) ∙ ap (map within_bound) (sym more);
@@ -87,15 +89,16 @@ survey-next level scheme origins dens p origin old new inside e so_far added fin
           ∙ ap (λ b. list_any (names f) (masks_from level scheme (take p origins)) || b) (sym (or-none (has_source (mask_from level scheme origin).terms (OfFace f))))
           ∙ sym (list_any-append (names f) (masks_from level scheme (take p origins)) (mask_from level scheme origin ∷ []))
           ∙ ap (list_any (names f)) (sym (map-append (mask_from level scheme) (take p origins) (origin ∷ [])));
+      masks = subst (λ xs. AreKeptFor parent scheme xs new.masks) next kept;
     })
   where
     value : Mask → ℕ
-    value mask = mask_denominator (source_denominator level dens) mask
+    value mask = mask_denominator (source_denominator parent.level dens) mask
 
-    more : dens_from level scheme dens (take p origins ++ origin ∷ []) ≡ dens_from level scheme dens (take p origins) ++ value (mask_from level scheme origin) ∷ []
+    more : dens_from parent.level scheme dens (take p origins ++ origin ∷ []) ≡ dens_from parent.level scheme dens (take p origins) ++ value (mask_from parent.level scheme origin) ∷ []
     more =
-        ap (map value) (map-append (mask_from level scheme) (take p origins) (origin ∷ []))
-        ∙ map-append value (masks_from level scheme (take p origins)) (mask_from level scheme origin ∷ [])
+        ap (map value) (map-append (mask_from parent.level scheme) (take p origins) (origin ∷ []))
+        ∙ map-append value (masks_from parent.level scheme (take p origins)) (mask_from parent.level scheme origin ∷ [])
 
     All-push : (xs : List ℕ) (x : ℕ) → All (λ den. 0 < den) xs → 0 < x → All (λ den. 0 < den) (xs ++ x ∷ [])
     All-push xs x h k = All-append (λ den. 0 < den) xs (x ∷ []) h (All-from_recursion (λ den. 0 < den) (x ∷ []) (k, tt))

@@ -2,12 +2,14 @@
 use Rattle.std.specs.Prelude.{ℕ, ◌≡◌, ◌<◌, ◌≤◌, Bool, true, false, ◌||◌, List, [], ◌∷◌, ◌++◌, length, map, get_or}
 use Rattle.std.specs.List.{All, list_any}
 use Rattle.subdiv_model.specs.Level.{Level}
-use Rattle.subdiv_model.specs.Mask.{Scheme, SourcePoint, OfPoint, OfFace, Term, has_source}
-use Rattle.subdiv_model.specs.Refined.{source_denominator}
+use Rattle.subdiv_model.specs.Mask.{Scheme, SourcePoint, OfPoint, OfFace, Term, has_source, vertex_mask}
+use Rattle.subdiv_model.specs.Refined.{mask_denominator, source_denominator}
 use Rattle.subdiv_model.specs.Channel.{number_bound, transition_overflows_at}
+use Rattle.level_topology.specs.Topology.{Topology}
 use Rattle.level_topology.specs.Child.{PointOrigin, FromVertex}
 use Rattle.child_masks.specs.Masks.{masks_from, dens_from, HasNoTransition}
 use Rattle.child_masks.specs.Survey.{within_bound}
+use Rattle.child_masks.specs.MaskOf.{AreKeptFor, IsKeptNext}
 use Rattle.child_masks.specs.declared.survey.Survey.{Survey}
 use Rattle.child_masks.specs.declared.fault.SurveyFault.{SurveyFault}
 use Rattle.child_masks.specs.declared.fault.SurveyFault.TheVariants.{Transition, Denominator, Memory}
@@ -51,14 +53,22 @@ pub record IsAdded (den : ℕ) (terms : List Term) (old new : Survey) : Type 0 w
   pub dens : new.dens.items ≡ old.dens.items ++ within_bound den ∷ []
   pub named : AreMarked old.named.items terms new.named.items
 
+-- the mask of a vertex is added and kept, or the vertex plain, and no weight is refused there
+pub record IsVertexAdded (parent : Topology) (scheme : Scheme) (dens : List ℕ) (v : ℕ) (old new : Survey) : Type 0 where
+  pub added : IsAdded (mask_denominator (source_denominator parent.level dens) (vertex_mask parent.level scheme v)) (vertex_mask parent.level scheme v).terms old new
+  pub fine : transition_overflows_at parent.level scheme v ≡ false
+  pub kept : IsKeptNext parent scheme v old.masks new.masks
+
 -- the survey of the child points so far: none is refused
-pub record IsSurveyOf (level : Level) (scheme : Scheme) (origins : List PointOrigin) (dens : List ℕ) (survey : Survey) : Type 0 where
-  pub positive : All (λ den. 0 < den) (dens_from level scheme dens origins)
-  pub found : survey.dens.items ≡ map within_bound (dens_from level scheme dens origins)
-  pub fine : HasNoTransition level scheme origins
-  pub face : AreFaceDenominators level dens survey.faces.items
-  pub named_count : length survey.named.items ≡ length level.polygons
-  pub named : (f : ℕ) → f < length level.polygons → get_or survey.named.items f false ≡ list_any (λ mask. has_source mask.terms (OfFace f)) (masks_from level scheme origins)
+pub record IsSurveyOf (parent : Topology) (scheme : Scheme) (origins : List PointOrigin) (dens : List ℕ) (survey : Survey) : Type 0 where
+  pub positive : All (λ den. 0 < den) (dens_from parent.level scheme dens origins)
+  pub found : survey.dens.items ≡ map within_bound (dens_from parent.level scheme dens origins)
+  pub fine : HasNoTransition parent.level scheme origins
+  pub face : AreFaceDenominators parent.level dens survey.faces.items
+  pub named_count : length survey.named.items ≡ length parent.level.polygons
+  pub named : (f : ℕ) → f < length parent.level.polygons
+      → get_or survey.named.items f false ≡ list_any (λ mask. has_source mask.terms (OfFace f)) (masks_from parent.level scheme origins)
+  pub masks : AreKeptFor parent scheme origins survey.masks
 
 -- why a child point has no denominator
 abbrev pub IsPointFault : Level → Scheme → PointOrigin → SurveyFault → Type 0

@@ -27,6 +27,12 @@ masks_from level scheme origins = map (mask_from level scheme) origins
 abbrev pub origin_at : List PointOrigin → ℕ → PointOrigin
 origin_at origins p = get_or origins p (FromVertex 0)
 
+-- a point comes from a face
+abbrev pub is_from_face : PointOrigin → Bool
+is_from_face (FromVertex v) = false
+is_from_face (FromFace f) = true
+is_from_face (FromEdge e) = false
+
 -- one of the points comes from there
 abbrev pub has_origin : List PointOrigin → PointOrigin → Bool
 has_origin origins origin = list_any (same_origin origin) origins

@@ -5,8 +5,10 @@ use Rattle.subdiv_model.specs.Level.{Level}
 use Rattle.subdiv_model.specs.Mask.{Scheme, OfFace, has_source}
 use Rattle.subdiv_model.specs.Refined.{source_denominator}
 use Rattle.subdiv_model.specs.Channel.{number_bound}
+use Rattle.level_topology.specs.Topology.{Topology}
 use Rattle.level_topology.specs.Child.{PointOrigin}
 use Rattle.child_masks.specs.Masks.{masks_from, dens_from, HasNoTransition, IsFirstTransition, IsFirstDenominator}
+use Rattle.child_masks.specs.MaskOf.{AreKeptFor}
 use Rattle.child_masks.specs.declared.survey.Survey.{Survey}
 use Rattle.child_masks.specs.declared.fault.SurveyFault.{SurveyFault}
 use Rattle.child_masks.specs.declared.fault.SurveyFault.TheVariants.{Transition, Denominator, Memory}
@@ -16,15 +18,17 @@ abbrev pub within_bound : ℕ → ℕ
 within_bound n = if nat_le n number_bound then n else 0
 
 -- The denominators of the points follow from those before them and are within their bound, and no weight is refused. Those of
--- the new points of faces are 0 where they pass it, and a face is marked where some mask names it.
-pub record IsSurvey (level : Level) (scheme : Scheme) (origins : List PointOrigin) (before : List ℕ) (survey : Survey) : Type 0 where
-  pub dens : survey.dens.items ≡ dens_from level scheme before origins
-  pub fine : HasNoTransition level scheme origins
-  pub short : All (λ den. den ≤ number_bound) (dens_from level scheme before origins)
-  pub face_count : length survey.faces.items ≡ length level.polygons
-  pub faces : (f : ℕ) → f < length level.polygons → get_or survey.faces.items f 0 ≡ within_bound (source_denominator level before (OfFace f))
-  pub named_count : length survey.named.items ≡ length level.polygons
-  pub named : (f : ℕ) → f < length level.polygons → get_or survey.named.items f false ≡ list_any (λ mask. has_source mask.terms (OfFace f)) (masks_from level scheme origins)
+-- the new points of faces are 0 where they pass it, and a face is marked where some mask names it. The masks of vertices that are not plain are kept.
+pub record IsSurvey (parent : Topology) (scheme : Scheme) (origins : List PointOrigin) (before : List ℕ) (survey : Survey) : Type 0 where
+  pub dens : survey.dens.items ≡ dens_from parent.level scheme before origins
+  pub fine : HasNoTransition parent.level scheme origins
+  pub short : All (λ den. den ≤ number_bound) (dens_from parent.level scheme before origins)
+  pub face_count : length survey.faces.items ≡ length parent.level.polygons
+  pub faces : (f : ℕ) → f < length parent.level.polygons → get_or survey.faces.items f 0 ≡ within_bound (source_denominator parent.level before (OfFace f))
+  pub named_count : length survey.named.items ≡ length parent.level.polygons
+  pub named : (f : ℕ) → f < length parent.level.polygons
+      → get_or survey.named.items f false ≡ list_any (λ mask. has_source mask.terms (OfFace f)) (masks_from parent.level scheme origins)
+  pub masks : AreKeptFor parent scheme origins survey.masks
 
 -- the first fault, each kind over the whole level; memory may run out at any step
 abbrev pub IsSurveyFault : Level → Scheme → List PointOrigin → List ℕ → SurveyFault → Type 0

@@ -7,9 +7,13 @@ mod common;
 mod dens;
 mod face;
 mod fault;
+mod kept;
+mod masks;
 mod survey;
 mod terms;
 mod transition;
 
 pub use fault::SurveyFault;
+pub use kept::{KeptMask, KeptMasks};
+pub use masks::{PointMask, TermMask};
 pub use survey::{Survey, survey_over};

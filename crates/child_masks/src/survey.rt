@@ -1,6 +1,6 @@
 //! What is known of the masks of child points before any value is made.
 
-ghost use Rattle.std.specs.Prelude.{◌≡◌, ℕ, ◌+◌, ◌<◌, ◌⊎◌, false, true, IsTrue, List, [], length, get_or, take, OnOk, MatchResult, IfOk};
+ghost use Rattle.std.specs.Prelude.{◌≡◌, ℕ, ◌+◌, ◌^◌, ◌<◌, ◌⊎◌, false, true, IsTrue, List, [], length, get_or, take, OnOk, MatchResult, IfOk};
 ghost use Rattle.std.specs.List.{All};
 ghost use Rattle.subdiv_model.specs.Sharpness.{Smooth};
 ghost use Rattle.subdiv_model.specs.Edges.{edges_of, faces_of_edge};
@@ -11,20 +11,25 @@ ghost use Rattle.subdiv_model.specs.Channel.{chaikin_overflows_at, transition_ov
 ghost use Rattle.level_topology.specs.Topology.{edge_at};
 ghost use Rattle.level_topology.specs.Child.{FromVertex};
 ghost use Rattle.mask_rules.specs.View.{scheme_of, source_of, terms_of};
-ghost use Rattle.mask_rules.specs.Masks.{is_at_least_one};
-ghost use Rattle.mask_rules.specs.Around.{HasSharpBoundaryAt};
-ghost use Rattle.child_masks.specs.Masks.{CanRefine};
+ghost use Rattle.mask_rules.specs.Smooth.{IsPlainAt};
+ghost use Rattle.mask_rules.specs.Masks.{IsMask};
+ghost use Rattle.child_masks.specs.Masks.{CanRefine, origin_at};
+ghost use Rattle.child_masks.specs.View.{seen_terms};
+ghost use Rattle.child_masks.specs.MaskOf.{IsMaskOf, IsKeptFor, AreKeptFor};
 ghost use Rattle.child_masks.specs.Survey.{within_bound, IsSurvey, IsSurveyFault};
-ghost use Rattle.child_masks.specs.Found.{IsAmong, Tell, ArePointDenominators, AreFaceDenominators, IsAdded, IsSurveyOf, IsPointFault};
+ghost use Rattle.child_masks.specs.Found.{IsAmong, Tell, ArePointDenominators, AreFaceDenominators, IsAdded, IsVertexAdded, IsSurveyOf, IsPointFault};
+ghost use Rattle.child_masks.specs.Known.{IsVertexKnown, IsEdgeKnown};
 
 use crate::common::scaled;
 use crate::dens::first_zero;
 use crate::face::face_denominators;
 use crate::fault::SurveyFault;
+use crate::kept::KeptMasks;
+use crate::masks::{PointMask, TermMask};
 use crate::terms::{mark_faces, multiple_of_terms};
 use crate::transition::least_refused;
 use level_topology::{Child, Level, Origin};
-use mask_rules::{MaskFault, Scheme, Term, edge_mask, vertex_mask};
+use mask_rules::{MaskFault, Scheme, Term, edge_mask, is_plain, plain_mask, vertex_mask};
 use ratio128::Memory;
 use std::alloc::Global;
 
@@ -37,20 +42,23 @@ pub struct Survey {
     pub faces: Vec<u128>,
     /// Whether some mask of a child point names the new point of the face.
     pub named: Vec<bool>,
+    masks: KeptMasks,
 }
 
 impl Survey {
     // The denominators of the faces, and nothing of the child points.
     fn start(alloc: Global, parent: &Level, dens: &[u128], points: u32) -> Result<Survey, Memory>
         requires { ArePointDenominators parent.now.level dens.now }
-        ensures { IfOk result (λ survey. (scheme : model.Scheme) → IsSurveyOf parent.now.level scheme [] dens.now survey) }
+        ensures { IfOk result (λ survey. (scheme : model.Scheme) → IsSurveyOf parent.now scheme [] dens.now survey) }
     {
         let faces = face_denominators(alloc, parent, dens)?;
         let named = vec![in alloc; false; parent.faces() as usize]?;
+        let masks = KeptMasks::new(alloc, parent.points())?;
         Ok(Survey {
             dens: Vec::with_capacity(alloc, points as usize)?,
             faces,
             named,
+            masks,
         })
     }
 
@@ -58,13 +66,68 @@ impl Survey {
     fn add_mask(&mut self, dens: &[u128], terms: &[Term], denominator: u128) -> Result<(), Memory>
         requires among { All (λ t. IsAmong (length dens.now) (length self.old.faces.items) (source_of t.at)) terms.now }
         requires beside { length self.old.named.items ≡ length self.old.faces.items }
-        ensures { OnOk result ((value : SourcePoint → ℕ) → Tell value dens.now self.old.faces.items → 0 < denominator
+        ensures added { OnOk result ((value : SourcePoint → ℕ) → Tell value dens.now self.old.faces.items → 0 < denominator
             → IsAdded (mask_denominator value (record { terms = terms_of terms.now; denominator = denominator })) (terms_of terms.now) self.old self.new) }
+        ensures masks { self.new.masks ≡ self.old.masks }
     {
         let multiple = multiple_of_terms(terms, dens, &self.faces);
         self.dens.push(scaled(denominator, multiple))?;
         mark_faces(&mut self.named, terms);
         Ok(())
+    }
+
+    // What a child point of a plain vertex tells.
+    fn add_plain(
+        &mut self,
+        parent: &Level,
+        v: u32,
+        scheme: Scheme,
+        dens: &[u128],
+    ) -> Result<(), Memory>
+        requires known { IsVertexKnown parent.now (scheme_of scheme) v }
+        requires plain { IsPlainAt parent.now (scheme_of scheme) v }
+        requires dens { ArePointDenominators parent.now.level dens.now }
+        requires faces { AreFaceDenominators parent.now.level dens.now self.old.faces.items }
+        requires marks { length self.old.named.items ≡ length parent.now.level.polygons }
+        requires kept { length self.old.masks.masks ≡ parent.now.level.point_count }
+        ensures { OnOk result (IsVertexAdded parent.now (scheme_of scheme) dens.now v self.old self.new) }
+    {
+        parent.facts();
+        let mask = plain_mask(parent, v, scheme);
+        self.add_mask(dens, mask.terms(), mask.denominator())?;
+        self.masks.leave(v);
+        Ok(())
+    }
+
+    // What a child point of any vertex tells by its mask, which is kept.
+    fn add_kept(
+        &mut self,
+        alloc: Global,
+        parent: &Level,
+        v: u32,
+        scheme: Scheme,
+        dens: &[u128],
+    ) -> Result<(), SurveyFault>
+        requires known { IsVertexKnown parent.now (scheme_of scheme) v }
+        requires dens { ArePointDenominators parent.now.level dens.now }
+        requires faces { AreFaceDenominators parent.now.level dens.now self.old.faces.items }
+        requires marks { length self.old.named.items ≡ length parent.now.level.polygons }
+        requires kept { length self.old.masks.masks ≡ parent.now.level.point_count }
+        requires few { self.old.masks.count + 1 < 2 ^ 32 }
+        ensures { MatchResult result
+            (λ _. IsVertexAdded parent.now (scheme_of scheme) dens.now v self.old self.new)
+            (IsPointFault parent.now.level (scheme_of scheme) (FromVertex v)) }
+    {
+        parent.facts();
+        match &vertex_mask(alloc, parent, v, scheme) {
+            Ok(mask) => {
+                self.add_mask(dens, mask.terms(), mask.denominator())?;
+                self.masks.keep(v, mask)?;
+                Ok(())
+            }
+            Err(MaskFault::Transition) => Err(SurveyFault::Transition(v)),
+            Err(MaskFault::Memory) => Err(SurveyFault::Memory),
+        }
     }
 
     // What a child point of a vertex tells.
@@ -76,27 +139,21 @@ impl Survey {
         scheme: Scheme,
         dens: &[u128],
     ) -> Result<(), SurveyFault>
-        requires known { v < parent.now.level.point_count }
-        requires complete { get_or parent.now.complete v false ≡ true }
-        requires boundary { scheme_of scheme ≡ CatmullClark → HasSharpBoundaryAt parent.now.level v }
-        requires fine { scheme_of scheme ≡ CatmullClark → chaikin_overflows_at parent.now.level v ≡ false }
+        requires known { IsVertexKnown parent.now (scheme_of scheme) v }
         requires dens { ArePointDenominators parent.now.level dens.now }
         requires faces { AreFaceDenominators parent.now.level dens.now self.old.faces.items }
         requires marks { length self.old.named.items ≡ length parent.now.level.polygons }
+        requires kept { length self.old.masks.masks ≡ parent.now.level.point_count }
+        requires few { self.old.masks.count + 1 < 2 ^ 32 }
         ensures { MatchResult result
-            (λ _. IsAdded (mask_denominator (source_denominator parent.now.level dens.now) (vertex_mask parent.now.level (scheme_of scheme) v))
-            (vertex_mask parent.now.level (scheme_of scheme) v).terms self.old self.new × (transition_overflows_at parent.now.level (scheme_of scheme) v ≡ false))
+            (λ _. IsVertexAdded parent.now (scheme_of scheme) dens.now v self.old self.new)
             (IsPointFault parent.now.level (scheme_of scheme) (FromVertex v)) }
     {
-        parent.facts();
-        match &vertex_mask(alloc, parent, v, scheme) {
-            Ok(mask) => {
-                self.add_mask(dens, mask.terms(), mask.denominator())?;
-                Ok(())
-            }
-            Err(MaskFault::Transition) => Err(SurveyFault::Transition(v)),
-            Err(MaskFault::Memory) => Err(SurveyFault::Memory),
+        if !is_plain(parent, v, scheme) {
+            return self.add_kept(alloc, parent, v, scheme, dens);
         }
+        self.add_plain(parent, v, scheme, dens)?;
+        Ok(())
     }
 
     // What a child point of an edge tells.
@@ -107,15 +164,13 @@ impl Survey {
         scheme: Scheme,
         dens: &[u128],
     ) -> Result<(), Memory>
-        requires known { e < length (edges_of parent.now.level.polygons) }
-        requires inside { scheme_of scheme ≡ CatmullClark
-            → (length (faces_of_edge parent.now.level.polygons (edge_at parent.now.level.polygons e)) ≡ 2)
-            ⊎ IsTrue (is_at_least_one (get_or parent.now.level.edge_sharpness e Smooth)) }
+        requires known { IsEdgeKnown parent.now (scheme_of scheme) e }
         requires dens { ArePointDenominators parent.now.level dens.now }
         requires faces { AreFaceDenominators parent.now.level dens.now self.old.faces.items }
         requires marks { length self.old.named.items ≡ length parent.now.level.polygons }
-        ensures { OnOk result (IsAdded (mask_denominator (source_denominator parent.now.level dens.now) (edge_mask parent.now.level (scheme_of scheme) (edge_at parent.now.level.polygons e)))
+        ensures added { OnOk result (IsAdded (mask_denominator (source_denominator parent.now.level dens.now) (edge_mask parent.now.level (scheme_of scheme) (edge_at parent.now.level.polygons e)))
             (edge_mask parent.now.level (scheme_of scheme) (edge_at parent.now.level.polygons e)).terms self.old self.new) }
+        ensures masks { self.new.masks ≡ self.old.masks }
     {
         parent.facts();
         let mask = edge_mask(parent, e, scheme);
@@ -125,7 +180,8 @@ impl Survey {
     // What a child point of a face tells: its mask names no face.
     fn add_face(&mut self, f: u32) -> Result<(), Memory>
         requires { f < length self.old.faces.items }
-        ensures { OnOk result ((den : ℕ) → 0 < den → get_or self.old.faces.items f 0 ≡ within_bound den → IsAdded den [] self.old self.new) }
+        ensures added { OnOk result ((den : ℕ) → 0 < den → get_or self.old.faces.items f 0 ≡ within_bound den → IsAdded den [] self.old self.new) }
+        ensures masks { self.new.masks ≡ self.old.masks }
     {
         self.dens.push(self.faces[f as usize])?;
         Ok(())
@@ -144,9 +200,9 @@ impl Survey {
         requires child { CanRefine parent.now child.now (scheme_of scheme) }
         requires known { p < length child.now.origins }
         requires dens { ArePointDenominators parent.now.level dens.now }
-        requires so_far { IsSurveyOf parent.now.level (scheme_of scheme) (take p child.now.origins) dens.now self.old }
+        requires so_far { IsSurveyOf parent.now (scheme_of scheme) (take p child.now.origins) dens.now self.old }
         ensures { MatchResult result
-            (λ _. IsSurveyOf parent.now.level (scheme_of scheme) (take (p + 1) child.now.origins) dens.now self.new)
+            (λ _. IsSurveyOf parent.now (scheme_of scheme) (take (p + 1) child.now.origins) dens.now self.new)
             (IsPointFault parent.now.level (scheme_of scheme) (get_or child.now.origins p (FromVertex 0))) }
     {
         parent.facts();
@@ -161,6 +217,37 @@ impl Survey {
                 self.add_face(f)?;
                 Ok(())
             }
+        }
+    }
+}
+
+impl Survey {
+    // The mask of a vertex.
+    fn mask_of_vertex(&self, parent: &Level, v: u32, scheme: Scheme) -> TermMask<'_>
+        requires known { IsVertexKnown parent.now (scheme_of scheme) v }
+        requires counted { length self.now.masks.masks ≡ parent.now.level.point_count }
+        requires kept { IsKeptFor parent.now (scheme_of scheme) v (get_or self.now.masks.masks v None) }
+        ensures { IsMask (seen_terms result) (vertex_mask parent.now.level (scheme_of scheme) v) }
+    {
+        match self.masks.find(v) {
+            Some(mask) => TermMask::Kept(mask),
+            None => TermMask::Plain(plain_mask(parent, v, scheme)),
+        }
+    }
+
+    /// The mask of a child point. It takes no memory, and looks at no sharpness of a vertex.
+    pub fn mask(&self, parent: &Level, child: &Child, p: u32, scheme: Scheme) -> PointMask<'_>
+        requires child { CanRefine parent.now child.now (scheme_of scheme) }
+        requires known { p < length child.now.origins }
+        requires kept { AreKeptFor parent.now (scheme_of scheme) child.now.origins self.now.masks }
+        ensures { IsMaskOf parent.now.level (scheme_of scheme) (origin_at child.now.origins p) result }
+    {
+        parent.facts();
+        child.facts();
+        match child.origin(p) {
+            Origin::Vertex(v) => PointMask::Terms(self.mask_of_vertex(parent, v, scheme)),
+            Origin::Edge(e) => PointMask::Terms(TermMask::Edge(edge_mask(parent, e, scheme))),
+            Origin::Face(f) => PointMask::Corners(f),
         }
     }
 }
@@ -199,7 +286,7 @@ pub fn survey_over(
     requires child { CanRefine parent.now child.now (scheme_of scheme) }
     requires dens { ArePointDenominators parent.now.level dens.now }
     ensures { MatchResult result
-        (IsSurvey parent.now.level (scheme_of scheme) child.now.origins dens.now)
+        (IsSurvey parent.now (scheme_of scheme) child.now.origins dens.now)
         (IsSurveyFault parent.now.level (scheme_of scheme) child.now.origins dens.now) }
 {
     parent.facts();

@@ -82,12 +82,17 @@ fn around(level: &Level, v: u32) -> PlainMask
     requires known { v < level.now.level.point_count }
     requires few { HasFewTerms level.now v }
     ensures { seen_plain result ≡ record {
-        terms = positive (terms_around (length (ends_in level.now v) * (length (ends_in level.now v) - 2)) (λ i. 1) 1 v (ends_in level.now v) (faces_in level.now v));
-        denominator = length (ends_in level.now v) * length (ends_in level.now v) } }
+      terms = positive (terms_around (length (ends_in level.now v) * (length (ends_in level.now v) - 2)) (λ i. 1) 1 v (ends_in level.now v) (faces_in level.now v));
+      denominator = length (ends_in level.now v) * length (ends_in level.now v);
+    } }
 {
     let mut terms = ArrayVec::new();
     let valence = level.vertex_edges(v).len() as u128;
-    put(&mut terms, At::Point(v), valence * valence.saturating_sub(2));
+    put(
+        &mut terms,
+        At::Point(v),
+        valence * valence.saturating_sub(2),
+    );
     put_ends(&mut terms, level, v);
     put_faces(&mut terms, level, v);
     PlainMask {

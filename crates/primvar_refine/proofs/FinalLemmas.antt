@@ -17,11 +17,11 @@ use Rattle.mask_laws.proofs.SumLemmas.{IsOver}
 use Rattle.level_topology.specs.Topology.{Topology, IsTopology}
 use Rattle.level_topology.specs.Child.{PointOrigin, FromVertex, FromFace, FromEdge, IsOriginWithin, ChildTopology, HasParent}
 use Rattle.primvar_refine.specs.Rows.{Row, row_at, dens_of, StandFor, value_at, least_bound, greatest_of}
-use Rattle.child_masks.specs.Masks.{has_origin, mask_from, masks_from, CanRefine, values_from, HasNoTransition, step_terms, hidden_faces, origin_at}
+use Rattle.child_masks.specs.Masks.{has_origin, mask_from, masks_from, CanRefine, values_from, HasNoTransition, step_terms, hidden_faces, origin_at, is_from_face}
 use Rattle.primvar_refine.specs.Step.{refined_dens, AreRefined}
 use Rattle.child_masks.specs.Survey.{IsSurvey}
 use Rattle.child_masks.specs.declared.survey.Survey.{Survey}
-use Rattle.primvar_refine.specs.Made.{IsMade, is_from_face}
+use Rattle.primvar_refine.specs.Made.{IsMade}
 use Rattle.primvar_refine.specs.Places.{all_origins}
 use Rattle.primvar_refine.specs.Ready.{AreAllMade}
 use Rattle.child_masks.proofs.SourceLemmas.{test-at, edges-inside}
@@ -113,7 +113,7 @@ cut-back n m xs rest ys same e =
 
 -- of the list that is made the child points come first
 pub cut-refined : (parent : Topology) (child : ChildTopology) (scheme : Scheme) (rows : List Row) (survey : Survey) (hidden : List ℕ) (made refined : List Row) (n : ℕ)
-    → IsSurvey parent.level scheme child.origins (dens_of rows) survey → greatest_of survey.dens.items * least_bound rows ≤ number_bound
+    → IsSurvey parent scheme child.origins (dens_of rows) survey → greatest_of survey.dens.items * least_bound rows ≤ number_bound
     → AreAllMade parent child scheme rows hidden made → n ≡ length child.origins → n ≤ length made → refined ≡ take n made
     → AreRefined parent.level scheme child.origins rows refined
 cut-refined parent child scheme rows survey hidden made refined n survey_is kept is counted room cut =
@@ -161,7 +161,7 @@ no-origins parent child scheme is has can empty = at (length child.origins) refl
 
 -- and no value is what is refined
 pub empty-refined : (parent : Topology) (child : ChildTopology) (scheme : Scheme) (rows refined : List Row) (survey : Survey) → IsTopology parent → HasParent child → CanRefine parent child scheme
-    → IsSurvey parent.level scheme child.origins (dens_of rows) survey → greatest_of survey.dens.items * least_bound rows ≤ number_bound
+    → IsSurvey parent scheme child.origins (dens_of rows) survey → greatest_of survey.dens.items * least_bound rows ≤ number_bound
     → parent.level.point_count ≡ 0 → length refined ≡ 0 → AreRefined parent.level scheme child.origins rows refined
 empty-refined parent child scheme rows refined survey is has can survey_is kept empty nothing =
     let none = no-origins parent child scheme is has can empty in

@@ -63,7 +63,7 @@ record IsShort (most n : ℕ) : Type 0 where
   kept : n * most ≤ number_bound
 
 module _ (parent : Topology) (child : ChildTopology) (scheme : Scheme) (rows : List Row) (survey : Survey) (is : IsTopology parent) (has : HasParent child)
-    (can : CanRefine parent child scheme) (good : AreGood rows) (survey_is : IsSurvey parent.level scheme child.origins (dens_of rows) survey)
+    (can : CanRefine parent child scheme) (good : AreGood rows) (survey_is : IsSurvey parent scheme child.origins (dens_of rows) survey)
     (kept : greatest_of survey.dens.items * least_bound rows ≤ number_bound) where
   abbrev own_den : PointOrigin → ℕ
   own_den origin = mask_denominator (source_denominator parent.level (dens_of rows)) (mask_from parent.level scheme origin)

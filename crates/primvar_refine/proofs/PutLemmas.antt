@@ -1,20 +1,16 @@
 -- One value put into a list, and what is made after it.
-use Rattle.std.proofs.Common.{◌≡◌, ℕ, ◌+◌, ◌<◌, ◌≤◌, true, false, ℤ, List, [], length, take, get_or, slice_set, arith, refl, ap, sym, ◌∙◌, subst, inl, inr, ◌⊎◌}
+use Rattle.std.proofs.Common.{◌≡◌, ℕ, ◌+◌, ◌<◌, ◌≤◌, false, ℤ, List, [], length, take, get_or, slice_set, arith, refl, ap, sym, ◌∙◌, subst, inl, inr, ◌⊎◌}
 use Rattle.std.specs.List.{sum_by}
 use Rattle.std.proofs.lemmas.Bool.{cases_lt}
 use Rattle.std.proofs.lemmas.List.{get_or-map, length-map, take_all, map-set, length-set, get_or-set_same, get_or-set_other}
 use Rattle.std.proofs.lemmas.List.Sums.{sum_by_more}
 use Rattle.subdiv_model.specs.Level.{Level}
 use Rattle.subdiv_model.specs.Mask.{Scheme, face_mask}
-use Rattle.level_topology.specs.Topology.{Topology}
-use Rattle.level_topology.specs.Child.{PointOrigin, FromVertex, FromFace}
-use Rattle.level_topology.specs.ChildTables.{origin_of}
-use Rattle.level_topology.specs.declared.child_origin.Origin.{Origin}
+use Rattle.level_topology.specs.Child.{PointOrigin, FromVertex, FromFace, FromEdge}
 use Rattle.primvar_refine.specs.Rows.{Row, row_at}
 use Rattle.primvar_refine.specs.View.{row_of, rows_of}
-use Rattle.child_masks.specs.Masks.{mask_from, origin_at}
-use Rattle.primvar_refine.specs.Made.{IsMade, is_from_face, IsPut, AreFacesMade, AreHiddenMade, KeepDens, terms_of_other}
-use Rattle.primvar_refine.specs.Ready.{CanPut}
+use Rattle.child_masks.specs.Masks.{mask_from, origin_at, is_from_face}
+use Rattle.primvar_refine.specs.Made.{IsMade, IsPut, AreFacesMade, AreHiddenMade, KeepDens, terms_of_other}
 use Rattle.primvar_refine.specs.declared.valued.Valued.{Valued}
 
 abbrev blank : Row
@@ -155,22 +151,8 @@ pub row-there : {P : Type 0} (numbers : P → List ℤ) (values : List (Valued P
     → row_of numbers v ≡ row_at (rows_of numbers values) p
 row-there numbers values p v inside is = ap (row_of numbers) is ∙ sym (get_or-map (row_of numbers) values p v blank inside)
 
--- a point, by the vertex or the edge that it comes from
-module _ (parent : Topology) (scheme : Scheme) (rows : List Row) (origin part : Origin) (is : origin ≡ part) where
-  -- what is asked of the one is asked of the other
-  pub part-can : (made : List Row) (places : List ℕ) (den : ℕ) → CanPut parent scheme rows made places den (origin_of origin)
-      → CanPut parent scheme rows made places den (origin_of part)
-  part-can made places den can = subst (λ o. CanPut parent scheme rows made places den (origin_of o)) is can
-
-  -- it comes from no face
-  pub part-not-face : is_from_face (origin_of part) ≡ false → is_from_face (origin_of origin) ≡ true → ⊥
-  part-not-face other face = cc (sym other ∙ ap (λ (o : Origin). is_from_face (origin_of o)) (sym is) ∙ face)
-
-  -- what is made of the part is made of the point
-  pub part-made : (row : Row) → IsMade parent.level rows (mask_from parent.level scheme (origin_of part)) row → is_from_face (origin_of origin) ≡ false
-      → IsMade parent.level rows (mask_from parent.level scheme (origin_of origin)) row
-  part-made row made other = subst (λ o. IsMade parent.level rows (mask_from parent.level scheme (origin_of o)) row) (sym is) made
-
-  -- and it takes as many terms
-  pub part-taken : (old new : ℕ) → new ≡ old + terms_of_other parent.level scheme (origin_of part) → new ≡ old + terms_of_other parent.level scheme (origin_of origin)
-  part-taken old new taken = taken ∙ ap (λ (o : Origin). old + terms_of_other parent.level scheme (origin_of o)) (sym is)
+-- a point that comes from no face takes the terms of its mask
+pub other-terms : (level : Level) (scheme : Scheme) (origin : PointOrigin) → is_from_face origin ≡ false → length (mask_from level scheme origin).terms ≡ terms_of_other level scheme origin
+other-terms level scheme (FromVertex v) other = refl
+other-terms level scheme (FromFace f) other = absurd (cc)
+other-terms level scheme (FromEdge e) other = refl

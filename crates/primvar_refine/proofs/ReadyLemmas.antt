@@ -1,5 +1,5 @@
 -- What is asked for the value of each point is there.
-use Rattle.std.proofs.Common.{◌≡◌, ◌≢◌, ℕ, ◌+◌, ◌-◌, ◌*◌, ◌<◌, ◌≤◌, Bool, true, false, nat_lt, ℤ, List, [], ◌∷◌, length, map, get_or, Result, Ok, Err, OnOk, arith, refl, ap, sym, ◌∙◌, subst, inl, inr, ◌⊎◌, length-append}
+use Rattle.std.proofs.Common.{◌≡◌, ◌≢◌, ℕ, ◌+◌, ◌-◌, ◌*◌, ◌<◌, ◌≤◌, Bool, true, false, nat_lt, ℤ, List, [], ◌∷◌, length, map, get_or, arith, refl, ap, sym, ◌∙◌, subst, inl, inr, ◌⊎◌, length-append}
 use Rattle.std.specs.List.{All, AllByRecursion, list_any}
 use Rattle.std.proofs.lemmas.Bool.{cases_lt}
 use Rattle.std.proofs.lemmas.Bool.Decides.{nat_tests}
@@ -13,16 +13,15 @@ use Rattle.subdiv_model.specs.Channel.{number_bound}
 use Rattle.sharpness_laws.proofs.JoinedWeightLemmas.{source-refl}
 use Rattle.mask_laws.proofs.ListLemmas.{each-passes}
 use Rattle.level_topology.specs.Topology.{Topology, IsTopology}
-use Rattle.level_topology.specs.Child.{PointOrigin, FromVertex, FromFace, FromEdge, IsOriginWithin, ChildTopology, HasParent, same_origin}
-use Rattle.level_topology.proofs.ChildLemmas.{same_origin-refl}
+use Rattle.level_topology.specs.Child.{PointOrigin, FromVertex, FromFace, IsOriginWithin, ChildTopology, HasParent}
 use Rattle.primvar_refine.specs.Rows.{Row, row_at, dens_of, AreGood, least_bound}
 use Rattle.primvar_refine.specs.declared.valued.Valued.{Valued}
 use Rattle.primvar_refine.specs.View.{row_of, rows_of}
-use Rattle.child_masks.specs.Masks.{mask_from, masks_from, has_origin, origin_at}
+use Rattle.child_masks.specs.Masks.{mask_from, masks_from, origin_at, is_from_face}
 use Rattle.primvar_refine.specs.Sums.{source_row, HasRow}
-use Rattle.primvar_refine.specs.Made.{IsRowOf, IsMade, AreHeld, CanMake, is_from_face, IsPut, CanMakeFaces, AreFacesMade, AreOthersMade, AreHiddenMade, KeepDens}
+use Rattle.primvar_refine.specs.Made.{IsRowOf, IsMade, AreHeld, CanMake, IsPut, CanMakeFaces, AreFacesMade, AreOthersMade, AreHiddenMade, KeepDens}
 use Rattle.primvar_refine.specs.Places.{all_origins}
-use Rattle.primvar_refine.specs.Ready.{CanPut, IsReady, AreAllMade}
+use Rattle.primvar_refine.specs.Ready.{IsReady, AreAllMade}
 use Rattle.child_masks.proofs.DenLemmas.{face-positive}
 use Rattle.primvar_refine.proofs.SurveyLemmas.{good-positive}
 use Rattle.primvar_refine.proofs.MadeLemmas.{point-row}
@@ -139,7 +138,7 @@ module _ (parent : Topology) (child : ChildTopology) (scheme : Scheme) (rows : L
         (any-at (λ (t : Term). same_source (get_or terms i d).source t.source) terms i d below (source-refl (get_or terms i d).source)))
 
     -- so that its mask can be summed
-    all-can : (p : ℕ) → p < length child.origins → IsOriginWithin parent.level.point_count (length parent.level.polygons) (length (edges_of parent.level.polygons)) (origin_at child.origins p)
+    pub all-can : (p : ℕ) → p < length child.origins → IsOriginWithin parent.level.point_count (length parent.level.polygons) (length (edges_of parent.level.polygons)) (origin_at child.origins p)
         → CanMake parent.level rows made places (mask_from parent.level scheme (origin_at child.origins p)) (row_at made p).den
     all-can p inside within =
         let among : p < length all = omega (arith, inside, length-append child.origins (map FromFace hidden)) in
@@ -151,37 +150,6 @@ module _ (parent : Topology) (child : ChildTopology) (scheme : Scheme) (rows : L
           kept = ready.dens.kept p among;
           sources = all-held p inside within;
         }
-
-    -- and its value put
-    pub can-put : (p : ℕ) (origin : PointOrigin) → origin ≡ origin_at child.origins p → p < length child.origins
-        → IsOriginWithin parent.level.point_count (length parent.level.polygons) (length (edges_of parent.level.polygons)) origin
-        → CanPut parent scheme rows made places (row_at made p).den origin
-    can-put p (FromFace f) e inside within = tt
-    can-put p (FromVertex v) e inside within =
-        let has : has_origin child.origins (FromVertex v) ≡ true =
-        any-at (same_origin (FromVertex v)) child.origins p (FromVertex 0) inside (ap (same_origin (FromVertex v)) (sym e) ∙ same_origin-refl (FromVertex v)) in
-        let Make : PointOrigin → Type 0 = λ o. CanMake parent.level rows made places (mask_from parent.level scheme o) (row_at made p).den in
-        let Within : PointOrigin → Type 0 = IsOriginWithin parent.level.point_count (length parent.level.polygons) (length (edges_of parent.level.polygons)) in (
-          record {
-            known = within;
-            complete = ready.can.complete v has;
-            boundary = λ cc_scheme. ready.can.boundary cc_scheme v has;
-            fine = λ cc_scheme. ready.can.fine cc_scheme v has;
-            allowed = ready.allowed v has;
-          },
-          subst Make (sym e) (all-can p inside (subst Within e within)),
-        )
-    can-put p (FromEdge d) e inside within =
-        let has : has_origin child.origins (FromEdge d) ≡ true =
-        any-at (same_origin (FromEdge d)) child.origins p (FromVertex 0) inside (ap (same_origin (FromEdge d)) (sym e) ∙ same_origin-refl (FromEdge d)) in
-        let Make : PointOrigin → Type 0 = λ o. CanMake parent.level rows made places (mask_from parent.level scheme o) (row_at made p).den in
-        let Within : PointOrigin → Type 0 = IsOriginWithin parent.level.point_count (length parent.level.polygons) (length (edges_of parent.level.polygons)) in (
-          record {
-            known = within;
-            inside = λ cc_scheme. ready.can.inside cc_scheme d has;
-          },
-          subst Make (sym e) (all-can p inside (subst Within e within)),
-        )
 
 -- denominators that stay are as good
 pub ready-kept : (parent : Topology) (child : ChildTopology) (scheme : Scheme) (rows : List Row) (named : List Bool) (hidden places : List ℕ) (before after : List Row)
@@ -345,12 +313,11 @@ pub others-all : (level : Level) (scheme : Scheme) (rows : List Row) (origins : 
     → AreOthersMade level scheme rows origins p made → AreOthersMade level scheme rows origins (length origins) made
 others-all level scheme rows origins p made past are = record { each = λ q below inside other. are.each q (omega (arith, past, below)) inside other }
 
--- the values of all points, if they were put
-pub all-made : {X E : Type 0} (parent : Topology) (child : ChildTopology) (scheme : Scheme) (rows : List Row) (hidden : List ℕ) (made : List Row) (result : Result X E)
-    → OnOk result (AreFacesMade parent.level rows (all_origins child.origins hidden) (length (all_origins child.origins hidden)) made)
-    → OnOk result (AreOthersMade parent.level scheme rows child.origins (length child.origins) made) → OnOk result (AreAllMade parent child scheme rows hidden made)
-all-made parent child scheme rows hidden made (Ok x) faces others = record { faces = faces; others = others }
-all-made parent child scheme rows hidden made (Err e) faces others = tt
+-- the values of all points
+pub all-made : (parent : Topology) (child : ChildTopology) (scheme : Scheme) (rows : List Row) (hidden : List ℕ) (made : List Row)
+    → AreFacesMade parent.level rows (all_origins child.origins hidden) (length (all_origins child.origins hidden)) made
+    → AreOthersMade parent.level scheme rows child.origins (length child.origins) made → AreAllMade parent child scheme rows hidden made
+all-made parent child scheme rows hidden made faces others = record { faces = faces; others = others }
 
 -- after the child points there is room for the hidden faces
 pub hidden-room : {P : Type 0} (numbers : P → List ℤ) (parent : Topology) (child : ChildTopology) (scheme : Scheme) (rows : List Row) (named : List Bool) (hidden places : List ℕ)

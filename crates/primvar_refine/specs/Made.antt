@@ -1,5 +1,5 @@
 -- Rows that have the values of sources and of masks.
-use Rattle.std.specs.Prelude.{ℕ, ◌≡◌, ◌≢◌, ◌+◌, ◌*◌, ◌<◌, ◌≤◌, Bool, true, false, pos, List, [], length, get_or}
+use Rattle.std.specs.Prelude.{ℕ, ◌≡◌, ◌≢◌, ◌+◌, ◌*◌, ◌<◌, ◌≤◌, false, pos, List, [], length, get_or}
 use Rattle.std.specs.List.{All}
 use Rattle.subdiv_model.specs.Level.{Level}
 use Rattle.subdiv_model.specs.Value.{Value}
@@ -11,7 +11,7 @@ use Rattle.ratio128.specs.Numbers.{greatest_amount}
 use Rattle.level_topology.specs.Topology.{edge_at}
 use Rattle.level_topology.specs.Child.{PointOrigin, FromVertex, FromFace, FromEdge}
 use Rattle.primvar_refine.specs.Rows.{Row, row_at, dens_of, StandFor, AreWithin, AreGood, least_bound}
-use Rattle.child_masks.specs.Masks.{mask_from, origin_at}
+use Rattle.child_masks.specs.Masks.{mask_from, origin_at, is_from_face}
 use Rattle.primvar_refine.specs.Sums.{source_row, HasRow}
 
 -- Over this denominator the row has the values that follow from those of the level, and none is above a whole number in amount
@@ -29,11 +29,6 @@ IsRowOf level rows source row = HasValues rows (λ values. source_value level va
 abbrev pub IsMade : Level → List Row → Mask → Row → Type 0
 IsMade level rows mask row =
     HasValues rows (λ values. mask_value (source_value level values) mask) (mask_denominator (source_denominator level (dens_of rows)) mask) row
-
-abbrev pub is_from_face : PointOrigin → Bool
-is_from_face (FromVertex v) = false
-is_from_face (FromFace f) = true
-is_from_face (FromEdge e) = false
 
 -- each source of the terms has a row that is its own
 pub record AreHeld (level : Level) (rows made : List Row) (places : List ℕ) (terms : List Term) : Type 0 where

@@ -44,7 +44,7 @@ pub(crate) fn survey_step<P: Primvar<L>, L: Ledger>(
     requires each { length values.now ≡ parent.now.level.point_count }
     requires good { AreGood (rows_of P.numbers values.now) }
     ensures { MatchResult result
-        (IsSurvey parent.now.level (scheme_of scheme) child.now.origins (dens_of (rows_of P.numbers values.now)))
+        (IsSurvey parent.now (scheme_of scheme) child.now.origins (dens_of (rows_of P.numbers values.now)))
         (IsValueFault parent.now.level (scheme_of scheme) child.now.origins (rows_of P.numbers values.now)) }
 {
     let dens = denominators(alloc, values)?;

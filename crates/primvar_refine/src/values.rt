@@ -9,6 +9,7 @@ ghost use Rattle.primvar_refine.specs.View.{rows_of};
 ghost use Rattle.child_masks.specs.Masks.{CanRefine, step_terms};
 ghost use Rattle.primvar_refine.specs.Step.{AreRefined};
 ghost use Rattle.child_masks.specs.Survey.{IsSurvey};
+ghost use Rattle.child_masks.specs.MaskOf.{AreKeptFor};
 ghost use Rattle.primvar_refine.specs.Made.{KeepDens};
 ghost use Rattle.primvar_refine.specs.Ready.{IsReady, AreAllMade, all_terms};
 
@@ -71,7 +72,6 @@ fn zeros<P: Primvar<L>, L: Ledger>(
 
 // The values of all that has a zero in the list: those of faces first.
 fn put_all<P: Primvar<L>, L: Ledger>(
-    alloc: Global,
     parent: &Level,
     child: &Child,
     scheme: Scheme,
@@ -81,14 +81,13 @@ fn put_all<P: Primvar<L>, L: Ledger>(
     zero: &P,
     made: &mut [Valued<P>],
     steps: &mut Steps<L>,
-) -> Result<(), Memory>
+)
     requires ready { IsReady parent.now child.now (scheme_of scheme) (rows_of P.numbers values.now) survey.now.named.items places.now.hidden.items places.now.of_faces.items (rows_of P.numbers made.old) }
+    requires masks { AreKeptFor parent.now (scheme_of scheme) child.now.origins survey.now.masks }
     requires alike { length (P.numbers zero.now) ≡ length (row_at (rows_of P.numbers values.now) 0).numbers }
     ensures dens { KeepDens (rows_of P.numbers made.old) (rows_of P.numbers made.new) }
-    ensures made { OnOk result (AreAllMade parent.now child.now (scheme_of scheme) (rows_of P.numbers values.now) places.now.hidden.items (rows_of P.numbers made.new)) }
-    ensures taken { OnOk result (steps.new ≡ steps.old + all_terms parent.now child.now (scheme_of scheme) places.now.hidden.items) }
-    ensures steps { steps.new ≤ steps.old + all_terms parent.now child.now (scheme_of scheme) places.now.hidden.items }
-    ensures later { steps.old ≤ steps.new }
+    ensures made { AreAllMade parent.now child.now (scheme_of scheme) (rows_of P.numbers values.now) places.now.hidden.items (rows_of P.numbers made.new) }
+    ensures steps { steps.new ≡ steps.old + all_terms parent.now child.now (scheme_of scheme) places.now.hidden.items }
 {
     parent.facts();
     child.facts();
@@ -96,8 +95,8 @@ fn put_all<P: Primvar<L>, L: Ledger>(
     put_faces(parent, child, values, zero, made, steps);
     put_hidden(parent, &places.hidden, first, values, zero, made, steps);
     put_points(
-        alloc, parent, child, scheme, survey, places, values, zero, made, steps,
-    )
+        parent, child, scheme, survey, places, values, zero, made, steps,
+    );
 }
 
 // The values of a level with points: `zero` has as many numbers as they have.
@@ -115,7 +114,7 @@ fn make_all<P: Primvar<L>, L: Ledger>(
     requires each { length values.now ≡ parent.now.level.point_count }
     requires good { AreGood (rows_of P.numbers values.now) }
     requires alike { length (P.numbers zero.now) ≡ length (row_at (rows_of P.numbers values.now) 0).numbers }
-    requires survey { IsSurvey parent.now.level (scheme_of scheme) child.now.origins (dens_of (rows_of P.numbers values.now)) survey.now }
+    requires survey { IsSurvey parent.now (scheme_of scheme) child.now.origins (dens_of (rows_of P.numbers values.now)) survey.now }
     requires kept { greatest_of survey.now.dens.items * least_bound (rows_of P.numbers values.now) ≤ number_bound }
     ensures refined { IfOk result (λ refined. AreRefined parent.now.level (scheme_of scheme) child.now.origins (rows_of P.numbers values.now) (rows_of P.numbers refined.items)) }
     ensures taken { OnOk result (steps.new ≡ steps.old + step_terms parent.now.level (scheme_of scheme) child.now.origins) }
@@ -128,8 +127,8 @@ fn make_all<P: Primvar<L>, L: Ledger>(
     let mut made = zeros(alloc, zero, &survey.dens)?;
     push_hidden(&mut made, zero, &survey.faces, &places.hidden)?;
     put_all(
-        alloc, parent, child, scheme, survey, &places, values, zero, &mut made, steps,
-    )?;
+        parent, child, scheme, survey, &places, values, zero, &mut made, steps,
+    );
     made.truncate(survey.dens.len());
     Ok(made)
 }
@@ -149,7 +148,7 @@ pub(crate) fn make_values<P: Primvar<L>, L: Ledger>(
     requires child { CanRefine parent.now child.now (scheme_of scheme) }
     requires each { length values.now ≡ parent.now.level.point_count }
     requires good { AreGood (rows_of P.numbers values.now) }
-    requires survey { IsSurvey parent.now.level (scheme_of scheme) child.now.origins (dens_of (rows_of P.numbers values.now)) survey.now }
+    requires survey { IsSurvey parent.now (scheme_of scheme) child.now.origins (dens_of (rows_of P.numbers values.now)) survey.now }
     requires kept { greatest_of survey.now.dens.items * least_bound (rows_of P.numbers values.now) ≤ number_bound }
     ensures refined { IfOk result (λ refined. AreRefined parent.now.level (scheme_of scheme) child.now.origins (rows_of P.numbers values.now) (rows_of P.numbers refined.items)) }
     ensures taken { OnOk result (steps.new ≡ steps.old + step_terms parent.now.level (scheme_of scheme) child.now.origins) }

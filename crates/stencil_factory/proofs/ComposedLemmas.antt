@@ -10,6 +10,7 @@ use Rattle.subdiv_model.specs.Mask.{Scheme, Mask}
 use Rattle.subdiv_model.specs.Refined.{mask_value, source_value, mask_denominator, source_denominator}
 use Rattle.subdiv_model.specs.Support.{mask_support, source_support}
 use Rattle.mask_laws.proofs.SumLemmas.{IsOver}
+use Rattle.level_topology.specs.Topology.{Topology}
 use Rattle.level_topology.specs.Child.{PointOrigin, FromVertex}
 use Rattle.child_masks.specs.Masks.{mask_from, masks_from, HasNoTransition}
 use Rattle.child_masks.specs.Survey.{IsSurvey}
@@ -31,14 +32,14 @@ row-some level table mask row is = some row.shares (omega (arith, is.is.positive
     some (share ∷ shares) h = omega arith
 
 -- the row of a point, as it is read for the builder
-pub row-read : (level : Level) (table : Table) (scheme : Scheme) (origins : List PointOrigin) (survey : Survey) (p den : ℕ) (made read : List Entry) → IsSurvey level scheme origins (dens_of table) survey → p < length origins
-    → IsComposedRow level table (mask_from level scheme (get_or origins p (FromVertex 0))) (record { den = get_or survey.dens.items p 0; shares = shares_of made })
-    → den ≡ get_or survey.dens.items p den → read ≡ made → IsComposedRow level table (mask_from level scheme (get_or origins p (FromVertex 0))) (row_of den read)
-row-read level table scheme origins survey p den made read found inside is e same =
-    let below : p < length survey.dens.items = omega (arith, inside, found-count level scheme origins (dens_of table) survey found) in
-    let mask = mask_from level scheme (get_or origins p (FromVertex 0)) in
-    subst (λ (entries : List Entry). IsComposedRow level table mask (row_of den entries)) (sym same)
-    (subst (λ (n : ℕ). IsComposedRow level table mask (row_of n made)) (sym (get_or_read survey.dens.items p den below e 0)) is)
+pub row-read : (parent : Topology) (table : Table) (scheme : Scheme) (origins : List PointOrigin) (survey : Survey) (p den : ℕ) (made read : List Entry) → IsSurvey parent scheme origins (dens_of table) survey → p < length origins
+    → IsComposedRow parent.level table (mask_from parent.level scheme (get_or origins p (FromVertex 0))) (record { den = get_or survey.dens.items p 0; shares = shares_of made })
+    → den ≡ get_or survey.dens.items p den → read ≡ made → IsComposedRow parent.level table (mask_from parent.level scheme (get_or origins p (FromVertex 0))) (row_of den read)
+row-read parent table scheme origins survey p den made read found inside is e same =
+    let below : p < length survey.dens.items = omega (arith, inside, found-count parent scheme origins (dens_of table) survey found) in
+    let mask = mask_from parent.level scheme (get_or origins p (FromVertex 0)) in
+    subst (λ (entries : List Entry). IsComposedRow parent.level table mask (row_of den entries)) (sym same)
+    (subst (λ (n : ℕ). IsComposedRow parent.level table mask (row_of n made)) (sym (get_or_read survey.dens.items p den below e 0)) is)
 
 module _ (level : Level) (table : Table) where
   abbrev support : Mask → List ℕ

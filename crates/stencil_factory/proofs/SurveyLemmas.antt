@@ -7,6 +7,7 @@ use Rattle.subdiv_model.specs.Level.{Level}
 use Rattle.subdiv_model.specs.Mask.{Scheme, Mask}
 use Rattle.subdiv_model.specs.Refined.{mask_denominator, source_denominator}
 use Rattle.subdiv_model.specs.Channel.{number_bound}
+use Rattle.level_topology.specs.Topology.{Topology}
 use Rattle.level_topology.specs.Child.{PointOrigin, FromVertex}
 use Rattle.child_masks.specs.Masks.{mask_from, masks_from}
 use Rattle.child_masks.specs.Survey.{IsSurvey}
@@ -23,14 +24,14 @@ point-dens table level is each = record {
   short = All-map (λ den. den ≤ number_bound) (λ (row : Row). row.den) table.rows (λ i d inside. (is.rows i d inside).short);
 }
 
-module _ (level : Level) (scheme : Scheme) (origins : List PointOrigin) (dens : List ℕ) (survey : Survey) (is : IsSurvey level scheme origins dens survey) where
+module _ (parent : Topology) (scheme : Scheme) (origins : List PointOrigin) (dens : List ℕ) (survey : Survey) (is : IsSurvey parent scheme origins dens survey) where
   abbrev own : ℕ → ℕ
-  own p = mask_denominator (source_denominator level dens) (mask_from level scheme (get_or origins p (FromVertex 0)))
+  own p = mask_denominator (source_denominator parent.level dens) (mask_from parent.level scheme (get_or origins p (FromVertex 0)))
 
   -- there is a denominator for each point
   pub found-count : length survey.dens.items ≡ length origins
   found-count =
-      ap length is.dens ∙ length-map (masks_from level scheme origins) (mask_denominator (source_denominator level dens)) ∙ length-map origins (mask_from level scheme)
+      ap length is.dens ∙ length-map (masks_from parent.level scheme origins) (mask_denominator (source_denominator parent.level dens)) ∙ length-map origins (mask_from parent.level scheme)
 
   pub found-inside : (p : ℕ) → p < length origins → p < length survey.dens.items
   found-inside p inside = subst (λ n. p < n) (sym found-count) inside
@@ -40,9 +41,9 @@ module _ (level : Level) (scheme : Scheme) (origins : List PointOrigin) (dens : 
   found-at p d inside =
       let none : Mask = record { terms = []; denominator = 0 } in
       ap (λ l. get_or l p d) is.dens
-      ∙ get_or-map (mask_denominator (source_denominator level dens)) (masks_from level scheme origins) p none d
-      (subst (λ n. p < n) (sym (length-map origins (mask_from level scheme))) inside)
-      ∙ ap (mask_denominator (source_denominator level dens)) (get_or-map (mask_from level scheme) origins p (FromVertex 0) none inside)
+      ∙ get_or-map (mask_denominator (source_denominator parent.level dens)) (masks_from parent.level scheme origins) p none d
+      (subst (λ n. p < n) (sym (length-map origins (mask_from parent.level scheme))) inside)
+      ∙ ap (mask_denominator (source_denominator parent.level dens)) (get_or-map (mask_from parent.level scheme) origins p (FromVertex 0) none inside)
 
   pub found-den : (p : ℕ) → p < length origins → get_or survey.dens.items p 0 ≡ own p
   found-den p inside = found-at p 0 inside
@@ -56,12 +57,12 @@ module _ (level : Level) (scheme : Scheme) (origins : List PointOrigin) (dens : 
 
   -- so what was read of a point is the denominator for the part that it comes from, and within its bound
   pub found-read : (p den : ℕ) (origin : PointOrigin) → p < length origins → origin ≡ get_or origins p (FromVertex 0) → den ≡ get_or survey.dens.items p den
-      → (den ≡ mask_denominator (source_denominator level dens) (mask_from level scheme origin)) × (den ≤ number_bound)
+      → (den ≡ mask_denominator (source_denominator parent.level dens) (mask_from parent.level scheme origin)) × (den ≤ number_bound)
   found-read p den origin inside from read = (
-    read ∙ found-at p den inside ∙ ap (λ o. mask_denominator (source_denominator level dens) (mask_from level scheme o)) (sym from),
+    read ∙ found-at p den inside ∙ ap (λ o. mask_denominator (source_denominator parent.level dens) (mask_from parent.level scheme o)) (sym from),
     subst (λ n. n ≤ number_bound) (sym read) (found-short p den inside),
   )
 
   -- the faces have theirs
-  pub found-faces : AreFaceDenominators level dens survey.faces.items
+  pub found-faces : AreFaceDenominators parent.level dens survey.faces.items
   found-faces = record { count = is.face_count; each = is.faces }

@@ -95,7 +95,6 @@ fn sum_rows(
 
 // Puts the entries of the row of a child point in their place.
 fn compose_row(
-    alloc: Global,
     table: &StencilTable,
     parent: &Level,
     child: &Child,
@@ -107,7 +106,7 @@ fn compose_row(
     requires child { CanRefine parent.now child.now (scheme_of scheme) }
     requires each { length table.now.rows ≡ parent.now.level.point_count }
     requires known { p < length child.now.origins }
-    requires survey { IsSurvey parent.now.level (scheme_of scheme) child.now.origins (dens_of table.now) survey.now }
+    requires survey { IsSurvey parent.now (scheme_of scheme) child.now.origins (dens_of table.now) survey.now }
     requires points { room.old.points ≡ replicate parent.now.level.point_count 0 }
     requires controls { room.old.controls ≡ replicate table.now.controls 0 }
     ensures points { OnOk result (room.new.points ≡ replicate parent.now.level.point_count 0) }
@@ -120,7 +119,6 @@ fn compose_row(
     table.facts();
     let dens = table.denominators();
     weigh_point(
-        alloc,
         parent,
         child,
         p,
@@ -135,7 +133,6 @@ fn compose_row(
 
 // Puts the rows of all child points.
 fn put_rows(
-    alloc: Global,
     table: &StencilTable,
     parent: &Level,
     child: &Child,
@@ -146,7 +143,7 @@ fn put_rows(
 ) -> Result<(), Memory>
     requires child { CanRefine parent.now child.now (scheme_of scheme) }
     requires each { length table.now.rows ≡ parent.now.level.point_count }
-    requires survey { IsSurvey parent.now.level (scheme_of scheme) child.now.origins (dens_of table.now) survey.now }
+    requires survey { IsSurvey parent.now (scheme_of scheme) child.now.origins (dens_of table.now) survey.now }
     requires few { entries_from parent.now.level (scheme_of scheme) child.now.origins table.now ≤ entry_bound }
     requires points { room.old.points ≡ replicate parent.now.level.point_count 0 }
     requires controls { room.old.controls ≡ replicate table.now.controls 0 }
@@ -157,7 +154,7 @@ fn put_rows(
     child.facts();
     table.facts();
     for p in 0..child.level().points() {
-        compose_row(alloc, table, parent, child, p, scheme, survey, room)?;
+        compose_row(table, parent, child, p, scheme, survey, room)?;
         builder.add_row(survey.dens[p as usize], &room.entries)?;
     }
     Ok(())
@@ -176,7 +173,7 @@ fn rows_in(
 ) -> Result<StencilTable, Memory>
     requires child { CanRefine parent.now child.now (scheme_of scheme) }
     requires each { length table.now.rows ≡ parent.now.level.point_count }
-    requires survey { IsSurvey parent.now.level (scheme_of scheme) child.now.origins (dens_of table.now) survey.now }
+    requires survey { IsSurvey parent.now (scheme_of scheme) child.now.origins (dens_of table.now) survey.now }
     requires counted { entries ≡ entries_from parent.now.level (scheme_of scheme) child.now.origins table.now }
     requires few { entries ≤ entry_bound }
     requires points { room.old.points ≡ replicate parent.now.level.point_count 0 }
@@ -187,16 +184,7 @@ fn rows_in(
     // Each row has an entry, so that there are no more rows.
     let rows = child.level().points().min(entries as u32);
     let mut builder = TableBuilder::with_room(alloc, table.controls(), rows, entries)?;
-    put_rows(
-        alloc,
-        table,
-        parent,
-        child,
-        scheme,
-        survey,
-        room,
-        &mut builder,
-    )?;
+    put_rows(table, parent, child, scheme, survey, room, &mut builder)?;
     Ok(builder.finish())
 }
 
@@ -212,7 +200,7 @@ fn compose_rows(
 ) -> Result<StencilTable, Memory>
     requires child { CanRefine parent.now child.now (scheme_of scheme) }
     requires each { length table.now.rows ≡ parent.now.level.point_count }
-    requires survey { IsSurvey parent.now.level (scheme_of scheme) child.now.origins (dens_of table.now) survey.now }
+    requires survey { IsSurvey parent.now (scheme_of scheme) child.now.origins (dens_of table.now) survey.now }
     requires counted { entries ≡ entries_from parent.now.level (scheme_of scheme) child.now.origins table.now }
     requires few { entries ≤ entry_bound }
     ensures { IfOk result (λ composed. IsComposed parent.now.level (scheme_of scheme) child.now.origins table.now composed) }
@@ -236,12 +224,12 @@ fn compose_found(
 ) -> Result<StencilTable, TableFault>
     requires child { CanRefine parent.now child.now (scheme_of scheme) }
     requires each { length table.now.rows ≡ parent.now.level.point_count }
-    requires survey { IsSurvey parent.now.level (scheme_of scheme) child.now.origins (dens_of table.now) survey.now }
+    requires survey { IsSurvey parent.now (scheme_of scheme) child.now.origins (dens_of table.now) survey.now }
     ensures { MatchResult result
         (λ composed. IsComposed parent.now.level (scheme_of scheme) child.now.origins table.now composed)
         (λ fault. IsTableFault parent.now.level (scheme_of scheme) child.now.origins table.now fault) }
 {
-    match count_entries(alloc, table, parent, child, scheme)? {
+    match count_entries(alloc, table, parent, child, scheme, survey)? {
         Some(entries) => {
             let composed = compose_rows(alloc, table, parent, child, scheme, survey, entries)?;
             Ok(composed)

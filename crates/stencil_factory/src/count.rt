@@ -7,12 +7,14 @@ ghost use Rattle.subdiv_model.specs.Support.{mask_support, source_support};
 ghost use Rattle.level_topology.specs.Child.{FromVertex};
 ghost use Rattle.mask_rules.specs.View.{scheme_of};
 ghost use Rattle.child_masks.specs.Masks.{CanRefine, mask_from};
+ghost use Rattle.child_masks.specs.MaskOf.{AreKeptFor};
 ghost use Rattle.stencil_factory.specs.Rows.{supports_of};
 ghost use Rattle.stencil_factory.specs.Marks.{marked_all, marked_rows, AreMarks};
 ghost use Rattle.stencil_factory.specs.Composed.{entries_from};
 
 use crate::met::Met;
 use crate::name::name_point;
+use child_masks::Survey;
 use level_topology::{Child, Level};
 use mask_rules::Scheme;
 use ratio128::Memory;
@@ -87,15 +89,16 @@ fn mark_rows(table: &StencilTable, points: &[u32], marks: &mut Vec<u32>, mark: u
 
 // How many entries the row of a child point has.
 fn count_row(
-    alloc: Global,
     table: &StencilTable,
     parent: &Level,
     child: &Child,
     p: u32,
     scheme: Scheme,
+    survey: &Survey,
     room: &mut Marks,
 ) -> Result<u64, Memory>
     requires child { CanRefine parent.now child.now (scheme_of scheme) }
+    requires masks { AreKeptFor parent.now (scheme_of scheme) child.now.origins survey.now.masks }
     requires each { length table.now.rows ≡ parent.now.level.point_count }
     requires known { p < length child.now.origins }
     requires points { room.old.points.count ≡ parent.now.level.point_count }
@@ -110,7 +113,7 @@ fn count_row(
     parent.facts();
     child.facts();
     table.facts();
-    name_point(alloc, parent, child, p, scheme, &mut room.points)?;
+    name_point(parent, child, p, scheme, survey, &mut room.points)?;
     let points = room.points.places();
     Ok(mark_rows(table, points, &mut room.marks, p + 1))
 }
@@ -122,8 +125,10 @@ pub(crate) fn count_entries(
     parent: &Level,
     child: &Child,
     scheme: Scheme,
+    survey: &Survey,
 ) -> Result<Option<u64>, Memory>
     requires child { CanRefine parent.now child.now (scheme_of scheme) }
+    requires masks { AreKeptFor parent.now (scheme_of scheme) child.now.origins survey.now.masks }
     requires each { length table.now.rows ≡ parent.now.level.point_count }
     ensures { IfOk result (λ count. MatchOption count
         (entry_bound < entries_from parent.now.level (scheme_of scheme) child.now.origins table.now)
@@ -135,7 +140,7 @@ pub(crate) fn count_entries(
     let mut room = Marks::new(alloc, parent.points(), table.controls())?;
     let mut count = 0;
     for p in 0..child.level().points() {
-        count += count_row(alloc, table, parent, child, p, scheme, &mut room)?;
+        count += count_row(table, parent, child, p, scheme, survey, &mut room)?;
         if count > ENTRY_BOUND {
             return Ok(None);
         }

@@ -9,7 +9,7 @@ loop-p-init c = c.in_ok-survey.ensures (scheme_of c.args.scheme)
 
 pub first_zero-requires : goal.first_zero-requires
 first_zero-requires c =
-    let short = survey-short c.args.parent.now.level (scheme_of c.args.scheme) c.args.child.now.origins c.args.dens.now c.loop-p.p c.loop-p.survey c.loop-p.invariant in
+    let short = survey-short c.args.parent.now (scheme_of c.args.scheme) c.args.child.now.origins c.args.dens.now c.loop-p.p c.loop-p.survey c.loop-p.invariant in
     omega (arith, short, c.facts-2.ensures.is.each_point, c.facts-2.ensures.level_is.small.points)
 
 pub returns-in-Err : goal.returns-in-Err
@@ -19,12 +19,12 @@ pub returns-in-Some : goal.returns-in-Some
 returns-in-Some c =
     let points = c.points-points.ensures ∙ ap (λ (t : Topology). t.level.point_count) c.level.ensures in
     let past : length c.args.child.now.origins ≤ c.loop-p.p = omega (arith, c.loop-p-test.false, points, c.facts-2.ensures.is.each_point) in
-    survey-over c.args.parent.now.level (scheme_of c.args.scheme) c.args.child.now.origins c.args.dens.now c.loop-p.p c.loop-p.survey past c.loop-p.invariant
+    survey-over c.args.parent.now (scheme_of c.args.scheme) c.args.child.now.origins c.args.dens.now c.loop-p.p c.loop-p.survey past c.loop-p.invariant
     c.in-Some.p c.in-Some.ensures.0 c.in-Some.ensures.1 c.in-Some.ensures.2
 
 pub returns-in-None : goal.returns-in-None
 returns-in-None c =
     let points = c.points-points.ensures ∙ ap (λ (t : Topology). t.level.point_count) c.level.ensures in
     let past : length c.args.child.now.origins ≤ c.loop-p.p = omega (arith, c.loop-p-test.false, points, c.facts-2.ensures.is.each_point) in
-    survey-whole c.args.parent.now.level (scheme_of c.args.scheme) c.args.child.now.origins c.args.dens.now c.loop-p.p c.loop-p.survey past c.loop-p.invariant
+    survey-whole c.args.parent.now (scheme_of c.args.scheme) c.args.child.now.origins c.args.dens.now c.loop-p.p c.loop-p.survey past c.loop-p.invariant
     c.in-None.ensures

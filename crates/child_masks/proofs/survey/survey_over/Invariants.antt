@@ -5,4 +5,4 @@ use Rattle.child_masks.proofs.survey.survey_over.Given as goal
 
 -- the survey of the points so far
 abbrev pub invariant-loop-p : goal.invariant-loop-p
-invariant-loop-p l = IsSurveyOf l.parent.level (scheme_of l.scheme) (take l.p l.child.origins) l.dens l.survey
+invariant-loop-p l = IsSurveyOf l.parent (scheme_of l.scheme) (take l.p l.child.origins) l.dens l.survey

@@ -6,8 +6,8 @@ use Rattle.level_topology.specs.declared.child_origin.Origin.{Origin}
 use Rattle.level_topology.specs.declared.child_origin.Origin.TheVariants.{Vertex, Edge}
 use Rattle.primvar_refine.specs.View.{rows_of}
 use Rattle.subdiv_model.specs.Mask.{face_mask}
-use Rattle.primvar_refine.specs.Made.{CanMake, KeepDens, AreFacesMade, terms_of_face, is_from_face}
-use Rattle.child_masks.specs.Masks.{origin_at}
+use Rattle.primvar_refine.specs.Made.{CanMake, KeepDens, AreFacesMade, terms_of_face}
+use Rattle.child_masks.specs.Masks.{is_from_face, origin_at}
 use Rattle.primvar_refine.proofs.PutLemmas.{dens-put, faces-put, faces-pass, faces-all, none-faces, none-put, still-inside, terms-all, terms-more}
 use Rattle.child_masks.proofs.OriginLemmas.{face-within}
 use Rattle.primvar_refine.proofs.face_puts.put_faces.Goals as goal

@@ -1,61 +1,68 @@
-use Rattle.std.proofs.Common.{refl}
-use Rattle.std.proofs.lemmas.Result.{on_ok_weaker}
-use Rattle.mask_rules.specs.View.{scheme_of}
-use Rattle.primvar_refine.specs.Rows.{row_at}
+use Rattle.std.proofs.Common.{ap, sym, ◌∙◌, subst}
+use Rattle.mask_rules.specs.View.{scheme_of, terms_of}
+use Rattle.child_masks.specs.Masks.{mask_from, origin_at}
+use Rattle.child_masks.specs.View.{seen_terms}
+use Rattle.child_masks.proofs.MaskLemmas.{joined-from}
 use Rattle.primvar_refine.specs.View.{rows_of}
-use Rattle.primvar_refine.proofs.PutLemmas.{part-can, part-not-face, part-made, part-taken}
+use Rattle.primvar_refine.specs.Made.{CanMake, IsMade}
+use Rattle.primvar_refine.proofs.SeenLemmas.{rows-there, count-seen}
+use Rattle.primvar_refine.proofs.MadeLemmas.{given-there, given-can, given-made, given-count}
+use Rattle.primvar_refine.proofs.PutLemmas.{other-terms}
 use Rattle.primvar_refine.proofs.point_puts.put_point.Goals as goal
 
-pub put_vertex-requires-clause-ready : goal.put_vertex-requires-clause-ready
-put_vertex-requires-clause-ready g c =
-    (part-can c.args.parent.now (scheme_of c.args.scheme) (rows_of g.P.Primvar.numbers c.args.values.now) _ _ c.in-Vertex.is
-    (rows_of g.P.Primvar.numbers c.args.made.now) c.args.places.now (row_at (rows_of g.P.Primvar.numbers c.args.made.now) c.args.p).den c.requires.can).0
+pub sum_of_terms-value-requires-clause-there : goal.sum_of_terms-value-requires-clause-there
+sum_of_terms-value-requires-clause-there g c =
+    let level = c.args.parent.now.level in
+    let scheme = scheme_of c.args.scheme in
+    let origin = origin_at c.args.child.now.origins c.args.p in
+    let rows = rows_of g.P.Primvar.numbers c.args.values.now in
+    let made = rows_of g.P.Primvar.numbers c.args.made.now in
+    let places = c.args.places.now in
+    let can = subst (CanMake level rows made places (mask_from level scheme origin)) (sym c.den_at-den.ensures) c.requires.can in
+    rows-there rows made places c.terms.result.now
+    (given-there level rows made places (seen_terms c.in-Terms.mask) (mask_from level scheme origin) c.den_at-den.result c.in-Terms.ensures.1 (joined-from level scheme origin) can
+    (terms_of c.terms.result.now) c.terms.ensures c.denominator.result c.quotient-multiple.result c.denominator.ensures c.quotient-multiple.ensures
+    (g.P.Primvar.numbers c.args.zero.now) c.requires.alike)
 
-pub put_vertex-requires-clause-can : goal.put_vertex-requires-clause-can
-put_vertex-requires-clause-can g c =
-    (part-can c.args.parent.now (scheme_of c.args.scheme) (rows_of g.P.Primvar.numbers c.args.values.now) _ _ c.in-Vertex.is
-    (rows_of g.P.Primvar.numbers c.args.made.now) c.args.places.now (row_at (rows_of g.P.Primvar.numbers c.args.made.now) c.args.p).den c.requires.can).1
+pub sum_of_terms-value-requires-clause-can : goal.sum_of_terms-value-requires-clause-can
+sum_of_terms-value-requires-clause-can g c =
+    let level = c.args.parent.now.level in
+    let scheme = scheme_of c.args.scheme in
+    let origin = origin_at c.args.child.now.origins c.args.p in
+    let rows = rows_of g.P.Primvar.numbers c.args.values.now in
+    let made = rows_of g.P.Primvar.numbers c.args.made.now in
+    let places = c.args.places.now in
+    let can = subst (CanMake level rows made places (mask_from level scheme origin)) (sym c.den_at-den.ensures) c.requires.can in
+    given-can level rows made places (seen_terms c.in-Terms.mask) (mask_from level scheme origin) c.den_at-den.result c.in-Terms.ensures.1 (joined-from level scheme origin) can
+    (terms_of c.terms.result.now) c.terms.ensures c.denominator.result c.quotient-multiple.result c.denominator.ensures c.quotient-multiple.ensures
+    (g.P.Primvar.numbers c.args.zero.now) c.requires.alike
 
-pub put_edge-requires-clause-ready : goal.put_edge-requires-clause-ready
-put_edge-requires-clause-ready g c =
-    (part-can c.args.parent.now (scheme_of c.args.scheme) (rows_of g.P.Primvar.numbers c.args.values.now) _ _ c.in-Edge.is
-    (rows_of g.P.Primvar.numbers c.args.made.now) c.args.places.now (row_at (rows_of g.P.Primvar.numbers c.args.made.now) c.args.p).den c.requires.can).0
+pub returns-in-Terms-clause-made : goal.returns-in-Terms-clause-made
+returns-in-Terms-clause-made g c other =
+    let level = c.args.parent.now.level in
+    let scheme = scheme_of c.args.scheme in
+    let origin = origin_at c.args.child.now.origins c.args.p in
+    let rows = rows_of g.P.Primvar.numbers c.args.values.now in
+    let made = rows_of g.P.Primvar.numbers c.args.made.now in
+    let places = c.args.places.now in
+    let can = subst (CanMake level rows made places (mask_from level scheme origin)) (sym c.den_at-den.ensures) c.requires.can in
+    subst (IsMade level rows (mask_from level scheme origin))
+    (ap (λ n. record { numbers = g.P.Primvar.numbers c.sum_of_terms-value.result; den = n }) c.den_at-den.ensures ∙ sym c.put_value.ensures.there)
+    (given-made level rows made places (seen_terms c.in-Terms.mask) (mask_from level scheme origin) c.den_at-den.result c.in-Terms.ensures.1 (joined-from level scheme origin) can
+    (terms_of c.terms.result.now) c.terms.ensures c.denominator.result c.quotient-multiple.result c.denominator.ensures c.quotient-multiple.ensures
+    (g.P.Primvar.numbers c.args.zero.now) c.requires.alike _ c.sum_of_terms-value.ensures.sum)
 
-pub put_edge-requires-clause-can : goal.put_edge-requires-clause-can
-put_edge-requires-clause-can g c =
-    (part-can c.args.parent.now (scheme_of c.args.scheme) (rows_of g.P.Primvar.numbers c.args.values.now) _ _ c.in-Edge.is
-    (rows_of g.P.Primvar.numbers c.args.made.now) c.args.places.now (row_at (rows_of g.P.Primvar.numbers c.args.made.now) c.args.p).den c.requires.can).1
-
-pub returns-in-Vertex-clause-put : goal.returns-in-Vertex-clause-put
-returns-in-Vertex-clause-put g c = c.put_vertex.ensures.put
-
-pub returns-in-Vertex-clause-same : goal.returns-in-Vertex-clause-same
-returns-in-Vertex-clause-same g c face = absurd (part-not-face c.args.parent.now (scheme_of c.args.scheme) (rows_of g.P.Primvar.numbers c.args.values.now) _ _ c.in-Vertex.is refl face)
-
-pub returns-in-Vertex-clause-made : goal.returns-in-Vertex-clause-made
-returns-in-Vertex-clause-made g c =
-    on_ok_weaker c.put_vertex.result (part-made c.args.parent.now (scheme_of c.args.scheme) (rows_of g.P.Primvar.numbers c.args.values.now) _ _ c.in-Vertex.is
-    (row_at (rows_of g.P.Primvar.numbers c.put_vertex.new.made) c.args.p)) c.put_vertex.ensures.made
-
-pub returns-in-Vertex-clause-taken : goal.returns-in-Vertex-clause-taken
-returns-in-Vertex-clause-taken g c =
-    on_ok_weaker c.put_vertex.result (part-taken c.args.parent.now (scheme_of c.args.scheme) (rows_of g.P.Primvar.numbers c.args.values.now) _ _ c.in-Vertex.is
-    c.args.steps.now c.put_vertex.new.steps) c.put_vertex.ensures.taken
-
-pub returns-in-Vertex-clause-none : goal.returns-in-Vertex-clause-none
-returns-in-Vertex-clause-none g c = c.put_vertex.ensures.none
-
-pub returns-in-Edge-clause-put : goal.returns-in-Edge-clause-put
-returns-in-Edge-clause-put g c = c.put_edge.ensures.put
-
-pub returns-in-Edge-clause-same : goal.returns-in-Edge-clause-same
-returns-in-Edge-clause-same g c face = absurd (part-not-face c.args.parent.now (scheme_of c.args.scheme) (rows_of g.P.Primvar.numbers c.args.values.now) _ _ c.in-Edge.is refl face)
-
-pub returns-in-Edge-clause-made : goal.returns-in-Edge-clause-made
-returns-in-Edge-clause-made g c =
-    part-made c.args.parent.now (scheme_of c.args.scheme) (rows_of g.P.Primvar.numbers c.args.values.now) _ _ c.in-Edge.is
-    (row_at (rows_of g.P.Primvar.numbers c.put_edge.new.made) c.args.p) c.put_edge.ensures.made
-
-pub returns-in-Edge-clause-taken : goal.returns-in-Edge-clause-taken
-returns-in-Edge-clause-taken g c =
-    part-taken c.args.parent.now (scheme_of c.args.scheme) (rows_of g.P.Primvar.numbers c.args.values.now) _ _ c.in-Edge.is c.args.steps.now c.put_edge.new.steps c.put_edge.ensures.steps
+pub returns-in-Terms-clause-steps : goal.returns-in-Terms-clause-steps
+returns-in-Terms-clause-steps g c =
+    let level = c.args.parent.now.level in
+    let scheme = scheme_of c.args.scheme in
+    let origin = origin_at c.args.child.now.origins c.args.p in
+    let rows = rows_of g.P.Primvar.numbers c.args.values.now in
+    let made = rows_of g.P.Primvar.numbers c.args.made.now in
+    let places = c.args.places.now in
+    let can = subst (CanMake level rows made places (mask_from level scheme origin)) (sym c.den_at-den.ensures) c.requires.can in
+    count-seen c.terms.result.now _ c.args.steps.now c.sum_of_terms-value.new.steps
+    (given-count level rows made places (seen_terms c.in-Terms.mask) (mask_from level scheme origin) c.den_at-den.result c.in-Terms.ensures.1 (joined-from level scheme origin) can
+    (terms_of c.terms.result.now) c.terms.ensures c.denominator.result c.quotient-multiple.result c.denominator.ensures c.quotient-multiple.ensures
+    (g.P.Primvar.numbers c.args.zero.now) c.requires.alike ∙ other-terms level scheme origin c.in-Terms.ensures.0)
+    c.sum_of_terms-value.ensures.steps

@@ -9,7 +9,7 @@ use Rattle.primvar_refine.proofs.refine.refine_values.Goals as goal
 
 pub greatest_of-greatest-requires : goal.greatest_of-greatest-requires
 greatest_of-greatest-requires g c =
-    let count = survey-count c.args.parent.now.level (scheme_of c.args.scheme) c.args.child.now.origins (dens_of (rows_of g.P.Primvar.numbers c.args.values.now)) c.in_ok-survey.survey c.in_ok-survey.ensures in
+    let count = survey-count c.args.parent.now (scheme_of c.args.scheme) c.args.child.now.origins (dens_of (rows_of g.P.Primvar.numbers c.args.values.now)) c.in_ok-survey.survey c.in_ok-survey.ensures in
     omega (arith, count, c.facts.ensures.is.each_point, c.facts.ensures.level_is.small.points)
 
 pub returns-then-is_none-clause-refined : goal.returns-then-is_none-clause-refined

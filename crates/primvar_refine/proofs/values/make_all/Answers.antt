@@ -1,4 +1,4 @@
-use Rattle.std.proofs.Common.{◌≡◌, ◌+◌, ◌<◌, ◌≤◌, ◌++◌, ℕ, length, map, take, drop, get_or, ap, sym, ◌∙◌, subst}
+use Rattle.std.proofs.Common.{arith, ◌≡◌, ◌+◌, ◌<◌, ◌++◌, ℕ, length, map, take, drop, get_or, ap, sym, ◌∙◌, subst}
 use Rattle.std.specs.List.{All, take-map}
 use Rattle.std.proofs.lemmas.List.{length-map}
 use Rattle.mask_rules.specs.View.{scheme_of}
@@ -32,12 +32,6 @@ put_all-requires-clause-ready g c =
     (rows_of g.P.Primvar.numbers c.push_hidden.new.made.items) c.in_ok-places.places.of_faces.items
     (length-map c.args.values.now (row_of g.P.Primvar.numbers) ∙ c.requires.each) c.in_ok-places.ensures.places dens_is)
 
-pub returns-in_err-put_all-clause-steps : goal.returns-in_err-put_all-clause-steps
-returns-in_err-put_all-clause-steps g c =
-    let terms = terms-all-made c.args.parent.now c.args.child.now (scheme_of c.args.scheme) (rows_of g.P.Primvar.numbers c.args.values.now) c.args.survey.now c.facts.ensures c.facts-2.ensures
-    c.requires.child c.requires.good c.requires.survey c.requires.kept c.in_ok-places.places.hidden.items c.in_ok-places.ensures.hidden in
-    subst (λ n. c.put_all.new.steps ≤ c.args.steps.now + n) terms c.in_err-put_all.ensures.steps
-
 pub returns-clause-refined : goal.returns-clause-refined
 returns-clause-refined g c =
     let rows = rows_of g.P.Primvar.numbers c.args.values.now in
@@ -48,11 +42,11 @@ returns-clause-refined g c =
     cut-back n c.push_hidden.new.made.len c.put_all.new.made (drop (length c.put_all.new.made) c.push_hidden.new.made.items) c.truncate.new.self.items
     (c.put_all.auto.made ∙ c.deref_mut.ensures.len) c.truncate.ensures.items in
     let count : length after ≡ length (rows_of g.P.Primvar.numbers c.push_hidden.new.made.items) =
-    c.in_ok-put_all.ensures.dens.count ∙ ap (λ l. length (rows_of g.P.Primvar.numbers l)) c.deref_mut.ensures.value in
+    c.put_all.ensures.dens.count ∙ ap (λ l. length (rows_of g.P.Primvar.numbers l)) c.deref_mut.ensures.value in
     let counted = dens-counted c.args.parent.now c.args.child.now (scheme_of c.args.scheme) rows c.args.survey.now c.facts.ensures c.facts-2.ensures
     c.requires.child c.requires.good c.requires.survey c.requires.kept in
     cut-refined c.args.parent.now c.args.child.now (scheme_of c.args.scheme) rows c.args.survey.now c.in_ok-places.places.hidden.items after (rows_of g.P.Primvar.numbers c.truncate.new.self.items) n
-    c.requires.survey c.requires.kept c.in_ok-put_all.ensures.made (many ∙ counted)
+    c.requires.survey c.requires.kept c.put_all.ensures.made (many ∙ counted)
     (first-room (rows_of g.P.Primvar.numbers c.push_hidden.new.made.items) after (dens_of (rows_of g.P.Primvar.numbers c.in_ok-made.made.items)) _ n c.in_ok-push_hidden.ensures count
     (many ∙ ap length (sym (c.in_ok-made.ensures ∙ c.deref.ensures.value))))
     (ap (rows_of g.P.Primvar.numbers) cut ∙ sym (take-map (row_of g.P.Primvar.numbers) n c.put_all.new.made))
@@ -61,10 +55,13 @@ pub returns-clause-taken : goal.returns-clause-taken
 returns-clause-taken g c =
     let terms = terms-all-made c.args.parent.now c.args.child.now (scheme_of c.args.scheme) (rows_of g.P.Primvar.numbers c.args.values.now) c.args.survey.now c.facts.ensures c.facts-2.ensures
     c.requires.child c.requires.good c.requires.survey c.requires.kept c.in_ok-places.places.hidden.items c.in_ok-places.ensures.hidden in
-    c.in_ok-put_all.ensures.taken ∙ ap (λ n. c.args.steps.now + n) terms
+    c.put_all.ensures.steps ∙ ap (λ n. c.args.steps.now + n) terms
 
 pub returns-clause-steps : goal.returns-clause-steps
 returns-clause-steps g c =
     let terms = terms-all-made c.args.parent.now c.args.child.now (scheme_of c.args.scheme) (rows_of g.P.Primvar.numbers c.args.values.now) c.args.survey.now c.facts.ensures c.facts-2.ensures
     c.requires.child c.requires.good c.requires.survey c.requires.kept c.in_ok-places.places.hidden.items c.in_ok-places.ensures.hidden in
-    subst (λ n. c.put_all.new.steps ≤ c.args.steps.now + n) terms c.in_ok-put_all.ensures.steps
+    omega (arith, terms, c.put_all.ensures.steps)
+
+pub returns-clause-later : goal.returns-clause-later
+returns-clause-later g c = omega (arith, c.put_all.ensures.steps)

@@ -1,5 +1,4 @@
 use Rattle.std.proofs.Common.{arith, ◌≤◌, length, ap, sym, ◌∙◌, subst}
-use Rattle.std.proofs.lemmas.Result.{on_ok_weaker}
 use Rattle.mask_rules.specs.View.{scheme_of}
 use Rattle.primvar_refine.specs.View.{row_of, rows_of}
 use Rattle.std.proofs.lemmas.List.{length-map}
@@ -53,14 +52,7 @@ returns-clause-dens g c =
 pub returns-clause-made : goal.returns-clause-made
 returns-clause-made g c =
     all-made c.args.parent.now c.args.child.now (scheme_of c.args.scheme) (rows_of g.P.Primvar.numbers c.args.values.now) c.args.places.now.hidden.items (rows_of g.P.Primvar.numbers c.put_points.new.made)
-    c.put_points.result c.put_points.ensures.faces c.put_points.ensures.made
-
-pub returns-clause-taken : goal.returns-clause-taken
-returns-clause-taken g c =
-    on_ok_weaker c.put_points.result (λ taken. omega (arith, taken, c.put_hidden.ensures.steps, c.put_faces.ensures.steps, ap (sum_by (terms_of_hidden c.args.parent.now.level)) c.deref.ensures.value)) c.put_points.ensures.taken
+    c.put_points.ensures.faces c.put_points.ensures.made
 
 pub returns-clause-steps : goal.returns-clause-steps
 returns-clause-steps g c = omega (arith, c.put_points.ensures.steps, c.put_hidden.ensures.steps, c.put_faces.ensures.steps, ap (sum_by (terms_of_hidden c.args.parent.now.level)) c.deref.ensures.value)
-
-pub returns-clause-later : goal.returns-clause-later
-returns-clause-later g c = omega (arith, c.put_points.ensures.later, c.put_hidden.ensures.steps, c.put_faces.ensures.steps)

@@ -11,7 +11,7 @@ survey_over-requires-clause-dens c =
 
 pub compose_found-requires-clause-survey : goal.compose_found-requires-clause-survey
 compose_found-requires-clause-survey c =
-    subst (λ dens. IsSurvey c.args.parent.now.level (scheme_of c.args.scheme) c.args.child.now.origins dens c.in-Ok.survey) c.denominators.ensures c.in-Ok.ensures
+    subst (λ dens. IsSurvey c.args.parent.now (scheme_of c.args.scheme) c.args.child.now.origins dens c.in-Ok.survey) c.denominators.ensures c.in-Ok.ensures
 
 pub returns-in-Err : goal.returns-in-Err
 returns-in-Err c =

@@ -20,7 +20,7 @@ weigh_point-requires-clause-dens c =
 
 pub weigh_point-requires-clause-survey : goal.weigh_point-requires-clause-survey
 weigh_point-requires-clause-survey c =
-    subst (λ dens. IsSurvey c.args.parent.now.level (scheme_of c.args.scheme) c.args.child.now.origins dens c.args.survey.now) (sym c.denominators-dens.ensures) c.requires.survey
+    subst (λ dens. IsSurvey c.args.parent.now (scheme_of c.args.scheme) c.args.child.now.origins dens c.args.survey.now) (sym c.denominators-dens.ensures) c.requires.survey
 
 pub sum_rows-requires-clause-can : goal.sum_rows-requires-clause-can
 sum_rows-requires-clause-can c =
@@ -28,7 +28,7 @@ sum_rows-requires-clause-can c =
     let table = c.args.table.now in
     let mask = mask_from level (scheme_of c.args.scheme) (get_or c.args.child.now.origins c.args.p (FromVertex 0)) in
     let weights = shares_of c.weigh_point.new.weights.items in
-    let short = own-short level (scheme_of c.args.scheme) c.args.child.now.origins (dens_of table) c.args.survey.now c.requires.survey c.args.p c.requires.known in
+    let short = own-short c.args.parent.now (scheme_of c.args.scheme) c.args.child.now.origins (dens_of table) c.args.survey.now c.requires.survey c.args.p c.requires.known in
     let are = subst (λ dens. AreWeights level dens mask weights) c.denominators-dens.ensures c.in_ok-weigh_point.ensures.weights in
     subst (CanAddRows table weights) (sym c.requires.controls) (can-add level table mask weights c.facts-3.ensures c.requires.each are short)
 
@@ -40,8 +40,8 @@ returns-clause-row c =
     let origins = c.args.child.now.origins in
     let mask = mask_from level scheme (get_or origins c.args.p (FromVertex 0)) in
     let weights = shares_of c.weigh_point.new.weights.items in
-    let short = own-short level scheme origins (dens_of table) c.args.survey.now c.requires.survey c.args.p c.requires.known in
-    let den = found-den level scheme origins (dens_of table) c.args.survey.now c.requires.survey c.args.p c.requires.known in
+    let short = own-short c.args.parent.now scheme origins (dens_of table) c.args.survey.now c.requires.survey c.args.p c.requires.known in
+    let den = found-den c.args.parent.now scheme origins (dens_of table) c.args.survey.now c.requires.survey c.args.p c.requires.known in
     let positive = den-positive c.args.parent.now c.args.child.now scheme (dens_of table) c.facts.ensures c.facts-2.ensures c.requires.child (point-dens table level c.facts-3.ensures c.requires.each).positive c.args.p c.requires.known in
     let are = subst (λ dens. AreWeights level dens mask weights) c.denominators-dens.ensures c.in_ok-weigh_point.ensures.weights in
     on_ok_weaker c.sum_rows.result

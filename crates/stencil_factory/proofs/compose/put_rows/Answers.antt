@@ -22,7 +22,7 @@ inside c =
 row : (c : goal.After-deref)
     → IsComposedRow c.args.parent.now.level c.args.table.now (mask_from c.args.parent.now.level (scheme_of c.args.scheme) (get_or c.args.child.now.origins c.loop-p.p (FromVertex 0))) (row_of c.index.result.now c.deref.result.now)
 row c =
-    row-read c.args.parent.now.level c.args.table.now (scheme_of c.args.scheme) c.args.child.now.origins c.args.survey.now c.loop-p.p c.index.result.now c.compose_row.new.room.entries.items c.deref.result.now
+    row-read c.args.parent.now c.args.table.now (scheme_of c.args.scheme) c.args.child.now.origins c.args.survey.now c.loop-p.p c.index.result.now c.compose_row.new.room.entries.items c.deref.result.now
     c.requires.survey (inside c) c.in_ok-compose_row.ensures.row c.index.ensures c.deref.ensures.value
 
 pub compose_row-requires-clause-known : goal.compose_row-requires-clause-known
@@ -34,7 +34,7 @@ pub index-requires : goal.index-requires
 index-requires c =
     let points = c.points-p-end.ensures ∙ ap (λ (t : Topology). t.level.point_count) c.level.ensures in
     let below : c.loop-p.p < length c.args.child.now.origins = omega (arith, c.loop-p-test.true, points, c.facts-2.ensures.is.each_point) in
-    let there = found-inside c.args.parent.now.level (scheme_of c.args.scheme) c.args.child.now.origins (dens_of c.args.table.now) c.args.survey.now c.requires.survey c.loop-p.p below in
+    let there = found-inside c.args.parent.now (scheme_of c.args.scheme) c.args.child.now.origins (dens_of c.args.table.now) c.args.survey.now c.requires.survey c.loop-p.p below in
     omega (arith, there, c.args.survey.now.dens.ok.0)
 
 pub add_row-requires-clause-row : goal.add_row-requires-clause-row
@@ -59,7 +59,7 @@ loop-p-preserved c =
     let origins = c.args.child.now.origins in
     let points = c.points-p-end.ensures ∙ ap (λ (t : Topology). t.level.point_count) c.level.ensures in
     let below : c.loop-p.p < length origins = omega (arith, c.loop-p-test.true, points, c.facts-2.ensures.is.each_point) in
-    let own = row-read level table scheme origins c.args.survey.now c.loop-p.p c.index.result.now c.compose_row.new.room.entries.items c.deref.result.now
+    let own = row-read c.args.parent.now table scheme origins c.args.survey.now c.loop-p.p c.index.result.now c.compose_row.new.room.entries.items c.deref.result.now
     c.requires.survey below c.in_ok-compose_row.ensures.row c.index.ensures c.deref.ensures.value in
     let added = c.in_ok-add_row.ensures.added in
     record {

@@ -1,68 +1,47 @@
-use Rattle.std.proofs.Common.{ap, ◌∙◌}
-use Rattle.level_topology.specs.Child.{FromVertex, FromFace, FromEdge}
-use Rattle.mask_rules.specs.View.{scheme_of}
+use Rattle.std.proofs.Common.{refl, ap, sym, ◌∙◌, ◌<◌, subst}
+use Rattle.std.specs.List.{All}
+use Rattle.level_topology.specs.Child.{FromFace}
+use Rattle.mask_rules.specs.View.{scheme_of, terms_of}
+use Rattle.child_masks.specs.Masks.{origin_at}
+use Rattle.child_masks.specs.View.{seen_terms}
+use Rattle.child_masks.proofs.OriginLemmas.{origin-within}
+use Rattle.child_masks.proofs.MaskLemmas.{joined-from}
 use Rattle.stencil_factory.specs.Met.{Places}
-use Rattle.child_masks.proofs.OriginLemmas.{origin-known}
-use Rattle.stencil_factory.proofs.NameLemmas.{named-since}
+use Rattle.stencil_factory.proofs.KnownLemmas.{ok-weaker}
+use Rattle.stencil_factory.proofs.NameLemmas.{terms-named, terms-can-name, corners-within, face-named, named-since}
 use Rattle.stencil_factory.proofs.name.name_point.Goals as goal
 
-pub name_vertex-requires-clause-count : goal.name_vertex-requires-clause-count
-name_vertex-requires-clause-count c = ap (λ (m : Places). m.count) c.start.ensures ∙ c.requires.count
+pub add_all-requires : goal.add_all-requires
+add_all-requires c =
+    subst (λ n. All (λ v. v < n) c.face_vertices.result.now) (sym (ap (λ (m : Places). m.count) c.start.ensures ∙ c.requires.count))
+    (subst (All (λ v. v < c.args.parent.now.level.point_count)) (sym c.face_vertices.ensures) (corners-within c.args.parent.now c.facts.ensures c.in-Corners.f c.in-Corners.ensures.1))
 
-pub name_vertex-requires-clause-none : goal.name_vertex-requires-clause-none
-name_vertex-requires-clause-none c = ap (λ (m : Places). m.met) c.start.ensures
+pub name_terms-requires : goal.name_terms-requires
+name_terms-requires c =
+    let scheme = scheme_of c.args.scheme in
+    let origin = origin_at c.args.child.now.origins c.args.p in
+    terms-can-name c.args.parent.now c.facts.ensures scheme origin (origin-within c.args.parent.now c.args.child.now scheme c.facts-2.ensures c.requires.child c.args.p c.requires.known)
+    (seen_terms c.in-Terms.mask) c.in-Terms.ensures.1 (joined-from c.args.parent.now.level scheme origin)
+    (terms_of c.terms.result.now) c.terms.ensures c.start.new.self.count (ap (λ (m : Places). m.count) c.start.ensures ∙ c.requires.count)
 
-pub returns-in-Vertex : goal.returns-in-Vertex
-returns-in-Vertex c =
-    named-since c.name_vertex.result c.args.parent.now.level (scheme_of c.args.scheme) (FromVertex c.in-Vertex.v) _ c.in-Vertex.ensures
-    c.args.met.now c.start.new.self c.start.ensures c.name_vertex.new.met c.name_vertex.ensures
+pub returns-in-Corners : goal.returns-in-Corners
+returns-in-Corners c =
+    named-since c.add_all.result c.args.parent.now.level (scheme_of c.args.scheme) (FromFace c.in-Corners.f) _ (sym c.in-Corners.ensures.0)
+    c.args.met.now c.start.new.self c.start.ensures c.add_all.new.self
+    (ok-weaker c.add_all.result _ _
+    (face-named c.args.parent.now c.facts.ensures c.in-Corners.f c.face_vertices.result.now c.start.new.self c.add_all.new.self c.in-Corners.ensures.1 c.face_vertices.ensures
+    (ap (λ (m : Places). m.count) c.start.ensures ∙ c.requires.count) (ap (λ (m : Places). m.met) c.start.ensures))
+    c.add_all.ensures)
 
-pub name_face-requires-clause-count : goal.name_face-requires-clause-count
-name_face-requires-clause-count c = ap (λ (m : Places). m.count) c.start.ensures ∙ c.requires.count
-
-pub name_face-requires-clause-none : goal.name_face-requires-clause-none
-name_face-requires-clause-none c = ap (λ (m : Places). m.met) c.start.ensures
-
-pub returns-in-Face : goal.returns-in-Face
-returns-in-Face c =
-    named-since c.name_face.result c.args.parent.now.level (scheme_of c.args.scheme) (FromFace c.in-Face.f) _ c.in-Face.ensures
-    c.args.met.now c.start.new.self c.start.ensures c.name_face.new.met c.name_face.ensures
-
-pub name_edge-requires-clause-count : goal.name_edge-requires-clause-count
-name_edge-requires-clause-count c = ap (λ (m : Places). m.count) c.start.ensures ∙ c.requires.count
-
-pub name_edge-requires-clause-none : goal.name_edge-requires-clause-none
-name_edge-requires-clause-none c = ap (λ (m : Places). m.met) c.start.ensures
-
-pub returns-in-Edge : goal.returns-in-Edge
-returns-in-Edge c =
-    named-since c.name_edge.result c.args.parent.now.level (scheme_of c.args.scheme) (FromEdge c.in-Edge.e) _ c.in-Edge.ensures
-    c.args.met.now c.start.new.self c.start.ensures c.name_edge.new.met c.name_edge.ensures
-
-pub name_vertex-requires-clause-known : goal.name_vertex-requires-clause-known
-name_vertex-requires-clause-known c =
-    (origin-known c.args.parent.now c.args.child.now (scheme_of c.args.scheme) c.args.p c.facts.ensures c.requires.child c.requires.known (FromVertex c.in-Vertex.v) c.in-Vertex.ensures).known
-
-pub name_vertex-requires-clause-complete : goal.name_vertex-requires-clause-complete
-name_vertex-requires-clause-complete c =
-    (origin-known c.args.parent.now c.args.child.now (scheme_of c.args.scheme) c.args.p c.facts.ensures c.requires.child c.requires.known (FromVertex c.in-Vertex.v) c.in-Vertex.ensures).complete
-
-pub name_vertex-requires-clause-boundary : goal.name_vertex-requires-clause-boundary
-name_vertex-requires-clause-boundary c =
-    (origin-known c.args.parent.now c.args.child.now (scheme_of c.args.scheme) c.args.p c.facts.ensures c.requires.child c.requires.known (FromVertex c.in-Vertex.v) c.in-Vertex.ensures).boundary
-
-pub name_vertex-requires-clause-fine : goal.name_vertex-requires-clause-fine
-name_vertex-requires-clause-fine c =
-    (origin-known c.args.parent.now c.args.child.now (scheme_of c.args.scheme) c.args.p c.facts.ensures c.requires.child c.requires.known (FromVertex c.in-Vertex.v) c.in-Vertex.ensures).fine
-
-pub name_face-requires-clause-known : goal.name_face-requires-clause-known
-name_face-requires-clause-known c =
-    origin-known c.args.parent.now c.args.child.now (scheme_of c.args.scheme) c.args.p c.facts.ensures c.requires.child c.requires.known (FromFace c.in-Face.f) c.in-Face.ensures
-
-pub name_edge-requires-clause-known : goal.name_edge-requires-clause-known
-name_edge-requires-clause-known c =
-    (origin-known c.args.parent.now c.args.child.now (scheme_of c.args.scheme) c.args.p c.facts.ensures c.requires.child c.requires.known (FromEdge c.in-Edge.e) c.in-Edge.ensures).known
-
-pub name_edge-requires-clause-inside : goal.name_edge-requires-clause-inside
-name_edge-requires-clause-inside c =
-    (origin-known c.args.parent.now c.args.child.now (scheme_of c.args.scheme) c.args.p c.facts.ensures c.requires.child c.requires.known (FromEdge c.in-Edge.e) c.in-Edge.ensures).inside
+pub returns-in-Terms : goal.returns-in-Terms
+returns-in-Terms c =
+    let level = c.args.parent.now.level in
+    let scheme = scheme_of c.args.scheme in
+    let origin = origin_at c.args.child.now.origins c.args.p in
+    named-since c.name_terms.result level scheme origin _ refl
+    c.args.met.now c.start.new.self c.start.ensures c.name_terms.new.met
+    (ok-weaker c.name_terms.result _ _
+    (terms-named level scheme origin (seen_terms c.in-Terms.mask) c.in-Terms.ensures.1 (joined-from level scheme origin)
+    (terms_of c.terms.result.now) c.terms.ensures c.start.new.self c.name_terms.new.met
+    (ap (λ (m : Places). m.count) c.start.ensures ∙ c.requires.count) (ap (λ (m : Places). m.met) c.start.ensures))
+    c.name_terms.ensures)

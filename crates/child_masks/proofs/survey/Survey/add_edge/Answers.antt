@@ -15,10 +15,10 @@ add_mask-requires-clause-among c =
     let edge = edge_at level.polygons c.args.e in
     let scheme = scheme_of c.args.scheme in
     among-level level _ _ _ (edge_mask level scheme edge) c.terms.result.now c.edge_mask-mask.ensures (joined-edge_mask level edge scheme)
-    (part-sources c.args.parent.now scheme (FromEdge c.args.e) c.facts.ensures c.requires.known) c.terms.ensures c.requires.dens.count c.requires.faces.count
+    (part-sources c.args.parent.now scheme (FromEdge c.args.e) c.facts.ensures c.requires.known.known) c.terms.ensures c.requires.dens.count c.requires.faces.count
 
-pub returns : goal.returns
-returns c =
+pub returns-clause-added : goal.returns-clause-added
+returns-clause-added c =
     let level = c.args.parent.now.level in
     let edge = edge_at level.polygons c.args.e in
     let scheme = scheme_of c.args.scheme in
@@ -27,4 +27,4 @@ returns c =
     on_ok_weaker c.add_mask.result
     (added-mask (source_denominator level dens) dens faces _ (edge_mask level scheme edge) _ _ c.args.self.now c.add_mask.new.self
     (tells c.args.parent.now dens faces c.facts.ensures c.requires.dens c.requires.faces) c.edge_mask-mask.ensures (joined-edge_mask level edge scheme) c.terms.ensures c.denominator.ensures)
-    c.add_mask.ensures
+    c.add_mask.ensures.added

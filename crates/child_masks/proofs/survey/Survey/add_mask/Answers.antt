@@ -6,8 +6,8 @@ use Rattle.mask_rules.specs.View.{terms_of}
 use Rattle.child_masks.proofs.TermLemmas.{multiple-positive}
 use Rattle.child_masks.proofs.survey.Survey.add_mask.Goals as goal
 
-pub returns : goal.returns
-returns c value tell positive =
+pub returns-clause-added : goal.returns-clause-added
+returns-clause-added c value tell positive =
     let multiple = lcm_of_all (map (λ t. value t.source) (terms_of c.args.terms.now)) in
     let some = multiple-positive value c.args.dens.now c.args.self.now.faces.items tell c.args.terms.now c.requires.among in
     let here = c.multiple_of_terms-multiple.ensures value (rw c.deref.ensures.value tell) in
