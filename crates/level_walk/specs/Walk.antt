@@ -1,0 +1,43 @@
+-- A walk over levels, and where it stops.
+use Rattle.std.specs.Prelude.{ℕ, zero, suc, ◌≡◌, ◌+◌, ◌<◌}
+use Rattle.level_topology.specs.Topology.{Topology}
+use Rattle.level_topology.specs.Child.{ChildTopology}
+use Rattle.level_walk.specs.declared.fault.WalkFault.{WalkFault}
+use Rattle.level_walk.specs.declared.reached.Reached.{Reached}
+use Rattle.level_walk.specs.Round.{IsNext, IsCause}
+
+-- where a walk is, with its visitor, and the steps taken so far
+pub record Place (W C V : Type 0) : Type 0 where
+  pub reached : Reached W C
+  pub visitor : V
+  pub steps : ℕ
+
+abbrev pub at : {W C V : Type 0} → Reached W C → V → ℕ → Place W C V
+at reached visitor steps = record { reached = reached; visitor = visitor; steps = steps }
+
+-- so many rounds lead from one to another
+abbrev pub IsAfter : {X : Type 0} → (X → X → Type 0) → X → ℕ → X → Type 0
+IsAfter Leads start zero x = x ≡ start
+IsAfter {X} Leads start (suc k) x = (before : X) × (IsAfter Leads start k before × Leads before x)
+
+-- one level more, where the visitor takes what is left behind
+pub record LeadsTo {W C V : Type 0} (level_of : W → Topology) (Makes : W → ChildTopology → W → ℕ → ℕ → Type 0)
+    (Follows : Topology → ChildTopology → C → C → ℕ → ℕ → Type 0) (Takes : V → W → C → V → Type 0) (from next : Place W C V) : Type 0 where
+  pub made : IsNext level_of Makes Follows from.reached next.reached from.steps next.steps
+  pub taken : Takes from.visitor from.reached.level from.reached.carried next.visitor
+
+-- a walk of so many levels
+abbrev pub IsWalked : {W C V : Type 0} → (W → Topology) → (W → ChildTopology → W → ℕ → ℕ → Type 0) → (Topology → ChildTopology → C → C → ℕ → ℕ → Type 0)
+    → (V → W → C → V → Type 0) → Place W C V → ℕ → Place W C V → Type 0
+IsWalked level_of Makes Follows Takes start k end = IsAfter (LeadsTo level_of Makes Follows Takes) start k end
+
+-- the walk comes to a place before its depth, and the fault is why it comes no further; it has the number of the next level
+pub record IsStopped {W C V A B : Type 0} (level_of : W → Topology) (Makes : W → ChildTopology → W → ℕ → ℕ → Type 0) (Refuses : W → A → ℕ → ℕ → Type 0)
+    (Follows : Topology → ChildTopology → C → C → ℕ → ℕ → Type 0) (Fails : Topology → ChildTopology → C → B → ℕ → ℕ → Type 0)
+    (Takes : V → W → C → V → Type 0) (start : Place W C V) (depth : ℕ) (fault : WalkFault A B) (new : ℕ) : Type 0 where
+  pub k : ℕ
+  pub last : Place W C V
+  pub within : k < depth
+  pub walked : IsWalked level_of Makes Follows Takes start k last
+  pub number : fault.level ≡ k + 1
+  pub cause : IsCause level_of Makes Refuses Follows Fails last.reached fault.cause last.steps new

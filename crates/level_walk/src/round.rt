@@ -1,0 +1,97 @@
+//! One level more.
+
+ghost use Rattle.std.specs.Prelude.{◌≡◌, Ok, Err, IfOk, MatchResult};
+ghost use Rattle.level_walk.specs.Round.{IsNext, IsCause};
+
+use crate::carrier::Carrier;
+use crate::fault::Cause;
+use crate::reached::Reached;
+use crate::step::NextLevel;
+use crate::visitor::Visitor;
+use ratio128::Steps;
+use std::alloc::Global;
+use std::sync::ledger::Ledger;
+
+// The next level, or its fault as a cause.
+fn made<N, A, B>(next: Result<N, A>) -> Result<N, Cause<A, B>>
+    ensures { MatchResult next (λ next. result ≡ Ok next) (λ fault. result ≡ Err (Cause.Level fault)) }
+{
+    match next {
+        Ok(next) => Ok(next),
+        Err(fault) => Err(Cause::Level(fault)),
+    }
+}
+
+// A level with what is carried there, or why that cannot be as a cause.
+fn joined<W: Drop, C, A, B>(level: W, carried: Result<C, B>) -> Result<Reached<W, C>, Cause<A, B>>
+    ensures { MatchResult carried (λ carried. result ≡ Ok (record { level = level; carried = carried })) (λ fault. result ≡ Err (Cause.Carried fault)) }
+{
+    match carried {
+        Ok(carried) => Ok(Reached { level, carried }),
+        Err(fault) => Err(Cause::Carried(fault)),
+    }
+}
+
+// The next level and what is carried there.
+fn next<S: NextLevel<L>, C: Carrier<L>, L: Ledger>(
+    alloc: Global,
+    step: &S,
+    carrier: &C,
+    from: &Reached<S::Level, C::Carried>,
+    steps: &mut Steps<L>,
+) -> Result<Reached<S::Level, C::Carried>, Cause<S::Fault, C::Fault>>
+    requires ready { S.IsReady step.now from.now.level }
+    requires fits { C.Fits carrier.now (S.level_of from.now.level) from.now.carried }
+    ensures made { MatchResult result
+        (λ next. IsNext S.level_of (S.Makes step.now) (C.Follows carrier.now) from.now next steps.old steps.new)
+        (λ cause. IsCause S.level_of (S.Makes step.now) (S.Refuses step.now) (C.Follows carrier.now) (C.Fails carrier.now) from.now cause steps.old steps.new) }
+    ensures ready { IfOk result (λ next. S.IsReady step.now next.level) }
+    ensures fits { IfOk result (λ next. C.Fits carrier.now (S.level_of next.level) next.carried) }
+{
+    let next = made(step.next_level(alloc, &from.level, steps))?;
+    let carried = carrier.follow(
+        alloc,
+        S::level(&from.level),
+        S::child(&next),
+        &from.carried,
+        steps,
+    );
+    joined(S::into_level(next), carried)
+}
+
+// Hands over what is left behind.
+fn leave<V: Visitor<W, C>, W: Drop, C: Drop, A, B>(
+    visitor: &mut V,
+    from: Reached<W, C>,
+    next: Reached<W, C>,
+) -> Result<Reached<W, C>, Cause<A, B>>
+    ensures { MatchResult result
+        (λ kept. (kept ≡ next) × V.Takes visitor.old from.level from.carried visitor.new)
+        (λ cause. cause ≡ Cause.Memory) }
+{
+    match visitor.leave(from.level, from.carried) {
+        Ok(()) => Ok(next),
+        Err(_) => Err(Cause::Memory),
+    }
+}
+
+// The next level and what is carried there; the visitor takes what is left behind.
+pub(crate) fn round<S: NextLevel<L>, C: Carrier<L>, V: Visitor<S::Level, C::Carried>, L: Ledger>(
+    alloc: Global,
+    step: &S,
+    carrier: &C,
+    visitor: &mut V,
+    from: Reached<S::Level, C::Carried>,
+    steps: &mut Steps<L>,
+) -> Result<Reached<S::Level, C::Carried>, Cause<S::Fault, C::Fault>>
+    requires ready { S.IsReady step.now from.level }
+    requires fits { C.Fits carrier.now (S.level_of from.level) from.carried }
+    ensures made { MatchResult result
+        (λ next. IsNext S.level_of (S.Makes step.now) (C.Follows carrier.now) from next steps.old steps.new × V.Takes visitor.old from.level from.carried visitor.new)
+        (λ cause. IsCause S.level_of (S.Makes step.now) (S.Refuses step.now) (C.Follows carrier.now) (C.Fails carrier.now) from cause steps.old steps.new) }
+    ensures ready { IfOk result (λ next. S.IsReady step.now next.level) }
+    ensures fits { IfOk result (λ next. C.Fits carrier.now (S.level_of next.level) next.carried) }
+{
+    let next = next(alloc, step, carrier, &from, steps)?;
+    leave(visitor, from, next)
+}

@@ -1,0 +1,70 @@
+//! How the next level is made.
+
+ghost use Rattle.std.specs.Prelude.{◌≡◌, ℕ, IfOk, MatchResult};
+ghost use Rattle.subdiv_model.specs.Mask.{CatmullClark};
+ghost use Rattle.primvar_refine.specs.Step.{CanRefine};
+
+use level_topology::{Child, Level};
+use ratio128::Steps;
+use std::alloc::Global;
+use std::sync::ledger::Ledger;
+
+/// How the next level is made, whole or in part. The counter of steps shows how many steps it takes.
+pub trait NextLevel<L: Ledger> {
+    /// What is walked: a level, with all else that the next one is made of.
+    type Level: Drop;
+
+    /// The next level, with its tables from the level before.
+    type Next: Drop;
+
+    /// Why there is no next level.
+    type Fault: Drop;
+
+    ghost use Rattle.level_topology.specs.Topology.{Topology};
+    ghost use Rattle.level_topology.specs.Child.{ChildTopology};
+
+    /// The level in what is walked.
+    ghost level_of: { Self.Level → Topology };
+
+    /// The next level as a child of the level before.
+    ghost child_of: { Self.Next → ChildTopology };
+
+    /// The next level as what is walked.
+    ghost next_of: { Self.Next → Self.Level };
+
+    /// A level of which the next one can be made.
+    ghost IsReady: { Self → Self.Level → Type 0 };
+
+    /// A level, its child, the next level, and the steps taken before and after.
+    ghost Makes: { Self → Self.Level → ChildTopology → Self.Level → ℕ → ℕ → Type 0 };
+
+    /// A level, why there is no next one, and the steps taken before and after.
+    ghost Refuses: { Self → Self.Level → Self.Fault → ℕ → ℕ → Type 0 };
+
+    /// The next level. Of each of its points the mask can be had.
+    fn next_level(
+        &self,
+        alloc: Global,
+        level: &Self::Level,
+        steps: &mut Steps<L>,
+    ) -> Result<Self::Next, Self::Fault>
+        requires { IsReady self.now level.now }
+        ensures made { MatchResult result
+            (λ next. Makes self.now level.now (child_of next) (next_of next) steps.old steps.new)
+            (λ fault. Refuses self.now level.now fault steps.old steps.new) }
+        ensures child { IfOk result (λ next. CanRefine (level_of level.now) (child_of next) CatmullClark) }
+        ensures level { IfOk result (λ next. level_of (next_of next) ≡ (child_of next).topology) }
+        ensures ready { IfOk result (λ next. IsReady self.now (next_of next)) };
+
+    /// The level in what is walked.
+    fn level(walked: &Self::Level) -> &Level
+        ensures { result.now ≡ level_of walked.now };
+
+    /// The next level as a child of the level before.
+    fn child(next: &Self::Next) -> &Child
+        ensures { result.now ≡ child_of next.now };
+
+    /// The next level as what is walked.
+    fn into_level(next: Self::Next) -> Self::Level
+        ensures { result ≡ next_of next };
+}
