@@ -1,28 +1,29 @@
--- The edges of the whole next level by their slots.
-use Rattle.std.proofs.Common.{◌≡◌, ℕ, ◌+◌, ◌<◌, true, List, [], ◌∷◌, length, map, take, get_or, arith, ap, sym, ◌∙◌, subst}
-use Rattle.std.specs.List.{All, list_any, sum_by}
+-- The edges of a whole part by their slots.
+use Rattle.std.proofs.Common.{◌≡◌, ℕ, ◌<◌, true, List, [], ◌∷◌, length, map, take, get_or, arith, ap, sym, ◌∙◌, subst}
+use Rattle.std.specs.List.{All, list_any}
 use Rattle.std.proofs.lemmas.Bool.Decides.{nat_tests}
 use Rattle.std.proofs.lemmas.List.{take_all}
 use Rattle.subdiv_model.specs.Polygons.{Polygon, polygon_at, same_edge, has_side, is_among}
 use Rattle.subdiv_model.specs.Edges.{edges_of, edge_number}
-use Rattle.subdiv_model.specs.Child.{child_polygons}
-use Rattle.level_laws.proofs.FaceLemmas.{child_polygons-length}
 use Rattle.mesh_laws.proofs.ChildCornerLemmas.{side-named}
 use Rattle.level_topology.specs.Topology.{Topology, IsTopology, face_edges_of}
-use Rattle.child_slots.specs.Slots.{first_child, quad_at, slots_at}
+use Rattle.child_slots.specs.Slots.{slots_at}
+use Rattle.child_slots.specs.Parts.{Part, part_polygons, whole_quad}
 use Rattle.child_slots.specs.Slotted.{Slotted, number_at}
-use Rattle.child_slots.specs.Walked.{IsSlot, numbered_of, AreChildEdges}
+use Rattle.child_slots.specs.Walked.{IsPartSlot, numbered_of, ArePartEdges}
 use Rattle.child_slots.proofs.SlotLemmas.{over-of}
-use Rattle.child_slots.proofs.QuadLemmas.{child-quad, sides-slots, face-below, all-four}
+use Rattle.child_slots.proofs.QuadLemmas.{all-four}
+use Rattle.child_slots.proofs.PartLemmas.{quads-count, quad-at-place}
 use Rattle.child_slots.proofs.WalkLemmas.{HasSlots, slot-known}
 use Rattle.level_topology.specs.Numbering.{IsNumbering, number_in}
 use Rattle.level_topology.proofs.NumberingLemmas.{numbered-ends}
+use Rattle.child_slots.proofs.FaceWalkLemmas.{part-slots}
 
 -- each corner of a quad has a side to the next one
 pub quad-side : (a b d e : ℕ) → (has_side (a, b) (a ∷ b ∷ d ∷ e ∷ []) ≡ true) × (has_side (b, d) (a ∷ b ∷ d ∷ e ∷ []) ≡ true) × (has_side (d, e) (a ∷ b ∷ d ∷ e ∷ []) ≡ true) × (has_side (e, a) (a ∷ b ∷ d ∷ e ∷ []) ≡ true)
 quad-side a b d e = (grind (arith, nat_tests), grind (arith, nat_tests), grind (arith, nat_tests), grind (arith, nat_tests))
 
-module _ (t : Topology) (is : IsTopology t) (n : Slotted) (are : AreChildEdges t.level n) where
+module _ (t : Topology) (is : IsTopology t) (p : Part) (n : Slotted) (are : ArePartEdges t.level p n) where
   abbrev points : ℕ
   points = t.level.point_count
 
@@ -30,10 +31,10 @@ module _ (t : Topology) (is : IsTopology t) (n : Slotted) (are : AreChildEdges t
   polygons = t.level.polygons
 
   abbrev quads : List Polygon
-  quads = child_polygons points polygons
+  quads = part_polygons t.level.point_count t.level.polygons p
 
-  all-quads : take (sum_by length polygons) quads ≡ quads
-  all-quads = take_all (sum_by length polygons) quads (omega (arith, child_polygons-length points polygons))
+  all-quads : take (length p.places) quads ≡ quads
+  all-quads = take_all (length p.places) quads (omega (arith, quads-count points polygons (over-of t is) is.simple p are.part))
 
   -- they are numbered by first appearance
   pub numbering-all : IsNumbering quads [] (numbered_of n)
@@ -42,39 +43,44 @@ module _ (t : Topology) (is : IsTopology t) (n : Slotted) (are : AreChildEdges t
   pub ends-all : n.ends ≡ edges_of quads
   ends-all = numbered-ends quads (numbered_of n) numbering-all
 
-  has-slots : HasSlots points polygons (over-of t is) is.simple n
+  has-slots : HasSlots points polygons (over-of t is) is.simple p are.part n
   has-slots = record { slots = are.slots; listed = are.listed; count_is = are.count_is }
 
   -- a side's number is that of its slot
-  pub slot-number : (a : ℕ) (s : ℕ × ℕ) → IsSlot points polygons a s → number_at n.slots a ≡ edge_number quads s
-  slot-number a s slot = (slot-known points polygons (over-of t is) is.simple n a s has-slots slot).1 ∙ ap (λ edges. number_in edges s) ends-all
+  pub slot-number : (a : ℕ) (s : ℕ × ℕ) → IsPartSlot points polygons p a s → number_at n.slots a ≡ edge_number quads s
+  slot-number a s slot = (slot-known points polygons (over-of t is) is.simple p are.part n a s has-slots slot).1 ∙ ap (λ edges. number_in edges s) ends-all
 
   -- and it has one where it is a side of a child face
-  pub slot-among : (a : ℕ) (s : ℕ × ℕ) (k : ℕ) → IsSlot points polygons a s → has_side s (polygon_at quads k) ≡ true → is_among n.slots a ≡ true
-  slot-among a s k slot has = (slot-known points polygons (over-of t is) is.simple n a s has-slots slot).0 ∙ ap (list_any (same_edge s)) ends-all ∙ side-named quads k s has
+  pub slot-among : (a : ℕ) (s : ℕ × ℕ) (k : ℕ) → IsPartSlot points polygons p a s → has_side s (polygon_at quads k) ≡ true → is_among n.slots a ≡ true
+  slot-among a s k slot has = (slot-known points polygons (over-of t is) is.simple p are.part n a s has-slots slot).0 ∙ ap (list_any (same_edge s)) ends-all ∙ side-named quads k s has
 
   -- the slots of a child face's sides
-  module _ (f c : ℕ) (h : c < length (polygon_at polygons f)) where
-    quad-here : polygon_at quads (first_child polygons f + c) ≡ quad_at points polygons f c
-    quad-here = child-quad points polygons f c (face-below polygons f c h) h
+  module _ (i : ℕ) (h : i < length p.places) where
+    abbrev place : ℕ × ℕ
+    place = get_or p.places i (0, 0)
+
+    abbrev quad : Polygon
+    quad = map p.number (whole_quad t.level.point_count t.level.polygons (get_or p.places i (0, 0)))
+
+    quad-here : polygon_at quads i ≡ quad
+    quad-here = quad-at-place points polygons (over-of t is) is.simple p are.part i h
 
     -- all have edges
-    pub slots-there : All (λ a. is_among n.slots a ≡ true) (slots_at polygons f c)
+    pub slots-there : All (λ a. is_among n.slots a ≡ true) (slots_at polygons place.0 place.1)
     slots-there =
-        let all = sides-slots points polygons f c h in
-        let k = first_child polygons f + c in
-        let side : (s : ℕ × ℕ) → has_side s (quad_at points polygons f c) ≡ true → has_side s (polygon_at quads k) ≡ true = λ s has. ap (has_side s) quad-here ∙ has in
-        let sides = quad-side (get_or (quad_at points polygons f c) 0 0) (get_or (quad_at points polygons f c) 1 0) (get_or (quad_at points polygons f c) 2 0) (get_or (quad_at points polygons f c) 3 0) in
+        let all = part-slots t is p are.part i h in
+        let side : (s : ℕ × ℕ) → has_side s quad ≡ true → has_side s (polygon_at quads i) ≡ true = λ s has. ap (has_side s) quad-here ∙ has in
+        let sides = quad-side (get_or quad 0 0) (get_or quad 1 0) (get_or quad 2 0) (get_or quad 3 0) in
         all-four (λ a. is_among n.slots a ≡ true) _ _ _ _
-        (slot-among _ _ k (all 0 (0, (0, 0)) (omega arith)) (side _ sides.0))
-        (slot-among _ _ k (all 1 (0, (0, 0)) (omega arith)) (side _ sides.1))
-        (slot-among _ _ k (all 2 (0, (0, 0)) (omega arith)) (side _ sides.2))
-        (slot-among _ _ k (all 3 (0, (0, 0)) (omega arith)) (side _ sides.3))
+        (slot-among _ _ i (all 0 (0, (0, 0)) (omega arith)) (side _ sides.0))
+        (slot-among _ _ i (all 1 (0, (0, 0)) (omega arith)) (side _ sides.1))
+        (slot-among _ _ i (all 2 (0, (0, 0)) (omega arith)) (side _ sides.2))
+        (slot-among _ _ i (all 3 (0, (0, 0)) (omega arith)) (side _ sides.3))
 
     -- and their numbers are those of the face's edges
-    pub numbers-quad : map (number_at n.slots) (slots_at polygons f c) ≡ face_edges_of quads (polygon_at quads (first_child polygons f + c))
+    pub numbers-quad : map (number_at n.slots) (slots_at polygons place.0 place.1) ≡ face_edges_of quads (polygon_at quads i)
     numbers-quad =
-        let all = sides-slots points polygons f c h in
+        let all = part-slots t is p are.part i h in
         list-same
         (slot-number _ _ (all 0 (0, (0, 0)) (omega arith)))
         (slot-number _ _ (all 1 (0, (0, 0)) (omega arith)))

@@ -38,8 +38,8 @@ module _ (t : Topology) (is : IsTopology t) where
       (edges, end-tells t.level.point_count polygons (over-of t is) is.simple e u w h (ap (λ n. has_end w (edge_at polygons n)) edges ∙ k) ends)
 
   -- nothing is put yet
-  pub halves-none : (halves : List rules.Sharpness) → length halves ≡ 2 * length (edges_of polygons) → AreHalvesPut t 0 0 (map sharpness_of halves)
-  halves-none halves n = record {
+  pub halves-none : (has : ℕ → Bool) (halves : List rules.Sharpness) → length halves ≡ 2 * length (edges_of polygons) → AreHalvesPut t has 0 0 (map sharpness_of halves)
+  halves-none has halves n = record {
     count = length-map halves sharpness_of ∙ n;
     fine = λ u less. absurd (omega arith);
     points = λ u d less. absurd (omega arith);
@@ -47,13 +47,13 @@ module _ (t : Topology) (is : IsTopology t) where
   }
 
   -- at the end each half of each edge is there
-  pub halves-all : (v : ℕ) (halves : List Sharpness) → v ≡ t.level.point_count → AreHalvesPut t v 0 halves → AreAllHalves t halves
-  halves-all v halves last put = record {
+  pub halves-all : (has : ℕ → Bool) (v : ℕ) (halves : List Sharpness) → v ≡ t.level.point_count → AreHalvesPut t has v 0 halves → AreAllHalves t has halves
+  halves-all has v halves last put = record {
     put = record {
       count = put.count;
-      each = λ e u there has. let low = end-below t.level.point_count polygons (over-of t is) is.simple e u there has in put.points u e (omega (arith, low, last)) there has;
+      each = λ e u there own ends. let low = end-below t.level.point_count polygons (over-of t is) is.simple e u there ends in put.points u e (omega (arith, low, last)) own there ends;
     };
-    fine = λ u low. put.fine u (omega (arith, low, last));
+    fine = λ u low own. put.fine u (omega (arith, low, last)) own;
   }
 
   module _ (v : ℕ) (low : v < t.level.point_count) where
@@ -115,12 +115,12 @@ module _ (t : Topology) (is : IsTopology t) where
         ∙ sym (half_child-any_order (ring_at t.level v) (ring_listed t v) ring-permuted t.level.method (edge_sharpness_of t.level (edge_at polygons e)))
 
     -- one half more
-    pub half-more : (i slot : ℕ) (before after : List Sharpness) (half : Sharpness) → i < length items → slot ≡ half_slot polygons v (get_or items i 0) → half ≡ half_sharpness t.level (edge_at polygons (get_or items i 0)) v
-        → after ≡ set before slot half → AreHalvesPut t v i before → AreHalvesPut t v (i + 1) after
-    half-more i slot before after half inside at made written put = record {
+    pub half-more : (has : ℕ → Bool) (i slot : ℕ) (before after : List Sharpness) (half : Sharpness) → i < length items → slot ≡ half_slot polygons v (get_or items i 0) → half ≡ half_sharpness t.level (edge_at polygons (get_or items i 0)) v
+        → after ≡ set before slot half → AreHalvesPut t has v i before → AreHalvesPut t has v (i + 1) after
+    half-more has i slot before after half inside at made written put = record {
       count = ap length written ∙ length-set before slot half ∙ put.count;
       fine = put.fine;
-      points = λ u e less there has. other u e (λ same. let both = one-slot u v e (get_or items i 0) has (ends-there i inside) (same ∙ at) in absurd (omega (arith, both.1, less))) (put.points u e less there has);
+      points = λ u e less own there ends. other u e (λ same. let both = one-slot u v e (get_or items i 0) ends (ends-there i inside) (same ∙ at) in absurd (omega (arith, both.1, less))) (put.points u e less own there ends);
       places = λ k less within. at-place k less within (nat_eq (half_slot polygons v (get_or items k 0)) slot) refl;
     }
       where
@@ -142,24 +142,38 @@ module _ (t : Topology) (is : IsTopology t) where
             other v (get_or items k 0) differ (put.places k (omega (arith, less, earlier)) within)
 
     -- all at the point
-    pub point-done : (i : ℕ) (halves : List Sharpness) → length items ≤ i → chaikin_overflows_at t.level v ≡ false → AreHalvesPut t v i halves → AreHalvesPut t (v + 1) 0 halves
-    point-done i halves all fine put = record {
+    pub point-done : (has : ℕ → Bool) (i : ℕ) (halves : List Sharpness) → length items ≤ i → chaikin_overflows_at t.level v ≡ false → AreHalvesPut t has v i halves → AreHalvesPut t has (v + 1) 0 halves
+    point-done has i halves all fine put = record {
       count = put.count;
-      fine = λ u less. fine-at u less (nat_eq u v) refl;
-      points = λ u e less there has. put-at u e less there has (nat_eq u v) refl;
+      fine = λ u less own. fine-at u less own (nat_eq u v) refl;
+      points = λ u e less own there ends. put-at u e less own there ends (nat_eq u v) refl;
       places = λ k less. absurd (omega arith);
     }
       where
         before : (u : ℕ) → u < v + 1 → nat_eq u v ≡ false → u < v
         before u less apart = let differ : u ≢ v = λ same. let yes = eq-eqb u v same in absurd (cc) in omega (arith, less, differ)
 
-        fine-at : (u : ℕ) → u < v + 1 → (b : Bool) → nat_eq u v ≡ b → chaikin_overflows_at t.level u ≡ false
-        fine-at u less true same = ap (chaikin_overflows_at t.level) (eqb-true u v same) ∙ fine
-        fine-at u less false apart = put.fine u (before u less apart)
+        fine-at : (u : ℕ) → u < v + 1 → has u ≡ true → (b : Bool) → nat_eq u v ≡ b → chaikin_overflows_at t.level u ≡ false
+        fine-at u less own true same = ap (chaikin_overflows_at t.level) (eqb-true u v same) ∙ fine
+        fine-at u less own false apart = put.fine u (before u less apart) own
 
-        put-at : (u e : ℕ) → u < v + 1 → e < length (edges_of polygons) → has_end u (edge_at polygons e) ≡ true → (b : Bool) → nat_eq u v ≡ b → IsHalfPut t.level halves u e
-        put-at u e less there has true same =
+        put-at : (u e : ℕ) → u < v + 1 → has u ≡ true → e < length (edges_of polygons) → has_end u (edge_at polygons e) ≡ true → (b : Bool) → nat_eq u v ≡ b → IsHalfPut t.level halves u e
+        put-at u e less own there ends true same =
             let one = eqb-true u v same in
-            let found = among-at e items (edges-all t v e is low there (ap (λ n. has_end n (edge_at polygons e)) (sym one) ∙ has)) in
+            let found = among-at e items (edges-all t v e is low there (ap (λ n. has_end n (edge_at polygons e)) (sym one) ∙ ends)) in
             subst (λ n. IsHalfPut t.level halves n e) (sym one) (subst (IsHalfPut t.level halves v) found.2 (put.places found.0 (omega (arith, found.1, all)) found.1))
-        put-at u e less there has false apart = put.points u e (before u less apart) there has
+        put-at u e less own there ends false apart = put.points u e (before u less apart) own there ends
+
+-- a point that the part does not have is passed over
+pub point-passed : (t : Topology) (has : ℕ → Bool) (v : ℕ) (halves : List Sharpness) → has v ≡ false → AreHalvesPut t has v 0 halves → AreHalvesPut t has (v + 1) 0 halves
+point-passed t has v halves none put = record {
+  count = put.count;
+  fine = λ u less own. put.fine u (before u less own) own;
+  points = λ u e less own there ends. put.points u e (before u less own) own there ends;
+  places = λ k less. absurd (omega arith);
+}
+  where
+    before : (u : ℕ) → u < v + 1 → has u ≡ true → u < v
+    before u less own =
+        let differ : u ≢ v = λ same. let yes = ap has same in absurd (cc) in
+        omega (arith, less, differ)

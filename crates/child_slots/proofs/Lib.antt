@@ -3,6 +3,7 @@ pub mod ChildNumberLemmas
 pub mod SlotTableLemmas
 pub mod SlotTellLemmas
 pub mod QuadLemmas
+pub mod PartLemmas
 pub mod WalkLemmas
 pub mod FaceWalkLemmas
 pub mod ChildEdgeLemmas

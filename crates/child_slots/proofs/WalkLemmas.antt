@@ -1,30 +1,26 @@
--- The edges of the next level with one child face more.
-use Rattle.std.proofs.Common.{◌≡◌, ℕ, zero, suc, ◌+◌, ◌<◌, ◌≤◌, Bool, true, false, not, nat_eq, nat_lt, List, [], ◌∷◌, ◌++◌, length, map, take, drop, get_or, arith, refl, ap, sym, ◌∙◌, subst}
-use Rattle.std.specs.List.{All, list_all, list_any, count_by}
+-- The edges of a part of the next level with one child face more.
+use Rattle.std.proofs.Common.{◌≡◌, ℕ, zero, suc, ◌+◌, ◌<◌, ◌≤◌, Bool, true, false, not, nat_eq, nat_lt, List, [], ◌∷◌, ◌++◌, length, map, take, get_or, arith, refl, ap, sym, ◌∙◌, subst}
+use Rattle.std.specs.List.{All, list_all, list_any}
 use Rattle.std.proofs.lemmas.Bool.Decides.{nat_tests}
-use Rattle.std.proofs.lemmas.Bool.{and_parts, false_from_ne_true}
-use Rattle.std.proofs.lemmas.Grind.{flat_map-append}
-use Rattle.std.proofs.lemmas.List.{map-append, length-append, length-take-le, take_more, get_or-take, take-append-drop, get_or_append_left}
+use Rattle.std.proofs.lemmas.Bool.{and_parts}
+use Rattle.std.proofs.lemmas.List.{map-append, length-append, length-take-le, take_more, get_or_append_left}
 use Rattle.std.proofs.Math.Seq.{get_or-append_seam}
 use Rattle.std.proofs.lemmas.List.Sums.{list_all-from_AllPass}
 use Rattle.subdiv_model.specs.Polygons.{Polygon, polygon_at, same_side, same_edge, sides_of, is_among, is_over, has_side, has_distinct_sides}
 use Rattle.subdiv_model.specs.Edges.{all_sides}
 use Rattle.subdiv_model.specs.Manifold.{is_simple}
 use Rattle.subdiv_model.specs.Sharpness.{Smooth}
-use Rattle.subdiv_model.specs.Child.{child_polygons}
-use Rattle.number_laws.proofs.CountLemmas.{count-append}
-use Rattle.mesh_laws.proofs.SideLemmas.{distinct-from_count, polygon-edge-count}
-use Rattle.mesh_laws.proofs.ClosedLemmas.{all-at, any-place}
-use Rattle.mesh_laws.proofs.FanLemmas.{owner-unique}
-use Rattle.mesh_laws.proofs.ChildFaceLemmas.{all-child, child-simple}
-use Rattle.mesh_laws.proofs.ChildOnceLemmas.{child-times}
+use Rattle.mesh_laws.proofs.SideLemmas.{polygon-edge-count}
+use Rattle.mesh_laws.proofs.ClosedLemmas.{all-at}
 use Rattle.mesh_laws.proofs.ChildPlaceLemmas.{own-sides}
 use Rattle.child_slots.specs.Slots.{slot_count}
 use Rattle.child_slots.specs.Slotted.{Slotted, number_at, with_slot, with_slots}
-use Rattle.child_slots.specs.Walked.{IsSlot, IsWalked, numbered_of}
+use Rattle.child_slots.specs.Parts.{Part, IsPart, part_polygons, renumbered}
+use Rattle.child_slots.specs.Walked.{IsPartSlot, IsWalked, numbered_of}
 use Rattle.child_slots.proofs.SlotTellLemmas.{slots-tell}
 use Rattle.level_topology.specs.Numbering.{number_in, with_side, with_sides, IsNumbering}
 use Rattle.level_topology.proofs.NumberingLemmas.{numbering-sides, numbering-face}
+use Rattle.child_slots.proofs.PartLemmas.{edge-renumbered, quads-count, quads-simple, fresh-side, first-distinct}
 
 -- where slots tell sides, a slot is among others exactly where its side is, and at the same place
 pub told-alike : (a : ℕ) (s : ℕ × ℕ) (slots : List ℕ) (ends : List (ℕ × ℕ)) → length slots ≡ length ends → ((e : ℕ) → e < length ends → nat_eq a (get_or slots e 0) ≡ same_edge s (get_or ends e (0, 0))) → (is_among slots a ≡ list_any (same_edge s) ends) × (number_at slots a ≡ number_in ends s)
@@ -44,19 +40,27 @@ side-of-slot face n a s known number = go (list_any (same_edge s) n.ends) refl
     go true e = let there = known ∙ e in rw (there, e, number) refl
     go false e = let none = known ∙ e in let more = map-append (λ (t : ℕ × ℕ). Smooth) n.ends (s ∷ []) in rw (none, e, more) refl
 
-module _ (points : ℕ) (polygons : List Polygon) (over : is_over points polygons ≡ true) (simple : list_all is_simple polygons ≡ true) where
+module _ (points : ℕ) (polygons : List Polygon) (over : is_over points polygons ≡ true) (simple : list_all is_simple polygons ≡ true) (p : Part) (is : IsPart points polygons p) where
+  -- slots tell the sides of the part
+  part-slots-tell : (a b : ℕ) (s t : ℕ × ℕ) → IsPartSlot points polygons p a s → IsPartSlot points polygons p b t → nat_eq a b ≡ same_edge s t
+  part-slots-tell a b s t h k =
+      let u = h.whole in
+      let w = k.whole in
+      let alike = edge-renumbered p.number u w (is.apart u.0 w.0 h.first k.first) (is.apart u.1 w.1 h.second k.second) (is.apart u.0 w.1 h.first k.second) (is.apart u.1 w.0 h.second k.first) in
+      slots-tell points polygons over simple a b u w h.slot_is k.slot_is ∙ sym alike ∙ ap (λ x. same_edge x (renumbered p.number w)) (sym h.side_is) ∙ ap (same_edge s) (sym k.side_is)
+
   -- each edge has its slot
   pub record HasSlots (n : Slotted) : Type 0 where
-    pub slots : (e : ℕ) → e < length n.ends → IsSlot points polygons (get_or n.slots e 0) (get_or n.ends e (0, 0))
+    pub slots : (e : ℕ) → e < length n.ends → IsPartSlot points polygons p (get_or n.slots e 0) (get_or n.ends e (0, 0))
     pub listed : length n.slots ≡ length n.ends
     pub count_is : n.count ≡ slot_count polygons
 
-  pub slot-known : (n : Slotted) (a : ℕ) (s : ℕ × ℕ) → HasSlots n → IsSlot points polygons a s → (is_among n.slots a ≡ list_any (same_edge s) n.ends) × (number_at n.slots a ≡ number_in n.ends s)
-  slot-known n a s has is = told-alike a s n.slots n.ends has.listed (λ e h. slots-tell points polygons over simple a (get_or n.slots e 0) s (get_or n.ends e (0, 0)) is (has.slots e h))
+  pub slot-known : (n : Slotted) (a : ℕ) (s : ℕ × ℕ) → HasSlots n → IsPartSlot points polygons p a s → (is_among n.slots a ≡ list_any (same_edge s) n.ends) × (number_at n.slots a ≡ number_in n.ends s)
+  slot-known n a s has slot = told-alike a s n.slots n.ends has.listed (λ e h. part-slots-tell a (get_or n.slots e 0) s (get_or n.ends e (0, 0)) slot (has.slots e h))
 
   -- and with one side more
-  has-more : (face : ℕ) (n : Slotted) (a : ℕ) (s : ℕ × ℕ) → HasSlots n → IsSlot points polygons a s → HasSlots (with_slot face n (a, s))
-  has-more face n a s has is = go (is_among n.slots a) refl
+  has-more : (face : ℕ) (n : Slotted) (a : ℕ) (s : ℕ × ℕ) → HasSlots n → IsPartSlot points polygons p a s → HasSlots (with_slot face n (a, s))
+  has-more face n a s has slot = go (is_among n.slots a) refl
     where
       go : (b : Bool) → is_among n.slots a ≡ b → HasSlots (with_slot face n (a, s))
       go true e = rw e (record { slots = has.slots; listed = has.listed; count_is = has.count_is })
@@ -66,10 +70,10 @@ module _ (points : ℕ) (polygons : List Polygon) (over : is_over points polygon
         count_is = has.count_is;
       })
         where
-          each : (k : ℕ) → k < length (n.ends ++ s ∷ []) → IsSlot points polygons (get_or (n.slots ++ a ∷ []) k 0) (get_or (n.ends ++ s ∷ []) k (0, 0))
+          each : (k : ℕ) → k < length (n.ends ++ s ∷ []) → IsPartSlot points polygons p (get_or (n.slots ++ a ∷ []) k 0) (get_or (n.ends ++ s ∷ []) k (0, 0))
           each k h = at (nat_lt k (length n.ends)) refl
             where
-              at : (b : Bool) → nat_lt k (length n.ends) ≡ b → IsSlot points polygons (get_or (n.slots ++ a ∷ []) k 0) (get_or (n.ends ++ s ∷ []) k (0, 0))
+              at : (b : Bool) → nat_lt k (length n.ends) ≡ b → IsPartSlot points polygons p (get_or (n.slots ++ a ∷ []) k 0) (get_or (n.ends ++ s ∷ []) k (0, 0))
               at true low =
                   let inside : k < length n.ends = grind (arith, nat_tests) in
                   let inside' : k < length n.slots = omega (arith, inside, has.listed) in
@@ -77,30 +81,24 @@ module _ (points : ℕ) (polygons : List Polygon) (over : is_over points polygon
               at false high =
                   let not_below : length n.ends ≤ k = grind (arith, nat_tests) in
                   let last : k ≡ length n.ends = omega (arith, h, not_below, length-append n.ends (s ∷ [])) in
-                  let slot : get_or (n.slots ++ a ∷ []) k 0 ≡ a = ap (λ i. get_or (n.slots ++ a ∷ []) i 0) (last ∙ sym has.listed) ∙ get_or-append_seam n.slots a [] 0 in
+                  let number : get_or (n.slots ++ a ∷ []) k 0 ≡ a = ap (λ i. get_or (n.slots ++ a ∷ []) i 0) (last ∙ sym has.listed) ∙ get_or-append_seam n.slots a [] 0 in
                   let end : get_or (n.ends ++ s ∷ []) k (0, 0) ≡ s = ap (λ i. get_or (n.ends ++ s ∷ []) i (0, 0)) last ∙ get_or-append_seam n.ends s [] (0, 0) in
-                  rw (slot, end) is
+                  rw (number, end) slot
 
   -- so the sides of a face give the same edges by their slots
-  sides-of-slots : (face : ℕ) (n : Slotted) (pairs : List (ℕ × (ℕ × ℕ))) → HasSlots n → All (λ s. IsSlot points polygons s.0 s.1) pairs → HasSlots (with_slots face n pairs) × (numbered_of (with_slots face n pairs) ≡ with_sides face (numbered_of n) (map (λ s. s.1) pairs))
+  sides-of-slots : (face : ℕ) (n : Slotted) (pairs : List (ℕ × (ℕ × ℕ))) → HasSlots n → All (λ s. IsPartSlot points polygons p s.0 s.1) pairs → HasSlots (with_slots face n pairs) × (numbered_of (with_slots face n pairs) ≡ with_sides face (numbered_of n) (map (λ s. s.1) pairs))
   sides-of-slots face n [] has all = (has, refl)
   sides-of-slots face n (s ∷ pairs) has all =
-      let first : IsSlot points polygons s.0 s.1 = all 0 s (omega arith) in
+      let first : IsPartSlot points polygons p s.0 s.1 = all 0 s (omega arith) in
       let known = slot-known n s.0 s.1 has first in
       let one = side-of-slot face n s.0 s.1 known.0 known.1 in
       let rest = sides-of-slots face (with_slot face n s) pairs (has-more face n s.0 s.1 has first) (λ k d h. all (suc k) d (omega (arith, h))) in
       (rest.0, rest.1 ∙ ap (λ m. with_sides face m (map (λ s. s.1) pairs)) one)
 
   module _ (distinct : has_distinct_sides (all_sides polygons) ≡ true) where
-    abbrev pub quads : List Polygon
-    quads = child_polygons points polygons
-
-    quads-simple : list_all is_simple quads ≡ true
-    quads-simple = child-simple points polygons quads (all-child points polygons over simple)
-
-    -- the first child faces are simple, and have each side once
-    first-simple : (k : ℕ) → list_all is_simple (take k quads) ≡ true
-    first-simple k = take-all k quads quads-simple
+    -- the first child faces are simple
+    first-simple : (k : ℕ) → list_all is_simple (take k (part_polygons points polygons p)) ≡ true
+    first-simple k = take-all k (part_polygons points polygons p) (quads-simple points polygons over simple p is)
       where
         take-all : (k : ℕ) (some : List Polygon) → list_all is_simple some ≡ true → list_all is_simple (take k some) ≡ true
         take-all zero some h = refl
@@ -110,48 +108,46 @@ module _ (points : ℕ) (polygons : List Polygon) (over : is_over points polygon
             let behind = take-all k some parts.1 in
             rw parts.0 behind
 
-    first-distinct : (k : ℕ) → has_distinct_sides (all_sides (take k quads)) ≡ true
-    first-distinct k = distinct-from_count (all_sides (take k quads)) (λ s.
-        let whole : all_sides quads ≡ all_sides (take k quads) ++ all_sides (drop k quads) = ap all_sides (sym (take-append-drop k quads)) ∙ flat_map-append sides_of (take k quads) (drop k quads) in
-        omega (arith, child-times points polygons over simple distinct s, ap (count_by (same_side s)) whole, count-append (same_side s) (all_sides (take k quads)) (all_sides (drop k quads))))
-
     -- a child face has no side of one before it
-    fresh-sides : (k : ℕ) → k < length quads → list_all (λ s. not (list_any (same_side s) (all_sides (take k quads)))) (sides_of (polygon_at quads k)) ≡ true
-    fresh-sides k inside = list_all-from_AllPass _ (sides_of (polygon_at quads k)) (λ i d h. fresh (get_or (sides_of (polygon_at quads k)) i d) (own i d h))
-      where
-        own : (i : ℕ) (d : ℕ × ℕ) → i < length (sides_of (polygon_at quads k)) → has_side (get_or (sides_of (polygon_at quads k)) i d) (polygon_at quads k) ≡ true
-        own i d h = all-at (λ s. list_any (same_side s) (sides_of (polygon_at quads k))) (sides_of (polygon_at quads k)) i d h (own-sides (sides_of (polygon_at quads k)))
-
-        fresh : (s : ℕ × ℕ) → has_side s (polygon_at quads k) ≡ true → not (list_any (same_side s) (all_sides (take k quads))) ≡ true
-        fresh s has = ap not (false_from_ne_true _ (λ there.
-            let found = any-place (same_side s) (take k quads) there in
-            let below : found.0 < k = omega (arith, found.1, length-take-le k quads (omega (arith, inside))) in
-            let here : has_side s (polygon_at quads found.0) ≡ true = ap (has_side s) (sym (get_or-take k quads found.0 [] below)) ∙ found.2 in
-            let same : found.0 ≡ k = owner-unique quads s found.0 k (child-times points polygons over simple distinct s) here has in
-            absurd (omega (arith, below, same))))
-
-    -- a child face more
-    pub walked-step : (k : ℕ) (n m : Slotted) (pairs : List (ℕ × (ℕ × ℕ))) → k < length quads → IsWalked points polygons k n → All (λ s. IsSlot points polygons s.0 s.1) pairs → map (λ s. s.1) pairs ≡ sides_of (polygon_at quads k) → m ≡ with_slots k n pairs → IsWalked points polygons (k + 1) m
-    walked-step k n m pairs inside is all sides made = subst (λ x. IsWalked points polygons (k + 1) x) (sym made) walked
+    fresh-sides : (k : ℕ) → k < length p.places → list_all (λ s. not (list_any (same_side s) (all_sides (take k (part_polygons points polygons p))))) (sides_of (polygon_at (part_polygons points polygons p) k)) ≡ true
+    fresh-sides k inside = list_all-from_AllPass _ (sides_of q) (λ i d h. ap not (fresh-side points polygons over simple p is distinct k (get_or (sides_of q) i d) inside (own i d h)))
       where
         q : Polygon
-        q = polygon_at quads k
+        q = polygon_at (part_polygons points polygons p) k
+
+        own : (i : ℕ) (d : ℕ × ℕ) → i < length (sides_of q) → has_side (get_or (sides_of q) i d) q ≡ true
+        own i d h = all-at (λ s. list_any (same_side s) (sides_of q)) (sides_of q) i d h (own-sides (sides_of q))
+
+    -- a child face more
+    pub walked-step : (k : ℕ) (n m : Slotted) (pairs : List (ℕ × (ℕ × ℕ))) → k < length p.places → IsWalked points polygons p k n → All (λ s. IsPartSlot points polygons p s.0 s.1) pairs → map (λ s. s.1) pairs ≡ sides_of (polygon_at (part_polygons points polygons p) k) → m ≡ with_slots k n pairs → IsWalked points polygons p (k + 1) m
+    walked-step k n m pairs inside walked all sides made = subst (λ x. IsWalked points polygons p (k + 1) x) (sym made) more
+      where
+        q : Polygon
+        q = polygon_at (part_polygons points polygons p) k
+
+        within : k < length (part_polygons points polygons p)
+        within = omega (arith, inside, quads-count points polygons over simple p is)
 
         both : HasSlots (with_slots k n pairs) × (numbered_of (with_slots k n pairs) ≡ with_sides k (numbered_of n) (map (λ s. s.1) pairs))
-        both = sides-of-slots k n pairs (record { slots = is.slots; listed = is.listed; count_is = is.count_is }) all
+        both = sides-of-slots k n pairs (record { slots = walked.slots; listed = walked.listed; count_is = walked.count_is }) all
 
-        count : length (take k quads) ≡ k
-        count = length-take-le k quads (omega (arith, inside))
+        count : length (take k (part_polygons points polygons p)) ≡ k
+        count = length-take-le k (part_polygons points polygons p) (omega (arith, within))
 
-        sided : IsNumbering (take k quads) (sides_of q) (with_sides (length (take k quads)) (numbered_of n) (sides_of q))
-        sided = numbering-sides (take k quads) (first-simple k) (first-distinct k) [] (sides_of q) (numbered_of n) is.numbering (fresh-sides k inside) (λ s. polygon-edge-count q s (all-at is_simple quads k [] inside quads-simple))
+        sided : IsNumbering (take k (part_polygons points polygons p)) (sides_of q) (with_sides (length (take k (part_polygons points polygons p))) (numbered_of n) (sides_of q))
+        sided =
+            numbering-sides (take k (part_polygons points polygons p)) (first-simple k) (first-distinct points polygons over simple p is distinct k (omega (arith, inside))) [] (sides_of q) (numbered_of n) walked.numbering
+            (fresh-sides k inside) (λ s. polygon-edge-count q s (all-at is_simple (part_polygons points polygons p) k [] within (quads-simple points polygons over simple p is)))
 
-        same : with_sides (length (take k quads)) (numbered_of n) (sides_of q) ≡ numbered_of (with_slots k n pairs)
+        same : with_sides (length (take k (part_polygons points polygons p))) (numbered_of n) (sides_of q) ≡ numbered_of (with_slots k n pairs)
         same = ap (λ f. with_sides f (numbered_of n) (sides_of q)) count ∙ ap (with_sides k (numbered_of n)) (sym sides) ∙ sym both.1
 
-        walked : IsWalked points polygons (k + 1) (with_slots k n pairs)
-        walked = record {
-          numbering = subst (λ (qs : List Polygon). IsNumbering qs [] (numbered_of (with_slots k n pairs))) (sym (take_more quads k [] inside)) (numbering-face (take k quads) q (numbered_of (with_slots k n pairs)) (subst (λ x. IsNumbering (take k quads) (sides_of q) x) same sided));
+        more : IsWalked points polygons p (k + 1) (with_slots k n pairs)
+        more = record {
+          part = is;
+          numbering =
+              subst (λ (qs : List Polygon). IsNumbering qs [] (numbered_of (with_slots k n pairs))) (sym (take_more (part_polygons points polygons p) k [] within))
+              (numbering-face (take k (part_polygons points polygons p)) q (numbered_of (with_slots k n pairs)) (subst (λ x. IsNumbering (take k (part_polygons points polygons p)) (sides_of q) x) same sided));
           slots = both.0.slots;
           listed = both.0.listed;
           count_is = both.0.count_is;

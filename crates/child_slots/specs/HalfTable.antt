@@ -1,5 +1,5 @@
 -- The sharpness of the halves of edges while they are put, point by point.
-use Rattle.std.specs.Prelude.{ℕ, ◌≡◌, ◌*◌, ◌<◌, true, false, List, [], length, map, get_or}
+use Rattle.std.specs.Prelude.{ℕ, ◌≡◌, ◌*◌, ◌<◌, Bool, true, false, List, [], length, map, get_or}
 use Rattle.subdiv_model.specs.Edges.{edges_of, has_end}
 use Rattle.subdiv_model.specs.Sharpness.{Sharpness, Smooth}
 use Rattle.subdiv_model.specs.Level.{Level}
@@ -14,34 +14,35 @@ use Rattle.child_slots.specs.declared.fault.HalfFault.TheVariants.{Chaikin, Memo
 abbrev pub IsHalfPut : Level → List Sharpness → ℕ → ℕ → Type 0
 IsHalfPut level halves v e = get_or halves (half_slot level.polygons v e) Smooth ≡ half_sharpness level (edge_at level.polygons e) v
 
--- the sharpness of each half by its slot
-pub record HasHalves (level : Level) (halves : List Sharpness) : Type 0 where
+-- the sharpness of each half by its slot, at the points of a part
+pub record HasHalves (level : Level) (has : ℕ → Bool) (halves : List Sharpness) : Type 0 where
   pub count : length halves ≡ 2 * length (edges_of level.polygons)
-  pub each : (e v : ℕ) → e < length (edges_of level.polygons) → has_end v (edge_at level.polygons e) ≡ true → IsHalfPut level halves v e
+  pub each : (e v : ℕ) → e < length (edges_of level.polygons) → has v ≡ true → has_end v (edge_at level.polygons e) ≡ true → IsHalfPut level halves v e
 
 -- the sharpness of the edges at a point, in the order of its list
 abbrev pub ring_listed : Topology → ℕ → List Sharpness
 ring_listed t v = map (λ e. get_or t.level.edge_sharpness e Smooth) (get_or t.edges_at v [])
 
--- at the points before this one no halves overflow and all are put, and at this one those of the first edges are
-pub record AreHalvesPut (t : Topology) (v i : ℕ) (halves : List Sharpness) : Type 0 where
+-- at the part's points before this one no halves overflow and all are put, and at this one those of the first edges are
+pub record AreHalvesPut (t : Topology) (has : ℕ → Bool) (v i : ℕ) (halves : List Sharpness) : Type 0 where
   pub count : length halves ≡ 2 * length (edges_of t.level.polygons)
-  pub fine : (u : ℕ) → u < v → chaikin_overflows_at t.level u ≡ false
-  pub points : (u e : ℕ) → u < v → e < length (edges_of t.level.polygons) → has_end u (edge_at t.level.polygons e) ≡ true → IsHalfPut t.level halves u e
+  pub fine : (u : ℕ) → u < v → has u ≡ true → chaikin_overflows_at t.level u ≡ false
+  pub points : (u e : ℕ) → u < v → has u ≡ true → e < length (edges_of t.level.polygons) → has_end u (edge_at t.level.polygons e) ≡ true → IsHalfPut t.level halves u e
   pub places : (k : ℕ) → k < i → k < length (get_or t.edges_at v []) → IsHalfPut t.level halves v (get_or (get_or t.edges_at v []) k 0)
 
--- the halves of all edges are put, and at no point they overflow
-pub record AreAllHalves (t : Topology) (halves : List Sharpness) : Type 0 where
-  pub put : HasHalves t.level halves
-  pub fine : (v : ℕ) → v < t.level.point_count → chaikin_overflows_at t.level v ≡ false
+-- the halves of all edges are put at the points of a part, and at none of these they overflow
+pub record AreAllHalves (t : Topology) (has : ℕ → Bool) (halves : List Sharpness) : Type 0 where
+  pub put : HasHalves t.level has halves
+  pub fine : (v : ℕ) → v < t.level.point_count → has v ≡ true → chaikin_overflows_at t.level v ≡ false
 
--- at this point halves overflow, and at none before it
-pub record IsFirstOverflow (t : Topology) (v : ℕ) : Type 0 where
+-- at this point of a part halves overflow, and at none of its points before it
+pub record IsFirstOverflow (t : Topology) (has : ℕ → Bool) (v : ℕ) : Type 0 where
   pub exists : v < t.level.point_count
+  pub there : has v ≡ true
   pub overflows : chaikin_overflows_at t.level v ≡ true
-  pub first : (u : ℕ) → u < v → chaikin_overflows_at t.level u ≡ false
+  pub first : (u : ℕ) → u < v → has u ≡ true → chaikin_overflows_at t.level u ≡ false
 
--- halves overflow at this point first; memory may run out at any level
-abbrev pub IsHalfRefusal : Topology → HalfFault → Type 0
-IsHalfRefusal t (Chaikin v) = IsFirstOverflow t v
-IsHalfRefusal t Memory = Unit {0}
+-- halves overflow at this point of a part first; memory may run out at any level
+abbrev pub IsHalfRefusal : Topology → (ℕ → Bool) → HalfFault → Type 0
+IsHalfRefusal t has (Chaikin v) = IsFirstOverflow t has v
+IsHalfRefusal t has Memory = Unit {0}

@@ -1,4 +1,5 @@
 pub mod Slots
+pub mod Parts
 pub mod Slotted
 pub mod Walked
 pub mod HalfTable

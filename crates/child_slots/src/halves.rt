@@ -1,6 +1,6 @@
 //! The sharpness of the halves of all edges, by their slots. No half sees the order of the edges at its point.
 
-ghost use Rattle.std.specs.Prelude.{◌≡◌, ℕ, ◌+◌, ◌*◌, ◌<◌, false, List, length, map, get_or, IfOk, MatchResult, OnOk};
+ghost use Rattle.std.specs.Prelude.{◌≡◌, ℕ, ◌+◌, ◌*◌, ◌<◌, Bool, true, false, List, length, map, get_or, IfOk, MatchResult, OnOk};
 ghost use Rattle.subdiv_model.specs.Sharpness.{half_child};
 ghost use Rattle.subdiv_model.specs.Edges.{edges_of};
 ghost use Rattle.sharpness_rules.specs.declared.child.Method.{Method};
@@ -11,6 +11,7 @@ ghost use Rattle.child_slots.specs.HalfTable.{AreHalvesPut, AreAllHalves, IsHalf
 
 use crate::corners::half_slot_of;
 use crate::fault::HalfFault;
+use crate::points::ChildPoints;
 use level_topology::Level;
 use ratio128::Memory;
 use sharpness_rules::{Halves, Sharpness};
@@ -49,9 +50,10 @@ fn put_halves(
     halves: &mut [Sharpness],
 ) -> Result<(), HalfFault>
     requires known { v < level.now.level.point_count }
+    requires size { length halves.old ≡ 2 * length (edges_of level.now.level.polygons) }
     requires ring { map sharpness_of ring.now ≡ ring_listed level.now v }
-    requires before { AreHalvesPut level.now v 0 (map sharpness_of halves.old) }
-    ensures { MatchResult result (λ _. AreHalvesPut level.now (v + 1) 0 (map sharpness_of halves.new)) (IsHalfRefusal level.now) }
+    ensures { (has : ℕ → Bool) → has v ≡ true → AreHalvesPut level.now has v 0 (map sharpness_of halves.old)
+        → MatchResult result (λ _. AreHalvesPut level.now has (v + 1) 0 (map sharpness_of halves.new)) (IsHalfRefusal level.now has) }
 {
     level.facts();
     let around = Halves::of(level.method(), ring);
@@ -75,34 +77,54 @@ pub fn half_table(alloc: Global, level: &Level) -> Result<Vec<Sharpness>, Memory
     Ok(vec![in alloc; Sharpness::Smooth; count]?)
 }
 
-// Puts the halves of all edges, or finds the first point at which they overflow. The ring is room.
-fn put_by_points(
+// Puts the halves of the edges at a point that a part has, if they do not overflow. The ring is room.
+fn put_point<P: ChildPoints>(
     level: &Level,
+    points: &P,
+    v: u32,
+    ring: &mut Vec<Sharpness>,
+    halves: &mut [Sharpness],
+) -> Result<(), HalfFault>
+    requires known { v < level.now.level.point_count }
+    requires before { AreHalvesPut level.now (P.has points.now) v 0 (map sharpness_of halves.old) }
+    ensures { MatchResult result (λ _. AreHalvesPut level.now (P.has points.now) (v + 1) 0 (map sharpness_of halves.new)) (IsHalfRefusal level.now (P.has points.now)) }
+{
+    if !points.has_point(v) {
+        return Ok(());
+    }
+    put_ring(level, v, ring)?;
+    put_halves(level, v, ring, halves)
+}
+
+// Puts the halves of all edges, or finds the first point at which they overflow. The ring is room.
+fn put_by_points<P: ChildPoints>(
+    level: &Level,
+    points: &P,
     ring: &mut Vec<Sharpness>,
     halves: &mut [Sharpness],
 ) -> Result<(), HalfFault>
     requires size { length halves.old ≡ 2 * length (edges_of level.now.level.polygons) }
-    ensures { MatchResult result (λ _. AreAllHalves level.now (map sharpness_of halves.new)) (IsHalfRefusal level.now) }
+    ensures { MatchResult result (λ _. AreAllHalves level.now (P.has points.now) (map sharpness_of halves.new)) (IsHalfRefusal level.now (P.has points.now)) }
 {
     level.facts();
     for v in 0..level.points() {
-        put_ring(level, v, ring)?;
-        put_halves(level, v, ring, halves)?;
+        put_point(level, points, v, ring, halves)?;
     }
     Ok(())
 }
 
-/// Puts the halves of all edges by their slots.
+/// Puts the halves of edges by their slots, at the vertices whose points a part has.
 ///
-/// It answers `Chaikin` with the first point at which halves overflow, and `Memory` where memory runs out.
-pub fn put_all_halves(
+/// It answers `Chaikin` with the first of these vertices at which halves overflow, and `Memory` where memory runs out.
+pub fn put_all_halves<P: ChildPoints>(
     alloc: Global,
     level: &Level,
+    points: &P,
     halves: &mut [Sharpness],
 ) -> Result<(), HalfFault>
     requires size { length halves.old ≡ 2 * length (edges_of level.now.level.polygons) }
-    ensures { MatchResult result (λ _. AreAllHalves level.now (map sharpness_of halves.new)) (IsHalfRefusal level.now) }
+    ensures { MatchResult result (λ _. AreAllHalves level.now (P.has points.now) (map sharpness_of halves.new)) (IsHalfRefusal level.now (P.has points.now)) }
 {
     let mut ring = Vec::new(alloc);
-    put_by_points(level, &mut ring, halves)
+    put_by_points(level, points, &mut ring, halves)
 }

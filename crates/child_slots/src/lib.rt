@@ -5,6 +5,7 @@ mod corners;
 mod fault;
 mod halves;
 mod numbering;
+mod points;
 mod row;
 mod walk;
 
@@ -14,5 +15,6 @@ pub use corners::{
 pub use fault::HalfFault;
 pub use halves::{half_table, put_all_halves};
 pub use numbering::SlotEdges;
+pub use points::{AllPoints, ChildPoints};
 pub use row::{Row, put_corner, put_ends};
 pub use walk::{no_edges, number_edges};

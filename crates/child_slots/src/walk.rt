@@ -1,29 +1,31 @@
-//! One walk over the child faces, which numbers their edges.
+//! One walk over the faces of a part of the next level, which numbers their edges.
 
-ghost use Rattle.std.specs.Prelude.{◌≡◌, ◌+◌, ◌<◌, length, IfOk, OnOk};
-ghost use Rattle.child_slots.specs.Slots.{first_child, slot_count};
+ghost use Rattle.std.specs.Prelude.{◌≡◌, ◌+◌, ◌<◌, true, map, length, IfOk, OnOk};
+ghost use Rattle.std.specs.List.{All};
+ghost use Rattle.level_topology.specs.ChildTables.{place_of};
+ghost use Rattle.child_slots.specs.Slots.{slot_count};
+ghost use Rattle.child_slots.specs.Parts.{IsPart, part};
 ghost use Rattle.child_slots.specs.Slotted.{no_slots};
-ghost use Rattle.child_slots.specs.Walked.{IsWalked, AreChildEdges};
+ghost use Rattle.child_slots.specs.Walked.{ArePartEdges};
 
 use crate::corners::{child_corners, first_child_of, side_slots};
 use crate::numbering::SlotEdges;
-use level_topology::Level;
+use crate::points::ChildPoints;
+use level_topology::{FacePlace, Level};
 use ratio128::Memory;
 use std::alloc::Global;
 
-// The sides of the child faces of a face more.
-fn number_face(level: &Level, f: u32, edges: &mut SlotEdges) -> Result<(), Memory>
-    requires face { f < length level.now.level.polygons }
-    requires walked { IsWalked level.now.level.point_count level.now.level.polygons (first_child level.now.level.polygons f) edges.old }
-    ensures { OnOk result (IsWalked level.now.level.point_count level.now.level.polygons (first_child level.now.level.polygons (f + 1)) edges.new) }
+// The corners of a child face by their numbers in a part.
+fn numbers_of<P: ChildPoints>(points: &P, quad: [u32; 4]) -> [u32; 4]
+    requires { All (λ n. P.has points.now n ≡ true) quad }
+    ensures { result ≡ map (P.number points.now) quad }
 {
-    level.facts();
-    let first = first_child_of(level, f);
-    for c in 0..level.face_vertices(f).len() {
-        let face = first + c as u32;
-        edges.add_quad(side_slots(level, f, c), child_corners(level, f, c), face)?;
-    }
-    Ok(())
+    [
+        points.number_of(quad[0]),
+        points.number_of(quad[1]),
+        points.number_of(quad[2]),
+        points.number_of(quad[3]),
+    ]
 }
 
 /// No edges yet, with a table for the slots of a level. It answers `Memory` where memory runs out.
@@ -35,13 +37,26 @@ pub fn no_edges(alloc: Global, level: &Level) -> Result<SlotEdges, Memory>
     SlotEdges::with_table(alloc, count)
 }
 
-/// Numbers the edges of the next level as its faces name them first. It answers `Memory` where memory runs out.
-pub fn number_edges(level: &Level, edges: &mut SlotEdges) -> Result<(), Memory>
+/// Numbers the edges of a part of the next level as its faces name them first. The places of these faces ascend.
+///
+/// It answers `Memory` where memory runs out.
+pub fn number_edges<P: ChildPoints>(
+    level: &Level,
+    places: &[FacePlace],
+    points: &P,
+    edges: &mut SlotEdges,
+) -> Result<(), Memory>
+    requires part { IsPart level.now.level.point_count level.now.level.polygons (part (map place_of places.now) (P.has points.now) (P.number points.now)) }
     requires none { edges.old ≡ no_slots (slot_count level.now.level.polygons) }
-    ensures { OnOk result (AreChildEdges level.now.level edges.new) }
+    ensures { OnOk result (ArePartEdges level.now.level (part (map place_of places.now) (P.has points.now) (P.number points.now)) edges.new) }
 {
-    for f in 0..level.faces() {
-        number_face(level, f, edges)?;
+    level.facts();
+    for i in 0..places.len() {
+        let place = places[i];
+        let corner = place.corner as usize;
+        let slots = side_slots(level, place.face, corner);
+        let quad = child_corners(level, place.face, corner);
+        edges.add_quad(slots, numbers_of(points, quad), i as u32)?;
     }
     Ok(())
 }

@@ -17,7 +17,7 @@ use Rattle.level_topology.proofs.LawLemmas.{edge-joins}
 use Rattle.level_topology.proofs.FanWalkLemmas.{after-is, before-is, before-after}
 use Rattle.child_slots.specs.Slots.{first_child, corner_at, edge_from, before_in, half_slot, inner_slot, numbered_edge_point, quad_at}
 use Rattle.child_slots.specs.Slotted.{Slotted, number_at}
-use Rattle.child_slots.specs.Walked.{AreChildEdges}
+use Rattle.uniform_refiner.specs.Put.{AreChildEdges}
 use Rattle.child_slots.proofs.SlotLemmas.{before-within}
 use Rattle.child_slots.proofs.SlotTellLemmas.{edge-tells}
 use Rattle.child_slots.proofs.QuadLemmas.{face-below}

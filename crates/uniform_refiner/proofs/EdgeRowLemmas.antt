@@ -19,11 +19,12 @@ use Rattle.level_topology.proofs.LawLemmas.{own-number, either-number}
 use Rattle.level_topology.proofs.PlaceLemmas.{places-ascend}
 use Rattle.child_slots.specs.Slots.{half_slot, inner_slot, numbered_edge_point}
 use Rattle.child_slots.specs.Slotted.{Slotted, number_at, end_in}
-use Rattle.child_slots.specs.Walked.{IsHalf, AreChildEdges}
+use Rattle.uniform_refiner.specs.Put.{AreChildEdges}
+use Rattle.child_slots.specs.Walked.{IsHalf}
 use Rattle.child_slots.proofs.SlotTableLemmas.{among-number}
 use Rattle.child_slots.proofs.SlotTellLemmas.{first-tells, first-order}
-use Rattle.child_slots.proofs.ChildEdgeLemmas.{slot-number, ends-all}
 use Rattle.level_topology.proofs.NumberingLemmas.{faces-alike, any-same}
+use Rattle.uniform_refiner.proofs.WholeEdgeLemmas.{slot-number, ends-all}
 use Rattle.uniform_refiner.proofs.PutEdgeLemmas.{faces-are}
 use Rattle.uniform_refiner.proofs.PointLemmas.{corner-there, kids, kids-simple, kids-distinct, vertex-corner, row-of}
 use Rattle.uniform_refiner.proofs.VertexLemmas.{half-among}

@@ -13,9 +13,9 @@ use Rattle.level_topology.specs.Topology.{Topology, IsTopology, edge_at, corner_
 use Rattle.level_topology.specs.View.{faces_of_pair}
 use Rattle.child_slots.specs.Slots.{half_slot, inner_slot, numbered_edge_point}
 use Rattle.child_slots.specs.Slotted.{Slotted, number_at, end_in}
-use Rattle.child_slots.specs.Walked.{AreChildEdges}
+use Rattle.uniform_refiner.specs.Put.{AreChildEdges}
 use Rattle.child_slots.proofs.SlotTableLemmas.{among-number}
-use Rattle.child_slots.proofs.ChildEdgeLemmas.{slots-there}
+use Rattle.uniform_refiner.proofs.WholeEdgeLemmas.{slots-there}
 use Rattle.child_slots.proofs.SlotLemmas.{first-below}
 use Rattle.child_slots.proofs.QuadLemmas.{all-four}
 use Rattle.level_topology.specs.PointRows.{IsRow}

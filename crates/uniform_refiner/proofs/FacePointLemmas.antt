@@ -18,11 +18,12 @@ use Rattle.level_topology.proofs.LawLemmas.{ascend-distinct}
 use Rattle.level_topology.proofs.FanOrderLemmas.{among-at}
 use Rattle.child_slots.specs.Slots.{first_child, corner_at, edge_from, before_in, turn_at, inner_slot, numbered_edge_point, quad_at}
 use Rattle.child_slots.specs.Slotted.{Slotted, number_at, end_in}
-use Rattle.child_slots.specs.Walked.{AreChildEdges}
+use Rattle.uniform_refiner.specs.Put.{AreChildEdges}
 use Rattle.child_slots.proofs.SlotLemmas.{over-of}
 use Rattle.child_slots.proofs.SlotTableLemmas.{among-number}
 use Rattle.child_slots.proofs.QuadLemmas.{face-below}
-use Rattle.child_slots.proofs.ChildEdgeLemmas.{quad-side, slots-there, ends-all}
+use Rattle.child_slots.proofs.ChildEdgeLemmas.{quad-side}
+use Rattle.uniform_refiner.proofs.WholeEdgeLemmas.{slots-there, ends-all}
 use Rattle.uniform_refiner.proofs.PointLemmas.{path-from, kids, kids-simple, kids-distinct, kid-place, kid-quad, kid-corner, kid-before, row-of}
 use Rattle.uniform_refiner.proofs.VertexLemmas.{map-all}
 

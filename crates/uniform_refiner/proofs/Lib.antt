@@ -1,3 +1,5 @@
+pub mod PlaceLemmas
+pub mod WholeEdgeLemmas
 pub mod PutFaceLemmas
 pub mod PutEdgeLemmas
 pub mod PointLemmas

@@ -1,10 +1,10 @@
 -- The child faces at a point of the next level.
-use Rattle.std.proofs.Common.{◌||◌, ◌≡◌, ℕ, suc, ◌+◌, ◌-◌, ◌<◌, ◌≤◌, Bool, true, false, nat_eq, nat_lt, take, List, [], ◌∷◌, ◌++◌, length, map, get_or, arith, refl, ap, sym, ◌∙◌, subst, if◌then◌else◌}
-use Rattle.std.specs.List.{list_all, sum_by, position_or_len}
+use Rattle.std.proofs.Common.{◌||◌, ◌≡◌, ℕ, suc, ◌+◌, ◌<◌, Bool, true, false, nat_eq, List, [], ◌∷◌, ◌++◌, length, map, get_or, arith, ap, sym, ◌∙◌, subst, if◌then◌else◌}
+use Rattle.std.specs.List.{list_all, position_or_len}
 use Rattle.std.proofs.lemmas.Bool.Decides.{nat_tests}
-use Rattle.std.proofs.lemmas.Bool.{ne_eqb, eqb-true, ltb-true, ltb-false}
+use Rattle.std.proofs.lemmas.Bool.{ne_eqb, eqb-true}
 use Rattle.std.proofs.lemmas.List.{get_or-map}
-use Rattle.std.proofs.lemmas.List.Sums.{sum_by-cons, passes_at_first}
+use Rattle.std.proofs.lemmas.List.Sums.{passes_at_first}
 use Rattle.subdiv_model.specs.Polygons.{Polygon, polygon_at, has_corner, is_among, has_distinct_sides}
 use Rattle.subdiv_model.specs.Edges.{all_sides}
 use Rattle.subdiv_model.specs.Manifold.{IsSuccessor, IsPath, is_simple}
@@ -20,29 +20,12 @@ use Rattle.level_topology.proofs.FanWalkLemmas.{before-after, fan-permutation}
 use Rattle.level_topology.proofs.TurnLemmas.{turned-edges}
 use Rattle.child_slots.specs.Slots.{first_child, corner_at, edge_from, before_in, numbered_edge_point, quad_at, slots_at}
 use Rattle.child_slots.specs.Slotted.{Slotted, number_at}
-use Rattle.child_slots.specs.Walked.{AreChildEdges}
+use Rattle.uniform_refiner.specs.Put.{AreChildEdges}
 use Rattle.child_slots.proofs.SlotLemmas.{over-of}
 use Rattle.child_slots.proofs.SlotTableLemmas.{among-number}
 use Rattle.child_slots.proofs.QuadLemmas.{child-quad, face-below}
-use Rattle.child_slots.proofs.ChildEdgeLemmas.{numbers-quad}
-
--- each child face is that of a corner
-pub record IsPlace (polygons : List Polygon) (k : ℕ) : Type 0 where
-  pub face : ℕ
-  pub corner : ℕ
-  pub exists : corner < length (polygon_at polygons face)
-  pub number : k ≡ first_child polygons face + corner
-
-pub place-of : (polygons : List Polygon) (k : ℕ) → k < sum_by length polygons → IsPlace polygons k
-place-of [] k h = absurd (omega arith)
-place-of (p ∷ polygons) k h = go (nat_lt k (length p)) refl (place-of polygons (k - length p))
-  where
-    go : (b : Bool) → nat_lt k (length p) ≡ b → (k - length p < sum_by length polygons → IsPlace polygons (k - length p)) → IsPlace (p ∷ polygons) k
-    go true low later = record { face = 0; corner = k; exists = ltb-true _ _ low; number = omega arith }
-    go false high later =
-        let past : length p ≤ k = ltb-false _ _ high in
-        let behind = later (omega (arith, h, past, sum_by-cons length p polygons)) in
-        record { face = suc behind.face; corner = behind.corner; exists = behind.exists; number = omega (arith, behind.number, past, sum_by-cons length p (take behind.face polygons)) }
+use Rattle.uniform_refiner.proofs.PlaceLemmas.{IsPlace, place-of}
+use Rattle.uniform_refiner.proofs.WholeEdgeLemmas.{numbers-quad}
 
 -- a corner of a face stands at its place
 pub corner-there : (polygons : List Polygon) (v f : ℕ) → has_corner v (polygon_at polygons f) ≡ true → (corner_of polygons v f < length (polygon_at polygons f)) × (get_or (polygon_at polygons f) (corner_of polygons v f) 0 ≡ v)

@@ -15,13 +15,12 @@ use Rattle.level_topology.specs.Rows.{Rows, with_edge}
 use Rattle.level_topology.proofs.LawLemmas.{own-number, edge-order, edge-exists}
 use Rattle.child_slots.specs.Slots.{edge_from, numbered_edge_point}
 use Rattle.child_slots.specs.Slotted.{Slotted}
-use Rattle.child_slots.specs.Walked.{IsSlot, numbered_of, AreChildEdges}
-use Rattle.child_slots.specs.HalfTable.{HasHalves}
-use Rattle.uniform_refiner.specs.Put.{with_child_edges}
+use Rattle.child_slots.specs.Walked.{IsSlot, numbered_of}
+use Rattle.uniform_refiner.specs.Put.{AreChildEdges, HasAllHalves, with_child_edges}
 use Rattle.child_slots.proofs.SlotLemmas.{over-of}
 use Rattle.child_slots.proofs.QuadLemmas.{face-below}
-use Rattle.child_slots.proofs.ChildEdgeLemmas.{numbering-all, ends-all}
 use Rattle.level_topology.proofs.NumberingLemmas.{edge-faces-are}
+use Rattle.uniform_refiner.proofs.WholeEdgeLemmas.{numbering-all, ends-all, slot-of}
 
 -- the faces of an edge ascend
 pair-order : (pair : ℕ × ℕ) (faces : List ℕ) → faces_of_pair pair ≡ faces → (0 + 1 < length faces → get_or faces 0 0 < get_or faces (0 + 1) 0) → pair.0 ≤ pair.1
@@ -62,9 +61,9 @@ module _ (t : Topology) (is : IsTopology t) (n : Slotted) (are : AreChildEdges t
   point-same e h = ap (numbered_edge_point points polygons) (own-number polygons e h)
 
   -- a half has the sharpness that the table has at its slot, and an edge inside a face is smooth
-  slot-sharp : (halves : List Sharpness) (a : ℕ) (s : ℕ × ℕ) → HasHalves t.level halves → IsSlot points polygons a s → get_or halves a Smooth ≡ edge_sharpness_of (child_level t.level) s
+  slot-sharp : (halves : List Sharpness) (a : ℕ) (s : ℕ × ℕ) → HasAllHalves t.level halves → IsSlot points polygons a s → get_or halves a Smooth ≡ edge_sharpness_of (child_level t.level) s
   slot-sharp halves a s has (inl h) =
-      ap (λ k. get_or halves k Smooth) h.slot_is ∙ has.each h.edge h.end h.exists h.ends
+      ap (λ k. get_or halves k Smooth) h.slot_is ∙ has.each h.edge h.end h.exists refl h.ends
       ∙ sym (halves-sharp t.level (over-of t is) h.edge (0, 0) h.exists h.end h.ends)
       ∙ ap (λ (k : ℕ). edge_sharpness_of (child_level t.level) (h.end, k)) (point-same h.edge h.exists)
       ∙ sym (sharp-alike s (h.end, numbered_edge_point points polygons h.edge) h.side_is)
@@ -78,7 +77,7 @@ module _ (t : Topology) (is : IsTopology t) (n : Slotted) (are : AreChildEdges t
       ∙ smooth)
 
   -- an edge more
-  pub edges-step : (halves : List Sharpness) (e : ℕ) (start now next : Rows) (ends : ℕ × ℕ) (faces : List ℕ) (sharp : Sharpness) → HasHalves t.level halves → e < length n.ends → now ≡ with_child_edges t.level e start
+  pub edges-step : (halves : List Sharpness) (e : ℕ) (start now next : Rows) (ends : ℕ × ℕ) (faces : List ℕ) (sharp : Sharpness) → HasAllHalves t.level halves → e < length n.ends → now ≡ with_child_edges t.level e start
       → ends ≡ get_or n.ends e (0, 0) → faces ≡ faces_of_pair (get_or n.faces e (0, 0)) → sharp ≡ get_or halves (get_or n.slots e 0) Smooth → next ≡ with_edge ends faces sharp now → next ≡ with_child_edges t.level (e + 1) start
   edges-step halves e start now next ends faces sharp has h before p q r made =
       let all = edges_of quads in
@@ -91,7 +90,7 @@ module _ (t : Topology) (is : IsTopology t) (n : Slotted) (are : AreChildEdges t
       let end : ends ≡ get_or all e (0, 0) = p ∙ ap (λ xs. get_or xs e (0, 0)) (ends-all t is n are) in
       let list : faces ≡ get_or lists e [] = q ∙ faces-are e h ∙ sym (get_or-map (faces_of_edge quads) all e (0, 0) [] inside) in
       let value : sharp ≡ get_or values e Smooth =
-      r ∙ slot-sharp halves (get_or n.slots e 0) (get_or n.ends e (0, 0)) has (are.slots e h)
+      r ∙ slot-sharp halves (get_or n.slots e 0) (get_or n.ends e (0, 0)) has (slot-of t is n are e h)
       ∙ ap (λ xs. edge_sharpness_of (child_level t.level) (get_or xs e (0, 0))) (ends-all t is n are) ∙ ap (λ k. get_or values k Smooth) own in
       made ∙ ap (with_edge ends faces sharp) before
       ∙ rows-same start

@@ -13,11 +13,10 @@ use Rattle.level_topology.specs.Topology.{Topology, IsTopology, face_edges_of}
 use Rattle.level_topology.specs.Rows.{Rows, with_face}
 use Rattle.child_slots.specs.Slots.{first_child, quad_at, slots_at}
 use Rattle.child_slots.specs.Slotted.{Slotted, number_at}
-use Rattle.child_slots.specs.Walked.{AreChildEdges}
-use Rattle.uniform_refiner.specs.Put.{with_children}
+use Rattle.uniform_refiner.specs.Put.{AreChildEdges, with_children}
 use Rattle.child_slots.proofs.SlotLemmas.{first-below, over-of}
 use Rattle.child_slots.proofs.QuadLemmas.{child-quad, face-below}
-use Rattle.child_slots.proofs.ChildEdgeLemmas.{numbers-quad}
+use Rattle.uniform_refiner.proofs.WholeEdgeLemmas.{numbers-quad}
 
 -- child faces have four corners
 quad-corners : (points : ℕ) (polygons : List Polygon) (k : ℕ) (some : List Polygon) → list_all (is_child points polygons) some ≡ true → sum_by length (take k some) ≤ 4 * k

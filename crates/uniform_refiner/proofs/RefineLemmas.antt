@@ -7,11 +7,10 @@ use Rattle.subdiv_model.specs.Sharpness.{Method}
 use Rattle.level_topology.specs.Topology.{Topology, IsTopology}
 use Rattle.level_topology.specs.Rows.{Counts, Rows, no_rows}
 use Rattle.level_topology.specs.Child.{PointOrigin, ChildTopology, child_of}
-use Rattle.child_slots.specs.Walked.{AreChildEdges, IsWalked}
-use Rattle.uniform_refiner.specs.Put.{with_children, with_child_edges}
+use Rattle.uniform_refiner.specs.Put.{AreChildEdges, with_children, with_child_edges}
 use Rattle.child_slots.specs.Slotted.{Slotted}
 use Rattle.uniform_refiner.specs.Points.{ArePoints, counts_for, without_points}
-use Rattle.child_slots.proofs.ChildEdgeLemmas.{ends-all}
+use Rattle.uniform_refiner.proofs.WholeEdgeLemmas.{ends-all}
 use Rattle.uniform_refiner.proofs.PutPointLemmas.{points-none}
 use Rattle.uniform_refiner.proofs.WholeLemmas.{corners-total}
 use Rattle.uniform_refiner.specs.Uniform.{IsUniform, origins_in, all_places}
@@ -41,7 +40,3 @@ module _ (t : Topology) (is : IsTopology t) (n : Slotted) (are : AreChildEdges t
       (ap (λ (r : Rows). r.counts.points) e)
       (ap (λ (r : Rows). r.counts.face_places) e ∙ sym (corners-total t is))
       (ap (λ (r : Rows). r.counts.edge_places) e ∙ ap (λ es. 2 * length es) (ends-all t is n are))
-
--- the edges of the next level, by a number that is that of its faces
-pub walked-as : (t : Topology) (n : Slotted) (faces : ℕ) → faces ≡ sum_by length t.level.polygons → AreChildEdges t.level n → IsWalked t.level.point_count t.level.polygons faces n
-walked-as t n faces e are = subst (λ (k : ℕ). IsWalked t.level.point_count t.level.polygons k n) (sym e) are

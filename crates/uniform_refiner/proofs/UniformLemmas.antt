@@ -1,10 +1,8 @@
 -- The points and the faces of the next level have their origins and their places, each its own.
-use Rattle.std.proofs.Common.{◌≡◌, ℕ, zero, suc, ◌+◌, ◌-◌, ◌<◌, Bool, true, false, nat_lt, List, [], ◌∷◌, ◌++◌, append-nil, append_assoc, length, map, take, get_or, arith, refl, ap, sym, ◌∙◌, subst}
-use Rattle.std.specs.List.{range_with_len, sum_by}
+use Rattle.std.proofs.Common.{◌≡◌, ℕ, ◌+◌, ◌-◌, ◌<◌, Bool, true, false, nat_lt, List, [], ◌∷◌, length, get_or, arith, refl, ap, sym, ◌∙◌, subst}
+use Rattle.std.specs.List.{sum_by}
 use Rattle.std.proofs.lemmas.Bool.{lt-ltb, le-ltb, ltb-true, ltb-false}
-use Rattle.std.proofs.lemmas.List.{get_or_append_left, get_or-append-add, length-append}
 use Rattle.std.proofs.lemmas.List.FromFn.{get_or-map-range_with_len, length-map-range_with_len}
-use Rattle.std.proofs.lemmas.List.Sums.{sum_by-cons}
 use Rattle.subdiv_model.specs.Polygons.{Polygon, polygon_at}
 use Rattle.subdiv_model.specs.Edges.{edges_of}
 use Rattle.subdiv_model.specs.Child.{child_polygons, child_level}
@@ -18,7 +16,7 @@ use Rattle.child_slots.specs.Slots.{first_child, corner_at, edge_from, before_in
 use Rattle.uniform_refiner.specs.Uniform.{all_origins, all_places, origins_in}
 use Rattle.child_slots.proofs.SlotLemmas.{before-within}
 use Rattle.child_slots.proofs.QuadLemmas.{child-quad, face-below}
-use Rattle.uniform_refiner.proofs.PointLemmas.{place-of}
+use Rattle.uniform_refiner.proofs.PlaceLemmas.{places-count, place-item}
 use Rattle.uniform_refiner.proofs.FacePointLemmas.{corner-low}
 
 -- an origin by its number
@@ -60,55 +58,6 @@ origin-within points faces edges n inside = go (nat_lt n points) (nat_lt (n - po
 origin-at : (points faces edges n : ℕ) (d : PointOrigin) → n < points + faces + edges → get_or (all_origins points faces edges) n d ≡ numbered_origin points faces n
 origin-at points faces edges n d h = get_or-map-range_with_len (numbered_origin points faces) 0 (points + faces + edges) n n d h (omega arith)
 
--- the place of a child face
-places-at : (face : ℕ) (polygons : List Polygon) (f c : ℕ) (d : ℕ × ℕ) → c < length (polygon_at polygons f) → get_or (all_places face polygons) (first_child polygons f + c) d ≡ (face + f, c)
-places-at face [] f c d h = absurd (omega arith)
-places-at face (p ∷ polygons) zero c d h =
-    let pair : ℕ → ℕ × ℕ = λ i. (face, i) in
-    let count : length (map pair (range_with_len 0 (length p))) ≡ length p = length-map-range_with_len pair 0 (length p) in
-    let none : 0 + c ≡ c = omega arith in
-    let same : face ≡ face + 0 = omega arith in
-    ap (λ k. get_or (all_places face (p ∷ polygons)) k d) none
-    ∙ get_or_append_left (map pair (range_with_len 0 (length p))) (all_places (face + 1) polygons) d c (omega (arith, h, count))
-    ∙ get_or-map-range_with_len pair 0 (length p) c c d h (omega arith)
-    ∙ ap (λ (k : ℕ). (k, c)) same
-places-at face (p ∷ polygons) (suc f) c d h =
-    let pair : ℕ → ℕ × ℕ = λ i. (face, i) in
-    let xs : List (ℕ × ℕ) = map pair (range_with_len 0 (length p)) in
-    let count : length xs ≡ length p = length-map-range_with_len pair 0 (length p) in
-    let place : first_child (p ∷ polygons) (suc f) + c ≡ length xs + (first_child polygons f + c) = omega (arith, count, sum_by-cons length p (take f polygons)) in
-    let same : face + 1 + f ≡ face + suc f = omega arith in
-    ap (λ k. get_or (all_places face (p ∷ polygons)) k d) place
-    ∙ get_or-append-add xs (all_places (face + 1) polygons) (first_child polygons f + c) d
-    ∙ places-at (face + 1) polygons f c d h
-    ∙ ap (λ (k : ℕ). (k, c)) same
-
-pub places-count : (face : ℕ) (polygons : List Polygon) → length (all_places face polygons) ≡ sum_by length polygons
-places-count face [] = refl
-places-count face (p ∷ polygons) =
-    let pair : ℕ → ℕ × ℕ = λ i. (face, i) in
-    let both : length (all_places face (p ∷ polygons)) ≡ length (map pair (range_with_len 0 (length p))) + length (all_places (face + 1) polygons) = length-append (map pair (range_with_len 0 (length p))) (all_places (face + 1) polygons) in
-    let count : length (map pair (range_with_len 0 (length p))) ≡ length p = length-map-range_with_len pair 0 (length p) in
-    omega (arith, both, count, places-count (face + 1) polygons, sum_by-cons length p polygons)
-
--- the places of one face more
-pub places-more : (face : ℕ) (polygons : List Polygon) (f : ℕ) → f < length polygons → all_places face (take (f + 1) polygons) ≡ all_places face (take f polygons) ++ map (λ c. (face + f, c)) (range_with_len 0 (length (polygon_at polygons f)))
-places-more face [] f h = absurd (omega arith)
-places-more face (p ∷ polygons) zero h =
-    let one : 0 + 1 ≡ suc 0 = omega arith in
-    let same : face ≡ face + 0 = omega arith in
-    let last : ℕ → List (ℕ × ℕ) = λ k. map (λ c. (k, c)) (range_with_len 0 (length p)) in
-    ap (λ k. all_places face (take k (p ∷ polygons))) one ∙ append-nil (last face) ∙ ap last same
-places-more face (p ∷ polygons) (suc f) h =
-    let one : suc f + 1 ≡ suc (f + 1) = omega arith in
-    let same : face + 1 + f ≡ face + suc f = omega arith in
-    let xs : List (ℕ × ℕ) = map (λ i. (face, i)) (range_with_len 0 (length p)) in
-    let last : ℕ → List (ℕ × ℕ) = λ k. map (λ c. (k, c)) (range_with_len 0 (length (polygon_at polygons f))) in
-    ap (λ k. all_places face (take k (p ∷ polygons))) one
-    ∙ ap (λ ys. xs ++ ys) (places-more (face + 1) polygons f (omega (arith, h)))
-    ∙ sym (append_assoc xs (all_places (face + 1) (take f polygons)) (last (face + 1 + f)))
-    ∙ ap (λ k. (xs ++ all_places (face + 1) (take f polygons)) ++ last k) same
-
 module _ (t : Topology) (is : IsTopology t) where
   abbrev points : ℕ
   points = t.level.point_count
@@ -121,14 +70,6 @@ module _ (t : Topology) (is : IsTopology t) where
 
   abbrev edges : ℕ
   edges = length (edges_of t.level.polygons)
-
-  place-item : (k : ℕ) (d : ℕ × ℕ) → k < sum_by length polygons → (f : ℕ) × (c : ℕ) × (c < length (polygon_at polygons f)) × (k ≡ first_child polygons f + c) × (get_or (all_places 0 polygons) k d ≡ (f, c))
-  place-item k d h =
-      let place = place-of polygons k h in
-      let f = place.face in
-      let c = place.corner in
-      let zero_more : 0 + f ≡ f = omega arith in
-      (f, c, place.exists, place.number, ap (λ i. get_or (all_places 0 polygons) i d) place.number ∙ places-at 0 polygons f c d place.exists ∙ ap (λ (i : ℕ). (i, c)) zero_more)
 
   origin-item : (n : ℕ) → n < points + faces + edges → get_or (origins_in t) n (FromVertex 0) ≡ numbered_origin points faces n
   origin-item n h = origin-at points faces edges n (FromVertex 0) h
@@ -163,7 +104,7 @@ module _ (t : Topology) (is : IsTopology t) where
             let inside : n < points + faces + edges = omega (arith, h, count) in
             subst (IsOriginWithin points faces edges) (sym (origin-at points faces edges n d inside)) (origin-within points faces edges n inside);
         places_within = λ k d h.
-            let item = place-item k d (omega (arith, h, places-count 0 polygons)) in
+            let item = place-item polygons k d (omega (arith, h, places-count 0 polygons)) in
             subst (IsPlaceWithin polygons) (sym item.4) item.2;
         origins_once = λ i j d less h alike.
             let far : j < points + faces + edges = omega (arith, h, count) in
@@ -172,13 +113,13 @@ module _ (t : Topology) (is : IsTopology t) where
             absurd (omega (arith, numbers, less));
         places_once = λ i j d less h alike.
             let far : j < sum_by length polygons = omega (arith, h, places-count 0 polygons) in
-            let one = place-item i d (omega (arith, far, less)) in
-            let two = place-item j d far in
+            let one = place-item polygons i d (omega (arith, far, less)) in
+            let two = place-item polygons j d far in
             let pairs : (one.0, one.1) ≡ (two.0, two.1) = sym one.4 ∙ alike ∙ two.4 in
             let numbers : i ≡ j = one.3 ∙ ap (λ (p : ℕ × ℕ). first_child polygons p.0 + p.1) pairs ∙ sym two.3 in
             absurd (omega (arith, numbers, less));
         corners = λ k h.
-            let item = place-item k (0, 0) (omega (arith, h, places-count 0 polygons)) in
+            let item = place-item polygons k (0, 0) (omega (arith, h, places-count 0 polygons)) in
             let quad : polygon_at level.level.polygons k ≡ quad_at points polygons item.0 item.1 = ap (λ qs. polygon_at qs k) quads ∙ ap (polygon_at (child_polygons points polygons)) item.3 ∙ child-quad points polygons item.0 item.1 (face-below polygons item.0 item.1 item.2) item.2 in
             ap (origins_along (origins_in t)) quad ∙ corners-along item.0 item.1 item.2 ∙ ap (corner_origins polygons) (sym item.4);
       }

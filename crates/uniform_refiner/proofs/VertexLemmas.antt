@@ -20,10 +20,11 @@ use Rattle.level_topology.proofs.FanOrderLemmas.{among-at}
 use Rattle.level_topology.proofs.FanWalkLemmas.{after-is, before-is, edge-between, from-corner}
 use Rattle.child_slots.specs.Slots.{first_child, corner_at, edge_from, before_in, half_slot, numbered_edge_point, quad_at}
 use Rattle.child_slots.specs.Slotted.{Slotted, number_at}
-use Rattle.child_slots.specs.Walked.{AreChildEdges}
+use Rattle.uniform_refiner.specs.Put.{AreChildEdges}
 use Rattle.child_slots.proofs.SlotLemmas.{end-low}
 use Rattle.child_slots.proofs.SlotTellLemmas.{first-tells}
-use Rattle.child_slots.proofs.ChildEdgeLemmas.{quad-side, slots-there}
+use Rattle.child_slots.proofs.ChildEdgeLemmas.{quad-side}
+use Rattle.uniform_refiner.proofs.WholeEdgeLemmas.{slots-there}
 use Rattle.uniform_refiner.proofs.PointLemmas.{vertex-corner, corner-there, path-from, number-tells, kids, kids-simple, kids-distinct, kid-place, kid-quad, kid-corner, kid-after, kid-before, row-of}
 
 -- a list mapped to one value

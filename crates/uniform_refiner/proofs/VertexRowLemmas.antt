@@ -14,10 +14,10 @@ use Rattle.level_topology.proofs.LawLemmas.{edges-each}
 use Rattle.level_topology.proofs.TurnLemmas.{empty-row, edges-none, nothing-there}
 use Rattle.child_slots.specs.Slots.{first_child, half_slot}
 use Rattle.child_slots.specs.Slotted.{Slotted, number_at, end_in}
-use Rattle.child_slots.specs.Walked.{AreChildEdges}
+use Rattle.uniform_refiner.specs.Put.{AreChildEdges}
 use Rattle.child_slots.proofs.SlotLemmas.{end-low}
 use Rattle.child_slots.proofs.SlotTableLemmas.{among-number}
-use Rattle.child_slots.proofs.ChildEdgeLemmas.{ends-all}
+use Rattle.uniform_refiner.proofs.WholeEdgeLemmas.{ends-all}
 use Rattle.child_slots.proofs.EndLemmas.{end-has}
 use Rattle.uniform_refiner.proofs.PointLemmas.{kids}
 use Rattle.uniform_refiner.proofs.VertexLemmas.{kid, kid-of, some-row, half-among}

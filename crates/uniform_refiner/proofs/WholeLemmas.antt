@@ -18,11 +18,10 @@ use Rattle.level_topology.specs.PointRows.{AreRows}
 use Rattle.level_topology.specs.Rows.{Counts, Rows, AreOfLevel, AreAllPut, no_rows, topology_of}
 use Rattle.level_topology.proofs.ChildLemmas.{edges-corners}
 use Rattle.child_slots.specs.Slotted.{Slotted}
-use Rattle.child_slots.specs.Walked.{AreChildEdges}
-use Rattle.uniform_refiner.specs.Put.{with_children, with_child_edges}
+use Rattle.uniform_refiner.specs.Put.{AreChildEdges, with_children, with_child_edges}
 use Rattle.uniform_refiner.specs.Points.{ArePoints, without_points}
 use Rattle.child_slots.proofs.SlotLemmas.{over-of}
-use Rattle.child_slots.proofs.ChildEdgeLemmas.{ends-all}
+use Rattle.uniform_refiner.proofs.WholeEdgeLemmas.{ends-all}
 use Rattle.uniform_refiner.proofs.PointLemmas.{kids-simple, kids-distinct}
 
 abbrev level_of : ℕ → List Polygon → List Bool → List Sharpness → List Sharpness → Method → Level

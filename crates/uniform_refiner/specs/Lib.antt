@@ -1,5 +1,5 @@
 pub mod FaultText
+pub mod Uniform
 pub mod Put
 pub mod Points
-pub mod Uniform
 pub mod Refined

@@ -1,10 +1,29 @@
 -- The lists of the next level while they are put.
-use Rattle.std.specs.Prelude.{ℕ, map, take}
+use Rattle.std.specs.Prelude.{ℕ, ◌≡◌, ◌<◌, true, false, List, map, take}
 use Rattle.subdiv_model.specs.Edges.{edges_of, faces_of_edge}
 use Rattle.subdiv_model.specs.Child.{child_polygons, child_holes, child_edge_sharpness}
 use Rattle.subdiv_model.specs.Level.{Level}
-use Rattle.level_topology.specs.Topology.{face_edges_of}
+use Rattle.subdiv_model.specs.Sharpness.{Sharpness}
+use Rattle.subdiv_model.specs.Channel.{chaikin_overflows_at}
+use Rattle.level_topology.specs.Topology.{Topology, face_edges_of}
 use Rattle.level_topology.specs.Rows.{Rows}
+use Rattle.child_slots.specs.Slotted.{Slotted}
+use Rattle.child_slots.specs.Walked.{ArePartEdges}
+use Rattle.child_slots.specs.HalfTable.{HasHalves}
+use Rattle.uniform_refiner.specs.Uniform.{whole_part}
+
+-- the edges are all those of the next level
+abbrev pub AreChildEdges : Level → Slotted → Type 0
+AreChildEdges level edges = ArePartEdges level (whole_part level.polygons) edges
+
+-- the sharpness of each half by its slot
+abbrev pub HasAllHalves : Level → List Sharpness → Type 0
+HasAllHalves level halves = HasHalves level (λ v. true) halves
+
+-- the halves of all edges are put, and at no point they overflow
+pub record AreFineHalves (t : Topology) (halves : List Sharpness) : Type 0 where
+  pub put : HasAllHalves t.level halves
+  pub fine : (v : ℕ) → v < t.level.point_count → chaikin_overflows_at t.level v ≡ false
 
 -- the lists with the first child faces, where there are none yet
 abbrev pub with_children : Level → ℕ → Rows → Rows

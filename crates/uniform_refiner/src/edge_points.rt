@@ -6,8 +6,8 @@ ghost use Rattle.subdiv_model.specs.Edges.{edges_of};
 ghost use Rattle.subdiv_model.specs.Child.{child_polygons};
 ghost use Rattle.child_slots.specs.Slots.{numbered_edge_point};
 ghost use Rattle.child_slots.specs.Slotted.{number_at};
-ghost use Rattle.child_slots.specs.Walked.{AreChildEdges};
 ghost use Rattle.level_topology.specs.PointRows.{IsRow};
+ghost use Rattle.uniform_refiner.specs.Put.{AreChildEdges};
 
 use child_slots::{Row, SlotEdges, edge_point_of, put_ends};
 use level_topology::Level;

@@ -5,9 +5,7 @@ ghost use Rattle.subdiv_model.specs.Sharpness.{Smooth};
 ghost use Rattle.sharpness_rules.specs.View.{sharpness_of};
 ghost use Rattle.level_topology.specs.Topology.{Topology, IsTopology};
 ghost use Rattle.level_topology.specs.View.{listed, faces_of_pair};
-ghost use Rattle.child_slots.specs.Walked.{AreChildEdges};
-ghost use Rattle.child_slots.specs.HalfTable.{HasHalves};
-ghost use Rattle.uniform_refiner.specs.Put.{with_child_edges};
+ghost use Rattle.uniform_refiner.specs.Put.{AreChildEdges, HasAllHalves, with_child_edges};
 
 use child_slots::SlotEdges;
 use level_topology::{EdgeFaces, Level, LevelRows};
@@ -43,7 +41,7 @@ pub(crate) fn put_edges(
     rows: &mut LevelRows,
 )
     requires edges { AreChildEdges level.now.level edges.now }
-    requires halves { HasHalves level.now.level (map sharpness_of halves.now) }
+    requires halves { HasAllHalves level.now.level (map sharpness_of halves.now) }
     requires count { rows.old.counts.edges ≡ length edges.now.ends }
     requires none { rows.old ≡ with_child_edges level.now.level 0 rows.old }
     ensures { rows.new ≡ with_child_edges level.now.level (length edges.now.ends) rows.old }

@@ -6,8 +6,8 @@ ghost use Rattle.subdiv_model.specs.Polygons.{polygon_at};
 ghost use Rattle.subdiv_model.specs.Child.{child_polygons, face_point};
 ghost use Rattle.child_slots.specs.Slots.{first_child, inner_slot, turn_at};
 ghost use Rattle.child_slots.specs.Slotted.{number_at};
-ghost use Rattle.child_slots.specs.Walked.{AreChildEdges};
 ghost use Rattle.level_topology.specs.PointRows.{IsRow};
+ghost use Rattle.uniform_refiner.specs.Put.{AreChildEdges};
 
 use child_slots::{Row, SlotEdges, first_child_of, inner_slot_of, put_corner, put_ends};
 use level_topology::Level;

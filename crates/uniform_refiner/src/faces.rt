@@ -5,8 +5,7 @@ ghost use Rattle.std.specs.List.{All, sum_by};
 ghost use Rattle.subdiv_model.specs.Polygons.{polygon_at, is_among};
 ghost use Rattle.child_slots.specs.Slots.{first_child};
 ghost use Rattle.child_slots.specs.Slotted.{number_at};
-ghost use Rattle.child_slots.specs.Walked.{AreChildEdges};
-ghost use Rattle.uniform_refiner.specs.Put.{with_children};
+ghost use Rattle.uniform_refiner.specs.Put.{AreChildEdges, with_children};
 
 use child_slots::{SlotEdges, child_corners, side_slots};
 use level_topology::{Level, LevelRows};

@@ -4,11 +4,11 @@ ghost use Rattle.std.specs.Prelude.{◌≡◌, ◌*◌, ◌^◌, ◌≤◌, leng
 ghost use Rattle.std.specs.List.{sum_by};
 ghost use Rattle.subdiv_model.specs.Edges.{edges_of};
 ghost use Rattle.sharpness_rules.specs.View.{sharpness_of};
-ghost use Rattle.child_slots.specs.HalfTable.{AreAllHalves};
+ghost use Rattle.uniform_refiner.specs.Put.{AreFineHalves};
 ghost use Rattle.uniform_refiner.specs.Refined.{IsRefusal};
 
 use crate::fault::RefineFault;
-use child_slots::{HalfFault, put_all_halves};
+use child_slots::{AllPoints, HalfFault, put_all_halves};
 use level_topology::Level;
 use sharpness_rules::Sharpness;
 use std::alloc::Global;
@@ -21,9 +21,9 @@ pub(crate) fn put_halves(
 ) -> Result<(), RefineFault>
     requires few { sum_by length level.now.level.polygons ≤ 2 ^ 22 }
     requires size { length halves.old ≡ 2 * length (edges_of level.now.level.polygons) }
-    ensures { MatchResult result (λ _. AreAllHalves level.now (map sharpness_of halves.new)) (IsRefusal level.now) }
+    ensures { MatchResult result (λ _. AreFineHalves level.now (map sharpness_of halves.new)) (IsRefusal level.now) }
 {
-    match put_all_halves(alloc, level, halves) {
+    match put_all_halves(alloc, level, &AllPoints, halves) {
         Ok(()) => Ok(()),
         Err(HalfFault::Chaikin(v)) => Err(RefineFault::Chaikin(v)),
         Err(HalfFault::Memory) => Err(RefineFault::Memory),

@@ -5,8 +5,7 @@ ghost use Rattle.std.specs.List.{sum_by};
 ghost use Rattle.sharpness_rules.specs.View.{sharpness_of};
 ghost use Rattle.subdiv_model.specs.Child.{child_level, child_points};
 ghost use Rattle.level_topology.specs.Rows.{no_rows};
-ghost use Rattle.child_slots.specs.Walked.{AreChildEdges};
-ghost use Rattle.child_slots.specs.HalfTable.{HasHalves};
+ghost use Rattle.uniform_refiner.specs.Put.{AreChildEdges, HasAllHalves};
 ghost use Rattle.uniform_refiner.specs.Points.{counts_for};
 
 use crate::edges::put_edges;
@@ -61,7 +60,7 @@ pub(crate) fn put_level<L: Ledger>(
     requires few { sum_by length level.now.level.polygons ≤ 2 ^ 22 }
     requires short { level.now.level.point_count ≤ 2 ^ 29 }
     requires edges { AreChildEdges level.now.level edges.now }
-    requires halves { HasHalves level.now.level (map sharpness_of halves.now) }
+    requires halves { HasAllHalves level.now.level (map sharpness_of halves.now) }
     requires room { room ≡ no_rows (counts_for level.now.level (length edges.now.ends)) level.now.level.method }
     ensures level { IfOk result (λ next. next.level ≡ child_level level.now.level) }
     ensures complete { IfOk result (λ next. next.complete ≡ replicate (child_points level.now.level.point_count level.now.level.polygons) true) }

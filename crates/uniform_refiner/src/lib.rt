@@ -9,6 +9,7 @@ mod faces;
 mod fault;
 mod halves;
 mod level;
+mod numbering;
 mod origins;
 mod points;
 mod uniform;

@@ -5,8 +5,8 @@ ghost use Rattle.subdiv_model.specs.Edges.{edges_of};
 ghost use Rattle.subdiv_model.specs.Sharpness.{Smooth};
 ghost use Rattle.subdiv_model.specs.Child.{child_points, child_vertex_sharpness};
 ghost use Rattle.sharpness_rules.specs.View.{sharpness_of};
-ghost use Rattle.child_slots.specs.Walked.{AreChildEdges};
 ghost use Rattle.level_topology.specs.PointRows.{IsRow};
+ghost use Rattle.uniform_refiner.specs.Put.{AreChildEdges};
 ghost use Rattle.uniform_refiner.specs.Points.{ArePoints, children_of, without_points};
 
 use crate::edge_points::put_edge_row;

@@ -8,8 +8,7 @@ ghost use Rattle.subdiv_model.specs.Child.{child_level, child_points};
 ghost use Rattle.level_topology.specs.ChildTables.{origin_of, place_of};
 ghost use Rattle.child_slots.specs.Slots.{slot_count};
 ghost use Rattle.child_slots.specs.Slotted.{no_slots};
-ghost use Rattle.child_slots.specs.Walked.{AreChildEdges};
-ghost use Rattle.child_slots.specs.HalfTable.{HasHalves};
+ghost use Rattle.uniform_refiner.specs.Put.{AreChildEdges, HasAllHalves};
 ghost use Rattle.uniform_refiner.specs.Uniform.{IsUniform, all_places, origins_in};
 ghost use Rattle.uniform_refiner.specs.Refined.{IsRefined, IsRefusal};
 
@@ -17,8 +16,9 @@ use crate::count::next_faces;
 use crate::fault::RefineFault;
 use crate::halves::put_halves;
 use crate::level::{put_level, room_for};
+use crate::numbering::number_all;
 use crate::origins::{put_origins, put_places};
-use child_slots::{SlotEdges, half_table, no_edges, number_edges};
+use child_slots::{SlotEdges, half_table, no_edges};
 use level_topology::{Child, FacePlace, Level, Origin};
 use ratio128::{Memory, Steps};
 use sharpness_rules::Sharpness;
@@ -63,7 +63,7 @@ fn refine_placed<L: Ledger>(
     requires few { faces ≤ 2 ^ 22 }
     requires short { level.now.level.point_count ≤ 2 ^ 29 }
     requires edges { AreChildEdges level.now.level edges.now }
-    requires halves { HasHalves level.now.level (map sharpness_of halves.now) }
+    requires halves { HasAllHalves level.now.level (map sharpness_of halves.now) }
     requires origins { map origin_of origins.now ≡ origins_in level.now }
     requires places { map place_of places.now ≡ all_places 0 level.now.level.polygons }
     ensures child { IfOk result (λ child. IsUniform level.now child) }
@@ -75,14 +75,15 @@ fn refine_placed<L: Ledger>(
     join(alloc, level, next, origins, places)
 }
 
-// The next uniform level and its tables, from its numbered edges. Where its points and its faces come from is told first, so that
-// no level is there yet if memory runs out at that.
+// The next uniform level and its tables, from its numbered edges. Where its points come from is told first, so that no level is
+// there yet if memory runs out at that.
 fn refine_numbered<L: Ledger>(
     alloc: Global,
     level: &Level,
     faces: u32,
     edges: &SlotEdges,
     halves: &[Sharpness],
+    places: &[FacePlace],
     steps: &mut Steps<L>,
 ) -> Result<Child, Memory>
     requires whole { (v : ℕ) → v < level.now.level.point_count → get_or level.now.complete v false ≡ true }
@@ -90,14 +91,14 @@ fn refine_numbered<L: Ledger>(
     requires few { faces ≤ 2 ^ 22 }
     requires short { level.now.level.point_count ≤ 2 ^ 29 }
     requires edges { AreChildEdges level.now.level edges.now }
-    requires halves { HasHalves level.now.level (map sharpness_of halves.now) }
+    requires halves { HasAllHalves level.now.level (map sharpness_of halves.now) }
+    requires places { map place_of places.now ≡ all_places 0 level.now.level.polygons }
     ensures child { IfOk result (λ child. IsUniform level.now child) }
     ensures steps { steps.new ≤ steps.old + sum_by length level.now.level.polygons }
     ensures later { steps.old ≤ steps.new }
 {
     let origins = put_origins(alloc, level)?;
-    let places = put_places(alloc, level)?;
-    refine_placed(alloc, level, faces, edges, halves, &origins, &places, steps)
+    refine_placed(alloc, level, faces, edges, halves, &origins, places, steps)
 }
 
 // The next uniform level and its tables, where `halves` has the sharpness of the half of each edge at each end, and no edge is
@@ -108,6 +109,7 @@ fn refine_with<L: Ledger>(
     faces: u32,
     edges: &mut SlotEdges,
     halves: &[Sharpness],
+    places: &[FacePlace],
     steps: &mut Steps<L>,
 ) -> Result<Child, Memory>
     requires whole { (v : ℕ) → v < level.now.level.point_count → get_or level.now.complete v false ≡ true }
@@ -115,13 +117,14 @@ fn refine_with<L: Ledger>(
     requires few { faces ≤ 2 ^ 22 }
     requires short { level.now.level.point_count ≤ 2 ^ 29 }
     requires none { edges.old ≡ no_slots (slot_count level.now.level.polygons) }
-    requires halves { HasHalves level.now.level (map sharpness_of halves.now) }
+    requires halves { HasAllHalves level.now.level (map sharpness_of halves.now) }
+    requires places { map place_of places.now ≡ all_places 0 level.now.level.polygons }
     ensures child { IfOk result (λ child. IsUniform level.now child) }
     ensures steps { steps.new ≤ steps.old + sum_by length level.now.level.polygons }
     ensures later { steps.old ≤ steps.new }
 {
-    number_edges(level, edges)?;
-    refine_numbered(alloc, level, faces, edges, halves, steps)
+    number_all(level, places, edges)?;
+    refine_numbered(alloc, level, faces, edges, halves, places, steps)
 }
 
 // The next uniform level and its tables, where `halves` has room for the half of each edge at each end. It is one step for
@@ -143,8 +146,9 @@ fn refine_small<L: Ledger>(
     ensures later { steps.old ≤ steps.new }
 {
     put_halves(alloc, level, halves)?;
+    let places = put_places(alloc, level)?;
     let mut edges = no_edges(alloc, level)?;
-    let child = refine_with(alloc, level, faces, &mut edges, halves, steps)?;
+    let child = refine_with(alloc, level, faces, &mut edges, halves, &places, steps)?;
     Ok(child)
 }
 

@@ -6,7 +6,7 @@ ghost use Rattle.level_topology.specs.PointRows.{IsRow};
 ghost use Rattle.subdiv_model.specs.Child.{child_polygons};
 ghost use Rattle.child_slots.specs.Slots.{first_child, half_slot};
 ghost use Rattle.child_slots.specs.Slotted.{number_at};
-ghost use Rattle.child_slots.specs.Walked.{AreChildEdges};
+ghost use Rattle.uniform_refiner.specs.Put.{AreChildEdges};
 
 use child_slots::{Row, SlotEdges, first_child_of, half_slot_of, put_corner, put_ends};
 use level_topology::Level;

@@ -4,16 +4,16 @@ use Rattle.child_slots.proofs.HalfTableLemmas.{halves-none, halves-all}
 use Rattle.child_slots.proofs.halves.put_by_points.Goals as goal
 
 pub loop-v-init : goal.loop-v-init
-loop-v-init c = halves-none c.args.level.now c.facts.ensures c.args.halves.now c.requires.size
+loop-v-init g c = halves-none c.args.level.now c.facts.ensures (g.P.ChildPoints.has c.args.points.now) c.args.halves.now c.requires.size
 
 pub returns : goal.returns
-returns c =
+returns g c =
     let last : c.loop-v.v ≡ c.args.level.now.level.point_count = omega (arith, c.loop-v-test.false, c.loop-v.auto.v-end, c.points-v-end.ensures) in
-    halves-all c.args.level.now c.facts.ensures c.loop-v.v (map sharpness_of c.loop-v.halves) last c.loop-v.invariant
+    halves-all c.args.level.now c.facts.ensures (g.P.ChildPoints.has c.args.points.now) c.loop-v.v (map sharpness_of c.loop-v.halves) last c.loop-v.invariant
 
 -- asked for by name, so that a body that breaks it is refused at once
-pub put_halves-requires-clause-before : goal.put_halves-requires-clause-before
-put_halves-requires-clause-before c = search rules
+pub put_point-requires-clause-before : goal.put_point-requires-clause-before
+put_point-requires-clause-before g c = search rules
 
 pub loop-v-preserved : goal.loop-v-preserved
-loop-v-preserved c = search rules
+loop-v-preserved g c = search rules

@@ -5,4 +5,4 @@ use Rattle.child_slots.proofs.halves.put_by_points.Given as goal
 
 -- those at the points so far are put
 abbrev pub invariant-loop-v : goal.invariant-loop-v
-invariant-loop-v l = AreHalvesPut l.level l.v 0 (map sharpness_of l.halves)
+invariant-loop-v g l = AreHalvesPut l.level (g.P.ChildPoints.has l.points) l.v 0 (map sharpness_of l.halves)

@@ -1,7 +1,9 @@
-use Rattle.child_slots.specs.Slots.{first_child}
+use Rattle.std.proofs.Common.{map}
+use Rattle.level_topology.specs.ChildTables.{place_of}
+use Rattle.child_slots.specs.Parts.{part}
 use Rattle.child_slots.specs.Walked.{IsWalked}
 use Rattle.child_slots.proofs.walk.number_edges.Given as goal
 
--- the child faces of the faces so far are gone over
-abbrev pub invariant-loop-f : goal.invariant-loop-f
-invariant-loop-f l = IsWalked l.level.level.point_count l.level.level.polygons (first_child l.level.level.polygons l.f) l.edges
+-- the child faces of the places so far are gone over
+abbrev pub invariant-loop-i : goal.invariant-loop-i
+invariant-loop-i g l = IsWalked l.level.level.point_count l.level.level.polygons (part (map place_of l.places) (g.P.ChildPoints.has l.points) (g.P.ChildPoints.number l.points)) l.i l.edges

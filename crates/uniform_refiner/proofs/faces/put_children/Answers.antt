@@ -5,7 +5,7 @@ use Rattle.level_topology.specs.Rows.{Rows}
 use Rattle.child_slots.specs.Slots.{first_child, slots_at}
 use Rattle.uniform_refiner.specs.Put.{with_children}
 use Rattle.child_slots.proofs.FaceWalkLemmas.{slots-below}
-use Rattle.child_slots.proofs.ChildEdgeLemmas.{slots-there}
+use Rattle.uniform_refiner.proofs.WholeEdgeLemmas.{slots-there}
 use Rattle.uniform_refiner.proofs.PutFaceLemmas.{children-room, children-step}
 use Rattle.child_slots.proofs.ChildNumberLemmas.{first-more}
 use Rattle.uniform_refiner.proofs.faces.put_children.Goals as goal

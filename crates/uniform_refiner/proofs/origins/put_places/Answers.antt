@@ -3,7 +3,7 @@ use Rattle.std.specs.List.{range_with_len}
 use Rattle.std.proofs.lemmas.List.{take_all}
 use Rattle.subdiv_model.specs.Polygons.{polygon_at}
 use Rattle.uniform_refiner.specs.Uniform.{all_places}
-use Rattle.uniform_refiner.proofs.UniformLemmas.{places-more}
+use Rattle.uniform_refiner.proofs.PlaceLemmas.{places-more}
 use Rattle.uniform_refiner.proofs.origins.put_places.Goals as goal
 
 pub loop-f-preserved : goal.loop-f-preserved
