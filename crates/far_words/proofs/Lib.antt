@@ -1,4 +1,7 @@
 pub mod NumberLemmas
 pub mod ListLemmas
 pub mod OptionLemmas
+pub mod GoodOptionLemmas
+pub mod OrderLemmas
+pub mod ValueLemmas
 pub mod ReadLemmas

@@ -3,7 +3,7 @@ use Rattle.std.proofs.lemmas.List.{length-map}
 use Rattle.subdiv_model.specs.Words.{first_bad_option}
 use Rattle.far_words.specs.View.{rule_of_code, option_of_code}
 use Rattle.far_words.proofs.ReadLemmas.{small-numbers, few-rules}
-use Rattle.word_laws.proofs.OptionLemmas.{length-IsGood, early-of-some, good-of-none}
+use Rattle.far_words.proofs.GoodOptionLemmas.{length-IsGood, early-of-some, good-of-none}
 use Rattle.far_words.proofs.read.read_options.Goals as goal
 
 pub overflow_cast-result : goal.overflow_cast-result

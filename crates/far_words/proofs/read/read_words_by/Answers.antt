@@ -1,5 +1,5 @@
 use Rattle.std.proofs.Common.{◌≡◌, ◌∷◌, ◌-◌, map, length, take, drop, string_bytes, ap, sym, ◌∙◌}
-use Rattle.word_laws.proofs.ValueLemmas.{find-passes}
+use Rattle.far_words.proofs.ValueLemmas.{find-passes}
 use Rattle.far_words.specs.View.{rule_of_code, table_of_code, result_of_code}
 use Rattle.far_words.specs.Table.{is_u32_rule}
 use Rattle.far_words.proofs.ListLemmas.{first-and-rest}

@@ -1,6 +1,6 @@
 use Rattle.subdiv_model.specs.Words.{rule_named}
-use Rattle.word_laws.proofs.OrderLemmas.{usage-order, reading-order}
-use Rattle.word_laws.proofs.options.options_go_in_any_order.Goals as goal
+use Rattle.far_words.proofs.OrderLemmas.{usage-order, reading-order}
+use Rattle.far_words.proofs.laws.options_go_in_any_order.Goals as goal
 
 pub returns-clause-understood : goal.returns-clause-understood
 returns-clause-understood c = λ table command options others p h. usage-order (rule_named table command) options others p h

@@ -6,8 +6,8 @@ use Rattle.std.specs.List.{list_all, list_any, find}
 use Rattle.std.proofs.lemmas.Bool.{and_parts}
 use Rattle.std.proofs.lemmas.Slice.Eq.{bytes_eq-Decides}
 use Rattle.subdiv_model.specs.Words.{OptionRule, CommandRule, is_value, option_name, option_value, is_option_of, is_equals, has_option, has_required, value_of, usage_of_rule}
-use Rattle.word_laws.proofs.OptionLemmas.{IsGood}
-use Rattle.word_laws.proofs.OrderLemmas.{understood-parts}
+use Rattle.far_words.proofs.GoodOptionLemmas.{IsGood}
+use Rattle.far_words.proofs.OrderLemmas.{understood-parts}
 
 -- what is found passes the search's test, and every test that all pass
 pub find-passes : {X : Type 0} (p q : X → Bool) (xs : List X) (x : X) → list_all p xs ≡ true → find q xs ≡ Some x → (p x ≡ true) × (q x ≡ true)

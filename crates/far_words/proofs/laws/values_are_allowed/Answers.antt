@@ -1,6 +1,6 @@
 use Rattle.subdiv_model.specs.Words.{rule_named}
-use Rattle.word_laws.proofs.ValueLemmas.{allowed-of-rule, required-of-rule}
-use Rattle.word_laws.proofs.options.values_are_allowed.Goals as goal
+use Rattle.far_words.proofs.ValueLemmas.{allowed-of-rule, required-of-rule}
+use Rattle.far_words.proofs.laws.values_are_allowed.Goals as goal
 
 pub returns-clause-allowed : goal.returns-clause-allowed
 returns-clause-allowed c = λ table command options rule name value is none h. allowed-of-rule (rule_named table command) options rule name value is none h
