@@ -1,2 +1,9 @@
 pub mod RangeLemmas
 pub mod SheetLemmas
+pub mod PieceLemmas
+pub mod GridLemmas
+pub mod QuadLemmas
+pub mod OnceLemmas
+pub mod TurnLemmas
+pub mod SheetFanLemmas
+pub mod SheetLaws

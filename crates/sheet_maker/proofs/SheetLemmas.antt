@@ -12,7 +12,7 @@ use Rattle.ratio128.specs.declared.point.Point3.{Point3}
 use Rattle.raw_mesh.specs.declared.tags.Crease.{Crease}
 use Rattle.raw_mesh.specs.Made.{quads_of, mesh_of_quads}
 use Rattle.raw_mesh.specs.View.{point_of, crease_of}
-use Rattle.raw_mesh.specs.Short.{IsShortPoint}
+use Rattle.subdiv_model.specs.Short.{IsShortPoint}
 use Rattle.subdiv_model.specs.ObjMesh.{ObjMesh}
 use Rattle.subdiv_model.specs.Sharpness.{Sharpness}
 use Rattle.subdiv_model.specs.Generator.{drawn_next, drawn_value, draws_from, draws_of, sheet_point, sheet_points, sheet_quad, sheet_faces, row_creases, sheet_creases, generated_mesh}

@@ -3,6 +3,7 @@
 
 mod creases;
 mod draws;
+pub mod laws;
 mod number;
 mod points;
 mod quads;

@@ -3,7 +3,7 @@
 ghost use Rattle.std.specs.Prelude.{◌≡◌, ◌≤◌, IfOk};
 ghost use Rattle.std.specs.List.{All};
 ghost use Rattle.raw_mesh.specs.Laws.{IsWithin};
-ghost use Rattle.raw_mesh.specs.Short.{IsShortPoint};
+ghost use Rattle.subdiv_model.specs.Short.{IsShortPoint};
 ghost use Rattle.subdiv_model.specs.Generator.{generated_mesh};
 
 use crate::creases::creases_of_rows;

@@ -1,5 +1,5 @@
-use Rattle.sheet_laws.proofs.SheetLaws.{generated-manifold, generated-fine}
-use Rattle.sheet_laws.proofs.sheets.sheets_are_manifolds.Goals as goal
+use Rattle.sheet_maker.proofs.SheetLaws.{generated-manifold, generated-fine}
+use Rattle.sheet_maker.proofs.laws.sheets_are_manifolds.Goals as goal
 
 pub returns-clause-manifold : goal.returns-clause-manifold
 returns-clause-manifold c = generated-manifold

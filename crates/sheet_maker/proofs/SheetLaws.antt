@@ -11,10 +11,10 @@ use Rattle.mesh_laws.proofs.ChildCornerLemmas.{corner-place}
 use Rattle.mesh_laws.proofs.FanLemmas.{side-start}
 use Rattle.mesh_laws.proofs.WalkLemmas.{manifold-decides}
 use Rattle.mesh_laws.proofs.FaultLemmas.{fault-decides}
-use Rattle.sheet_laws.proofs.GridLemmas.{cell-of, each-face, points-length}
-use Rattle.sheet_laws.proofs.QuadLemmas.{quad-simple, side-owner}
-use Rattle.sheet_laws.proofs.OnceLemmas.{HasOneOwner, owner-count}
-use Rattle.sheet_laws.proofs.SheetFanLemmas.{sheet-fans}
+use Rattle.sheet_maker.proofs.GridLemmas.{cell-of, each-face, points-length}
+use Rattle.sheet_maker.proofs.QuadLemmas.{quad-simple, side-owner}
+use Rattle.sheet_maker.proofs.OnceLemmas.{HasOneOwner, owner-count}
+use Rattle.sheet_maker.proofs.SheetFanLemmas.{sheet-fans}
 
 -- no two faces share a side: it tells the row and the column
 one-owner : (size : ℕ) (s : ℕ × ℕ) → 0 < size → HasOneOwner (sheet_faces size) s

@@ -5,8 +5,8 @@ use Rattle.std.proofs.lemmas.Bool.Decides.{nat_tests}
 use Rattle.std.proofs.lemmas.Bool.{cases_order}
 use Rattle.subdiv_model.specs.Manifold.{HasOneFan}
 use Rattle.subdiv_model.specs.Generator.{sheet_point, sheet_faces}
-use Rattle.sheet_laws.proofs.GridLemmas.{face_number}
-use Rattle.sheet_laws.proofs.TurnLemmas.{meets-first, meets-second, meets-third, meets-fourth, follows-up, follows-back, follows-down, follows-on, fan-of}
+use Rattle.sheet_maker.proofs.GridLemmas.{face_number}
+use Rattle.sheet_maker.proofs.TurnLemmas.{meets-first, meets-second, meets-third, meets-fourth, follows-up, follows-back, follows-down, follows-on, fan-of}
 
 -- a row or a column of points: the first, one inside, or the last of a sheet of so many faces
 abbrev IsAlong : ℕ → ℕ → Type 0

@@ -8,8 +8,8 @@ use Rattle.subdiv_model.specs.Generator.{sheet_point, sheet_quad, sheet_faces}
 use Rattle.mesh_laws.proofs.FanLemmas.{side-start}
 use Rattle.mesh_laws.proofs.ClosedLemmas.{any-all}
 use Rattle.mesh_laws.proofs.ChildCornerLemmas.{corner-place}
-use Rattle.sheet_laws.proofs.GridLemmas.{face_number, face-at, cell-of}
-use Rattle.sheet_laws.proofs.QuadLemmas.{quad-sides, Touches, corner-touches}
+use Rattle.sheet_maker.proofs.GridLemmas.{face_number, face-at, cell-of}
+use Rattle.sheet_maker.proofs.QuadLemmas.{quad-sides, Touches, corner-touches}
 
 module _ (size : ℕ) where
   -- the face has a corner at the point

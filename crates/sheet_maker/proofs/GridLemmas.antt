@@ -5,7 +5,7 @@ use Rattle.std.proofs.lemmas.Nat.{div-add-mod', div_below, mod_below}
 use Rattle.std.proofs.lemmas.List.FromFn.{length-range_with_len, length-map-range_with_len, get_or-range_with_len, get_or-map-range_with_len}
 use Rattle.subdiv_model.specs.Polygons.{Polygon}
 use Rattle.subdiv_model.specs.Generator.{sheet_point, sheet_points, sheet_quad, sheet_faces}
-use Rattle.sheet_laws.proofs.PieceLemmas.{pieces-length, piece-at}
+use Rattle.sheet_maker.proofs.PieceLemmas.{pieces-length, piece-at}
 
 -- the number of the face in row i and column j
 abbrev pub face_number : ℕ → ℕ → ℕ → ℕ
