@@ -15,3 +15,4 @@ pub mod ObjStepLemmas
 pub mod ReadingCauseLemmas
 pub mod ObjChannelLemmas
 pub mod ObjLateLemmas
+pub mod ShortNumberLemmas

@@ -4,4 +4,5 @@
 #![tactic(auto)]
 
 pub mod numerals;
+pub mod short_numbers;
 pub mod texts;

@@ -9,7 +9,7 @@ use Rattle.ratio128.specs.declared.point.Point2.{Point2}
 use Rattle.ratio128.specs.declared.point.Point3.{Point3}
 use Rattle.raw_mesh.specs.Mesh.{IsWhole, mesh_of_lists}
 use Rattle.raw_mesh.specs.Parts.{bad_unless, is_scale, is_long, is_long_point, is_long_value, bad_coordinates, bad_counts, bad_corners, bad_part, mesh_of_parts}
-use Rattle.raw_mesh.specs.Short.{IsShortPoint, IsShortTexture}
+use Rattle.subdiv_model.specs.Short.{IsShortPoint, IsShortTexture}
 use Rattle.raw_mesh.specs.Starts.{starts_from}
 use Rattle.raw_mesh.specs.View.{point_of, texture_of}
 use Rattle.raw_mesh.specs.declared.fault.BadPart.{BadPart}

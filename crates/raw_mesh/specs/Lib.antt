@@ -2,6 +2,5 @@ pub mod View
 pub mod Mesh
 pub mod Laws
 pub mod Made
-pub mod Short
 pub mod Starts
 pub mod Parts

@@ -4,7 +4,7 @@ ghost use Rattle.std.specs.Prelude.{◌≡◌, ◌+◌, ◌<◌, ◌^◌, length
 ghost use Rattle.std.specs.List.{All};
 ghost use Rattle.raw_mesh.specs.Laws.{IsWithin};
 ghost use Rattle.raw_mesh.specs.Parts.{bad_part, mesh_of_parts, IsPartsFault};
-ghost use Rattle.raw_mesh.specs.Short.{IsShortPoint, IsShortTexture};
+ghost use Rattle.subdiv_model.specs.Short.{IsShortPoint, IsShortTexture};
 ghost use Rattle.raw_mesh.specs.Starts.{starts_from};
 
 use crate::bad_part::first_bad_part;

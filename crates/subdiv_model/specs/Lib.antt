@@ -38,3 +38,4 @@ pub mod Answer
 pub mod Examples
 pub mod ExampleTexts
 pub mod ExampleControls
+pub mod Short

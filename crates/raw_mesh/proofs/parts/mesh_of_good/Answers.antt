@@ -1,7 +1,7 @@
 use Rattle.std.proofs.Common.{ap, refl, sym, subst, ◌∙◌}
 use Rattle.std.specs.List.{All}
 use Rattle.subdiv_model.specs.ObjMesh.{ObjMesh}
-use Rattle.raw_mesh.specs.Short.{IsShortPoint, IsShortTexture}
+use Rattle.subdiv_model.specs.Short.{IsShortPoint, IsShortTexture}
 use Rattle.raw_mesh.specs.Starts.{starts_from}
 use Rattle.raw_mesh.proofs.PartLemmas.{whole-parts, mesh-parts, short-points, short-values}
 use Rattle.raw_mesh.proofs.parts.mesh_of_good.Goals as goal

@@ -12,7 +12,7 @@ use Rattle.subdiv_model.specs.ObjWord.{Counts, number_over}
 use Rattle.subdiv_model.specs.ReadObj.{obj_lines, line_fault, fault_at, counts_of, values_of, is_tag_line, is_texture_line, is_continued, has_known_keyword, least_values, words_fault, common_over, passes_bound, is_long_over, has_long_number, long_fault, first_fault, late_fault, lesser_fault, first_bad_line, first_late_fault, read_obj_fault, position_common, texture_common_of, point_over, texture_over, read_obj_mesh}
 use Rattle.obj_laws.proofs.FirstFaultLemmas.{each-good}
 use Rattle.obj_laws.proofs.ObjGoodLemmas.{or-else-none}
-use Rattle.reading_laws.specs.Short.{IsShort, IsShortPoint, IsShortTexture}
+use Rattle.subdiv_model.specs.Short.{IsShort, IsShortPoint, IsShortTexture}
 
 -- the second choice is none where there is none at all
 second-none : (first second : Option ObjFault) → option_or first second ≡ None → second ≡ None

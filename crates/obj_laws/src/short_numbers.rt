@@ -1,12 +1,9 @@
-//! Laws of what is read of an OBJ text.
-//!
-//! Each public function here takes nothing, does nothing and returns nothing: its clauses are the laws.
-#![tactic(auto)]
+//! Laws of the numbers of a mesh that is read: over their common denominator they are short.
 
 ghost use Rattle.std.specs.Prelude.{◌≡◌, ℕ, ◌≤◌, ◌^◌, List, None};
 ghost use Rattle.std.specs.List.{All};
 ghost use Rattle.subdiv_model.specs.ReadObj.{read_obj_fault, read_obj_mesh};
-ghost use Rattle.reading_laws.specs.Short.{IsShortPoint, IsShortTexture};
+ghost use Rattle.subdiv_model.specs.Short.{IsShortPoint, IsShortTexture};
 
 /// The coordinates of a text without fault are less than 10^37 in amount over their common denominator, where that is at
 /// most 10^37.
