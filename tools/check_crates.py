@@ -10,7 +10,7 @@ Of each crate it looks whether
 - each call and each clause in its tables is one of the crate's, with `needs` before what is required;
 - each public function and method is named, in a table or in the text, and each clause of it that has a name.
 
-The laws of a crate of laws are looked for in the tables of docs/proofs.md, under the heading that ends with the name of the
+The laws of a crate are looked for in the tables of docs/proofs.md too, under each heading that ends with the name of the
 crate. The public functions of subdiv_model are examples by the hundred: each file of them is to be named in docs/proofs.md.
 
 It prints a line for each thing that is wrong and ends with status 1, or one line that all was found and ends with 0.

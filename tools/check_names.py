@@ -11,8 +11,8 @@ case, or a lemma); an option (`by=level`, `far refine depth=1`), by what stands 
 
 Each fault is a line: `docs/x.md:12: `name` is not defined`, with ` in `FILE`` where the document says "`name` of `FILE`" and
 it stands elsewhere; or `name of FILE is named in no document`, for a definition of crates/subdiv_model/specs that no page
-of docs/ names, and for a law, a `pub fn` of a crate of laws, that neither docs/ nor the README of its crate names. It ends
-with status 1 where there is a fault, and else with 0 and the counts.
+of docs/ names, and for a law, a `pub fn` of a crate or a module of laws, that neither docs/ nor the README of its crate
+names. It ends with status 1 where there is a fault, and else with 0 and the counts.
 """
 
 import argparse
@@ -43,7 +43,7 @@ DOCUMENTS = r"README\.md|docs/.*\.md|crates/\w+/README\.md|cases/README\.md"
 DEFINITIONS = r"crates/(\w+)/(?:specs|proofs)/.*\.antt"
 CODE = r"crates/(\w+)/src/.*\.rt"
 MODEL = r"crates/subdiv_model/specs/\w+\.antt"
-LAWS = r"crates/(\w+_laws)/src/.*\.rt"
+LAWS = r"crates/(?:\w+_laws|theorems)/src/.*\.rt|crates/\w+/src/laws\.rt"
 
 # Code in backquotes; what is a name in it.
 SPAN = re.compile(r"`([^`]+)`")

@@ -1,9 +1,0 @@
-pub mod HalfEdgeLemmas
-pub mod CreaseLemmas
-pub mod PlaceLemmas
-pub mod RuleLemmas
-pub mod NumberLemmas
-pub mod ChildValueLemmas
-pub mod StraightLemmas
-pub mod DescendantLemmas
-pub mod SeamLemmas

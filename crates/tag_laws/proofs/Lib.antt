@@ -1,3 +1,0 @@
-pub mod MeshTagLemmas
-pub mod TextTagLemmas
-pub mod LevelTagLemmas

@@ -1,8 +1,0 @@
-use Rattle.tag_laws.proofs.TextTagLemmas.{last-method, no-method}
-use Rattle.tag_laws.proofs.text_tags.last_method_line_counts.Goals as goal
-
-pub returns-clause-last : goal.returns-clause-last
-returns-clause-last c = last-method
-
-pub returns-clause-untagged : goal.returns-clause-untagged
-returns-clause-untagged c = no-method

@@ -1,0 +1,12 @@
+pub mod MeshTagLemmas
+pub mod TextTagLemmas
+pub mod LevelTagLemmas
+pub mod HalfEdgeLemmas
+pub mod CreaseLemmas
+pub mod PlaceLemmas
+pub mod RuleLemmas
+pub mod NumberLemmas
+pub mod ChildValueLemmas
+pub mod StraightLemmas
+pub mod DescendantLemmas
+pub mod SeamLemmas

@@ -1,0 +1,2 @@
+pub mod TagLines
+pub mod Descendants

@@ -1,0 +1,7 @@
+//! Properties that the definitions have. No crate cites these laws.
+//!
+//! Each public function here takes nothing, does nothing and returns nothing: its clauses are the laws.
+#![tactic(auto)]
+
+pub mod seams;
+pub mod tags;
