@@ -25,7 +25,7 @@ use Rattle.mask_rules.specs.Masks.{is_at_least_one}
 use Rattle.uniform_refiner.specs.Uniform.{origins_in}
 use Rattle.uniform_refiner.specs.Refined.{IsRefined}
 use Rattle.primvar_refine.specs.View.{rows_of}
-use Rattle.primvar_refine.specs.declared.valued.Valued.{Valued}
+use Rattle.ratio128.specs.declared.valued.Valued.{Valued}
 use Rattle.primvar_refine.specs.Rows.{Row, dens_of, StandFor, AreWithin, rounded_up, least_bound, greatest_of}
 use Rattle.child_masks.specs.Masks.{masks_from, has_origin, step_terms, CanRefine, IsFirstTransition, IsFirstDenominator, HasNoTransition}
 use Rattle.primvar_refine.specs.Step.{AreRefined, IsTooBig}

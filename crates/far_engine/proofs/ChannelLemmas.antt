@@ -15,7 +15,7 @@ use Rattle.number_laws.proofs.MultipleLemmas.{product-positive}
 use Rattle.stencil_laws.proofs.ShareLemmas.{value-positive}
 use Rattle.level_topology.specs.Topology.{Topology}
 use Rattle.ratio128.specs.Numbers as primvar
-use Rattle.primvar_refine.specs.declared.valued.Valued.{Valued}
+use Rattle.ratio128.specs.declared.valued.Valued.{Valued}
 use Rattle.primvar_refine.specs.Rows.{Row, row_at, dens_of, value_at, StandFor, AreWithin}
 use Rattle.primvar_refine.specs.View.{row_of, rows_of}
 use Rattle.channel_refine.specs.Refined.{AreControls, IsRefinedTo, IsChannelFault, column_of}

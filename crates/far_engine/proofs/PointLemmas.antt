@@ -9,10 +9,10 @@ use Rattle.subdiv_model.specs.Refined.{point_value, over_common, points_of_coord
 use Rattle.subdiv_model.specs.Answer.{point_numbers}
 use Rattle.number_laws.proofs.MultipleLemmas.{product-positive}
 use Rattle.raw_mesh.specs.View as reader
-use Rattle.raw_mesh.specs.Short.{IsShortPoint}
+use Rattle.subdiv_model.specs.Short.{IsShortPoint}
 use Rattle.ratio128.specs.declared.point.Point3.{Point3}
 use Rattle.ratio128.specs.Numbers as primvar
-use Rattle.primvar_refine.specs.declared.valued.Valued.{Valued}
+use Rattle.ratio128.specs.declared.valued.Valued.{Valued}
 use Rattle.primvar_refine.specs.View.{rows_of}
 use Rattle.level_text.specs.Points.{points_of, CanBeWritten, IsSamePoint, HasDenominators}
 use Rattle.channel_refine.specs.Refined.{AreControls}

@@ -18,9 +18,9 @@ use Rattle.level_topology.specs.Topology.{Topology}
 use Rattle.mesh_check.specs.Checked.{IsAccepted}
 use Rattle.raw_mesh.specs.Laws.{IsWithin}
 use Rattle.raw_mesh.specs.View as reader
-use Rattle.raw_mesh.specs.Short.{IsShortPoint}
+use Rattle.subdiv_model.specs.Short.{IsShortPoint}
 use Rattle.ratio128.specs.declared.point.Point3.{Point3}
-use Rattle.primvar_refine.specs.declared.valued.Valued.{Valued}
+use Rattle.ratio128.specs.declared.valued.Valued.{Valued}
 use Rattle.primvar_refine.specs.View.{rows_of}
 use Rattle.level_counts.specs.Series.{faces_to}
 use Rattle.channel_refine.specs.Refined.{IsBase, IsRefinedTo, IsTooLarge, IsChannelFault, channel_of}

@@ -17,7 +17,7 @@ use Rattle.subdiv_model.specs.Answer.{level_count_faults, refine_faults, points_
 use Rattle.level_topology.specs.Topology.{Topology}
 use Rattle.mesh_check.specs.Checked.{IsAccepted}
 use Rattle.channel_refine.proofs.FaultLemmas.{first-here}
-use Rattle.primvar_refine.specs.declared.valued.Valued.{Valued}
+use Rattle.ratio128.specs.declared.valued.Valued.{Valued}
 use Rattle.ratio128.specs.declared.point.Point3.{Point3}
 use Rattle.level_text.specs.Points.{points_of}
 use Rattle.level_text.specs.Texture.{texture_points_of, CanTextureBeWritten}

@@ -22,7 +22,7 @@ use Rattle.level_topology.specs.Topology.{Topology}
 use Rattle.raw_mesh.specs.Laws.{IsWithin}
 use Rattle.raw_mesh.specs.View as reader
 use Rattle.ratio128.specs.declared.point.Point3.{Point3}
-use Rattle.primvar_refine.specs.declared.valued.Valued.{Valued}
+use Rattle.ratio128.specs.declared.valued.Valued.{Valued}
 use Rattle.primvar_refine.specs.View.{row_of, rows_of}
 use Rattle.stencil_apply.specs.Table.{Row as TableRow, Table, entries_of, greatest_of}
 use Rattle.stencil_factory.specs.Rows.{support_of}

@@ -30,10 +30,10 @@ use Rattle.texture_laws.proofs.CutLevelLemmas.{cut-boundary}
 use Rattle.level_topology.specs.Topology.{Topology}
 use Rattle.raw_mesh.specs.Laws.{IsWithin}
 use Rattle.raw_mesh.specs.View.{texture_of as value_of}
-use Rattle.raw_mesh.specs.Short.{IsShortTexture}
+use Rattle.subdiv_model.specs.Short.{IsShortTexture}
 use Rattle.ratio128.specs.declared.point.Point2.{Point2}
 use Rattle.ratio128.specs.Numbers as primvar
-use Rattle.primvar_refine.specs.declared.valued.Valued.{Valued}
+use Rattle.ratio128.specs.declared.valued.Valued.{Valued}
 use Rattle.primvar_refine.specs.View.{rows_of}
 use Rattle.face_varying.specs.Cut.{CutChannel, IsCut}
 use Rattle.level_text.specs.Texture.{texture_points_of, CanTextureBeWritten, IsSameTexturePoint, HasTextureDenominators}

@@ -9,7 +9,7 @@ use Rattle.subdiv_model.specs.Command as model
 use Rattle.subdiv_model.specs.Command.{command_of, read_or, read_words_by}
 use Rattle.far_words.specs.declared.command.Command.{Command}
 use Rattle.far_words.specs.View.{command_of_code, result_of_code}
-use Rattle.word_laws.proofs.ValueLemmas.{allowed-of-rule, required-of-rule}
+use Rattle.far_words.proofs.ValueLemmas.{allowed-of-rule, required-of-rule}
 use Rattle.far_engine.specs.Written.{IsInRange}
 
 -- what was read is what the table says of the words

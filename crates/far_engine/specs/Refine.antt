@@ -17,7 +17,7 @@ use Rattle.level_topology.specs.Topology.{Topology}
 use Rattle.face_varying.specs.Cut.{CutChannel, IsCut}
 use Rattle.level_text.specs.Points.{points_of, CanBeWritten, IsSamePoint, HasDenominators}
 use Rattle.level_text.specs.Texture.{texture_points_of, CanTextureBeWritten, IsSameTexturePoint, HasTextureDenominators}
-use Rattle.primvar_refine.specs.declared.valued.Valued.{Valued}
+use Rattle.ratio128.specs.declared.valued.Valued.{Valued}
 use Rattle.ratio128.specs.declared.point.Point3.{Point3}
 use Rattle.ratio128.specs.declared.point.Point2.{Point2}
 use Rattle.far_words.specs.View.{tags_of_code}

@@ -23,12 +23,10 @@ use level_topology::{Counted, Level};
 use mesh_check::{CheckFault, check_mesh};
 use ratio128::Steps;
 use raw_mesh::RawMesh;
+use ratio128::limits::FACE_LIMIT;
 use std::alloc::Global;
 use std::sync::ledger::Ledger;
 use uniform_refiner::next_faces;
-
-// How many faces a level after the first may have.
-const MOST_FACES: u64 = 1 << 22;
 
 // The first level up to the depth that would have too many faces, where level 1 has so many.
 fn level_fault(first: u64, depth: u32) -> Option<Counted>
@@ -37,7 +35,7 @@ fn level_fault(first: u64, depth: u32) -> Option<Counted>
 {
     let mut count = first;
     for k in 0..depth {
-        if count > MOST_FACES {
+        if count > FACE_LIMIT {
             return Some(Counted::LevelFaces {
                 level: k + 1,
                 count,

@@ -4,7 +4,7 @@ ghost use Rattle.std.specs.Prelude.{◌≡◌, ◌+◌, ◌≤◌, length, map, 
 ghost use Rattle.std.specs.List.{All};
 ghost use Rattle.raw_mesh.specs.Laws.{IsWithin};
 ghost use Rattle.raw_mesh.specs.View.{point_of};
-ghost use Rattle.raw_mesh.specs.Short.{IsShortPoint};
+ghost use Rattle.subdiv_model.specs.Short.{IsShortPoint};
 ghost use Rattle.subdiv_model.specs.Lists.{first_of};
 ghost use Rattle.subdiv_model.specs.Fault.{Positions};
 ghost use Rattle.subdiv_model.specs.Channel.{greatest_amount, channel_faults};

@@ -3,7 +3,7 @@
 ghost use Rattle.std.specs.Prelude.{ℕ, ◌≡◌, ◌+◌, ◌≤◌, length, None, IfOk, IfSome, MatchResult, OnOk};
 ghost use Rattle.std.specs.List.{All};
 ghost use Rattle.raw_mesh.specs.Laws.{IsWithin};
-ghost use Rattle.raw_mesh.specs.Short.{IsShortPoint, IsShortTexture};
+ghost use Rattle.subdiv_model.specs.Short.{IsShortPoint, IsShortTexture};
 ghost use Rattle.subdiv_model.specs.Lists.{first_of};
 ghost use Rattle.subdiv_model.specs.Manifold.{IsManifold};
 ghost use Rattle.subdiv_model.specs.Command.{Refine};

@@ -3,7 +3,7 @@
 ghost use Rattle.std.specs.Prelude.{◌≡◌, ◌+◌, ◌≤◌, ◌^◌, false, length, None, IfOk, MatchResult, OnOk};
 ghost use Rattle.std.specs.List.{All};
 ghost use Rattle.raw_mesh.specs.Laws.{IsWithin};
-ghost use Rattle.raw_mesh.specs.Short.{IsShortPoint, IsShortTexture};
+ghost use Rattle.subdiv_model.specs.Short.{IsShortPoint, IsShortTexture};
 ghost use Rattle.subdiv_model.specs.ReadObj.{read_obj_mesh};
 ghost use Rattle.far_words.specs.View.{command_of_code};
 ghost use Rattle.far_engine.specs.Written.{IsInRange, IsWritten, written_text};

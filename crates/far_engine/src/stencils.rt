@@ -3,7 +3,7 @@
 ghost use Rattle.std.specs.Prelude.{◌≡◌, ◌+◌, ◌≤◌, length, None, MatchResult};
 ghost use Rattle.std.specs.List.{All};
 ghost use Rattle.raw_mesh.specs.Laws.{IsWithin};
-ghost use Rattle.raw_mesh.specs.Short.{IsShortPoint};
+ghost use Rattle.subdiv_model.specs.Short.{IsShortPoint};
 ghost use Rattle.subdiv_model.specs.Lists.{first_of};
 ghost use Rattle.subdiv_model.specs.Command.{Stencils};
 ghost use Rattle.subdiv_model.specs.Answer.{level_count_faults};

@@ -4,7 +4,7 @@ ghost use Rattle.std.specs.Prelude.{◌≡◌, ◌+◌, ◌≤◌, length, map, 
 ghost use Rattle.std.specs.List.{All};
 ghost use Rattle.raw_mesh.specs.Laws.{IsWithin};
 ghost use Rattle.raw_mesh.specs.View.{texture_of as value_of};
-ghost use Rattle.raw_mesh.specs.Short.{IsShortTexture};
+ghost use Rattle.subdiv_model.specs.Short.{IsShortTexture};
 ghost use Rattle.subdiv_model.specs.Manifold.{IsManifold};
 ghost use Rattle.subdiv_model.specs.Channel.{greatest_amount};
 ghost use Rattle.subdiv_model.specs.Answer.{texture_numbers, texture_of, seams_of, scheme_of, asked_of};

@@ -10,7 +10,7 @@ use Rattle.mesh_laws.proofs.WalkLemmas.{manifold-decides}
 use Rattle.mask_laws.proofs.BoundaryLemmas.{boundary-base}
 use Rattle.level_topology.specs.Topology.{Topology}
 use Rattle.mesh_check.specs.Checked.{IsAccepted}
-use Rattle.primvar_refine.specs.declared.valued.Valued.{Valued}
+use Rattle.ratio128.specs.declared.valued.Valued.{Valued}
 use Rattle.primvar_refine.specs.Rows.{Row, row_at}
 use Rattle.primvar_refine.specs.View.{row_of, rows_of}
 use Rattle.channel_refine.specs.Refined.{IsBase, AreControls}

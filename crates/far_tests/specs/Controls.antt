@@ -1,7 +1,7 @@
 -- Points that are controls of a channel.
 use Rattle.std.specs.Prelude.{ℕ, ◌≡◌, ◌≤◌, unsigned_abs}
 use Rattle.ratio128.specs.declared.point.Point3.{Point3}
-use Rattle.primvar_refine.specs.declared.valued.Valued.{Valued}
+use Rattle.ratio128.specs.declared.valued.Valued.{Valued}
 
 -- whole numbers of at most so much in amount
 pub record IsControl (greatest : ℕ) (p : Valued Point3) : Type 0 where

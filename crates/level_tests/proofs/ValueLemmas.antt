@@ -12,7 +12,7 @@ use Rattle.subdiv_model.specs.Channel.{number_bound}
 use Rattle.level_topology.specs.Topology.{Topology, edge_at}
 use Rattle.level_topology.specs.Child.{PointOrigin, FromVertex, FromFace, FromEdge, same_origin, IsOriginWithin, ChildTopology, HasParent}
 use Rattle.uniform_refiner.specs.Refined.{IsRefined}
-use Rattle.primvar_refine.specs.declared.valued.Valued.{Valued}
+use Rattle.ratio128.specs.declared.valued.Valued.{Valued}
 use Rattle.primvar_refine.specs.View.{row_of, rows_of}
 use Rattle.primvar_refine.specs.Rows.{Row, row_at, AreGood}
 use Rattle.child_masks.specs.Masks.{has_origin, CanRefine}

@@ -1,7 +1,7 @@
 -- Points whose numbers keep their bounds.
 use Rattle.std.specs.Prelude.{◌<◌, ◌≤◌, unsigned_abs}
 use Rattle.ratio128.specs.declared.point.Point3.{Point3}
-use Rattle.primvar_refine.specs.declared.valued.Valued.{Valued}
+use Rattle.ratio128.specs.declared.valued.Valued.{Valued}
 use Rattle.subdiv_model.specs.Channel.{number_bound}
 
 pub record IsGoodPoint (p : Valued Point3) : Type 0 where

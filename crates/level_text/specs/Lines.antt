@@ -2,7 +2,7 @@
 use Rattle.std.specs.Prelude.{ℕ, ◌+◌, ℤ, Bool, not, ◌||◌, List, [], ◌∷◌, codes, Option, if◌then◌else◌}
 use Rattle.ratio128.specs.declared.point.Point2.{Point2}
 use Rattle.ratio128.specs.declared.point.Point3.{Point3}
-use Rattle.primvar_refine.specs.declared.valued.Valued.{Valued}
+use Rattle.ratio128.specs.declared.valued.Valued.{Valued}
 use Rattle.subdiv_model.specs.Polygons.{polygon_at}
 use Rattle.subdiv_model.specs.Level.{Level, vertex_sharpness_of, is_hole}
 use Rattle.subdiv_model.specs.Sharpness.{Sharpness, is_sharp}

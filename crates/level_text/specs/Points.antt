@@ -1,7 +1,7 @@
 -- Points as numerators over a denominator of their own, all over a common one.
 use Rattle.std.specs.Prelude.{ℕ, ◌*◌, ◌^◌, ◌<◌, ℤ, unsigned_abs, List, map}
 use Rattle.ratio128.specs.declared.point.Point3.{Point3}
-use Rattle.primvar_refine.specs.declared.valued.Valued.{Valued}
+use Rattle.ratio128.specs.declared.valued.Valued.{Valued}
 use Rattle.subdiv_model.specs.Value.{Value, IsSameValue}
 use Rattle.subdiv_model.specs.Refined.{Point, over_common}
 

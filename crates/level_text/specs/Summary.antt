@@ -5,7 +5,7 @@ use Rattle.subdiv_model.specs.NumberText.{number_text}
 use Rattle.subdiv_model.specs.Text.{line_text}
 use Rattle.subdiv_model.specs.Answer.{point_words}
 use Rattle.level_text.specs.Points.{point_of}
-use Rattle.primvar_refine.specs.declared.valued.Valued.{Valued}
+use Rattle.ratio128.specs.declared.valued.Valued.{Valued}
 use Rattle.ratio128.specs.declared.point.Point3.{Point3}
 use Rattle.level_text.specs.declared.summary.Summary.{Summary}
 

@@ -1,7 +1,7 @@
 -- Texture points as numerators over a denominator of their own, all over a common one.
 use Rattle.std.specs.Prelude.{ℕ, ◌*◌, ◌^◌, ◌<◌, unsigned_abs, List, map}
 use Rattle.ratio128.specs.declared.point.Point2.{Point2}
-use Rattle.primvar_refine.specs.declared.valued.Valued.{Valued}
+use Rattle.ratio128.specs.declared.valued.Valued.{Valued}
 use Rattle.subdiv_model.specs.Value.{Value, IsSameValue}
 use Rattle.level_text.specs.Points.{coordinate_of}
 

@@ -12,8 +12,7 @@ use crate::words::put_text;
 use far_io::{Sink, WriteFailed};
 use level_topology::Level;
 use obj_out::Out;
-use primvar_refine::Valued;
-use ratio128::Point3;
+use ratio128::{Point3, Valued};
 
 /// Puts a line for each point and then one for each face of a level: of all faces, or of those that are no holes. The points
 /// are numerators over their own denominators, all over `common`; they are written as fractions in lowest terms, or rounded to

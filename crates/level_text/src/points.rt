@@ -11,8 +11,7 @@ ghost use Rattle.level_text.specs.Lines.{value_over, point_over, valued_line};
 use crate::words::put_byte;
 use far_io::{Sink, WriteFailed};
 use obj_out::Out;
-use primvar_refine::Valued;
-use ratio128::{Frac, Point3};
+use ratio128::{Frac, Point3, Valued};
 
 // Puts a space and a coordinate, in lowest terms, or rounded where decimals are given.
 pub(crate) fn put_coordinate<K: Sink>(

@@ -10,8 +10,7 @@ use crate::table_words::{put_count, put_wide_word};
 use crate::words::{put_byte, put_text};
 use far_io::{Sink, WriteFailed};
 use obj_out::Out;
-use primvar_refine::Valued;
-use ratio128::{Frac, Point3};
+use ratio128::{Frac, Point3, Valued};
 
 /// A sheet, the table of its points at a depth, and the last point there.
 #[derive(Drop)]

@@ -11,8 +11,7 @@ use crate::points::put_coordinate;
 use crate::words::{put_byte, put_text};
 use far_io::{Sink, WriteFailed};
 use obj_out::Out;
-use primvar_refine::Valued;
-use ratio128::Point2;
+use ratio128::{Point2, Valued};
 
 // Puts the line of a texture point, whose coordinates are both over one denominator.
 fn put_point<K: Sink>(

@@ -14,8 +14,7 @@ use crate::words::put_text;
 use far_io::{Sink, WriteFailed};
 use level_topology::Level;
 use obj_out::Out;
-use primvar_refine::Valued;
-use ratio128::{Point2, Point3};
+use ratio128::{Point2, Point3, Valued};
 
 /// Puts a line for each point, one for each texture point, and then one for each face of a level with its texture points: of
 /// all faces, or of those that are no holes. The faces of the level `cut` are those of `level`, corner by corner, with the

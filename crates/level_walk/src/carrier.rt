@@ -2,7 +2,7 @@
 
 ghost use Rattle.std.specs.Prelude.{◌≡◌, ℕ, IfOk, MatchResult};
 ghost use Rattle.subdiv_model.specs.Mask.{CatmullClark};
-ghost use Rattle.primvar_refine.specs.Step.{CanRefine};
+ghost use Rattle.child_masks.specs.Masks.{CanRefine};
 
 use level_topology::{Child, Level};
 use ratio128::Steps;

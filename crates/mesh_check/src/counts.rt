@@ -6,12 +6,8 @@ ghost use Rattle.subdiv_model.specs.Answer.{large_faces};
 ghost use Rattle.mesh_check.specs.Counts.{size_faults, count_named};
 
 use level_topology::Counted;
+use ratio128::limits::{MESH_LIMIT, SIZE_LIMIT};
 use raw_mesh::RawMesh;
-
-// How many points a mesh may have, how many faces, and a face how many corners or a vertex how many edges.
-const MESH_LIMIT: usize = 1 << 20;
-
-pub(crate) const SIZE_LIMIT: usize = 1 << 16;
 
 // The first face of too many corners, with how many it has.
 fn large_face(raw: &RawMesh) -> Option<(u32, u64)>

@@ -11,12 +11,12 @@ ghost use Rattle.mesh_check.specs.Keys.{AreEdgeKeys, ends_of_key, each_once};
 ghost use Rattle.mesh_check.specs.Counts.{size_faults, valence_faults, count_named};
 
 use crate::base_corners::count_face;
-use crate::counts::SIZE_LIMIT;
 use crate::keys::is_again;
 use crate::marks::no_marks;
 use level_topology::Counted;
 use ratio128::Memory;
 use raw_mesh::RawMesh;
+use ratio128::limits::SIZE_LIMIT;
 use std::alloc::Global;
 
 // Counts an edge at its two ends, where its number does not come again.

@@ -10,10 +10,8 @@ ghost use Rattle.obj_tags.specs.TagView.{index_said, sharpness_said};
 
 use crate::ObjCause;
 use obj_text::{Numeral, NumeralFault, read_index, read_numeral};
+use ratio128::limits::NUMERAL_BOUND;
 use sharpness_rules::Sharpness;
-
-/// A numerator has at most 37 digits, and a common denominator is at most this.
-pub(crate) const BOUND: u128 = 10_000_000_000_000_000_000_000_000_000_000_000_000;
 
 /// A numeral, or the cause that its word is refused for.
 pub(crate) fn numeral(word: &[u8]) -> Result<Numeral, ObjCause>
@@ -36,7 +34,7 @@ pub(crate) fn over(number: Numeral, common: u128) -> Option<i128>
 {
     let factor = common / number.den;
     match number.num.unsigned_abs().checked_mul(factor) {
-        Some(amount) if amount < BOUND => Some(number.num * factor as i128),
+        Some(amount) if amount < NUMERAL_BOUND => Some(number.num * factor as i128),
         _ => None,
     }
 }

@@ -10,11 +10,12 @@ ghost use Rattle.obj_tags.specs.View.{counts_of};
 ghost use Rattle.obj_tags.specs.Walk.{words_left};
 
 use crate::face::Counts;
-use crate::number::{BOUND, numeral};
+use crate::number::numeral;
 use crate::plain::is_over;
 use crate::words::{first_line, is_word, next_word};
 use obj_text::{Words, words_of};
 use ratio128::lcm_within;
+use ratio128::limits::NUMERAL_BOUND;
 
 /// The common denominator of a channel, from 1 to 10^37. Where that of all its lines passes 10^37,
 /// `wide` is the first line up to which it does, counted from 1.
@@ -49,7 +50,7 @@ fn multiple_of(common: u128, den: u128) -> Option<u128>
     ensures multiple { IfSome result (IsLcm common den) }
     ensures within { IfSome result (λ m. m ≤ 10 ^ 37) }
 {
-    lcm_within(common, den, BOUND)
+    lcm_within(common, den, NUMERAL_BOUND)
 }
 
 // A common denominator with one more denominator, of the line with this number.

@@ -3,8 +3,7 @@ ghost use Rattle.std.specs.List.{list_all};
 ghost use Rattle.obj_text.specs.Significant.{IsSignificant, KeepsNumber, with_next_digit};
 ghost use Rattle.subdiv_model.specs.Digits.{is_digit};
 
-// A mantissa has at most 37 digits.
-pub(crate) const BOUND: u128 = 10_000_000_000_000_000_000_000_000_000_000_000_000;
+use ratio128::limits::NUMERAL_BOUND;
 
 /// A whole number of any size: `amount` times ten to the `zeros`, where the last digit of `amount` is
 /// not 0 unless the number is 0.
@@ -22,13 +21,13 @@ pub(crate) fn with_zeros(amount: u128, zeros: u128) -> Option<u128>
         return Some(0);
     }
     if zeros == 0 {
-        return if amount < BOUND { Some(amount) } else { None };
+        return if amount < NUMERAL_BOUND { Some(amount) } else { None };
     }
     if zeros > 37 {
         return None;
     }
     let number = amount.checked_mul(10u128.pow(zeros as u32))?;
-    if number < BOUND { Some(number) } else { None }
+    if number < NUMERAL_BOUND { Some(number) } else { None }
 }
 
 // The number with one more digit after it; `None` where it is too long to be a mantissa.
@@ -50,7 +49,7 @@ fn with_digit(number: Significant, digit: u8) -> Option<Significant>
         });
     }
     let amount = with_zeros(number.amount, number.zeros)? * 10 + u128::from(digit);
-    if amount < BOUND {
+    if amount < NUMERAL_BOUND {
         Some(Significant { amount, zeros: 0 })
     } else {
         None

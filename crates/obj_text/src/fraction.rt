@@ -4,11 +4,11 @@ ghost use Rattle.obj_text.specs.NumeralTerms.{IsFractionRead, AreLowestTerms};
 ghost use Rattle.subdiv_model.specs.Numeral.{is_slash};
 
 use crate::NumeralFault;
-use crate::decimal::BOUND;
 use crate::digits::digits_up_to;
 use crate::sign::split_sign;
 use crate::terms::Terms;
 use ratio128::gcd;
+use ratio128::limits::NUMERAL_BOUND;
 
 /// The terms of a fraction: an optional sign, digits, `/`, and digits that are not all zero. Each part
 /// has at most 37 digits after its leading zeros.
@@ -17,12 +17,12 @@ pub(crate) fn read_fraction(word: &[u8]) -> Result<Terms, NumeralFault>
 {
     let (_, unsigned) = split_sign(word);
     let (numerator, denominator) = split_slash(unsigned);
-    let num = digits_up_to(numerator, BOUND).ok_or(NumeralFault::BadNumeral)?;
-    let den = digits_up_to(denominator, BOUND).ok_or(NumeralFault::BadNumeral)?;
+    let num = digits_up_to(numerator, NUMERAL_BOUND).ok_or(NumeralFault::BadNumeral)?;
+    let den = digits_up_to(denominator, NUMERAL_BOUND).ok_or(NumeralFault::BadNumeral)?;
     if den == 0 {
         return Err(NumeralFault::BadNumeral);
     }
-    if num == BOUND || den == BOUND {
+    if num == NUMERAL_BOUND || den == NUMERAL_BOUND {
         return Err(NumeralFault::NumberRange);
     }
     Ok(lowest_terms(num, den))

@@ -11,7 +11,7 @@ use Rattle.std.proofs.Math.Seq.{get_or-append_seam}
 use Rattle.std.proofs.Math.Nat.{max-eq_right, div-lt_iff_lt-mul}
 use Rattle.ratio128.specs.Numbers.{greatest_amount}
 use Rattle.subdiv_model.specs.Channel.{number_bound}
-use Rattle.primvar_refine.specs.declared.valued.Valued.{Valued}
+use Rattle.ratio128.specs.declared.valued.Valued.{Valued}
 use Rattle.primvar_refine.specs.Rows.{Row, AreGood, rounded_up, least_bound}
 use Rattle.primvar_refine.specs.View.{row_of, rows_of}
 use Rattle.primvar_refine.specs.Step.{IsTooBig}

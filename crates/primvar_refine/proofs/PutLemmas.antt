@@ -11,7 +11,7 @@ use Rattle.primvar_refine.specs.Rows.{Row, row_at}
 use Rattle.primvar_refine.specs.View.{row_of, rows_of}
 use Rattle.child_masks.specs.Masks.{mask_from, origin_at, is_from_face}
 use Rattle.primvar_refine.specs.Made.{IsMade, IsPut, AreFacesMade, AreHiddenMade, KeepDens, terms_of_other}
-use Rattle.primvar_refine.specs.declared.valued.Valued.{Valued}
+use Rattle.ratio128.specs.declared.valued.Valued.{Valued}
 
 abbrev blank : Row
 blank = record { numbers = []; den = 1 }

@@ -15,7 +15,7 @@ use Rattle.mask_laws.proofs.ListLemmas.{each-passes}
 use Rattle.level_topology.specs.Topology.{Topology, IsTopology}
 use Rattle.level_topology.specs.Child.{PointOrigin, FromVertex, FromFace, IsOriginWithin, ChildTopology, HasParent}
 use Rattle.primvar_refine.specs.Rows.{Row, row_at, dens_of, AreGood, least_bound}
-use Rattle.primvar_refine.specs.declared.valued.Valued.{Valued}
+use Rattle.ratio128.specs.declared.valued.Valued.{Valued}
 use Rattle.primvar_refine.specs.View.{row_of, rows_of}
 use Rattle.child_masks.specs.Masks.{mask_from, masks_from, origin_at, is_from_face}
 use Rattle.primvar_refine.specs.Sums.{source_row, HasRow}

@@ -1,6 +1,6 @@
 -- The values of this crate, seen as rows.
 use Rattle.std.specs.Prelude.{ℤ, List, map}
-use Rattle.primvar_refine.specs.declared.valued.Valued.{Valued}
+use Rattle.ratio128.specs.declared.valued.Valued.{Valued}
 use Rattle.primvar_refine.specs.Rows.{Row}
 
 -- by the numbers of the list that is refined

@@ -6,7 +6,7 @@ ghost use Rattle.primvar_refine.specs.Rows.{AreGood, rounded_up, least_bound};
 ghost use Rattle.primvar_refine.specs.View.{rows_of};
 ghost use Rattle.primvar_refine.specs.Greatest.{IsGreatestAt};
 
-use crate::valued::Valued;
+use crate::Valued;
 use ratio128::{Primvar, quotient};
 use std::sync::ledger::Ledger;
 

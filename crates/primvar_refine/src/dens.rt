@@ -4,7 +4,7 @@ ghost use Rattle.std.specs.Prelude.{◌≡◌, IfOk};
 ghost use Rattle.primvar_refine.specs.Rows.{dens_of};
 ghost use Rattle.primvar_refine.specs.View.{rows_of};
 
-use crate::valued::Valued;
+use crate::Valued;
 use ratio128::{Memory, Primvar};
 use std::alloc::Global;
 use std::sync::ledger::Ledger;

@@ -7,8 +7,8 @@ ghost use Rattle.primvar_refine.specs.Rows.{row_at};
 ghost use Rattle.primvar_refine.specs.View.{rows_of};
 ghost use Rattle.primvar_refine.specs.Made.{CanMake, CanMakeFaces, AreFacesMade, AreHiddenMade, KeepDens, terms_of_face, terms_of_hidden};
 
+use crate::Valued;
 use crate::puts::put_face;
-use crate::valued::Valued;
 use level_topology::{Child, Level, Origin};
 use ratio128::{Primvar, Steps};
 use std::sync::ledger::Ledger;

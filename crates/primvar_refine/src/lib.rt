@@ -14,9 +14,8 @@ mod puts;
 mod refine;
 mod sums;
 mod survey;
-mod valued;
 mod values;
 
 pub use fault::ValueFault;
+pub use ratio128::Valued;
 pub use refine::refine_values;
-pub use valued::Valued;

@@ -11,10 +11,10 @@ ghost use Rattle.primvar_refine.specs.Made.{CanMake, IsPut, IsMade, KeepDens, Ar
 ghost use Rattle.primvar_refine.specs.Places.{all_origins};
 ghost use Rattle.primvar_refine.specs.Ready.{IsReady};
 
+use crate::Valued;
 use crate::places::Places;
 use crate::puts::{den_at, put_value};
 use crate::sums::sum_of_terms;
-use crate::valued::Valued;
 use child_masks::{PointMask, Survey};
 use level_topology::{Child, Level};
 use mask_rules::Scheme;

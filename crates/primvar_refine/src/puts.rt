@@ -6,8 +6,8 @@ ghost use Rattle.primvar_refine.specs.Rows.{row_at};
 ghost use Rattle.primvar_refine.specs.View.{rows_of};
 ghost use Rattle.primvar_refine.specs.Made.{IsPut, IsMade, CanMake};
 
+use crate::Valued;
 use crate::mask_values::face_value;
-use crate::valued::Valued;
 use level_topology::Level;
 use ratio128::{Primvar, Steps};
 use std::sync::ledger::Ledger;

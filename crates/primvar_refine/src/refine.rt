@@ -8,9 +8,9 @@ ghost use Rattle.child_masks.specs.Masks.{CanRefine, step_terms};
 ghost use Rattle.primvar_refine.specs.Step.{AreRefined, IsValueFault};
 
 use crate::bound::{BOUND, greatest_of, least_bound};
+use crate::Valued;
 use crate::fault::ValueFault;
 use crate::survey::survey_step;
-use crate::valued::Valued;
 use crate::values::make_values;
 use level_topology::{Child, Level};
 use mask_rules::Scheme;

@@ -10,7 +10,7 @@ ghost use Rattle.primvar_refine.specs.Rows.{least_bound};
 ghost use Rattle.primvar_refine.specs.View.{row_of, rows_of};
 ghost use Rattle.primvar_refine.specs.Sums.{source_row, HasRow, CanSum, term_sums};
 
-use crate::valued::Valued;
+use crate::Valued;
 use mask_rules::{At, Term};
 use ratio128::{Primvar, Steps, quotient};
 use std::sync::ledger::Ledger;

@@ -12,8 +12,8 @@ ghost use Rattle.primvar_refine.specs.View.{rows_of};
 ghost use Rattle.primvar_refine.specs.Step.{IsValueFault};
 
 use crate::dens::denominators;
+use crate::Valued;
 use crate::fault::ValueFault;
-use crate::valued::Valued;
 use child_masks::{Survey, SurveyFault, survey_over};
 use level_topology::{Child, Level};
 use mask_rules::Scheme;

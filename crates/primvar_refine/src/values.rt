@@ -13,10 +13,10 @@ ghost use Rattle.child_masks.specs.MaskOf.{AreKeptFor};
 ghost use Rattle.primvar_refine.specs.Made.{KeepDens};
 ghost use Rattle.primvar_refine.specs.Ready.{IsReady, AreAllMade, all_terms};
 
+use crate::Valued;
 use crate::face_puts::{put_faces, put_hidden};
 use crate::places::{Places, find_places};
 use crate::point_puts::put_points;
-use crate::valued::Valued;
 use child_masks::Survey;
 use level_topology::{Child, Level};
 use mask_rules::Scheme;

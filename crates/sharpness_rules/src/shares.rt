@@ -2,10 +2,10 @@ ghost use Rattle.std.specs.Prelude.{◌≡◌, ◌+◌, ◌-◌, ◌*◌, ◌^�
 ghost use Rattle.subdiv_model.specs.Sharpness.{sharpness_of_fraction};
 ghost use Rattle.sharpness_rules.specs.Totals.{parts_over};
 
-use crate::sharpness::GREATEST_DENOMINATOR;
 use crate::sums::parts_of;
 use crate::total::Total;
 use crate::{Semi, Sharpness};
+use ratio128::limits::SHARPNESS_BOUND;
 use ratio128::times_within;
 
 /// The sum of two or more semi-sharp edges at a vertex, and what their halves are made over: 4(c - 1)
@@ -30,7 +30,7 @@ impl Shares {
         ensures { MatchOption result (2 ^ 60 < 4 * (total.count - 1) * total.den) (λ shares. shares.total ≡ total) }
     {
         let others = (total.count - 1) as u128;
-        let den = times_within(4 * others, total.den, GREATEST_DENOMINATOR)?;
+        let den = times_within(4 * others, total.den, SHARPNESS_BOUND)?;
         Some(Shares {
             total,
             den: den as u64,

@@ -4,9 +4,6 @@ ghost use Rattle.subdiv_model.specs.Fractions.{gcd_of};
 
 use ratio128::gcd;
 
-/// No sharpness and no weight is made over a denominator above this one, which is 2^60.
-pub(crate) const GREATEST_DENOMINATOR: u128 = 1 << 60;
-
 /// How sharp an edge or a vertex is. Source: DeRose, Kass and Truong 1998; that it is infinite from 10
 /// on is this profile's.
 #[derive(Clone, Copy, Debug, PartialEq, Eq)]

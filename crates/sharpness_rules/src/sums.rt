@@ -6,10 +6,10 @@ ghost use Rattle.subdiv_model.specs.Sharpness.{semi_values};
 ghost use Rattle.sharpness_rules.specs.Totals.{IsTotal, Sums, parts_over};
 ghost use Rattle.sharpness_rules.specs.View.{sharpness_of};
 
-use crate::sharpness::GREATEST_DENOMINATOR;
 use crate::total::Total;
 use crate::{Semi, SharpOverflow, Sharpness};
 use ratio128::lcm_within;
+use ratio128::limits::SHARPNESS_BOUND;
 
 /// The value in parts of 1 over `den`, exact where its own denominator divides `den`.
 pub fn parts_of(value: Semi, den: u128) -> u128
@@ -33,7 +33,7 @@ fn common_denominator(a: u128, b: u128) -> Option<u128>
     if b == 1 || a == b {
         return Some(a);
     }
-    lcm_within(a, b, GREATEST_DENOMINATOR)
+    lcm_within(a, b, SHARPNESS_BOUND)
 }
 
 // The total with one value more where `s` is semi-sharp, and else the same. `SharpOverflow` comes

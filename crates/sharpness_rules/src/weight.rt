@@ -2,10 +2,10 @@ ghost use Rattle.std.specs.Prelude.{◌≡◌, ◌*◌, ◌^◌, ◌<◌, ◌≤
 ghost use Rattle.subdiv_model.specs.Rule.{at_most_one, transition_weight, transition_overflows};
 ghost use Rattle.sharpness_rules.specs.View.{sharpness_of};
 
-use crate::sharpness::GREATEST_DENOMINATOR;
 use crate::sums::total_of_ended;
 use crate::total::Total;
 use crate::{SharpOverflow, Sharpness};
+use ratio128::limits::SHARPNESS_BOUND;
 use ratio128::{gcd, times_within};
 
 /// A fraction in lowest terms, above 0 and at most 1: how much the mask of this level counts.
@@ -49,7 +49,7 @@ fn mean_of(total: Total) -> Result<Weight, SharpOverflow>
     ensures mean { IfOk result (λ w. (w.num, w.den) ≡ at_most_one (total.num, total.count * total.den)) }
     ensures range { IfOk result (λ w. (0 < w.num) × (w.num ≤ w.den) × (w.den ≤ 2 ^ 60)) }
 {
-    let Some(den) = times_within(total.count as u128, total.den, GREATEST_DENOMINATOR) else {
+    let Some(den) = times_within(total.count as u128, total.den, SHARPNESS_BOUND) else {
         return Err(SharpOverflow);
     };
     if total.num >= den {

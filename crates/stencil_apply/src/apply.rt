@@ -8,11 +8,9 @@ ghost use Rattle.stencil_apply.specs.Table.{row_at, entries_of, greatest_of, row
 ghost use Rattle.stencil_apply.specs.Means.{CanSum};
 
 use crate::table::StencilTable;
+use ratio128::limits::NUMBER_BOUND;
 use ratio128::{Primvar, Steps, times_within};
 use std::sync::ledger::Ledger;
-
-// The greatest denominator, and the greatest numerator over it.
-const NUMBER_BOUND: u128 = (1 << 126) - 1;
 
 /// Whether the greatest denominator times an amount is at most 2^126 - 1, as [`apply_range`] asks of each control.
 pub fn scale_fits(table: &StencilTable, greatest: u128) -> bool

@@ -20,13 +20,11 @@ use crate::numbering::number_all;
 use crate::origins::{put_origins, put_places};
 use child_slots::{SlotEdges, half_table, no_edges};
 use level_topology::{Child, FacePlace, Level, Origin};
+use ratio128::limits::FACE_LIMIT;
 use ratio128::{Memory, Steps};
 use sharpness_rules::Sharpness;
 use std::alloc::Global;
 use std::sync::ledger::Ledger;
-
-// The most faces of a next level.
-const MOST_FACES: u64 = 1 << 22;
 
 // The next uniform level with its tables.
 fn join(
@@ -166,7 +164,7 @@ pub fn refine<L: Ledger>(
     ensures later { steps.old ≤ steps.new }
 {
     let faces = next_faces(level);
-    if faces > MOST_FACES {
+    if faces > FACE_LIMIT {
         return Err(RefineFault::TooLarge(faces));
     }
     let mut halves = half_table(alloc, level)?;

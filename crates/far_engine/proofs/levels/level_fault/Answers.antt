@@ -2,16 +2,16 @@ use Rattle.std.proofs.Common.{arith}
 use Rattle.far_engine.proofs.LevelLemmas.{level-found, level-next, few-next, level-none}
 use Rattle.far_engine.proofs.levels.level_fault.Goals as goal
 
-pub returns-then-count-gt-MOST_FACES : goal.returns-then-count-gt-MOST_FACES
-returns-then-count-gt-MOST_FACES c = λ polygons is.
+pub returns-then-count-gt-FACE_LIMIT : goal.returns-then-count-gt-FACE_LIMIT
+returns-then-count-gt-FACE_LIMIT c = λ polygons is.
     level-found polygons c.loop-k.k c.args.depth c.loop-k.count c.loop-k-test.true (c.loop-k.invariant.counted polygons is) (c.loop-k.invariant.few polygons is)
-    c.if-count-gt-MOST_FACES.true
+    c.if-count-gt-FACE_LIMIT.true
 
 pub loop-k-preserved : goal.loop-k-preserved
 loop-k-preserved c = record {
-  short = omega (arith, c.if-count-gt-MOST_FACES.false);
+  short = omega (arith, c.if-count-gt-FACE_LIMIT.false);
   counted = λ polygons is. level-next polygons c.loop-k.k c.loop-k.count (c.loop-k.invariant.counted polygons is);
-  few = λ polygons is. few-next polygons c.loop-k.k c.loop-k.count (c.loop-k.invariant.counted polygons is) (omega (arith, c.if-count-gt-MOST_FACES.false)) (c.loop-k.invariant.few polygons is);
+  few = λ polygons is. few-next polygons c.loop-k.k c.loop-k.count (c.loop-k.invariant.counted polygons is) (omega (arith, c.if-count-gt-FACE_LIMIT.false)) (c.loop-k.invariant.few polygons is);
 }
 
 pub returns : goal.returns

@@ -1,7 +1,7 @@
 use Rattle.std.proofs.Common.{◌^◌, ◌≤◌, sym, subst}
 use Rattle.std.specs.List.{All}
-use Rattle.raw_mesh.specs.Short.{IsShortPoint, IsShortTexture}
-use Rattle.reading_laws.proofs.ShortNumberLemmas.{coordinates-short, texture-short}
+use Rattle.subdiv_model.specs.Short.{IsShortPoint, IsShortTexture}
+use Rattle.obj_laws.proofs.ShortNumberLemmas.{coordinates-short, texture-short}
 use Rattle.far_engine.proofs.reply.reply_to.Goals as goal
 
 pub reply_to_mesh-requires-clause-short : goal.reply_to_mesh-requires-clause-short

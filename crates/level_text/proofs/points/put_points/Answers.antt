@@ -2,7 +2,7 @@ use Rattle.std.proofs.Common.{ap, take_all, ◌∙◌, pos}
 use Rattle.std.specs.List.{flat_map}
 use Rattle.obj_out.proofs.PutsLemmas.{puts-next, puts-same, puts-stop}
 use Rattle.ratio128.specs.declared.point.Point3.{Point3}
-use Rattle.primvar_refine.specs.declared.valued.Valued.{Valued}
+use Rattle.ratio128.specs.declared.valued.Valued.{Valued}
 use Rattle.level_text.specs.Lines.{valued_line}
 use Rattle.level_text.proofs.points.put_points.Goals as goal
 

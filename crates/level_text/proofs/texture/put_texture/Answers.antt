@@ -1,7 +1,7 @@
 use Rattle.std.proofs.Common.{◌∙◌, pos}
 use Rattle.obj_out.proofs.PutsLemmas.{puts-next, puts-stop}
 use Rattle.ratio128.specs.declared.point.Point2.{Point2}
-use Rattle.primvar_refine.specs.declared.valued.Valued.{Valued}
+use Rattle.ratio128.specs.declared.valued.Valued.{Valued}
 use Rattle.level_text.specs.Lines.{valued_texture_line}
 use Rattle.level_text.proofs.texture.put_texture.Goals as goal
 

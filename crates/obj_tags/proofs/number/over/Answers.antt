@@ -7,13 +7,13 @@ pub returns-in-Some : goal.returns-in-Some
 returns-in-Some c =
     let size : unsigned_abs (over_common c.args.common c.args.number) ≡ unsigned_abs c.args.number.num * (c.args.common / c.args.number.den) = unsigned_abs-mul c.args.number.num (pos (c.args.common / c.args.number.den)) in
     let amount : c.in-Some.amount ≡ unsigned_abs c.args.number.num * (c.args.common / c.args.number.den) = search rules in
-    (search rules, omega (arith, size, amount, c.if-amount-lt-BOUND.true))
+    (search rules, omega (arith, size, amount, c.if-amount-lt-NUMERAL_BOUND.true))
 
 pub returns-in_default : goal.returns-in_default
 returns-in_default c =
     let size : unsigned_abs (over_common c.args.common c.args.number) ≡ unsigned_abs c.args.number.num * (c.args.common / c.args.number.den) = unsigned_abs-mul c.args.number.num (pos (c.args.common / c.args.number.den)) in
     let amount : c.in-Some.amount ≡ unsigned_abs c.args.number.num * (c.args.common / c.args.number.den) = search rules in
-    omega (arith, size, amount, c.if-amount-lt-BOUND.false)
+    omega (arith, size, amount, c.if-amount-lt-NUMERAL_BOUND.false)
 
 pub returns-in_default-2 : goal.returns-in_default-2
 returns-in_default-2 c =

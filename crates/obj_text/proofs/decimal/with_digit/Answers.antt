@@ -12,6 +12,6 @@ pub returns-in_err-amount : goal.returns-in_err-amount
 returns-in_err-amount c =
     rw c.from_residual.ensures (long-digit (c.args.number.amount * 10 ^ c.args.number.zeros) c.args.digit (omega (arith, c.in_err-amount.ensures)) c.if-digit-eq0.false c.requires.digit)
 
-pub returns-else-amount-lt-BOUND : goal.returns-else-amount-lt-BOUND
-returns-else-amount-lt-BOUND c =
+pub returns-else-amount-lt-NUMERAL_BOUND : goal.returns-else-amount-lt-NUMERAL_BOUND
+returns-else-amount-lt-NUMERAL_BOUND c =
     long-digit (c.args.number.amount * 10 ^ c.args.number.zeros) c.args.digit (omega (arith, c.in_ok-amount.ensures, c.from.ensures)) c.if-digit-eq0.false c.requires.digit

@@ -3,7 +3,7 @@ use Rattle.std.proofs.lemmas.List.{length-map}
 use Rattle.mask_rules.specs.View.{source_of}
 use Rattle.mask_rules.specs.declared.mask.At.{At}
 use Rattle.mask_rules.specs.declared.mask.At.TheVariants.{Point, FacePoint}
-use Rattle.primvar_refine.specs.declared.valued.Valued.{Valued}
+use Rattle.ratio128.specs.declared.valued.Valued.{Valued}
 use Rattle.primvar_refine.specs.View.{row_of, rows_of}
 use Rattle.primvar_refine.specs.Sums.{HasRow, source_row}
 use Rattle.primvar_refine.proofs.PutLemmas.{row-there}

@@ -1,5 +1,3 @@
-//! Values over a denominator.
-
 /// Whole numerators over a denominator that is at least 1.
 #[derive(Clone, Copy, Debug, PartialEq, Eq)]
 pub struct Valued<P> {
