@@ -3,7 +3,7 @@ use Rattle.std.proofs.Common.{refl}
 use Rattle.subdiv_model.specs.Mask.{Scheme, CatmullClark}
 use Rattle.level_topology.specs.Topology.{Topology}
 use Rattle.level_topology.specs.Child.{ChildTopology}
-use Rattle.primvar_refine.specs.Step.{CanRefine}
+use Rattle.child_masks.specs.Masks.{CanRefine}
 
 -- what is asked under Catmull and Clark's scheme is enough for each
 pub for-scheme : (parent : Topology) (child : ChildTopology) (scheme : Scheme) → CanRefine parent child CatmullClark → CanRefine parent child scheme
