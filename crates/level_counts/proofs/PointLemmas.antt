@@ -1,10 +1,9 @@
 -- The points at the boundary, by the edges that are listed at each point.
 use Rattle.std.proofs.Common.{◌≡◌, ℕ, suc, ◌+◌, ◌<◌, Bool, true, false, ◌&&◌, ◌||◌, List, [], ◌∷◌, length, get_or, arith, refl, ap, sym, ◌∙◌}
 use Rattle.std.specs.List.{list_any}
-use Rattle.std.proofs.lemmas.List.{length-map}
 use Rattle.std.proofs.lemmas.List.Sorted.{list_any-IsPermutation, length_permutation}
 use Rattle.subdiv_model.specs.Lists.{places_from}
-use Rattle.subdiv_model.specs.Edges.{edges_of, edge_number, faces_of_point, edges_of_point, is_boundary, has_end}
+use Rattle.subdiv_model.specs.Edges.{edges_of, faces_of_point, is_boundary, has_end}
 use Rattle.subdiv_model.specs.Base.{is_at_boundary}
 use Rattle.level_topology.specs.Topology.{Topology, IsTopology, edge_at}
 use Rattle.level_topology.proofs.LawLemmas.{numbers-at}
@@ -45,7 +44,3 @@ boundary-listed t v is inside =
 -- as many faces are listed at a point as there are
 pub faces-listed : (t : Topology) (v : ℕ) → IsTopology t → v < t.level.point_count → length (get_or t.faces_at v []) ≡ length (faces_of_point t.level.polygons v)
 faces-listed t v is inside = length_permutation _ _ (is.listed v inside).faces
-
--- and as many edges
-pub edges-listed : (t : Topology) (v : ℕ) → IsTopology t → v < t.level.point_count → length (get_or t.edges_at v []) ≡ length (edges_of_point t.level.polygons v)
-edges-listed t v is inside = length_permutation _ _ (is.listed v inside).edges ∙ length-map (edges_of_point t.level.polygons v) (edge_number t.level.polygons)

@@ -1,11 +1,10 @@
 //! Counts of points.
 
 ghost use Rattle.std.specs.Prelude.{◌≡◌, ◌<◌, nat_lt, length};
-ghost use Rattle.subdiv_model.specs.Level.{faces_at, edges_at};
+ghost use Rattle.subdiv_model.specs.Level.{faces_at};
 ghost use Rattle.subdiv_model.specs.Base.{is_at_boundary};
 ghost use Rattle.subdiv_model.specs.LevelText.{used_points, is_extraordinary, extraordinary_vertices};
 
-use crate::edges::is_boundary;
 use level_topology::Level;
 
 // Whether a point has a face.
@@ -17,15 +16,6 @@ fn is_used(level: &Level, v: u32) -> bool
     !level.vertex_faces(v).is_empty()
 }
 
-// How many edges end at a point.
-fn valence(level: &Level, v: u32) -> usize
-    requires { v < level.now.level.point_count }
-    ensures { result ≡ length (edges_at level.now.level v) }
-{
-    level.facts();
-    level.vertex_edges(v).len()
-}
-
 // Whether a point is an end of an edge of one face.
 fn is_at_boundary(level: &Level, v: u32) -> bool
     requires { v < level.now.level.point_count }
@@ -33,7 +23,7 @@ fn is_at_boundary(level: &Level, v: u32) -> bool
 {
     level.facts();
     for e in level.vertex_edges(v) {
-        if is_boundary(level, *e) {
+        if level.is_boundary(*e) {
             return true;
         }
     }
@@ -45,7 +35,7 @@ fn is_extraordinary(level: &Level, v: u32) -> bool
     requires { v < level.now.level.point_count }
     ensures { result ≡ is_extraordinary level.now.level v }
 {
-    !is_at_boundary(level, v) && is_used(level, v) && valence(level, v) != 4
+    !is_at_boundary(level, v) && is_used(level, v) && level.valence(v) != 4
 }
 
 // How many points have a face.
