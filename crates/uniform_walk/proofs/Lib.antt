@@ -1,0 +1,4 @@
+pub mod OriginLemmas
+pub mod MaskLemmas
+pub mod WholeLemmas
+pub mod LevelLemmas

@@ -1,0 +1,26 @@
+-- The levels to a depth, one made from another.
+use Rattle.std.specs.Prelude.{ℕ, ◌≡◌, ◌^◌, ◌<◌, ◌≤◌, true, false, length}
+use Rattle.std.specs.List.{sum_by, range_with_len}
+use Rattle.subdiv_model.specs.Level.{Level}
+use Rattle.subdiv_model.specs.Child.{refined_level}
+use Rattle.subdiv_model.specs.Channel.{chaikin_overflows_at}
+
+-- the next level has few enough faces, and at no point do halves overflow
+pub record CanBeRefined (level : Level) : Type 0 where
+  pub few : sum_by length level.polygons ≤ 2 ^ 22
+  pub fine : (v : ℕ) → v < level.point_count → chaikin_overflows_at level v ≡ false
+
+-- so many levels after this one can be made
+abbrev pub AreMade : Level → ℕ → Type 0
+AreMade level count = (k : ℕ) → k < count → CanBeRefined (refined_level level k)
+
+-- the next level has few enough faces, and at some point halves overflow
+pub record Overflows (level : Level) : Type 0 where
+  pub few : sum_by length level.polygons ≤ 2 ^ 22
+  pub v : ℕ
+  pub exists : v < level.point_count
+  pub overflows : chaikin_overflows_at level v ≡ true
+
+-- how many faces the levels from 1 to a depth have
+abbrev pub faces_to : Level → ℕ → ℕ
+faces_to level depth = sum_by (λ k. length (refined_level level k).polygons) (range_with_len 1 depth)
