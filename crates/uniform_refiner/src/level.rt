@@ -5,7 +5,8 @@ ghost use Rattle.std.specs.List.{sum_by};
 ghost use Rattle.sharpness_rules.specs.View.{sharpness_of};
 ghost use Rattle.subdiv_model.specs.Child.{child_level, child_points};
 ghost use Rattle.level_topology.specs.Rows.{no_rows};
-ghost use Rattle.uniform_refiner.specs.Put.{AreChildEdges, HasAllHalves};
+ghost use Rattle.uniform_refiner.specs.Put.{AreChildEdges};
+ghost use Rattle.uniform_refiner.specs.Numbered.{IsNumbered, IsRefinable};
 ghost use Rattle.uniform_refiner.specs.Points.{counts_for};
 
 use crate::edges::put_edges;
@@ -27,8 +28,7 @@ pub(crate) fn room_for(
 ) -> Result<LevelRows, Memory>
     requires edges { AreChildEdges level.now.level edges.now }
     requires faces { faces ≡ sum_by length level.now.level.polygons }
-    requires few { faces ≤ 2 ^ 22 }
-    requires short { level.now.level.point_count ≤ 2 ^ 29 }
+    requires refinable { IsRefinable level.now }
     ensures { IfOk result (λ rows. rows ≡ no_rows (counts_for level.now.level (length edges.now.ends)) level.now.level.method) }
 {
     level.facts();
@@ -56,11 +56,7 @@ pub(crate) fn put_level<L: Ledger>(
     room: LevelRows,
     steps: &mut Steps<L>,
 ) -> Result<Level, Memory>
-    requires whole { (v : ℕ) → v < level.now.level.point_count → get_or level.now.complete v false ≡ true }
-    requires few { sum_by length level.now.level.polygons ≤ 2 ^ 22 }
-    requires short { level.now.level.point_count ≤ 2 ^ 29 }
-    requires edges { AreChildEdges level.now.level edges.now }
-    requires halves { HasAllHalves level.now.level (map sharpness_of halves.now) }
+    requires numbered { IsNumbered level.now edges.now (map sharpness_of halves.now) }
     requires room { room ≡ no_rows (counts_for level.now.level (length edges.now.ends)) level.now.level.method }
     ensures level { IfOk result (λ next. next.level ≡ child_level level.now.level) }
     ensures complete { IfOk result (λ next. next.complete ≡ replicate (child_points level.now.level.point_count level.now.level.polygons) true) }

@@ -8,7 +8,8 @@ ghost use Rattle.subdiv_model.specs.Child.{child_level, child_points};
 ghost use Rattle.level_topology.specs.ChildTables.{origin_of, place_of};
 ghost use Rattle.child_slots.specs.Slots.{slot_count};
 ghost use Rattle.child_slots.specs.Slotted.{no_slots};
-ghost use Rattle.uniform_refiner.specs.Put.{AreChildEdges, HasAllHalves};
+ghost use Rattle.uniform_refiner.specs.Put.{HasAllHalves};
+ghost use Rattle.uniform_refiner.specs.Numbered.{IsNumbered, IsRefinable};
 ghost use Rattle.uniform_refiner.specs.Uniform.{IsUniform, all_places, origins_in};
 ghost use Rattle.uniform_refiner.specs.Refined.{IsRefined, IsRefusal};
 
@@ -56,12 +57,8 @@ fn refine_placed<L: Ledger>(
     places: &[FacePlace],
     steps: &mut Steps<L>,
 ) -> Result<Child, Memory>
-    requires whole { (v : ℕ) → v < level.now.level.point_count → get_or level.now.complete v false ≡ true }
+    requires numbered { IsNumbered level.now edges.now (map sharpness_of halves.now) }
     requires faces { faces ≡ sum_by length level.now.level.polygons }
-    requires few { faces ≤ 2 ^ 22 }
-    requires short { level.now.level.point_count ≤ 2 ^ 29 }
-    requires edges { AreChildEdges level.now.level edges.now }
-    requires halves { HasAllHalves level.now.level (map sharpness_of halves.now) }
     requires origins { map origin_of origins.now ≡ origins_in level.now }
     requires places { map place_of places.now ≡ all_places 0 level.now.level.polygons }
     ensures child { IfOk result (λ child. IsUniform level.now child) }
@@ -84,12 +81,8 @@ fn refine_numbered<L: Ledger>(
     places: &[FacePlace],
     steps: &mut Steps<L>,
 ) -> Result<Child, Memory>
-    requires whole { (v : ℕ) → v < level.now.level.point_count → get_or level.now.complete v false ≡ true }
+    requires numbered { IsNumbered level.now edges.now (map sharpness_of halves.now) }
     requires faces { faces ≡ sum_by length level.now.level.polygons }
-    requires few { faces ≤ 2 ^ 22 }
-    requires short { level.now.level.point_count ≤ 2 ^ 29 }
-    requires edges { AreChildEdges level.now.level edges.now }
-    requires halves { HasAllHalves level.now.level (map sharpness_of halves.now) }
     requires places { map place_of places.now ≡ all_places 0 level.now.level.polygons }
     ensures child { IfOk result (λ child. IsUniform level.now child) }
     ensures steps { steps.new ≤ steps.old + sum_by length level.now.level.polygons }
@@ -110,10 +103,8 @@ fn refine_with<L: Ledger>(
     places: &[FacePlace],
     steps: &mut Steps<L>,
 ) -> Result<Child, Memory>
-    requires whole { (v : ℕ) → v < level.now.level.point_count → get_or level.now.complete v false ≡ true }
+    requires refinable { IsRefinable level.now }
     requires faces { faces ≡ sum_by length level.now.level.polygons }
-    requires few { faces ≤ 2 ^ 22 }
-    requires short { level.now.level.point_count ≤ 2 ^ 29 }
     requires none { edges.old ≡ no_slots (slot_count level.now.level.polygons) }
     requires halves { HasAllHalves level.now.level (map sharpness_of halves.now) }
     requires places { map place_of places.now ≡ all_places 0 level.now.level.polygons }
@@ -134,10 +125,8 @@ fn refine_small<L: Ledger>(
     halves: &mut [Sharpness],
     steps: &mut Steps<L>,
 ) -> Result<Child, RefineFault>
-    requires whole { (v : ℕ) → v < level.now.level.point_count → get_or level.now.complete v false ≡ true }
+    requires refinable { IsRefinable level.now }
     requires faces { faces ≡ sum_by length level.now.level.polygons }
-    requires few { faces ≤ 2 ^ 22 }
-    requires short { level.now.level.point_count ≤ 2 ^ 29 }
     requires size { length halves.old ≡ 2 * length (edges_of level.now.level.polygons) }
     ensures refined { MatchResult result (IsRefined level.now) (IsRefusal level.now) }
     ensures steps { steps.new ≤ steps.old + sum_by length level.now.level.polygons }
