@@ -7,7 +7,7 @@ use Rattle.subdiv_model.specs.Edges.{edges_of, edge_number}
 use Rattle.subdiv_model.specs.Child.{child_polygons}
 use Rattle.level_laws.proofs.FaceLemmas.{child_polygons-length}
 use Rattle.level_topology.specs.Topology.{Topology, IsTopology, face_edges_of}
-use Rattle.level_topology.specs.BuilderEdges.{IsNumbering}
+use Rattle.level_topology.specs.Numbering.{IsNumbering}
 use Rattle.child_slots.specs.Slots.{first_child, slots_at}
 use Rattle.child_slots.specs.Parts.{IsPart, part, place_number, whole_quad, part_polygons}
 use Rattle.child_slots.specs.Slotted.{Slotted, number_at}

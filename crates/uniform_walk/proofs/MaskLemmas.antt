@@ -14,7 +14,7 @@ use Rattle.level_topology.proofs.LawLemmas.{own-number, edge-few}
 use Rattle.mask_rules.specs.Masks.{is_at_least_one}
 use Rattle.uniform_refiner.specs.Uniform.{origins_in}
 use Rattle.uniform_refiner.specs.Refined.{IsRefined}
-use Rattle.primvar_refine.specs.Step.{masks_from, has_origin, step_terms, CanRefine}
+use Rattle.child_masks.specs.Masks.{masks_from, has_origin, step_terms, CanRefine}
 use Rattle.uniform_walk.proofs.OriginLemmas.{masks-of-all, terms-of-all, vertex-within, edge-within}
 
 -- an edge of one face is infinitely sharp, by its number

@@ -14,7 +14,7 @@ use Rattle.level_topology.specs.Topology.{edge_at}
 use Rattle.level_topology.specs.Child.{PointOrigin, FromVertex, FromFace, FromEdge, same_origin}
 use Rattle.level_topology.specs.ChildTables.{numbered_origin}
 use Rattle.uniform_refiner.specs.Uniform.{all_origins}
-use Rattle.primvar_refine.specs.Step.{mask_from, masks_from, has_origin, hidden_faces, step_terms}
+use Rattle.child_masks.specs.Masks.{mask_from, masks_from, has_origin, hidden_faces, step_terms}
 
 -- an origin by its number
 origin-vertex : (points faces n : ℕ) → n < points → numbered_origin points faces n ≡ FromVertex n
