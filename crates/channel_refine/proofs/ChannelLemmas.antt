@@ -1,31 +1,32 @@
 -- The levels of a channel from 0 on, each made from the one before it.
-use Rattle.std.proofs.Common.{◌≡◌, ℕ, zero, suc, ◌+◌, ◌-◌, ◌*◌, ◌<◌, ◌≤◌, Bool, true, false, nat_lt, max, pos, ◌*ℤ◌, List, [], ◌∷◌, length, map, get_or, arith, refl, ap, sym, ◌∙◌, subst, IsTrue}
-use Rattle.std.specs.List.{All, AllByRecursion, list_any, sum_by, range_with_len}
-use Rattle.std.proofs.Math.Nat.{mul-le-mul_left, mul-le-mul_right}
+use Rattle.std.proofs.Common.{◌≡◌, ℕ, zero, suc, ◌+◌, ◌-◌, ◌*◌, ◌<◌, ◌≤◌, Bool, true, false, nat_lt, max, pos, ◌*ℤ◌, List, [], ◌∷◌, length, map, get_or, arith, refl, ap, sym, ◌∙◌, subst}
+use Rattle.std.specs.List.{All, AllByRecursion, sum_by, range_with_len}
+use Rattle.std.proofs.Math.Nat.{mul-le-mul_left}
 use Rattle.std.proofs.lemmas.Bool.Decides.{nat_tests}
 use Rattle.std.proofs.lemmas.List.{length-map}
 use Rattle.std.proofs.lemmas.List.Sums.{sum_by-append, sum_by-cons}
-use Rattle.std.proofs.lemmas.List.Elements.{All-from_recursion, recursion_from_All}
+use Rattle.std.proofs.lemmas.List.Elements.{recursion_from_All}
 use Rattle.subdiv_model.specs.Level.{Level}
 use Rattle.subdiv_model.specs.Child.{refined_level}
 use Rattle.subdiv_model.specs.Mask.{Scheme, child_masks, mask_terms}
 use Rattle.subdiv_model.specs.Value.{IsSameValue}
-use Rattle.subdiv_model.specs.Refined.{point_value, child_values, refined_values, control_values}
-use Rattle.subdiv_model.specs.Channel.{Channel, Values, number_bound, chaikin_overflows_at, denominators_after}
+use Rattle.subdiv_model.specs.Refined.{mask_value, source_value, point_value, child_values, refined_values, control_values}
+use Rattle.subdiv_model.specs.Channel.{Channel, Values, number_bound, denominators_after}
 use Rattle.ratio128.specs.Numbers.{greatest_amount}
-use Rattle.mask_laws.specs.SharpBoundary.{has_sharp_boundary}
-use Rattle.mask_laws.proofs.BoundaryLemmas.{sharp-levels}
 use Rattle.level_topology.specs.Topology.{Topology, IsTopology}
-use Rattle.level_counts.specs.Series.{IsNext, faces_to}
-use Rattle.level_counts.proofs.SeriesLemmas as series
+use Rattle.level_topology.specs.Child.{ChildTopology}
+use Rattle.uniform_refiner.specs.Refined.{IsRefined}
+use Rattle.uniform_walk.proofs.LevelLemmas as series
 use Rattle.primvar_refine.specs.Rows.{Row, row_at, dens_of, value_at, StandFor, AreWithin, greatest_of}
-use Rattle.channel_refine.specs.declared.fault.ChannelFault.{ChannelFault}
-use Rattle.channel_refine.specs.Refined.{IsBase, AreControls, IsRefinedTo, IsChannelFault, channel_of, column_of, terms_to}
-use Rattle.channel_refine.specs.Step.{IsReady, IsStep, IsStepFault}
-use Rattle.channel_refine.proofs.FaultLemmas.{HasNoFault, no-faults, any-from-0}
+use Rattle.channel_refine.specs.Refined.{IsBase, AreControls, IsRefinedTo, channel_of, column_of, terms_to}
+use Rattle.channel_refine.specs.Step.{AreValues, AreCarried}
+use Rattle.channel_refine.proofs.FaultLemmas.{HasNoFault, no-faults}
 use Rattle.channel_refine.proofs.FirstLemmas as first
-use Rattle.channel_refine.proofs.OriginLemmas.{count-masks, range-append}
-use Rattle.channel_refine.proofs.DenominatorLemmas.{IsSound, sharp-base, all-positive, each-below}
+use Rattle.uniform_walk.proofs.OriginLemmas.{count-masks, range-append}
+use Rattle.uniform_walk.proofs.MaskLemmas.{masks-are}
+use Rattle.channel_refine.proofs.DenominatorLemmas.{IsSound, all-positive, each-below}
+use Rattle.channel_refine.proofs.UniformLemmas.{AreNextNumbers, next-numbers}
+use Rattle.channel_refine.proofs.ValueLemmas.{from-dens, kept, alike-own, times}
 
 -- the level after k steps with its values, where no number of the levels so far passes its bound
 pub record IsReached (channel : Channel) (controls : List Row) (k : ℕ) (t : Topology) (rows : List Row) : Type 0 where
@@ -53,14 +54,6 @@ none-more P k before here j h = go (nat_lt j k) refl
     go true e = before j (grind (arith, nat_tests))
     go false e = let same : k ≡ j = grind (arith, nat_tests) in subst P same here
 
--- what holds of all denominators
-pub from-dens : (P : ℕ → Type 0) (rows : List Row) → AllByRecursion P (dens_of rows) → All (λ row. P row.den) rows
-from-dens P rows all = All-from_recursion (λ row. P row.den) rows (go rows all)
-  where
-    go : (some : List Row) → AllByRecursion P (dens_of some) → AllByRecursion (λ row. P row.den) some
-    go [] h = tt
-    go (row ∷ some) h = (h.0, go some h.1)
-
 -- Level 0.
 
 ones : (rows : List Row) (a n : ℕ) → length rows ≡ n → AllByRecursion (λ row. row.den ≡ 1) rows → dens_of rows ≡ map (λ v. 1) (range_with_len a n)
@@ -81,7 +74,7 @@ reached-none base scheme greatest common controls is level each are short =
     let whole = recursion_from_All (λ row. row.den ≡ 1) controls are.whole in
     record {
       base = record { formed = is.formed; manifold = level.manifold; boundary = level.boundary };
-      level = series.reached-none base is.small.faces level.points level.complete;
+      level = series.reached-none base;
       none = λ j h. absurd (omega (arith, h));
       dens = ones controls 0 base.level.point_count each whole;
       values = λ column. record {
@@ -100,23 +93,6 @@ reached-none base scheme greatest common controls is level each are short =
     room : (den most : ℕ) → den ≡ 1 → most ≤ number_bound → den * most ≤ number_bound
     room den most one h = subst (λ n. n * most ≤ number_bound) (sym one) (omega (arith, h))
 
--- where a test holds at no point
-pub unless-some : (test : ℕ → Bool) (n v : ℕ) → v < n → list_any test (range_with_len 0 n) ≡ false → test v ≡ false
-unless-some test n v h none = go (test v) refl
-  where
-    go : (b : Bool) → test v ≡ b → test v ≡ false
-    go true e = let both : false ≡ true = sym none ∙ any-from-0 test n v h e in absurd (cc)
-    go false e = e
-
--- A level from which the next one is made.
-
-kept : (amount den greatest most bound : ℕ) → amount ≤ den * greatest → greatest ≤ most → den * most ≤ bound → amount ≤ bound
-kept amount den greatest most bound h below room = omega (arith, h, room, mul-le-mul_left den below)
-
--- all are as long as the first
-alike-own : (rows : List Row) (n : ℕ) → All (λ row. length row.numbers ≡ n) rows → All (λ row. length row.numbers ≡ length (row_at rows 0).numbers) rows
-alike-own rows n all k d h = all k d h ∙ sym (all 0 (record { numbers = []; den = 1 }) (omega (arith, h)))
-
 first-alike : (controls rows : List Row) → length controls ≤ length rows → All (λ row. length row.numbers ≡ length (row_at controls 0).numbers) rows
     → length (row_at rows 0).numbers ≡ length (row_at controls 0).numbers
 first-alike [] [] h all = refl
@@ -124,11 +100,9 @@ first-alike (c ∷ controls) [] h all = absurd (omega (arith, h))
 first-alike controls (row ∷ rows) h all = all 0 row (omega arith)
 
 module _ (channel : Channel) (controls : List Row) (k : ℕ) (t : Topology) (rows : List Row) (is : IsReached channel controls k t rows) where
-  pub reached-ready : k ≤ 10 → IsReady (max channel.greatest channel.common) t rows
-  reached-ready few = record {
-    complete = is.level.complete;
-    points = series.reached-short channel.base k t is.level few;
-    boundary = subst (λ level. IsTrue (has_sharp_boundary level)) (sym is.level.level) (sharp-levels channel.base k (sharp-base channel.base is.base)).sharp;
+  -- these values can be carried on
+  pub reached-values : AreValues (max channel.greatest channel.common) t rows
+  reached-values = record {
     each = is.each;
     good = record {
       positive = is.positive;
@@ -157,59 +131,48 @@ module _ (channel : Channel) (controls : List Row) (k : ℕ) (t : Topology) (row
   }
 
   -- one level more
-  module _ (next : Topology) (next_rows : List Row) (step : IsStep (max channel.greatest channel.common) channel.scheme t rows next next_rows) where
-    next-level : IsNext t next
-    next-level = record {
-      level = step.level;
-      complete = step.complete;
-      refined = record { few = step.few; fine = λ v h. unless-some (chaikin_overflows_at t.level) t.level.point_count v h step.chaikin };
-    }
+  module _ (next : Topology) (next_rows : List Row) (child : ChildTopology) (refined : IsRefined t child) (same : next ≡ child.topology)
+      (step : AreCarried (max channel.greatest channel.common) t.level channel.scheme child.origins rows next_rows) where
+    numbers : AreNextNumbers (max channel.greatest channel.common) t.level channel.scheme (dens_of rows) (dens_of next_rows)
+    numbers = next-numbers t child refined (max channel.greatest channel.common) channel.scheme (dens_of rows) (dens_of next_rows) step.refined.fine step.refined.dens step.refined.short step.fits
 
     next-dens : dens_of next_rows ≡ denominators_after channel (suc k)
-    next-dens = step.values.dens ∙ sym (first.dens-after Values tt channel k is.none t.level is.level.level (dens_of rows) is.dens)
+    next-dens = numbers.dens_are ∙ sym (first.dens-after Values tt channel k is.none t.level is.level.level (dens_of rows) is.dens)
 
-    none-here : HasNoFault Values channel k
-    none-here =
-        first.none-here Values tt channel k is.none t.level is.level.level (dens_of rows) is.dens step.chaikin step.values.transition
-        (subst (All (λ den. den ≤ number_bound)) step.values.dens step.values.short) refl
-        (subst (λ dens. greatest_of dens * max channel.greatest channel.common ≤ number_bound) step.values.dens step.values.fits)
+    next-values : (column : ℕ) → StandFor next_rows column (child_values t.level channel.scheme (refined_values channel.base channel.scheme (control_values (column_of column controls)) k))
+    next-values column =
+        let before = refined_values channel.base channel.scheme (control_values (column_of column controls)) k in
+        subst (λ masks. StandFor next_rows column (map (mask_value (source_value t.level before)) masks)) (masks-are t child refined channel.scheme)
+        (step.refined.values column before (is.values column))
 
     next-each : length next_rows ≡ next.level.point_count
     next-each =
-        sym (length-map next_rows (λ row. row.den)) ∙ ap length step.values.dens ∙ length-map (child_masks t.level channel.scheme) _ ∙ count-masks t.level channel.scheme
-        ∙ ap (λ (level : Level). level.point_count) (sym step.level)
+        sym (length-map next_rows (λ row. row.den)) ∙ ap length numbers.dens_are ∙ length-map (child_masks t.level channel.scheme) _ ∙ count-masks t.level channel.scheme
+        ∙ ap (λ (level : Level). level.point_count) (sym refined.uniform.level) ∙ ap (λ (t : Topology). t.level.point_count) (sym same)
 
     pub reached-next : IsReached channel controls (k + 1) next next_rows
     reached-next = record {
       base = is.base;
-      level = series.reached-next channel.base k t next is.level next-level;
-      none = none-more (HasNoFault Values channel) k is.none none-here;
+      level = series.reached-next channel.base k t next child is.level refined same;
+      none = none-more (HasNoFault Values channel) k is.none (first.none-here Values tt channel k is.none t.level is.level.level (dens_of rows) is.dens (dens_of next_rows) numbers refl);
       dens = next-dens ∙ ap (denominators_after channel) (sym (plus-one k));
       values = λ column.
           subst (λ n. StandFor next_rows column (refined_values channel.base channel.scheme (control_values (column_of column controls)) n)) (sym (plus-one k))
           (subst (λ level. StandFor next_rows column (child_values level channel.scheme (refined_values channel.base channel.scheme (control_values (column_of column controls)) k))) is.level.level
-          (step.values.values column _ (is.values column)));
-      within = step.values.within channel.greatest is.within;
+          (next-values column));
+      within = step.refined.within channel.greatest is.within;
       each = next-each;
-      grown = omega (arith, is.grown, is.each, next-each, ap (λ (level : Level). level.point_count) step.level);
-      alike = λ j d h. step.values.alike j d h ∙ first-alike controls rows is.grown is.alike;
+      grown = omega (arith, is.grown, is.each, next-each, ap (λ (level : Level). level.point_count) refined.uniform.level, ap (λ (t : Topology). t.level.point_count) same);
+      alike = λ j d h. step.refined.alike j d h ∙ first-alike controls rows is.grown is.alike;
       positive = from-dens (λ n. 0 < n) next_rows (subst (AllByRecursion (λ n. 0 < n)) (sym next-dens) (all-positive channel.base channel.scheme (suc k) is.base));
-      short = from-dens (λ n. n ≤ number_bound) next_rows (recursion_from_All (λ n. n ≤ number_bound) (dens_of next_rows) step.values.short);
+      short = from-dens (λ n. n ≤ number_bound) next_rows (recursion_from_All (λ n. n ≤ number_bound) (dens_of next_rows) step.refined.short);
       room = λ j d h. times (get_or next_rows j d).den (greatest_of (dens_of next_rows)) (max channel.greatest channel.common)
-          (from-dens (λ n. n ≤ greatest_of (dens_of next_rows)) next_rows (each-below (dens_of next_rows) 1) j d h) step.values.fits;
+          (from-dens (λ n. n ≤ greatest_of (dens_of next_rows)) next_rows (each-below (dens_of next_rows) 1) j d h) step.fits;
     }
-      where
-        times : (den great most : ℕ) → den ≤ great → great * most ≤ number_bound → den * most ≤ number_bound
-        times den great most h fits = omega (arith, fits, mul-le-mul_right most h)
-
-  -- the first number that passes its bound is one of the next level
-  pub fault-first : (depth number : ℕ) → k < depth → number ≡ k + 1 → (fault : ChannelFault) → IsStepFault (max channel.greatest channel.common) t.level channel.scheme (dens_of rows) number fault
-      → IsChannelFault Values channel depth fault
-  fault-first depth number within same fault s = first.first-of-step Values tt channel k is.none t.level is.level.level (dens_of rows) is.dens depth number within same fault (λ v. refl) s
 
 -- The terms of one level more, and those of more levels are no fewer.
 
-terms-next : (base : Level) (scheme : Scheme) (k : ℕ) → terms_to base scheme (k + 1) ≡ terms_to base scheme k + mask_terms (refined_level base k) scheme
+pub terms-next : (base : Level) (scheme : Scheme) (k : ℕ) → terms_to base scheme (k + 1) ≡ terms_to base scheme k + mask_terms (refined_level base k) scheme
 terms-next base scheme k =
     let terms : ℕ → ℕ = λ n. mask_terms (refined_level base n) scheme in
     let first : 0 + k ≡ k = omega arith in
@@ -222,32 +185,3 @@ terms-within base scheme k depth h =
     let terms : ℕ → ℕ = λ n. mask_terms (refined_level base n) scheme in
     let whole : k + (depth - k) ≡ depth = omega (arith, h) in
     omega (arith, ap (terms_to base scheme) whole, ap (sum_by terms) (range-append 0 k (depth - k)), sum_by-append terms (range_with_len 0 k) (range_with_len (0 + k) (depth - k)))
-
--- The steps so far, and with one level more.
-
-module _ (channel : Channel) (controls : List Row) (k : ℕ) (t : Topology) (rows : List Row) (is : IsReached channel controls k t rows) where
-  terms-here : mask_terms t.level channel.scheme ≡ mask_terms (refined_level channel.base k) channel.scheme
-  terms-here = ap (λ level. mask_terms level channel.scheme) is.level.level
-
-  pub taken-next : (start old new : ℕ) → start + terms_to channel.base channel.scheme k ≤ old → old + mask_terms t.level channel.scheme ≤ new
-      → start + terms_to channel.base channel.scheme (k + 1) ≤ new
-  taken-next start old new before step = omega (arith, before, step, terms-here, terms-next channel.base channel.scheme k)
-
-  pub steps-next : (start old new : ℕ) → old ≤ start + faces_to channel.base k + terms_to channel.base channel.scheme k
-      → new ≤ old + sum_by length t.level.polygons + mask_terms t.level channel.scheme
-      → new ≤ start + faces_to channel.base (k + 1) + terms_to channel.base channel.scheme (k + 1)
-  steps-next start old new before step =
-      let faces =
-      series.steps-next channel.base k (start + terms_to channel.base channel.scheme k) old (old + sum_by length t.level.polygons) t is.level (omega (arith, before)) (omega arith) in
-      omega (arith, faces, step, terms-here, terms-next channel.base channel.scheme k)
-
-  pub steps-within : (start old new depth : ℕ) → k < depth → old ≤ start + faces_to channel.base k + terms_to channel.base channel.scheme k
-      → new ≤ old + sum_by length t.level.polygons + mask_terms t.level channel.scheme
-      → new ≤ start + faces_to channel.base depth + terms_to channel.base channel.scheme depth
-  steps-within start old new depth within before step =
-      omega (
-        arith,
-        steps-next start old new before step,
-        series.faces-within channel.base (k + 1) depth (omega (arith, within)),
-        terms-within channel.base channel.scheme (k + 1) depth (omega (arith, within)),
-      )

@@ -1,12 +1,15 @@
-pub mod OriginLemmas
 pub mod FaultLemmas
-pub mod StepLemmas
+pub mod ValueLemmas
+mod TableLemmas
+mod UniformLemmas
 pub mod DenominatorLemmas
 pub mod FirstLemmas
 pub mod ChannelLemmas
 mod IdentityLemmas
-mod TableStepLemmas
 mod ComposedLemmas
+mod ResultLemmas
+mod WalkedLemmas
+mod WalkedTableLemmas
 mod PlaceLemmas
 mod SumLemmas
 pub mod EvaluatedLemmas

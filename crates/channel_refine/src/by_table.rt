@@ -5,7 +5,7 @@ ghost use Rattle.subdiv_model.specs.Channel.{Tables, number_bound};
 ghost use Rattle.subdiv_model.specs.Support.{entries_after};
 ghost use Rattle.mask_rules.specs.View.{scheme_of};
 ghost use Rattle.stencil_apply.specs.Table.{entries_of};
-ghost use Rattle.level_counts.specs.Series.{faces_to};
+ghost use Rattle.uniform_walk.specs.Levels.{faces_to};
 ghost use Rattle.primvar_refine.specs.View.{rows_of};
 ghost use Rattle.channel_refine.specs.Refined.{IsBase, AreControls, IsRefinedTo, IsChannelFault, channel_of};
 ghost use Rattle.channel_refine.specs.Evaluated.{CanEvaluate, control_rows, evaluated};

@@ -3,46 +3,28 @@
 ghost use Rattle.std.specs.Prelude.{◌≡◌, ◌+◌, ◌≤◌, ◌^◌, max, Err, IfOk, IsOkAnd, MatchResult};
 ghost use Rattle.subdiv_model.specs.Channel.{Tables, number_bound};
 ghost use Rattle.mask_rules.specs.View.{scheme_of};
-ghost use Rattle.level_counts.specs.Series.{faces_to};
+ghost use Rattle.uniform_walk.specs.Levels.{faces_to};
 ghost use Rattle.stencil_factory.specs.Composed.{identity_table};
 ghost use Rattle.channel_refine.specs.Refined.{IsBase, IsChannelFault, channel_of};
 ghost use Rattle.channel_refine.specs.Composed.{IsComposedTo};
 
-use crate::fault::ChannelFault;
-use crate::table_step::next;
+use crate::fault::{ChannelFault, walked};
+use crate::table::ByTable;
 use level_topology::Level;
+use level_walk::{Dropped, Reached, walk};
 use mask_rules::Scheme;
 use ratio128::{Memory, Steps};
 use std::alloc::Global;
 use std::sync::ledger::Ledger;
 use stencil_apply::StencilTable;
 use stencil_factory::identity;
+use uniform_walk::Uniform;
 
 /// A level, and the table of its points over those of level 0.
 #[derive(Drop)]
 pub struct ComposedChannel {
     pub level: Level,
     pub table: StencilTable,
-}
-
-impl ComposedChannel {
-    // A level and the table of its points, if it was found.
-    pub(crate) fn of<E>(level: Level, table: Result<StencilTable, E>) -> Result<ComposedChannel, E>
-        ensures { MatchResult table
-            (λ found. IsOkAnd result (λ channel. channel ≡ record { level = level; table = found }))
-            (λ fault. result ≡ Err fault) }
-    {
-        table.map(|table| ComposedChannel { level, table })
-    }
-}
-
-// Level 0 and the table of its points.
-fn start(alloc: Global, base: Level) -> Result<ComposedChannel, Memory>
-    requires { base.level.point_count ≤ 2 ^ 27 }
-    ensures { IfOk result (λ composed. (composed.level ≡ base) × (composed.table ≡ identity_table base.level.point_count)) }
-{
-    let table = identity(alloc, base.points());
-    ComposedChannel::of(base, table)
 }
 
 /// The table of a channel at a depth of at most 10, composed level by level, of which two are kept at a time: its level 0, and
@@ -70,10 +52,18 @@ pub fn compose_channel<L: Ledger>(
     ensures later { steps.old ≤ steps.new }
 {
     base.facts();
-    let most = greatest.max(common);
-    let mut composed = start(alloc, base)?;
-    for k in 0..depth {
-        composed = next(alloc, composed, most, scheme, k + 1, steps)?;
-    }
-    Ok(composed)
+    let by = ByTable {
+        scheme,
+        most: greatest.max(common),
+    };
+    let carried = identity(alloc, base.points())?;
+    let start = Reached {
+        level: base,
+        carried,
+    };
+    let reached = walked(walk(alloc, &Uniform, &by, &mut Dropped, start, depth, steps))?;
+    Ok(ComposedChannel {
+        level: reached.level,
+        table: reached.carried,
+    })
 }

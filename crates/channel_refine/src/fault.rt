@@ -1,6 +1,11 @@
 //! Why a channel cannot be refined to a depth.
 
+ghost use Rattle.std.specs.Prelude.{◌≡◌, Ok, Err, MatchResult};
+ghost use Rattle.channel_refine.specs.Told.{told_of, told_of_level, told_of_carried};
+
+use level_walk::{Cause, WalkFault};
 use ratio128::Memory;
+use uniform_refiner::RefineFault;
 
 /// Why there are no levels to the depth with their values: the number of the first that cannot be made, from 1, and why.
 #[derive(Clone, Copy, Debug, PartialEq, Eq)]
@@ -29,5 +34,67 @@ impl From<Memory> for ChannelFault {
 
     fn from(_: Memory) -> ChannelFault {
         ChannelFault::Memory
+    }
+}
+
+/// Why values or a table cannot be carried from a level to the next, each reason looked for over the whole level.
+#[derive(Clone, Copy, Debug, PartialEq, Eq)]
+pub enum CarryFault {
+    /// The denominator of the weight between two rules passes 2^60.
+    Transition,
+    /// The common denominator of a point passes 2^126 - 1.
+    Denominator,
+    /// The table would have more than 2^27 entries.
+    Entries,
+    /// The greatest common denominator times the greatest amount passes 2^126 - 1.
+    Value,
+    /// Memory ran out.
+    Memory,
+}
+
+// Why the level with this number cannot be made.
+fn level_fault(level: u32, fault: RefineFault) -> ChannelFault
+    ensures { result ≡ told_of_level level fault }
+{
+    match fault {
+        RefineFault::TooLarge(count) => ChannelFault::TooLarge { level, count },
+        RefineFault::Chaikin(_) => ChannelFault::Chaikin { level },
+        RefineFault::Memory => ChannelFault::Memory,
+    }
+}
+
+// Why nothing is carried to the level with this number.
+fn carry_fault(level: u32, fault: CarryFault) -> ChannelFault
+    ensures { result ≡ told_of_carried level fault }
+{
+    match fault {
+        CarryFault::Transition => ChannelFault::Transition { level },
+        CarryFault::Denominator => ChannelFault::Denominator { level },
+        CarryFault::Entries => ChannelFault::Entries { level },
+        CarryFault::Value => ChannelFault::Value { level },
+        CarryFault::Memory => ChannelFault::Memory,
+    }
+}
+
+// The fault of a walk as that of a channel.
+fn walk_fault(fault: WalkFault<RefineFault, CarryFault>) -> ChannelFault
+    ensures { result ≡ told_of fault }
+{
+    match fault.cause {
+        Cause::Level(cause) => level_fault(fault.level, cause),
+        Cause::Carried(cause) => carry_fault(fault.level, cause),
+        Cause::Memory => ChannelFault::Memory,
+    }
+}
+
+// What a walk reaches, or its fault as that of a channel.
+pub(crate) fn walked<T>(
+    reached: Result<T, WalkFault<RefineFault, CarryFault>>,
+) -> Result<T, ChannelFault>
+    ensures { MatchResult reached (λ reached. result ≡ Ok reached) (λ fault. result ≡ Err (told_of fault)) }
+{
+    match reached {
+        Ok(reached) => Ok(reached),
+        Err(fault) => Err(walk_fault(fault)),
     }
 }

@@ -5,15 +5,14 @@ mod by_table;
 mod compose;
 mod evaluated;
 mod fault;
-mod next_level;
 mod refine;
-mod step;
 mod table;
-mod table_step;
 mod values;
 
 pub use by_table::refine_by_table;
 pub use compose::{ComposedChannel, compose_channel};
 pub use evaluated::evaluate;
-pub use fault::ChannelFault;
+pub use fault::{CarryFault, ChannelFault};
 pub use refine::{RefinedChannel, refine_channel};
+pub use table::ByTable;
+pub use values::ByValues;

@@ -3,18 +3,21 @@
 ghost use Rattle.std.specs.Prelude.{◌≡◌, ◌+◌, ◌^◌, ◌≤◌, length, max, Err, IsOkAnd, MatchResult, OnOk};
 ghost use Rattle.subdiv_model.specs.Channel.{Values, number_bound};
 ghost use Rattle.mask_rules.specs.View.{scheme_of};
-ghost use Rattle.level_counts.specs.Series.{faces_to};
+ghost use Rattle.uniform_walk.specs.Levels.{faces_to};
 ghost use Rattle.primvar_refine.specs.View.{rows_of};
 ghost use Rattle.channel_refine.specs.Refined.{IsBase, AreControls, IsRefinedTo, IsChannelFault, channel_of, terms_to};
 
-use crate::fault::ChannelFault;
-use crate::step::next;
+use crate::fault::{ChannelFault, walked};
+use crate::values::ByValues;
 use level_topology::Level;
+use level_walk::{Dropped, Reached, walk};
 use mask_rules::Scheme;
 use primvar_refine::Valued;
 use ratio128::{Primvar, Steps};
 use std::alloc::Global;
+use std::marker::PhantomData;
 use std::sync::ledger::Ledger;
+use uniform_walk::Uniform;
 
 /// A level and the value of each of its points.
 #[derive(Drop)]
@@ -66,13 +69,18 @@ pub fn refine_channel<P: Primvar<L>, L: Ledger>(
     ensures later { steps.old ≤ steps.new }
 {
     base.facts();
-    let most = greatest.max(common);
-    let mut refined = RefinedChannel {
-        level: base,
-        values: controls,
+    let by = ByValues {
+        scheme,
+        most: greatest.max(common),
+        of: PhantomData,
     };
-    for k in 0..depth {
-        refined = next(alloc, refined, most, scheme, k + 1, steps)?;
-    }
-    Ok(refined)
+    let start = Reached {
+        level: base,
+        carried: controls,
+    };
+    let reached = walked(walk(alloc, &Uniform, &by, &mut Dropped, start, depth, steps))?;
+    Ok(RefinedChannel {
+        level: reached.level,
+        values: reached.carried,
+    })
 }

@@ -1,23 +1,27 @@
-//! One step of the values of a channel, within the bounds of their numbers.
+//! The values of a channel, carried from level to level within the bounds of their numbers.
 
-ghost use Rattle.std.specs.Prelude.{◌≡◌, ℕ, ◌+◌, ◌*◌, ◌≤◌, nat_le, length, List, map, MatchResult, OnOk};
+ghost use Rattle.std.specs.Prelude.{◌≡◌, ℕ, ◌+◌, ◌*◌, ◌≤◌, nat_le, List, map, IfOk, MatchResult, OnOk};
 ghost use Rattle.subdiv_model.specs.Channel.{number_bound};
 ghost use Rattle.subdiv_model.specs.Level.{Level as model_level};
-ghost use Rattle.subdiv_model.specs.Mask.{Scheme as model_scheme, mask_terms};
+ghost use Rattle.subdiv_model.specs.Mask.{Scheme as model_scheme, CatmullClark};
 ghost use Rattle.level_topology.specs.Child.{PointOrigin};
+ghost use Rattle.level_topology.specs.Topology.{Topology};
 ghost use Rattle.mask_rules.specs.View.{scheme_of};
-ghost use Rattle.uniform_refiner.specs.Refined.{IsRefined};
-ghost use Rattle.primvar_refine.specs.Rows.{Row, dens_of, greatest_of};
+ghost use Rattle.primvar_refine.specs.Rows.{Row, greatest_of};
 ghost use Rattle.primvar_refine.specs.View.{rows_of};
+ghost use Rattle.child_masks.specs.Masks.{CanRefine, step_terms};
 ghost use Rattle.primvar_refine.specs.Step.{IsValueFault as is_fault};
-ghost use Rattle.channel_refine.specs.Step.{IsReady, AreNextValues, IsToldAt, IsValueFault};
+ghost use Rattle.channel_refine.specs.Step.{AreValues, AreCarried, IsValueFault};
+ghost use Rattle.channel_refine.specs.Told.{carried_of_value};
 
-use crate::fault::ChannelFault;
+use crate::fault::CarryFault;
 use level_topology::{Child, Level};
+use level_walk::Carrier;
 use mask_rules::Scheme;
 use primvar_refine::{ValueFault, Valued, refine_values};
 use ratio128::{Primvar, Steps, times_within};
 use std::alloc::Global;
+use std::marker::PhantomData;
 use std::sync::ledger::Ledger;
 
 // The greatest denominator, and the greatest numerator over it.
@@ -41,46 +45,88 @@ fn fits<P>(values: &[Valued<P>], most: u128) -> bool
     times_within(greatest_den(values), most, NUMBER_BOUND).is_some()
 }
 
-// Why the level with this number has no values.
-fn value_fault(fault: ValueFault, number: u32) -> ChannelFault
-    ensures { (level : model_level) (scheme : model_scheme) (origins : List PointOrigin) (rows : List Row) → is_fault level scheme origins rows fault → IsToldAt level scheme origins rows number result }
+// Why the points of a child have no values.
+fn value_fault(fault: ValueFault) -> CarryFault
+    ensures { result ≡ carried_of_value fault }
 {
     match fault {
-        ValueFault::Transition(_) => ChannelFault::Transition { level: number },
-        ValueFault::Denominator(_) => ChannelFault::Denominator { level: number },
-        ValueFault::TooBig(_) => ChannelFault::Value { level: number },
-        ValueFault::Memory => ChannelFault::Memory,
+        ValueFault::Transition(_) => CarryFault::Transition,
+        ValueFault::Denominator(_) => CarryFault::Denominator,
+        ValueFault::TooBig(_) => CarryFault::Value,
+        ValueFault::Memory => CarryFault::Memory,
     }
 }
 
-// The values of the points of the next level, which has this number. No value of the level is above `most` in amount, and the
-// greatest new denominator times `most` is within the bound of numbers.
-pub(crate) fn next_values<P: Primvar<L>, L: Ledger>(
+// The values of the points of a child. No value of the level is above `most` in amount, and the greatest new denominator times
+// `most` is within the bound of numbers.
+fn next_values<P: Primvar<L>, L: Ledger>(
     alloc: Global,
     level: &Level,
     child: &Child,
     values: &[Valued<P>],
     most: u128,
     scheme: Scheme,
-    number: u32,
     steps: &mut Steps<L>,
-) -> Result<Vec<Valued<P>>, ChannelFault>
-    requires ready { IsReady most level.now (rows_of P.numbers values.now) }
-    requires child { IsRefined level.now child.now }
+) -> Result<Vec<Valued<P>>, CarryFault>
+    requires values { AreValues most level.now (rows_of P.numbers values.now) }
+    requires child { CanRefine level.now child.now CatmullClark }
     ensures refined { MatchResult result
-        (λ refined. AreNextValues most level.now.level (scheme_of scheme) (rows_of P.numbers values.now) (rows_of P.numbers refined.items))
-        (λ fault. IsValueFault most level.now.level (scheme_of scheme) (dens_of (rows_of P.numbers values.now)) number fault) }
-    ensures taken { OnOk result (steps.new ≡ steps.old + mask_terms level.now.level (scheme_of scheme)) }
-    ensures steps { steps.new ≤ steps.old + mask_terms level.now.level (scheme_of scheme) }
+        (λ next. AreCarried most level.now.level (scheme_of scheme) child.now.origins (rows_of P.numbers values.now) (rows_of P.numbers next.items))
+        (λ fault. IsValueFault most level.now.level (scheme_of scheme) child.now.origins (rows_of P.numbers values.now) fault) }
+    ensures values { IfOk result (λ next. AreValues most child.now.topology (rows_of P.numbers next.items)) }
+    ensures taken { OnOk result (steps.new ≡ steps.old + step_terms level.now.level (scheme_of scheme) child.now.origins) }
+    ensures steps { steps.new ≤ steps.old + step_terms level.now.level (scheme_of scheme) child.now.origins }
     ensures later { steps.old ≤ steps.new }
 {
     level.facts();
-    let refined = match refine_values(alloc, level, child, values, scheme, steps) {
-        Ok(refined) => refined,
-        Err(fault) => return Err(value_fault(fault, number)),
+    child.facts();
+    let next = match refine_values(alloc, level, child, values, scheme, steps) {
+        Ok(next) => next,
+        Err(fault) => return Err(value_fault(fault)),
     };
-    if !fits(&refined, most) {
-        return Err(ChannelFault::Value { level: number });
+    if !fits(&next, most) {
+        return Err(CarryFault::Value);
     }
-    Ok(refined)
+    Ok(next)
+}
+
+/// Values are carried along, each over the common denominator of its point. No value is above `most` in amount; the greatest
+/// denominator of each level after the first, times `most`, is at most 2^126 - 1.
+#[derive(Drop)]
+pub struct ByValues<P> {
+    pub scheme: Scheme,
+    pub most: u128,
+    /// Of which type the values are.
+    pub of: PhantomData<P>,
+}
+
+impl<P: Primvar<L>, L: Ledger> Carrier<L> for ByValues<P> {
+    type Carried = Vec<Valued<P>>;
+
+    type Fault = CarryFault;
+
+    ghost use Rattle.std.specs.Prelude.{◌≡◌, ◌+◌};
+    ghost use Rattle.mask_rules.specs.View.{scheme_of};
+    ghost use Rattle.child_masks.specs.Masks.{step_terms};
+    ghost use Rattle.primvar_refine.specs.View.{rows_of};
+    ghost use Rattle.channel_refine.specs.Step.{AreValues, AreCarried, IsValueFault, AreTermSteps};
+
+    ghost Fits = { λ by t values. AreValues by.most t (rows_of P.numbers values.items) };
+
+    ghost Follows = { λ by t child values next old new.
+        AreCarried by.most t.level (scheme_of by.scheme) child.origins (rows_of P.numbers values.items) (rows_of P.numbers next.items) × (new ≡ old + step_terms t.level (scheme_of by.scheme) child.origins) };
+
+    ghost Fails = { λ by t child values fault old new.
+        IsValueFault by.most t.level (scheme_of by.scheme) child.origins (rows_of P.numbers values.items) fault × AreTermSteps t.level (scheme_of by.scheme) child.origins old new };
+
+    fn follow(
+        &self,
+        alloc: Global,
+        parent: &Level,
+        child: &Child,
+        before: &Vec<Valued<P>>,
+        steps: &mut Steps<L>,
+    ) -> Result<Vec<Valued<P>>, CarryFault> {
+        next_values(alloc, parent, child, before, self.most, self.scheme, steps)
+    }
 }

@@ -1,7 +1,7 @@
 use Rattle.std.proofs.Common.{◌≡◌, map, refl, sym, subst}
 use Rattle.primvar_refine.specs.View.{rows_of}
 use Rattle.channel_refine.specs.Evaluated.{evaluated}
-use Rattle.channel_refine.proofs.StepLemmas.{mapped, mapped-on}
+use Rattle.channel_refine.proofs.ResultLemmas.{mapped, mapped-on}
 use Rattle.channel_refine.proofs.by_table.with_values.Goals as goal
 
 pub returns-clause-refined : goal.returns-clause-refined

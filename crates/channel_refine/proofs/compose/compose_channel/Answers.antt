@@ -1,59 +1,64 @@
-use Rattle.std.proofs.Common.{◌≡◌, ◌+◌, ◌≤◌, arith, refl, sym, subst}
+use Rattle.std.proofs.Common.{arith, ap, ◌∙◌}
 use Rattle.mask_rules.specs.View.{scheme_of}
-use Rattle.level_counts.specs.Series.{faces_to}
+use Rattle.stencil_factory.specs.Composed.{identity_table}
+use Rattle.level_walk.proofs.WalkLemmas.{handed-on}
 use Rattle.channel_refine.specs.Refined.{channel_of}
-use Rattle.channel_refine.proofs.StepLemmas.{handed-on}
-use Rattle.level_counts.proofs.SeriesLemmas as series
-use Rattle.channel_refine.specs.Composed.{IsComposedTo}
-use Rattle.channel_refine.specs.TableStep.{IsStep, IsStepFault}
-use Rattle.channel_refine.proofs.ComposedLemmas.{IsReached, reached-none, reached-ready, reached-next, reached-end, fault-first, steps-within}
+use Rattle.channel_refine.proofs.ComposedLemmas.{reached-none, reached-end}
+use Rattle.channel_refine.proofs.WalkedTableLemmas.{stopped-channel, walked-channel}
 use Rattle.channel_refine.proofs.compose.compose_channel.Goals as goal
 
-pub loop-k-init : goal.loop-k-init
-loop-k-init g c = record {
-  reached =
-      subst (λ level. IsReached (channel_of c.args.base.level (scheme_of c.args.scheme) c.args.greatest c.args.common) 0 level c.in_ok-composed.composed.table) (sym c.in_ok-composed.ensures.0)
-      (reached-none c.args.base (scheme_of c.args.scheme) c.args.greatest c.args.common c.in_ok-composed.composed.table c.facts.ensures c.requires.base c.in_ok-composed.ensures.1 c.requires.short);
-  most = c.max-most.ensures;
-  steps = omega arith;
-  later = omega arith;
+pub walk-requires-clause-ready : goal.walk-requires-clause-ready
+walk-requires-clause-ready g c = record {
+  complete = c.requires.base.complete;
+  points = omega (arith, c.requires.base.points);
+  boundary = c.requires.base.boundary;
 }
 
-pub next-requires : goal.next-requires
-next-requires g c = record { ready = reached-ready _ c.loop-k.k _ _ c.loop-k.invariant.reached (omega (arith, c.loop-k-test.true, c.requires.depth)) }
+pub walk-requires-clause-fits : goal.walk-requires-clause-fits
+walk-requires-clause-fits g c =
+    (reached-none c.args.base (scheme_of c.args.scheme) c.args.greatest c.args.common c.in_ok-carried.carried c.facts.ensures c.requires.base
+    (c.in_ok-carried.ensures ∙ ap identity_table c.points.ensures) c.requires.short).each
 
-pub returns-in_err-composed-2-clause-composed : goal.returns-in_err-composed-2-clause-composed
-returns-in_err-composed-2-clause-composed g c =
-    handed-on _ c.in_err-composed-2.field-0.0 _ _ c.from_residual-in_err-composed-2.ensures.0 c.from_residual-in_err-composed-2.ensures.1
-    (fault-first _ c.loop-k.k _ _ c.loop-k.invariant.reached c.args.depth _ c.loop-k-test.true refl c.in_err-composed-2.field-0.0
-    (subst (λ most. IsStepFault most c.loop-k.composed.level.level (scheme_of c.args.scheme) c.loop-k.composed.table (c.loop-k.k + 1) c.in_err-composed-2.field-0.0) c.loop-k.invariant.most
-    c.in_err-composed-2.ensures.composed))
+pub returns-in_err-reached-clause-composed : goal.returns-in_err-reached-clause-composed
+returns-in_err-reached-clause-composed g c =
+    handed-on _ c.in_err-reached.field-0.0 _ _ c.from_residual-in_err-reached.ensures.0 c.from_residual-in_err-reached.ensures.1
+    (stopped-channel (λ _ _ _ _. Unit {0}) (channel_of c.args.base.level (scheme_of c.args.scheme) c.args.greatest c.args.common) c.max.result c.max.ensures _
+    (reached-none c.args.base (scheme_of c.args.scheme) c.args.greatest c.args.common c.in_ok-carried.carried c.facts.ensures c.requires.base
+    (c.in_ok-carried.ensures ∙ ap identity_table c.points.ensures) c.requires.short)
+    c.args.depth c.walk.result c.in_err-reached.field-0.0 _ c.walk.new.steps c.in_err-reached.ensures c.walk.ensures).0
 
-pub returns-in_err-composed-2-clause-steps : goal.returns-in_err-composed-2-clause-steps
-returns-in_err-composed-2-clause-steps g c =
-    steps-within _ c.loop-k.k _ _ c.loop-k.invariant.reached c.args.steps.now c.loop-k.steps c.next.new.steps c.args.depth c.loop-k-test.true c.loop-k.invariant.steps c.in_err-composed-2.ensures.steps
+pub returns-in_err-reached-clause-steps : goal.returns-in_err-reached-clause-steps
+returns-in_err-reached-clause-steps g c =
+    (stopped-channel (λ _ _ _ _. Unit {0}) (channel_of c.args.base.level (scheme_of c.args.scheme) c.args.greatest c.args.common) c.max.result c.max.ensures _
+    (reached-none c.args.base (scheme_of c.args.scheme) c.args.greatest c.args.common c.in_ok-carried.carried c.facts.ensures c.requires.base
+    (c.in_ok-carried.ensures ∙ ap identity_table c.points.ensures) c.requires.short)
+    c.args.depth c.walk.result c.in_err-reached.field-0.0 _ c.walk.new.steps c.in_err-reached.ensures c.walk.ensures).1.0
 
-pub loop-k-preserved : goal.loop-k-preserved
-loop-k-preserved g c = record {
-  reached =
-      reached-next _ c.loop-k.k _ _ c.loop-k.invariant.reached c.in_ok-composed-2.composed.level c.in_ok-composed-2.composed.table
-      (subst (λ most. IsStep most (scheme_of c.args.scheme) c.loop-k.composed.level c.loop-k.composed.table c.in_ok-composed-2.composed.level c.in_ok-composed-2.composed.table) c.loop-k.invariant.most
-      c.in_ok-composed-2.ensures.composed);
-  most = c.loop-k.invariant.most;
-  steps = series.steps-next _ c.loop-k.k c.args.steps.now c.loop-k.steps c.next.new.steps _ c.loop-k.invariant.reached.level c.loop-k.invariant.steps c.in_ok-composed-2.ensures.steps;
-  later = omega (arith, c.loop-k.invariant.later, c.in_ok-composed-2.ensures.later);
-}
+pub returns-in_err-reached-clause-later : goal.returns-in_err-reached-clause-later
+returns-in_err-reached-clause-later g c =
+    (stopped-channel (λ _ _ _ _. Unit {0}) (channel_of c.args.base.level (scheme_of c.args.scheme) c.args.greatest c.args.common) c.max.result c.max.ensures _
+    (reached-none c.args.base (scheme_of c.args.scheme) c.args.greatest c.args.common c.in_ok-carried.carried c.facts.ensures c.requires.base
+    (c.in_ok-carried.ensures ∙ ap identity_table c.points.ensures) c.requires.short)
+    c.args.depth c.walk.result c.in_err-reached.field-0.0 _ c.walk.new.steps c.in_err-reached.ensures c.walk.ensures).1.1
 
 pub returns-clause-composed : goal.returns-clause-composed
 returns-clause-composed g c =
-    let end : c.loop-k.k ≡ c.args.depth = omega (arith, c.loop-k.auto.k-end, c.loop-k-test.false) in
-    subst (λ k. IsComposedTo (channel_of c.args.base.level (scheme_of c.args.scheme) c.args.greatest c.args.common) k c.loop-k.composed.level c.loop-k.composed.table) end
-    (reached-end (channel_of c.args.base.level (scheme_of c.args.scheme) c.args.greatest c.args.common) c.loop-k.k c.loop-k.composed.level c.loop-k.composed.table c.loop-k.invariant.reached)
+    reached-end _ _ _ _
+    (walked-channel (λ _ _ _ _. Unit {0}) (channel_of c.args.base.level (scheme_of c.args.scheme) c.args.greatest c.args.common) c.max.result c.max.ensures _
+    (reached-none c.args.base (scheme_of c.args.scheme) c.args.greatest c.args.common c.in_ok-carried.carried c.facts.ensures c.requires.base
+    (c.in_ok-carried.ensures ∙ ap identity_table c.points.ensures) c.requires.short)
+    c.args.depth c.walk.result c.in_ok-reached.reached _ c.walk.new.visitor c.walk.new.steps c.in_ok-reached.ensures c.walk.ensures).0
 
 pub returns-clause-steps : goal.returns-clause-steps
 returns-clause-steps g c =
-    let end : c.loop-k.k ≡ c.args.depth = omega (arith, c.loop-k.auto.k-end, c.loop-k-test.false) in
-    subst (λ k. c.loop-k.steps ≤ c.args.steps.now + faces_to c.args.base.level k) end c.loop-k.invariant.steps
+    (walked-channel (λ _ _ _ _. Unit {0}) (channel_of c.args.base.level (scheme_of c.args.scheme) c.args.greatest c.args.common) c.max.result c.max.ensures _
+    (reached-none c.args.base (scheme_of c.args.scheme) c.args.greatest c.args.common c.in_ok-carried.carried c.facts.ensures c.requires.base
+    (c.in_ok-carried.ensures ∙ ap identity_table c.points.ensures) c.requires.short)
+    c.args.depth c.walk.result c.in_ok-reached.reached _ c.walk.new.visitor c.walk.new.steps c.in_ok-reached.ensures c.walk.ensures).1.1
 
 pub returns-clause-later : goal.returns-clause-later
-returns-clause-later g c = c.loop-k.invariant.later
+returns-clause-later g c =
+    (walked-channel (λ _ _ _ _. Unit {0}) (channel_of c.args.base.level (scheme_of c.args.scheme) c.args.greatest c.args.common) c.max.result c.max.ensures _
+    (reached-none c.args.base (scheme_of c.args.scheme) c.args.greatest c.args.common c.in_ok-carried.carried c.facts.ensures c.requires.base
+    (c.in_ok-carried.ensures ∙ ap identity_table c.points.ensures) c.requires.short)
+    c.args.depth c.walk.result c.in_ok-reached.reached _ c.walk.new.visitor c.walk.new.steps c.in_ok-reached.ensures c.walk.ensures).1.0
