@@ -11,7 +11,7 @@ use Rattle.subdiv_model.specs.Child.{refined_level}
 use Rattle.subdiv_model.specs.Mask.{Scheme, child_masks, mask_terms}
 use Rattle.subdiv_model.specs.Value.{IsSameValue}
 use Rattle.subdiv_model.specs.Refined.{mask_value, source_value, point_value, child_values, refined_values, control_values}
-use Rattle.subdiv_model.specs.Channel.{Channel, Values, number_bound, denominators_after}
+use Rattle.subdiv_model.specs.Channel.{Channel, Values, number_bound, denominators_after, whole_levels}
 use Rattle.ratio128.specs.Numbers.{greatest_amount}
 use Rattle.level_topology.specs.Topology.{Topology, IsTopology}
 use Rattle.level_topology.specs.Child.{ChildTopology}
@@ -32,7 +32,7 @@ use Rattle.channel_refine.proofs.ValueLemmas.{from-dens, kept, alike-own, times}
 pub record IsReached (channel : Channel) (controls : List Row) (k : ℕ) (t : Topology) (rows : List Row) : Type 0 where
   pub base : IsSound channel.base
   pub level : series.IsReached channel.base k t
-  pub none : (j : ℕ) → j < k → HasNoFault Values channel j
+  pub none : (j : ℕ) → j < k → HasNoFault Values (whole_levels channel) j
   pub dens : dens_of rows ≡ denominators_after channel k
   pub values : (column : ℕ) → StandFor rows column (refined_values channel.base channel.scheme (control_values (column_of column controls)) k)
   pub within : AreWithin channel.greatest rows
@@ -119,7 +119,7 @@ module _ (channel : Channel) (controls : List Row) (k : ℕ) (t : Topology) (row
   -- these are the last level and its values
   pub reached-end : IsRefinedTo Values channel controls k t rows
   reached-end = record {
-    fine = λ track. no-faults Values tt channel track k is.none;
+    fine = λ track. no-faults Values tt (whole_levels channel) track k is.none;
     few = λ j h. (is.level.made j h).few;
     level_is = is.level.level;
     dens = is.dens;
@@ -154,7 +154,7 @@ module _ (channel : Channel) (controls : List Row) (k : ℕ) (t : Topology) (row
     reached-next = record {
       base = is.base;
       level = series.reached-next channel.base k t next child is.level refined same;
-      none = none-more (HasNoFault Values channel) k is.none (first.none-here Values tt channel k is.none t.level is.level.level (dens_of rows) is.dens (dens_of next_rows) numbers refl);
+      none = none-more (HasNoFault Values (whole_levels channel)) k is.none (first.none-here Values tt channel k is.none t.level is.level.level (dens_of rows) is.dens (dens_of next_rows) numbers refl);
       dens = next-dens ∙ ap (denominators_after channel) (sym (plus-one k));
       values = λ column.
           subst (λ n. StandFor next_rows column (refined_values channel.base channel.scheme (control_values (column_of column controls)) n)) (sym (plus-one k))

@@ -9,7 +9,7 @@ use Rattle.subdiv_model.specs.Child.{refined_level}
 use Rattle.subdiv_model.specs.Mask.{Scheme, child_masks}
 use Rattle.subdiv_model.specs.Refined.{mask_value, source_value, child_values, refined_values, control_values}
 use Rattle.subdiv_model.specs.Support.{mask_support, source_support, child_supports, refined_supports, entries_after}
-use Rattle.subdiv_model.specs.Channel.{Channel, Tables, number_bound, entry_bound, denominators_after}
+use Rattle.subdiv_model.specs.Channel.{Channel, Tables, number_bound, entry_bound, denominators_after, whole_levels}
 use Rattle.level_topology.specs.Topology.{Topology, IsTopology}
 use Rattle.level_topology.specs.Child.{ChildTopology}
 use Rattle.uniform_refiner.specs.Refined.{IsRefined}
@@ -35,7 +35,7 @@ use Rattle.channel_refine.proofs.UniformLemmas.{AreNextNumbers, next-numbers}
 pub record IsReached (channel : Channel) (k : ℕ) (t : Topology) (table : Table) : Type 0 where
   pub base : IsSound channel.base
   pub level : series.IsReached channel.base k t
-  pub none : (j : ℕ) → j < k → HasNoFault Tables channel j
+  pub none : (j : ℕ) → j < k → HasNoFault Tables (whole_levels channel) j
   pub controls : table.controls ≡ channel.base.point_count
   pub dens : dens_of table ≡ denominators_after channel k
   pub supports : supports_of table ≡ refined_supports channel.base channel.scheme k
@@ -70,7 +70,7 @@ module _ (channel : Channel) (k : ℕ) (t : Topology) (table : Table) (is : IsRe
   -- this is the last level and its table
   pub reached-end : IsComposedTo channel k t table
   reached-end = record {
-    fine = λ track. no-faults Tables tt channel track k is.none;
+    fine = λ track. no-faults Tables tt (whole_levels channel) track k is.none;
     few = λ j h. (is.level.made j h).few;
     level_is = is.level.level;
     controls = is.controls;
@@ -94,7 +94,7 @@ module _ (channel : Channel) (k : ℕ) (t : Topology) (table : Table) (is : IsRe
     supports-are =
         ap (map (mask_support table.controls (source_support table.controls t.level (supports_of table)))) (masks-are t child refined channel.scheme) ∙ supports-after
 
-    pub entries-fault : has_entry_fault Tables channel k ≡ nat_lt entry_bound (entries_from t.level channel.scheme child.origins table)
+    pub entries-fault : has_entry_fault Tables (whole_levels channel) k ≡ nat_lt entry_bound (entries_from t.level channel.scheme child.origins table)
     entries-fault = ap (nat_lt entry_bound) (sym (ap (sum_by length) supports-are))
 
     -- one level more
@@ -108,7 +108,7 @@ module _ (channel : Channel) (k : ℕ) (t : Topology) (table : Table) (is : IsRe
       next-supports : supports_of next_table ≡ refined_supports channel.base channel.scheme (suc k)
       next-supports = step.composed.supports ∙ supports-are
 
-      few-entries : has_entry_fault Tables channel k ≡ false
+      few-entries : has_entry_fault Tables (whole_levels channel) k ≡ false
       few-entries =
           le-ltb entry_bound (entries_after channel.base channel.scheme (suc k))
           (omega (arith, step.made.entries_few, entries-by-support next_table.rows, ap (sum_by length) next-supports))
@@ -129,7 +129,7 @@ module _ (channel : Channel) (k : ℕ) (t : Topology) (table : Table) (is : IsRe
       reached-next = record {
         base = is.base;
         level = series.reached-next channel.base k t next child is.level refined same;
-        none = none-more (HasNoFault Tables channel) k is.none (first.none-here Tables tt channel k is.none t.level is.level.level (dens_of table) is.dens (dens_of next_table) numbers few-entries);
+        none = none-more (HasNoFault Tables (whole_levels channel)) k is.none (first.none-here Tables tt channel k is.none t.level is.level.level (dens_of table) is.dens (dens_of next_table) numbers few-entries);
         controls = step.composed.controls ∙ is.controls;
         dens =
             numbers.dens_are ∙ sym (first.dens-after Tables tt channel k is.none t.level is.level.level (dens_of table) is.dens)

@@ -1,9 +1,9 @@
--- The faults of the levels of a channel: the first of all is the first of the first level that has one.
+-- The faults of the levels of a track: the first of all is the first of the first level that has one.
 use Rattle.std.proofs.Common.{◌≡◌, ℕ, zero, suc, ◌+◌, ◌<◌, Bool, true, false, ◌||◌, List, [], ◌∷◌, ◌++◌, get_or, Some, None, arith, refl, ap, ◌∙◌}
 use Rattle.std.specs.List.{AllByRecursion, flat_map, list_any, range_with_len}
 use Rattle.subdiv_model.specs.Lists.{first_of}
 use Rattle.subdiv_model.specs.Fault.{Fault, TooLarge, Entries, Overflow, Track, ChaikinOverflow, TransitionOverflow, DenominatorOverflow, ValueOverflow}
-use Rattle.subdiv_model.specs.Channel.{Channel, Asked, Sharpnesses, Values, Tables, fault_where, has_chaikin_overflow, has_transition_overflow, has_denominator_overflow, has_many_entries, has_value_overflow, level_faults, channel_faults}
+use Rattle.subdiv_model.specs.Channel.{TrackLevels, Asked, Sharpnesses, Values, Tables, fault_where, has_chaikin_overflow, has_transition_overflow, has_denominator_overflow, has_many_entries, has_value_overflow, level_faults, track_faults}
 
 -- the first of two lists, one after the other
 pub first-here : {X : Type 0} (xs ys : List X) (x : X) → first_of xs ≡ Some x → first_of (xs ++ ys) ≡ Some x
@@ -45,13 +45,13 @@ pub first-from-0 : {X : Type 0} (f : ℕ → List X) (n k : ℕ) (x : X) → k <
 first-from-0 f n k x within none here = flat-first f 0 n k x within (λ j h. none j (omega (arith, h))) (ap (λ i. first_of (f i)) (zero-plus k) ∙ here)
 
 -- the faults of levels, whatever is asked of each: none where no level has one, and else the first of the first level that has
-pub none-of-levels : (asked : Asked) (channel : Channel) (track : Track) (depth : ℕ) → ((k : ℕ) → k < depth → level_faults asked channel track k ≡ [])
-    → channel_faults asked channel track depth ≡ []
-none-of-levels asked channel track depth none = flat-none (level_faults asked channel track) 0 depth (λ k h. none k (omega (arith, h)))
+pub none-of-levels : (asked : Asked) (levels : TrackLevels) (track : Track) (depth : ℕ) → ((k : ℕ) → k < depth → level_faults asked levels track k ≡ [])
+    → track_faults asked levels track depth ≡ []
+none-of-levels asked levels track depth none = flat-none (level_faults asked levels track) 0 depth (λ k h. none k (omega (arith, h)))
 
-pub first-of-levels : (asked : Asked) (channel : Channel) (track : Track) (k depth : ℕ) (fault : Fault) → k < depth → ((j : ℕ) → j < k → level_faults asked channel track j ≡ [])
-    → first_of (level_faults asked channel track k) ≡ Some fault → first_of (channel_faults asked channel track depth) ≡ Some fault
-first-of-levels asked channel track k depth fault within none here = first-from-0 (level_faults asked channel track) depth k fault within none here
+pub first-of-levels : (asked : Asked) (levels : TrackLevels) (track : Track) (k depth : ℕ) (fault : Fault) → k < depth → ((j : ℕ) → j < k → level_faults asked levels track j ≡ [])
+    → first_of (level_faults asked levels track k) ≡ Some fault → first_of (track_faults asked levels track depth) ≡ Some fault
+first-of-levels asked levels track k depth fault within none here = first-from-0 (level_faults asked levels track) depth k fault within none here
 
 -- a test over a range
 pub any-none : (test : ℕ → Bool) (a n : ℕ) → ((v : ℕ) → v < a + n → test v ≡ false) → list_any test (range_with_len a n) ≡ false
@@ -111,66 +111,66 @@ AsksValues Values = Unit {0}
 AsksValues Tables = Unit {0}
 
 -- a table is asked for that has too many entries
-abbrev pub has_entry_fault : Asked → Channel → ℕ → Bool
-has_entry_fault Sharpnesses channel k = false
-has_entry_fault Values channel k = false
-has_entry_fault Tables channel k = has_many_entries channel k
+abbrev pub has_entry_fault : Asked → TrackLevels → ℕ → Bool
+has_entry_fault Sharpnesses levels k = false
+has_entry_fault Values levels k = false
+has_entry_fault Tables levels k = has_many_entries levels k
 
 -- the level after k + 1 steps has no fault of those that are asked for
-pub record HasNoFault (asked : Asked) (channel : Channel) (k : ℕ) : Type 0 where
-  pub chaikin : has_chaikin_overflow channel k ≡ false
-  pub transition : has_transition_overflow channel k ≡ false
-  pub denominator : has_denominator_overflow channel k ≡ false
-  pub entries : has_entry_fault asked channel k ≡ false
-  pub value : has_value_overflow channel k ≡ false
+pub record HasNoFault (asked : Asked) (levels : TrackLevels) (k : ℕ) : Type 0 where
+  pub chaikin : has_chaikin_overflow levels k ≡ false
+  pub transition : has_transition_overflow levels k ≡ false
+  pub denominator : has_denominator_overflow levels k ≡ false
+  pub entries : has_entry_fault asked levels k ≡ false
+  pub value : has_value_overflow levels k ≡ false
 
 -- the tests of the level after k + 1 steps, in the order of its faults
-abbrev tests : Asked → Channel → Track → ℕ → List (Bool × Fault)
-tests asked channel track k =
-    (has_chaikin_overflow channel k, Overflow track (suc k) ChaikinOverflow)
-    ∷ (has_transition_overflow channel k, Overflow track (suc k) TransitionOverflow)
-    ∷ (has_denominator_overflow channel k, Overflow track (suc k) DenominatorOverflow)
-    ∷ (has_entry_fault asked channel k, TooLarge (Entries (suc k)))
-    ∷ (has_value_overflow channel k, Overflow track (suc k) ValueOverflow)
+abbrev tests : Asked → TrackLevels → Track → ℕ → List (Bool × Fault)
+tests asked levels track k =
+    (has_chaikin_overflow levels k, Overflow track (suc k) ChaikinOverflow)
+    ∷ (has_transition_overflow levels k, Overflow track (suc k) TransitionOverflow)
+    ∷ (has_denominator_overflow levels k, Overflow track (suc k) DenominatorOverflow)
+    ∷ (has_entry_fault asked levels k, TooLarge (Entries (suc k)))
+    ∷ (has_value_overflow levels k, Overflow track (suc k) ValueOverflow)
     ∷ []
 
-tests-are : (asked : Asked) → AsksValues asked → (channel : Channel) (track : Track) (k : ℕ) → level_faults asked channel track k ≡ held_faults (tests asked channel track k)
-tests-are Sharpnesses is channel track k = absurd is
-tests-are Values is channel track k = refl
-tests-are Tables is channel track k = refl
+tests-are : (asked : Asked) → AsksValues asked → (levels : TrackLevels) (track : Track) (k : ℕ) → level_faults asked levels track k ≡ held_faults (tests asked levels track k)
+tests-are Sharpnesses is levels track k = absurd is
+tests-are Values is levels track k = refl
+tests-are Tables is levels track k = refl
 
-module _ (asked : Asked) (values : AsksValues asked) (channel : Channel) (track : Track) where
-  none-of-level : (k : ℕ) → HasNoFault asked channel k → level_faults asked channel track k ≡ []
-  none-of-level k is = tests-are asked values channel track k ∙ none-held (tests asked channel track k) (is.chaikin, (is.transition, (is.denominator, (is.entries, (is.value, tt)))))
+module _ (asked : Asked) (values : AsksValues asked) (levels : TrackLevels) (track : Track) where
+  none-of-level : (k : ℕ) → HasNoFault asked levels k → level_faults asked levels track k ≡ []
+  none-of-level k is = tests-are asked values levels track k ∙ none-held (tests asked levels track k) (is.chaikin, (is.transition, (is.denominator, (is.entries, (is.value, tt)))))
 
   -- no level has a fault
-  pub no-faults : (depth : ℕ) → ((k : ℕ) → k < depth → HasNoFault asked channel k) → channel_faults asked channel track depth ≡ []
-  no-faults depth none = none-of-levels asked channel track depth (λ k h. none-of-level k (none k h))
+  pub no-faults : (depth : ℕ) → ((k : ℕ) → k < depth → HasNoFault asked levels k) → track_faults asked levels track depth ≡ []
+  no-faults depth none = none-of-levels asked levels track depth (λ k h. none-of-level k (none k h))
 
   -- the first level that has one, and which is its first
-  module _ (k depth : ℕ) (within : k < depth) (before : (j : ℕ) → j < k → HasNoFault asked channel j) where
-    first-of-level : (at : ℕ) → IsFirstHeld (tests asked channel track k) at
-        → first_of (channel_faults asked channel track depth) ≡ Some (get_or (tests asked channel track k) at (false, Overflow track 0 ChaikinOverflow)).1
+  module _ (k depth : ℕ) (within : k < depth) (before : (j : ℕ) → j < k → HasNoFault asked levels j) where
+    first-of-level : (at : ℕ) → IsFirstHeld (tests asked levels track k) at
+        → first_of (track_faults asked levels track depth) ≡ Some (get_or (tests asked levels track k) at (false, Overflow track 0 ChaikinOverflow)).1
     first-of-level at is =
-        first-of-levels asked channel track k depth (get_or (tests asked channel track k) at (false, Overflow track 0 ChaikinOverflow)).1 within (λ j h. none-of-level j (before j h))
-        (ap first_of (tests-are asked values channel track k) ∙ first-held (tests asked channel track k) at (false, Overflow track 0 ChaikinOverflow) is)
+        first-of-levels asked levels track k depth (get_or (tests asked levels track k) at (false, Overflow track 0 ChaikinOverflow)).1 within (λ j h. none-of-level j (before j h))
+        (ap first_of (tests-are asked values levels track k) ∙ first-held (tests asked levels track k) at (false, Overflow track 0 ChaikinOverflow) is)
 
-    pub chaikin-first : has_chaikin_overflow channel k ≡ true → first_of (channel_faults asked channel track depth) ≡ Some (Overflow track (suc k) ChaikinOverflow)
+    pub chaikin-first : has_chaikin_overflow levels k ≡ true → first_of (track_faults asked levels track depth) ≡ Some (Overflow track (suc k) ChaikinOverflow)
     chaikin-first chaikin = first-of-level 0 chaikin
 
-    pub transition-first : has_chaikin_overflow channel k ≡ false → has_transition_overflow channel k ≡ true
-        → first_of (channel_faults asked channel track depth) ≡ Some (Overflow track (suc k) TransitionOverflow)
+    pub transition-first : has_chaikin_overflow levels k ≡ false → has_transition_overflow levels k ≡ true
+        → first_of (track_faults asked levels track depth) ≡ Some (Overflow track (suc k) TransitionOverflow)
     transition-first chaikin transition = first-of-level 1 (chaikin, transition)
 
-    pub denominator-first : has_chaikin_overflow channel k ≡ false → has_transition_overflow channel k ≡ false → has_denominator_overflow channel k ≡ true
-        → first_of (channel_faults asked channel track depth) ≡ Some (Overflow track (suc k) DenominatorOverflow)
+    pub denominator-first : has_chaikin_overflow levels k ≡ false → has_transition_overflow levels k ≡ false → has_denominator_overflow levels k ≡ true
+        → first_of (track_faults asked levels track depth) ≡ Some (Overflow track (suc k) DenominatorOverflow)
     denominator-first chaikin transition denominator = first-of-level 2 (chaikin, (transition, denominator))
 
-    pub entries-first : has_chaikin_overflow channel k ≡ false → has_transition_overflow channel k ≡ false → has_denominator_overflow channel k ≡ false
-        → has_entry_fault asked channel k ≡ true → first_of (channel_faults asked channel track depth) ≡ Some (TooLarge (Entries (suc k)))
+    pub entries-first : has_chaikin_overflow levels k ≡ false → has_transition_overflow levels k ≡ false → has_denominator_overflow levels k ≡ false
+        → has_entry_fault asked levels k ≡ true → first_of (track_faults asked levels track depth) ≡ Some (TooLarge (Entries (suc k)))
     entries-first chaikin transition denominator entries = first-of-level 3 (chaikin, (transition, (denominator, entries)))
 
-    pub value-first : has_chaikin_overflow channel k ≡ false → has_transition_overflow channel k ≡ false → has_denominator_overflow channel k ≡ false
-        → has_entry_fault asked channel k ≡ false → has_value_overflow channel k ≡ true
-        → first_of (channel_faults asked channel track depth) ≡ Some (Overflow track (suc k) ValueOverflow)
+    pub value-first : has_chaikin_overflow levels k ≡ false → has_transition_overflow levels k ≡ false → has_denominator_overflow levels k ≡ false
+        → has_entry_fault asked levels k ≡ false → has_value_overflow levels k ≡ true
+        → first_of (track_faults asked levels track depth) ≡ Some (Overflow track (suc k) ValueOverflow)
     value-first chaikin transition denominator entries value = first-of-level 4 (chaikin, (transition, (denominator, (entries, value))))

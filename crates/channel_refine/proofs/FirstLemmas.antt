@@ -7,7 +7,7 @@ use Rattle.subdiv_model.specs.Child.{refined_level}
 use Rattle.subdiv_model.specs.Refined.{child_denominators}
 use Rattle.subdiv_model.specs.Fault as model
 use Rattle.subdiv_model.specs.Fault.{Overflow, ChaikinOverflow, TransitionOverflow, DenominatorOverflow, ValueOverflow}
-use Rattle.subdiv_model.specs.Channel.{Channel, Asked, number_bound, entry_bound, chaikin_overflows_at, transition_overflows_at, at_some_point, channel_level, denominators_after, greatest_denominator, channel_faults}
+use Rattle.subdiv_model.specs.Channel.{Channel, Asked, number_bound, entry_bound, chaikin_overflows_at, transition_overflows_at, at_some_point, channel_level, denominators_after, greatest_denominator, channel_faults, whole_levels}
 use Rattle.level_topology.specs.Topology.{Topology}
 use Rattle.level_topology.specs.Child.{ChildTopology}
 use Rattle.uniform_refiner.specs.Refined.{IsRefined, IsRefusal}
@@ -24,7 +24,7 @@ use Rattle.channel_refine.proofs.UniformLemmas.{AreNextNumbers, no-chaikin, no-t
 use Rattle.channel_refine.proofs.ValueLemmas.{none-passes}
 
 -- the levels so far have no fault of those that are asked for; the last of them, and its common denominators
-module _ (asked : Asked) (values : AsksValues asked) (channel : Channel) (k : ℕ) (none : (j : ℕ) → j < k → HasNoFault asked channel j)
+module _ (asked : Asked) (values : AsksValues asked) (channel : Channel) (k : ℕ) (none : (j : ℕ) → j < k → HasNoFault asked (whole_levels channel) j)
     (level : Level) (here : level ≡ channel_level channel k) (dens : List ℕ) (known : dens ≡ denominators_after channel k) where
   pub dens-after : denominators_after channel (suc k) ≡ child_denominators level channel.scheme dens
   dens-after =
@@ -47,7 +47,7 @@ module _ (asked : Asked) (values : AsksValues asked) (channel : Channel) (k : �
   transition-some h = subst (λ some. at_some_point (transition_overflows_at some channel.scheme) some ≡ true) here h
 
   -- the next level has none either
-  pub none-here : (next : List ℕ) → AreNextNumbers (max channel.greatest channel.common) level channel.scheme dens next → has_entry_fault asked channel k ≡ false → HasNoFault asked channel k
+  pub none-here : (next : List ℕ) → AreNextNumbers (max channel.greatest channel.common) level channel.scheme dens next → has_entry_fault asked (whole_levels channel) k ≡ false → HasNoFault asked (whole_levels channel) k
   none-here next are entries = record {
     chaikin = chaikin-none are.chaikin;
     transition = transition-none are.transition;
@@ -59,7 +59,7 @@ module _ (asked : Asked) (values : AsksValues asked) (channel : Channel) (k : �
   }
 
 -- the next level has one, and it is the first
-module _ (asked : Asked) (values : AsksValues asked) (channel : Channel) (k : ℕ) (none : (j : ℕ) → j < k → HasNoFault asked channel j)
+module _ (asked : Asked) (values : AsksValues asked) (channel : Channel) (k : ℕ) (none : (j : ℕ) → j < k → HasNoFault asked (whole_levels channel) j)
     (t : Topology) (here : t.level ≡ channel_level channel k) (dens : List ℕ) (known : dens ≡ denominators_after channel k) (depth : ℕ) (within : k < depth) where
   named : suc k ≡ k + 1
   named = omega arith
@@ -70,7 +70,7 @@ module _ (asked : Asked) (values : AsksValues asked) (channel : Channel) (k : �
       record {
         after_level_0 = omega arith;
         within = omega (arith, within);
-        fine = λ track. subst (λ m. channel_faults asked channel track m ≡ []) before (no-faults asked values channel track k none);
+        fine = λ track. subst (λ m. channel_faults asked channel track m ≡ []) before (no-faults asked values (whole_levels channel) track k none);
         count_is = is_count ∙ ap (λ (some : Level). sum_by length some.polygons) (here ∙ ap (refined_level channel.base) before);
         many = many;
       }
@@ -79,13 +79,13 @@ module _ (asked : Asked) (values : AsksValues asked) (channel : Channel) (k : �
   pub first-of-level : (fault : RefineFault) → IsRefusal t fault → IsChannelFault asked channel depth (told_of_level (k + 1) fault)
   first-of-level (refuse.TooLarge count) is = large count is.0 is.1
   first-of-level (refuse.Chaikin v) is = λ track.
-      chaikin-first asked values channel track k depth within none (chaikin-some asked values channel k none t.level here dens known v is.exists is.overflows)
+      chaikin-first asked values (whole_levels channel) track k depth within none (chaikin-some asked values channel k none t.level here dens known v is.exists is.overflows)
       ∙ ap (λ m. Some (Overflow track m ChaikinOverflow)) named
   first-of-level refuse.Memory is = tt
 
   -- or nothing can be carried to it
   module _ (child : ChildTopology) (refined : IsRefined t child) (next : List ℕ) (are : next ≡ child_denominators t.level channel.scheme dens)
-      (entries : ℕ) (few : has_entry_fault asked channel k ≡ nat_lt entry_bound entries) where
+      (entries : ℕ) (few : has_entry_fault asked (whole_levels channel) k ≡ nat_lt entry_bound entries) where
     after : denominators_after channel (suc k) ≡ next
     after = dens-after asked values channel k none t.level here dens known ∙ sym are
 
@@ -95,21 +95,21 @@ module _ (asked : Asked) (values : AsksValues asked) (channel : Channel) (k : �
     pub first-of-carried : (fault : CarryFault) → IsCarryFault (max channel.greatest channel.common) t.level channel.scheme child.origins next entries fault
         → IsChannelFault asked channel depth (told_of_carried (k + 1) fault)
     first-of-carried carry.Transition is = λ track.
-        transition-first asked values channel track k depth within none chaikin
+        transition-first asked values (whole_levels channel) track k depth within none chaikin
         (transition-some asked values channel k none t.level here dens known (some-transition t child refined channel.scheme is.0 is.1))
         ∙ ap (λ m. Some (Overflow track m TransitionOverflow)) named
     first-of-carried carry.Denominator is = λ track.
-        denominator-first asked values channel track k depth within none chaikin
+        denominator-first asked values (whole_levels channel) track k depth within none chaikin
         (transition-none asked values channel k none t.level here dens known (no-transition t child refined channel.scheme is.0))
         (ap (list_any (nat_lt number_bound)) after ∙ is.1)
         ∙ ap (λ m. Some (Overflow track m DenominatorOverflow)) named
     first-of-carried carry.Entries is = λ track.
-        entries-first asked values channel track k depth within none chaikin
+        entries-first asked values (whole_levels channel) track k depth within none chaikin
         (transition-none asked values channel k none t.level here dens known (no-transition t child refined channel.scheme is.0))
         (ap (list_any (nat_lt number_bound)) after ∙ is.1) (few ∙ lt-ltb entry_bound entries is.2)
         ∙ ap (λ m. Some (model.TooLarge (model.Entries m))) named
     first-of-carried carry.Value is = λ track.
-        value-first asked values channel track k depth within none chaikin
+        value-first asked values (whole_levels channel) track k depth within none chaikin
         (transition-none asked values channel k none t.level here dens known (no-transition t child refined channel.scheme is.0))
         (ap (list_any (nat_lt number_bound)) after ∙ is.1) (few ∙ le-ltb entry_bound entries is.2)
         (lt-ltb number_bound (greatest_denominator channel (suc k) * max channel.greatest channel.common)

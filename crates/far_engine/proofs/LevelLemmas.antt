@@ -11,7 +11,7 @@ use Rattle.subdiv_model.specs.Child.{refined_level, faces_after}
 use Rattle.subdiv_model.specs.ObjMesh.{ObjMesh}
 use Rattle.subdiv_model.specs.Command.{Command, Levels}
 use Rattle.subdiv_model.specs.Fault.{Fault, TooLarge, LevelFaces, Overflow, Track, Positions, ChaikinOverflow}
-use Rattle.subdiv_model.specs.Channel.{Channel, Sharpnesses, fault_where, chaikin_overflows_at, has_chaikin_overflow, channel_faults}
+use Rattle.subdiv_model.specs.Channel.{Channel, Sharpnesses, fault_where, chaikin_overflows_at, has_chaikin_overflow, channel_faults, whole_levels}
 use Rattle.subdiv_model.specs.Answer.{face_limit, mesh_limit, level_count_faults, count_faults, command_faults, positions_of}
 use Rattle.level_laws.proofs.FaceLemmas.{faces-after, child_polygons-length}
 use Rattle.level_topology.specs.Topology.{Topology}
@@ -29,17 +29,17 @@ overflow-here : (b : Bool) (fault : Fault) → b ≡ true → fault_where b faul
 overflow-here true fault h = refl
 overflow-here false fault h = absurd (cc)
 
-pub no-overflows : (channel : Channel) (track : Track) (depth : ℕ) → ((k : ℕ) → k < depth → has_chaikin_overflow channel k ≡ false) →
+pub no-overflows : (channel : Channel) (track : Track) (depth : ℕ) → ((k : ℕ) → k < depth → has_chaikin_overflow (whole_levels channel) k ≡ false) →
     channel_faults Sharpnesses channel track depth ≡ []
 no-overflows channel track depth none =
-    none-of-levels Sharpnesses channel track depth (λ k h. overflow-where (has_chaikin_overflow channel k) (Overflow track (suc k) ChaikinOverflow) (none k h))
+    none-of-levels Sharpnesses (whole_levels channel) track depth (λ k h. overflow-where (has_chaikin_overflow (whole_levels channel) k) (Overflow track (suc k) ChaikinOverflow) (none k h))
 
-pub first-overflow : (channel : Channel) (track : Track) (k depth : ℕ) → k < depth → ((j : ℕ) → j < k → has_chaikin_overflow channel j ≡ false) →
-    has_chaikin_overflow channel k ≡ true → first_of (channel_faults Sharpnesses channel track depth) ≡ Some (Overflow track (suc k) ChaikinOverflow)
+pub first-overflow : (channel : Channel) (track : Track) (k depth : ℕ) → k < depth → ((j : ℕ) → j < k → has_chaikin_overflow (whole_levels channel) j ≡ false) →
+    has_chaikin_overflow (whole_levels channel) k ≡ true → first_of (channel_faults Sharpnesses channel track depth) ≡ Some (Overflow track (suc k) ChaikinOverflow)
 first-overflow channel track k depth within none here =
-    first-of-levels Sharpnesses channel track k depth (Overflow track (suc k) ChaikinOverflow) within
-    (λ j h. overflow-where (has_chaikin_overflow channel j) (Overflow track (suc j) ChaikinOverflow) (none j h))
-    (ap first_of (overflow-here (has_chaikin_overflow channel k) (Overflow track (suc k) ChaikinOverflow) here))
+    first-of-levels Sharpnesses (whole_levels channel) track k depth (Overflow track (suc k) ChaikinOverflow) within
+    (λ j h. overflow-where (has_chaikin_overflow (whole_levels channel) j) (Overflow track (suc j) ChaikinOverflow) (none j h))
+    (ap first_of (overflow-here (has_chaikin_overflow (whole_levels channel) k) (Overflow track (suc k) ChaikinOverflow) here))
 
 -- of the faces of levels
 face-where : (n : ℕ) (fault : Fault) → n ≤ 2 ^ 22 → fault_where (nat_lt face_limit n) fault ≡ []
@@ -100,12 +100,12 @@ few-not-large polygons depth k within few large =
 -- where halves overflow at no point of the levels before a depth
 pub levels-fine : (mesh : ObjMesh) (depth : ℕ) →
     ((k : ℕ) → k < depth → (v : ℕ) → v < (refined_level (base_level mesh) k).point_count → chaikin_overflows_at (refined_level (base_level mesh) k) v ≡ false) →
-    (k : ℕ) → k < depth → has_chaikin_overflow (positions_of mesh) k ≡ false
+    (k : ℕ) → k < depth → has_chaikin_overflow (whole_levels (positions_of mesh)) k ≡ false
 levels-fine mesh depth fine k h =
     any-none (chaikin_overflows_at (refined_level (base_level mesh) k)) 0 (refined_level (base_level mesh) k).point_count (λ v g. fine k h v (omega (arith, g)))
 
 pub level-overflows : (mesh : ObjMesh) (k v : ℕ) → v < (refined_level (base_level mesh) k).point_count →
-    chaikin_overflows_at (refined_level (base_level mesh) k) v ≡ true → has_chaikin_overflow (positions_of mesh) k ≡ true
+    chaikin_overflows_at (refined_level (base_level mesh) k) v ≡ true → has_chaikin_overflow (whole_levels (positions_of mesh)) k ≡ true
 level-overflows mesh k v within here =
     any-from-0 (chaikin_overflows_at (refined_level (base_level mesh) k)) (refined_level (base_level mesh) k).point_count v within here
 
@@ -140,7 +140,7 @@ refusal-of-others command mesh level depth others fault accepted split few is =
 
 -- a level at which halves overflow, where those before it are made
 pub refusal-of-halves : (mesh : ObjMesh) (level : Topology) (k depth : ℕ) → IsAccepted mesh level → first_of (level_count_faults mesh.faces depth) ≡ None →
-    k < depth → ((j : ℕ) → j < k → has_chaikin_overflow (positions_of mesh) j ≡ false) → has_chaikin_overflow (positions_of mesh) k ≡ true →
+    k < depth → ((j : ℕ) → j < k → has_chaikin_overflow (whole_levels (positions_of mesh)) j ≡ false) → has_chaikin_overflow (whole_levels (positions_of mesh)) k ≡ true →
     refusal_of_mesh (Levels depth) mesh ≡ Some (Overflow Positions (suc k) ChaikinOverflow)
 refusal-of-halves mesh level k depth accepted few within none here =
     refusal-of-others (Levels depth) mesh level depth (channel_faults Sharpnesses (positions_of mesh) Positions depth) (Some (Overflow Positions (suc k) ChaikinOverflow))
@@ -148,7 +148,7 @@ refusal-of-halves mesh level k depth accepted few within none here =
 
 -- no refusal, where all levels are made
 pub no-refusal : (mesh : ObjMesh) (level : Topology) (depth : ℕ) → IsAccepted mesh level → first_of (level_count_faults mesh.faces depth) ≡ None →
-    ((k : ℕ) → k < depth → has_chaikin_overflow (positions_of mesh) k ≡ false) → refusal_of_mesh (Levels depth) mesh ≡ None
+    ((k : ℕ) → k < depth → has_chaikin_overflow (whole_levels (positions_of mesh)) k ≡ false) → refusal_of_mesh (Levels depth) mesh ≡ None
 no-refusal mesh level depth accepted few none =
     refusal-of-others (Levels depth) mesh level depth (channel_faults Sharpnesses (positions_of mesh) Positions depth) None
     accepted refl few (ap first_of (no-overflows (positions_of mesh) Positions depth none))

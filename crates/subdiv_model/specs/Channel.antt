@@ -58,22 +58,44 @@ denominators_after channel k = refined_denominators channel.base channel.scheme 
 abbrev pub greatest_denominator : Channel → ℕ → ℕ
 greatest_denominator channel k = fold max 1 (denominators_after channel k)
 
+-- Levels one after another, whole or in part, as far as their numbers go: of each the level, those of its points that have a
+-- point in the next, the common denominators of its points, and the entries of its table; and how the levels are refined, and
+-- the greatest whole number that a denominator is multiplied with.
+pub record TrackLevels : Type 0 where
+  pub scheme : Scheme
+  pub most : ℕ
+  pub level : ℕ → Level
+  pub asked : ℕ → List ℕ
+  pub denominators : ℕ → List ℕ
+  pub entries : ℕ → ℕ
+
+-- all points of the levels of a channel
+abbrev pub whole_levels : Channel → TrackLevels
+whole_levels channel = record {
+  scheme = channel.scheme;
+  most = max channel.greatest channel.common;
+  level = channel_level channel;
+  asked = λ k. range_with_len 0 (channel_level channel k).point_count;
+  denominators = denominators_after channel;
+  entries = entries_after channel.base channel.scheme;
+}
+
 -- the four overflows of the level after k + 1 steps
-abbrev pub has_chaikin_overflow : Channel → ℕ → Bool
-has_chaikin_overflow channel k = at_some_point (chaikin_overflows_at (channel_level channel k)) (channel_level channel k)
+abbrev pub has_chaikin_overflow : TrackLevels → ℕ → Bool
+has_chaikin_overflow levels k = list_any (chaikin_overflows_at (levels.level k)) (levels.asked k)
 
-abbrev pub has_transition_overflow : Channel → ℕ → Bool
-has_transition_overflow channel k = at_some_point (transition_overflows_at (channel_level channel k) channel.scheme) (channel_level channel k)
+abbrev pub has_transition_overflow : TrackLevels → ℕ → Bool
+has_transition_overflow levels k = list_any (transition_overflows_at (levels.level k) levels.scheme) (levels.asked k)
 
-abbrev pub has_denominator_overflow : Channel → ℕ → Bool
-has_denominator_overflow channel k = list_any (nat_lt number_bound) (denominators_after channel (suc k))
+abbrev pub has_denominator_overflow : TrackLevels → ℕ → Bool
+has_denominator_overflow levels k = list_any (nat_lt number_bound) (levels.denominators (suc k))
 
-abbrev pub has_value_overflow : Channel → ℕ → Bool
-has_value_overflow channel k = nat_lt number_bound (greatest_denominator channel (suc k) * max channel.greatest channel.common)
+abbrev pub has_value_overflow : TrackLevels → ℕ → Bool
+has_value_overflow levels k = nat_lt number_bound (fold max 1 (levels.denominators (suc k)) * levels.most)
 
 -- the level's table has too many entries
-abbrev pub has_many_entries : Channel → ℕ → Bool
-has_many_entries channel k = nat_lt entry_bound (entries_after channel.base channel.scheme (suc k))
+abbrev pub has_many_entries : TrackLevels → ℕ → Bool
+has_many_entries levels k = nat_lt entry_bound (levels.entries (suc k))
 
 -- what is asked of each level: the sharpness alone, the values too, or the values and the entries of the tables
 pub data Asked : Type 0 where
@@ -88,23 +110,26 @@ fault_where stands fault = if stands then fault ∷ [] else []
 abbrev pub overflow_where : Bool → Track → ℕ → OverflowKind → List Fault
 overflow_where stands track k kind = fault_where stands (Overflow track (suc k) kind)
 
-abbrev pub value_faults : Channel → Track → ℕ → List Fault → List Fault
-value_faults channel track k entries =
-    overflow_where (has_transition_overflow channel k) track k TransitionOverflow
-    ++ (overflow_where (has_denominator_overflow channel k) track k DenominatorOverflow
-    ++ (entries ++ overflow_where (has_value_overflow channel k) track k ValueOverflow))
+abbrev pub value_faults : TrackLevels → Track → ℕ → List Fault → List Fault
+value_faults levels track k entries =
+    overflow_where (has_transition_overflow levels k) track k TransitionOverflow
+    ++ (overflow_where (has_denominator_overflow levels k) track k DenominatorOverflow
+    ++ (entries ++ overflow_where (has_value_overflow levels k) track k ValueOverflow))
 
-abbrev pub asked_faults : Asked → Channel → Track → ℕ → List Fault
-asked_faults Sharpnesses channel track k = []
-asked_faults Values channel track k = value_faults channel track k []
-asked_faults Tables channel track k =
-    value_faults channel track k (fault_where (has_many_entries channel k) (TooLarge (Entries (suc k))))
+abbrev pub asked_faults : Asked → TrackLevels → Track → ℕ → List Fault
+asked_faults Sharpnesses levels track k = []
+asked_faults Values levels track k = value_faults levels track k []
+asked_faults Tables levels track k =
+    value_faults levels track k (fault_where (has_many_entries levels k) (TooLarge (Entries (suc k))))
 
 -- the faults of the level after k + 1 steps, in their order
-abbrev pub level_faults : Asked → Channel → Track → ℕ → List Fault
-level_faults asked channel track k =
-    overflow_where (has_chaikin_overflow channel k) track k ChaikinOverflow ++ asked_faults asked channel track k
+abbrev pub level_faults : Asked → TrackLevels → Track → ℕ → List Fault
+level_faults asked levels track k =
+    overflow_where (has_chaikin_overflow levels k) track k ChaikinOverflow ++ asked_faults asked levels track k
 
 -- the faults of so many levels, level by level
+abbrev pub track_faults : Asked → TrackLevels → Track → ℕ → List Fault
+track_faults asked levels track depth = flat_map (level_faults asked levels track) (range_with_len 0 depth)
+
 abbrev pub channel_faults : Asked → Channel → Track → ℕ → List Fault
-channel_faults asked channel track depth = flat_map (level_faults asked channel track) (range_with_len 0 depth)
+channel_faults asked channel track depth = track_faults asked (whole_levels channel) track depth

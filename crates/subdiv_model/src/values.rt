@@ -2,7 +2,7 @@
 
 ghost use Rattle.std.specs.Prelude.{◌≡◌, ◌+◌, ◌^◌, true, false, [], ◌∷◌, ◌++◌, map, get_or, replicate, pos, codes};
 ghost use Rattle.subdiv_model.specs.Base.{base_level};
-ghost use Rattle.subdiv_model.specs.Channel.{Sharpnesses, Tables, Values, chaikin_overflows_at, channel_faults, greatest_denominator, has_value_overflow, transition_overflows_at};
+ghost use Rattle.subdiv_model.specs.Channel.{Sharpnesses, Tables, Values, chaikin_overflows_at, channel_faults, greatest_denominator, has_value_overflow, whole_levels, transition_overflows_at};
 ghost use Rattle.subdiv_model.specs.ExampleControls.{cube_ring, cube_x, cube_z};
 ghost use Rattle.subdiv_model.specs.Examples.{cube, square, tagged_level, tagged_mesh, tetrahedron, two_triangles};
 ghost use Rattle.subdiv_model.specs.Fault.{ChaikinOverflow, Overflow, Positions, Texture, TransitionOverflow, ValueOverflow};
@@ -89,9 +89,9 @@ pub fn shares_of_controls()
 /// A value overflows where the greatest common denominator times the greatest numerator, or times the common
 /// denominator of the channel, passes the bound.
 pub fn overflows_of_values()
-    ensures greatest { has_value_overflow (record { base = plain_level 8 cube; scheme = CatmullClark; greatest = 2363071992506517107384545884942834801; common = 1 }) 0 ≡ false }
-    ensures past { has_value_overflow (record { base = plain_level 8 cube; scheme = CatmullClark; greatest = 2363071992506517107384545884942834802; common = 1 }) 0 ≡ true }
-    ensures common { has_value_overflow (record { base = plain_level 8 cube; scheme = CatmullClark; greatest = 0; common = 2363071992506517107384545884942834802 }) 0 ≡ true }
+    ensures greatest { has_value_overflow (whole_levels (record { base = plain_level 8 cube; scheme = CatmullClark; greatest = 2363071992506517107384545884942834801; common = 1 })) 0 ≡ false }
+    ensures past { has_value_overflow (whole_levels (record { base = plain_level 8 cube; scheme = CatmullClark; greatest = 2363071992506517107384545884942834802; common = 1 })) 0 ≡ true }
+    ensures common { has_value_overflow (whole_levels (record { base = plain_level 8 cube; scheme = CatmullClark; greatest = 0; common = 2363071992506517107384545884942834802 })) 0 ≡ true }
 {}
 
 /// Where sharpness overflows: by the chaikin rule at a vertex of two semi-sharp edges, and in a transition where
