@@ -22,7 +22,7 @@ use Rattle.subdiv_model.specs.Short.{IsShortPoint}
 use Rattle.ratio128.specs.declared.point.Point3.{Point3}
 use Rattle.ratio128.specs.declared.valued.Valued.{Valued}
 use Rattle.primvar_refine.specs.View.{rows_of}
-use Rattle.level_counts.specs.Series.{faces_to}
+use Rattle.uniform_walk.specs.Levels.{faces_to}
 use Rattle.channel_refine.specs.Refined.{IsBase, IsRefinedTo, IsTooLarge, IsChannelFault, channel_of}
 use Rattle.channel_refine.specs.declared.refine.RefinedChannel.{RefinedChannel}
 use Rattle.channel_refine.specs.declared.fault.ChannelFault.{ChannelFault}

@@ -10,6 +10,7 @@ use Rattle.subdiv_model.specs.ObjMesh.{ObjMesh}
 use Rattle.subdiv_model.specs.Command.{Command, Levels}
 use Rattle.subdiv_model.specs.Fault.{Fault, TooLarge, Overflow, Positions, ChaikinOverflow}
 use Rattle.subdiv_model.specs.Answer.{level_count_faults, command_faults, command_text}
+use Rattle.mask_laws.proofs.BoundaryLemmas.{boundary-base}
 use Rattle.level_topology.specs.Topology.{Topology}
 use Rattle.level_topology.specs.declared.counted.Counted.{Counted}
 use Rattle.level_topology.specs.CountedText.{counted_of}
@@ -18,12 +19,14 @@ use Rattle.mesh_check.specs.Checked.{IsAccepted}
 use Rattle.level_counts.specs.declared.counts.LevelCounts.{LevelCounts}
 use Rattle.level_counts.specs.Counts.{counts_of, levels_lines}
 use Rattle.level_counts.specs.View.{seen_counts}
-use Rattle.level_counts.specs.Series.{AreMade, IsFirstFault, Overflows, faces_to}
+use Rattle.uniform_walk.specs.Levels.{AreMade, Overflows, faces_to}
+use Rattle.level_counts.specs.Series.{IsFirstFault}
 use Rattle.level_counts.specs.declared.series.SeriesFault.TheVariants as series
 use Rattle.subdiv_model.specs.LevelText.{level_line, levels_text}
 use Rattle.far_engine.specs.Written.{IsWritten, written_text}
 use Rattle.far_engine.specs.Levels.{IsAcceptedLevel, AreCounted}
 use Rattle.far_engine.specs.Outcome.{refusal_of_mesh, step_limit}
+use Rattle.far_engine.proofs.RefusalLemmas.{manifold-of}
 use Rattle.far_engine.proofs.LevelLemmas.{first-large, levels-fine, level-overflows, next-count, refusal-of-faces, refusal-of-halves, no-refusal, few-points, steps-of-levels}
 
 -- the levels of a mesh that were made
@@ -74,6 +77,7 @@ accepted-level mesh level accepted =
     record {
       points = subst (λ n. n ≤ 2 ^ 20) (sym many) (few-points mesh accepted.small);
       whole = accepted.complete ∙ ap (λ n. replicate n true) (sym many);
+      boundary = rw accepted.level_is (boundary-base mesh (manifold-of mesh accepted.manifold));
     }
 
 -- the steps of all levels

@@ -37,7 +37,7 @@ use Rattle.ratio128.specs.declared.valued.Valued.{Valued}
 use Rattle.primvar_refine.specs.View.{rows_of}
 use Rattle.face_varying.specs.Cut.{CutChannel, IsCut}
 use Rattle.level_text.specs.Texture.{texture_points_of, CanTextureBeWritten, IsSameTexturePoint, HasTextureDenominators}
-use Rattle.level_counts.specs.Series.{faces_to}
+use Rattle.uniform_walk.specs.Levels.{faces_to}
 use Rattle.channel_refine.specs.Refined.{IsBase, AreControls, IsRefinedTo, IsChannelFault, channel_of}
 use Rattle.channel_refine.specs.declared.refine.RefinedChannel.{RefinedChannel}
 use Rattle.channel_refine.specs.declared.fault.ChannelFault.{ChannelFault}

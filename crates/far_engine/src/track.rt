@@ -6,7 +6,7 @@ ghost use Rattle.subdiv_model.specs.Command.{ByLevel};
 ghost use Rattle.subdiv_model.specs.Channel.{Channel, Asked, Values, number_bound, channel_faults};
 ghost use Rattle.subdiv_model.specs.Answer.{asked_of};
 ghost use Rattle.mask_rules.specs.View.{scheme_of};
-ghost use Rattle.level_counts.specs.Series.{faces_to};
+ghost use Rattle.uniform_walk.specs.Levels.{faces_to};
 ghost use Rattle.primvar_refine.specs.View.{rows_of};
 ghost use Rattle.channel_refine.specs.Refined.{IsBase, AreControls, IsRefinedTo, IsTooLarge, IsChannelFault, channel_of};
 ghost use Rattle.channel_refine.specs.Evaluated.{control_rows};

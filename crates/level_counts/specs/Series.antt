@@ -1,28 +1,16 @@
--- The levels to a depth, one made from another, or why they cannot all be made.
-use Rattle.std.specs.Prelude.{ℕ, ◌≡◌, ◌-◌, ◌^◌, ◌<◌, ◌≤◌, true, false, length, replicate}
-use Rattle.std.specs.List.{sum_by, range_with_len}
+-- Why the levels to a depth cannot all be made.
+use Rattle.std.specs.Prelude.{ℕ, ◌≡◌, ◌-◌, ◌^◌, ◌<◌, ◌≤◌, length}
+use Rattle.std.specs.List.{sum_by}
 use Rattle.subdiv_model.specs.Level.{Level}
-use Rattle.subdiv_model.specs.Child.{child_level, refined_level}
-use Rattle.subdiv_model.specs.Channel.{chaikin_overflows_at}
-use Rattle.level_topology.specs.Topology.{Topology}
+use Rattle.subdiv_model.specs.Child.{refined_level}
+use Rattle.level_walk.specs.declared.fault.Cause.{Cause}
+use Rattle.level_walk.specs.declared.fault.Cause.TheVariants as cause
+use Rattle.level_walk.specs.declared.fault.WalkFault.{WalkFault}
+use Rattle.uniform_refiner.specs.declared.fault.RefineFault.{RefineFault}
+use Rattle.uniform_refiner.specs.declared.fault.RefineFault.TheVariants as level
+use Rattle.uniform_walk.specs.Levels.{AreMade, Overflows}
 use Rattle.level_counts.specs.declared.series.SeriesFault.{SeriesFault}
 use Rattle.level_counts.specs.declared.series.SeriesFault.TheVariants.{TooLarge, Chaikin, Memory}
-
--- the next level has few enough faces, and at no point do halves overflow
-pub record CanBeRefined (level : Level) : Type 0 where
-  pub few : sum_by length level.polygons ≤ 2 ^ 22
-  pub fine : (v : ℕ) → v < level.point_count → chaikin_overflows_at level v ≡ false
-
--- so many levels after this one can be made
-abbrev pub AreMade : Level → ℕ → Type 0
-AreMade level count = (k : ℕ) → k < count → CanBeRefined (refined_level level k)
-
--- the next level has few enough faces, and at some point halves overflow
-pub record Overflows (level : Level) : Type 0 where
-  pub few : sum_by length level.polygons ≤ 2 ^ 22
-  pub v : ℕ
-  pub exists : v < level.point_count
-  pub overflows : chaikin_overflows_at level v ≡ true
 
 -- why a level has no next one, which would have this number
 abbrev pub IsStepFault : Level → ℕ → SeriesFault → Type 0
@@ -43,12 +31,16 @@ IsSeriesFault level depth (TooLarge k count) = IsFirstFault level depth k (TooLa
 IsSeriesFault level depth (Chaikin k) = IsFirstFault level depth k (Chaikin k)
 IsSeriesFault level depth Memory = Unit {0}
 
--- the level after another, all of whose points are complete
-pub record IsNext (before next : Topology) : Type 0 where
-  pub level : next.level ≡ child_level before.level
-  pub complete : next.complete ≡ replicate next.level.point_count true
-  pub refined : CanBeRefined before.level
+-- the fault of a walk; nothing is carried, and so there is none of what is carried
+abbrev pub told_of_level : ℕ → RefineFault → SeriesFault
+told_of_level number (level.TooLarge count) = TooLarge number count
+told_of_level number (level.Chaikin v) = Chaikin number
+told_of_level number level.Memory = Memory
 
--- how many faces the levels from 1 to a depth have
-abbrev pub faces_to : Level → ℕ → ℕ
-faces_to level depth = sum_by (λ k. length (refined_level level k).polygons) (range_with_len 1 depth)
+abbrev pub told_of_cause : {B : Type 0} → ℕ → Cause RefineFault B → SeriesFault
+told_of_cause number (cause.Level fault) = told_of_level number fault
+told_of_cause number (cause.Carried fault) = Memory
+told_of_cause number cause.Memory = Memory
+
+abbrev pub told_of : {B : Type 0} → WalkFault RefineFault B → SeriesFault
+told_of fault = told_of_cause fault.level fault.cause

@@ -1,21 +1,22 @@
 //! The counts of the levels to a depth, of which one is kept at a time.
 
-ghost use Rattle.std.specs.Prelude.{◌≡◌, ℕ, ◌+◌, ◌^◌, ◌<◌, ◌≤◌, true, length, map, replicate, List, [], ◌∷◌, ◌++◌, IfOk, OnOk, MatchResult, vec_len};
-ghost use Rattle.std.specs.Vec.{vec_capacity};
-ghost use Rattle.std.specs.List.{sum_by, range_with_len};
+ghost use Rattle.std.specs.Prelude.{◌≡◌, ℕ, ◌+◌, ◌^◌, ◌≤◌, true, length, map, replicate, [], ◌∷◌, ◌++◌, Ok, Err, IfOk, MatchResult, IsTrue};
+ghost use Rattle.std.specs.List.{range_with_len};
 ghost use Rattle.subdiv_model.specs.Child.{refined_level};
+ghost use Rattle.mask_laws.specs.SharpBoundary.{has_sharp_boundary};
+ghost use Rattle.uniform_walk.specs.Levels.{AreMade, faces_to};
 ghost use Rattle.level_counts.specs.Counts.{counts_of};
-ghost use Rattle.level_counts.specs.Series.{AreMade, IsNext, IsSeriesFault, IsStepFault, faces_to};
+ghost use Rattle.level_counts.specs.Series.{IsSeriesFault, told_of};
 ghost use Rattle.level_counts.specs.View.{seen_counts};
-ghost use Rattle.level_topology.specs.Topology.{Topology};
-ghost use Rattle.uniform_refiner.specs.Refined.{IsRefusal};
 
 use crate::counts::LevelCounts;
 use level_topology::Level;
+use level_walk::{Cause, Never, Nothing, Reached, Visitor, WalkFault, walk};
 use ratio128::{Memory, Steps};
 use std::alloc::Global;
 use std::sync::ledger::Ledger;
-use uniform_refiner::{RefineFault, refine};
+use uniform_refiner::RefineFault;
+use uniform_walk::Uniform;
 
 /// Why the levels to a depth cannot all be made: the number of the first that cannot, from 1, and why.
 #[derive(Clone, Copy, Debug, PartialEq, Eq)]
@@ -39,126 +40,72 @@ impl From<Memory> for SeriesFault {
     }
 }
 
-// Why there is no level with this number.
-fn step_fault(fault: RefineFault, number: u32) -> SeriesFault
-    ensures { (parent : Topology) → IsRefusal parent fault → IsStepFault parent.level number result }
+// The fault of a walk that carries nothing, as that of the levels.
+fn series_fault(fault: WalkFault<RefineFault, Never>) -> SeriesFault
+    ensures { result ≡ told_of fault }
 {
-    match fault {
-        RefineFault::TooLarge(count) => SeriesFault::TooLarge {
-            level: number,
-            count,
-        },
-        RefineFault::Chaikin(_) => SeriesFault::Chaikin { level: number },
-        RefineFault::Memory => SeriesFault::Memory,
+    let level = fault.level;
+    match fault.cause {
+        Cause::Level(RefineFault::TooLarge(count)) => SeriesFault::TooLarge { level, count },
+        Cause::Level(RefineFault::Chaikin(_)) => SeriesFault::Chaikin { level },
+        _ => SeriesFault::Memory,
     }
 }
 
-// The level after a level, which has this number.
-fn next_level<L: Ledger>(
-    alloc: Global,
-    level: &Level,
-    number: u32,
-    steps: &mut Steps<L>,
-) -> Result<Level, SeriesFault>
-    requires whole { level.now.complete ≡ replicate level.now.level.point_count true }
-    requires short { level.now.level.point_count ≤ 2 ^ 29 }
-    ensures made { MatchResult result (IsNext level.now) (IsStepFault level.now.level number) }
-    ensures steps { steps.new ≤ steps.old + sum_by length level.now.level.polygons }
-    ensures later { steps.old ≤ steps.new }
+// What a walk reaches, or its fault as that of the levels.
+fn walked<T>(reached: Result<T, WalkFault<RefineFault, Never>>) -> Result<T, SeriesFault>
+    ensures { MatchResult reached (λ reached. result ≡ Ok reached) (λ fault. result ≡ Err (told_of fault)) }
 {
-    match refine(alloc, level, steps) {
-        Ok(child) => Ok(child.into_level()),
-        Err(fault) => Err(step_fault(fault, number)),
+    match reached {
+        Ok(reached) => Ok(reached),
+        Err(fault) => Err(series_fault(fault)),
     }
 }
 
-// The level after a level, which has this number. The level before it is dropped once it is made.
-fn advance<L: Ledger>(
-    alloc: Global,
-    level: Level,
-    number: u32,
-    steps: &mut Steps<L>,
-) -> Result<Level, SeriesFault>
-    requires whole { level.complete ≡ replicate level.level.point_count true }
-    requires short { level.level.point_count ≤ 2 ^ 29 }
-    ensures made { MatchResult result (IsNext level) (IsStepFault level.level number) }
-    ensures steps { steps.new ≤ steps.old + sum_by length level.level.polygons }
-    ensures later { steps.old ≤ steps.new }
-{
-    next_level(alloc, &level, number, steps)
+// The counts of the levels that were left behind.
+#[derive(Drop)]
+struct Counting {
+    counts: Vec<LevelCounts>,
 }
 
-// Puts the counts of a level after others, where there is room for them.
-fn put_counts(level: &Level, counts: &mut Vec<LevelCounts>)
-    requires room { vec_len counts.old < vec_capacity counts.old }
-    ensures counted { map seen_counts counts.new.items ≡ map seen_counts counts.old.items ++ counts_of level.now.level ∷ [] }
-    ensures len { vec_len counts.new ≡ vec_len counts.old + 1 }
-    ensures capacity { vec_capacity counts.new ≡ vec_capacity counts.old }
-{
-    counts.push_reserved(LevelCounts::of(level));
-}
-
-// The counts of level 0, with room for those of so many levels after it.
-fn begin_counts(alloc: Global, base: &Level, depth: u32) -> Result<Vec<LevelCounts>, Memory>
-    requires { depth ≤ 10 }
-    ensures counted { IfOk result (λ counts. map seen_counts counts.items ≡ counts_of base.now.level ∷ []) }
-    ensures len { IfOk result (λ counts. vec_len counts ≡ 1) }
-    ensures room { IfOk result (λ counts. depth + 1 ≤ vec_capacity counts) }
-{
-    let mut counts = Vec::with_capacity(alloc, depth as usize + 1)?;
-    put_counts(base, &mut counts);
-    Ok(counts)
-}
-
-// The level after a level, which has this number, with its counts put after others.
-fn count_next<L: Ledger>(
-    alloc: Global,
-    level: Level,
-    number: u32,
-    counts: &mut Vec<LevelCounts>,
-    steps: &mut Steps<L>,
-) -> Result<Level, SeriesFault>
-    requires whole { level.complete ≡ replicate level.level.point_count true }
-    requires short { level.level.point_count ≤ 2 ^ 29 }
-    requires room { vec_len counts.old < vec_capacity counts.old }
-    ensures made { MatchResult result (IsNext level) (IsStepFault level.level number) }
-    ensures counted { IfOk result (λ next. map seen_counts counts.new.items ≡ map seen_counts counts.old.items ++ counts_of next.level ∷ []) }
-    ensures len { OnOk result (vec_len counts.new ≡ vec_len counts.old + 1) }
-    ensures capacity { OnOk result (vec_capacity counts.new ≡ vec_capacity counts.old) }
-    ensures steps { steps.new ≤ steps.old + sum_by length level.level.polygons }
-    ensures later { steps.old ≤ steps.new }
-{
-    let next = advance(alloc, level, number, steps)?;
-    put_counts(&next, counts);
-    Ok(next)
-}
-
-// Puts the counts of the levels after level 0, to a depth.
-fn count_rest<L: Ledger>(
-    alloc: Global,
-    base: Level,
-    depth: u32,
-    counts: &mut Vec<LevelCounts>,
-    steps: &mut Steps<L>,
-) -> Result<(), SeriesFault>
-    requires depth { depth ≤ 10 }
-    requires points { base.level.point_count ≤ 2 ^ 27 }
-    requires whole { base.complete ≡ replicate base.level.point_count true }
-    requires counted { map seen_counts counts.old.items ≡ counts_of base.level ∷ [] }
-    requires len { vec_len counts.old ≡ 1 }
-    requires room { depth + 1 ≤ vec_capacity counts.old }
-    ensures counted { MatchResult result
-        (λ _. (map seen_counts counts.new.items ≡ map (λ k. counts_of (refined_level base.level k)) (range_with_len 0 (depth + 1))) × AreMade base.level depth)
-        (λ fault. IsSeriesFault base.level depth fault) }
-    ensures steps { steps.new ≤ steps.old + faces_to base.level depth }
-    ensures later { steps.old ≤ steps.new }
-{
-    base.facts();
-    let mut level = base;
-    for k in 0..depth {
-        level = count_next(alloc, level, k + 1, counts, steps)?;
+impl Counting {
+    // Room for the counts of level 0 and of so many levels after it.
+    fn with_room(alloc: Global, depth: u32) -> Result<Counting, Memory>
+        requires { depth ≤ 10 }
+        ensures { IfOk result (λ counting. map seen_counts counting.counts.items ≡ []) }
+    {
+        let counts = Vec::with_capacity(alloc, depth as usize + 1)?;
+        Ok(Counting { counts })
     }
-    Ok(())
+
+    // Puts the counts of a level after others.
+    fn count(&mut self, level: &Level) -> Result<(), Memory>
+        ensures { IfOk result (λ _. map seen_counts self.new.counts.items ≡ map seen_counts self.old.counts.items ++ counts_of level.now.level ∷ []) }
+    {
+        self.counts.push(LevelCounts::of(level))?;
+        Ok(())
+    }
+}
+
+impl Visitor<Level, ()> for Counting {
+    ghost use Rattle.std.specs.Prelude.{◌≡◌, map, [], ◌∷◌, ◌++◌};
+    ghost use Rattle.level_counts.specs.Counts.{counts_of};
+    ghost use Rattle.level_counts.specs.View.{seen_counts};
+
+    ghost Takes = { λ before level _ after. map seen_counts after.counts.items ≡ map seen_counts before.counts.items ++ counts_of level.level ∷ [] };
+
+    fn leave(&mut self, level: Level, carried: ()) -> Result<(), Memory> {
+        self.count(&level)
+    }
+}
+
+// The counts of all levels, where those before the last are counted.
+fn with_last(counting: Counting, last: Level) -> Result<Vec<LevelCounts>, Memory>
+    ensures { IfOk result (λ counts. map seen_counts counts.items ≡ map seen_counts counting.counts.items ++ counts_of last.level ∷ []) }
+{
+    let mut all = counting;
+    all.count(&last)?;
+    Ok(all.counts)
 }
 
 /// The counts of each level from 0 to a depth, or why there is no level to that depth. Each level is dropped once the next one
@@ -172,13 +119,27 @@ pub fn count_levels<L: Ledger>(
     requires depth { depth ≤ 10 }
     requires points { base.level.point_count ≤ 2 ^ 27 }
     requires whole { base.complete ≡ replicate base.level.point_count true }
+    requires boundary { IsTrue (has_sharp_boundary base.level) }
     ensures counted { MatchResult result
         (λ counts. (map seen_counts counts.items ≡ map (λ k. counts_of (refined_level base.level k)) (range_with_len 0 (depth + 1))) × AreMade base.level depth)
         (λ fault. IsSeriesFault base.level depth fault) }
     ensures steps { steps.new ≤ steps.old + faces_to base.level depth }
     ensures later { steps.old ≤ steps.new }
 {
-    let mut counts = begin_counts(alloc, &base, depth)?;
-    count_rest(alloc, base, depth, &mut counts, steps)?;
+    let mut counting = Counting::with_room(alloc, depth)?;
+    let start = Reached {
+        level: base,
+        carried: (),
+    };
+    let end = walked(walk(
+        alloc,
+        &Uniform,
+        &Nothing,
+        &mut counting,
+        start,
+        depth,
+        steps,
+    ))?;
+    let counts = with_last(counting, end.level)?;
     Ok(counts)
 }
