@@ -65,7 +65,7 @@ module _ (points : ℕ) (polygons : List Polygon) where
   slot-whole : (a : ℕ) (s : ℕ × ℕ) → IsPartSlot points polygons (whole_part polygons) a s → IsSlot points polygons a s
   slot-whole a s slot = subst (λ (x : ℕ × ℕ). IsSlot points polygons a x) (sym slot.side_is) slot.slot_is
 
--- the same of these places by their list
+-- a list of the places of all corners is that part
 pub listed-part : (points : ℕ) (polygons : List Polygon) (places : List (ℕ × ℕ)) → places ≡ all_places 0 polygons → IsPart points polygons (part places (λ n. true) (λ n. n))
 listed-part points polygons places p = subst (λ (xs : List (ℕ × ℕ)). IsPart points polygons (part xs (λ n. true) (λ n. n))) (sym p) (whole-is points polygons)
 
