@@ -18,7 +18,7 @@ use Rattle.channel_refine.specs.declared.fault.CarryFault.{CarryFault}
 use Rattle.channel_refine.specs.declared.fault.CarryFault.TheVariants as carry
 use Rattle.channel_refine.specs.Refined.{IsTooLarge, IsChannelFault}
 use Rattle.channel_refine.specs.Step.{IsCarryFault}
-use Rattle.channel_refine.specs.Told.{told_of_level, told_of_carried}
+use Rattle.channel_refine.specs.Faults.{channel_fault_of_level, channel_fault_of_carried}
 use Rattle.channel_refine.proofs.FaultLemmas.{AsksValues, HasNoFault, has_entry_fault, no-faults, any-from-0, chaikin-first, transition-first, denominator-first, entries-first, value-first}
 use Rattle.channel_refine.proofs.UniformLemmas.{AreNextNumbers, no-chaikin, no-transition, some-transition}
 use Rattle.channel_refine.proofs.ValueLemmas.{none-passes}
@@ -76,7 +76,7 @@ module _ (asked : Asked) (values : AsksValues asked) (channel : Channel) (k : �
       }
 
   -- the level cannot be made
-  pub first-of-level : (fault : RefineFault) → IsRefusal t fault → IsChannelFault asked channel depth (told_of_level (k + 1) fault)
+  pub first-of-level : (fault : RefineFault) → IsRefusal t fault → IsChannelFault asked channel depth (channel_fault_of_level (k + 1) fault)
   first-of-level (refuse.TooLarge count) is = large count is.0 is.1
   first-of-level (refuse.Chaikin v) is = λ track.
       chaikin-first asked values (whole_levels channel) track k depth within none (chaikin-some asked values channel k none t.level here dens known v is.exists is.overflows)
@@ -93,7 +93,7 @@ module _ (asked : Asked) (values : AsksValues asked) (channel : Channel) (k : �
     chaikin = chaikin-none asked values channel k none t.level here dens known (no-chaikin t child refined)
 
     pub first-of-carried : (fault : CarryFault) → IsCarryFault (max channel.greatest channel.common) t.level channel.scheme child.origins next entries fault
-        → IsChannelFault asked channel depth (told_of_carried (k + 1) fault)
+        → IsChannelFault asked channel depth (channel_fault_of_carried (k + 1) fault)
     first-of-carried carry.Transition is = λ track.
         transition-first asked values (whole_levels channel) track k depth within none chaikin
         (transition-some asked values channel k none t.level here dens known (some-transition t child refined channel.scheme is.0 is.1))

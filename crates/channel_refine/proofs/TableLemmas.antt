@@ -19,7 +19,7 @@ use Rattle.stencil_factory.specs.Composed.{IsComposed, IsTableFault as is_fault}
 use Rattle.stencil_factory.specs.declared.fault.TableFault.{TableFault}
 use Rattle.stencil_factory.specs.declared.fault.TableFault.TheVariants as table
 use Rattle.channel_refine.specs.Step.{IsTableFault}
-use Rattle.channel_refine.specs.Told.{carried_of_table}
+use Rattle.channel_refine.specs.Faults.{carried_of_table}
 use Rattle.channel_refine.specs.declared.fault.CarryFault.TheVariants.{Value}
 use Rattle.channel_refine.proofs.IdentityLemmas.{entries-by-support}
 use Rattle.channel_refine.proofs.ValueLemmas.{none-passes}

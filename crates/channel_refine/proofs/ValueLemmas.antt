@@ -25,7 +25,7 @@ use Rattle.child_masks.specs.Masks.{mask_from, masks_from, CanRefine}
 use Rattle.primvar_refine.specs.Step.{AreRefined, refined_dens, IsValueFault as is_fault}
 use Rattle.child_masks.proofs.DenLemmas.{den-positive}
 use Rattle.channel_refine.specs.Step.{AreValues, AreCarried, IsValueFault}
-use Rattle.channel_refine.specs.Told.{carried_of_value}
+use Rattle.channel_refine.specs.Faults.{carried_of_value}
 use Rattle.channel_refine.specs.declared.fault.CarryFault.TheVariants.{Value}
 use Rattle.channel_refine.proofs.DenominatorLemmas.{each-below}
 

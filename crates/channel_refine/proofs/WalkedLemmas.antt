@@ -25,7 +25,7 @@ use Rattle.primvar_refine.specs.Rows.{Row, dens_of}
 use Rattle.child_masks.specs.Masks.{step_terms}
 use Rattle.channel_refine.specs.Refined.{IsChannelFault, terms_to}
 use Rattle.channel_refine.specs.Step.{AreCarried, IsValueFault, AreTermSteps}
-use Rattle.channel_refine.specs.Told.{told_of, told_of_cause}
+use Rattle.channel_refine.specs.Faults.{channel_fault_of, channel_fault_of_cause}
 use Rattle.channel_refine.proofs.ChannelLemmas.{IsReached, reached-next, terms-next, terms-within}
 use Rattle.channel_refine.proofs.FirstLemmas as first
 
@@ -95,7 +95,7 @@ module _ {C V : Type 0} (rows : C → List Row) (Takes : V → Topology → C �
 
     abbrev Stopped : ℕ → ℕ → Cause RefineFault CarryFault → ℕ → Type 0
     Stopped depth number cause new =
-        IsChannelFault Values channel depth (told_of_cause number cause)
+        IsChannelFault Values channel depth (channel_fault_of_cause number cause)
         × ((new ≤ start.steps + faces_to channel.base depth + terms_to channel.base channel.scheme depth) × (start.steps ≤ new))
 
     stopped-at : (depth k : ℕ) (last : Place Topology C V) (new : ℕ) → k < depth → Walked k last → (cause : Cause RefineFault CarryFault)
@@ -137,17 +137,17 @@ module _ {C V : Type 0} (rows : C → List Row) (Takes : V → Topology → C �
 
     -- the fault of the walk as that of the channel, and what is reached
     pub stopped-channel : (depth : ℕ) (r : Result (Reached Topology C) (WalkFault RefineFault CarryFault)) (fault : ChannelFault) (P : Reached Topology C → Type 0) (new : ℕ)
-        → MatchResult r (λ end. let told : Result (Reached Topology C) ChannelFault = Err fault in told ≡ Ok end) (λ f. let told : Result (Reached Topology C) ChannelFault = Err fault in told ≡ Err (told_of f))
+        → MatchResult r (λ end. let told : Result (Reached Topology C) ChannelFault = Err fault in told ≡ Ok end) (λ f. let told : Result (Reached Topology C) ChannelFault = Err fault in told ≡ Err (channel_fault_of f))
         → MatchResult r P (λ f. IsStopped (λ t. t) IsMade IsRefused Follow Fail Takes start depth f new)
         → IsChannelFault Values channel depth fault
         × ((new ≤ start.steps + faces_to channel.base depth + terms_to channel.base channel.scheme depth) × (start.steps ≤ new))
     stopped-channel depth r fault P new told is =
-        let found = changed r fault told_of P _ told is in
+        let found = changed r fault channel_fault_of P _ told is in
         subst (λ f. IsChannelFault Values channel depth f
         × ((new ≤ start.steps + faces_to channel.base depth + terms_to channel.base channel.scheme depth) × (start.steps ≤ new))) (sym found.1.0) (stopped-values depth found.0 new found.1.1)
 
     pub walked-channel : (depth : ℕ) (r : Result (Reached Topology C) (WalkFault RefineFault CarryFault)) (end : Reached Topology C) (Q : WalkFault RefineFault CarryFault → Type 0) (visitor : V) (new : ℕ)
-        → MatchResult r (λ e. let told : Result (Reached Topology C) ChannelFault = Ok end in told ≡ Ok e) (λ f. let told : Result (Reached Topology C) ChannelFault = Ok end in told ≡ Err (told_of f))
+        → MatchResult r (λ e. let told : Result (Reached Topology C) ChannelFault = Ok end in told ≡ Ok e) (λ f. let told : Result (Reached Topology C) ChannelFault = Ok end in told ≡ Err (channel_fault_of f))
         → MatchResult r (λ e. IsWalked (λ t. t) IsMade Follow Takes start depth (at_place e visitor new)) Q
         → Walked depth (at_place end visitor new)
-    walked-channel depth r end Q visitor new told is = walked-values depth (at_place end visitor new) (kept r end told_of _ Q told is)
+    walked-channel depth r end Q visitor new told is = walked-values depth (at_place end visitor new) (kept r end channel_fault_of _ Q told is)

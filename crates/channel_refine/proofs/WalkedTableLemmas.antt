@@ -23,7 +23,7 @@ use Rattle.stencil_factory.specs.Rows.{dens_of}
 use Rattle.stencil_factory.specs.Composed.{entries_from}
 use Rattle.channel_refine.specs.Refined.{IsChannelFault}
 use Rattle.channel_refine.specs.Step.{IsCarried, IsTableFault}
-use Rattle.channel_refine.specs.Told.{told_of, told_of_cause}
+use Rattle.channel_refine.specs.Faults.{channel_fault_of, channel_fault_of_cause}
 use Rattle.channel_refine.proofs.ComposedLemmas.{IsReached, reached-next, entries-fault}
 use Rattle.channel_refine.proofs.FirstLemmas as first
 
@@ -71,7 +71,7 @@ module _ {V : Type 0} (Takes : V → Topology → Table → V → Type 0) (chann
 
     abbrev Stopped : ℕ → ℕ → Cause RefineFault CarryFault → ℕ → Type 0
     Stopped depth number cause new =
-        IsChannelFault Tables channel depth (told_of_cause number cause) × ((new ≤ start.steps + faces_to channel.base depth) × (start.steps ≤ new))
+        IsChannelFault Tables channel depth (channel_fault_of_cause number cause) × ((new ≤ start.steps + faces_to channel.base depth) × (start.steps ≤ new))
 
     stopped-at : (depth k : ℕ) (last : Place Topology Table V) (new : ℕ) → k < depth → Walked k last → (cause : Cause RefineFault CarryFault)
         → IsCause (λ t. t) IsMade IsRefused Follow Fail last.reached cause last.steps new → Stopped depth (k + 1) cause new
@@ -110,15 +110,15 @@ module _ {V : Type 0} (Takes : V → Topology → Table → V → Type 0) (chann
 
     -- the fault of the walk as that of the channel, and what is reached
     pub stopped-channel : (depth : ℕ) (r : Result (Reached Topology Table) (WalkFault RefineFault CarryFault)) (fault : ChannelFault) (P : Reached Topology Table → Type 0) (new : ℕ)
-        → MatchResult r (λ end. let told : Result (Reached Topology Table) ChannelFault = Err fault in told ≡ Ok end) (λ f. let told : Result (Reached Topology Table) ChannelFault = Err fault in told ≡ Err (told_of f))
+        → MatchResult r (λ end. let told : Result (Reached Topology Table) ChannelFault = Err fault in told ≡ Ok end) (λ f. let told : Result (Reached Topology Table) ChannelFault = Err fault in told ≡ Err (channel_fault_of f))
         → MatchResult r P (λ f. IsStopped (λ t. t) IsMade IsRefused Follow Fail Takes start depth f new)
         → IsChannelFault Tables channel depth fault × ((new ≤ start.steps + faces_to channel.base depth) × (start.steps ≤ new))
     stopped-channel depth r fault P new told is =
-        let found = changed r fault told_of P _ told is in
+        let found = changed r fault channel_fault_of P _ told is in
         subst (λ f. IsChannelFault Tables channel depth f × ((new ≤ start.steps + faces_to channel.base depth) × (start.steps ≤ new))) (sym found.1.0) (stopped-table depth found.0 new found.1.1)
 
     pub walked-channel : (depth : ℕ) (r : Result (Reached Topology Table) (WalkFault RefineFault CarryFault)) (end : Reached Topology Table) (Q : WalkFault RefineFault CarryFault → Type 0) (visitor : V) (new : ℕ)
-        → MatchResult r (λ e. let told : Result (Reached Topology Table) ChannelFault = Ok end in told ≡ Ok e) (λ f. let told : Result (Reached Topology Table) ChannelFault = Ok end in told ≡ Err (told_of f))
+        → MatchResult r (λ e. let told : Result (Reached Topology Table) ChannelFault = Ok end in told ≡ Ok e) (λ f. let told : Result (Reached Topology Table) ChannelFault = Ok end in told ≡ Err (channel_fault_of f))
         → MatchResult r (λ e. IsWalked (λ t. t) IsMade Follow Takes start depth (at_place e visitor new)) Q
         → Walked depth (at_place end visitor new)
-    walked-channel depth r end Q visitor new told is = walked-table depth (at_place end visitor new) (kept r end told_of _ Q told is)
+    walked-channel depth r end Q visitor new told is = walked-table depth (at_place end visitor new) (kept r end channel_fault_of _ Q told is)

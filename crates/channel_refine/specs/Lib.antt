@@ -1,5 +1,5 @@
 pub mod Refined
 pub mod Step
-pub mod Told
+pub mod Faults
 pub mod Composed
 pub mod Evaluated

@@ -1,7 +1,7 @@
 //! Why a channel cannot be refined to a depth.
 
 ghost use Rattle.std.specs.Prelude.{◌≡◌, Ok, Err, MatchResult};
-ghost use Rattle.channel_refine.specs.Told.{told_of, told_of_level, told_of_carried};
+ghost use Rattle.channel_refine.specs.Faults.{channel_fault_of, channel_fault_of_level, channel_fault_of_carried};
 
 use level_walk::{Cause, WalkFault};
 use ratio128::Memory;
@@ -54,7 +54,7 @@ pub enum CarryFault {
 
 // Why the level with this number cannot be made.
 fn level_fault(level: u32, fault: RefineFault) -> ChannelFault
-    ensures { result ≡ told_of_level level fault }
+    ensures { result ≡ channel_fault_of_level level fault }
 {
     match fault {
         RefineFault::TooLarge(count) => ChannelFault::TooLarge { level, count },
@@ -65,7 +65,7 @@ fn level_fault(level: u32, fault: RefineFault) -> ChannelFault
 
 // Why nothing is carried to the level with this number.
 fn carry_fault(level: u32, fault: CarryFault) -> ChannelFault
-    ensures { result ≡ told_of_carried level fault }
+    ensures { result ≡ channel_fault_of_carried level fault }
 {
     match fault {
         CarryFault::Transition => ChannelFault::Transition { level },
@@ -78,7 +78,7 @@ fn carry_fault(level: u32, fault: CarryFault) -> ChannelFault
 
 // The fault of a walk as that of a channel.
 fn walk_fault(fault: WalkFault<RefineFault, CarryFault>) -> ChannelFault
-    ensures { result ≡ told_of fault }
+    ensures { result ≡ channel_fault_of fault }
 {
     match fault.cause {
         Cause::Level(cause) => level_fault(fault.level, cause),
@@ -91,7 +91,7 @@ fn walk_fault(fault: WalkFault<RefineFault, CarryFault>) -> ChannelFault
 pub(crate) fn walked<T>(
     reached: Result<T, WalkFault<RefineFault, CarryFault>>,
 ) -> Result<T, ChannelFault>
-    ensures { MatchResult reached (λ reached. result ≡ Ok reached) (λ fault. result ≡ Err (told_of fault)) }
+    ensures { MatchResult reached (λ reached. result ≡ Ok reached) (λ fault. result ≡ Err (channel_fault_of fault)) }
 {
     match reached {
         Ok(reached) => Ok(reached),

@@ -9,7 +9,7 @@ ghost use Rattle.child_masks.specs.Masks.{CanRefine};
 ghost use Rattle.stencil_apply.specs.Table.{Table};
 ghost use Rattle.stencil_factory.specs.Composed.{IsTableFault as is_fault};
 ghost use Rattle.channel_refine.specs.Step.{IsCarried, IsTableFault};
-ghost use Rattle.channel_refine.specs.Told.{carried_of_table};
+ghost use Rattle.channel_refine.specs.Faults.{carried_of_table};
 
 use crate::fault::CarryFault;
 use level_topology::{Child, Level};

@@ -12,7 +12,7 @@ ghost use Rattle.primvar_refine.specs.View.{rows_of};
 ghost use Rattle.child_masks.specs.Masks.{CanRefine, step_terms};
 ghost use Rattle.primvar_refine.specs.Step.{IsValueFault as is_fault};
 ghost use Rattle.channel_refine.specs.Step.{AreValues, AreCarried, IsValueFault};
-ghost use Rattle.channel_refine.specs.Told.{carried_of_value};
+ghost use Rattle.channel_refine.specs.Faults.{carried_of_value};
 
 use crate::fault::CarryFault;
 use level_topology::{Child, Level};

@@ -21,7 +21,7 @@ use Rattle.uniform_walk.specs.Step.{IsMade, IsRefused}
 use Rattle.uniform_walk.proofs.LevelLemmas.{IsReached, reached-none, reached-next, faces-next, faces-within}
 use Rattle.level_counts.specs.declared.series.SeriesFault.{SeriesFault}
 use Rattle.level_counts.specs.Counts.{Counts, counts_of}
-use Rattle.level_counts.specs.Series.{IsStepFault, IsFirstFault, IsSeriesFault, told_of_level, told_of_cause, told_of}
+use Rattle.level_counts.specs.Series.{IsStepFault, IsFirstFault, IsSeriesFault, series_fault_of_level, series_fault_of_cause, series_fault_of}
 
 -- the counts of one level more
 pub counts-more : (base : Level) (k : ℕ) (level : Level) (old new : List Counts) → level ≡ refined_level base k
@@ -34,7 +34,7 @@ counts-more base k level old new is before put =
 
 -- the level cannot be made
 first-fault : (base : Level) (depth k : ℕ) (t : Topology) (fault : RefineFault) → IsReached base k t → k < depth → IsRefusal t fault
-    → IsSeriesFault base depth (told_of_level (k + 1) fault)
+    → IsSeriesFault base depth (series_fault_of_level (k + 1) fault)
 first-fault base depth k t fault is within refusal = go fault refusal
   where
     before : k ≡ k + 1 - 1
@@ -48,7 +48,7 @@ first-fault base depth k t fault is within refusal = go fault refusal
       step = subst (λ (level : Level). IsStepFault level (k + 1) f) (is.level ∙ ap (refined_level base) before) s;
     }
 
-    go : (f : RefineFault) → IsRefusal t f → IsSeriesFault base depth (told_of_level (k + 1) f)
+    go : (f : RefineFault) → IsRefusal t f → IsSeriesFault base depth (series_fault_of_level (k + 1) f)
     go (refuse.TooLarge count) is = first _ (refl, is.0, is.1)
     go (refuse.Chaikin v) is = first _ (refl, record { few = is.few; v = v; exists = is.exists; overflows = is.overflows })
     go refuse.Memory is = tt
@@ -97,7 +97,7 @@ module _ {C V : Type 0} (counted : V → List Counts) (start : Place Topology C 
         omega (arith, is.1.1.1, h, faces-next base k last.reached.level is.0, faces-within base (k + 1) depth (omega (arith, within)))
 
     abbrev Stopped : {B : Type 0} → ℕ → ℕ → Cause RefineFault B → ℕ → Type 0
-    Stopped depth number cause new = IsSeriesFault base depth (told_of_cause number cause) × ((new ≤ start.steps + faces_to base depth) × (start.steps ≤ new))
+    Stopped depth number cause new = IsSeriesFault base depth (series_fault_of_cause number cause) × ((new ≤ start.steps + faces_to base depth) × (start.steps ≤ new))
 
     stopped-at : {B : Type 0} (depth k : ℕ) (last : Place Topology C V) (new : ℕ) → k < depth → Walked k last → (cause : Cause RefineFault B)
         → IsCause (λ t. t) IsMade IsRefused Follow Fail last.reached cause last.steps new → Stopped depth (k + 1) cause new
@@ -119,15 +119,15 @@ module _ {C V : Type 0} (counted : V → List Counts) (start : Place Topology C 
 
     -- the fault of the walk as that of the levels, and what is reached
     pub stopped-series : {B : Type 0} (depth : ℕ) (r : Result (Reached Topology C) (WalkFault RefineFault B)) (fault : SeriesFault) (P : Reached Topology C → Type 0) (new : ℕ)
-        → MatchResult r (λ end. let told : Result (Reached Topology C) SeriesFault = Err fault in told ≡ Ok end) (λ f. let told : Result (Reached Topology C) SeriesFault = Err fault in told ≡ Err (told_of f))
+        → MatchResult r (λ end. let told : Result (Reached Topology C) SeriesFault = Err fault in told ≡ Ok end) (λ f. let told : Result (Reached Topology C) SeriesFault = Err fault in told ≡ Err (series_fault_of f))
         → MatchResult r P (λ f. IsStopped (λ t. t) IsMade IsRefused Follow Fail Takes start depth f new)
         → IsSeriesFault base depth fault × ((new ≤ start.steps + faces_to base depth) × (start.steps ≤ new))
     stopped-series depth r fault P new told is =
-        let found = changed r fault told_of P _ told is in
+        let found = changed r fault series_fault_of P _ told is in
         subst (λ f. IsSeriesFault base depth f × ((new ≤ start.steps + faces_to base depth) × (start.steps ≤ new))) (sym found.1.0) (stopped-levels depth found.0 new found.1.1)
 
     pub walked-series : {B : Type 0} (depth : ℕ) (r : Result (Reached Topology C) (WalkFault RefineFault B)) (end : Reached Topology C) (Q : WalkFault RefineFault B → Type 0) (visitor : V) (new : ℕ)
-        → MatchResult r (λ e. let told : Result (Reached Topology C) SeriesFault = Ok end in told ≡ Ok e) (λ f. let told : Result (Reached Topology C) SeriesFault = Ok end in told ≡ Err (told_of f))
+        → MatchResult r (λ e. let told : Result (Reached Topology C) SeriesFault = Ok end in told ≡ Ok e) (λ f. let told : Result (Reached Topology C) SeriesFault = Ok end in told ≡ Err (series_fault_of f))
         → MatchResult r (λ e. IsWalked (λ t. t) IsMade Follow Takes start depth (at e visitor new)) Q
         → Walked depth (at end visitor new)
-    walked-series depth r end Q visitor new told is = walked-levels depth (at end visitor new) (kept r end told_of _ Q told is)
+    walked-series depth r end Q visitor new told is = walked-levels depth (at end visitor new) (kept r end series_fault_of _ Q told is)

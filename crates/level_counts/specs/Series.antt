@@ -32,15 +32,15 @@ IsSeriesFault level depth (Chaikin k) = IsFirstFault level depth k (Chaikin k)
 IsSeriesFault level depth Memory = Unit {0}
 
 -- the fault of a walk; nothing is carried, and so there is none of what is carried
-abbrev pub told_of_level : ℕ → RefineFault → SeriesFault
-told_of_level number (level.TooLarge count) = TooLarge number count
-told_of_level number (level.Chaikin v) = Chaikin number
-told_of_level number level.Memory = Memory
+abbrev pub series_fault_of_level : ℕ → RefineFault → SeriesFault
+series_fault_of_level number (level.TooLarge count) = TooLarge number count
+series_fault_of_level number (level.Chaikin v) = Chaikin number
+series_fault_of_level number level.Memory = Memory
 
-abbrev pub told_of_cause : {B : Type 0} → ℕ → Cause RefineFault B → SeriesFault
-told_of_cause number (cause.Level fault) = told_of_level number fault
-told_of_cause number (cause.Carried fault) = Memory
-told_of_cause number cause.Memory = Memory
+abbrev pub series_fault_of_cause : {B : Type 0} → ℕ → Cause RefineFault B → SeriesFault
+series_fault_of_cause number (cause.Level fault) = series_fault_of_level number fault
+series_fault_of_cause number (cause.Carried fault) = Memory
+series_fault_of_cause number cause.Memory = Memory
 
-abbrev pub told_of : {B : Type 0} → WalkFault RefineFault B → SeriesFault
-told_of fault = told_of_cause fault.level fault.cause
+abbrev pub series_fault_of : {B : Type 0} → WalkFault RefineFault B → SeriesFault
+series_fault_of fault = series_fault_of_cause fault.level fault.cause

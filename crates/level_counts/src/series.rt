@@ -6,7 +6,7 @@ ghost use Rattle.subdiv_model.specs.Child.{refined_level};
 ghost use Rattle.mask_laws.specs.SharpBoundary.{has_sharp_boundary};
 ghost use Rattle.uniform_walk.specs.Levels.{AreMade, faces_to};
 ghost use Rattle.level_counts.specs.Counts.{counts_of};
-ghost use Rattle.level_counts.specs.Series.{IsSeriesFault, told_of};
+ghost use Rattle.level_counts.specs.Series.{IsSeriesFault, series_fault_of};
 ghost use Rattle.level_counts.specs.View.{seen_counts};
 
 use crate::counts::LevelCounts;
@@ -42,7 +42,7 @@ impl From<Memory> for SeriesFault {
 
 // The fault of a walk that carries nothing, as that of the levels.
 fn series_fault(fault: WalkFault<RefineFault, Never>) -> SeriesFault
-    ensures { result ≡ told_of fault }
+    ensures { result ≡ series_fault_of fault }
 {
     let level = fault.level;
     match fault.cause {
@@ -54,7 +54,7 @@ fn series_fault(fault: WalkFault<RefineFault, Never>) -> SeriesFault
 
 // What a walk reaches, or its fault as that of the levels.
 fn walked<T>(reached: Result<T, WalkFault<RefineFault, Never>>) -> Result<T, SeriesFault>
-    ensures { MatchResult reached (λ reached. result ≡ Ok reached) (λ fault. result ≡ Err (told_of fault)) }
+    ensures { MatchResult reached (λ reached. result ≡ Ok reached) (λ fault. result ≡ Err (series_fault_of fault)) }
 {
     match reached {
         Ok(reached) => Ok(reached),

@@ -28,23 +28,23 @@ carried_of_table table.TooManyEntries = carry.Entries
 carried_of_table table.Memory = carry.Memory
 
 -- of the level with this number
-abbrev pub told_of_level : ℕ → RefineFault → ChannelFault
-told_of_level number (level.TooLarge count) = TooLarge number count
-told_of_level number (level.Chaikin v) = Chaikin number
-told_of_level number level.Memory = Memory
+abbrev pub channel_fault_of_level : ℕ → RefineFault → ChannelFault
+channel_fault_of_level number (level.TooLarge count) = TooLarge number count
+channel_fault_of_level number (level.Chaikin v) = Chaikin number
+channel_fault_of_level number level.Memory = Memory
 
 -- of what is carried to the level with this number
-abbrev pub told_of_carried : ℕ → CarryFault → ChannelFault
-told_of_carried number carry.Transition = Transition number
-told_of_carried number carry.Denominator = Denominator number
-told_of_carried number carry.Entries = Entries number
-told_of_carried number carry.Value = Value number
-told_of_carried number carry.Memory = Memory
+abbrev pub channel_fault_of_carried : ℕ → CarryFault → ChannelFault
+channel_fault_of_carried number carry.Transition = Transition number
+channel_fault_of_carried number carry.Denominator = Denominator number
+channel_fault_of_carried number carry.Entries = Entries number
+channel_fault_of_carried number carry.Value = Value number
+channel_fault_of_carried number carry.Memory = Memory
 
-abbrev pub told_of_cause : ℕ → Cause RefineFault CarryFault → ChannelFault
-told_of_cause number (cause.Level fault) = told_of_level number fault
-told_of_cause number (cause.Carried fault) = told_of_carried number fault
-told_of_cause number cause.Memory = Memory
+abbrev pub channel_fault_of_cause : ℕ → Cause RefineFault CarryFault → ChannelFault
+channel_fault_of_cause number (cause.Level fault) = channel_fault_of_level number fault
+channel_fault_of_cause number (cause.Carried fault) = channel_fault_of_carried number fault
+channel_fault_of_cause number cause.Memory = Memory
 
-abbrev pub told_of : WalkFault RefineFault CarryFault → ChannelFault
-told_of fault = told_of_cause fault.level fault.cause
+abbrev pub channel_fault_of : WalkFault RefineFault CarryFault → ChannelFault
+channel_fault_of fault = channel_fault_of_cause fault.level fault.cause
