@@ -19,13 +19,11 @@ use level_topology::{Child, Level};
 use level_walk::Carrier;
 use mask_rules::Scheme;
 use primvar_refine::{ValueFault, Valued, refine_values};
+use ratio128::limits::NUMBER_BOUND;
 use ratio128::{Primvar, Steps, times_within};
 use std::alloc::Global;
 use std::marker::PhantomData;
 use std::sync::ledger::Ledger;
-
-// The greatest denominator, and the greatest numerator over it.
-const NUMBER_BOUND: u128 = (1 << 126) - 1;
 
 // The greatest denominator of the values, and 1 of none.
 fn greatest_den<P>(values: &[Valued<P>]) -> u128

@@ -5,10 +5,8 @@ ghost use Rattle.std.specs.Int.{◌∣◌};
 ghost use Rattle.subdiv_model.specs.Multiples.{lcm_of};
 ghost use Rattle.child_masks.specs.Survey.{within_bound};
 
+use ratio128::limits::NUMBER_BOUND;
 use ratio128::{lcm_within, times_within};
-
-/// The greatest denominator and the greatest numerator.
-pub(crate) const BOUND: u128 = (1 << 126) - 1;
 
 // Whether a number is a power of two that divides another, by their lowest bits alone.
 fn is_shift(c: u128, m: u128) -> bool
@@ -26,7 +24,7 @@ fn multiple(m: u128, c: u128) -> u128
     requires c { 0 < c }
     ensures { result ≡ within_bound (lcm_of m c) }
 {
-    lcm_within(m, c, BOUND).unwrap_or(0)
+    lcm_within(m, c, NUMBER_BOUND).unwrap_or(0)
 }
 
 /// The least common multiple of two denominators.
@@ -52,5 +50,5 @@ pub(crate) fn joined(m: u128, c: u128) -> u128
 pub(crate) fn scaled(q: u128, m: u128) -> u128
     ensures { (a : ℕ) → 0 < q → 0 < a → m ≡ within_bound a → result ≡ within_bound (q * a) }
 {
-    times_within(q, m, BOUND).unwrap_or(0)
+    times_within(q, m, NUMBER_BOUND).unwrap_or(0)
 }

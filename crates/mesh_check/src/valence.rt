@@ -15,8 +15,8 @@ use crate::keys::is_again;
 use crate::marks::no_marks;
 use level_topology::Counted;
 use ratio128::Memory;
-use raw_mesh::RawMesh;
 use ratio128::limits::SIZE_LIMIT;
+use raw_mesh::RawMesh;
 use std::alloc::Global;
 
 // Counts an edge at its two ends, where its number does not come again.

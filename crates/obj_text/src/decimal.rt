@@ -21,13 +21,21 @@ pub(crate) fn with_zeros(amount: u128, zeros: u128) -> Option<u128>
         return Some(0);
     }
     if zeros == 0 {
-        return if amount < NUMERAL_BOUND { Some(amount) } else { None };
+        return if amount < NUMERAL_BOUND {
+            Some(amount)
+        } else {
+            None
+        };
     }
     if zeros > 37 {
         return None;
     }
     let number = amount.checked_mul(10u128.pow(zeros as u32))?;
-    if number < NUMERAL_BOUND { Some(number) } else { None }
+    if number < NUMERAL_BOUND {
+        Some(number)
+    } else {
+        None
+    }
 }
 
 // The number with one more digit after it; `None` where it is too long to be a mantissa.

@@ -10,9 +10,6 @@ use crate::Valued;
 use ratio128::{Primvar, quotient};
 use std::sync::ledger::Ledger;
 
-/// The greatest denominator and the greatest numerator.
-pub(crate) const BOUND: u128 = (1 << 126) - 1;
-
 /// The greatest of some denominators, and the first place that has it; 1 where there is none.
 #[derive(Clone, Copy)]
 pub(crate) struct Greatest {

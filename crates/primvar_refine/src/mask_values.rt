@@ -6,8 +6,8 @@ ghost use Rattle.primvar_refine.specs.Rows.{row_at};
 ghost use Rattle.primvar_refine.specs.View.{rows_of};
 ghost use Rattle.primvar_refine.specs.Made.{IsMade, CanMake};
 
-use crate::sums::sum_of_corners;
 use crate::Valued;
+use crate::sums::sum_of_corners;
 use level_topology::Level;
 use mask_rules::face_mask;
 use ratio128::{Primvar, Steps, quotient};

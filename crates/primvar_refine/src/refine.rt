@@ -7,13 +7,14 @@ ghost use Rattle.primvar_refine.specs.View.{rows_of};
 ghost use Rattle.child_masks.specs.Masks.{CanRefine, step_terms};
 ghost use Rattle.primvar_refine.specs.Step.{AreRefined, IsValueFault};
 
-use crate::bound::{BOUND, greatest_of, least_bound};
 use crate::Valued;
+use crate::bound::{greatest_of, least_bound};
 use crate::fault::ValueFault;
 use crate::survey::survey_step;
 use crate::values::make_values;
 use level_topology::{Child, Level};
 use mask_rules::Scheme;
+use ratio128::limits::NUMBER_BOUND;
 use ratio128::{Primvar, Steps, times_within};
 use std::alloc::Global;
 use std::sync::ledger::Ledger;
@@ -49,7 +50,7 @@ pub fn refine_values<P: Primvar<L>, L: Ledger>(
     let survey = survey_step(alloc, parent, child, values, scheme)?;
     let greatest = greatest_of(&survey.dens);
     let bound = least_bound(values);
-    if times_within(greatest.den, bound, BOUND).is_none() {
+    if times_within(greatest.den, bound, NUMBER_BOUND).is_none() {
         return Err(ValueFault::TooBig(greatest.place));
     }
     let refined = make_values(alloc, parent, child, values, scheme, &survey, steps)?;

@@ -11,8 +11,8 @@ ghost use Rattle.primvar_refine.specs.Rows.{Row, dens_of, AreGood};
 ghost use Rattle.primvar_refine.specs.View.{rows_of};
 ghost use Rattle.primvar_refine.specs.Step.{IsValueFault};
 
-use crate::dens::denominators;
 use crate::Valued;
+use crate::dens::denominators;
 use crate::fault::ValueFault;
 use child_masks::{Survey, SurveyFault, survey_over};
 use level_topology::{Child, Level};

@@ -8,32 +8,30 @@ use crate::fault::BadPart;
 use crate::mesh::Coordinates;
 use crate::parts::MeshParts;
 use crate::tags::{CornerTag, Crease, Tags};
+use ratio128::limits::NUMERAL_BOUND;
 use ratio128::{Point2, Point3};
-
-// No common denominator and no amount of a numerator passes it.
-const BOUND: u128 = 10_000_000_000_000_000_000_000_000_000_000_000_000;
 
 // Whether a common denominator is from 1 to 10^37.
 fn is_scale(scale: u128) -> bool
     ensures { result ≡ spec.is_scale scale }
 {
-    0 < scale && scale <= BOUND
+    0 < scale && scale <= NUMERAL_BOUND
 }
 
 // Whether a point has a numerator that is too long.
 fn is_long_point(point: &Point3) -> bool
     ensures { result ≡ spec.is_long_point point.now }
 {
-    point.x.unsigned_abs() >= BOUND
-        || point.y.unsigned_abs() >= BOUND
-        || point.z.unsigned_abs() >= BOUND
+    point.x.unsigned_abs() >= NUMERAL_BOUND
+        || point.y.unsigned_abs() >= NUMERAL_BOUND
+        || point.z.unsigned_abs() >= NUMERAL_BOUND
 }
 
 // Whether a texture value has a numerator that is too long.
 fn is_long_value(value: &Point2) -> bool
     ensures { result ≡ spec.is_long_value value.now }
 {
-    value.u.unsigned_abs() >= BOUND || value.v.unsigned_abs() >= BOUND
+    value.u.unsigned_abs() >= NUMERAL_BOUND || value.v.unsigned_abs() >= NUMERAL_BOUND
 }
 
 // The first point that is too long.

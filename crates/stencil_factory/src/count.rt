@@ -18,11 +18,9 @@ use child_masks::Survey;
 use level_topology::{Child, Level};
 use mask_rules::Scheme;
 use ratio128::Memory;
+use ratio128::limits::ENTRY_BOUND;
 use std::alloc::Global;
 use stencil_apply::StencilTable;
-
-// The most entries of a table.
-const ENTRY_BOUND: u64 = 1 << 27;
 
 // Where rows are counted: the points of a level that a row's mask names, and a mark for each control point, that of the last
 // row that met it.
