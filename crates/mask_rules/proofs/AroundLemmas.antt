@@ -45,14 +45,6 @@ numbers-back polygons v = map-back (edge_at polygons) (edge_number polygons) (ed
     let found = filter-item (has_end v) (0, 0) (edges_of polygons) k inside in
     ap (λ e. edge_at polygons (edge_number polygons e)) found.2 ∙ ap (edge_at polygons) (own-number polygons found.0 found.1) ∙ sym found.2)
 
-shorter : {X : Type 0} (test : X → Bool) (xs : List X) → length (filter test xs) ≤ length xs
-shorter test [] = omega arith
-shorter test (x ∷ xs) = either (test x) (shorter test xs)
-  where
-    either : (b : Bool) → length (filter test xs) ≤ length xs → length (if b then x ∷ filter test xs else filter test xs) ≤ suc (length xs)
-    either true h = omega arith
-    either false h = omega arith
-
 -- the ends of edges that are distinct at a point are distinct
 among-mapped : (f : ℕ → ℕ) (n : ℕ) (es : List ℕ) → ((k : ℕ) → k < length es → f (get_or es k 0) ≢ n) → is_among (map f es) n ≡ false
 among-mapped f n [] h = refl
@@ -137,13 +129,6 @@ module _ (t : Topology) (v : ℕ) (is : IsTopology t) (inside : v < t.level.poin
       let moved = same-next_vertex (edge_sharpness_of t.level) t.level.method vertex (uniform_child vertex) (edges_at t.level v) edges edges-permuted (other_end v) v (faces_at t.level v) (faces_in t v) (is.listed v inside).faces in
       subst (λ ring. HaveSameWeights (vertex_mask t.level CatmullClark v) (mask_of_vertex vertex (uniform_child vertex) ring (child_ring t.level.method ring) v (ends_in t v) (faces_in t v))) ring-there
       (subst (λ ends. HaveSameWeights (vertex_mask t.level CatmullClark v) (mask_of_vertex vertex (uniform_child vertex) (map (edge_sharpness_of t.level) edges) (child_ring t.level.method (map (edge_sharpness_of t.level) edges)) v ends (faces_in t v))) ends-there moved)
-
-  -- as many as edges at the point, and no more than edges
-  pub as-many : length (ends_in t v) ≡ length (edges_at t.level v)
-  as-many = length-map items (end_of_edge t.level.polygons v) ∙ sym (length-map items (edge_at t.level.polygons)) ∙ length_permutation (edges_at t.level v) edges edges-permuted
-
-  pub at-most : length (ends_in t v) ≤ length (edges_of t.level.polygons)
-  at-most = omega (arith, as-many, shorter (has_end v) (edges_of t.level.polygons))
 
   -- a weight is refused in every order of the edges
   pub refused-same : is_refused_in t v ≡ transition_overflows_at t.level CatmullClark v
