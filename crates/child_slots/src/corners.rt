@@ -3,18 +3,10 @@
 ghost use Rattle.std.specs.Prelude.{◌≡◌, ◌+◌, ◌<◌, ◌≤◌, length};
 ghost use Rattle.subdiv_model.specs.Polygons.{polygon_at};
 ghost use Rattle.subdiv_model.specs.Edges.{edges_of};
-ghost use Rattle.level_topology.specs.Topology.{corner_before, end_of};
+ghost use Rattle.level_topology.specs.Topology.{end_of};
 ghost use Rattle.child_slots.specs.Slots.{first_child, half_slot, inner_slot, numbered_edge_point, quad_at, slots_at};
 
-use level_topology::Level;
-
-// The corner before another, in a face of so many corners.
-fn before(size: usize, c: usize) -> usize
-    requires { c < size }
-    ensures { result ≡ corner_before size c }
-{
-    if c == 0 { size - 1 } else { c - 1 }
-}
+use level_topology::{Level, corner_before};
 
 /// The number of the first child face of a face, and for the number of faces that of all child faces.
 pub fn first_child_of(level: &Level, f: u32) -> u32
@@ -68,7 +60,7 @@ pub fn child_corners(level: &Level, f: u32, c: usize) -> [u32; 4]
     level.facts();
     let corners = level.face_vertices(f);
     let edges = level.face_edges(f);
-    let before = before(corners.len(), c);
+    let before = corner_before(corners.len(), c);
     [
         corners[c],
         edge_point_of(level, edges[c]),
@@ -84,7 +76,7 @@ pub fn side_slots(level: &Level, f: u32, c: usize) -> [u32; 4]
 {
     let corners = level.face_vertices(f);
     let edges = level.face_edges(f);
-    let before = before(corners.len(), c);
+    let before = corner_before(corners.len(), c);
     [
         half_slot_of(level, corners[c], edges[c]),
         inner_slot_of(level, f, c),

@@ -16,5 +16,5 @@ pub use fault::HalfFault;
 pub use halves::{half_table, put_all_halves};
 pub use numbering::SlotEdges;
 pub use points::{AllPoints, ChildPoints};
-pub use row::{Row, put_corner, put_ends};
+pub use row::{put_corner, put_ends};
 pub use walk::{no_edges, number_edges};

@@ -6,45 +6,6 @@ ghost use Rattle.child_slots.specs.Slotted.{end_in};
 
 use crate::numbering::SlotEdges;
 use ratio128::Memory;
-use std::alloc::Global;
-
-/// The faces and the edges at a point in fan order, with its corner of each face and its end of each edge.
-#[derive(Drop)]
-pub struct Row {
-    /// The faces.
-    pub faces: Vec<u32>,
-    /// For each face the corner of it that the point is.
-    pub faces_at: Vec<u16>,
-    /// The edges.
-    pub edges: Vec<u32>,
-    /// For each edge the end of it that the point is.
-    pub edges_at: Vec<u16>,
-}
-
-impl Row {
-    /// Four empty lists.
-    pub fn new(alloc: Global) -> Row {
-        Row {
-            faces: Vec::new(alloc),
-            faces_at: Vec::new(alloc),
-            edges: Vec::new(alloc),
-            edges_at: Vec::new(alloc),
-        }
-    }
-
-    /// Empties all lists and keeps their room.
-    pub fn clear(&mut self)
-        ensures faces { self.new.faces.items ≡ [] }
-        ensures faces_at { self.new.faces_at.items ≡ [] }
-        ensures edges { self.new.edges.items ≡ [] }
-        ensures edges_at { self.new.edges_at.items ≡ [] }
-    {
-        self.faces.clear();
-        self.faces_at.clear();
-        self.edges.clear();
-        self.edges_at.clear();
-    }
-}
 
 /// Puts one corner for so many faces. It answers `Memory` where memory runs out.
 pub fn put_corner(corner: u16, count: usize, at: &mut Vec<u16>) -> Result<(), Memory>

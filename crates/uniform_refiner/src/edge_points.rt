@@ -9,8 +9,8 @@ ghost use Rattle.child_slots.specs.Slotted.{number_at};
 ghost use Rattle.level_topology.specs.PointRows.{IsRow};
 ghost use Rattle.uniform_refiner.specs.Put.{AreChildEdges};
 
-use child_slots::{Row, SlotEdges, edge_point_of, put_ends};
-use level_topology::Level;
+use child_slots::{SlotEdges, edge_point_of, put_ends};
+use level_topology::{Level, PointLists};
 use ratio128::Memory;
 
 // The numbers of the two halves of an edge.
@@ -44,7 +44,7 @@ fn put_boundary_row(
     e: u32,
     starts: (u32, u32),
     ends: (u32, u32),
-    row: &mut Row,
+    row: &mut PointLists,
 ) -> Result<(), Memory>
     requires edge { e < length (edges_of level.now.level.polygons) }
     requires edges { AreChildEdges level.now.level edges.now }
@@ -76,7 +76,7 @@ fn put_inside_row(
     e: u32,
     starts: (u32, u32),
     ends: (u32, u32),
-    row: &mut Row,
+    row: &mut PointLists,
 ) -> Result<(), Memory>
     requires edge { e < length (edges_of level.now.level.polygons) }
     requires edges { AreChildEdges level.now.level edges.now }
@@ -108,7 +108,7 @@ pub(crate) fn put_edge_row(
     level: &Level,
     edges: &SlotEdges,
     e: u32,
-    row: &mut Row,
+    row: &mut PointLists,
 ) -> Result<(), Memory>
     requires edge { e < length (edges_of level.now.level.polygons) }
     requires edges { AreChildEdges level.now.level edges.now }

@@ -9,8 +9,8 @@ ghost use Rattle.child_slots.specs.Slotted.{number_at};
 ghost use Rattle.level_topology.specs.PointRows.{IsRow};
 ghost use Rattle.uniform_refiner.specs.Put.{AreChildEdges};
 
-use child_slots::{Row, SlotEdges, first_child_of, inner_slot_of, put_corner, put_ends};
-use level_topology::Level;
+use child_slots::{SlotEdges, first_child_of, inner_slot_of, put_corner, put_ends};
+use level_topology::{Level, PointLists};
 use ratio128::Memory;
 
 // The corner that comes at a place where each comes before the last one: this is the order of the fan.
@@ -60,7 +60,7 @@ pub(crate) fn put_face_row(
     level: &Level,
     edges: &SlotEdges,
     f: u32,
-    row: &mut Row,
+    row: &mut PointLists,
 ) -> Result<(), Memory>
     requires face { f < length level.now.level.polygons }
     requires edges { AreChildEdges level.now.level edges.now }

@@ -12,14 +12,14 @@ ghost use Rattle.uniform_refiner.specs.Points.{ArePoints, children_of, without_p
 use crate::edge_points::put_edge_row;
 use crate::face_points::put_face_row;
 use crate::vertices::put_vertex_row;
-use child_slots::{Row, SlotEdges, edge_point_of};
-use level_topology::{Level, LevelRows};
+use child_slots::{SlotEdges, edge_point_of};
+use level_topology::{Level, LevelRows, PointLists};
 use ratio128::Memory;
 use sharpness_rules::{Sharpness, uniform_child};
 use std::alloc::Global;
 
 // Puts the next point.
-fn put_row(level: &Level, v: u32, row: &Row, s: Sharpness, rows: &mut LevelRows)
+fn put_row(level: &Level, v: u32, row: &PointLists, s: Sharpness, rows: &mut LevelRows)
     requires point { v < child_points level.now.level.point_count level.now.level.polygons }
     requires row { IsRow (children_of level.now.level) v true row.now.faces.items row.now.faces_at.items row.now.edges.items row.now.edges_at.items }
     requires sharp { sharpness_of s ≡ get_or (child_vertex_sharpness level.now.level) v Smooth }
@@ -42,7 +42,7 @@ fn put_row(level: &Level, v: u32, row: &Row, s: Sharpness, rows: &mut LevelRows)
 fn put_vertices(
     level: &Level,
     edges: &SlotEdges,
-    row: &mut Row,
+    row: &mut PointLists,
     rows: &mut LevelRows,
 ) -> Result<(), Memory>
     requires edges { AreChildEdges level.now.level edges.now }
@@ -68,7 +68,7 @@ fn put_vertices(
 fn put_face_points(
     level: &Level,
     edges: &SlotEdges,
-    row: &mut Row,
+    row: &mut PointLists,
     rows: &mut LevelRows,
 ) -> Result<(), Memory>
     requires edges { AreChildEdges level.now.level edges.now }
@@ -88,7 +88,7 @@ fn put_face_points(
 fn put_edge_points(
     level: &Level,
     edges: &SlotEdges,
-    row: &mut Row,
+    row: &mut PointLists,
     rows: &mut LevelRows,
 ) -> Result<(), Memory>
     requires edges { AreChildEdges level.now.level edges.now }
@@ -116,7 +116,7 @@ pub(crate) fn put_points(
     ensures put { OnOk result (ArePoints level.now.level (child_points level.now.level.point_count level.now.level.polygons) rows.new) }
     ensures rest { without_points rows.new ≡ without_points rows.old }
 {
-    let mut row = Row::new(alloc);
+    let mut row = PointLists::new(alloc);
     put_vertices(level, edges, &mut row, rows)?;
     put_face_points(level, edges, &mut row, rows)?;
     put_edge_points(level, edges, &mut row, rows)

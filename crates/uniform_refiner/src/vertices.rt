@@ -8,8 +8,8 @@ ghost use Rattle.child_slots.specs.Slots.{first_child, half_slot};
 ghost use Rattle.child_slots.specs.Slotted.{number_at};
 ghost use Rattle.uniform_refiner.specs.Put.{AreChildEdges};
 
-use child_slots::{Row, SlotEdges, first_child_of, half_slot_of, put_corner, put_ends};
-use level_topology::Level;
+use child_slots::{SlotEdges, first_child_of, half_slot_of, put_corner, put_ends};
+use level_topology::{Level, PointLists};
 use ratio128::Memory;
 
 // The child faces at a vertex: in each of its faces that of its corner.
@@ -52,7 +52,7 @@ pub(crate) fn put_vertex_row(
     level: &Level,
     edges: &SlotEdges,
     v: u32,
-    row: &mut Row,
+    row: &mut PointLists,
 ) -> Result<(), Memory>
     requires point { v < level.now.level.point_count }
     requires edges { AreChildEdges level.now.level edges.now }
