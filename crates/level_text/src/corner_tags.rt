@@ -6,7 +6,7 @@ ghost use Rattle.sharpness_rules.specs.View.{sharpness_of};
 ghost use Rattle.obj_out.specs.Puts.{Puts};
 ghost use Rattle.level_text.specs.Lines.{corner_tag, corner_where_sharp};
 
-use crate::sharpness::{is_sharp, put_sharpness_word};
+use crate::sharpness::put_sharpness_word;
 use crate::words::{put_byte, put_number_word, put_text};
 use far_io::{Sink, WriteFailed};
 use level_topology::Level;
@@ -36,7 +36,7 @@ fn put_vertex<K: Sink>(out: &mut Out<'_, K>, level: &Level, v: u32) -> Result<()
     ensures puts { Puts K.held K.faults K.fixed out.old.sink.now out.new.sink.now out.old.waiting out.new.waiting out.old.failed out.new.failed (corner_where_sharp level.now.level v) result }
 {
     let sharpness = level.vertex_sharpness(v);
-    if is_sharp(sharpness) {
+    if sharpness.is_sharp() {
         return put_corner(out, v, sharpness);
     }
     Ok(())

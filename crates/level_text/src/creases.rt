@@ -1,29 +1,20 @@
 //! The lines of creases.
 
-ghost use Rattle.std.specs.Prelude.{◌≡◌, ◌<◌, nat_eq, false, length};
+ghost use Rattle.std.specs.Prelude.{◌≡◌, ◌<◌, false, length};
 ghost use Rattle.std.specs.List.{flat_map};
-ghost use Rattle.subdiv_model.specs.Edges.{edges_of, faces_of_edge};
-ghost use Rattle.subdiv_model.specs.Sharpness.{is_sharp};
+ghost use Rattle.subdiv_model.specs.Edges.{edges_of};
 ghost use Rattle.subdiv_model.specs.Level.{edge_sharpness_of};
 ghost use Rattle.sharpness_rules.specs.View.{sharpness_of};
 ghost use Rattle.level_topology.specs.Topology.{edge_at};
 ghost use Rattle.obj_out.specs.Puts.{Puts};
 ghost use Rattle.level_text.specs.Lines.{crease_tag, crease_where_sharp};
 
-use crate::sharpness::{is_sharp, put_sharpness_word};
+use crate::sharpness::put_sharpness_word;
 use crate::words::{put_byte, put_number_word, put_text};
 use far_io::{Sink, WriteFailed};
 use level_topology::Level;
 use obj_out::Out;
 use sharpness_rules::Sharpness;
-
-// Whether an edge has two faces.
-fn is_inner(level: &Level, e: u32) -> bool
-    requires { e < length (edges_of level.now.level.polygons) }
-    ensures { result ≡ nat_eq (length (faces_of_edge level.now.level.polygons (edge_at level.now.level.polygons e))) 2 }
-{
-    level.edge_faces(e).second.is_some()
-}
 
 // The sharpness of an edge.
 fn sharpness_at(level: &Level, e: u32) -> Sharpness
@@ -58,7 +49,7 @@ fn put_edge<K: Sink>(out: &mut Out<'_, K>, level: &Level, e: u32) -> Result<(), 
     ensures puts { Puts K.held K.faults K.fixed out.old.sink.now out.new.sink.now out.old.waiting out.new.waiting out.old.failed out.new.failed (crease_where_sharp level.now.level (edge_at level.now.level.polygons e)) result }
 {
     let sharpness = sharpness_at(level, e);
-    if is_inner(level, e) && is_sharp(sharpness) {
+    if level.is_inner(e) && sharpness.is_sharp() {
         return put_crease(out, level.edge_vertices(e), sharpness);
     }
     Ok(())

@@ -1,7 +1,6 @@
 //! The texts of sharpness.
 
 ghost use Rattle.std.specs.Prelude.{◌≡◌, ◌∷◌};
-ghost use Rattle.subdiv_model.specs.Sharpness.{is_sharp};
 ghost use Rattle.subdiv_model.specs.NumberText.{ratio_text};
 ghost use Rattle.subdiv_model.specs.Text.{sharpness_text};
 ghost use Rattle.sharpness_rules.specs.View.{sharpness_of};
@@ -11,16 +10,6 @@ use crate::words::{put_byte, put_number, put_pair, put_text};
 use far_io::{Sink, WriteFailed};
 use obj_out::Out;
 use sharpness_rules::Sharpness;
-
-// Whether a sharpness is above 0.
-pub(crate) fn is_sharp(sharpness: Sharpness) -> bool
-    ensures { result ≡ is_sharp (sharpness_of sharpness) }
-{
-    match sharpness {
-        Sharpness::Smooth => false,
-        Sharpness::Semi(_) | Sharpness::Infinite => true,
-    }
-}
 
 // Puts the numerator, and the denominator after it where that is not 1.
 fn put_ratio<K: Sink>(out: &mut Out<'_, K>, num: u64, den: u64) -> Result<(), WriteFailed>
