@@ -46,7 +46,3 @@ module _ (parent : Topology) (child : ChildTopology) (refined : IsRefined parent
         subst (λ (level : Level). IsTrue (has_sharp_boundary level)) (sym refined.uniform.level)
         (sharp-child parent.level (record { over = first-of-six _ _ _ _ _ _ is.formed; simple = is.simple; distinct = is.sides_once; sharp = whole.boundary })).sharp;
   }
-
--- its points are few enough for a step
-pub whole-short : (t : Topology) → IsTopology t → IsWhole t → t.level.point_count ≤ 2 ^ 29
-whole-short t is whole = omega (arith, whole.points, is.small.faces)
