@@ -112,7 +112,8 @@ impl<P: Primvar<L>, L: Ledger> Carrier<L> for ByValues<P> {
     ghost Fits = { λ by t values. AreValues by.most t (rows_of P.numbers values.items) };
 
     ghost Follows = { λ by t child values next old new.
-        AreCarried by.most t.level (scheme_of by.scheme) child.origins (rows_of P.numbers values.items) (rows_of P.numbers next.items) × (new ≡ old + step_terms t.level (scheme_of by.scheme) child.origins) };
+        AreCarried by.most t.level (scheme_of by.scheme) child.origins (rows_of P.numbers values.items) (rows_of P.numbers next.items)
+        × (new ≡ old + step_terms t.level (scheme_of by.scheme) child.origins) };
 
     ghost Fails = { λ by t child values fault old new.
         IsValueFault by.most t.level (scheme_of by.scheme) child.origins (rows_of P.numbers values.items) fault × AreTermSteps t.level (scheme_of by.scheme) child.origins old new };
