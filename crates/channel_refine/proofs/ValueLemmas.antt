@@ -24,6 +24,7 @@ use Rattle.primvar_refine.specs.Rows.{Row, row_at, dens_of, AreWithin, rounded_u
 use Rattle.child_masks.specs.Masks.{mask_from, masks_from, CanRefine}
 use Rattle.primvar_refine.specs.Step.{AreRefined, refined_dens, IsValueFault as is_fault}
 use Rattle.child_masks.proofs.DenLemmas.{den-positive}
+use Rattle.primvar_refine.proofs.SurveyLemmas.{good-positive}
 use Rattle.channel_refine.specs.Step.{AreValues, AreCarried, IsValueFault}
 use Rattle.channel_refine.specs.Faults.{carried_of_value}
 use Rattle.channel_refine.specs.declared.fault.CarryFault.TheVariants.{Value}
@@ -137,7 +138,7 @@ module _ (most : ℕ) (parent : Topology) (child : ChildTopology) (scheme : Sche
           let some : p < length (masks_from parent.level scheme child.origins) = subst (λ n. p < n) (length-map (masks_from parent.level scheme child.origins) den) h in
           let inside : p < length child.origins = subst (λ n. p < n) (length-map child.origins (mask_from parent.level scheme)) some in
           let here = get_or-map den (masks_from parent.level scheme child.origins) p none d some ∙ ap den (get_or-map (mask_from parent.level scheme) child.origins p (FromVertex 0) none inside) in
-          subst (λ n. 0 < n) (sym here) (den-positive parent child scheme rows is has (for-scheme parent child scheme can) values.good p inside)
+          subst (λ n. 0 < n) (sym here) (den-positive parent child scheme (dens_of rows) is has (for-scheme parent child scheme can) (good-positive rows values.good) p inside)
 
   pub values-next : AreValues most child.topology next
   values-next = record {
