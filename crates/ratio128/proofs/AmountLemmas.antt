@@ -4,7 +4,7 @@ use Rattle.std.proofs.lemmas.Int.{unsigned_abs-mul}
 use Rattle.std.proofs.Math.Nat.{mul-le-mul_left}
 use Rattle.std.proofs.lemmas.Bool.Decides.{nat_tests}
 use Rattle.std.proofs.Math.IntN.{sub_ℕ}
-use Rattle.ratio128.specs.Numbers.{plus_times, CanAdd, zeros, greatest_amount}
+use Rattle.ratio128.specs.Numbers.{plus_times, CanAdd, CanAddNarrow, zeros, greatest_amount}
 
 -- no amount passes the bound
 abbrev pub IsWithin : ℕ → List ℤ → Type 0
@@ -75,3 +75,16 @@ CanAdd-within s w m (x ∷ xs) (y ∷ ys) hx hy h = (
   record { kept = omega (arith, unsigned_abs-add x (pos w *ℤ y), unsigned_abs-times w y m hy.0, hx.0) },
   CanAdd-within s w m xs ys hx.1 hy.1 h,
 )
+
+-- what fits 64 bits fits 128
+pub can-add : (w : ℕ) (xs ys : List ℤ) → CanAddNarrow w xs ys → CanAdd (pos w) xs ys
+can-add w [] ys fits = tt
+can-add w (x ∷ xs) [] fits = tt
+can-add w (x ∷ xs) (y ∷ ys) fits =
+    let product = unsigned_abs-mul (pos w) y in
+    let sum = unsigned_abs-add x (pos w *ℤ y) in
+    let first = fits.0 in (
+      record { kept = omega (arith, first, product) },
+      record { kept = omega (arith, first, product, sum) },
+      can-add w xs ys fits.1,
+    )

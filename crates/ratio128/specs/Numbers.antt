@@ -1,5 +1,5 @@
 -- Lists of whole numbers, and what is added to them.
-use Rattle.std.specs.Prelude.{ℕ, ◌^◌, ◌<◌, ℤ, pos, ◌+ℤ◌, ◌*ℤ◌, List, [], ◌∷◌, unsigned_abs, max}
+use Rattle.std.specs.Prelude.{ℕ, ◌+◌, ◌*◌, ◌^◌, ◌<◌, ℤ, pos, ◌+ℤ◌, ◌*ℤ◌, List, [], ◌∷◌, unsigned_abs, max}
 
 -- each number plus weight times that of the source
 abbrev pub plus_times : ℤ → List ℤ → List ℤ → List ℤ
@@ -14,6 +14,11 @@ pub record IsKept (z : ℤ) : Type 0 where
 abbrev pub CanAdd : ℤ → List ℤ → List ℤ → Type 0
 CanAdd w (x ∷ xs) (y ∷ ys) = IsKept (w *ℤ y) × IsKept (x +ℤ w *ℤ y) × CanAdd w xs ys
 CanAdd w xs ys = Unit {0}
+
+-- each number in amount plus weight times that of the source is less than 2^63
+abbrev pub CanAddNarrow : ℕ → List ℤ → List ℤ → Type 0
+CanAddNarrow w (x ∷ xs) (y ∷ ys) = (unsigned_abs x + w * unsigned_abs y < 2 ^ 63) × CanAddNarrow w xs ys
+CanAddNarrow w xs ys = Unit {0}
 
 -- a zero for each number
 abbrev pub zeros : List ℤ → List ℤ

@@ -1,7 +1,7 @@
 //! Lists of whole numbers that are refined as one.
 
-ghost use Rattle.std.specs.Prelude.{◌≡◌, ℕ, ◌+◌, ℤ, ◌+ℤ◌, ◌*ℤ◌, List, [], ◌∷◌, length};
-ghost use Rattle.ratio128.specs.Numbers.{plus_times, CanAdd, IsKept, zeros, greatest_amount};
+ghost use Rattle.std.specs.Prelude.{◌≡◌, ℕ, ◌+◌, ◌*◌, ◌^◌, ◌<◌, ℤ, pos, ◌+ℤ◌, ◌*ℤ◌, unsigned_abs, List, [], ◌∷◌, length};
+ghost use Rattle.ratio128.specs.Numbers.{plus_times, CanAdd, CanAddNarrow, IsKept, zeros, greatest_amount};
 
 use crate::{Point2, Point3, Steps};
 use std::sync::ledger::Ledger;
@@ -31,6 +31,19 @@ pub trait Primvar<L: Ledger>: Drop {
         requires fits { CanAdd weight (numbers self.old) (numbers source.now) }
         ensures added { numbers self.new ≡ plus_times weight (numbers self.old) (numbers source.now) }
         ensures step { steps.new ≡ steps.old + 1 };
+
+    /// Adds `weight` times each number of the source, where 64 bits serve: the weight is from 1 to 2^63 - 1, and each number in
+    /// amount plus the weight times that of the source is at most 2^63 - 1. Both lists have one length. It is one step.
+    fn add_narrow(&mut self, weight: u64, source: &Self, steps: &mut Steps<L>)
+        requires same_length { length (numbers self.old) ≡ length (numbers source.now) }
+        requires some { 0 < weight }
+        requires short { weight < 2 ^ 63 }
+        requires fits { CanAddNarrow weight (numbers self.old) (numbers source.now) }
+        ensures added { numbers self.new ≡ plus_times (pos weight) (numbers self.old) (numbers source.now) }
+        ensures step { steps.new ≡ steps.old + 1 }
+    {
+        self.add_with_weight(weight as i128, source, steps);
+    }
 }
 
 // The number plus weight times another.
@@ -40,6 +53,33 @@ fn plus(number: i128, weight: i128, other: i128) -> i128
     ensures { result ≡ number +ℤ weight *ℤ other }
 {
     number + weight * other
+}
+
+// The number in 64 bits.
+fn word_of(number: i128) -> i64
+    requires { unsigned_abs number < 2 ^ 63 }
+    ensures { result ≡ number }
+{
+    number as i64
+}
+
+// The number plus weight times another, in 64 bits.
+fn plus_in_word(number: i64, weight: i64, other: i64) -> i64
+    requires product { unsigned_abs (weight *ℤ other) < 2 ^ 63 }
+    requires sum { unsigned_abs (number +ℤ weight *ℤ other) < 2 ^ 63 }
+    ensures { result ≡ number +ℤ weight *ℤ other }
+{
+    number + weight * other
+}
+
+// The number plus weight times another, of which each has 64 bits.
+fn plus_narrow(number: i128, weight: u64, other: i128) -> i128
+    requires some { 0 < weight }
+    requires short { weight < 2 ^ 63 }
+    requires fits { unsigned_abs number + weight * unsigned_abs other < 2 ^ 63 }
+    ensures { result ≡ number +ℤ pos weight *ℤ other }
+{
+    plus_in_word(word_of(number), weight as i64, word_of(other)) as i128
 }
 
 impl<L: Ledger> Primvar<L> for Point2 {
@@ -61,6 +101,12 @@ impl<L: Ledger> Primvar<L> for Point2 {
     fn add_with_weight(&mut self, weight: i128, source: &Point2, steps: &mut Steps<L>) {
         self.u = plus(self.u, weight, source.u);
         self.v = plus(self.v, weight, source.v);
+        steps.tick();
+    }
+
+    fn add_narrow(&mut self, weight: u64, source: &Point2, steps: &mut Steps<L>) {
+        self.u = plus_narrow(self.u, weight, source.u);
+        self.v = plus_narrow(self.v, weight, source.v);
         steps.tick();
     }
 }
@@ -89,6 +135,13 @@ impl<L: Ledger> Primvar<L> for Point3 {
         self.x = plus(self.x, weight, source.x);
         self.y = plus(self.y, weight, source.y);
         self.z = plus(self.z, weight, source.z);
+        steps.tick();
+    }
+
+    fn add_narrow(&mut self, weight: u64, source: &Point3, steps: &mut Steps<L>) {
+        self.x = plus_narrow(self.x, weight, source.x);
+        self.y = plus_narrow(self.y, weight, source.y);
+        self.z = plus_narrow(self.z, weight, source.z);
         steps.tick();
     }
 }
