@@ -1,8 +1,9 @@
 pub mod ArrayLemmas
 pub mod TableLemmas
+pub mod RowLemmas
 pub mod BuilderLemmas
 pub mod SumLemmas
-pub mod RowLemmas
+pub mod WidthLemmas
 pub mod RangeLemmas
 pub mod MeanLemmas
 pub mod IdentityLemmas

@@ -37,3 +37,7 @@ shares_of entries = map (λ entry. (entry.index, entry.numerator)) entries
 
 abbrev pub row_of : ℕ → List Entry → Row
 row_of den entries = record { den = den; shares = shares_of entries }
+
+-- the row of control points and their numerators
+abbrev pub row_of_parts : ℕ → List ℕ → List ℕ → Row
+row_of_parts den indices numerators = record { den = den; shares = zip indices numerators }

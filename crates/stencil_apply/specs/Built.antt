@@ -1,16 +1,23 @@
 -- A table that is being put together, and the room that it has for more.
-use Rattle.std.specs.Prelude.{ℕ, ◌≡◌, ◌+◌, ◌≤◌, List, [], ◌∷◌, ◌++◌, length, map, max}
+use Rattle.std.specs.Prelude.{ℕ, ◌≡◌, ◌+◌, ◌≤◌, [], ◌∷◌, ◌++◌, length, map, max}
 use Rattle.std.specs.Vec.{vec_capacity}
 use Rattle.stencil_apply.specs.Table.{Row, Table}
 use Rattle.stencil_apply.specs.Arrays.{AreTied}
 use Rattle.stencil_apply.specs.declared.arrays.Arrays.{Arrays}
-use Rattle.stencil_apply.specs.declared.entry.Entry.{Entry}
+use Rattle.number_width.specs.declared.width.Width.{Width}
+use Rattle.number_width.specs.declared.width.Width.TheVariants as width
 
--- so many rows more, and so many entries more in all, take no memory
+-- so many rows more, and so many entries more in all, with numerators of the width take no memory
 pub record Built : Type 0 where
   pub table : Table
+  pub width : Width
   pub room_rows : ℕ
   pub room_entries : ℕ
+
+-- the greater of two widths
+abbrev pub wider : Width → Width → Width
+wider width.Narrow other = other
+wider width.Wide other = width.Wide
 
 abbrev pub no_rows : ℕ → Table
 no_rows controls = record { controls = controls; rows = [] }
@@ -25,21 +32,21 @@ pub record HaveRoom (arrays : Arrays) (rows entries : ℕ) : Type 0 where
   pub end_room : length arrays.ends.items + rows ≤ vec_capacity arrays.ends
   pub den_room : length arrays.denominators.items + rows ≤ vec_capacity arrays.denominators
   pub index_room : length arrays.indices.items + entries ≤ vec_capacity arrays.indices
-  pub numerator_room : length arrays.numerators.items + entries ≤ vec_capacity arrays.numerators
+  pub numerator_room : length arrays.numerators.items + entries ≤ arrays.numerators.capacity
 
 -- the arrays have capacity for a row of so many entries
 pub record HaveSpace (arrays : Arrays) (entries : ℕ) : Type 0 where
   pub ends : length arrays.ends.items + 1 ≤ vec_capacity arrays.ends
   pub denominators : length arrays.denominators.items + 1 ≤ vec_capacity arrays.denominators
   pub indices : length arrays.indices.items + entries ≤ vec_capacity arrays.indices
-  pub numerators : length arrays.numerators.items + entries ≤ vec_capacity arrays.numerators
+  pub numerators : length arrays.numerators.items + entries ≤ arrays.numerators.capacity
 
 -- no array has less capacity than before
 pub record KeepsCapacity (old new : Arrays) : Type 0 where
   pub ends : vec_capacity old.ends ≤ vec_capacity new.ends
   pub denominators : vec_capacity old.denominators ≤ vec_capacity new.denominators
   pub indices : vec_capacity old.indices ≤ vec_capacity new.indices
-  pub numerators : vec_capacity old.numerators ≤ vec_capacity new.numerators
+  pub numerators : old.numerators.capacity ≤ new.numerators.capacity
 
 -- the arrays hold what they held
 pub record IsGrown (old new : Arrays) : Type 0 where
@@ -52,11 +59,12 @@ pub record IsGrown (old new : Arrays) : Type 0 where
   pub capacity : KeepsCapacity old new
 
 -- the arrays hold a row more
-pub record IsPushed (old new : Arrays) (den : ℕ) (row : List Entry) : Type 0 where
+pub record IsPushed (old new : Arrays) (row : Row) : Type 0 where
   pub controls : new.controls ≡ old.controls
-  pub greatest : new.greatest ≡ max old.greatest den
-  pub ends : new.ends.items ≡ old.ends.items ++ (length old.indices.items + length row) ∷ []
-  pub denominators : new.denominators.items ≡ old.denominators.items ++ den ∷ []
-  pub indices : new.indices.items ≡ old.indices.items ++ map (λ entry. entry.index) row
-  pub numerators : new.numerators.items ≡ old.numerators.items ++ map (λ entry. entry.numerator) row
+  pub greatest : new.greatest ≡ max old.greatest row.den
+  pub ends : new.ends.items ≡ old.ends.items ++ (length old.indices.items + length row.shares) ∷ []
+  pub denominators : new.denominators.items ≡ old.denominators.items ++ row.den ∷ []
+  pub indices : new.indices.items ≡ old.indices.items ++ map (λ share. share.0) row.shares
+  pub numerators : new.numerators.items ≡ old.numerators.items ++ map (λ share. share.1) row.shares
+  pub width : new.numerators.width ≡ old.numerators.width
   pub capacity : KeepsCapacity old new

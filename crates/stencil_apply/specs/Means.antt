@@ -1,16 +1,36 @@
 -- What the rows of a table make of controls.
-use Rattle.std.specs.Prelude.{ℕ, ◌*◌, ◌<◌, ◌≤◌, ℤ, pos, ◌+ℤ◌, nat_eq, List, [], ◌∷◌, length, map, if◌then◌else◌}
-use Rattle.std.specs.List.{All, range_with_len}
-use Rattle.subdiv_model.specs.Channel.{number_bound}
+use Rattle.std.specs.Prelude.{ℕ, ◌-◌, ◌*◌, ◌^◌, ◌<◌, ◌≤◌, ℤ, pos, ◌+ℤ◌, nat_eq, nat_le, max, List, [], ◌∷◌, length, map, if◌then◌else◌}
+use Rattle.std.specs.List.{All, fold, range_with_len}
 use Rattle.ratio128.specs.Numbers.{greatest_amount}
-use Rattle.stencil_apply.specs.Table.{Share, total_of}
+use Rattle.number_width.specs.declared.width.Width.{Width}
+use Rattle.number_width.specs.declared.width.Width.TheVariants as width
+use Rattle.stencil_apply.specs.Table.{Share, Table, total_of, greatest_of}
 
--- the sum of the shares times the numbers of their controls stays within the bound of numbers
-pub record CanSum (shares : List Share) (controls : List (List ℤ)) : Type 0 where
+-- the sum of the shares times the numbers of their controls stays within a bound
+pub record CanSum (bound : ℕ) (shares : List Share) (controls : List (List ℤ)) : Type 0 where
   pub some : 0 < total_of shares
-  pub short : total_of shares ≤ number_bound
+  pub short : total_of shares ≤ bound
+  pub each : All (λ share. 0 < share.1) shares
   pub inside : All (λ share. share.0 < length controls) shares
-  pub room : All (λ numbers. total_of shares * greatest_amount numbers ≤ number_bound) controls
+  pub room : All (λ numbers. total_of shares * greatest_amount numbers ≤ bound) controls
+
+-- the greatest number of 64 bits with a sign
+abbrev pub word_bound : ℕ
+word_bound = 2 ^ 63 - 1
+
+-- the sum of each row of a table over the controls stays within 64 bits
+pub record CanSumNarrow (table : Table) (controls : List (List ℤ)) : Type 0 where
+  pub short : greatest_of table ≤ word_bound
+  pub room : All (λ numbers. greatest_of table * greatest_amount numbers ≤ word_bound) controls
+
+-- the greatest amount of all controls, and 1 where there is none above 0
+abbrev pub greatest_of_all : List (List ℤ) → ℕ
+greatest_of_all controls = fold max 1 (map greatest_amount controls)
+
+-- the narrowest width of sums that stay within 64 bits by the greatest denominator and the greatest amount
+abbrev pub sum_width_of : Table → List (List ℤ) → Width
+sum_width_of table controls =
+    if nat_le (greatest_of table * greatest_of_all controls) word_bound then width.Narrow else width.Wide
 
 -- each number moved by one
 abbrev pub moved : ℤ → List ℤ → List ℤ

@@ -5,9 +5,11 @@ ghost use Rattle.std.specs.List.{All, zip};
 ghost use Rattle.subdiv_model.specs.Channel.{number_bound};
 ghost use Rattle.ratio128.specs.Numbers.{zeros, greatest_amount};
 ghost use Rattle.stencil_apply.specs.Table.{row_at, entries_of, greatest_of, rows_in, sum_of_shares, sum_of_row};
-ghost use Rattle.stencil_apply.specs.Means.{CanSum};
+ghost use Rattle.number_width.specs.declared.width.Width.TheVariants.{Narrow};
+ghost use Rattle.stencil_apply.specs.Means.{CanSum, CanSumNarrow, word_bound, sum_width_of};
 
 use crate::table::StencilTable;
+use number_width::{Natural, NumberSlice, Width};
 use ratio128::limits::NUMBER_BOUND;
 use ratio128::{Primvar, Steps, times_within};
 use std::sync::ledger::Ledger;
@@ -19,51 +21,133 @@ pub fn scale_fits(table: &StencilTable, greatest: u128) -> bool
     times_within(table.greatest(), greatest, NUMBER_BOUND).is_some()
 }
 
-// The sum of a row's numerators times its controls, as long as the place that it is for, in one step for each entry.
-fn sum_row<P: Primvar<L>, L: Ledger>(
+// The greatest number of 64 bits with a sign.
+const WORD_BOUND: u128 = (1 << 63) - 1;
+
+/// The width of sums over these controls, for [`sum_at`]. It is [`Width::Narrow`] exactly where the greatest denominator times the
+/// greatest amount in the controls is at most 2^63 - 1. That amount counts as 1 where no control has one above 0. It visits each
+/// control once.
+pub fn sum_width<P: Primvar<L>, L: Ledger>(table: &StencilTable, controls: &[P]) -> Width
+    ensures width { result ≡ sum_width_of table.now (map P.numbers controls.now) }
+    ensures narrow { result ≡ Narrow → CanSumNarrow table.now (map P.numbers controls.now) }
+{
+    let mut greatest: u128 = 1;
+    for control in controls {
+        greatest = greatest.max(control.greatest());
+    }
+    match times_within(table.greatest(), greatest, WORD_BOUND) {
+        Some(_) => Width::Narrow,
+        None => Width::Wide,
+    }
+}
+
+// The sum of a row in 64 bits, in one step for each entry.
+fn sum_narrow<T: Natural, P: Primvar<L>, L: Ledger>(
     indices: &[u32],
-    numerators: &[u128],
+    numerators: &[T],
     controls: &[P],
-    place: &P,
+    like: &P,
     steps: &mut Steps<L>,
 ) -> P
     requires equal { length numerators.now ≡ length indices.now }
-    requires fits { CanSum (zip indices.now numerators.now) (map P.numbers controls.now) }
-    requires same_length { All (λ control. length (P.numbers control) ≡ length (P.numbers place.now)) controls.now }
-    ensures sum { P.numbers result ≡ sum_of_shares (zeros (P.numbers place.now)) (map P.numbers controls.now) (zip indices.now numerators.now) }
+    requires fits { CanSum word_bound (zip indices.now (map T.value numerators.now)) (map P.numbers controls.now) }
+    requires same_length { All (λ control. length (P.numbers control) ≡ length (P.numbers like.now)) controls.now }
+    ensures sum { P.numbers result ≡ sum_of_shares (zeros (P.numbers like.now)) (map P.numbers controls.now) (zip indices.now (map T.value numerators.now)) }
     ensures steps { steps.new ≡ steps.old + length indices.now }
 {
-    let mut sum = place.cleared();
+    let mut sum = like.cleared();
     for at in 0..indices.len() {
         let control = &controls[indices[at] as usize];
-        sum.add_with_weight(numerators[at] as i128, control, steps);
+        sum.add_narrow(numerators[at].wide() as u64, control, steps);
     }
     sum
 }
 
-// The sum of a row of a table.
-fn sum_at<P: Primvar<L>, L: Ledger>(
+// The sum of a row in 128 bits, in one step for each entry.
+fn sum_wide<T: Natural, P: Primvar<L>, L: Ledger>(
+    indices: &[u32],
+    numerators: &[T],
+    controls: &[P],
+    like: &P,
+    steps: &mut Steps<L>,
+) -> P
+    requires equal { length numerators.now ≡ length indices.now }
+    requires fits { CanSum number_bound (zip indices.now (map T.value numerators.now)) (map P.numbers controls.now) }
+    requires same_length { All (λ control. length (P.numbers control) ≡ length (P.numbers like.now)) controls.now }
+    ensures sum { P.numbers result ≡ sum_of_shares (zeros (P.numbers like.now)) (map P.numbers controls.now) (zip indices.now (map T.value numerators.now)) }
+    ensures steps { steps.new ≡ steps.old + length indices.now }
+{
+    let mut sum = like.cleared();
+    for at in 0..indices.len() {
+        let control = &controls[indices[at] as usize];
+        sum.add_with_weight(numerators[at].wide() as i128, control, steps);
+    }
+    sum
+}
+
+// The sum of a row's numerators times its controls, as long as the list that it is to be like, in one step for each entry.
+fn sum_row<T: Natural, P: Primvar<L>, L: Ledger>(
+    indices: &[u32],
+    numerators: &[T],
+    controls: &[P],
+    like: &P,
+    width: Width,
+    steps: &mut Steps<L>,
+) -> P
+    requires equal { length numerators.now ≡ length indices.now }
+    requires fits { CanSum number_bound (zip indices.now (map T.value numerators.now)) (map P.numbers controls.now) }
+    requires narrow { width ≡ Narrow → CanSum word_bound (zip indices.now (map T.value numerators.now)) (map P.numbers controls.now) }
+    requires same_length { All (λ control. length (P.numbers control) ≡ length (P.numbers like.now)) controls.now }
+    ensures sum { P.numbers result ≡ sum_of_shares (zeros (P.numbers like.now)) (map P.numbers controls.now) (zip indices.now (map T.value numerators.now)) }
+    ensures steps { steps.new ≡ steps.old + length indices.now }
+{
+    match width {
+        Width::Narrow => sum_narrow(indices, numerators, controls, like, steps),
+        Width::Wide => sum_wide(indices, numerators, controls, like, steps),
+    }
+}
+
+/// The sum of a row of a table, as long as the list that it is to be like, in one step for each entry. It is that of the row's
+/// numerators times the numbers of their controls.
+///
+/// There is a control for each control point of the table, all lists of one length. The greatest denominator of the table times
+/// each amount in the controls is at most 2^126 - 1, as [`scale_fits`] tells. Where the width is [`Width::Narrow`], that and the
+/// greatest denominator are at most 2^63 - 1, as [`sum_width`] tells. It takes no memory.
+pub fn sum_at<P: Primvar<L>, L: Ledger>(
     table: &StencilTable,
     row: u32,
     controls: &[P],
-    place: &P,
+    like: &P,
+    width: Width,
     steps: &mut Steps<L>,
 ) -> P
     requires inside { row < length table.now.rows }
     requires controls { length controls.now ≡ table.now.controls }
-    requires same_length { All (λ control. length (P.numbers control) ≡ length (P.numbers place.now)) controls.now }
+    requires same_length { All (λ control. length (P.numbers control) ≡ length (P.numbers like.now)) controls.now }
     requires fits { All (λ control. greatest_of table.now * greatest_amount (P.numbers control) ≤ number_bound) controls.now }
-    ensures sum { P.numbers result ≡ sum_of_row (zeros (P.numbers place.now)) (map P.numbers controls.now) (row_at table.now row) }
+    requires narrow { width ≡ Narrow → CanSumNarrow table.now (map P.numbers controls.now) }
+    ensures sum { P.numbers result ≡ sum_of_row (zeros (P.numbers like.now)) (map P.numbers controls.now) (row_at table.now row) }
     ensures steps { steps.new ≡ steps.old + length (row_at table.now row).shares }
 {
     table.facts();
-    sum_row(
-        table.row_indices(row),
-        table.row_numerators(row),
-        controls,
-        place,
-        steps,
-    )
+    let indices = table.row_indices(row);
+    match table.row_numerators(row) {
+        NumberSlice::Narrow(numerators) => sum_row(
+            indices, numerators, controls, like, width, steps,
+        ),
+        NumberSlice::Wide(numerators) => sum_row(indices, numerators, controls, like, width, steps),
+    }
+}
+
+// The width of sums for so many rows. It looks at the controls only where there are no more of them than rows.
+fn range_width<P: Primvar<L>, L: Ledger>(table: &StencilTable, controls: &[P], rows: usize) -> Width
+    ensures { result ≡ Narrow → CanSumNarrow table.now (map P.numbers controls.now) }
+{
+    if controls.len() <= rows {
+        sum_width::<P, L>(table, controls)
+    } else {
+        Width::Wide
+    }
 }
 
 /// Puts the sums of the rows from `from` up to `to` into `out`, in one step for each of their entries. A row's sum is that of
@@ -90,7 +174,8 @@ pub fn apply_range<P: Primvar<L>, L: Ledger>(
     ensures len { length out.new ≡ length out.old }
     ensures steps { steps.new ≡ steps.old + entries_of (rows_in table.now from to) }
 {
+    let width = range_width::<P, L>(table, controls, out.len());
     for k in 0..out.len() {
-        out[k] = sum_at(table, from + k as u32, controls, &out[k], steps);
+        out[k] = sum_at(table, from + k as u32, controls, &out[k], width, steps);
     }
 }

@@ -1,7 +1,10 @@
-//! The rows of a table, packed into flat arrays: 20 bytes an entry, and 20 a row.
+//! The rows of a table, packed into flat arrays: 12 or 20 bytes an entry, and 20 a row.
 
 ghost use Rattle.std.specs.Prelude.{◌≡◌, ◌<◌, ◌∷◌, length, get_or, slice_range};
+ghost use Rattle.number_width.specs.Numbers.{numbers_in};
 ghost use Rattle.stencil_apply.specs.Arrays.{Ascend};
+
+use number_width::{NumberList, NumberSlice};
 
 // The entries of a row end where those of the next begin.
 #[derive(Drop)]
@@ -10,7 +13,7 @@ pub(crate) struct Arrays {
     pub(crate) greatest: u128,
     pub(crate) ends: Vec<u32>,
     pub(crate) indices: Vec<u32>,
-    pub(crate) numerators: Vec<u128>,
+    pub(crate) numerators: NumberList,
     pub(crate) denominators: Vec<u128>,
 }
 
@@ -35,4 +38,15 @@ pub(crate) fn part<'a, T>(ends: &[u32], items: &'a [T], row: u32) -> &'a [T]
     let from = start(ends, row);
     let to = ends[row as usize] as usize;
     &items[from..to]
+}
+
+// The part of a list of numbers for the entries of a row.
+pub(crate) fn number_part<'a>(ends: &[u32], numbers: &'a NumberList, row: u32) -> NumberSlice<'a>
+    requires ascend { Ascend 0 ends.now (length numbers.now.items) }
+    requires inside { row < length ends.now }
+    ensures { numbers_in result ≡ slice_range numbers.now.items (get_or (0 ∷ ends.now) row 0) (get_or ends.now row 0) }
+{
+    let from = start(ends, row);
+    let to = ends[row as usize] as usize;
+    numbers.range(from, to)
 }

@@ -1,14 +1,17 @@
 //! A table that is being put together, row by row.
 
-ghost use Rattle.std.specs.Prelude.{◌≡◌, ◌+◌, ◌-◌, ◌^◌, ◌<◌, ◌≤◌, length, IfOk, OnOk, OnErr, IsOk};
+ghost use Rattle.std.specs.Prelude.{◌≡◌, ◌+◌, ◌-◌, ◌^◌, ◌<◌, ◌≤◌, length, map, IfOk, OnOk, OnErr, IsOk};
+ghost use Rattle.number_width.specs.Numbers.{most_of, width_for};
+ghost use Rattle.number_width.specs.declared.width.Width.TheVariants as width;
 ghost use Rattle.stencil_apply.specs.Table.{IsRow, entries_of};
-ghost use Rattle.stencil_apply.specs.Arrays.{row_of};
-ghost use Rattle.stencil_apply.specs.Built.{no_rows, with_row};
+ghost use Rattle.stencil_apply.specs.Arrays.{row_of, row_of_parts};
+ghost use Rattle.stencil_apply.specs.Built.{no_rows, with_row, wider};
 
 use crate::arrays::Arrays;
 use crate::entry::Entry;
-use crate::push::{push_row, reserve_row};
+use crate::push::{push_parts, push_row, reserve_row};
 use crate::table::StencilTable;
+use number_width::{Natural, NumberList, Width};
 use ratio128::Memory;
 use std::alloc::Global;
 use std::marker::Model;
@@ -16,6 +19,7 @@ use std::marker::Model;
 /// A table that takes rows at its end, and how many rows and entries more take no memory.
 #[derive(Drop)]
 pub struct TableBuilder {
+    alloc: Global,
     arrays: Arrays,
     room_rows: u32,
     room_entries: u64,
@@ -27,24 +31,35 @@ impl Model for TableBuilder {
 
     ghost Value = { Built };
 
-    ghost view = { λ b. record { table = table_of b.arrays; room_rows = b.room_rows; room_entries = b.room_entries } };
+    ghost view = { λ b. record { table = table_of b.arrays; width = b.arrays.numerators.width; room_rows = b.room_rows; room_entries = b.room_entries } };
 
     ghost invariant = { λ b. HaveRoom b.arrays b.room_rows b.room_entries };
 }
 
+// Takes a row of so many entries from the room for rows and for entries.
+fn take_room(rows: &mut u32, entries: &mut u64, taken: usize)
+    ensures rows { rows.new ≡ rows.old - 1 }
+    ensures entries { entries.new ≡ entries.old - taken }
+{
+    *rows = rows.saturating_sub(1);
+    *entries = entries.saturating_sub(taken as u64);
+}
+
 impl TableBuilder {
-    /// A table without rows over so many control points, at most 2^27. It takes no memory, and has no room.
+    /// A table without rows over so many control points, at most 2^27. Its numerators have 64 bits. It takes no memory, and has
+    /// no room.
     pub fn new(alloc: Global, controls: u32) -> TableBuilder
         requires { controls ≤ 2 ^ 27 }
-        ensures { result ≡ record { table = no_rows controls; room_rows = 0; room_entries = 0 } }
+        ensures { result ≡ record { table = no_rows controls; width = width.Narrow; room_rows = 0; room_entries = 0 } }
     {
         TableBuilder {
+            alloc,
             arrays: Arrays {
                 controls,
                 greatest: 1,
                 ends: Vec::new(alloc),
                 indices: Vec::new(alloc),
-                numerators: Vec::new(alloc),
+                numerators: NumberList::new(alloc),
                 denominators: Vec::new(alloc),
             },
             room_rows: 0,
@@ -52,26 +67,28 @@ impl TableBuilder {
         }
     }
 
-    /// The same, with room for so many rows and for so many entries in all, each at most 2^27. [`Memory`] where there is none for
-    /// them.
+    /// A table without rows over so many control points, with numerators of a width. It has room for so many rows and for so many
+    /// entries in all. Each number is at most 2^27. [`Memory`] comes where there is none for them.
     pub fn with_room(
         alloc: Global,
         controls: u32,
         rows: u32,
         entries: u64,
+        width: Width,
     ) -> Result<TableBuilder, Memory>
         requires controls { controls ≤ 2 ^ 27 }
         requires rows { rows ≤ 2 ^ 27 }
         requires entries { entries ≤ 2 ^ 27 }
-        ensures { IfOk result (λ b. b ≡ record { table = no_rows controls; room_rows = rows; room_entries = entries }) }
+        ensures { IfOk result (λ b. b ≡ record { table = no_rows controls; width = width; room_rows = rows; room_entries = entries }) }
     {
         Ok(TableBuilder {
+            alloc,
             arrays: Arrays {
                 controls,
                 greatest: 1,
                 ends: Vec::with_capacity(alloc, rows as usize)?,
                 indices: Vec::with_capacity(alloc, entries as usize)?,
-                numerators: Vec::with_capacity(alloc, entries as usize)?,
+                numerators: NumberList::with_capacity(alloc, width, entries as usize)?,
                 denominators: Vec::with_capacity(alloc, rows as usize)?,
             },
             room_rows: rows,
@@ -89,23 +106,53 @@ impl TableBuilder {
 
     /// Adds a row at the end, over a denominator from 1 to 2^126 - 1: control points of the table, each once and ascending, with
     /// numerators above 0 that sum to the denominator. There are fewer than 2^27 rows before, and at most 2^27 entries in all
-    /// with this row.
+    /// with this row. Numerators have 128 bits from the first denominator on that has more than 64.
     ///
-    /// [`Memory`] comes only where there is no room for the row and its entries, and then all is as it was.
+    /// [`Memory`] comes only where there is no room for the row and its entries, or the denominator has more bits than the
+    /// numerators so far. Then all is as it was.
     pub fn add_row(&mut self, denominator: u128, row: &[Entry]) -> Result<(), Memory>
         requires row { IsRow self.old.table.controls (row_of denominator row.now) }
         requires rows { length self.old.table.rows < 2 ^ 27 }
         requires entries { entries_of self.old.table.rows + length row.now ≤ 2 ^ 27 }
         ensures added { OnOk result (self.new.table ≡ with_row (row_of denominator row.now) self.old.table) }
+        ensures width { OnOk result (self.new.width ≡ wider self.old.width (width_for denominator)) }
         ensures unchanged { OnErr result (self.new ≡ self.old) }
-        ensures sure { 0 < self.old.room_rows → length row.now ≤ self.old.room_entries → IsOk result }
+        ensures sure { 0 < self.old.room_rows → length row.now ≤ self.old.room_entries → denominator ≤ most_of self.old.width → IsOk result }
         ensures room_rows { OnOk result (self.new.room_rows ≡ self.old.room_rows - 1) }
         ensures room_entries { OnOk result (self.new.room_entries ≡ self.old.room_entries - length row.now) }
     {
-        reserve_row(&mut self.arrays, row.len())?;
+        reserve_row(&mut self.arrays, self.alloc, denominator, row.len())?;
         push_row(&mut self.arrays, denominator, row);
-        self.room_rows = self.room_rows.saturating_sub(1);
-        self.room_entries = self.room_entries.saturating_sub(row.len() as u64);
+        take_room(&mut self.room_rows, &mut self.room_entries, row.len());
+        Ok(())
+    }
+
+    /// Adds a row at the end, over a denominator from 1 to 2^126 - 1. It takes the control points of the table, each once and
+    /// ascending, and as many numerators above 0 that sum to the denominator. There are fewer than 2^27 rows before, and at most
+    /// 2^27 entries in all with this row. Numerators have 128 bits from the first denominator on that has more than 64.
+    ///
+    /// [`Memory`] comes only where there is no room for the row and its entries, or the denominator has more bits than the
+    /// numerators so far. Then all is as it was.
+    pub fn add_parts<T: Natural>(
+        &mut self,
+        denominator: u128,
+        indices: &[u32],
+        numerators: &[T],
+    ) -> Result<(), Memory>
+        requires equal { length numerators.now ≡ length indices.now }
+        requires row { IsRow self.old.table.controls (row_of_parts denominator indices.now (map T.value numerators.now)) }
+        requires rows { length self.old.table.rows < 2 ^ 27 }
+        requires entries { entries_of self.old.table.rows + length indices.now ≤ 2 ^ 27 }
+        ensures added { OnOk result (self.new.table ≡ with_row (row_of_parts denominator indices.now (map T.value numerators.now)) self.old.table) }
+        ensures width { OnOk result (self.new.width ≡ wider self.old.width (width_for denominator)) }
+        ensures unchanged { OnErr result (self.new ≡ self.old) }
+        ensures sure { 0 < self.old.room_rows → length indices.now ≤ self.old.room_entries → denominator ≤ most_of self.old.width → IsOk result }
+        ensures room_rows { OnOk result (self.new.room_rows ≡ self.old.room_rows - 1) }
+        ensures room_entries { OnOk result (self.new.room_entries ≡ self.old.room_entries - length indices.now) }
+    {
+        reserve_row(&mut self.arrays, self.alloc, denominator, indices.len())?;
+        push_parts(&mut self.arrays, denominator, indices, numerators);
+        take_room(&mut self.room_rows, &mut self.room_entries, indices.len());
         Ok(())
     }
 

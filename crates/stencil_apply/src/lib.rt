@@ -11,7 +11,7 @@ pub mod laws;
 mod push;
 mod table;
 
-pub use apply::{apply_range, scale_fits};
+pub use apply::{apply_range, scale_fits, sum_at, sum_width};
 pub use builder::TableBuilder;
 pub use entry::Entry;
 pub use table::StencilTable;

@@ -1,9 +1,11 @@
 //! A table of stencils, row by row.
 
 ghost use Rattle.std.specs.Prelude.{◌≡◌, ◌^◌, ◌<◌, ◌≤◌, length, map, get_or};
+ghost use Rattle.number_width.specs.Numbers.{numbers_in};
 ghost use Rattle.stencil_apply.specs.Table.{IsTable, row_at, entries_of, greatest_of};
 
-use crate::arrays::{Arrays, part, start};
+use crate::arrays::{Arrays, number_part, part};
+use number_width::NumberSlice;
 use std::marker::Model;
 
 /// Rows of whole numerators above 0, each row over a denominator from 1 to 2^126 - 1 that its numerators sum to. A row has each
@@ -76,7 +78,7 @@ impl StencilTable {
         requires at { at < length (row_at self.now row).shares }
         ensures { result ≡ (get_or (row_at self.now row).shares at (0, 0)).1 }
     {
-        self.row_numerators(row)[at as usize]
+        self.row_numerators(row).get(at as usize)
     }
 
     /// The denominator of a row.
@@ -111,10 +113,10 @@ impl StencilTable {
     }
 
     /// The numerators of a row's entries.
-    pub fn row_numerators(&self, row: u32) -> &[u128]
+    pub fn row_numerators(&self, row: u32) -> NumberSlice<'_>
         requires { row < length self.now.rows }
-        ensures { result.now ≡ map (λ share. share.1) (row_at self.now row).shares }
+        ensures { numbers_in result ≡ map (λ share. share.1) (row_at self.now row).shares }
     {
-        part(&self.arrays.ends, &self.arrays.numerators, row)
+        number_part(&self.arrays.ends, &self.arrays.numerators, row)
     }
 }

@@ -10,5 +10,6 @@ invariant-loop-entry l = record {
   index_count : length l.indices.items ≡ length l.fn.indices.items + l.entry-index;
   numerator_count : length l.numerators.items ≡ length l.fn.numerators.items + l.entry-index;
   index_capacity : vec_capacity l.indices ≡ vec_capacity l.fn.indices;
-  numerator_capacity : vec_capacity l.numerators ≡ vec_capacity l.fn.numerators;
+  numerator_capacity : l.numerators.capacity ≡ l.fn.numerators.capacity;
+  width : l.numerators.width ≡ l.fn.numerators.width;
 }
