@@ -12,9 +12,7 @@ use crate::meshes::{self, with_level};
 use crate::solids::{Mesh, ZERO};
 use crate::vertex_rows::{VertexRow, corners, longest, open, refused, rules, transitions};
 use level_topology::Level;
-use mask_rules::{
-    At, EdgeMask, MaskFault, Scheme, Term, VertexMask, edge_mask, face_mask, vertex_mask,
-};
+use mask_rules::{At, MadeMask, MaskFault, Scheme, Term, VertexMask, face_mask, vertex_mask};
 use sharpness_rules::{Method, Sharpness};
 use std::alloc::Global;
 use std::process::Abort;
@@ -95,10 +93,12 @@ pub fn mask_of_vertex(
 }
 
 // The mask of an edge, after what it asks is tested.
-fn mask_of_edge(rt: &impl Abort, level: &Level, e: u32, scheme: Scheme) -> EdgeMask {
+fn mask_of_edge(rt: &impl Abort, level: &Level, e: u32, scheme: Scheme) -> MadeMask {
     assert!(rt; e < level.edges());
     assert!(rt; has_two_faces(level, e) || is_infinite(level, e));
-    edge_mask(level, e, scheme)
+    let mut mask = MadeMask::new();
+    mask.put_edge(level, e, scheme);
+    mask
 }
 
 fn has_term(terms: &[Term], at: At, weight: u128) -> bool {

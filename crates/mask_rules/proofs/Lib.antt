@@ -11,3 +11,4 @@ pub mod EqualLemmas
 mod RoomLemmas
 pub mod SmoothLemmas
 pub mod PlainLemmas
+pub mod MadeLemmas

@@ -6,11 +6,7 @@ use Rattle.mask_rules.specs.declared.mask.Scheme.TheVariants.{CatmullClark, Line
 use Rattle.mask_rules.specs.declared.mask.At.{At}
 use Rattle.mask_rules.specs.declared.mask.At.TheVariants.{Point, FacePoint}
 use Rattle.mask_rules.specs.declared.mask.Term.{Term}
-use Rattle.mask_rules.specs.declared.edge.EdgeTerms.{EdgeTerms}
-use Rattle.mask_rules.specs.declared.edge.EdgeTerms.TheVariants.{Ends, EndsAndFaces}
-use Rattle.mask_rules.specs.declared.edge.EdgeMask.{EdgeMask}
 use Rattle.mask_rules.specs.declared.vertex.VertexMask.{VertexMask}
-use Rattle.mask_rules.specs.declared.plain.PlainMask.{PlainMask}
 
 abbrev pub scheme_of : Scheme → model.Scheme
 scheme_of CatmullClark = model.CatmullClark
@@ -26,15 +22,5 @@ term_of t = model.weigh t.weight (source_of t.at)
 abbrev pub terms_of : List Term → List model.Term
 terms_of terms = map term_of terms
 
-abbrev pub listed : EdgeTerms → List Term
-listed (Ends terms) = terms
-listed (EndsAndFaces terms) = terms
-
-abbrev pub seen_edge : EdgeMask → model.Mask
-seen_edge m = record { terms = terms_of (listed m.terms); denominator = m.denominator }
-
 abbrev pub seen_vertex : VertexMask → model.Mask
 seen_vertex m = record { terms = terms_of m.terms.items; denominator = m.denominator }
-
-abbrev pub seen_plain : PlainMask → model.Mask
-seen_plain m = record { terms = terms_of m.terms.items; denominator = m.denominator }

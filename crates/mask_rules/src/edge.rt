@@ -1,50 +1,18 @@
 //! The new point of an edge.
 
-ghost use Rattle.std.specs.Prelude.{◌≡◌, ◌<◌, ◌≤◌, ◌⊎◌, IsTrue, length, get_or, MatchOption, IfSome};
+ghost use Rattle.std.specs.Prelude.{◌≡◌, ◌<◌, ◌⊎◌, IsTrue, length, get_or};
 ghost use Rattle.subdiv_model.specs.Edges.{edges_of, faces_of_edge};
 ghost use Rattle.subdiv_model.specs.Sharpness.{Smooth};
 ghost use Rattle.subdiv_model.specs.Mask.{CatmullClark, OfPoint, OfFace, weigh, edge_mask};
 ghost use Rattle.sharpness_rules.specs.View.{sharpness_of};
 ghost use Rattle.level_topology.specs.Topology.{edge_at};
-ghost use Rattle.mask_rules.specs.View.{scheme_of, term_of, terms_of, seen_edge};
+ghost use Rattle.mask_rules.specs.View.{scheme_of, term_of};
 ghost use Rattle.mask_rules.specs.Masks.{IsMask, is_at_least_one, IsBelowOne, IsPartBelowOne, ends_over, around_over};
 
+use crate::made::MadeMask;
 use crate::mask::{At, Scheme, Term};
 use level_topology::Level;
 use sharpness_rules::Sharpness;
-
-// The ends of the edge, or the ends and its two faces.
-#[derive(Clone, Copy, Debug, PartialEq, Eq)]
-pub(crate) enum EdgeTerms {
-    Ends([Term; 2]),
-    EndsAndFaces([Term; 4]),
-}
-
-/// The mask of an edge: two terms or four.
-#[derive(Clone, Copy, Debug, PartialEq, Eq)]
-pub struct EdgeMask {
-    terms: EdgeTerms,
-    denominator: u128,
-}
-
-impl EdgeMask {
-    /// The terms, each with a place of its own and a weight above 0.
-    pub fn terms(&self) -> &[Term]
-        ensures { terms_of result.now ≡ (seen_edge self.now).terms }
-    {
-        match &self.terms {
-            EdgeTerms::Ends(terms) => terms,
-            EdgeTerms::EndsAndFaces(terms) => terms,
-        }
-    }
-
-    /// What the weights sum to.
-    pub fn denominator(&self) -> u128
-        ensures { result ≡ (seen_edge self.now).denominator }
-    {
-        self.denominator
-    }
-}
 
 fn point(v: u32, weight: u128) -> Term
     ensures { term_of result ≡ weigh weight (OfPoint v) }
@@ -61,35 +29,6 @@ fn face_point(f: u32, weight: u128) -> Term
     Term {
         at: At::FacePoint(f),
         weight,
-    }
-}
-
-// The mean of the ends.
-fn between(ends: (u32, u32)) -> EdgeMask
-    ensures { seen_edge result ≡ ends_over ends }
-{
-    EdgeMask {
-        terms: EdgeTerms::Ends([point(ends.0, 1), point(ends.1, 1)]),
-        denominator: 2,
-    }
-}
-
-// The ends and the two faces, for a sharpness x/y below 1.
-fn around(ends: (u32, u32), faces: (u32, u32), part: (u64, u64)) -> EdgeMask
-    requires { part.0 < part.1 }
-    ensures { seen_edge result ≡ around_over part.0 part.1 ends faces }
-{
-    let (x, y) = part;
-    let end = y as u128 + x as u128;
-    let face = (y - x) as u128;
-    EdgeMask {
-        terms: EdgeTerms::EndsAndFaces([
-            point(ends.0, end),
-            point(ends.1, end),
-            face_point(faces.0, face),
-            face_point(faces.1, face),
-        ]),
-        denominator: 4 * y as u128,
     }
 }
 
@@ -120,23 +59,51 @@ fn part_below_one(scheme: Scheme, s: Sharpness) -> Option<(u64, u64)>
     }
 }
 
-/// The mask of an edge. Under Catmull and Clark's scheme the edge has two faces, or a sharpness of at least 1. It takes no
-/// memory.
-pub fn edge_mask(level: &Level, e: u32, scheme: Scheme) -> EdgeMask
-    requires known { e < length (edges_of level.now.level.polygons) }
-    requires inside { scheme_of scheme ≡ CatmullClark
-        → (length (faces_of_edge level.now.level.polygons (edge_at level.now.level.polygons e)) ≡ 2)
-        ⊎ IsTrue (is_at_least_one (get_or level.now.level.edge_sharpness e Smooth)) }
-    ensures { IsMask (seen_edge result) (edge_mask level.now.level (scheme_of scheme) (edge_at level.now.level.polygons e)) }
-{
-    level.facts();
-    let ends = level.edge_vertices(e);
-    let faces = level.edge_faces(e);
-    let Some(part) = part_below_one(scheme, level.edge_sharpness(e)) else {
-        return between(ends);
-    };
-    let Some(second) = faces.second else {
-        return between(ends);
-    };
-    around(ends, (faces.first, second), part)
+impl MadeMask {
+    // The mean of the ends.
+    fn put_middle(&mut self, ends: (u32, u32))
+        ensures { self.new ≡ ends_over ends }
+    {
+        self.terms[0] = point(ends.0, 1);
+        self.terms[1] = point(ends.1, 1);
+        self.len = 2;
+        self.denominator = 2;
+    }
+
+    // The ends and the two faces, for a sharpness x/y below 1.
+    fn put_beside(&mut self, ends: (u32, u32), faces: (u32, u32), part: (u64, u64))
+        requires { part.0 < part.1 }
+        ensures { self.new ≡ around_over part.0 part.1 ends faces }
+    {
+        let (x, y) = part;
+        let end = y as u128 + x as u128;
+        let face = (y - x) as u128;
+        self.terms[0] = point(ends.0, end);
+        self.terms[1] = point(ends.1, end);
+        self.terms[2] = face_point(faces.0, face);
+        self.terms[3] = face_point(faces.1, face);
+        self.len = 4;
+        self.denominator = 4 * y as u128;
+    }
+
+    /// Makes the mask of an edge. Under Catmull and Clark's scheme the edge has two faces, or a sharpness of at least 1. It
+    /// takes no memory.
+    pub fn put_edge(&mut self, level: &Level, e: u32, scheme: Scheme)
+        requires known { e < length (edges_of level.now.level.polygons) }
+        requires inside { scheme_of scheme ≡ CatmullClark
+            → (length (faces_of_edge level.now.level.polygons (edge_at level.now.level.polygons e)) ≡ 2)
+            ⊎ IsTrue (is_at_least_one (get_or level.now.level.edge_sharpness e Smooth)) }
+        ensures { IsMask self.new (edge_mask level.now.level (scheme_of scheme) (edge_at level.now.level.polygons e)) }
+    {
+        level.facts();
+        let ends = level.edge_vertices(e);
+        let Some(part) = part_below_one(scheme, level.edge_sharpness(e)) else {
+            return self.put_middle(ends);
+        };
+        let faces = level.edge_faces(e);
+        let Some(second) = faces.second else {
+            return self.put_middle(ends);
+        };
+        self.put_beside(ends, (faces.first, second), part);
+    }
 }

@@ -8,6 +8,7 @@
 mod edge;
 mod face;
 pub mod laws;
+mod made;
 mod mask;
 mod plain;
 mod ring;
@@ -15,9 +16,9 @@ mod smooth;
 mod transition;
 mod vertex;
 
-pub use edge::{EdgeMask, edge_mask};
 pub use face::{FaceMask, face_mask};
+pub use made::MadeMask;
 pub use mask::{At, MaskFault, Scheme, Term};
-pub use plain::{PlainMask, is_plain, plain_mask};
+pub use plain::is_plain;
 pub use transition::vertex_mask;
 pub use vertex::VertexMask;

@@ -1,10 +1,11 @@
 use Rattle.std.proofs.Common.{◌<◌, ap, sym, ◌∙◌, arith, refl, length, get_or, []}
 use Rattle.std.proofs.lemmas.List.{length-map, get_or-map}
+use Rattle.subdiv_model.specs.Mask.{Mask}
 use Rattle.level_topology.proofs.LawLemmas.{edges-each}
-use Rattle.mask_rules.specs.View.{terms_of}
 use Rattle.mask_rules.specs.Around.{end_of_edge, ends_in}
 use Rattle.mask_rules.proofs.WalkLemmas.{ends-step}
-use Rattle.mask_rules.proofs.plain.put_ends.Goals as goal
+use Rattle.mask_rules.proofs.MadeLemmas.{length-more}
+use Rattle.mask_rules.proofs.made.MadeMask.put_ends.Goals as goal
 
 pub other_end-requires : goal.other_end-requires
 other_end-requires c =
@@ -20,8 +21,10 @@ loop-e-preserved c =
     let within : c.loop-e.e-index < length items = omega (arith, ap length c.vertex_edges-e-items.ensures, c.loop-e-test.true) in
     let inside : c.loop-e.e-index < length (ends_in t c.args.v) = omega (arith, within, length-map items number) in
     let end = c.other_end.ensures ∙ ap (λ es. number (get_or es c.loop-e.e-index 0)) c.vertex_edges-e-items.ensures
-    ∙ sym (get_or-map number items c.loop-e.e-index 0 0 within) in (
-      ends-step (λ i. 1) (ends_in t c.args.v) c.loop-e.e-index 1 c.other_end.result (terms_of c.args.terms.now.items) (terms_of c.loop-e.terms.items)
-          (terms_of c.put.new.terms.items) inside c.loop-e.invariant.0 c.put.ensures.terms refl end,
-      omega (arith, c.loop-e.invariant.1, c.put.ensures.longer),
-    )
+    ∙ sym (get_or-map number items c.loop-e.e-index 0 0 within) in
+    record {
+      terms = ends-step (λ i. 1) (ends_in t c.args.v) c.loop-e.e-index 1 c.other_end.result c.args.self.now.terms c.loop-e.self.terms
+          c.put.new.self.terms inside c.loop-e.invariant.terms (ap (λ (m : Mask). m.terms) c.put.ensures) refl end;
+      few = omega (arith, c.loop-e.invariant.few, length-more c.loop-e.self.terms c.put.new.self.terms _ (ap (λ (m : Mask). m.terms) c.put.ensures));
+      denominator = ap (λ (m : Mask). m.denominator) c.put.ensures ∙ c.loop-e.invariant.denominator;
+    }
