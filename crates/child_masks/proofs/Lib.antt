@@ -11,6 +11,7 @@ pub mod AddLemmas
 pub mod KeptLemmas
 pub mod MaskLemmas
 pub mod PointLemmas
+pub mod NextLemmas
 pub mod TransitionLemmas
 pub mod FoundLemmas
 pub mod SurveyLemmas

@@ -1,15 +1,15 @@
 -- How far a survey has come, and what each mask adds to it.
-use Rattle.std.specs.Prelude.{ℕ, ◌≡◌, ◌<◌, ◌≤◌, Bool, true, false, ◌||◌, List, [], ◌∷◌, ◌++◌, length, map, get_or}
+use Rattle.std.specs.Prelude.{ℕ, ◌≡◌, ◌+◌, ◌^◌, ◌<◌, ◌≤◌, Bool, true, false, ◌||◌, List, [], ◌∷◌, ◌++◌, length, map, get_or}
 use Rattle.std.specs.List.{All, list_any}
 use Rattle.subdiv_model.specs.Level.{Level}
-use Rattle.subdiv_model.specs.Mask.{Scheme, SourcePoint, OfPoint, OfFace, Term, has_source, vertex_mask}
+use Rattle.subdiv_model.specs.Mask.{Scheme, SourcePoint, OfPoint, OfFace, Term, has_source}
 use Rattle.subdiv_model.specs.Refined.{mask_denominator, source_denominator}
 use Rattle.subdiv_model.specs.Channel.{number_bound, transition_overflows_at}
 use Rattle.level_topology.specs.Topology.{Topology}
 use Rattle.level_topology.specs.Child.{PointOrigin, FromVertex}
-use Rattle.child_masks.specs.Masks.{masks_from, dens_from, HasNoTransition}
+use Rattle.child_masks.specs.Masks.{mask_from, masks_from, dens_from, HasNoTransition}
 use Rattle.child_masks.specs.Survey.{within_bound}
-use Rattle.child_masks.specs.MaskOf.{AreKeptFor, IsKeptNext}
+use Rattle.child_masks.specs.MaskOf.{AreKeptFor, AreKeptWith}
 use Rattle.child_masks.specs.declared.survey.Survey.{Survey}
 use Rattle.child_masks.specs.declared.fault.SurveyFault.{SurveyFault}
 use Rattle.child_masks.specs.declared.fault.SurveyFault.TheVariants.{Transition, Denominator, Memory}
@@ -53,11 +53,19 @@ pub record IsAdded (den : ℕ) (terms : List Term) (old new : Survey) : Type 0 w
   pub dens : new.dens.items ≡ old.dens.items ++ within_bound den ∷ []
   pub named : AreMarked old.named.items terms new.named.items
 
--- the mask of a vertex is added and kept, or the vertex plain, and no weight is refused there
-pub record IsVertexAdded (parent : Topology) (scheme : Scheme) (dens : List ℕ) (v : ℕ) (old new : Survey) : Type 0 where
-  pub added : IsAdded (mask_denominator (source_denominator parent.level dens) (vertex_mask parent.level scheme v)) (vertex_mask parent.level scheme v).terms old new
-  pub fine : transition_overflows_at parent.level scheme v ≡ false
-  pub kept : IsKeptNext parent scheme v old.masks new.masks
+-- the mask of a child point is added, that of a vertex kept unless the vertex is plain, and no weight is refused there
+pub record IsPointAdded (parent : Topology) (scheme : Scheme) (dens : List ℕ) (origin : PointOrigin) (old new : Survey) : Type 0 where
+  pub added : IsAdded (mask_denominator (source_denominator parent.level dens) (mask_from parent.level scheme origin)) (mask_from parent.level scheme origin).terms old new
+  pub fine : (v : ℕ) → origin ≡ FromVertex v → transition_overflows_at parent.level scheme v ≡ false
+  pub kept : AreKeptWith parent scheme origin old.masks new.masks
+
+-- a survey has a place for each part of the level, and room for one mask more
+pub record CanAdd (parent : Topology) (dens : List ℕ) (survey : Survey) : Type 0 where
+  pub points : ArePointDenominators parent.level dens
+  pub faces : AreFaceDenominators parent.level dens survey.faces.items
+  pub marks : length survey.named.items ≡ length parent.level.polygons
+  pub kept : length survey.masks.masks ≡ parent.level.point_count
+  pub few : survey.masks.count + 1 < 2 ^ 32
 
 -- the survey of the child points so far: none is refused
 pub record IsSurveyOf (parent : Topology) (scheme : Scheme) (origins : List PointOrigin) (dens : List ℕ) (survey : Survey) : Type 0 where

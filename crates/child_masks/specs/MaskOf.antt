@@ -3,7 +3,7 @@ use Rattle.std.specs.Prelude.{ℕ, ◌≡◌, ◌≢◌, ◌+◌, ◌<◌, ◌�
 use Rattle.subdiv_model.specs.Level.{Level}
 use Rattle.subdiv_model.specs.Mask.{Mask, Scheme, vertex_mask}
 use Rattle.level_topology.specs.Topology.{Topology}
-use Rattle.level_topology.specs.Child.{PointOrigin, FromVertex, FromFace}
+use Rattle.level_topology.specs.Child.{PointOrigin, FromVertex, FromFace, FromEdge}
 use Rattle.mask_rules.specs.Masks.{IsMask}
 use Rattle.mask_rules.specs.Smooth.{IsPlainAt}
 use Rattle.child_masks.specs.Masks.{mask_from, has_origin, is_from_face}
@@ -12,10 +12,10 @@ use Rattle.child_masks.specs.View.{seen_terms}
 use Rattle.child_masks.specs.declared.masks.PointMask.{PointMask}
 use Rattle.child_masks.specs.declared.masks.PointMask.TheVariants.{Corners, Terms}
 
--- the mean of the corners of the face that the point comes from, or the mask of a vertex or an edge
-abbrev pub IsMaskOf : Level → Scheme → PointOrigin → PointMask → Type 0
-IsMaskOf level scheme origin (Corners f) = (origin ≡ FromFace f) × (f < length level.polygons)
-IsMaskOf level scheme origin (Terms mask) = (is_from_face origin ≡ false) × IsMask (seen_terms mask) (mask_from level scheme origin)
+-- the mean of the corners of the face that the point comes from, or the mask of a vertex or an edge, made or kept
+abbrev pub IsMaskOf : Level → Scheme → PointOrigin → Mask → PointMask → Type 0
+IsMaskOf level scheme origin made (Corners f) = (origin ≡ FromFace f) × (f < length level.polygons)
+IsMaskOf level scheme origin made (Terms mask) = (is_from_face origin ≡ false) × IsMask (seen_terms made mask) (mask_from level scheme origin)
 
 -- a vertex whose mask is not kept is plain
 abbrev pub IsKeptFor : Topology → Scheme → ℕ → Option Mask → Type 0
@@ -34,3 +34,9 @@ pub record IsKeptNext (parent : Topology) (scheme : Scheme) (v : ℕ) (old new :
   pub few : new.count ≤ old.count + 1
   pub own : IsKeptFor parent scheme v (get_or new.masks v None)
   pub others : (u : ℕ) → u ≢ v → get_or new.masks u None ≡ get_or old.masks u None
+
+-- with a child point of an edge or a face all masks of vertices stay
+abbrev pub AreKeptWith : Topology → Scheme → PointOrigin → KeptList → KeptList → Type 0
+AreKeptWith parent scheme (FromVertex v) old new = IsKeptNext parent scheme v old new
+AreKeptWith parent scheme (FromFace f) old new = new ≡ old
+AreKeptWith parent scheme (FromEdge e) old new = new ≡ old

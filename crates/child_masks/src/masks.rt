@@ -5,7 +5,7 @@ ghost use Rattle.mask_rules.specs.View.{terms_of};
 ghost use Rattle.child_masks.specs.View.{seen_terms};
 
 use crate::kept::KeptMask;
-use mask_rules::{EdgeMask, PlainMask, Term};
+use mask_rules::{MadeMask, Term};
 
 /// The mask of a child point.
 #[derive(Drop)]
@@ -19,33 +19,29 @@ pub enum PointMask<'a> {
 /// The mask of a vertex or an edge.
 #[derive(Drop)]
 pub enum TermMask<'a> {
-    /// That of an edge.
-    Edge(EdgeMask),
-    /// That of a plain vertex.
-    Plain(PlainMask),
-    /// That of any other vertex.
+    /// It stands where it was made.
+    Made,
+    /// It is one that is kept.
     Kept(KeptMask<'a>),
 }
 
 impl TermMask<'_> {
-    /// The terms, each with a place of its own and a weight above 0.
-    pub fn terms(&self) -> &[Term]
-        ensures { terms_of result.now ≡ (seen_terms self.now).terms }
+    /// The terms, each with a place of its own and a weight above 0, where the last mask was made in `made`.
+    pub fn terms<'b>(&'b self, made: &'b MadeMask) -> &'b [Term]
+        ensures { terms_of result.now ≡ (seen_terms made.now self.now).terms }
     {
         match self {
-            TermMask::Edge(mask) => mask.terms(),
-            TermMask::Plain(mask) => mask.terms(),
+            TermMask::Made => made.terms(),
             TermMask::Kept(mask) => mask.terms(),
         }
     }
 
-    /// What the weights sum to.
-    pub fn denominator(&self) -> u128
-        ensures { result ≡ (seen_terms self.now).denominator }
+    /// What the weights sum to, where the last mask was made in `made`.
+    pub fn denominator(&self, made: &MadeMask) -> u128
+        ensures { result ≡ (seen_terms made.now self.now).denominator }
     {
         match self {
-            TermMask::Edge(mask) => mask.denominator(),
-            TermMask::Plain(mask) => mask.denominator(),
+            TermMask::Made => made.denominator(),
             TermMask::Kept(mask) => mask.denominator(),
         }
     }

@@ -1,15 +1,12 @@
 //! What is known of the masks of child points before any value is made.
 
-ghost use Rattle.std.specs.Prelude.{◌≡◌, ℕ, ◌+◌, ◌^◌, ◌<◌, ◌⊎◌, false, true, IsTrue, List, [], length, get_or, take, OnOk, MatchResult, IfOk};
+ghost use Rattle.std.specs.Prelude.{◌≡◌, ℕ, ◌^◌, ◌<◌, false, List, [], length, get_or, OnOk, MatchResult, IfOk};
 ghost use Rattle.std.specs.List.{All};
-ghost use Rattle.subdiv_model.specs.Sharpness.{Smooth};
-ghost use Rattle.subdiv_model.specs.Edges.{edges_of, faces_of_edge};
-ghost use Rattle.subdiv_model.specs.Mask.{SourcePoint, CatmullClark, vertex_mask, edge_mask};
+ghost use Rattle.subdiv_model.specs.Mask.{SourcePoint, vertex_mask};
 ghost use Rattle.subdiv_model.specs.Mask as model;
-ghost use Rattle.subdiv_model.specs.Refined.{mask_denominator, source_denominator};
-ghost use Rattle.subdiv_model.specs.Channel.{chaikin_overflows_at, transition_overflows_at};
-ghost use Rattle.level_topology.specs.Topology.{edge_at};
-ghost use Rattle.level_topology.specs.Child.{FromVertex};
+ghost use Rattle.subdiv_model.specs.Refined.{mask_denominator};
+ghost use Rattle.level_topology.specs.Child.{FromVertex, FromEdge};
+ghost use Rattle.level_topology.specs.ChildTables.{origin_of};
 ghost use Rattle.mask_rules.specs.View.{scheme_of, source_of, terms_of};
 ghost use Rattle.mask_rules.specs.Smooth.{IsPlainAt};
 ghost use Rattle.mask_rules.specs.Masks.{IsMask};
@@ -17,8 +14,8 @@ ghost use Rattle.child_masks.specs.Masks.{CanRefine, origin_at};
 ghost use Rattle.child_masks.specs.View.{seen_terms};
 ghost use Rattle.child_masks.specs.MaskOf.{IsMaskOf, IsKeptFor, AreKeptFor};
 ghost use Rattle.child_masks.specs.Survey.{within_bound, IsSurvey, IsSurveyFault};
-ghost use Rattle.child_masks.specs.Found.{IsAmong, Tell, ArePointDenominators, AreFaceDenominators, IsAdded, IsVertexAdded, IsSurveyOf, IsPointFault};
-ghost use Rattle.child_masks.specs.Known.{IsVertexKnown, IsEdgeKnown};
+ghost use Rattle.child_masks.specs.Found.{IsAmong, Tell, ArePointDenominators, IsAdded, IsPointAdded, CanAdd, IsSurveyOf, IsPointFault};
+ghost use Rattle.child_masks.specs.Known.{IsVertexKnown, IsEdgeKnown, IsPartKnown};
 
 use crate::common::scaled;
 use crate::dens::first_zero;
@@ -29,7 +26,7 @@ use crate::masks::{PointMask, TermMask};
 use crate::terms::{mark_faces, multiple_of_terms};
 use crate::transition::least_refused;
 use level_topology::{Child, Level, Origin};
-use mask_rules::{MaskFault, Scheme, Term, edge_mask, is_plain, plain_mask, vertex_mask};
+use mask_rules::{MadeMask, MaskFault, Scheme, Term, is_plain, vertex_mask};
 use ratio128::Memory;
 use std::alloc::Global;
 
@@ -83,18 +80,16 @@ impl Survey {
         v: u32,
         scheme: Scheme,
         dens: &[u128],
+        made: &mut MadeMask,
     ) -> Result<(), Memory>
         requires known { IsVertexKnown parent.now (scheme_of scheme) v }
         requires plain { IsPlainAt parent.now (scheme_of scheme) v }
-        requires dens { ArePointDenominators parent.now.level dens.now }
-        requires faces { AreFaceDenominators parent.now.level dens.now self.old.faces.items }
-        requires marks { length self.old.named.items ≡ length parent.now.level.polygons }
-        requires kept { length self.old.masks.masks ≡ parent.now.level.point_count }
-        ensures { OnOk result (IsVertexAdded parent.now (scheme_of scheme) dens.now v self.old self.new) }
+        requires can { CanAdd parent.now dens.now self.old }
+        ensures { OnOk result (IsPointAdded parent.now (scheme_of scheme) dens.now (FromVertex v) self.old self.new) }
     {
         parent.facts();
-        let mask = plain_mask(parent, v, scheme);
-        self.add_mask(dens, mask.terms(), mask.denominator())?;
+        made.put_plain(parent, v, scheme);
+        self.add_mask(dens, made.terms(), made.denominator())?;
         self.masks.leave(v);
         Ok(())
     }
@@ -109,13 +104,9 @@ impl Survey {
         dens: &[u128],
     ) -> Result<(), SurveyFault>
         requires known { IsVertexKnown parent.now (scheme_of scheme) v }
-        requires dens { ArePointDenominators parent.now.level dens.now }
-        requires faces { AreFaceDenominators parent.now.level dens.now self.old.faces.items }
-        requires marks { length self.old.named.items ≡ length parent.now.level.polygons }
-        requires kept { length self.old.masks.masks ≡ parent.now.level.point_count }
-        requires few { self.old.masks.count + 1 < 2 ^ 32 }
+        requires can { CanAdd parent.now dens.now self.old }
         ensures { MatchResult result
-            (λ _. IsVertexAdded parent.now (scheme_of scheme) dens.now v self.old self.new)
+            (λ _. IsPointAdded parent.now (scheme_of scheme) dens.now (FromVertex v) self.old self.new)
             (IsPointFault parent.now.level (scheme_of scheme) (FromVertex v)) }
     {
         parent.facts();
@@ -138,21 +129,18 @@ impl Survey {
         v: u32,
         scheme: Scheme,
         dens: &[u128],
+        made: &mut MadeMask,
     ) -> Result<(), SurveyFault>
         requires known { IsVertexKnown parent.now (scheme_of scheme) v }
-        requires dens { ArePointDenominators parent.now.level dens.now }
-        requires faces { AreFaceDenominators parent.now.level dens.now self.old.faces.items }
-        requires marks { length self.old.named.items ≡ length parent.now.level.polygons }
-        requires kept { length self.old.masks.masks ≡ parent.now.level.point_count }
-        requires few { self.old.masks.count + 1 < 2 ^ 32 }
+        requires can { CanAdd parent.now dens.now self.old }
         ensures { MatchResult result
-            (λ _. IsVertexAdded parent.now (scheme_of scheme) dens.now v self.old self.new)
+            (λ _. IsPointAdded parent.now (scheme_of scheme) dens.now (FromVertex v) self.old self.new)
             (IsPointFault parent.now.level (scheme_of scheme) (FromVertex v)) }
     {
         if !is_plain(parent, v, scheme) {
             return self.add_kept(alloc, parent, v, scheme, dens);
         }
-        self.add_plain(parent, v, scheme, dens)?;
+        self.add_plain(parent, v, scheme, dens, made)?;
         Ok(())
     }
 
@@ -163,18 +151,15 @@ impl Survey {
         e: u32,
         scheme: Scheme,
         dens: &[u128],
+        made: &mut MadeMask,
     ) -> Result<(), Memory>
         requires known { IsEdgeKnown parent.now (scheme_of scheme) e }
-        requires dens { ArePointDenominators parent.now.level dens.now }
-        requires faces { AreFaceDenominators parent.now.level dens.now self.old.faces.items }
-        requires marks { length self.old.named.items ≡ length parent.now.level.polygons }
-        ensures added { OnOk result (IsAdded (mask_denominator (source_denominator parent.now.level dens.now) (edge_mask parent.now.level (scheme_of scheme) (edge_at parent.now.level.polygons e)))
-            (edge_mask parent.now.level (scheme_of scheme) (edge_at parent.now.level.polygons e)).terms self.old self.new) }
-        ensures masks { self.new.masks ≡ self.old.masks }
+        requires can { CanAdd parent.now dens.now self.old }
+        ensures { OnOk result (IsPointAdded parent.now (scheme_of scheme) dens.now (FromEdge e) self.old self.new) }
     {
         parent.facts();
-        let mask = edge_mask(parent, e, scheme);
-        self.add_mask(dens, mask.terms(), mask.denominator())
+        made.put_edge(parent, e, scheme);
+        self.add_mask(dens, made.terms(), made.denominator())
     }
 
     // What a child point of a face tells: its mask names no face.
@@ -187,30 +172,27 @@ impl Survey {
         Ok(())
     }
 
-    // What a child point tells.
+    // What a child point tells, by where it comes from.
     fn add_point(
         &mut self,
         alloc: Global,
         parent: &Level,
-        child: &Child,
-        p: u32,
+        origin: Origin,
         scheme: Scheme,
         dens: &[u128],
+        made: &mut MadeMask,
     ) -> Result<(), SurveyFault>
-        requires child { CanRefine parent.now child.now (scheme_of scheme) }
-        requires known { p < length child.now.origins }
-        requires dens { ArePointDenominators parent.now.level dens.now }
-        requires so_far { IsSurveyOf parent.now (scheme_of scheme) (take p child.now.origins) dens.now self.old }
+        requires known { IsPartKnown parent.now (scheme_of scheme) (origin_of origin) }
+        requires can { CanAdd parent.now dens.now self.old }
         ensures { MatchResult result
-            (λ _. IsSurveyOf parent.now (scheme_of scheme) (take (p + 1) child.now.origins) dens.now self.new)
-            (IsPointFault parent.now.level (scheme_of scheme) (get_or child.now.origins p (FromVertex 0))) }
+            (λ _. IsPointAdded parent.now (scheme_of scheme) dens.now (origin_of origin) self.old self.new)
+            (IsPointFault parent.now.level (scheme_of scheme) (origin_of origin)) }
     {
         parent.facts();
-        child.facts();
-        match child.origin(p) {
-            Origin::Vertex(v) => self.add_vertex(alloc, parent, v, scheme, dens),
+        match origin {
+            Origin::Vertex(v) => self.add_vertex(alloc, parent, v, scheme, dens, made),
             Origin::Edge(e) => {
-                self.add_edge(parent, e, scheme, dens)?;
+                self.add_edge(parent, e, scheme, dens, made)?;
                 Ok(())
             }
             Origin::Face(f) => {
@@ -222,31 +204,51 @@ impl Survey {
 }
 
 impl Survey {
-    // The mask of a vertex.
-    fn mask_of_vertex(&self, parent: &Level, v: u32, scheme: Scheme) -> TermMask<'_>
+    // The mask of a vertex, made unless it is kept.
+    fn mask_of_vertex(
+        &self,
+        parent: &Level,
+        v: u32,
+        scheme: Scheme,
+        made: &mut MadeMask,
+    ) -> TermMask<'_>
         requires known { IsVertexKnown parent.now (scheme_of scheme) v }
         requires counted { length self.now.masks.masks ≡ parent.now.level.point_count }
         requires kept { IsKeptFor parent.now (scheme_of scheme) v (get_or self.now.masks.masks v None) }
-        ensures { IsMask (seen_terms result) (vertex_mask parent.now.level (scheme_of scheme) v) }
+        ensures { IsMask (seen_terms made.new result) (vertex_mask parent.now.level (scheme_of scheme) v) }
     {
         match self.masks.find(v) {
             Some(mask) => TermMask::Kept(mask),
-            None => TermMask::Plain(plain_mask(parent, v, scheme)),
+            None => {
+                made.put_plain(parent, v, scheme);
+                TermMask::Made
+            }
         }
     }
 
-    /// The mask of a child point. It takes no memory, and looks at no sharpness of a vertex.
-    pub fn mask(&self, parent: &Level, child: &Child, p: u32, scheme: Scheme) -> PointMask<'_>
+    /// The mask of a child point: one that is kept, or else one that is made in `made`. It takes no memory, and looks at no
+    /// sharpness of a vertex.
+    pub fn mask(
+        &self,
+        parent: &Level,
+        child: &Child,
+        p: u32,
+        scheme: Scheme,
+        made: &mut MadeMask,
+    ) -> PointMask<'_>
         requires child { CanRefine parent.now child.now (scheme_of scheme) }
         requires known { p < length child.now.origins }
         requires kept { AreKeptFor parent.now (scheme_of scheme) child.now.origins self.now.masks }
-        ensures { IsMaskOf parent.now.level (scheme_of scheme) (origin_at child.now.origins p) result }
+        ensures { IsMaskOf parent.now.level (scheme_of scheme) (origin_at child.now.origins p) made.new result }
     {
         parent.facts();
         child.facts();
         match child.origin(p) {
-            Origin::Vertex(v) => PointMask::Terms(self.mask_of_vertex(parent, v, scheme)),
-            Origin::Edge(e) => PointMask::Terms(TermMask::Edge(edge_mask(parent, e, scheme))),
+            Origin::Vertex(v) => PointMask::Terms(self.mask_of_vertex(parent, v, scheme, made)),
+            Origin::Edge(e) => {
+                made.put_edge(parent, e, scheme);
+                PointMask::Terms(TermMask::Made)
+            }
             Origin::Face(f) => PointMask::Corners(f),
         }
     }
@@ -293,8 +295,10 @@ pub fn survey_over(
     child.facts();
     let points = child.level().points();
     let mut survey = Survey::start(alloc, parent, dens, points)?;
+    let mut made = MadeMask::new();
     for p in 0..points {
-        if let Err(fault) = survey.add_point(alloc, parent, child, p, scheme, dens) {
+        let origin = child.origin(p);
+        if let Err(fault) = survey.add_point(alloc, parent, origin, scheme, dens, &mut made) {
             return Err(fault_of_all(alloc, parent, child, p, scheme, fault));
         }
     }
