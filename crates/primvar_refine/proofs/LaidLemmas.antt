@@ -13,9 +13,10 @@ use Rattle.subdiv_model.specs.Refined.{mask_denominator, source_denominator}
 use Rattle.subdiv_model.specs.Channel.{number_bound}
 use Rattle.level_topology.specs.Topology.{Topology, IsTopology}
 use Rattle.level_topology.specs.Child.{PointOrigin, FromVertex, FromFace, FromEdge, ChildTopology, HasParent}
+use Rattle.number_width.specs.declared.width.Width.{Width}
 use Rattle.primvar_refine.specs.Rows.{Row, row_at, dens_of, AreGood, least_bound, greatest_of}
+use Rattle.primvar_refine.specs.Width.{sum_bound, HasSums}
 use Rattle.child_masks.specs.Masks.{mask_from, masks_from, has_origin, CanRefine, hidden_faces, step_terms, origin_at}
-use Rattle.primvar_refine.specs.Step.{refined_dens}
 use Rattle.child_masks.specs.Survey.{IsSurvey, within_bound}
 use Rattle.child_masks.specs.declared.survey.Survey.{Survey}
 use Rattle.primvar_refine.specs.Made.{terms_of_face, terms_of_hidden, terms_of_other}
@@ -23,6 +24,7 @@ use Rattle.primvar_refine.specs.Places.{is_hidden, all_origins, ArePlaces}
 use Rattle.primvar_refine.specs.Ready.{IsReady, all_terms}
 use Rattle.primvar_refine.proofs.SurveyLemmas.{good-positive}
 use Rattle.primvar_refine.proofs.MadeLemmas.{all-below-fold}
+use Rattle.primvar_refine.proofs.WidthLemmas.{sum_bound-short}
 use Rattle.child_masks.proofs.SourceLemmas.{corner-dens, map-same}
 use Rattle.child_masks.proofs.DenLemmas.{some-place, named-den}
 
@@ -57,14 +59,14 @@ pub first-room : (made after : List Row) (dens more : List ℕ) (n : ℕ) → de
 first-room made after dens more n e count same =
     omega (arith, ap length e, length-map made (λ (r : Row). r.den), length-append dens more, count, same)
 
--- the number is short, and so are all numbers over it
-record IsShort (most n : ℕ) : Type 0 where
-  short : n ≤ number_bound
-  kept : n * most ≤ number_bound
+-- the number, and all numbers over it, are within the bound of sums of a width
+record IsShort (width : Width) (most n : ℕ) : Type 0 where
+  short : n ≤ sum_bound width
+  kept : n * most ≤ sum_bound width
 
-module _ (parent : Topology) (child : ChildTopology) (scheme : Scheme) (rows : List Row) (survey : Survey) (is : IsTopology parent) (has : HasParent child)
+module _ (width : Width) (parent : Topology) (child : ChildTopology) (scheme : Scheme) (rows : List Row) (survey : Survey) (is : IsTopology parent) (has : HasParent child)
     (can : CanRefine parent child scheme) (good : AreGood rows) (survey_is : IsSurvey parent scheme child.origins (dens_of rows) survey)
-    (kept : greatest_of survey.dens.items * least_bound rows ≤ number_bound) where
+    (sums : HasSums width survey.dens.items rows) where
   abbrev own_den : PointOrigin → ℕ
   own_den origin = mask_denominator (source_denominator parent.level (dens_of rows)) (mask_from parent.level scheme origin)
 
@@ -86,22 +88,20 @@ module _ (parent : Topology) (child : ChildTopology) (scheme : Scheme) (rows : L
   dens-counted = ap length dens-are ∙ length-map child.origins own_den
 
   -- each is short
-  child-short : (p : ℕ) → p < length child.origins → IsShort most (own_den (origin_at child.origins p))
+  child-short : (p : ℕ) → p < length child.origins → IsShort width most (own_den (origin_at child.origins p))
   child-short p inside =
       let inside-dens : p < length survey.dens.items = omega (arith, inside, dens-counted) in
-      let inside-refined : p < length (refined_dens parent.level scheme child.origins rows) = omega (arith, inside-dens, ap length survey_is.dens) in
       let here : get_or survey.dens.items p 1 ≡ own_den (origin_at child.origins p) = ap (λ l. get_or l p 1) dens-are ∙ get_or-map own_den child.origins p (FromVertex 0) 1 inside in
-      let short : get_or survey.dens.items p 1 ≤ number_bound = subst (λ l. get_or l p 1 ≤ number_bound) (sym survey_is.dens) (survey_is.short p 1 inside-refined) in
       let below : get_or survey.dens.items p 1 ≤ greatest_of survey.dens.items =
       All-from_recursion (λ n. n ≤ greatest_of survey.dens.items) survey.dens.items (all-below-fold survey.dens.items 1).1 p 1 inside-dens in
       let more : get_or survey.dens.items p 1 * most ≤ greatest_of survey.dens.items * most = mul-le-mul_right most below in
-      subst (IsShort most) here (record { short = short; kept = chain _ _ more kept })
+      subst (IsShort width most) here (record { short = chain _ _ below sums.short; kept = chain _ _ more sums.kept })
     where
-      chain : (a b : ℕ) → a ≤ b → b ≤ number_bound → a ≤ number_bound
+      chain : (a b : ℕ) → a ≤ b → b ≤ sum_bound width → a ≤ sum_bound width
       chain a b h k = omega (arith, h, k)
 
   -- and so is that of a face that some mask names
-  face-short : (f : ℕ) → f < length parent.level.polygons → get_or named f false ≡ true → IsShort most (face_den f)
+  face-short : (f : ℕ) → f < length parent.level.polygons → get_or named f false ≡ true → IsShort width most (face_den f)
   face-short f inside name =
       let none : Mask = record { terms = []; denominator = 0 } in
       let masks = masks_from parent.level scheme child.origins in
@@ -116,7 +116,7 @@ module _ (parent : Topology) (child : ChildTopology) (scheme : Scheme) (rows : L
         kept = chain _ _ (mul-le-mul_right most less) short.kept;
       }
     where
-      chain : (a b : ℕ) → a ≤ b → b ≤ number_bound → a ≤ number_bound
+      chain : (a b : ℕ) → a ≤ b → b ≤ sum_bound width → a ≤ sum_bound width
       chain a b h k = omega (arith, h, k)
 
   module _ (hidden : List ℕ) (hidden_is : hidden ≡ filter (is_hidden child.origins named) (range_with_len 0 (length child.parent_sizes))) where
@@ -135,10 +135,13 @@ module _ (parent : Topology) (child : ChildTopology) (scheme : Scheme) (rows : L
     hidden-dens =
         map-same (λ f. get_or survey.faces.items f 0) (λ f. own_den (FromFace f)) hidden
         (weaker-all (λ f. (f < length parent.level.polygons) × (is_hidden child.origins named f ≡ true)) (λ f. get_or survey.faces.items f 0 ≡ own_den (FromFace f))
-        (λ f h. survey_is.faces f h.0 ∙ within f (face-short f h.0 (and_parts (get_or named f false) (not (has_origin child.origins (FromFace f))) h.1).0).short
+        (λ f h. survey_is.faces f h.0 ∙ within f (short (face-short f h.0 (and_parts (get_or named f false) (not (has_origin child.origins (FromFace f))) h.1).0).short)
         ∙ corner-dens parent.level f (dens_of rows)) hidden hidden-known)
         ∙ sym (map-map own_den FromFace hidden)
       where
+        short : {n : ℕ} → n ≤ sum_bound width → n ≤ number_bound
+        short h = omega (arith, h, sum_bound-short width)
+
         within : (f : ℕ) → face_den f ≤ number_bound → within_bound (face_den f) ≡ face_den f
         within f h = small (face_den f) h
           where
@@ -146,36 +149,36 @@ module _ (parent : Topology) (child : ChildTopology) (scheme : Scheme) (rows : L
             small n k = grind (arith, nat_tests, k)
 
     -- their denominators are short
-    hidden-short : (i : ℕ) → i < length hidden → IsShort most (own_den (FromFace (get_or hidden i 0)))
+    hidden-short : (i : ℕ) → i < length hidden → IsShort width most (own_den (FromFace (get_or hidden i 0)))
     hidden-short i inside =
         let known = All-from_recursion (λ f. (f < length parent.level.polygons) × (is_hidden child.origins named f ≡ true)) hidden hidden-known i 0 inside in
         let f = get_or hidden i 0 in
-        subst (IsShort most) (corner-dens parent.level f (dens_of rows))
+        subst (IsShort width most) (corner-dens parent.level f (dens_of rows))
         (face-short f known.0 (and_parts (get_or named f false) (not (has_origin child.origins (FromFace f))) known.1).0)
 
     abbrev all : List PointOrigin
     all = all_origins child.origins hidden
 
     -- and so are all
-    all-short : (p : ℕ) → p < length all → IsShort most (own_den (origin_at all p))
+    all-short : (p : ℕ) → p < length all → IsShort width most (own_den (origin_at all p))
     all-short p inside = at (cases_lt p (length child.origins))
       where
-        at : (p < length child.origins) ⊎ (length child.origins ≤ p) → IsShort most (own_den (origin_at all p))
+        at : (p < length child.origins) ⊎ (length child.origins ≤ p) → IsShort width most (own_den (origin_at all p))
         at (inl first) =
-            subst (λ o. IsShort most (own_den o)) (sym (get_or_append_left child.origins (map FromFace hidden) (FromVertex 0) p first)) (child-short p first)
+            subst (λ o. IsShort width most (own_den o)) (sym (get_or_append_left child.origins (map FromFace hidden) (FromVertex 0) p first)) (child-short p first)
         at (inr past) =
             let i : ℕ = p - length child.origins in
             let place : p ≡ length child.origins + i = omega (arith, past) in
             let below : i < length hidden = omega (arith, place, inside, length-append child.origins (map FromFace hidden), length-map hidden FromFace) in
             let own : origin_at all (length child.origins + i) ≡ FromFace (get_or hidden i 0) =
             get_or-append-add child.origins (map FromFace hidden) i (FromVertex 0) ∙ get_or-map FromFace hidden i 0 (FromVertex 0) below in
-            subst (λ o. IsShort most (own_den o)) (sym (ap (origin_at all) place ∙ own)) (hidden-short i below)
+            subst (λ o. IsShort width most (own_den o)) (sym (ap (origin_at all) place ∙ own)) (hidden-short i below)
 
     -- a list over these denominators is laid out for all that is made
     pub laid : (made : List Row) (places : List ℕ) → length rows ≡ parent.level.point_count
         → ArePlaces child.origins named hidden (length child.parent_sizes) places
         → dens_of made ≡ survey.dens.items ++ map (λ f. get_or survey.faces.items f 0) hidden
-        → IsReady parent child scheme rows named hidden places made
+        → IsReady width parent child scheme rows named hidden places made
     laid made places counted find dens_is =
         let whole : dens_of made ≡ map own_den all =
         dens_is ∙ ap (λ l. l ++ map (λ f. get_or survey.faces.items f 0) hidden) dens-are ∙ ap (λ l. map own_den child.origins ++ l) hidden-dens
@@ -195,8 +198,8 @@ module _ (parent : Topology) (child : ChildTopology) (scheme : Scheme) (rows : L
           each = many;
           dens = record {
             are = at;
-            short = λ p inside. subst (λ n. n ≤ number_bound) (sym (at p inside)) (all-short p inside).short;
-            kept = λ p inside. subst (λ n. n * most ≤ number_bound) (sym (at p inside)) (all-short p inside).kept;
+            short = λ p inside. subst (λ n. n ≤ sum_bound width) (sym (at p inside)) (all-short p inside).short;
+            kept = λ p inside. subst (λ n. n * most ≤ sum_bound width) (sym (at p inside)) (all-short p inside).kept;
           };
         }
 

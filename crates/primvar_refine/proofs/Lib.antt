@@ -1,6 +1,7 @@
 pub mod FoundLemmas
 pub mod SurveyLemmas
 pub mod BoundLemmas
+pub mod WidthLemmas
 pub mod TermSumLemmas
 pub mod MadeLemmas
 pub mod FaceRowLemmas

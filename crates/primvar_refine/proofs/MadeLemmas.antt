@@ -1,7 +1,9 @@
 -- The sum of a mask's terms has the value of the mask.
-use Rattle.std.proofs.Common.{◌≡◌, ℕ, ◌+◌, ◌-◌, ◌*◌, ◌/◌, ◌<◌, ◌≤◌, ℤ, pos, ◌+ℤ◌, ◌*ℤ◌, List, [], ◌∷◌, length, map, get_or, max, IsTrue, arith, refl, ap, sym, ◌∙◌, subst}
+use Rattle.std.proofs.Common.{◌≡◌, ℕ, ◌+◌, ◌-◌, ◌*◌, ◌/◌, ◌<◌, ◌≤◌, ℤ, pos, ◌+ℤ◌, ◌*ℤ◌, List, [], ◌∷◌, length, map, get_or, max, true, nat_lt, IsTrue, arith, refl, ap, sym, ◌∙◌, subst}
 use Rattle.std.specs.List.{All, AllByRecursion, fold}
 use Rattle.std.specs.Int.{◌∣◌}
+use Rattle.std.proofs.lemmas.Bool.{and_parts}
+use Rattle.std.proofs.lemmas.Bool.Decides.{nat_tests}
 use Rattle.std.proofs.lemmas.List.{get_or-map, length-map}
 use Rattle.std.proofs.lemmas.List.Elements.{recursion_from_All, All-from_recursion}
 use Rattle.std.specs.List.Sorted.{IsPermutation}
@@ -13,8 +15,8 @@ use Rattle.subdiv_model.specs.Multiples.{lcm_of_all}
 use Rattle.subdiv_model.specs.Value.{Value}
 use Rattle.subdiv_model.specs.Mask.{SourcePoint, OfPoint, Term, Mask, total_weight, is_mean}
 use Rattle.subdiv_model.specs.Refined.{mask_value, point_value, source_value, source_denominator}
-use Rattle.subdiv_model.specs.Channel.{number_bound}
-use Rattle.number_laws.proofs.MultipleLemmas.{all-divide_lcm}
+use Rattle.number_laws.proofs.MultipleLemmas.{all-divide_lcm, lcm_of_all-positive}
+use Rattle.number_width.specs.declared.width.Width.{Width}
 use Rattle.sharpness_laws.specs.SameWeights.{is_joined}
 use Rattle.sharpness_laws.proofs.TermOrderLemmas.{same_weights-permuted}
 use Rattle.sharpness_laws.proofs.MaskValueLemmas.{same-value, same-denominator}
@@ -22,7 +24,9 @@ use Rattle.mask_laws.proofs.SumLemmas.{weighted_sum, IsOver, over-multiple, term
 use Rattle.ratio128.specs.Numbers.{zeros, greatest_amount}
 use Rattle.mask_rules.specs.Masks.{IsMask}
 use Rattle.child_masks.proofs.MeanLemmas.{mean-positive, mean-total}
+use Rattle.child_masks.proofs.SourceLemmas.{test-at}
 use Rattle.primvar_refine.specs.Rows.{Row, row_at, dens_of, StandFor, AreWithin, AreGood, least_bound, rounded_up}
+use Rattle.primvar_refine.specs.Width.{sum_bound}
 use Rattle.primvar_refine.specs.Sums.{source_row, HasRow, term_sums, IsSummand, CanSum}
 use Rattle.primvar_refine.specs.Made.{IsRowOf, IsMade, CanMake}
 use Rattle.ratio128.proofs.AmountLemmas.{IsWithin-zeros, greatest-within, length-zeros}
@@ -144,8 +148,8 @@ module _ (level : Level) (rows : List Row) (good : AreGood rows) (mask : Mask) (
             none ∙ ap (λ n. n * (multiple * most)) (mean-total mask mean) ∙ sym (mul_assoc mask.denominator multiple most)
 
   -- and the terms can be summed, where the denominator and all amounts over it are short
-  module _ (short : mask.denominator * multiple ≤ number_bound) (kept : mask.denominator * multiple * least_bound rows ≤ number_bound)
-      (positive : AllByRecursion (λ t. 0 < (row t.source).den) mask.terms) where
+  module _ (width : Width) (short : mask.denominator * multiple ≤ sum_bound width) (kept : mask.denominator * multiple * least_bound rows ≤ sum_bound width)
+      (joined : IsTrue (is_joined mask)) (positive : AllByRecursion (λ t. 0 < (row t.source).den) mask.terms) where
     each-summand : (terms : List Term) → AllByRecursion (λ t. IsRowOf level rows t.source (row t.source)) terms → AllByRecursion (λ t. (row t.source).den ∣ multiple) terms
         → AllByRecursion (λ t. 0 < (row t.source).den) terms
         → AllByRecursion (λ t. IsSummand multiple (least_bound rows) (length (row_at rows 0).numbers) (row t.source)) terms
@@ -160,13 +164,28 @@ module _ (level : Level) (rows : List Row) (good : AreGood rows) (mask : Mask) (
       each-summand terms h.1 d.1 p.1,
     )
 
+    -- the denominators are above 0
+    each-positive : (terms : List Term) → AllByRecursion (λ t. IsRowOf level rows t.source (row t.source)) terms → AllByRecursion (λ t. 0 < (row t.source).den) terms
+        → AllByRecursion (λ a. 0 < a) (map (λ t. den_of t) terms)
+    each-positive [] h p = tt
+    each-positive (t ∷ terms) h p = (subst (λ a. 0 < a) h.0.den_is p.0, each-positive terms h.1 p.1)
+
+    -- and so are the weights
+    weighed-terms : All (λ t. 0 < t.weight) mask.terms
+    weighed-terms = λ i d inside. above (get_or mask.terms i d).weight (test-at (λ t. nat_lt 0 t.weight) mask.terms i d (and_parts _ _ joined).1 inside)
+      where
+        above : (w : ℕ) → nat_lt 0 w ≡ true → 0 < w
+        above w e = grind (arith, nat_tests, e)
+
     -- so that they can be
-    pub can-sum : CanSum multiple (least_bound rows) (length (row_at rows 0).numbers) row mask.terms
+    pub can-sum : CanSum width multiple (least_bound rows) (length (row_at rows 0).numbers) row mask.terms
     can-sum = record {
       each = All-from_recursion _ mask.terms (each-summand mask.terms held divides positive);
-      short = subst (λ n. n * multiple ≤ number_bound) (sym (mean-total mask mean)) short;
+      weighed = weighed-terms;
+      some = lcm_of_all-positive (map (λ t. den_of t) mask.terms) (each-positive mask.terms held positive);
+      short = subst (λ n. n * multiple ≤ sum_bound width) (sym (mean-total mask mean)) short;
       kept =
-          subst (λ n. n ≤ number_bound)
+          subst (λ n. n ≤ sum_bound width)
           (mul_assoc mask.denominator multiple (least_bound rows) ∙ ap (λ n. n * (multiple * least_bound rows)) (sym (mean-total mask mean))) kept;
     }
 
@@ -183,8 +202,8 @@ made-as level rows mask defined row is joined made = record {
 }
 
 -- A mask of the code over the denominator of the defined one.
-module _ (level : Level) (rows made : List Row) (places : List ℕ) (mask defined : Mask) (den : ℕ) (is : IsMask mask defined) (joined : IsTrue (is_joined defined))
-    (can : CanMake level rows made places defined den) where
+module _ (width : Width) (level : Level) (rows made : List Row) (places : List ℕ) (mask defined : Mask) (den : ℕ) (is : IsMask mask defined) (joined : IsTrue (is_joined defined))
+    (can : CanMake width level rows made places defined den) where
   abbrev own : SourcePoint → Row
   own = source_row rows made places
 
@@ -216,10 +235,11 @@ module _ (level : Level) (rows made : List Row) (places : List ℕ) (mask define
   common-is = sym (ap (λ n. n / mask.denominator) den-here ∙ mul-div_cancel_left common (mean-positive mask is.mean))
 
   -- the terms can be summed
-  pub terms-can : CanSum (den / mask.denominator) (least_bound rows) (length (row_at rows 0).numbers) own mask.terms
+  pub terms-can : CanSum width (den / mask.denominator) (least_bound rows) (length (row_at rows 0).numbers) own mask.terms
   terms-can =
-      subst (λ m. CanSum m (least_bound rows) (length (row_at rows 0).numbers) own mask.terms) common-is
-      (can-sum level rows can.good mask is.mean own held (subst (λ n. n ≤ number_bound) den-here can.short) (subst (λ n. n * least_bound rows ≤ number_bound) den-here can.kept) positive)
+      subst (λ m. CanSum width m (least_bound rows) (length (row_at rows 0).numbers) own mask.terms) common-is
+      (can-sum level rows can.good mask is.mean own held width (subst (λ n. n ≤ sum_bound width) den-here can.short)
+      (subst (λ n. n * least_bound rows ≤ sum_bound width) den-here can.kept) is.joined positive)
 
   -- and the sum has the value of the defined mask
   pub terms-made : (like : List ℤ) → length like ≡ length (row_at rows 0).numbers
@@ -245,11 +265,11 @@ module _ (level : Level) (rows made : List Row) (places : List ℕ) (mask define
     given-there = subst (λ l. All (λ (t : Term). HasRow rows made places t.source) l) (sym terms_are) terms-there
 
     -- they can be summed
-    pub given-can : CanSum m (least_bound rows) (length like) own terms
+    pub given-can : CanSum width m (least_bound rows) (length like) own terms
     given-can =
-        subst (λ l. CanSum m (least_bound rows) (length like) own l) (sym terms_are)
-        (subst (λ n. CanSum m (least_bound rows) n own mask.terms) (sym wide)
-        (subst (λ n. CanSum n (least_bound rows) (length (row_at rows 0).numbers) own mask.terms) m-here terms-can))
+        subst (λ l. CanSum width m (least_bound rows) (length like) own l) (sym terms_are)
+        (subst (λ n. CanSum width m (least_bound rows) n own mask.terms) (sym wide)
+        (subst (λ n. CanSum width n (least_bound rows) (length (row_at rows 0).numbers) own mask.terms) m-here terms-can))
 
     -- the sum has the value of the defined mask
     pub given-made : (numbers : List ℤ) → numbers ≡ term_sums m own (zeros like) terms → IsMade level rows defined (record { numbers = numbers; den = den })

@@ -9,12 +9,13 @@ use Rattle.subdiv_model.specs.Edges.{edges_of}
 use Rattle.subdiv_model.specs.Level.{Level}
 use Rattle.subdiv_model.specs.Mask.{Scheme, CatmullClark, SourcePoint, OfPoint, OfFace, Term, Mask, same_source, has_source, is_source_of, face_mask}
 use Rattle.subdiv_model.specs.Refined.{mask_denominator, source_denominator}
-use Rattle.subdiv_model.specs.Channel.{number_bound}
+use Rattle.number_width.specs.declared.width.Width.{Width}
 use Rattle.sharpness_laws.proofs.JoinedWeightLemmas.{source-refl}
 use Rattle.mask_laws.proofs.ListLemmas.{each-passes}
 use Rattle.level_topology.specs.Topology.{Topology, IsTopology}
 use Rattle.level_topology.specs.Child.{PointOrigin, FromVertex, FromFace, IsOriginWithin, ChildTopology, HasParent}
 use Rattle.primvar_refine.specs.Rows.{Row, row_at, dens_of, AreGood, least_bound}
+use Rattle.primvar_refine.specs.Width.{sum_bound}
 use Rattle.ratio128.specs.declared.valued.Valued.{Valued}
 use Rattle.primvar_refine.specs.View.{row_of, rows_of}
 use Rattle.child_masks.specs.Masks.{mask_from, masks_from, origin_at, is_from_face}
@@ -62,10 +63,10 @@ point-held level rows made places v good count h =
     lower a b e = grind (arith, nat_tests, e)
 
 -- the corners of a face
-pub face-can : (parent : Topology) (rows : List Row) (f den : ℕ) → IsTopology parent → AreGood rows → length rows ≡ parent.level.point_count → f < length parent.level.polygons
-    → den ≡ mask_denominator (source_denominator parent.level (dens_of rows)) (face_mask parent.level f) → den ≤ number_bound → den * least_bound rows ≤ number_bound
-    → CanMake parent.level rows [] [] (face_mask parent.level f) den
-face-can parent rows f den is good count inside den_is short kept = record {
+pub face-can : (width : Width) (parent : Topology) (rows : List Row) (f den : ℕ) → IsTopology parent → AreGood rows → length rows ≡ parent.level.point_count → f < length parent.level.polygons
+    → den ≡ mask_denominator (source_denominator parent.level (dens_of rows)) (face_mask parent.level f) → den ≤ sum_bound width → den * least_bound rows ≤ sum_bound width
+    → CanMake width parent.level rows [] [] (face_mask parent.level f) den
+face-can width parent rows f den is good count inside den_is short kept = record {
   good = good;
   den_is = den_is;
   short = short;
@@ -84,12 +85,12 @@ face-can parent rows f den is good count inside den_is short kept = record {
     both [] p q = tt
     both (t ∷ terms) p q = (q.0 p.0, both terms p.1 q.1)
 
-module _ (parent : Topology) (child : ChildTopology) (scheme : Scheme) (rows : List Row) (named : List Bool) (hidden places : List ℕ) (is : IsTopology parent) where
+module _ (width : Width) (parent : Topology) (child : ChildTopology) (scheme : Scheme) (rows : List Row) (named : List Bool) (hidden places : List ℕ) (is : IsTopology parent) where
   abbrev all : List PointOrigin
   all = all_origins child.origins hidden
 
   abbrev Ready : List Row → Type 0
-  Ready made = IsReady parent child scheme rows named hidden places made
+  Ready made = IsReady width parent child scheme rows named hidden places made
 
   -- some mask names a source of a point's mask
   named-at : (p f : ℕ) → p < length child.origins → has_source (mask_from parent.level scheme (origin_at child.origins p)).terms (OfFace f) ≡ true
@@ -139,7 +140,7 @@ module _ (parent : Topology) (child : ChildTopology) (scheme : Scheme) (rows : L
 
     -- so that its mask can be summed
     pub all-can : (p : ℕ) → p < length child.origins → IsOriginWithin parent.level.point_count (length parent.level.polygons) (length (edges_of parent.level.polygons)) (origin_at child.origins p)
-        → CanMake parent.level rows made places (mask_from parent.level scheme (origin_at child.origins p)) (row_at made p).den
+        → CanMake width parent.level rows made places (mask_from parent.level scheme (origin_at child.origins p)) (row_at made p).den
     all-can p inside within =
         let among : p < length all = omega (arith, inside, length-append child.origins (map FromFace hidden)) in
         let same : origin_at all p ≡ origin_at child.origins p = get_or_append_left child.origins (map FromFace hidden) (FromVertex 0) p inside in
@@ -152,9 +153,9 @@ module _ (parent : Topology) (child : ChildTopology) (scheme : Scheme) (rows : L
         }
 
 -- denominators that stay are as good
-pub ready-kept : (parent : Topology) (child : ChildTopology) (scheme : Scheme) (rows : List Row) (named : List Bool) (hidden places : List ℕ) (before after : List Row)
-    → IsReady parent child scheme rows named hidden places before → KeepDens before after → IsReady parent child scheme rows named hidden places after
-ready-kept parent child scheme rows named hidden places before after ready keep = record {
+pub ready-kept : (width : Width) (parent : Topology) (child : ChildTopology) (scheme : Scheme) (rows : List Row) (named : List Bool) (hidden places : List ℕ) (before after : List Row)
+    → IsReady width parent child scheme rows named hidden places before → KeepDens before after → IsReady width parent child scheme rows named hidden places after
+ready-kept width parent child scheme rows named hidden places before after ready keep = record {
   can = ready.can;
   allowed = ready.allowed;
   good = ready.good;
@@ -165,8 +166,8 @@ ready-kept parent child scheme rows named hidden places before after ready keep 
   each = keep.count ∙ ready.each;
   dens = record {
     are = λ p inside. keep.dens p ∙ ready.dens.are p inside;
-    short = λ p inside. subst (λ n. n ≤ number_bound) (sym (keep.dens p)) (ready.dens.short p inside);
-    kept = λ p inside. subst (λ n. n * least_bound rows ≤ number_bound) (sym (keep.dens p)) (ready.dens.kept p inside);
+    short = λ p inside. subst (λ n. n ≤ sum_bound width) (sym (keep.dens p)) (ready.dens.short p inside);
+    kept = λ p inside. subst (λ n. n * least_bound rows ≤ sum_bound width) (sym (keep.dens p)) (ready.dens.kept p inside);
   };
 }
 
@@ -206,21 +207,21 @@ others-put level scheme rows origins p before after origin e put new made = reco
         (subst (λ k. IsMade level rows (mask_from level scheme origin) (row_at after k)) (sym same) (new (ap is_from_face (sym is) ∙ other)))
 
 -- what the faces of child points and the hidden ones ask
-module _ (parent : Topology) (child : ChildTopology) (scheme : Scheme) (rows : List Row) (named : List Bool) (hidden places : List ℕ) (made : List Row)
-    (is : IsTopology parent) (ready : IsReady parent child scheme rows named hidden places made) where
+module _ (width : Width) (parent : Topology) (child : ChildTopology) (scheme : Scheme) (rows : List Row) (named : List Bool) (hidden places : List ℕ) (made : List Row)
+    (is : IsTopology parent) (ready : IsReady width parent child scheme rows named hidden places made) where
   abbrev all-of : List PointOrigin
   all-of = all_origins child.origins hidden
 
   -- a face with a place
   face-at : (p f : ℕ) → p < length all-of → origin_at all-of p ≡ FromFace f → f < length parent.level.polygons
-      → CanMake parent.level rows [] [] (face_mask parent.level f) (row_at made p).den
+      → CanMake width parent.level rows [] [] (face_mask parent.level f) (row_at made p).den
   face-at p f among from inside =
-      face-can parent rows f (row_at made p).den is ready.good ready.counted inside
+      face-can width parent rows f (row_at made p).den is ready.good ready.counted inside
       (ready.dens.are p among ∙ ap (λ o. mask_denominator (source_denominator parent.level (dens_of rows)) (mask_from parent.level scheme o)) from)
       (ready.dens.short p among) (ready.dens.kept p among)
 
   -- the faces of child points
-  pub faces-can : HasParent child → CanMakeFaces parent.level rows child.origins made
+  pub faces-can : HasParent child → CanMakeFaces width parent.level rows child.origins made
   faces-can has p f inside from =
       let among : p < length all-of = omega (arith, inside, length-append child.origins (map FromFace hidden)) in
       let same : origin_at all-of p ≡ origin_at child.origins p = get_or_append_left child.origins (map FromFace hidden) (FromVertex 0) p inside in
@@ -238,7 +239,7 @@ module _ (parent : Topology) (child : ChildTopology) (scheme : Scheme) (rows : L
       get_or-append-add child.origins (map FromFace hidden) i (FromVertex 0) ∙ get_or-map FromFace hidden i 0 (FromVertex 0) inside
 
   -- and can be summed
-  pub hidden-can : (i : ℕ) → i < length hidden → CanMake parent.level rows [] [] (face_mask parent.level (get_or hidden i 0)) (row_at made (length child.origins + i)).den
+  pub hidden-can : (i : ℕ) → i < length hidden → CanMake width parent.level rows [] [] (face_mask parent.level (get_or hidden i 0)) (row_at made (length child.origins + i)).den
   hidden-can i inside =
       face-at (length child.origins + i) (get_or hidden i 0)
       (omega (arith, inside, length-append child.origins (map FromFace hidden), length-map hidden FromFace)) (origin-of-hidden i inside) (ready.inside i 0 inside)
@@ -274,14 +275,14 @@ pub keeps : (first second third : List Row) → KeepDens first second → KeepDe
 keeps first second third p q = record { count = q.count ∙ p.count; dens = λ k. q.dens k ∙ p.dens k }
 
 -- the same of a list and of a first place that are these
-pub first-hidden-can : (parent : Topology) (child : ChildTopology) (scheme : Scheme) (rows : List Row) (named : List Bool) (hidden places : List ℕ) (before after : List Row)
-    → IsTopology parent → IsReady parent child scheme rows named hidden places before → KeepDens before after
+pub first-hidden-can : (width : Width) (parent : Topology) (child : ChildTopology) (scheme : Scheme) (rows : List Row) (named : List Bool) (hidden places : List ℕ) (before after : List Row)
+    → IsTopology parent → IsReady width parent child scheme rows named hidden places before → KeepDens before after
     → (list : List ℕ) (first : ℕ) → list ≡ hidden → first ≡ length child.origins
-    → (i : ℕ) → i < length list → CanMake parent.level rows [] [] (face_mask parent.level (get_or list i 0)) (row_at after (first + i)).den
-first-hidden-can parent child scheme rows named hidden places before after is ready keep list first same at =
-    subst (λ l. (i : ℕ) → i < length l → CanMake parent.level rows [] [] (face_mask parent.level (get_or l i 0)) (row_at after (first + i)).den) (sym same)
-    (subst (λ n. (i : ℕ) → i < length hidden → CanMake parent.level rows [] [] (face_mask parent.level (get_or hidden i 0)) (row_at after (n + i)).den) (sym at)
-    (hidden-can parent child scheme rows named hidden places after is (ready-kept parent child scheme rows named hidden places before after ready keep)))
+    → (i : ℕ) → i < length list → CanMake width parent.level rows [] [] (face_mask parent.level (get_or list i 0)) (row_at after (first + i)).den
+first-hidden-can width parent child scheme rows named hidden places before after is ready keep list first same at =
+    subst (λ l. (i : ℕ) → i < length l → CanMake width parent.level rows [] [] (face_mask parent.level (get_or l i 0)) (row_at after (first + i)).den) (sym same)
+    (subst (λ n. (i : ℕ) → i < length hidden → CanMake width parent.level rows [] [] (face_mask parent.level (get_or hidden i 0)) (row_at after (n + i)).den) (sym at)
+    (hidden-can width parent child scheme rows named hidden places after is (ready-kept width parent child scheme rows named hidden places before after ready keep)))
 
 -- the values of all faces
 pub first-together : (parent : Topology) (child : ChildTopology) (rows : List Row) (hidden : List ℕ) (before after : List Row)
@@ -297,10 +298,10 @@ first-together parent child rows hidden before after list first same at faces ke
     (subst (λ n. AreHiddenMade parent.level rows n list (length list) after) at others))
 
 -- the place of a child point is there
-pub point-inside : {P : Type 0} (numbers : P → List ℤ) (parent : Topology) (child : ChildTopology) (scheme : Scheme) (rows : List Row) (named : List Bool) (hidden places : List ℕ)
-    (before after : List (Valued P)) (p : ℕ) → IsReady parent child scheme rows named hidden places (rows_of numbers before)
+pub point-inside : {P : Type 0} (numbers : P → List ℤ) (width : Width) (parent : Topology) (child : ChildTopology) (scheme : Scheme) (rows : List Row) (named : List Bool) (hidden places : List ℕ)
+    (before after : List (Valued P)) (p : ℕ) → IsReady width parent child scheme rows named hidden places (rows_of numbers before)
     → KeepDens (rows_of numbers before) (rows_of numbers after) → p < length child.origins → p < length after
-point-inside numbers parent child scheme rows named hidden places before after p ready keep inside =
+point-inside numbers width parent child scheme rows named hidden places before after p ready keep inside =
     let all = length-append child.origins (map FromFace hidden) in
     let new = length-map after (row_of numbers) in
     omega (arith, keep.count, ready.each, all, new, inside)
@@ -320,10 +321,10 @@ pub all-made : (parent : Topology) (child : ChildTopology) (scheme : Scheme) (ro
 all-made parent child scheme rows hidden made faces others = record { faces = faces; others = others }
 
 -- after the child points there is room for the hidden faces
-pub hidden-room : {P : Type 0} (numbers : P → List ℤ) (parent : Topology) (child : ChildTopology) (scheme : Scheme) (rows : List Row) (named : List Bool) (hidden places : List ℕ)
-    (before after : List (Valued P)) (list : List ℕ) (first : ℕ) → IsReady parent child scheme rows named hidden places (rows_of numbers before)
+pub hidden-room : {P : Type 0} (numbers : P → List ℤ) (width : Width) (parent : Topology) (child : ChildTopology) (scheme : Scheme) (rows : List Row) (named : List Bool) (hidden places : List ℕ)
+    (before after : List (Valued P)) (list : List ℕ) (first : ℕ) → IsReady width parent child scheme rows named hidden places (rows_of numbers before)
     → KeepDens (rows_of numbers before) (rows_of numbers after) → list ≡ hidden → first ≡ length child.origins → first + length list ≡ length after
-hidden-room numbers parent child scheme rows named hidden places before after list first ready keep same at =
+hidden-room numbers width parent child scheme rows named hidden places before after list first ready keep same at =
     let all = length-append child.origins (map FromFace hidden) in
     let faces = length-map hidden FromFace in
     let new = length-map after (row_of numbers) in

@@ -1,5 +1,5 @@
 -- The terms of a mask summed one after another, over a common multiple of the denominators of their sources.
-use Rattle.std.proofs.Common.{◌≡◌, ℕ, zero, suc, ◌+◌, ◌*◌, ◌/◌, ◌^◌, ◌<◌, ◌≤◌, ℤ, pos, ◌+ℤ◌, ◌*ℤ◌, List, [], ◌∷◌, length, take, get_or, arith, refl, ap, sym, ◌∙◌, subst}
+use Rattle.std.proofs.Common.{◌≡◌, ℕ, zero, suc, ◌+◌, ◌*◌, ◌/◌, ◌<◌, ◌≤◌, ℤ, pos, ◌+ℤ◌, ◌*ℤ◌, List, [], ◌∷◌, length, take, get_or, arith, refl, ap, sym, ◌∙◌, subst}
 use Rattle.std.specs.List.{AllByRecursion}
 use Rattle.std.specs.Int.{◌∣◌}
 use Rattle.std.proofs.lemmas.List.{take_all}
@@ -7,13 +7,15 @@ use Rattle.std.proofs.lemmas.List.Sums.{sum_by-cons, sum_by_more_le, sum_by_more
 use Rattle.std.proofs.Math.IntN.{*ℤ-zero, +ℤ_idl, +ℤ_idr, +ℤ_assoc}
 use Rattle.std.proofs.Math.Nat.{div-mul_cancel, mul_assoc, div-le_self, mul-le-mul_right, mul-le-mul_left}
 use Rattle.subdiv_model.specs.Mask.{SourcePoint, OfPoint, Term, weigh, total_weight}
-use Rattle.subdiv_model.specs.Channel.{number_bound}
 use Rattle.number_laws.proofs.WholeNumberLemmas.{pos-assoc}
+use Rattle.number_laws.proofs.MultipleLemmas.{product-positive}
 use Rattle.mask_laws.proofs.SumLemmas.{weighted_sum}
-use Rattle.ratio128.specs.Numbers.{plus_times, CanAdd, zeros, greatest_amount}
+use Rattle.ratio128.specs.Numbers.{plus_times, zeros, greatest_amount}
+use Rattle.number_width.specs.declared.width.Width.{Width}
 use Rattle.primvar_refine.specs.Rows.{Row}
+use Rattle.primvar_refine.specs.Width.{sum_bound}
 use Rattle.primvar_refine.specs.Sums.{weight_over, term_sums, IsSummand, CanSum}
-use Rattle.ratio128.proofs.AmountLemmas.{IsWithin, IsWithin-greatest, IsWithin-plus_times, CanAdd-within, length-plus_times}
+use Rattle.ratio128.proofs.AmountLemmas.{IsWithin, IsWithin-greatest, IsWithin-plus_times, greatest-within, length-plus_times}
 
 -- one number of the sum
 plus_times-at : (w : ℤ) (xs ys : List ℤ) (c : ℕ) → length xs ≡ length ys
@@ -93,17 +95,19 @@ pub record IsSumSoFar (m most : ℕ) (row : SourcePoint → Row) (start : List �
   pub long : length sums ≡ length start
   pub within : IsWithin (total_weight (take i terms) * (m * most)) sums
 
--- a row can be added by a weight
-pub record CanTake (m : ℕ) (sums : List ℤ) (w : ℕ) (r : Row) : Type 0 where
+-- a row can be added by a weight, in sums of a width
+pub record CanTake (width : Width) (m : ℕ) (sums : List ℤ) (w : ℕ) (r : Row) : Type 0 where
   pub positive : 0 < r.den
   pub long : length sums ≡ length r.numbers
-  pub small : w * (m / r.den) ≤ number_bound
-  pub fits : CanAdd (pos (w * (m / r.den))) sums r.numbers
+  pub some : 0 < w * (m / r.den)
+  pub small : w * (m / r.den) ≤ sum_bound width
+  pub fits : greatest_amount sums + w * (m / r.den) * greatest_amount r.numbers ≤ sum_bound width
 
 abbrev pub none : Term
 none = weigh 0 (OfPoint 0)
 
-module _ (m most size : ℕ) (row : SourcePoint → Row) (start : List ℤ) (size_is : length start ≡ size) (terms : List Term) (can : CanSum m most size row terms) where
+module _ (width : Width) (m most size : ℕ) (row : SourcePoint → Row) (start : List ℤ) (size_is : length start ≡ size) (terms : List Term)
+    (can : CanSum width m most size row terms) where
   pub sum-begins : IsWithin 0 start → IsSumSoFar m most row start terms 0 start
   sum-begins w = record {
     sums_are = refl;
@@ -124,7 +128,7 @@ module _ (m most size : ℕ) (row : SourcePoint → Row) (start : List ℤ) (siz
     turned P p = subst (λ x. P x r) (sym weight_is) (subst (P t.weight) (sym row_is) p)
 
     -- its weight is small
-    next-small : t.weight * (m / (row t.source).den) ≤ number_bound
+    next-small : t.weight * (m / (row t.source).den) ≤ sum_bound width
     next-small =
         let part = sum_by_more_le (λ (u : Term). u.weight) terms i none inside in
         let most-weight : t.weight ≤ total_weight terms = omega arith in
@@ -132,28 +136,41 @@ module _ (m most size : ℕ) (row : SourcePoint → Row) (start : List ℤ) (siz
         let all : t.weight * m ≤ total_weight terms * m = mul-le-mul_right m most-weight in
         small (t.weight * (m / (row t.source).den)) (t.weight * m) (total_weight terms * m) less all can.short
       where
-        small : (a b c : ℕ) → a ≤ b → b ≤ c → c ≤ number_bound → a ≤ number_bound
+        small : (a b c : ℕ) → a ≤ b → b ≤ c → c ≤ sum_bound width → a ≤ sum_bound width
         small a b c p q r = omega (arith, p, q, r)
 
+    -- and not 0
+    next-some : 0 < t.weight * (m / (row t.source).den)
+    next-some =
+        let whole : t.weight * (m / (row t.source).den) * (row t.source).den ≡ t.weight * m =
+        mul_assoc t.weight (m / (row t.source).den) (row t.source).den ∙ ap (λ k. t.weight * k) (div-mul_cancel (row t.source).den is.divides) in
+        factor (t.weight * (m / (row t.source).den)) (row t.source).den (subst (λ k. 0 < k) (sym whole) (product-positive t.weight m (can.weighed i none inside) can.some))
+      where
+        factor : (a b : ℕ) → 0 < a * b → 0 < a
+        factor zero b h = absurd (omega (arith, h))
+        factor (suc a) b h = omega arith
+
     -- and all of it can be added
-    next-fits : CanAdd (pos (weight_over m row t)) sums (row t.source).numbers
+    next-fits : greatest_amount sums + weight_over m row t * greatest_amount (row t.source).numbers ≤ sum_bound width
     next-fits =
         let part = sum_by_more_le (λ (u : Term). u.weight) terms i none inside in
         let room : (total_weight (take i terms) + t.weight) * (m * most) ≤ total_weight terms * (m * most) = mul-le-mul_right (m * most) part in
         let own = term-most m row most t is.divides in
-        CanAdd-within (total_weight (take i terms) * (m * most)) (weight_over m row t) ((row t.source).den * most) sums (row t.source).numbers here.within
-        (IsWithin-greatest _ _ is.within)
-        (small (total_weight (take i terms)) t.weight (m * most) (weight_over m row t * ((row t.source).den * most)) (total_weight terms * (m * most)) own room can.kept)
+        let before : greatest_amount sums ≤ total_weight (take i terms) * (m * most) = greatest-within _ sums here.within in
+        let next : weight_over m row t * greatest_amount (row t.source).numbers ≤ weight_over m row t * ((row t.source).den * most) =
+        mul-le-mul_left (weight_over m row t) is.within in
+        small (total_weight (take i terms)) t.weight (m * most) _ (weight_over m row t * ((row t.source).den * most)) (total_weight terms * (m * most)) _ before next own room can.kept
       where
-        small : (a b k x y : ℕ) → x ≡ b * k → (a + b) * k ≤ y → y ≤ number_bound → a * k + x < 2 ^ 127
-        small a b k x y e h short = omega (arith, e, h, short)
+        small : (a b k g x y h : ℕ) → g ≤ a * k → h ≤ x → x ≡ b * k → (a + b) * k ≤ y → y ≤ sum_bound width → g + h ≤ sum_bound width
+        small a b k g x y h p q e room short = omega (arith, p, q, e, room, short)
 
     -- so that it can be taken
-    pub can-take : CanTake m sums w r
+    pub can-take : CanTake width m sums w r
     can-take =
-        turned (λ x y. CanTake m sums x y) (record {
+        turned (λ x y. CanTake width m sums x y) (record {
           positive = is.positive;
           long = here.long ∙ size_is ∙ sym is.alike;
+          some = next-some;
           small = next-small;
           fits = next-fits;
         })

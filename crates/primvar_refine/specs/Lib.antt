@@ -1,4 +1,5 @@
 pub mod Rows
+pub mod Width
 pub mod View
 pub mod FaultText
 pub mod Step

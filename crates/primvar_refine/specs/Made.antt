@@ -5,7 +5,7 @@ use Rattle.subdiv_model.specs.Level.{Level}
 use Rattle.subdiv_model.specs.Value.{Value}
 use Rattle.subdiv_model.specs.Mask.{Scheme, SourcePoint, Term, Mask, face_mask, edge_mask, vertex_mask}
 use Rattle.subdiv_model.specs.Refined.{mask_value, source_value, mask_denominator, source_denominator}
-use Rattle.subdiv_model.specs.Channel.{number_bound}
+use Rattle.number_width.specs.declared.width.Width.{Width}
 use Rattle.mask_laws.proofs.SumLemmas.{IsOver}
 use Rattle.ratio128.specs.Numbers.{greatest_amount}
 use Rattle.level_topology.specs.Topology.{edge_at}
@@ -13,6 +13,7 @@ use Rattle.level_topology.specs.Child.{PointOrigin, FromVertex, FromFace, FromEd
 use Rattle.primvar_refine.specs.Rows.{Row, row_at, dens_of, StandFor, AreWithin, AreGood, least_bound}
 use Rattle.child_masks.specs.Masks.{mask_from, origin_at, is_from_face}
 use Rattle.primvar_refine.specs.Sums.{source_row, HasRow}
+use Rattle.primvar_refine.specs.Width.{sum_bound}
 
 -- Over this denominator the row has the values that follow from those of the level, and none is above a whole number in amount
 -- where none of the level's is.
@@ -36,12 +37,12 @@ pub record AreHeld (level : Level) (rows made : List Row) (places : List ℕ) (t
   pub held : All (λ t. IsRowOf level rows t.source (source_row rows made places t.source)) terms
   pub positive : All (λ t. 0 < (source_row rows made places t.source).den) terms
 
--- a mask can be summed: its common denominator, and all numbers over it, are short
-pub record CanMake (level : Level) (rows made : List Row) (places : List ℕ) (mask : Mask) (den : ℕ) : Type 0 where
+-- a mask can be summed: its common denominator, and all numbers over it, are within the bound of sums of a width
+pub record CanMake (width : Width) (level : Level) (rows made : List Row) (places : List ℕ) (mask : Mask) (den : ℕ) : Type 0 where
   pub good : AreGood rows
   pub den_is : den ≡ mask_denominator (source_denominator level (dens_of rows)) mask
-  pub short : den ≤ number_bound
-  pub kept : den * least_bound rows ≤ number_bound
+  pub short : den ≤ sum_bound width
+  pub kept : den * least_bound rows ≤ sum_bound width
   pub sources : AreHeld level rows made places mask.terms
 
 -- a row has other numbers over its denominator, and all others stay
@@ -50,10 +51,10 @@ pub record IsPut (before : List Row) (p : ℕ) (after : List Row) : Type 0 where
   pub den : (row_at after p).den ≡ (row_at before p).den
   pub others : (q : ℕ) → q ≢ p → row_at after q ≡ row_at before q
 
--- the faces can be summed over these denominators, which stand from a place on
-abbrev pub CanMakeFaces : Level → List Row → List PointOrigin → List Row → Type 0
-CanMakeFaces level rows origins made =
-    (p f : ℕ) → p < length origins → origin_at origins p ≡ FromFace f → CanMake level rows [] [] (face_mask level f) (row_at made p).den
+-- the faces can be summed over these denominators, in sums of a width
+abbrev pub CanMakeFaces : Width → Level → List Row → List PointOrigin → List Row → Type 0
+CanMakeFaces width level rows origins made =
+    (p f : ℕ) → p < length origins → origin_at origins p ≡ FromFace f → CanMake width level rows [] [] (face_mask level f) (row_at made p).den
 
 -- of so many points the values of those that come from a face are made
 pub record AreFacesMade (level : Level) (rows : List Row) (origins : List PointOrigin) (count : ℕ) (made : List Row) : Type 0 where

@@ -3,20 +3,21 @@ use Rattle.std.specs.Prelude.{ℕ, ◌≡◌, ◌+◌, ◌*◌, ◌<◌, ◌≤�
 use Rattle.std.specs.List.{All, list_any, sum_by}
 use Rattle.subdiv_model.specs.Mask.{Scheme, OfFace, has_source}
 use Rattle.subdiv_model.specs.Refined.{mask_denominator, source_denominator}
-use Rattle.subdiv_model.specs.Channel.{number_bound}
+use Rattle.number_width.specs.declared.width.Width.{Width}
 use Rattle.level_topology.specs.Topology.{Topology}
 use Rattle.level_topology.specs.Child.{PointOrigin, ChildTopology}
 use Rattle.primvar_refine.specs.Rows.{Row, row_at, dens_of, AreGood, least_bound}
 use Rattle.child_masks.specs.Masks.{mask_from, masks_from, HasNoTransition, CanRefine, origin_at}
 use Rattle.primvar_refine.specs.Made.{AreFacesMade, AreOthersMade, terms_of_face, terms_of_hidden, terms_of_other}
 use Rattle.primvar_refine.specs.Places.{all_origins, ArePlaces}
+use Rattle.primvar_refine.specs.Width.{sum_bound}
 
--- each denominator is that of the point's mask, and it and all numbers over it are short
-pub record AreDens (parent : Topology) (scheme : Scheme) (rows : List Row) (origins : List PointOrigin) (made : List Row) : Type 0 where
+-- each denominator is that of the point's mask; it and all numbers over it are within the bound of sums of a width
+pub record AreDens (width : Width) (parent : Topology) (scheme : Scheme) (rows : List Row) (origins : List PointOrigin) (made : List Row) : Type 0 where
   pub are : (p : ℕ) → p < length origins
       → (row_at made p).den ≡ mask_denominator (source_denominator parent.level (dens_of rows)) (mask_from parent.level scheme (origin_at origins p))
-  pub short : (p : ℕ) → p < length origins → (row_at made p).den ≤ number_bound
-  pub kept : (p : ℕ) → p < length origins → (row_at made p).den * least_bound rows ≤ number_bound
+  pub short : (p : ℕ) → p < length origins → (row_at made p).den ≤ sum_bound width
+  pub kept : (p : ℕ) → p < length origins → (row_at made p).den * least_bound rows ≤ sum_bound width
 
 -- a mark for each face that some mask names
 pub record AreNamed (parent : Topology) (scheme : Scheme) (origins : List PointOrigin) (named : List Bool) : Type 0 where
@@ -24,7 +25,8 @@ pub record AreNamed (parent : Topology) (scheme : Scheme) (origins : List PointO
   pub each : (f : ℕ) → f < length parent.level.polygons
       → get_or named f false ≡ list_any (λ mask. has_source mask.terms (OfFace f)) (masks_from parent.level scheme origins)
 
-pub record IsReady (parent : Topology) (child : ChildTopology) (scheme : Scheme) (rows : List Row) (named : List Bool) (hidden places : List ℕ) (made : List Row) : Type 0 where
+-- what sums of a width ask is there
+pub record IsReady (width : Width) (parent : Topology) (child : ChildTopology) (scheme : Scheme) (rows : List Row) (named : List Bool) (hidden places : List ℕ) (made : List Row) : Type 0 where
   pub can : CanRefine parent child scheme
   pub allowed : HasNoTransition parent.level scheme child.origins
   pub good : AreGood rows
@@ -33,7 +35,7 @@ pub record IsReady (parent : Topology) (child : ChildTopology) (scheme : Scheme)
   pub find : ArePlaces child.origins named hidden (length parent.level.polygons) places
   pub inside : All (λ f. f < length parent.level.polygons) hidden
   pub each : length made ≡ length (all_origins child.origins hidden)
-  pub dens : AreDens parent scheme rows (all_origins child.origins hidden) made
+  pub dens : AreDens width parent scheme rows (all_origins child.origins hidden) made
 
 -- the terms of all that is made
 abbrev pub all_terms : Topology → ChildTopology → Scheme → List ℕ → ℕ

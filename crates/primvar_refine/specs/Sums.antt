@@ -3,9 +3,10 @@ use Rattle.std.specs.Prelude.{ℕ, ◌≡◌, ◌*◌, ◌/◌, ◌<◌, ◌≤�
 use Rattle.std.specs.List.{All, fold}
 use Rattle.std.specs.Int.{◌∣◌}
 use Rattle.subdiv_model.specs.Mask.{SourcePoint, OfPoint, OfFace, Term, total_weight}
-use Rattle.subdiv_model.specs.Channel.{number_bound}
+use Rattle.number_width.specs.declared.width.Width.{Width}
 use Rattle.ratio128.specs.Numbers.{plus_times, greatest_amount}
 use Rattle.primvar_refine.specs.Rows.{Row, row_at}
+use Rattle.primvar_refine.specs.Width.{sum_bound}
 
 -- the row of a source: a point's own, or that in the list of what is made, at the place of a face
 abbrev pub source_row : List Row → List Row → List ℕ → SourcePoint → Row
@@ -32,8 +33,10 @@ pub record IsSummand (m most size : ℕ) (row : Row) : Type 0 where
   pub within : greatest_amount row.numbers ≤ row.den * most
   pub alike : length row.numbers ≡ size
 
--- the terms can be summed over m
-pub record CanSum (m most size : ℕ) (row : SourcePoint → Row) (terms : List Term) : Type 0 where
+-- the terms can be summed over m, in sums of a width
+pub record CanSum (width : Width) (m most size : ℕ) (row : SourcePoint → Row) (terms : List Term) : Type 0 where
   pub each : All (λ t. IsSummand m most size (row t.source)) terms
-  pub short : total_weight terms * m ≤ number_bound
-  pub kept : total_weight terms * (m * most) ≤ number_bound
+  pub weighed : All (λ t. 0 < t.weight) terms
+  pub some : 0 < m
+  pub short : total_weight terms * m ≤ sum_bound width
+  pub kept : total_weight terms * (m * most) ≤ sum_bound width

@@ -5,9 +5,11 @@ ghost use Rattle.subdiv_model.specs.Channel.{number_bound};
 ghost use Rattle.primvar_refine.specs.Rows.{AreGood, rounded_up, least_bound};
 ghost use Rattle.primvar_refine.specs.View.{rows_of};
 ghost use Rattle.primvar_refine.specs.Greatest.{IsGreatestAt};
+ghost use Rattle.primvar_refine.specs.Width.{sum_width};
 
 use crate::Valued;
-use ratio128::{Primvar, quotient};
+use number_width::Width;
+use ratio128::{Primvar, quotient, times_within};
 use std::sync::ledger::Ledger;
 
 /// The greatest of some denominators, and the first place that has it; 1 where there is none.
@@ -63,4 +65,15 @@ pub(crate) fn least_bound<P: Primvar<L>, L: Ledger>(values: &[Valued<P>]) -> u12
         bound = bound.max(rounded_up(value.value.greatest(), value.den));
     }
     bound
+}
+
+/// The width of the sums over denominators up to the greatest, where no value passes the bound in amount. It is 64 bits where
+/// the greatest denominator and its product with the bound are at most 2^63 - 1.
+pub(crate) fn sum_width(greatest: u128, bound: u128) -> Width
+    ensures { result ≡ sum_width greatest bound }
+{
+    match times_within(greatest, bound.max(1), i64::MAX as u128) {
+        Some(_) => Width::Narrow,
+        None => Width::Wide,
+    }
 }

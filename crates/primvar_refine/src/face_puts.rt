@@ -9,6 +9,7 @@ ghost use Rattle.primvar_refine.specs.Made.{CanMake, CanMakeFaces, AreFacesMade,
 
 use crate::Valued;
 use crate::puts::put_face;
+use crate::sums::SumStart;
 use level_topology::{Child, Level, Origin};
 use ratio128::{Primvar, Steps};
 use std::sync::ledger::Ledger;
@@ -18,14 +19,14 @@ pub(crate) fn put_faces<P: Primvar<L>, L: Ledger>(
     parent: &Level,
     child: &Child,
     values: &[Valued<P>],
-    zero: &P,
+    start: &SumStart<'_, P>,
     made: &mut [Valued<P>],
     steps: &mut Steps<L>,
 )
     requires faces { length child.now.parent_sizes ≡ length parent.now.level.polygons }
     requires room { length child.now.origins ≤ length made.old }
-    requires can { CanMakeFaces parent.now.level (rows_of P.numbers values.now) child.now.origins (rows_of P.numbers made.old) }
-    requires alike { length (P.numbers zero.now) ≡ length (row_at (rows_of P.numbers values.now) 0).numbers }
+    requires can { CanMakeFaces start.now.width parent.now.level (rows_of P.numbers values.now) child.now.origins (rows_of P.numbers made.old) }
+    requires alike { length (P.numbers start.now.zero.now) ≡ length (row_at (rows_of P.numbers values.now) 0).numbers }
     ensures dens { KeepDens (rows_of P.numbers made.old) (rows_of P.numbers made.new) }
     ensures made { AreFacesMade parent.now.level (rows_of P.numbers values.now) child.now.origins (length child.now.origins) (rows_of P.numbers made.new) }
     ensures steps { steps.new ≡ steps.old + sum_by (terms_of_face parent.now.level) child.now.origins }
@@ -33,7 +34,7 @@ pub(crate) fn put_faces<P: Primvar<L>, L: Ledger>(
     child.facts();
     for p in 0..child.level().points() {
         match child.origin(p) {
-            Origin::Face(f) => put_face(parent, f, p as usize, values, zero, made, steps),
+            Origin::Face(f) => put_face(parent, f, p as usize, values, start, made, steps),
             Origin::Vertex(_) | Origin::Edge(_) => {}
         }
     }
@@ -45,20 +46,21 @@ pub(crate) fn put_hidden<P: Primvar<L>, L: Ledger>(
     hidden: &[u32],
     first: usize,
     values: &[Valued<P>],
-    zero: &P,
+    start: &SumStart<'_, P>,
     made: &mut [Valued<P>],
     steps: &mut Steps<L>,
 )
     requires known { All (λ f. f < length parent.now.level.polygons) hidden.now }
     requires room { first + length hidden.now ≡ length made.old }
-    requires can { (i : ℕ) → i < length hidden.now → CanMake parent.now.level (rows_of P.numbers values.now) [] [] (face_mask parent.now.level (get_or hidden.now i 0)) (row_at (rows_of P.numbers made.old) (first + i)).den }
-    requires alike { length (P.numbers zero.now) ≡ length (row_at (rows_of P.numbers values.now) 0).numbers }
+    requires can { (i : ℕ) → i < length hidden.now → CanMake start.now.width parent.now.level (rows_of P.numbers values.now) [] []
+        (face_mask parent.now.level (get_or hidden.now i 0)) (row_at (rows_of P.numbers made.old) (first + i)).den }
+    requires alike { length (P.numbers start.now.zero.now) ≡ length (row_at (rows_of P.numbers values.now) 0).numbers }
     ensures dens { KeepDens (rows_of P.numbers made.old) (rows_of P.numbers made.new) }
     ensures kept { (q : ℕ) → q < first → row_at (rows_of P.numbers made.new) q ≡ row_at (rows_of P.numbers made.old) q }
     ensures made { AreHiddenMade parent.now.level (rows_of P.numbers values.now) first hidden.now (length hidden.now) (rows_of P.numbers made.new) }
     ensures steps { steps.new ≡ steps.old + sum_by (terms_of_hidden parent.now.level) hidden.now }
 {
     for i in 0..hidden.len() {
-        put_face(parent, hidden[i], first + i, values, zero, made, steps);
+        put_face(parent, hidden[i], first + i, values, start, made, steps);
     }
 }

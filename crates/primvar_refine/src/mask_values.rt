@@ -7,7 +7,7 @@ ghost use Rattle.primvar_refine.specs.View.{rows_of};
 ghost use Rattle.primvar_refine.specs.Made.{IsMade, CanMake};
 
 use crate::Valued;
-use crate::sums::sum_of_corners;
+use crate::sums::{SumStart, sum_of_corners};
 use level_topology::Level;
 use mask_rules::face_mask;
 use ratio128::{Primvar, Steps, quotient};
@@ -19,17 +19,17 @@ pub(crate) fn face_value<P: Primvar<L>, L: Ledger>(
     f: u32,
     den: u128,
     values: &[Valued<P>],
-    zero: &P,
+    start: &SumStart<'_, P>,
     steps: &mut Steps<L>,
 ) -> P
     requires known { f < length parent.now.level.polygons }
-    requires can { CanMake parent.now.level (rows_of P.numbers values.now) [] [] (face_mask parent.now.level f) den }
-    requires alike { length (P.numbers zero.now) ≡ length (row_at (rows_of P.numbers values.now) 0).numbers }
+    requires can { CanMake start.now.width parent.now.level (rows_of P.numbers values.now) [] [] (face_mask parent.now.level f) den }
+    requires alike { length (P.numbers start.now.zero.now) ≡ length (row_at (rows_of P.numbers values.now) 0).numbers }
     ensures made { IsMade parent.now.level (rows_of P.numbers values.now) (face_mask parent.now.level f) (record { numbers = P.numbers result; den = den }) }
     ensures steps { steps.new ≡ steps.old + length (face_mask parent.now.level f).terms }
 {
     let mask = face_mask(parent, f);
     let corners = parent.face_vertices(f);
     let multiple = quotient(den, mask.size() as u128);
-    sum_of_corners(corners, multiple, values, zero, steps)
+    sum_of_corners(corners, multiple, values, start, steps)
 }

@@ -14,10 +14,10 @@ ghost use Rattle.primvar_refine.specs.Ready.{IsReady};
 use crate::Valued;
 use crate::places::Places;
 use crate::puts::{den_at, put_value};
-use crate::sums::sum_of_terms;
+use crate::sums::{SumStart, sum_of_terms};
 use child_masks::{PointMask, Survey};
 use level_topology::{Child, Level};
-use mask_rules::Scheme;
+use mask_rules::{MadeMask, Scheme};
 use ratio128::{Primvar, Steps, quotient};
 use std::sync::ledger::Ledger;
 
@@ -28,9 +28,10 @@ fn put_point<P: Primvar<L>, L: Ledger>(
     p: u32,
     scheme: Scheme,
     survey: &Survey,
+    made_mask: &mut MadeMask,
     places: &[u32],
     values: &[Valued<P>],
-    zero: &P,
+    start: &SumStart<'_, P>,
     made: &mut [Valued<P>],
     steps: &mut Steps<L>,
 )
@@ -38,21 +39,22 @@ fn put_point<P: Primvar<L>, L: Ledger>(
     requires known { p < length child.now.origins }
     requires masks { AreKeptFor parent.now (scheme_of scheme) child.now.origins survey.now.masks }
     requires inside { p < length made.old }
-    requires can { CanMake parent.now.level (rows_of P.numbers values.now) (rows_of P.numbers made.old) places.now
+    requires can { CanMake start.now.width parent.now.level (rows_of P.numbers values.now) (rows_of P.numbers made.old) places.now
         (mask_from parent.now.level (scheme_of scheme) (origin_at child.now.origins p)) (row_at (rows_of P.numbers made.old) p).den }
-    requires alike { length (P.numbers zero.now) ≡ length (row_at (rows_of P.numbers values.now) 0).numbers }
+    requires alike { length (P.numbers start.now.zero.now) ≡ length (row_at (rows_of P.numbers values.now) 0).numbers }
     ensures put { IsPut (rows_of P.numbers made.old) p (rows_of P.numbers made.new) }
     ensures same { is_from_face (origin_at child.now.origins p) ≡ true → made.new ≡ made.old }
     ensures made { is_from_face (origin_at child.now.origins p) ≡ false
         → IsMade parent.now.level (rows_of P.numbers values.now) (mask_from parent.now.level (scheme_of scheme) (origin_at child.now.origins p)) (row_at (rows_of P.numbers made.new) p) }
     ensures steps { steps.new ≡ steps.old + terms_of_other parent.now.level (scheme_of scheme) (origin_at child.now.origins p) }
 {
-    match survey.mask(parent, child, p, scheme) {
+    match survey.mask(parent, child, p, scheme, made_mask) {
         PointMask::Corners(_) => {}
         PointMask::Terms(mask) => {
             let den = den_at(made, p as usize);
-            let multiple = quotient(den, mask.denominator());
-            let value = sum_of_terms(mask.terms(), multiple, values, made, places, zero, steps);
+            let multiple = quotient(den, mask.denominator(made_mask));
+            let terms = mask.terms(made_mask);
+            let value = sum_of_terms(terms, multiple, values, made, places, start, steps);
             put_value(made, p as usize, value);
         }
     }
@@ -66,15 +68,16 @@ pub(crate) fn put_points<P: Primvar<L>, L: Ledger>(
     survey: &Survey,
     places: &Places,
     values: &[Valued<P>],
-    zero: &P,
+    start: &SumStart<'_, P>,
     made: &mut [Valued<P>],
     steps: &mut Steps<L>,
 )
-    requires ready { IsReady parent.now child.now (scheme_of scheme) (rows_of P.numbers values.now) survey.now.named.items places.now.hidden.items places.now.of_faces.items (rows_of P.numbers made.old) }
+    requires ready { IsReady start.now.width parent.now child.now (scheme_of scheme) (rows_of P.numbers values.now) survey.now.named.items
+        places.now.hidden.items places.now.of_faces.items (rows_of P.numbers made.old) }
     requires masks { AreKeptFor parent.now (scheme_of scheme) child.now.origins survey.now.masks }
     requires faces { AreFacesMade parent.now.level (rows_of P.numbers values.now) (all_origins child.now.origins places.now.hidden.items)
         (length (all_origins child.now.origins places.now.hidden.items)) (rows_of P.numbers made.old) }
-    requires alike { length (P.numbers zero.now) ≡ length (row_at (rows_of P.numbers values.now) 0).numbers }
+    requires alike { length (P.numbers start.now.zero.now) ≡ length (row_at (rows_of P.numbers values.now) 0).numbers }
     ensures dens { KeepDens (rows_of P.numbers made.old) (rows_of P.numbers made.new) }
     ensures faces { AreFacesMade parent.now.level (rows_of P.numbers values.now) (all_origins child.now.origins places.now.hidden.items)
         (length (all_origins child.now.origins places.now.hidden.items)) (rows_of P.numbers made.new) }
@@ -83,6 +86,7 @@ pub(crate) fn put_points<P: Primvar<L>, L: Ledger>(
 {
     parent.facts();
     child.facts();
+    let mut made_mask = MadeMask::new();
     for p in 0..child.level().points() {
         put_point(
             parent,
@@ -90,9 +94,10 @@ pub(crate) fn put_points<P: Primvar<L>, L: Ledger>(
             p,
             scheme,
             survey,
+            &mut made_mask,
             &places.of_faces,
             values,
-            zero,
+            start,
             made,
             steps,
         );

@@ -8,6 +8,7 @@ ghost use Rattle.primvar_refine.specs.Made.{IsPut, IsMade, CanMake};
 
 use crate::Valued;
 use crate::mask_values::face_value;
+use crate::sums::SumStart;
 use level_topology::Level;
 use ratio128::{Primvar, Steps};
 use std::sync::ledger::Ledger;
@@ -35,19 +36,19 @@ pub(crate) fn put_face<P: Primvar<L>, L: Ledger>(
     f: u32,
     p: usize,
     values: &[Valued<P>],
-    zero: &P,
+    start: &SumStart<'_, P>,
     made: &mut [Valued<P>],
     steps: &mut Steps<L>,
 )
     requires known { f < length parent.now.level.polygons }
     requires inside { p < length made.old }
-    requires can { CanMake parent.now.level (rows_of P.numbers values.now) [] [] (face_mask parent.now.level f) (row_at (rows_of P.numbers made.old) p).den }
-    requires alike { length (P.numbers zero.now) ≡ length (row_at (rows_of P.numbers values.now) 0).numbers }
+    requires can { CanMake start.now.width parent.now.level (rows_of P.numbers values.now) [] [] (face_mask parent.now.level f) (row_at (rows_of P.numbers made.old) p).den }
+    requires alike { length (P.numbers start.now.zero.now) ≡ length (row_at (rows_of P.numbers values.now) 0).numbers }
     ensures put { IsPut (rows_of P.numbers made.old) p (rows_of P.numbers made.new) }
     ensures made { IsMade parent.now.level (rows_of P.numbers values.now) (face_mask parent.now.level f) (row_at (rows_of P.numbers made.new) p) }
     ensures steps { steps.new ≡ steps.old + length (face_mask parent.now.level f).terms }
 {
     let den = den_at(made, p);
-    let value = face_value(parent, f, den, values, zero, steps);
+    let value = face_value(parent, f, den, values, start, steps);
     put_value(made, p, value);
 }

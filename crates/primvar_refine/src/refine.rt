@@ -8,8 +8,9 @@ ghost use Rattle.child_masks.specs.Masks.{CanRefine, step_terms};
 ghost use Rattle.primvar_refine.specs.Step.{AreRefined, IsValueFault};
 
 use crate::Valued;
-use crate::bound::{greatest_of, least_bound};
+use crate::bound::{greatest_of, least_bound, sum_width};
 use crate::fault::ValueFault;
+use crate::sums::SumStart;
 use crate::survey::survey_step;
 use crate::values::make_values;
 use level_topology::{Child, Level};
@@ -46,6 +47,7 @@ pub fn refine_values<P: Primvar<L>, L: Ledger>(
     ensures steps { steps.new ≤ steps.old + step_terms parent.now.level (scheme_of scheme) child.now.origins }
     ensures later { steps.old ≤ steps.new }
 {
+    parent.facts();
     child.facts();
     let survey = survey_step(alloc, parent, child, values, scheme)?;
     let greatest = greatest_of(&survey.dens);
@@ -53,6 +55,18 @@ pub fn refine_values<P: Primvar<L>, L: Ledger>(
     if times_within(greatest.den, bound, NUMBER_BOUND).is_none() {
         return Err(ValueFault::TooBig(greatest.place));
     }
-    let refined = make_values(alloc, parent, child, values, scheme, &survey, steps)?;
-    Ok(refined)
+    let width = sum_width(greatest.den, bound);
+    match values {
+        [] => Ok(Vec::new(alloc)),
+        [first, ..] => {
+            let start = SumStart {
+                zero: &first.value,
+                width,
+            };
+            let refined = make_values(
+                alloc, parent, child, values, &start, scheme, &survey, steps,
+            )?;
+            Ok(refined)
+        }
+    }
 }

@@ -4,16 +4,25 @@ ghost use Rattle.std.specs.Prelude.{◌≡◌, ◌+◌, ◌*◌, ◌/◌, ◌<�
 ghost use Rattle.std.specs.List.{All};
 ghost use Rattle.subdiv_model.specs.Mask.{weigh_points};
 ghost use Rattle.subdiv_model.specs.Channel.{number_bound};
-ghost use Rattle.ratio128.specs.Numbers.{plus_times, CanAdd, zeros};
+ghost use Rattle.ratio128.specs.Numbers.{plus_times, greatest_amount, zeros};
 ghost use Rattle.mask_rules.specs.View.{source_of, terms_of};
 ghost use Rattle.primvar_refine.specs.Rows.{least_bound};
 ghost use Rattle.primvar_refine.specs.View.{row_of, rows_of};
+ghost use Rattle.primvar_refine.specs.Width.{sum_bound};
 ghost use Rattle.primvar_refine.specs.Sums.{source_row, HasRow, CanSum, term_sums};
 
 use crate::Valued;
 use mask_rules::{At, Term};
+use number_width::Width;
 use ratio128::{Primvar, Steps, quotient};
 use std::sync::ledger::Ledger;
+
+/// What each sum of a level starts from, the zeros of a list, and how many bits its numbers have.
+#[derive(Drop)]
+pub(crate) struct SumStart<'a, P> {
+    pub(crate) zero: &'a P,
+    pub(crate) width: Width,
+}
 
 // A weight over a multiple of a denominator. Where both are one number nothing is divided.
 fn weight_over(weight: u128, multiple: u128, den: u128) -> u128
@@ -27,9 +36,10 @@ fn weight_over(weight: u128, multiple: u128, den: u128) -> u128
     weight * quotient(multiple, den)
 }
 
-// Adds a value by a weight, with numbers over a multiple of its denominator.
+// Adds a value by a weight, with numbers over a multiple of its denominator, in a sum of a width.
 fn add_over<P: Primvar<L>, L: Ledger>(
     sum: &mut P,
+    width: Width,
     weight: u128,
     multiple: u128,
     source: &Valued<P>,
@@ -37,13 +47,17 @@ fn add_over<P: Primvar<L>, L: Ledger>(
 )
     requires positive { 0 < source.now.den }
     requires same_length { length (P.numbers sum.old) ≡ length (P.numbers source.now.value) }
-    requires small { weight * (multiple / source.now.den) ≤ number_bound }
-    requires fits { CanAdd (pos (weight * (multiple / source.now.den))) (P.numbers sum.old) (P.numbers source.now.value) }
+    requires some { 0 < weight * (multiple / source.now.den) }
+    requires small { weight * (multiple / source.now.den) ≤ sum_bound width }
+    requires fits { greatest_amount (P.numbers sum.old) + weight * (multiple / source.now.den) * greatest_amount (P.numbers source.now.value) ≤ sum_bound width }
     ensures added { P.numbers sum.new ≡ plus_times (pos (weight * (multiple / source.now.den))) (P.numbers sum.old) (P.numbers source.now.value) }
     ensures step { steps.new ≡ steps.old + 1 }
 {
     let factor = weight_over(weight, multiple, source.den);
-    sum.add_with_weight(factor as i128, &source.value, steps);
+    match width {
+        Width::Narrow => sum.add_narrow(factor as u64, &source.value, steps),
+        Width::Wide => sum.add_with_weight(factor as i128, &source.value, steps),
+    }
 }
 
 // The value of a source: a point's own, or that at the place of a face.
@@ -69,20 +83,22 @@ pub(crate) fn sum_of_terms<P: Primvar<L>, L: Ledger>(
     values: &[Valued<P>],
     made: &[Valued<P>],
     places: &[u32],
-    zero: &P,
+    start: &SumStart<'_, P>,
     steps: &mut Steps<L>,
 ) -> P
     requires there { All (λ t. HasRow (rows_of P.numbers values.now) (rows_of P.numbers made.now) places.now (source_of t.at)) terms.now }
-    requires can { CanSum multiple (least_bound (rows_of P.numbers values.now)) (length (P.numbers zero.now))
+    requires can { CanSum start.now.width multiple (least_bound (rows_of P.numbers values.now)) (length (P.numbers start.now.zero.now))
         (source_row (rows_of P.numbers values.now) (rows_of P.numbers made.now) places.now) (terms_of terms.now) }
     ensures sum { P.numbers result ≡ term_sums multiple (source_row (rows_of P.numbers values.now) (rows_of P.numbers made.now) places.now)
-        (zeros (P.numbers zero.now)) (terms_of terms.now) }
+        (zeros (P.numbers start.now.zero.now)) (terms_of terms.now) }
     ensures steps { steps.new ≡ steps.old + length terms.now }
 {
-    let mut sum = zero.cleared();
+    let width = start.width;
+    let mut sum = start.zero.cleared();
     for term in terms {
         add_over(
             &mut sum,
+            width,
             term.weight,
             multiple,
             source(term.at, values, made, places),
@@ -97,19 +113,20 @@ pub(crate) fn sum_of_corners<P: Primvar<L>, L: Ledger>(
     corners: &[u32],
     multiple: u128,
     values: &[Valued<P>],
-    zero: &P,
+    start: &SumStart<'_, P>,
     steps: &mut Steps<L>,
 ) -> P
     requires there { All (λ v. v < length values.now) corners.now }
-    requires can { CanSum multiple (least_bound (rows_of P.numbers values.now)) (length (P.numbers zero.now))
+    requires can { CanSum start.now.width multiple (least_bound (rows_of P.numbers values.now)) (length (P.numbers start.now.zero.now))
         (source_row (rows_of P.numbers values.now) [] []) (weigh_points 1 corners.now) }
     ensures sum { P.numbers result ≡ term_sums multiple (source_row (rows_of P.numbers values.now) [] [])
-        (zeros (P.numbers zero.now)) (weigh_points 1 corners.now) }
+        (zeros (P.numbers start.now.zero.now)) (weigh_points 1 corners.now) }
     ensures steps { steps.new ≡ steps.old + length corners.now }
 {
-    let mut sum = zero.cleared();
+    let width = start.width;
+    let mut sum = start.zero.cleared();
     for v in corners {
-        add_over(&mut sum, 1, multiple, &values[*v as usize], steps);
+        add_over(&mut sum, width, 1, multiple, &values[*v as usize], steps);
     }
     sum
 }

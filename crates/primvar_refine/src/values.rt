@@ -2,10 +2,11 @@
 
 ghost use Rattle.std.specs.Prelude.{◌≡◌, ◌+◌, ◌*◌, ◌<◌, ◌≤◌, ◌++◌, ◌∷◌, [], length, map, get_or, IfOk, OnOk};
 ghost use Rattle.std.specs.List.{All};
-ghost use Rattle.subdiv_model.specs.Channel.{number_bound};
+ghost use Rattle.std.specs.Vec.{vec_capacity};
 ghost use Rattle.mask_rules.specs.View.{scheme_of};
-ghost use Rattle.primvar_refine.specs.Rows.{dens_of, row_at, AreGood, least_bound, greatest_of};
+ghost use Rattle.primvar_refine.specs.Rows.{dens_of, row_at, AreGood};
 ghost use Rattle.primvar_refine.specs.View.{rows_of};
+ghost use Rattle.primvar_refine.specs.Width.{HasSums};
 ghost use Rattle.child_masks.specs.Masks.{CanRefine, step_terms};
 ghost use Rattle.primvar_refine.specs.Step.{AreRefined};
 ghost use Rattle.child_masks.specs.Survey.{IsSurvey};
@@ -17,6 +18,7 @@ use crate::Valued;
 use crate::face_puts::{put_faces, put_hidden};
 use crate::places::{Places, find_places};
 use crate::point_puts::put_points;
+use crate::sums::SumStart;
 use child_masks::Survey;
 use level_topology::{Child, Level};
 use mask_rules::Scheme;
@@ -24,49 +26,51 @@ use ratio128::{Memory, Primvar, Steps};
 use std::alloc::Global;
 use std::sync::ledger::Ledger;
 
-// A zero over a denominator more.
-fn push_zero<P: Primvar<L>, L: Ledger>(
-    made: &mut Vec<Valued<P>>,
-    zero: &P,
-    den: u128,
-) -> Result<(), Memory>
-    ensures { OnOk result (dens_of (rows_of P.numbers made.new.items) ≡ dens_of (rows_of P.numbers made.old.items) ++ den ∷ []) }
+// A zero over a denominator more, for which there is room.
+fn push_zero<P: Primvar<L>, L: Ledger>(made: &mut Vec<Valued<P>>, zero: &P, den: u128)
+    requires { length made.old.items < vec_capacity made.old }
+    ensures dens { dens_of (rows_of P.numbers made.new.items) ≡ dens_of (rows_of P.numbers made.old.items) ++ den ∷ [] }
+    ensures count { length made.new.items ≡ length made.old.items + 1 }
+    ensures room { vec_capacity made.new ≡ vec_capacity made.old }
 {
-    made.push(Valued {
+    made.push_reserved(Valued {
         value: zero.cleared(),
         den,
-    })?;
-    Ok(())
+    });
 }
 
-// A zero over its denominator for each hidden face more.
+// A zero over its denominator for each hidden face more, for which there is room.
 fn push_hidden<P: Primvar<L>, L: Ledger>(
     made: &mut Vec<Valued<P>>,
     zero: &P,
     dens: &[u128],
     hidden: &[u32],
-) -> Result<(), Memory>
-    requires { All (λ f. f < length dens.now) hidden.now }
-    ensures { OnOk result (dens_of (rows_of P.numbers made.new.items) ≡ dens_of (rows_of P.numbers made.old.items) ++ map (λ f. get_or dens.now f 0) hidden.now) }
+)
+    requires known { All (λ f. f < length dens.now) hidden.now }
+    requires room { length made.old.items + length hidden.now ≤ vec_capacity made.old }
+    ensures { dens_of (rows_of P.numbers made.new.items) ≡ dens_of (rows_of P.numbers made.old.items) ++ map (λ f. get_or dens.now f 0) hidden.now }
 {
     for f in hidden {
-        push_zero(made, zero, dens[*f as usize])?;
+        push_zero(made, zero, dens[*f as usize]);
     }
-    Ok(())
 }
 
-// A zero over its denominator for each child point.
+// A zero over its denominator for each child point, and then for each hidden face.
 fn zeros<P: Primvar<L>, L: Ledger>(
     alloc: Global,
     zero: &P,
     dens: &[u128],
+    of_faces: &[u128],
+    hidden: &[u32],
 ) -> Result<Vec<Valued<P>>, Memory>
-    ensures { IfOk result (λ made. dens_of (rows_of P.numbers made.items) ≡ dens.now) }
+    requires { All (λ f. f < length of_faces.now) hidden.now }
+    ensures { IfOk result (λ made. dens_of (rows_of P.numbers made.items) ≡ dens.now ++ map (λ f. get_or of_faces.now f 0) hidden.now) }
 {
-    let mut made = Vec::with_capacity(alloc, dens.len())?;
+    let mut made = Vec::with_capacity(alloc, dens.len() + hidden.len())?;
     for den in dens {
-        push_zero(&mut made, zero, *den)?;
+        push_zero(&mut made, zero, *den);
     }
+    push_hidden(&mut made, zero, of_faces, hidden);
     Ok(made)
 }
 
@@ -78,13 +82,14 @@ fn put_all<P: Primvar<L>, L: Ledger>(
     survey: &Survey,
     places: &Places,
     values: &[Valued<P>],
-    zero: &P,
+    start: &SumStart<'_, P>,
     made: &mut [Valued<P>],
     steps: &mut Steps<L>,
 )
-    requires ready { IsReady parent.now child.now (scheme_of scheme) (rows_of P.numbers values.now) survey.now.named.items places.now.hidden.items places.now.of_faces.items (rows_of P.numbers made.old) }
+    requires ready { IsReady start.now.width parent.now child.now (scheme_of scheme) (rows_of P.numbers values.now) survey.now.named.items
+        places.now.hidden.items places.now.of_faces.items (rows_of P.numbers made.old) }
     requires masks { AreKeptFor parent.now (scheme_of scheme) child.now.origins survey.now.masks }
-    requires alike { length (P.numbers zero.now) ≡ length (row_at (rows_of P.numbers values.now) 0).numbers }
+    requires alike { length (P.numbers start.now.zero.now) ≡ length (row_at (rows_of P.numbers values.now) 0).numbers }
     ensures dens { KeepDens (rows_of P.numbers made.old) (rows_of P.numbers made.new) }
     ensures made { AreAllMade parent.now child.now (scheme_of scheme) (rows_of P.numbers values.now) places.now.hidden.items (rows_of P.numbers made.new) }
     ensures steps { steps.new ≡ steps.old + all_terms parent.now child.now (scheme_of scheme) places.now.hidden.items }
@@ -92,20 +97,22 @@ fn put_all<P: Primvar<L>, L: Ledger>(
     parent.facts();
     child.facts();
     let first = child.level().points() as usize;
-    put_faces(parent, child, values, zero, made, steps);
-    put_hidden(parent, &places.hidden, first, values, zero, made, steps);
+    put_faces(parent, child, values, start, made, steps);
+    put_hidden(parent, &places.hidden, first, values, start, made, steps);
     put_points(
-        parent, child, scheme, survey, places, values, zero, made, steps,
+        parent, child, scheme, survey, places, values, start, made, steps,
     );
 }
 
-// The values of a level with points: `zero` has as many numbers as they have.
-fn make_all<P: Primvar<L>, L: Ledger>(
+/// The values of the points of a child, of which the survey found that they can be made. The zero has as many numbers as each
+/// value. It is one step for each mask term, and for each corner of a face whose new point is used although no child point
+/// comes from it. It answers `Memory` where memory runs out.
+pub(crate) fn make_values<P: Primvar<L>, L: Ledger>(
     alloc: Global,
     parent: &Level,
     child: &Child,
     values: &[Valued<P>],
-    zero: &P,
+    start: &SumStart<'_, P>,
     scheme: Scheme,
     survey: &Survey,
     steps: &mut Steps<L>,
@@ -113,9 +120,9 @@ fn make_all<P: Primvar<L>, L: Ledger>(
     requires child { CanRefine parent.now child.now (scheme_of scheme) }
     requires each { length values.now ≡ parent.now.level.point_count }
     requires good { AreGood (rows_of P.numbers values.now) }
-    requires alike { length (P.numbers zero.now) ≡ length (row_at (rows_of P.numbers values.now) 0).numbers }
+    requires alike { length (P.numbers start.now.zero.now) ≡ length (row_at (rows_of P.numbers values.now) 0).numbers }
     requires survey { IsSurvey parent.now (scheme_of scheme) child.now.origins (dens_of (rows_of P.numbers values.now)) survey.now }
-    requires kept { greatest_of survey.now.dens.items * least_bound (rows_of P.numbers values.now) ≤ number_bound }
+    requires sums { HasSums start.now.width survey.now.dens.items (rows_of P.numbers values.now) }
     ensures refined { IfOk result (λ refined. AreRefined parent.now.level (scheme_of scheme) child.now.origins (rows_of P.numbers values.now) (rows_of P.numbers refined.items)) }
     ensures taken { OnOk result (steps.new ≡ steps.old + step_terms parent.now.level (scheme_of scheme) child.now.origins) }
     ensures steps { steps.new ≤ steps.old + step_terms parent.now.level (scheme_of scheme) child.now.origins }
@@ -124,50 +131,16 @@ fn make_all<P: Primvar<L>, L: Ledger>(
     parent.facts();
     child.facts();
     let places = find_places(alloc, child, survey)?;
-    let mut made = zeros(alloc, zero, &survey.dens)?;
-    push_hidden(&mut made, zero, &survey.faces, &places.hidden)?;
+    let mut made = zeros(
+        alloc,
+        start.zero,
+        &survey.dens,
+        &survey.faces,
+        &places.hidden,
+    )?;
     put_all(
-        parent, child, scheme, survey, &places, values, zero, &mut made, steps,
+        parent, child, scheme, survey, &places, values, start, &mut made, steps,
     );
     made.truncate(survey.dens.len());
     Ok(made)
-}
-
-/// The values of the points of a child, of which the survey found that they can be made. It is one step for each mask term,
-/// and for each corner of a face whose new point is used although no child point comes from it. It answers `Memory` where
-/// memory runs out.
-pub(crate) fn make_values<P: Primvar<L>, L: Ledger>(
-    alloc: Global,
-    parent: &Level,
-    child: &Child,
-    values: &[Valued<P>],
-    scheme: Scheme,
-    survey: &Survey,
-    steps: &mut Steps<L>,
-) -> Result<Vec<Valued<P>>, Memory>
-    requires child { CanRefine parent.now child.now (scheme_of scheme) }
-    requires each { length values.now ≡ parent.now.level.point_count }
-    requires good { AreGood (rows_of P.numbers values.now) }
-    requires survey { IsSurvey parent.now (scheme_of scheme) child.now.origins (dens_of (rows_of P.numbers values.now)) survey.now }
-    requires kept { greatest_of survey.now.dens.items * least_bound (rows_of P.numbers values.now) ≤ number_bound }
-    ensures refined { IfOk result (λ refined. AreRefined parent.now.level (scheme_of scheme) child.now.origins (rows_of P.numbers values.now) (rows_of P.numbers refined.items)) }
-    ensures taken { OnOk result (steps.new ≡ steps.old + step_terms parent.now.level (scheme_of scheme) child.now.origins) }
-    ensures steps { steps.new ≤ steps.old + step_terms parent.now.level (scheme_of scheme) child.now.origins }
-    ensures later { steps.old ≤ steps.new }
-{
-    parent.facts();
-    child.facts();
-    match values {
-        [] => Ok(Vec::new(alloc)),
-        [first, ..] => make_all(
-            alloc,
-            parent,
-            child,
-            values,
-            &first.value,
-            scheme,
-            survey,
-            steps,
-        ),
-    }
 }

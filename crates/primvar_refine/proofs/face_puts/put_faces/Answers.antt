@@ -45,7 +45,7 @@ pub put_face-requires-clause-can : goal.put_face-requires-clause-can
 put_face-requires-clause-can g c =
     let inside : c.loop-p.p < length c.args.child.now.origins =
     omega (arith, c.loop-p-test.true, c.points-p-end.ensures, c.facts.ensures.is.each_point, ap (λ t. t.level.point_count) c.level.ensures) in
-    subst (CanMake c.args.parent.now.level (rows_of g.P.Primvar.numbers c.args.values.now) [] [] (face_mask c.args.parent.now.level c.in-Face.f)) (sym (c.loop-p.invariant.dens.dens c.loop-p.p))
+    subst (CanMake c.args.start.now.width c.args.parent.now.level (rows_of g.P.Primvar.numbers c.args.values.now) [] [] (face_mask c.args.parent.now.level c.in-Face.f)) (sym (c.loop-p.invariant.dens.dens c.loop-p.p))
     (c.requires.can c.loop-p.p c.in-Face.f inside (sym c.in-Face.ensures))
 
 pub put_face-requires-clause-alike : goal.put_face-requires-clause-alike

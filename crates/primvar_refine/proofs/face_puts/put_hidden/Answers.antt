@@ -23,7 +23,7 @@ put_face-requires-clause-inside g c =
 
 pub put_face-requires-clause-can : goal.put_face-requires-clause-can
 put_face-requires-clause-can g c =
-    subst (CanMake c.args.parent.now.level (rows_of g.P.Primvar.numbers c.args.values.now) [] [] (face_mask c.args.parent.now.level (get_or c.args.hidden.now c.loop-i.i 0)))
+    subst (CanMake c.args.start.now.width c.args.parent.now.level (rows_of g.P.Primvar.numbers c.args.values.now) [] [] (face_mask c.args.parent.now.level (get_or c.args.hidden.now c.loop-i.i 0)))
     (sym (c.loop-i.invariant.dens.dens (c.args.first + c.loop-i.i))) (c.requires.can c.loop-i.i c.loop-i-test.true)
 
 pub put_face-requires-clause-alike : goal.put_face-requires-clause-alike

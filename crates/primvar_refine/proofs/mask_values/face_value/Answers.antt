@@ -12,29 +12,29 @@ use Rattle.primvar_refine.proofs.mask_values.face_value.Goals as goal
 pub sum_of_corners-requires-clause-there : goal.sum_of_corners-requires-clause-there
 sum_of_corners-requires-clause-there g c =
     corners-there c.args.values.now (rows_of g.P.Primvar.numbers c.args.values.now) c.face_vertices-corners.result.now (length-map c.args.values.now (row_of g.P.Primvar.numbers))
-    (given-there c.args.parent.now.level (rows_of g.P.Primvar.numbers c.args.values.now) [] []
+    (given-there c.args.start.now.width c.args.parent.now.level (rows_of g.P.Primvar.numbers c.args.values.now) [] []
     (corners_over (polygon_at c.args.parent.now.level.polygons c.args.f) c.face_mask-mask.result.size) _ c.args.den c.face_mask-mask.ensures.mask (joined-corners (polygon_at c.args.parent.now.level.polygons c.args.f)) c.requires.can
     (weigh_points 1 c.face_vertices-corners.result.now) (ap (weigh_points 1) c.face_vertices-corners.ensures) c.size.result c.quotient-multiple.result c.size.ensures c.quotient-multiple.ensures
-    (g.P.Primvar.numbers c.args.zero.now) c.requires.alike)
+    (g.P.Primvar.numbers c.args.start.now.zero.now) c.requires.alike)
 
 pub sum_of_corners-requires-clause-can : goal.sum_of_corners-requires-clause-can
 sum_of_corners-requires-clause-can g c =
-    given-can c.args.parent.now.level (rows_of g.P.Primvar.numbers c.args.values.now) [] []
+    given-can c.args.start.now.width c.args.parent.now.level (rows_of g.P.Primvar.numbers c.args.values.now) [] []
     (corners_over (polygon_at c.args.parent.now.level.polygons c.args.f) c.face_mask-mask.result.size) _ c.args.den c.face_mask-mask.ensures.mask (joined-corners (polygon_at c.args.parent.now.level.polygons c.args.f)) c.requires.can
     (weigh_points 1 c.face_vertices-corners.result.now) (ap (weigh_points 1) c.face_vertices-corners.ensures) c.size.result c.quotient-multiple.result c.size.ensures c.quotient-multiple.ensures
-    (g.P.Primvar.numbers c.args.zero.now) c.requires.alike
+    (g.P.Primvar.numbers c.args.start.now.zero.now) c.requires.alike
 
 pub returns-clause-made : goal.returns-clause-made
 returns-clause-made g c =
-    given-made c.args.parent.now.level (rows_of g.P.Primvar.numbers c.args.values.now) [] []
+    given-made c.args.start.now.width c.args.parent.now.level (rows_of g.P.Primvar.numbers c.args.values.now) [] []
     (corners_over (polygon_at c.args.parent.now.level.polygons c.args.f) c.face_mask-mask.result.size) _ c.args.den c.face_mask-mask.ensures.mask (joined-corners (polygon_at c.args.parent.now.level.polygons c.args.f)) c.requires.can
     (weigh_points 1 c.face_vertices-corners.result.now) (ap (weigh_points 1) c.face_vertices-corners.ensures) c.size.result c.quotient-multiple.result c.size.ensures c.quotient-multiple.ensures
-    (g.P.Primvar.numbers c.args.zero.now) c.requires.alike _ c.sum_of_corners.ensures.sum
+    (g.P.Primvar.numbers c.args.start.now.zero.now) c.requires.alike _ c.sum_of_corners.ensures.sum
 
 pub returns-clause-steps : goal.returns-clause-steps
 returns-clause-steps g c =
     count-corners c.face_vertices-corners.result.now _ c.args.steps.now c.sum_of_corners.new.steps
-    (given-count c.args.parent.now.level (rows_of g.P.Primvar.numbers c.args.values.now) [] []
+    (given-count c.args.start.now.width c.args.parent.now.level (rows_of g.P.Primvar.numbers c.args.values.now) [] []
     (corners_over (polygon_at c.args.parent.now.level.polygons c.args.f) c.face_mask-mask.result.size) _ c.args.den c.face_mask-mask.ensures.mask (joined-corners (polygon_at c.args.parent.now.level.polygons c.args.f)) c.requires.can
     (weigh_points 1 c.face_vertices-corners.result.now) (ap (weigh_points 1) c.face_vertices-corners.ensures) c.size.result c.quotient-multiple.result c.size.ensures c.quotient-multiple.ensures
-    (g.P.Primvar.numbers c.args.zero.now) c.requires.alike) c.sum_of_corners.ensures.steps
+    (g.P.Primvar.numbers c.args.start.now.zero.now) c.requires.alike) c.sum_of_corners.ensures.steps

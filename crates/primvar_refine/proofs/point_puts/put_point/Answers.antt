@@ -18,11 +18,11 @@ sum_of_terms-value-requires-clause-there g c =
     let rows = rows_of g.P.Primvar.numbers c.args.values.now in
     let made = rows_of g.P.Primvar.numbers c.args.made.now in
     let places = c.args.places.now in
-    let can = subst (CanMake level rows made places (mask_from level scheme origin)) (sym c.den_at-den.ensures) c.requires.can in
-    rows-there rows made places c.terms.result.now
-    (given-there level rows made places (seen_terms c.in-Terms.mask) (mask_from level scheme origin) c.den_at-den.result c.in-Terms.ensures.1 (joined-from level scheme origin) can
-    (terms_of c.terms.result.now) c.terms.ensures c.denominator.result c.quotient-multiple.result c.denominator.ensures c.quotient-multiple.ensures
-    (g.P.Primvar.numbers c.args.zero.now) c.requires.alike)
+    let can = subst (CanMake c.args.start.now.width level rows made places (mask_from level scheme origin)) (sym c.den_at-den.ensures) c.requires.can in
+    rows-there rows made places c.terms-terms.result.now
+    (given-there c.args.start.now.width level rows made places (seen_terms c.mask.new.made c.in-Terms.mask) (mask_from level scheme origin) c.den_at-den.result c.in-Terms.ensures.1 (joined-from level scheme origin) can
+    (terms_of c.terms-terms.result.now) c.terms-terms.ensures c.denominator.result c.quotient-multiple.result c.denominator.ensures c.quotient-multiple.ensures
+    (g.P.Primvar.numbers c.args.start.now.zero.now) c.requires.alike)
 
 pub sum_of_terms-value-requires-clause-can : goal.sum_of_terms-value-requires-clause-can
 sum_of_terms-value-requires-clause-can g c =
@@ -32,10 +32,10 @@ sum_of_terms-value-requires-clause-can g c =
     let rows = rows_of g.P.Primvar.numbers c.args.values.now in
     let made = rows_of g.P.Primvar.numbers c.args.made.now in
     let places = c.args.places.now in
-    let can = subst (CanMake level rows made places (mask_from level scheme origin)) (sym c.den_at-den.ensures) c.requires.can in
-    given-can level rows made places (seen_terms c.in-Terms.mask) (mask_from level scheme origin) c.den_at-den.result c.in-Terms.ensures.1 (joined-from level scheme origin) can
-    (terms_of c.terms.result.now) c.terms.ensures c.denominator.result c.quotient-multiple.result c.denominator.ensures c.quotient-multiple.ensures
-    (g.P.Primvar.numbers c.args.zero.now) c.requires.alike
+    let can = subst (CanMake c.args.start.now.width level rows made places (mask_from level scheme origin)) (sym c.den_at-den.ensures) c.requires.can in
+    given-can c.args.start.now.width level rows made places (seen_terms c.mask.new.made c.in-Terms.mask) (mask_from level scheme origin) c.den_at-den.result c.in-Terms.ensures.1 (joined-from level scheme origin) can
+    (terms_of c.terms-terms.result.now) c.terms-terms.ensures c.denominator.result c.quotient-multiple.result c.denominator.ensures c.quotient-multiple.ensures
+    (g.P.Primvar.numbers c.args.start.now.zero.now) c.requires.alike
 
 pub returns-in-Terms-clause-made : goal.returns-in-Terms-clause-made
 returns-in-Terms-clause-made g c other =
@@ -45,12 +45,12 @@ returns-in-Terms-clause-made g c other =
     let rows = rows_of g.P.Primvar.numbers c.args.values.now in
     let made = rows_of g.P.Primvar.numbers c.args.made.now in
     let places = c.args.places.now in
-    let can = subst (CanMake level rows made places (mask_from level scheme origin)) (sym c.den_at-den.ensures) c.requires.can in
+    let can = subst (CanMake c.args.start.now.width level rows made places (mask_from level scheme origin)) (sym c.den_at-den.ensures) c.requires.can in
     subst (IsMade level rows (mask_from level scheme origin))
     (ap (λ n. record { numbers = g.P.Primvar.numbers c.sum_of_terms-value.result; den = n }) c.den_at-den.ensures ∙ sym c.put_value.ensures.there)
-    (given-made level rows made places (seen_terms c.in-Terms.mask) (mask_from level scheme origin) c.den_at-den.result c.in-Terms.ensures.1 (joined-from level scheme origin) can
-    (terms_of c.terms.result.now) c.terms.ensures c.denominator.result c.quotient-multiple.result c.denominator.ensures c.quotient-multiple.ensures
-    (g.P.Primvar.numbers c.args.zero.now) c.requires.alike _ c.sum_of_terms-value.ensures.sum)
+    (given-made c.args.start.now.width level rows made places (seen_terms c.mask.new.made c.in-Terms.mask) (mask_from level scheme origin) c.den_at-den.result c.in-Terms.ensures.1 (joined-from level scheme origin) can
+    (terms_of c.terms-terms.result.now) c.terms-terms.ensures c.denominator.result c.quotient-multiple.result c.denominator.ensures c.quotient-multiple.ensures
+    (g.P.Primvar.numbers c.args.start.now.zero.now) c.requires.alike _ c.sum_of_terms-value.ensures.sum)
 
 pub returns-in-Terms-clause-steps : goal.returns-in-Terms-clause-steps
 returns-in-Terms-clause-steps g c =
@@ -60,9 +60,9 @@ returns-in-Terms-clause-steps g c =
     let rows = rows_of g.P.Primvar.numbers c.args.values.now in
     let made = rows_of g.P.Primvar.numbers c.args.made.now in
     let places = c.args.places.now in
-    let can = subst (CanMake level rows made places (mask_from level scheme origin)) (sym c.den_at-den.ensures) c.requires.can in
-    count-seen c.terms.result.now _ c.args.steps.now c.sum_of_terms-value.new.steps
-    (given-count level rows made places (seen_terms c.in-Terms.mask) (mask_from level scheme origin) c.den_at-den.result c.in-Terms.ensures.1 (joined-from level scheme origin) can
-    (terms_of c.terms.result.now) c.terms.ensures c.denominator.result c.quotient-multiple.result c.denominator.ensures c.quotient-multiple.ensures
-    (g.P.Primvar.numbers c.args.zero.now) c.requires.alike ∙ other-terms level scheme origin c.in-Terms.ensures.0)
+    let can = subst (CanMake c.args.start.now.width level rows made places (mask_from level scheme origin)) (sym c.den_at-den.ensures) c.requires.can in
+    count-seen c.terms-terms.result.now _ c.args.steps.now c.sum_of_terms-value.new.steps
+    (given-count c.args.start.now.width level rows made places (seen_terms c.mask.new.made c.in-Terms.mask) (mask_from level scheme origin) c.den_at-den.result c.in-Terms.ensures.1 (joined-from level scheme origin) can
+    (terms_of c.terms-terms.result.now) c.terms-terms.ensures c.denominator.result c.quotient-multiple.result c.denominator.ensures c.quotient-multiple.ensures
+    (g.P.Primvar.numbers c.args.start.now.zero.now) c.requires.alike ∙ other-terms level scheme origin c.in-Terms.ensures.0)
     c.sum_of_terms-value.ensures.steps

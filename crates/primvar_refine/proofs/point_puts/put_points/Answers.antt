@@ -22,7 +22,7 @@ pub put_point-requires-clause-inside : goal.put_point-requires-clause-inside
 put_point-requires-clause-inside g c =
     let inside : c.loop-p.p < length c.args.child.now.origins =
     omega (arith, c.loop-p-test.true, c.points-p-end.ensures, c.facts-2.ensures.is.each_point, ap (λ t. t.level.point_count) c.level.ensures) in
-    point-inside g.P.Primvar.numbers c.args.parent.now c.args.child.now (scheme_of c.args.scheme) (rows_of g.P.Primvar.numbers c.args.values.now) c.args.survey.now.named.items c.args.places.now.hidden.items
+    point-inside g.P.Primvar.numbers c.args.start.now.width c.args.parent.now c.args.child.now (scheme_of c.args.scheme) (rows_of g.P.Primvar.numbers c.args.values.now) c.args.survey.now.named.items c.args.places.now.hidden.items
     c.args.places.now.of_faces.items c.args.made.now c.loop-p.made c.loop-p.p c.requires.ready c.loop-p.invariant.dens inside
 
 pub put_point-requires-clause-alike : goal.put_point-requires-clause-alike
@@ -41,11 +41,11 @@ put_point-requires-clause-can g c =
     let rows = rows_of g.P.Primvar.numbers c.args.values.now in
     let made = rows_of g.P.Primvar.numbers c.loop-p.made in
     let scheme = scheme_of c.args.scheme in
-    subst (λ places. CanMake c.args.parent.now.level rows made places (mask_from c.args.parent.now.level scheme (origin_at c.args.child.now.origins c.loop-p.p)) (row_at made c.loop-p.p).den)
+    subst (λ places. CanMake c.args.start.now.width c.args.parent.now.level rows made places (mask_from c.args.parent.now.level scheme (origin_at c.args.child.now.origins c.loop-p.p)) (row_at made c.loop-p.p).den)
     (sym c.deref.ensures.value)
-    (all-can c.args.parent.now c.args.child.now scheme rows c.args.survey.now.named.items c.args.places.now.hidden.items c.args.places.now.of_faces.items c.facts.ensures
+    (all-can c.args.start.now.width c.args.parent.now c.args.child.now scheme rows c.args.survey.now.named.items c.args.places.now.hidden.items c.args.places.now.of_faces.items c.facts.ensures
     made
-    (ready-kept c.args.parent.now c.args.child.now scheme rows c.args.survey.now.named.items c.args.places.now.hidden.items c.args.places.now.of_faces.items
+    (ready-kept c.args.start.now.width c.args.parent.now c.args.child.now scheme rows c.args.survey.now.named.items c.args.places.now.hidden.items c.args.places.now.of_faces.items
     (rows_of g.P.Primvar.numbers c.args.made.now) made c.requires.ready c.loop-p.invariant.dens)
     c.loop-p.invariant.faces c.loop-p.p inside
     (origin-within c.args.parent.now c.args.child.now scheme c.facts-2.ensures c.requires.ready.can c.loop-p.p inside))

@@ -13,8 +13,8 @@ use Rattle.primvar_refine.proofs.sums.sum_of_corners.Goals as goal
 pub loop-v-init : goal.loop-v-init
 loop-v-init g c = record {
   so_far = subst (IsSumSoFar _ _ _ _ _ 0) (sym c.cleared-sum.ensures)
-      (sum-begins c.args.multiple (least_bound (rows_of g.P.Primvar.numbers c.args.values.now)) (length (g.P.Primvar.numbers c.args.zero.now)) _ (zeros (g.P.Primvar.numbers c.args.zero.now))
-      (length-zeros (g.P.Primvar.numbers c.args.zero.now)) (weigh_points 1 c.args.corners.now) c.requires.can (IsWithin-zeros 0 (g.P.Primvar.numbers c.args.zero.now)));
+      (sum-begins c.args.start.now.width c.args.multiple (least_bound (rows_of g.P.Primvar.numbers c.args.values.now)) (length (g.P.Primvar.numbers c.args.start.now.zero.now)) _ (zeros (g.P.Primvar.numbers c.args.start.now.zero.now))
+      (length-zeros (g.P.Primvar.numbers c.args.start.now.zero.now)) (weigh_points 1 c.args.corners.now) c.requires.can (IsWithin-zeros 0 (g.P.Primvar.numbers c.args.start.now.zero.now)));
   taken = omega arith;
 }
 
@@ -32,11 +32,11 @@ row-there g c =
     ap (row_of g.P.Primvar.numbers) c.index-values-v.is
     ∙ sym (get_or-map (row_of g.P.Primvar.numbers) c.args.values.now (get_or c.args.corners.now c.loop-v.v-index 0) c.index-values-v.result blank (c.requires.there c.loop-v.v-index 0 c.loop-v-test.true))
 
-next : (g : given.Over) (c : goal.After-add_over-arg-1 g) → CanTake c.args.multiple (g.P.Primvar.numbers c.loop-v.sum) 1 (row_of g.P.Primvar.numbers c.index-values-v.result)
+next : (g : given.Over) (c : goal.After-add_over-arg-1 g) → CanTake c.args.start.now.width c.args.multiple (g.P.Primvar.numbers c.loop-v.sum) 1 (row_of g.P.Primvar.numbers c.index-values-v.result)
 next g c =
     let same = seen c.args.corners.now c.loop-v.v-index c.loop-v-test.true in
-    can-take c.args.multiple (least_bound (rows_of g.P.Primvar.numbers c.args.values.now)) (length (g.P.Primvar.numbers c.args.zero.now)) _ (zeros (g.P.Primvar.numbers c.args.zero.now))
-    (length-zeros (g.P.Primvar.numbers c.args.zero.now)) (weigh_points 1 c.args.corners.now) c.requires.can
+    can-take c.args.start.now.width c.args.multiple (least_bound (rows_of g.P.Primvar.numbers c.args.values.now)) (length (g.P.Primvar.numbers c.args.start.now.zero.now)) _ (zeros (g.P.Primvar.numbers c.args.start.now.zero.now))
+    (length-zeros (g.P.Primvar.numbers c.args.start.now.zero.now)) (weigh_points 1 c.args.corners.now) c.requires.can
     c.loop-v.v-index (seen-inside c.args.corners.now c.loop-v.v-index c.loop-v-test.true) (g.P.Primvar.numbers c.loop-v.sum) c.loop-v.invariant.so_far
     1 (row_of g.P.Primvar.numbers c.index-values-v.result)
     (ap (λ (t : Term). t.weight) same)
@@ -47,6 +47,9 @@ add_over-requires-clause-positive g c = (next g c).positive
 
 pub add_over-requires-clause-same_length : goal.add_over-requires-clause-same_length
 add_over-requires-clause-same_length g c = (next g c).long
+
+pub add_over-requires-clause-some : goal.add_over-requires-clause-some
+add_over-requires-clause-some g c = (next g c).some
 
 pub add_over-requires-clause-small : goal.add_over-requires-clause-small
 add_over-requires-clause-small g c = (next g c).small
@@ -62,8 +65,8 @@ loop-v-preserved g c =
     ∙ sym (get_or-map (row_of g.P.Primvar.numbers) c.args.values.now (get_or c.args.corners.now c.loop-v.v-index 0) c.index-values-v.result blank (c.requires.there c.loop-v.v-index 0 c.loop-v-test.true)) in
     record {
       so_far = subst (IsSumSoFar _ _ _ _ _ (c.loop-v.v-index + 1)) (sym c.add_over.ensures.added)
-          (sum-goes_on c.args.multiple (least_bound (rows_of g.P.Primvar.numbers c.args.values.now)) (length (g.P.Primvar.numbers c.args.zero.now)) _ (zeros (g.P.Primvar.numbers c.args.zero.now))
-          (length-zeros (g.P.Primvar.numbers c.args.zero.now)) (weigh_points 1 c.args.corners.now) c.requires.can
+          (sum-goes_on c.args.start.now.width c.args.multiple (least_bound (rows_of g.P.Primvar.numbers c.args.values.now)) (length (g.P.Primvar.numbers c.args.start.now.zero.now)) _ (zeros (g.P.Primvar.numbers c.args.start.now.zero.now))
+          (length-zeros (g.P.Primvar.numbers c.args.start.now.zero.now)) (weigh_points 1 c.args.corners.now) c.requires.can
           c.loop-v.v-index (seen-inside c.args.corners.now c.loop-v.v-index c.loop-v-test.true) (g.P.Primvar.numbers c.loop-v.sum) c.loop-v.invariant.so_far
           1 (row_of g.P.Primvar.numbers c.index-values-v.result)
           (ap (λ (t : Term). t.weight) same)
@@ -74,5 +77,5 @@ loop-v-preserved g c =
 pub returns-clause-sum : goal.returns-clause-sum
 returns-clause-sum g c =
     let past : length (weigh_points 1 c.args.corners.now) ≤ c.loop-v.v-index = rw length-map c.loop-v-test.false in
-    sum-ends c.args.multiple (least_bound (rows_of g.P.Primvar.numbers c.args.values.now)) _ (zeros (g.P.Primvar.numbers c.args.zero.now)) (weigh_points 1 c.args.corners.now) c.loop-v.v-index
+    sum-ends c.args.multiple (least_bound (rows_of g.P.Primvar.numbers c.args.values.now)) _ (zeros (g.P.Primvar.numbers c.args.start.now.zero.now)) (weigh_points 1 c.args.corners.now) c.loop-v.v-index
     (g.P.Primvar.numbers c.loop-v.sum) past c.loop-v.invariant.so_far

@@ -11,6 +11,6 @@ use Rattle.primvar_refine.proofs.sums.sum_of_corners.Given as goal
 abbrev pub invariant-loop-v : goal.invariant-loop-v
 invariant-loop-v g l = record {
   so_far : IsSumSoFar l.multiple (least_bound (rows_of g.P.Primvar.numbers l.values)) (source_row (rows_of g.P.Primvar.numbers l.values) [] [])
-      (zeros (g.P.Primvar.numbers l.zero)) (weigh_points 1 l.corners) l.v-index (g.P.Primvar.numbers l.sum);
+      (zeros (g.P.Primvar.numbers l.start.zero.now)) (weigh_points 1 l.corners) l.v-index (g.P.Primvar.numbers l.sum);
   taken : l.steps ≡ l.fn.steps + l.v-index;
 }

@@ -16,8 +16,8 @@ use Rattle.primvar_refine.proofs.sums.sum_of_terms.Goals as goal
 pub loop-term-init : goal.loop-term-init
 loop-term-init g c = record {
   so_far = subst (IsSumSoFar _ _ _ _ _ 0) (sym c.cleared-sum.ensures)
-      (sum-begins c.args.multiple (least_bound (rows_of g.P.Primvar.numbers c.args.values.now)) (length (g.P.Primvar.numbers c.args.zero.now)) _ (zeros (g.P.Primvar.numbers c.args.zero.now))
-      (length-zeros (g.P.Primvar.numbers c.args.zero.now)) (terms_of c.args.terms.now) c.requires.can (IsWithin-zeros 0 (g.P.Primvar.numbers c.args.zero.now)));
+      (sum-begins c.args.start.now.width c.args.multiple (least_bound (rows_of g.P.Primvar.numbers c.args.values.now)) (length (g.P.Primvar.numbers c.args.start.now.zero.now)) _ (zeros (g.P.Primvar.numbers c.args.start.now.zero.now))
+      (length-zeros (g.P.Primvar.numbers c.args.start.now.zero.now)) (terms_of c.args.terms.now) c.requires.can (IsWithin-zeros 0 (g.P.Primvar.numbers c.args.start.now.zero.now)));
   taken = omega arith;
 }
 
@@ -32,11 +32,11 @@ seen-inside : (terms : List Term) (i : ℕ) → i < length terms → i < length 
 seen-inside terms i h = rw length-map h
 
 next : (g : given.Over) (c : goal.After-add_over-arg-1 g)
-    → CanTake c.args.multiple (g.P.Primvar.numbers c.loop-term.sum) (get_or c.args.terms.now c.loop-term.term-index blank).weight (row_of g.P.Primvar.numbers c.source.result.now)
+    → CanTake c.args.start.now.width c.args.multiple (g.P.Primvar.numbers c.loop-term.sum) (get_or c.args.terms.now c.loop-term.term-index blank).weight (row_of g.P.Primvar.numbers c.source.result.now)
 next g c =
     let same = seen c.args.terms.now c.loop-term.term-index c.loop-term-test.true in
-    can-take c.args.multiple (least_bound (rows_of g.P.Primvar.numbers c.args.values.now)) (length (g.P.Primvar.numbers c.args.zero.now)) _ (zeros (g.P.Primvar.numbers c.args.zero.now))
-    (length-zeros (g.P.Primvar.numbers c.args.zero.now)) (terms_of c.args.terms.now) c.requires.can
+    can-take c.args.start.now.width c.args.multiple (least_bound (rows_of g.P.Primvar.numbers c.args.values.now)) (length (g.P.Primvar.numbers c.args.start.now.zero.now)) _ (zeros (g.P.Primvar.numbers c.args.start.now.zero.now))
+    (length-zeros (g.P.Primvar.numbers c.args.start.now.zero.now)) (terms_of c.args.terms.now) c.requires.can
     c.loop-term.term-index (seen-inside c.args.terms.now c.loop-term.term-index c.loop-term-test.true) (g.P.Primvar.numbers c.loop-term.sum) c.loop-term.invariant.so_far
     (get_or c.args.terms.now c.loop-term.term-index blank).weight (row_of g.P.Primvar.numbers c.source.result.now)
     (ap (λ (t : model.Term). t.weight) same)
@@ -47,6 +47,9 @@ add_over-requires-clause-positive g c = (next g c).positive
 
 pub add_over-requires-clause-same_length : goal.add_over-requires-clause-same_length
 add_over-requires-clause-same_length g c = (next g c).long
+
+pub add_over-requires-clause-some : goal.add_over-requires-clause-some
+add_over-requires-clause-some g c = (next g c).some
 
 pub add_over-requires-clause-small : goal.add_over-requires-clause-small
 add_over-requires-clause-small g c = (next g c).small
@@ -59,8 +62,8 @@ loop-term-preserved g c =
     let same = seen c.args.terms.now c.loop-term.term-index c.loop-term-test.true in
     record {
       so_far = subst (IsSumSoFar _ _ _ _ _ (c.loop-term.term-index + 1)) (sym c.add_over.ensures.added)
-          (sum-goes_on c.args.multiple (least_bound (rows_of g.P.Primvar.numbers c.args.values.now)) (length (g.P.Primvar.numbers c.args.zero.now)) _ (zeros (g.P.Primvar.numbers c.args.zero.now))
-          (length-zeros (g.P.Primvar.numbers c.args.zero.now)) (terms_of c.args.terms.now) c.requires.can
+          (sum-goes_on c.args.start.now.width c.args.multiple (least_bound (rows_of g.P.Primvar.numbers c.args.values.now)) (length (g.P.Primvar.numbers c.args.start.now.zero.now)) _ (zeros (g.P.Primvar.numbers c.args.start.now.zero.now))
+          (length-zeros (g.P.Primvar.numbers c.args.start.now.zero.now)) (terms_of c.args.terms.now) c.requires.can
           c.loop-term.term-index (seen-inside c.args.terms.now c.loop-term.term-index c.loop-term-test.true) (g.P.Primvar.numbers c.loop-term.sum) c.loop-term.invariant.so_far
           (get_or c.args.terms.now c.loop-term.term-index blank).weight (row_of g.P.Primvar.numbers c.source.result.now)
           (ap (λ (t : model.Term). t.weight) same)
@@ -71,5 +74,5 @@ loop-term-preserved g c =
 pub returns-clause-sum : goal.returns-clause-sum
 returns-clause-sum g c =
     let past : length (terms_of c.args.terms.now) ≤ c.loop-term.term-index = rw length-map c.loop-term-test.false in
-    sum-ends c.args.multiple (least_bound (rows_of g.P.Primvar.numbers c.args.values.now)) _ (zeros (g.P.Primvar.numbers c.args.zero.now)) (terms_of c.args.terms.now) c.loop-term.term-index
+    sum-ends c.args.multiple (least_bound (rows_of g.P.Primvar.numbers c.args.values.now)) _ (zeros (g.P.Primvar.numbers c.args.start.now.zero.now)) (terms_of c.args.terms.now) c.loop-term.term-index
     (g.P.Primvar.numbers c.loop-term.sum) past c.loop-term.invariant.so_far

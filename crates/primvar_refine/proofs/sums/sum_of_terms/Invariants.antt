@@ -11,6 +11,6 @@ use Rattle.primvar_refine.proofs.sums.sum_of_terms.Given as goal
 abbrev pub invariant-loop-term : goal.invariant-loop-term
 invariant-loop-term g l = record {
   so_far : IsSumSoFar l.multiple (least_bound (rows_of g.P.Primvar.numbers l.values)) (source_row (rows_of g.P.Primvar.numbers l.values) (rows_of g.P.Primvar.numbers l.made) l.places)
-      (zeros (g.P.Primvar.numbers l.zero)) (terms_of l.terms) l.term-index (g.P.Primvar.numbers l.sum);
+      (zeros (g.P.Primvar.numbers l.start.zero.now)) (terms_of l.terms) l.term-index (g.P.Primvar.numbers l.sum);
   taken : l.steps ≡ l.fn.steps + l.term-index;
 }

@@ -9,30 +9,30 @@ use Rattle.primvar_refine.proofs.values.put_all.Goals as goal
 
 pub put_faces-requires-clause-can : goal.put_faces-requires-clause-can
 put_faces-requires-clause-can g c =
-    faces-can c.args.parent.now c.args.child.now (scheme_of c.args.scheme) (rows_of g.P.Primvar.numbers c.args.values.now) c.args.survey.now.named.items
+    faces-can c.args.start.now.width c.args.parent.now c.args.child.now (scheme_of c.args.scheme) (rows_of g.P.Primvar.numbers c.args.values.now) c.args.survey.now.named.items
     c.args.places.now.hidden.items c.args.places.now.of_faces.items (rows_of g.P.Primvar.numbers c.args.made.now) c.facts.ensures c.requires.ready c.facts-2.ensures
 
 pub put_faces-requires-clause-room : goal.put_faces-requires-clause-room
 put_faces-requires-clause-room g c =
     subst (λ n. length c.args.child.now.origins ≤ n) (length-map c.args.made.now (row_of g.P.Primvar.numbers))
-    (room c.args.parent.now c.args.child.now (scheme_of c.args.scheme) (rows_of g.P.Primvar.numbers c.args.values.now) c.args.survey.now.named.items
+    (room c.args.start.now.width c.args.parent.now c.args.child.now (scheme_of c.args.scheme) (rows_of g.P.Primvar.numbers c.args.values.now) c.args.survey.now.named.items
     c.args.places.now.hidden.items c.args.places.now.of_faces.items (rows_of g.P.Primvar.numbers c.args.made.now) c.facts.ensures c.requires.ready)
 
 pub put_hidden-requires-clause-room : goal.put_hidden-requires-clause-room
 put_hidden-requires-clause-room g c =
-    hidden-room g.P.Primvar.numbers c.args.parent.now c.args.child.now (scheme_of c.args.scheme) (rows_of g.P.Primvar.numbers c.args.values.now) c.args.survey.now.named.items
+    hidden-room g.P.Primvar.numbers c.args.start.now.width c.args.parent.now c.args.child.now (scheme_of c.args.scheme) (rows_of g.P.Primvar.numbers c.args.values.now) c.args.survey.now.named.items
     c.args.places.now.hidden.items c.args.places.now.of_faces.items c.args.made.now c.put_faces.new.made c.deref.result.now c.points-first.result c.requires.ready c.put_faces.ensures.dens
     c.deref.ensures.value (c.points-first.ensures ∙ ap (λ t. t.level.point_count) c.level.ensures ∙ sym c.facts-2.ensures.is.each_point)
 
 pub put_hidden-requires-clause-can : goal.put_hidden-requires-clause-can
 put_hidden-requires-clause-can g c =
-    first-hidden-can c.args.parent.now c.args.child.now (scheme_of c.args.scheme) (rows_of g.P.Primvar.numbers c.args.values.now) c.args.survey.now.named.items
+    first-hidden-can c.args.start.now.width c.args.parent.now c.args.child.now (scheme_of c.args.scheme) (rows_of g.P.Primvar.numbers c.args.values.now) c.args.survey.now.named.items
     c.args.places.now.hidden.items c.args.places.now.of_faces.items (rows_of g.P.Primvar.numbers c.args.made.now) (rows_of g.P.Primvar.numbers c.put_faces.new.made) c.facts.ensures c.requires.ready c.put_faces.ensures.dens
     c.deref.result.now c.points-first.result c.deref.ensures.value (c.points-first.ensures ∙ ap (λ t. t.level.point_count) c.level.ensures ∙ sym c.facts-2.ensures.is.each_point)
 
 pub put_points-requires-clause-ready : goal.put_points-requires-clause-ready
 put_points-requires-clause-ready g c =
-    ready-kept c.args.parent.now c.args.child.now (scheme_of c.args.scheme) (rows_of g.P.Primvar.numbers c.args.values.now) c.args.survey.now.named.items
+    ready-kept c.args.start.now.width c.args.parent.now c.args.child.now (scheme_of c.args.scheme) (rows_of g.P.Primvar.numbers c.args.values.now) c.args.survey.now.named.items
     c.args.places.now.hidden.items c.args.places.now.of_faces.items (rows_of g.P.Primvar.numbers c.args.made.now) (rows_of g.P.Primvar.numbers c.put_hidden.new.made) c.requires.ready
     (keeps (rows_of g.P.Primvar.numbers c.args.made.now) (rows_of g.P.Primvar.numbers c.put_faces.new.made) (rows_of g.P.Primvar.numbers c.put_hidden.new.made) c.put_faces.ensures.dens c.put_hidden.ensures.dens)
 
