@@ -59,9 +59,9 @@ module _ (level : Level) (dens faces : List ℕ) (m : ℕ) (term : Term) (weigh 
     point-shares = ap shares is ∙ ap (λ n. (v, n) ∷ []) (point-amount dens m term.weight v amount (weigh-point v is).0 by)
 
     -- there is room for it
-    pub point-can : (sums : List ℕ) → CanAddAll (shares term.at) sums → (v < length sums) × (0 < amount) × (sum_of sums + amount ≤ number_bound)
-    point-can sums can =
-        let own : CanAddAll ((v, amount) ∷ []) sums = subst (λ l. CanAddAll l sums) point-shares can in
+    pub point-can : (most : ℕ) (sums : List ℕ) → CanAddAll most (shares term.at) sums → (v < length sums) × (0 < amount) × (sum_of sums + amount ≤ most)
+    point-can most sums can =
+        let own : CanAddAll most ((v, amount) ∷ []) sums = subst (λ l. CanAddAll most l sums) point-shares can in
         (own.inside.0, own.each.0, omega (arith, own.fits))
 
     -- and it is all that the term adds
@@ -95,27 +95,29 @@ all-second P [] ys h = h
 all-second P (x ∷ xs) ys h = all-second P xs ys h.1
 
 -- where all can be added, the first can, and then the rest
-module _ (all xs ys : List Share) (split : all ≡ xs ++ ys) (sums : List ℕ) (can : CanAddAll all sums) where
-  here : CanAddAll (xs ++ ys) sums
-  here = subst (λ l. CanAddAll l sums) split can
+module _ (most : ℕ) (all xs ys : List Share) (split : all ≡ xs ++ ys) (sums : List ℕ) (can : CanAddAll most all sums) where
+  here : CanAddAll most (xs ++ ys) sums
+  here = subst (λ l. CanAddAll most l sums) split can
 
-  can-first : CanAddAll xs sums
+  can-first : CanAddAll most xs sums
   can-first = record {
     inside = all-first (λ share. share.0 < length sums) xs ys here.inside;
     each = all-first (λ share. 0 < share.1) xs ys here.each;
+    short = omega (arith, here.short, sum_by-append (λ (share : Share). share.1) xs ys);
     fits = omega (arith, here.fits, sum_by-append (λ (share : Share). share.1) xs ys);
   }
 
-  can-rest : CanAddAll ys (added_shares 1 xs sums)
+  can-rest : CanAddAll most ys (added_shares 1 xs sums)
   can-rest = record {
     inside = subst (λ n. AllByRecursion (λ share. share.0 < n) ys) (sym (length-added_shares 1 xs sums)) (all-second (λ share. share.0 < length sums) xs ys here.inside);
     each = all-second (λ share. 0 < share.1) xs ys here.each;
+    short = omega (arith, here.short, sum_by-append (λ (share : Share). share.1) xs ys, sum-added_shares 1 xs sums (all-first (λ share. share.0 < length sums) xs ys here.inside));
     fits = omega (arith, here.fits, sum_by-append (λ (share : Share). share.1) xs ys, sum-added_shares 1 xs sums (all-first (λ share. share.0 < length sums) xs ys here.inside));
   }
 
   module _ (new : List ℕ) (added : new ≡ added_shares 1 xs sums) where
-    can-next : CanAddAll ys new
-    can-next = subst (CanAddAll ys) (sym added) can-rest
+    can-next : CanAddAll most ys new
+    can-next = subst (CanAddAll most ys) (sym added) can-rest
 
     same-next : added_shares 1 ys new ≡ added_shares 1 all sums
     same-next = ap (added_shares 1 ys) added ∙ sym (added-append xs ys sums) ∙ ap (λ l. added_shares 1 l sums) (sym split)
@@ -140,25 +142,26 @@ module _ (dens : List ℕ) (factor multiple : ℕ) (corners : List ℕ) (some : 
   corners-split = ap (corner_shares dens factor multiple) (first-and-others corners 0 some)
 
   -- the first can be added
-  pub first-can : (sums : List ℕ) (amount : ℕ) → CanAddAll (corner_shares dens factor multiple corners) sums → amount ≡ factor * (multiple / get_or dens corner 0) → (corner < length sums) × (0 < amount) × (sum_of sums + amount ≤ number_bound)
-  first-can sums amount can is =
-      let one = can-first _ (first ∷ []) (corner_shares dens factor multiple others) corners-split sums can in
+  pub first-can : (most : ℕ) (sums : List ℕ) (amount : ℕ) → CanAddAll most (corner_shares dens factor multiple corners) sums → amount ≡ factor * (multiple / get_or dens corner 0)
+      → (corner < length sums) × (0 < amount) × (sum_of sums + amount ≤ number_bound) × (sum_of sums + amount ≤ most)
+  first-can most sums amount can is =
+      let one = can-first most _ (first ∷ []) (corner_shares dens factor multiple others) corners-split sums can in
       let same : factor * (multiple / get_or dens corner 1) ≡ amount = point-amount dens multiple factor corner amount (within 0 0 (omega (arith, some))) is in
-      (one.inside.0, subst (λ n. 0 < n) same one.each.0, omega (arith, one.fits, same))
+      (one.inside.0, subst (λ n. 0 < n) same one.each.0, omega (arith, one.short, same), omega (arith, one.fits, same))
 
   -- once the first is added
-  module _ (sums new : List ℕ) (can : CanAddAll (corner_shares dens factor multiple corners) sums) (amount : ℕ)
+  module _ (most : ℕ) (sums new : List ℕ) (can : CanAddAll most (corner_shares dens factor multiple corners) sums) (amount : ℕ)
       (is : amount ≡ factor * (multiple / get_or dens corner 0)) (added : new ≡ added_at corner amount sums) where
     corner-added : new ≡ added_shares 1 (first ∷ []) sums
     corner-added =
         let same : get_or dens corner 0 ≡ get_or dens corner 1 = get_or_default dens corner 0 1 (within 0 0 (omega (arith, some))) in
         added ∙ ap (λ n. added_at corner n sums) (is ∙ ap (λ d. factor * (multiple / d)) same) ∙ sym (added-one corner (factor * (multiple / get_or dens corner 1)) sums)
 
-    pub corners-can : CanAddAll (corner_shares dens factor multiple others) new
-    corners-can = can-next _ (first ∷ []) (corner_shares dens factor multiple others) corners-split sums can new corner-added
+    pub corners-can : CanAddAll most (corner_shares dens factor multiple others) new
+    corners-can = can-next most _ (first ∷ []) (corner_shares dens factor multiple others) corners-split sums can new corner-added
 
     pub corners-same : added_shares 1 (corner_shares dens factor multiple others) new ≡ added_shares 1 (corner_shares dens factor multiple corners) sums
-    corners-same = same-next _ (first ∷ []) (corner_shares dens factor multiple others) corners-split sums can new corner-added
+    corners-same = same-next most _ (first ∷ []) (corner_shares dens factor multiple others) corners-split sums can new corner-added
 
 -- a term
 abbrev pub none : Term
@@ -185,13 +188,13 @@ module _ (level : Level) (dens faces : List ℕ) (m : ℕ) (terms : List Term) (
   terms-split = ap (λ l. flat_shares level dens faces m (terms_of l)) (first-and-others terms none some)
 
   -- the first can be added, and then the others
-  module _ (sums : List ℕ) (can : CanAddAll (flat_shares level dens faces m (terms_of terms)) sums) where
-    pub term-can : CanAddAll own_shares sums
-    term-can = can-first _ own_shares (flat_shares level dens faces m (terms_of later)) terms-split sums can
+  module _ (most : ℕ) (sums : List ℕ) (can : CanAddAll most (flat_shares level dens faces m (terms_of terms)) sums) where
+    pub term-can : CanAddAll most own_shares sums
+    term-can = can-first most _ own_shares (flat_shares level dens faces m (terms_of later)) terms-split sums can
 
     module _ (new : List ℕ) (added : new ≡ added_shares 1 own_shares sums) where
-      pub terms-can : CanAddAll (flat_shares level dens faces m (terms_of later)) new
-      terms-can = can-next _ own_shares (flat_shares level dens faces m (terms_of later)) terms-split sums can new added
+      pub terms-can : CanAddAll most (flat_shares level dens faces m (terms_of later)) new
+      terms-can = can-next most _ own_shares (flat_shares level dens faces m (terms_of later)) terms-split sums can new added
 
       pub terms-same : added_shares 1 (flat_shares level dens faces m (terms_of later)) new ≡ added_shares 1 (flat_shares level dens faces m (terms_of terms)) sums
-      terms-same = same-next _ own_shares (flat_shares level dens faces m (terms_of later)) terms-split sums can new added
+      terms-same = same-next most _ own_shares (flat_shares level dens faces m (terms_of later)) terms-split sums can new added

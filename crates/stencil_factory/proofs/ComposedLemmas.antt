@@ -1,6 +1,6 @@
 -- The rows of child points, one after another.
 use Rattle.std.proofs.Common.{◌≡◌, ℕ, zero, suc, ◌+◌, ◌^◌, ◌<◌, ◌≤◌, ℤ, pos, ◌*ℤ◌, List, [], ◌∷◌, ◌++◌, length, map, get_or, take, arith, refl, ap, sym, ◌∙◌, subst}
-use Rattle.std.specs.List.{sum_by, take-map}
+use Rattle.std.specs.List.{sum_by, take-map, zip}
 use Rattle.std.proofs.Math.IntN.{*ℤ_comm}
 use Rattle.std.proofs.lemmas.List.{length-map, map-append, take_more, take_all, get_or_read}
 use Rattle.std.proofs.lemmas.List.Sums.{sum_by-cons, sum_by-append, sum_by-take-le}
@@ -16,11 +16,10 @@ use Rattle.child_masks.specs.Masks.{mask_from, masks_from, HasNoTransition}
 use Rattle.child_masks.specs.Survey.{IsSurvey}
 use Rattle.child_masks.specs.declared.survey.Survey.{Survey}
 use Rattle.stencil_apply.specs.Table.{Share, Row, Table, total_of, entries_of}
-use Rattle.stencil_apply.specs.Arrays.{shares_of, row_of}
-use Rattle.stencil_apply.specs.declared.entry.Entry.{Entry}
 use Rattle.stencil_factory.specs.Rows.{support_of, supports_of, dens_of, share_sum, row_values, AreSameValues}
 use Rattle.stencil_factory.specs.Composed.{entries_from, IsComposed}
 use Rattle.stencil_factory.specs.Composing.{IsComposedRow, AreComposedRows}
+use Rattle.stencil_factory.proofs.PairLemmas.{zip-parts}
 use Rattle.stencil_factory.proofs.SurveyLemmas.{found-count}
 
 -- a row has an entry
@@ -32,14 +31,15 @@ row-some level table mask row is = some row.shares (omega (arith, is.is.positive
     some (share ∷ shares) h = omega arith
 
 -- the row of a point, as it is read for the builder
-pub row-read : (parent : Topology) (table : Table) (scheme : Scheme) (origins : List PointOrigin) (survey : Survey) (p den : ℕ) (made read : List Entry) → IsSurvey parent scheme origins (dens_of table) survey → p < length origins
-    → IsComposedRow parent.level table (mask_from parent.level scheme (get_or origins p (FromVertex 0))) (record { den = get_or survey.dens.items p 0; shares = shares_of made })
-    → den ≡ get_or survey.dens.items p den → read ≡ made → IsComposedRow parent.level table (mask_from parent.level scheme (get_or origins p (FromVertex 0))) (row_of den read)
-row-read parent table scheme origins survey p den made read found inside is e same =
+pub row-read : (parent : Topology) (table : Table) (scheme : Scheme) (origins : List PointOrigin) (survey : Survey) (p den : ℕ) (made : List Share) (indices numerators : List ℕ) → IsSurvey parent scheme origins (dens_of table) survey → p < length origins
+    → IsComposedRow parent.level table (mask_from parent.level scheme (get_or origins p (FromVertex 0))) (record { den = get_or survey.dens.items p 0; shares = made })
+    → den ≡ get_or survey.dens.items p den → indices ≡ map (λ share. share.0) made → numerators ≡ map (λ share. share.1) made
+    → IsComposedRow parent.level table (mask_from parent.level scheme (get_or origins p (FromVertex 0))) (record { den = den; shares = zip indices numerators })
+row-read parent table scheme origins survey p den made indices numerators found inside is e firsts_are seconds_are =
     let below : p < length survey.dens.items = omega (arith, inside, found-count parent scheme origins (dens_of table) survey found) in
     let mask = mask_from parent.level scheme (get_or origins p (FromVertex 0)) in
-    subst (λ (entries : List Entry). IsComposedRow parent.level table mask (row_of den entries)) (sym same)
-    (subst (λ (n : ℕ). IsComposedRow parent.level table mask (row_of n made)) (sym (get_or_read survey.dens.items p den below e 0)) is)
+    subst (λ (shares : List Share). IsComposedRow parent.level table mask (record { den = den; shares = shares })) (sym (zip-parts made indices numerators firsts_are seconds_are))
+    (subst (λ (n : ℕ). IsComposedRow parent.level table mask (record { den = n; shares = made })) (sym (get_or_read survey.dens.items p den below e 0)) is)
 
 module _ (level : Level) (table : Table) where
   abbrev support : Mask → List ℕ

@@ -136,10 +136,11 @@ module _ (level : Level) (dens faces : List ℕ) (points : ArePointDenominators 
         (subst (λ n. AllByRecursion (CanWeighTerm level dens faces n) mask.terms) m-here (mask-weigh level dens faces points mask is.mean known short-here))
 
     -- all amounts can be added
-    pub given-can : CanAddAll (flat_shares level dens faces m terms) start
-    given-can =
-        subst (CanAddAll (flat_shares level dens faces m terms)) (sym clear)
-        (subst (λ l. CanAddAll l (replicate level.point_count 0)) flat-here (mask-can level dens faces points mask is.mean known short-here))
+    pub given-can : (most : ℕ) → den ≤ most → CanAddAll most (flat_shares level dens faces m terms) start
+    given-can most fits =
+        subst (CanAddAll most (flat_shares level dens faces m terms)) (sym clear)
+        (subst (λ l. CanAddAll most l (replicate level.point_count 0)) flat-here
+        (mask-can level dens faces points mask is.mean known short-here most (subst (λ n. n ≤ most) (den_is ∙ sym same-den) fits)))
 
     -- and what comes are the weights of the defined mask
     pub given-weighed : (new : List ℕ) → new ≡ added_shares 1 (flat_shares level dens faces m terms) start → IsWeighed level dens defined new
@@ -165,7 +166,7 @@ module _ (t : Topology) (is : IsTopology t) (scheme : Scheme) (origin : PointOri
   part-weigh = given-weigh t.level dens faces points mask (mask_from t.level scheme origin) same joined known den den_is short terms terms_are q m q_is m_is start clear
 
   -- all amounts can be added
-  pub part-can : CanAddAll (flat_shares t.level dens faces m terms) start
+  pub part-can : (most : ℕ) → den ≤ most → CanAddAll most (flat_shares t.level dens faces m terms) start
   part-can = given-can t.level dens faces points mask (mask_from t.level scheme origin) same joined known den den_is short terms terms_are q m q_is m_is start clear
 
   -- and what comes are the weights

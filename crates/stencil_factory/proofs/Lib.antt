@@ -1,5 +1,6 @@
 pub mod ScratchLemmas
 pub mod TouchedLemmas
+pub mod PairLemmas
 pub mod EntryLemmas
 pub mod AddedLemmas
 pub mod OriginLemmas
@@ -11,6 +12,7 @@ pub mod RowSumLemmas
 pub mod SupportLemmas
 pub mod RowLemmas
 pub mod SurveyLemmas
+pub mod WidthLemmas
 pub mod ComposedLemmas
 pub mod MarkLemmas
 pub mod MetLemmas

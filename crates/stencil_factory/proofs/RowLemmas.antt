@@ -61,12 +61,12 @@ module _ (level : Level) (table : Table) (mask : Mask) (weights : List Share) (i
   total : rows_total table weights ≡ den
   total = total-same weights weights-inside ∙ are.total
 
-  pub can-add : CanAddRows table weights zeros
-  can-add = record {
+  pub can-add : (most : ℕ) → den ≤ most → CanAddRows most table weights zeros
+  can-add most within = record {
     places = length-replicate table.controls 0;
     inside = weights-inside;
     each = recursion_from_All (λ (weight : Share). 0 < weight.1) weights are.each;
-    fits = omega (arith, replicate-sum table.controls, total, short);
+    fits = omega (arith, replicate-sum table.controls, total, within);
   }
 
   abbrev sums : List ℕ
@@ -88,7 +88,7 @@ module _ (level : Level) (table : Table) (mask : Mask) (weights : List Share) (i
       let from : 0 + k ≡ k = omega arith in
       ap (λ v. list_any (λ list. is_among list v) lists) from
       ∙ sources-have level table mask table.controls k below weights are.named
-      ∙ sym (some-added_rows table is k weights zeros can-add ∙ ap (λ n. nat_lt 0 n || list_any (λ w. is_among (support_of (row_at table w.0).shares) k) weights) (zero-at table.controls k)))
+      ∙ sym (some-added_rows table is number_bound k weights zeros (can-add number_bound short) ∙ ap (λ n. nat_lt 0 n || list_any (λ w. is_among (support_of (row_at table w.0).shares) k) weights) (zero-at table.controls k)))
       ∙ ap (λ n. filter (λ control. list_any (λ list. is_among list control) lists) (range_with_len 0 n)) count
 
   value : (numbers : List ℤ) (values : List Value) → AreSameValues values (row_values table numbers) → IsOver den (mask_value (source_value level values) mask) (share_sum numbers (shares_from 0 sums))
@@ -97,7 +97,7 @@ module _ (level : Level) (table : Table) (mask : Mask) (weights : List Share) (i
       let long : length rows ≡ length (dens_of table) = length-map table.rows (λ (row : Row). share_sum numbers row.shares) ∙ sym (length-map table.rows (λ (row : Row). row.den)) in
       let over = are.value rows values long (subst (AreSameValues values) (sym (values-over table numbers)) same) in
       let made : share_sum numbers (shares_from 0 sums) ≡ share_sum rows weights =
-      share_sum-shares_from 0 numbers sums ∙ dense-added_rows table is numbers weights zeros can-add
+      share_sum-shares_from 0 numbers sums ∙ dense-added_rows table is number_bound numbers weights zeros (can-add number_bound short)
       ∙ ap (λ z. z +ℤ share_sum rows weights) (dense_sum-zeros numbers table.controls) ∙ +ℤ_idl (share_sum rows weights) in
       subst (IsOver den (mask_value (source_value level values) mask)) (sym made) over
 
@@ -120,7 +120,7 @@ module _ (level : Level) (table : Table) (mask : Mask) (weights : List Share) (i
           ascending = shares-ascending 0 sums;
           inside = inside;
           each = All-from_recursion (λ (share : Share). 0 < share.1) (shares_from 0 sums) (shares-each 0 sums);
-          whole = omega (arith, shares-total 0 sums, sum-added_rows table is weights zeros can-add, replicate-sum table.controls, total);
+          whole = omega (arith, shares-total 0 sums, sum-added_rows table is number_bound weights zeros (can-add number_bound short), replicate-sum table.controls, total);
         };
         den = refl;
         support = support;

@@ -1,7 +1,7 @@
 -- What a survey over the denominators of a table tells.
 use Rattle.std.proofs.Common.{◌≡◌, ℕ, ◌<◌, ◌≤◌, List, [], length, get_or, ap, sym, ◌∙◌, subst}
 use Rattle.std.specs.List.{All}
-use Rattle.std.proofs.lemmas.List.{length-map, get_or-map}
+use Rattle.std.proofs.lemmas.List.{length-map, get_or-map, get_or_default}
 use Rattle.std.proofs.lemmas.List.Elements.{All-map}
 use Rattle.subdiv_model.specs.Level.{Level}
 use Rattle.subdiv_model.specs.Mask.{Scheme, Mask}
@@ -23,6 +23,10 @@ point-dens table level is each = record {
   positive = All-map (λ den. 0 < den) (λ (row : Row). row.den) table.rows (λ i d inside. (is.rows i d inside).positive);
   short = All-map (λ den. den ≤ number_bound) (λ (row : Row). row.den) table.rows (λ i d inside. (is.rows i d inside).short);
 }
+
+-- a denominator that was read is within the width in which all are
+pub den-fits : (dens : List ℕ) (p den most : ℕ) → p < length dens → den ≡ get_or dens p den → get_or dens p 0 ≤ most → den ≤ most
+den-fits dens p den most inside read fits = subst (λ n. n ≤ most) (sym (read ∙ get_or_default dens p den 0 inside)) fits
 
 module _ (parent : Topology) (scheme : Scheme) (origins : List PointOrigin) (dens : List ℕ) (survey : Survey) (is : IsSurvey parent scheme origins dens survey) where
   abbrev own : ℕ → ℕ
@@ -48,9 +52,13 @@ module _ (parent : Topology) (scheme : Scheme) (origins : List PointOrigin) (den
   pub found-den : (p : ℕ) → p < length origins → get_or survey.dens.items p 0 ≡ own p
   found-den p inside = found-at p 0 inside
 
-  -- and within its bound
+  -- all are within their bound
+  pub all-short : All (λ den. den ≤ number_bound) survey.dens.items
+  all-short = subst (All (λ den. den ≤ number_bound)) (sym is.dens) is.short
+
+  -- so is each
   found-short : (p d : ℕ) → p < length origins → get_or survey.dens.items p d ≤ number_bound
-  found-short p d inside = (subst (All (λ den. den ≤ number_bound)) (sym is.dens) is.short) p d (found-inside p inside)
+  found-short p d inside = all-short p d (found-inside p inside)
 
   pub own-short : (p : ℕ) → p < length origins → own p ≤ number_bound
   own-short p inside = subst (λ n. n ≤ number_bound) (found-at p 0 inside) (found-short p 0 inside)

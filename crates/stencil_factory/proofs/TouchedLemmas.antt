@@ -1,15 +1,17 @@
 -- The places whose sum is not 0: one more, sorted, and taken.
 use Rattle.std.proofs.Common.{◌≡◌, ℕ, zero, suc, ◌+◌, ◌-◌, ◌<◌, ◌≤◌, Bool, true, false, not, ◌||◌, if◌then◌else◌, nat_eq, nat_lt, ℤ, pos, ◌+ℤ◌, ◌*ℤ◌, List, [], ◌∷◌, ◌++◌, length, map, get_or, set, replicate, arith, refl, ap, sym, ◌∙◌, subst, inl, inr, ◌⊎◌}
+use Rattle.std.specs.Prelude.{Result, Ok, Err, OnOk, OnErr}
 use Rattle.std.specs.List.{All, AllByRecursion}
 use Rattle.std.specs.List.Sorted.{IsPermutation, IsNonDecreasing}
 use Rattle.std.proofs.lemmas.Bool.{and_parts, and_from, or_parts, cases_eq, eqb-true, ltb-true, ltb-false}
 use Rattle.std.proofs.lemmas.Bool.Decides.{nat_tests}
 use Rattle.std.proofs.lemmas.Int.{ints}
 use Rattle.std.proofs.Math.IntN.{+ℤ_idl, +ℤ_idr}
-use Rattle.std.proofs.lemmas.List.{get_or-set_other, get_or_past, length-set, get_or_default}
+use Rattle.std.proofs.lemmas.List.{get_or-set_other, get_or_past, length-set, length-map, map-set}
 use Rattle.std.proofs.lemmas.List.Elements.{All-from_get_or, recursion_from_All}
 use Rattle.std.proofs.lemmas.List.Folds.{list_any-append}
 use Rattle.std.proofs.lemmas.List.Sorted.{list_any-IsPermutation}
+use Rattle.std.proofs.lemmas.Result.{on_ok_weaker}
 use Rattle.subdiv_model.specs.Polygons.{is_among, is_distinct}
 use Rattle.mesh_laws.proofs.SideLemmas.{among-place}
 use Rattle.level_topology.proofs.PlaceLemmas.{distinct-permutation}
@@ -18,6 +20,7 @@ use Rattle.stencil_apply.proofs.ArrayLemmas.{cons_both}
 use Rattle.stencil_factory.specs.Rows.{support_of, share_sum}
 use Rattle.stencil_factory.specs.Scratch.{added_at, shares_from, dense_sum, AreSharesOf}
 use Rattle.stencil_factory.specs.Touched.{AreTouched, touched_with, moved, cleared}
+use Rattle.stencil_factory.proofs.EntryLemmas.{number-there}
 use Rattle.stencil_factory.proofs.ScratchLemmas.{some-added_at, dense_sum-added_at, dense_sum-zeros}
 
 no_more : (b : Bool) → (b || false) ≡ b
@@ -179,7 +182,7 @@ moved-value numbers (place ∷ places) sums inside =
     turned : (a b c : ℤ) → (a +ℤ b) +ℤ c ≡ (b +ℤ c) +ℤ a
     turned a b c = omega (arith, ints)
 
-moved-support : (places sums : List ℕ) → support_of (moved places sums) ≡ places
+pub moved-support : (places sums : List ℕ) → support_of (moved places sums) ≡ places
 moved-support [] sums = refl
 moved-support (place ∷ places) sums = ap (λ rest. place ∷ rest) (moved-support places (set sums place 0))
 
@@ -188,10 +191,19 @@ each-share : (P : Share → Type 0) (at : ℕ → ℕ) (places : List ℕ) → A
 each-share P at [] h = tt
 each-share P at (v ∷ places) h = (h.0, each-share P at places h.1)
 
--- the sums that are taken of the places that are not 0, in any order
-pub moved-any : (entries before : List Share) (places sums old : List ℕ) → entries ≡ before ++ moved places sums → before ≡ [] → AreTouched places sums → sums ≡ old → AreSharesOf old entries
-moved-any entries before places sums old is none touched view =
-    subst (λ s. AreSharesOf s entries) view (subst (AreSharesOf sums) (sym (is ∙ ap (λ b. b ++ moved places sums) none)) taken)
+-- the sums of the places that are not 0 are all that are not 0, in any order
+pub moved-any : (places sums : List ℕ) → AreTouched places sums → AreSharesOf sums (moved places sums)
+moved-any places sums touched = record {
+  inside = subst (AllByRecursion (λ share. share.0 < length sums)) (sym (moved-same places sums touched.once)) (each-share (λ share. share.0 < length sums) (λ v. get_or sums v 0) places inside);
+  each =
+      subst (AllByRecursion (λ share. 0 < share.1)) (sym (moved-same places sums touched.once))
+      (each-share (λ share. 0 < share.1) (λ v. get_or sums v 0) places (recursion_from_All (λ v. 0 < get_or sums v 0) places above));
+  named = λ v. ap (λ l. is_among l v) (moved-support places sums) ∙ touched.named v;
+  value = λ numbers.
+      sym (+ℤ_idr (share_sum numbers (moved places sums)))
+      ∙ ap (λ z. share_sum numbers (moved places sums) +ℤ z) (sym (ap (dense_sum numbers) (cleared-zeros places sums touched) ∙ dense_sum-zeros numbers (length sums)))
+      ∙ moved-value numbers places sums inside;
+}
   where
     inside : AllByRecursion (λ place. place < length sums) places
     inside = recursion_from_All (λ place. place < length sums) places (touched-inside places sums touched)
@@ -199,19 +211,6 @@ moved-any entries before places sums old is none touched view =
     above : All (λ v. 0 < get_or sums v 0) places
     above = All-from_get_or (λ v. 0 < get_or sums v 0) places 0
         (λ i h. ltb-true 0 (get_or sums (get_or places i 0) 0) (sym (touched.named (get_or places i 0)) ∙ among-place (get_or places i 0) places i h refl))
-
-    taken : AreSharesOf sums (moved places sums)
-    taken = record {
-      inside = subst (AllByRecursion (λ share. share.0 < length sums)) (sym (moved-same places sums touched.once)) (each-share (λ share. share.0 < length sums) (λ v. get_or sums v 0) places inside);
-      each =
-          subst (AllByRecursion (λ share. 0 < share.1)) (sym (moved-same places sums touched.once))
-          (each-share (λ share. 0 < share.1) (λ v. get_or sums v 0) places (recursion_from_All (λ v. 0 < get_or sums v 0) places above));
-      named = λ v. ap (λ l. is_among l v) (moved-support places sums) ∙ touched.named v;
-      value = λ numbers.
-          sym (+ℤ_idr (share_sum numbers (moved places sums)))
-          ∙ ap (λ z. share_sum numbers (moved places sums) +ℤ z) (sym (ap (dense_sum numbers) (cleared-zeros places sums touched) ∙ dense_sum-zeros numbers (length sums)))
-          ∙ moved-value numbers places sums inside;
-    }
 
 -- each is above those before it, and the first is `from` or more
 abbrev AscendFrom : ℕ → List ℕ → Type 0
@@ -291,24 +290,62 @@ moved-shares places sums rise is =
     (λ w. let same : 0 + w ≡ w = omega arith in ap (is_among places) same ∙ is.named w)
     (λ w. let same : 0 + w ≡ w = omega arith in ap (λ v. get_or sums v 0) same)
 
--- the state after an addition: what is noted, and the sums
-pub touched-step : (place amount sum : ℕ) (touched noted sums : List ℕ) → 0 < amount → place < length sums → sum ≡ get_or sums place sum → noted ≡ touched_with place sum touched → AreTouched touched sums → AreTouched noted (set sums place (sum + amount))
-touched-step place amount sum touched noted sums some h at is before =
-    subst (λ t. AreTouched t (set sums place (sum + amount))) (sym is)
-    (subst (λ n. AreTouched (touched_with place n touched) (set sums place (n + amount))) (sym (at ∙ get_or_default sums place sum 0 h))
-    (subst (AreTouched (touched_with place (get_or sums place 0) touched)) (sym (set-added place amount sums h)) (touched-added place amount touched sums some h before)))
+-- A number more at a place of the sums of numbers of any type that has a value.
+module _ {T : Type 0} (value : T → ℕ) (place : ℕ) (sum : T) (sums : List T) (old : List ℕ) (view : map value sums ≡ old) (inside : place < length old) (at : sum ≡ get_or sums place sum) where
+  long : place < length sums
+  long = omega (arith, inside, length-map sums value, ap length view)
 
-pub sums-step : (place amount sum : ℕ) (sums old : List ℕ) → place < length sums → sum ≡ get_or sums place sum → sums ≡ old → set sums place (sum + amount) ≡ added_at place amount old
-sums-step place amount sum sums old h at is = ap (λ n. set sums place (n + amount)) (at ∙ get_or_default sums place sum 0 h) ∙ set-added place amount sums h ∙ ap (added_at place amount) is
+  -- what was read is the sum at the place
+  here : value sum ≡ get_or (map value sums) place 0
+  here = number-there value sums place sum long at
 
--- the places are still those, sorted
-pub touched-sorted : (before after places sums : List ℕ) → IsPermutation before after → places ≡ after → AreTouched before sums → AreTouched places sums
-touched-sorted before after places sums moved is touched = subst (λ t. AreTouched t sums) (sym is) (touched-permutation before after sums moved touched)
+  pub sum-there : value sum ≡ get_or old place 0
+  sum-there = here ∙ ap (λ l. get_or l place 0) view
+
+  module _ (amount : ℕ) (after : T) (more : value after ≡ value sum + amount) where
+    put : map value (set sums place after) ≡ added_at place amount (map value sums)
+    put =
+        map-set value sums place after ∙ ap (set (map value sums) place) (more ∙ ap (λ n. n + amount) here)
+        ∙ set-added place amount (map value sums) (omega (arith, long, length-map sums value))
+
+    -- what is noted, and the sums
+    pub touched-step : (read : ℕ) (touched noted : List ℕ) → 0 < amount → read ≡ value sum → noted ≡ touched_with place read touched → AreTouched touched (map value sums) → AreTouched noted (map value (set sums place after))
+    touched-step read touched noted some of is before =
+        subst (AreTouched noted) (sym put)
+        (subst (λ t. AreTouched t (added_at place amount (map value sums))) (sym (is ∙ ap (λ n. touched_with place n touched) (of ∙ here)))
+        (touched-added place amount touched (map value sums) some (omega (arith, long, length-map sums value)) before))
+
+    pub sums-step : map value (set sums place after) ≡ added_at place amount old
+    sums-step = put ∙ ap (added_at place amount) view
 
 pub touched-none : (touched sums : List ℕ) (n : ℕ) → touched ≡ [] → sums ≡ replicate n 0 → AreTouched touched sums
 touched-none touched sums n none zeros = subst (λ t. AreTouched t sums) (sym none) (subst (AreTouched []) (sym zeros) (touched-zeros n))
 
--- the entries that were taken, where there were none before
-pub entries-taken : (entries before : List Share) (places after sums old : List ℕ) → entries ≡ before ++ moved places sums → before ≡ [] → places ≡ after → IsNonDecreasing after → AreTouched places sums → sums ≡ old → entries ≡ shares_from 0 old
-entries-taken entries before places after sums old is none same rise touched view =
-    is ∙ ap (λ b. b ++ moved places sums) none ∙ moved-shares places sums (subst IsNonDecreasing (sym same) rise) touched ∙ ap (shares_from 0) view
+-- Sums that were taken, of numbers of any type that has a value.
+module _ {T : Type 0} (value : T → ℕ) (places : List ℕ) (sums : List T) (touched : AreTouched places (map value sums)) where
+  pub taken-inside : All (λ place. place < length sums) places
+  taken-inside = subst (λ n. All (λ place. place < n) places) (length-map sums value) (touched-inside places (map value sums) touched)
+
+  module _ {A E : Type 0} (r : Result A E) (new : List T) (zeros : OnOk r (map value new ≡ cleared places (map value sums))) where
+    -- zeros are left and no places, or all is as it was
+    pub taken-touched : (left : List ℕ) → OnOk r (left ≡ []) → OnErr r (new ≡ sums) → OnErr r (left ≡ places) → AreTouched left (map value new)
+    taken-touched left none same_sums same_places = by_result r zeros none same_sums same_places
+      where
+        by_result : (r : Result A E) → OnOk r (map value new ≡ cleared places (map value sums)) → OnOk r (left ≡ []) → OnErr r (new ≡ sums) → OnErr r (left ≡ places) → AreTouched left (map value new)
+        by_result (Ok x) zeros none same_sums same_places =
+            touched-none left (map value new) (length (map value sums)) none (zeros ∙ cleared-zeros places (map value sums) touched)
+        by_result (Err e) zeros none same_sums same_places = rw (same_sums, same_places) touched
+
+    pub taken-zeros : (old : List ℕ) → map value sums ≡ old → OnOk r (map value new ≡ replicate (length old) 0)
+    taken-zeros old view =
+        on_ok_weaker r (λ e. e ∙ cleared-zeros places (map value sums) touched ∙ ap (λ (l : List ℕ). replicate (length l) 0) view) zeros
+
+  module _ {A E : Type 0} (r : Result A E) (old : List ℕ) (view : map value sums ≡ old) (entries : List Share) (is : OnOk r (entries ≡ moved places (map value sums))) where
+    -- the entries are the sums that were not 0
+    pub taken-any : OnOk r (AreSharesOf old entries)
+    taken-any =
+        on_ok_weaker r (λ e. subst (λ l. AreSharesOf l entries) view (subst (AreSharesOf (map value sums)) (sym e) (moved-any places (map value sums) touched))) is
+
+    -- which ascend where the places do
+    pub taken-sorted : IsNonDecreasing places → OnOk r (entries ≡ shares_from 0 old)
+    taken-sorted rise = on_ok_weaker r (λ e. e ∙ moved-shares places (map value sums) rise touched ∙ ap (shares_from 0) view) is

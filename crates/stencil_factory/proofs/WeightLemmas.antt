@@ -257,11 +257,12 @@ module _ (level : Level) (dens faces : List ℕ) (points : ArePointDenominators 
   mask-weigh = flat-can level dens faces common above mask.terms weight-short parts
 
   -- all can be added to zeros
-  pub mask-can : CanAddAll all (replicate level.point_count 0)
-  mask-can = record {
+  pub mask-can : (most : ℕ) → mask_denominator (source_denominator level dens) mask ≤ most → CanAddAll most all (replicate level.point_count 0)
+  mask-can most fits = record {
     inside = placed level.point_count all all-placed all-each;
     each = all-each;
-    fits = omega (arith, replicate-sum level.point_count, total-below dens points.positive all all-inside, all-weight, short);
+    short = omega (arith, replicate-sum level.point_count, total-below dens points.positive all all-inside, all-weight, short);
+    fits = omega (arith, replicate-sum level.point_count, total-below dens points.positive all all-inside, all-weight, fits);
   }
 
   -- what is taken of the sums

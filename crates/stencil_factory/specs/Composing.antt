@@ -6,7 +6,6 @@ use Rattle.subdiv_model.specs.Value.{Value}
 use Rattle.subdiv_model.specs.Mask.{Mask}
 use Rattle.subdiv_model.specs.Refined.{mask_value, source_value, mask_denominator, source_denominator}
 use Rattle.subdiv_model.specs.Support.{mask_support, source_support}
-use Rattle.subdiv_model.specs.Channel.{number_bound}
 use Rattle.mask_laws.proofs.SumLemmas.{IsOver}
 use Rattle.stencil_apply.specs.Table.{Share, Row, Table, IsRow, row_at, total_of}
 use Rattle.stencil_factory.specs.Rows.{support_of, supports_of, dens_of, share_sum, row_values, AreSameValues}
@@ -21,12 +20,12 @@ added_rows table (weight ∷ weights) sums = added_rows table weights (added_sha
 abbrev pub rows_total : Table → List Share → ℕ
 rows_total table weights = sum_by (λ weight. weight.1 * total_of (row_at table weight.0).shares) weights
 
--- there are such rows, and the sums have room for them
-pub record CanAddRows (table : Table) (weights : List Share) (sums : List ℕ) : Type 0 where
+-- there are such rows, and all sums together stay within the greatest number
+pub record CanAddRows (most : ℕ) (table : Table) (weights : List Share) (sums : List ℕ) : Type 0 where
   pub places : length sums ≡ table.controls
   pub inside : AllByRecursion (λ weight. weight.0 < length table.rows) weights
   pub each : AllByRecursion (λ weight. 0 < weight.1) weights
-  pub fits : sum_of sums + rows_total table weights ≤ number_bound
+  pub fits : sum_of sums + rows_total table weights ≤ most
 
 -- the row of a point with this mask
 pub record IsComposedRow (level : Level) (table : Table) (mask : Mask) (row : Row) : Type 0 where

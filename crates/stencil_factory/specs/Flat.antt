@@ -25,11 +25,12 @@ term_shares level dens faces m t = source_shares level dens faces m t.weight t.s
 abbrev pub flat_shares : Level → List ℕ → List ℕ → ℕ → List Term → List Share
 flat_shares level dens faces m terms = flat_map (term_shares level dens faces m) terms
 
--- each amount is above 0 and has a place, and all sums together stay within their bound
-pub record CanAddAll (shares : List Share) (sums : List ℕ) : Type 0 where
+-- each amount is above 0 and has a place, and all sums together stay within the bound of numbers and within the greatest number
+pub record CanAddAll (most : ℕ) (shares : List Share) (sums : List ℕ) : Type 0 where
   pub inside : AllByRecursion (λ share. share.0 < length sums) shares
   pub each : AllByRecursion (λ share. 0 < share.1) shares
-  pub fits : sum_of sums + total_of shares ≤ number_bound
+  pub short : sum_of sums + total_of shares ≤ number_bound
+  pub fits : sum_of sums + total_of shares ≤ most
 
 -- the source has a denominator, and the weight over m can be kept
 abbrev pub CanWeigh : Level → List ℕ → List ℕ → ℕ → ℕ → SourcePoint → Type 0

@@ -3,6 +3,7 @@
 ghost use Rattle.std.specs.Prelude.{◌≡◌, ◌≤◌, ◌^◌, IfOk};
 ghost use Rattle.stencil_factory.specs.Composed.{identity_table};
 
+use number_width::Width;
 use ratio128::Memory;
 use std::alloc::Global;
 use stencil_apply::{Entry, StencilTable, TableBuilder};
@@ -12,7 +13,8 @@ pub fn identity(alloc: Global, points: u32) -> Result<StencilTable, Memory>
     requires { points ≤ 2 ^ 27 }
     ensures { IfOk result (λ table. table ≡ identity_table points) }
 {
-    let mut builder = TableBuilder::with_room(alloc, points, points, u64::from(points))?;
+    let entries = u64::from(points);
+    let mut builder = TableBuilder::with_room(alloc, points, points, entries, Width::Narrow)?;
     for v in 0..points {
         let own = Entry {
             index: v,

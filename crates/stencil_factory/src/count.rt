@@ -16,16 +16,17 @@ use crate::met::Met;
 use crate::name::name_point;
 use child_masks::Survey;
 use level_topology::{Child, Level};
-use mask_rules::Scheme;
+use mask_rules::{MadeMask, Scheme};
 use ratio128::Memory;
 use ratio128::limits::ENTRY_BOUND;
 use std::alloc::Global;
 use stencil_apply::StencilTable;
 
-// Where rows are counted: the points of a level that a row's mask names, and a mark for each control point, that of the last
-// row that met it.
+// Where rows are counted: the mask of a row, the points of a level that it names, and a mark for each control point, that of
+// the last row that met it.
 #[derive(Drop)]
 struct Marks {
+    mask: MadeMask,
     points: Met,
     marks: Vec<u32>,
 }
@@ -36,6 +37,7 @@ impl Marks {
         ensures { IfOk result (λ room. (room.points ≡ record { count = points; mark = 1; met = [] }) × (room.marks.items ≡ replicate controls 0)) }
     {
         Ok(Marks {
+            mask: MadeMask::new(),
             points: Met::new(alloc, points)?,
             marks: vec![in alloc; 0; controls as usize]?,
         })
@@ -111,7 +113,15 @@ fn count_row(
     parent.facts();
     child.facts();
     table.facts();
-    name_point(parent, child, p, scheme, survey, &mut room.points)?;
+    name_point(
+        parent,
+        child,
+        p,
+        scheme,
+        survey,
+        &mut room.mask,
+        &mut room.points,
+    )?;
     let points = room.points.places();
     Ok(mark_rows(table, points, &mut room.marks, p + 1))
 }

@@ -11,6 +11,7 @@ ghost use Rattle.stencil_factory.specs.Flat.{corner_shares, source_shares, flat_
 use crate::scratch::Scratch;
 use level_topology::Level;
 use mask_rules::{At, Term};
+use number_width::Natural;
 use ratio128::{Memory, quotient};
 
 // A weight over a multiple of a denominator. Where both are one number nothing is divided.
@@ -26,8 +27,8 @@ fn weight_over(weight: u128, multiple: u128, den: u128) -> u128
 }
 
 /// Adds a factor at each corner, over a multiple of the corners' denominators.
-pub(crate) fn add_corners(
-    scratch: &mut Scratch,
+pub(crate) fn add_corners<T: Natural>(
+    scratch: &mut Scratch<T>,
     corners: &[u32],
     factor: u128,
     multiple: u128,
@@ -35,21 +36,21 @@ pub(crate) fn add_corners(
 ) -> Result<(), Memory>
     requires within { All (λ v. v < length dens.now) corners.now }
     requires positive { All (λ den. 0 < den) dens.now }
-    requires can { CanAddAll (corner_shares dens.now factor multiple corners.now) scratch.old }
+    requires can { CanAddAll T.most (corner_shares dens.now factor multiple corners.now) scratch.old }
     ensures { OnOk result (scratch.new ≡ added_shares 1 (corner_shares dens.now factor multiple corners.now) scratch.old) }
 {
     let mut rest = corners;
     while let [v, others @ ..] = rest {
         let amount = weight_over(factor, multiple, dens[*v as usize]);
-        scratch.add(*v, amount)?;
+        scratch.add(*v, T::of(amount))?;
         rest = others;
     }
     Ok(())
 }
 
 // Adds a term over a multiple of its source's denominator.
-fn add_term(
-    scratch: &mut Scratch,
+fn add_term<T: Natural>(
+    scratch: &mut Scratch<T>,
     parent: &Level,
     term: &Term,
     multiple: u128,
@@ -58,11 +59,14 @@ fn add_term(
 ) -> Result<(), Memory>
     requires dens { ArePointDenominators parent.now.level dens.now }
     requires weigh { CanWeigh parent.now.level dens.now faces.now multiple term.now.weight (source_of term.now.at) }
-    requires can { CanAddAll (source_shares parent.now.level dens.now faces.now multiple term.now.weight (source_of term.now.at)) scratch.old }
+    requires can { CanAddAll T.most (source_shares parent.now.level dens.now faces.now multiple term.now.weight (source_of term.now.at)) scratch.old }
     ensures { OnOk result (scratch.new ≡ added_shares 1 (source_shares parent.now.level dens.now faces.now multiple term.now.weight (source_of term.now.at)) scratch.old) }
 {
     match term.at {
-        At::Point(v) => scratch.add(v, weight_over(term.weight, multiple, dens[v as usize])),
+        At::Point(v) => {
+            let amount = weight_over(term.weight, multiple, dens[v as usize]);
+            scratch.add(v, T::of(amount))
+        }
         At::FacePoint(f) => {
             parent.facts();
             let corners = parent.face_vertices(f);
@@ -80,8 +84,8 @@ fn add_term(
 }
 
 /// Adds the terms of a mask over a multiple of the denominators of all their sources.
-pub(crate) fn add_terms(
-    scratch: &mut Scratch,
+pub(crate) fn add_terms<T: Natural>(
+    scratch: &mut Scratch<T>,
     parent: &Level,
     terms: &[Term],
     multiple: u128,
@@ -90,7 +94,7 @@ pub(crate) fn add_terms(
 ) -> Result<(), Memory>
     requires dens { ArePointDenominators parent.now.level dens.now }
     requires weigh { AllByRecursion (CanWeighTerm parent.now.level dens.now faces.now multiple) (terms_of terms.now) }
-    requires can { CanAddAll (flat_shares parent.now.level dens.now faces.now multiple (terms_of terms.now)) scratch.old }
+    requires can { CanAddAll T.most (flat_shares parent.now.level dens.now faces.now multiple (terms_of terms.now)) scratch.old }
     ensures { OnOk result (scratch.new ≡ added_shares 1 (flat_shares parent.now.level dens.now faces.now multiple (terms_of terms.now)) scratch.old) }
 {
     let mut rest = terms;

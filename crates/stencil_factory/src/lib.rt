@@ -6,6 +6,7 @@
 mod compose;
 mod controls;
 mod count;
+mod entries;
 mod fault;
 mod flat;
 mod met;

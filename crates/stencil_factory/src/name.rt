@@ -12,7 +12,7 @@ ghost use Rattle.stencil_factory.specs.Named.{points_of, with_terms, CanName, Ca
 use crate::met::Met;
 use child_masks::{PointMask, Survey};
 use level_topology::{Child, Level};
-use mask_rules::{At, Scheme, Term};
+use mask_rules::{At, MadeMask, Scheme, Term};
 use ratio128::Memory;
 
 // Meets the points that a term names.
@@ -46,6 +46,7 @@ pub(crate) fn name_point(
     p: u32,
     scheme: Scheme,
     survey: &Survey,
+    made: &mut MadeMask,
     met: &mut Met,
 ) -> Result<(), Memory>
     requires child { CanRefine parent.now child.now (scheme_of scheme) }
@@ -58,8 +59,8 @@ pub(crate) fn name_point(
     parent.facts();
     child.facts();
     met.start();
-    match survey.mask(parent, child, p, scheme) {
+    match survey.mask(parent, child, p, scheme, made) {
         PointMask::Corners(f) => met.add_all(parent.face_vertices(f)),
-        PointMask::Terms(mask) => name_terms(met, parent, mask.terms()),
+        PointMask::Terms(mask) => name_terms(met, parent, mask.terms(made)),
     }
 }

@@ -1,35 +1,33 @@
 //! Sums by place, of which only those that were touched are cleared.
 
-ghost use Rattle.std.specs.Prelude.{◌≡◌, ◌+◌, ◌*◌, ◌<◌, ◌≤◌, ◌++◌, length, replicate, IfOk, OnOk, OnErr};
+ghost use Rattle.std.specs.Prelude.{◌≡◌, ◌+◌, ◌*◌, ◌<◌, ◌≤◌, length, map, replicate, IfOk, OnOk, OnErr};
 ghost use Rattle.std.specs.List.{All, zip};
-ghost use Rattle.std.specs.Vec.{vec_capacity};
-ghost use Rattle.subdiv_model.specs.Channel.{number_bound};
 ghost use Rattle.stencil_apply.specs.Table.{total_of};
-ghost use Rattle.stencil_apply.specs.Arrays.{shares_of};
 ghost use Rattle.stencil_factory.specs.Scratch.{added_at, added_shares, sum_of, shares_from, AreSharesOf};
-ghost use Rattle.stencil_factory.specs.Touched.{touched_with, moved, cleared};
+ghost use Rattle.stencil_factory.specs.Touched.{touched_with};
 
+use crate::entries::Entries;
+use number_width::Natural;
 use ratio128::Memory;
 use std::alloc::Global;
 use std::marker::Model;
-use stencil_apply::Entry;
 
 /// A sum for each place, and the places whose sum is not 0.
 #[derive(Drop)]
-pub(crate) struct Scratch {
-    sums: Vec<u128>,
+pub(crate) struct Scratch<T: Natural> {
+    sums: Vec<T>,
     touched: Vec<u32>,
 }
 
-impl Model for Scratch {
-    ghost use Rattle.std.specs.Prelude.{ℕ, List};
+impl<T: Natural> Model for Scratch<T> {
+    ghost use Rattle.std.specs.Prelude.{ℕ, List, map};
     ghost use Rattle.stencil_factory.specs.Touched.{AreTouched};
 
     ghost Value = { List ℕ };
 
-    ghost view = { λ s. s.sums.items };
+    ghost view = { λ s. map T.value s.sums.items };
 
-    ghost invariant = { λ s. AreTouched s.touched.items s.sums.items };
+    ghost invariant = { λ s. AreTouched s.touched.items (map T.value s.sums.items) };
 }
 
 // Notes a place whose sum was 0 until now.
@@ -43,90 +41,87 @@ fn touch(touched: &mut Vec<u32>, place: u32, sum: u128) -> Result<(), Memory>
     Ok(())
 }
 
-// Puts the sums of places behind the entries, and leaves zeros there. There is capacity, so this takes no memory.
-fn move_sums(sums: &mut Vec<u128>, places: &[u32], entries: &mut Vec<Entry>)
-    requires inside { All (λ place. place < length sums.old.items) places.now }
-    requires space { length entries.old.items + length places.now ≤ vec_capacity entries.old }
-    ensures entries { shares_of entries.new.items ≡ shares_of entries.old.items ++ moved places.now sums.old.items }
-    ensures sums { sums.new.items ≡ cleared places.now sums.old.items }
+// So many zeros.
+fn zeros<T: Natural>(alloc: Global, count: u32) -> Result<Vec<T>, Memory>
+    ensures { IfOk result (λ zeros. map T.value zeros.items ≡ replicate count 0) }
 {
-    for place in places {
-        let at = *place as usize;
-        entries.push_reserved(Entry {
-            index: *place,
-            numerator: sums[at],
-        });
-        sums[at] = 0;
+    let mut zeros = Vec::with_capacity(alloc, count as usize)?;
+    for _ in 0..count {
+        zeros.push_reserved(T::of(0));
     }
+    Ok(zeros)
 }
 
-impl Scratch {
+impl<T: Natural> Scratch<T> {
     /// Zeros at so many places.
-    pub(crate) fn new(alloc: Global, places: u32) -> Result<Scratch, Memory>
+    pub(crate) fn new(alloc: Global, places: u32) -> Result<Scratch<T>, Memory>
         ensures { IfOk result (λ scratch. scratch ≡ replicate places 0) }
     {
         Ok(Scratch {
-            sums: vec![in alloc; 0; places as usize]?,
+            sums: zeros(alloc, places)?,
             touched: Vec::with_capacity(alloc, places as usize)?,
         })
     }
 
-    /// Adds an amount above 0 at a place. All sums together stay at most 2^126 - 1.
-    pub(crate) fn add(&mut self, place: u32, amount: u128) -> Result<(), Memory>
+    // Adds a product above 0 at a place. All sums together stay within the width.
+    fn add_product(&mut self, place: u32, factor: T, other: T) -> Result<(), Memory>
         requires inside { place < length self.old }
-        requires some { 0 < amount }
-        requires fits { sum_of self.old + amount ≤ number_bound }
-        ensures { OnOk result (self.new ≡ added_at place amount self.old) }
+        requires some { 0 < T.value factor * T.value other }
+        requires fits { sum_of self.old + T.value factor * T.value other ≤ T.most }
+        ensures { OnOk result (self.new ≡ added_at place (T.value factor * T.value other) self.old) }
     {
         let at = place as usize;
         let sum = self.sums[at];
-        touch(&mut self.touched, place, sum)?;
-        self.sums[at] = sum + amount;
+        touch(&mut self.touched, place, sum.wide())?;
+        self.sums[at] = sum.plus_product(factor, other);
         Ok(())
     }
 
-    /// Adds numerators times a factor, each at the place of its index. All sums together stay at most 2^126 - 1.
-    pub(crate) fn add_shares(
+    /// Adds an amount above 0 at a place. All sums together stay within the width.
+    pub(crate) fn add(&mut self, place: u32, amount: T) -> Result<(), Memory>
+        requires inside { place < length self.old }
+        requires some { 0 < T.value amount }
+        requires fits { sum_of self.old + T.value amount ≤ T.most }
+        ensures { OnOk result (self.new ≡ added_at place (T.value amount) self.old) }
+    {
+        self.add_product(place, amount, T::of(1))
+    }
+
+    /// Adds numerators of any width times a factor, each at the place of its index. All sums together stay within the width.
+    pub(crate) fn add_shares<S: Natural>(
         &mut self,
-        factor: u128,
+        factor: T,
         indices: &[u32],
-        numerators: &[u128],
+        numerators: &[S],
     ) -> Result<(), Memory>
         requires equal { length numerators.now ≡ length indices.now }
         requires inside { All (λ index. index < length self.old) indices.now }
-        requires factor { 0 < factor }
-        requires some { All (λ numerator. 0 < numerator) numerators.now }
-        requires fits { sum_of self.old + factor * total_of (zip indices.now numerators.now) ≤ number_bound }
-        ensures { OnOk result (self.new ≡ added_shares factor (zip indices.now numerators.now) self.old) }
+        requires factor { 0 < T.value factor }
+        requires some { All (λ numerator. 0 < S.value numerator) numerators.now }
+        requires fits { sum_of self.old + T.value factor * total_of (zip indices.now (map S.value numerators.now)) ≤ T.most }
+        ensures { OnOk result (self.new ≡ added_shares (T.value factor) (zip indices.now (map S.value numerators.now)) self.old) }
     {
         for i in 0..indices.len() {
-            self.add(indices[i], factor * numerators[i])?;
+            let numerator = T::of(numerators[i].wide());
+            self.add_product(indices[i], factor, numerator)?;
         }
         Ok(())
     }
 
     /// Puts what is not 0 in the place of the entries, in any order, and leaves zeros.
-    pub(crate) fn take_unsorted(&mut self, entries: &mut Vec<Entry>) -> Result<(), Memory>
+    pub(crate) fn take_unsorted(&mut self, entries: &mut Entries<T>) -> Result<(), Memory>
         ensures zeros { OnOk result (self.new ≡ replicate (length self.old) 0) }
-        ensures entries { OnOk result (AreSharesOf self.old (shares_of entries.new.items)) }
+        ensures entries { OnOk result (AreSharesOf self.old entries.new) }
     {
-        entries.clear();
-        entries.reserve(self.touched.len())?;
-        move_sums(&mut self.sums, &self.touched, entries);
-        self.touched.clear();
-        Ok(())
+        entries.replace(&mut self.touched, &mut self.sums)
     }
 
-    /// The same, ascending by place.
-    pub(crate) fn take(&mut self, entries: &mut Vec<Entry>) -> Result<(), Memory>
+    /// Puts what is not 0 in the place of the entries, ascending by place, and leaves zeros.
+    pub(crate) fn take(&mut self, entries: &mut Entries<T>) -> Result<(), Memory>
         ensures zeros { OnOk result (self.new ≡ replicate (length self.old) 0) }
-        ensures entries { OnOk result (shares_of entries.new.items ≡ shares_from 0 self.old) }
+        ensures entries { OnOk result (entries.new ≡ shares_from 0 self.old) }
     {
-        entries.clear();
-        entries.reserve(self.touched.len())?;
         self.touched.sort_unstable();
-        move_sums(&mut self.sums, &self.touched, entries);
-        self.touched.clear();
-        Ok(())
+        entries.replace(&mut self.touched, &mut self.sums)
     }
 }

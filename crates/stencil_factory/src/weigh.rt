@@ -9,30 +9,31 @@ ghost use Rattle.mask_rules.specs.View.{scheme_of};
 ghost use Rattle.child_masks.specs.Masks.{CanRefine, mask_from};
 ghost use Rattle.child_masks.specs.Survey.{IsSurvey};
 ghost use Rattle.child_masks.specs.Found.{ArePointDenominators};
-ghost use Rattle.stencil_apply.specs.Arrays.{shares_of};
 ghost use Rattle.stencil_factory.specs.Weights.{AreWeights};
 ghost use Rattle.stencil_factory.specs.Flat.{IsWeighed};
 
+use crate::entries::Entries;
 use crate::flat::{add_corners, add_terms};
 use crate::scratch::Scratch;
 use child_masks::{PointMask, Survey};
 use level_topology::{Child, Level};
-use mask_rules::{Scheme, face_mask};
+use mask_rules::{MadeMask, Scheme, face_mask};
+use number_width::Natural;
 use ratio128::{Memory, quotient};
-use stencil_apply::Entry;
 
 // Adds the weights of the new point of a face.
-fn weigh_face(
+fn weigh_face<T: Natural>(
     parent: &Level,
     f: u32,
     den: u128,
     dens: &[u128],
-    scratch: &mut Scratch,
+    scratch: &mut Scratch<T>,
 ) -> Result<(), Memory>
     requires known { f < length parent.now.level.polygons }
     requires dens { ArePointDenominators parent.now.level dens.now }
     requires den { den ≡ mask_denominator (source_denominator parent.now.level dens.now) (face_mask parent.now.level f) }
     requires short { den ≤ number_bound }
+    requires fits { den ≤ T.most }
     requires clear { scratch.old ≡ replicate parent.now.level.point_count 0 }
     ensures { OnOk result (IsWeighed parent.now.level dens.now (face_mask parent.now.level f) scratch.new) }
 {
@@ -43,54 +44,65 @@ fn weigh_face(
 }
 
 // Adds the weights of a child point.
-fn weigh_mask(
+fn weigh_mask<T: Natural>(
     parent: &Level,
     child: &Child,
     p: u32,
     scheme: Scheme,
     survey: &Survey,
+    made: &mut MadeMask,
     dens: &[u128],
-    scratch: &mut Scratch,
+    scratch: &mut Scratch<T>,
 ) -> Result<(), Memory>
     requires child { CanRefine parent.now child.now (scheme_of scheme) }
     requires known { p < length child.now.origins }
     requires dens { ArePointDenominators parent.now.level dens.now }
     requires survey { IsSurvey parent.now (scheme_of scheme) child.now.origins dens.now survey.now }
+    requires fits { get_or survey.now.dens.items p 0 ≤ T.most }
     requires clear { scratch.old ≡ replicate parent.now.level.point_count 0 }
     ensures { OnOk result (IsWeighed parent.now.level dens.now (mask_from parent.now.level (scheme_of scheme) (get_or child.now.origins p (FromVertex 0))) scratch.new) }
 {
     parent.facts();
     child.facts();
     let den = survey.dens[p as usize];
-    match survey.mask(parent, child, p, scheme) {
+    match survey.mask(parent, child, p, scheme, made) {
         PointMask::Corners(f) => weigh_face(parent, f, den, dens, scratch),
         PointMask::Terms(mask) => {
-            let multiple = quotient(den, mask.denominator());
-            add_terms(scratch, parent, mask.terms(), multiple, dens, &survey.faces)
+            let multiple = quotient(den, mask.denominator(made));
+            add_terms(
+                scratch,
+                parent,
+                mask.terms(made),
+                multiple,
+                dens,
+                &survey.faces,
+            )
         }
     }
 }
 
 /// Puts the weights of the points of a level in a child point in the place of the entries, by what the survey found over the
-/// denominators of the points. The scratch has a place for each of these points.
-pub(crate) fn weigh_point(
+/// denominators of the points. The scratch has a place for each of these points, and the denominator is within the width.
+pub(crate) fn weigh_point<T: Natural>(
     parent: &Level,
     child: &Child,
     p: u32,
     scheme: Scheme,
     survey: &Survey,
+    made: &mut MadeMask,
     dens: &[u128],
-    scratch: &mut Scratch,
-    weights: &mut Vec<Entry>,
+    scratch: &mut Scratch<T>,
+    weights: &mut Entries<T>,
 ) -> Result<(), Memory>
     requires child { CanRefine parent.now child.now (scheme_of scheme) }
     requires known { p < length child.now.origins }
     requires dens { ArePointDenominators parent.now.level dens.now }
     requires survey { IsSurvey parent.now (scheme_of scheme) child.now.origins dens.now survey.now }
+    requires fits { get_or survey.now.dens.items p 0 ≤ T.most }
     requires clear { scratch.old ≡ replicate parent.now.level.point_count 0 }
     ensures clear { OnOk result (scratch.new ≡ replicate parent.now.level.point_count 0) }
-    ensures weights { OnOk result (AreWeights parent.now.level dens.now (mask_from parent.now.level (scheme_of scheme) (get_or child.now.origins p (FromVertex 0))) (shares_of weights.new.items)) }
+    ensures weights { OnOk result (AreWeights parent.now.level dens.now (mask_from parent.now.level (scheme_of scheme) (get_or child.now.origins p (FromVertex 0))) weights.new) }
 {
-    weigh_mask(parent, child, p, scheme, survey, dens, scratch)?;
+    weigh_mask(parent, child, p, scheme, survey, made, dens, scratch)?;
     scratch.take_unsorted(weights)
 }

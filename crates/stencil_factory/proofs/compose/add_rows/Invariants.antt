@@ -1,11 +1,10 @@
 use Rattle.std.proofs.Common.{◌≡◌, drop}
-use Rattle.stencil_apply.specs.Arrays.{shares_of}
 use Rattle.stencil_factory.specs.Composing.{added_rows, CanAddRows}
 use Rattle.stencil_factory.proofs.compose.add_rows.Given as goal
 
 -- what is added, and what is added from here on, is all
-abbrev pub invariant-loop-weight : goal.invariant-loop-weight
-invariant-loop-weight l = record {
-  all : added_rows l.table (drop l.weight-index (shares_of l.weights)) l.sums ≡ added_rows l.table (shares_of l.weights) l.fn.sums;
-  can : CanAddRows l.table (drop l.weight-index (shares_of l.weights)) l.sums;
+abbrev pub invariant-loop-i : goal.invariant-loop-i
+invariant-loop-i g l = record {
+  all : added_rows l.table (drop l.i l.weights) l.sums ≡ added_rows l.table l.weights l.fn.sums;
+  can : CanAddRows g.T.Natural.most l.table (drop l.i l.weights) l.sums;
 }

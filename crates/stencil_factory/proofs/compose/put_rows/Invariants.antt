@@ -6,7 +6,7 @@ use Rattle.stencil_factory.proofs.compose.put_rows.Given as goal
 
 -- the rows of the points so far
 abbrev pub invariant-loop-p : goal.invariant-loop-p
-invariant-loop-p l = record {
+invariant-loop-p g l = record {
   points : l.room.points ≡ replicate l.parent.level.point_count 0;
   controls : l.room.controls ≡ replicate l.table.controls 0;
   same : l.builder.table.controls ≡ l.table.controls;

@@ -3,4 +3,4 @@ use Rattle.stencil_factory.proofs.compose.sum_rows.Goals as goal
 
 -- asked for by name, so that a body that breaks it is refused at once
 pub returns-clause-entries : goal.returns-clause-entries
-returns-clause-entries c = search rules
+returns-clause-entries g c = search rules

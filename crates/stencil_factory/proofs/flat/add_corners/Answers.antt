@@ -1,43 +1,45 @@
-use Rattle.std.proofs.Common.{arith, refl, ap, sym, ◌∙◌}
-use Rattle.stencil_factory.specs.Scratch.{added_shares}
+use Rattle.std.proofs.Common.{◌≡◌, arith, get_or, refl, ap, sym, ◌∙◌}
+use Rattle.stencil_factory.specs.Scratch.{added_at, added_shares}
 use Rattle.stencil_factory.specs.Flat.{corner_shares}
 use Rattle.stencil_factory.proofs.AddedLemmas.{none-left, within-next, first-can, corners-can, corners-same}
 use Rattle.stencil_factory.proofs.flat.add_corners.Goals as goal
 
 pub loop-rest-init : goal.loop-rest-init
-loop-rest-init c = record { within = c.requires.within; can = c.requires.can; same = refl }
+loop-rest-init g c = record { within = c.requires.within; can = c.requires.can; same = refl }
 
 pub bounds-dens-v : goal.bounds-dens-v
-bounds-dens-v c = c.loop-rest.invariant.within 0 0 c.in-len1-up.len_at_least
+bounds-dens-v g c = c.loop-rest.invariant.within 0 0 c.in-len1-up.len_at_least
 
 pub weight_over-amount-requires-clause-positive : goal.weight_over-amount-requires-clause-positive
-weight_over-amount-requires-clause-positive c = c.requires.positive _ 0 (c.loop-rest.invariant.within 0 0 c.in-len1-up.len_at_least)
+weight_over-amount-requires-clause-positive g c = c.requires.positive _ 0 (c.loop-rest.invariant.within 0 0 c.in-len1-up.len_at_least)
 
 pub loop-rest-preserved : goal.loop-rest-preserved
-loop-rest-preserved c =
+loop-rest-preserved g c =
     let dens = c.args.dens.now in
     let rest = c.loop-rest.rest.now in
     let some = c.in-len1-up.len_at_least in
     let before = c.loop-rest.invariant in
+    let added : c.add.new.self ≡ added_at (get_or rest 0 0) c.weight_over-amount.result c.loop-rest.scratch =
+    rw c.of.ensures at c.in_ok-add.ensures in
     record {
       within = within-next dens c.args.factor c.args.multiple rest some before.within;
-      can = corners-can dens c.args.factor c.args.multiple rest some before.within c.loop-rest.scratch c.add.new.self before.can
-          c.weight_over-amount.result c.weight_over-amount.ensures c.in_ok-add.ensures;
-      same = corners-same dens c.args.factor c.args.multiple rest some before.within c.loop-rest.scratch c.add.new.self before.can
-          c.weight_over-amount.result c.weight_over-amount.ensures c.in_ok-add.ensures ∙ before.same;
+      can = corners-can dens c.args.factor c.args.multiple rest some before.within g.T.Natural.most c.loop-rest.scratch c.add.new.self before.can
+          c.weight_over-amount.result c.weight_over-amount.ensures added;
+      same = corners-same dens c.args.factor c.args.multiple rest some before.within g.T.Natural.most c.loop-rest.scratch c.add.new.self before.can
+          c.weight_over-amount.result c.weight_over-amount.ensures added ∙ before.same;
     }
 
 pub weight_over-amount-requires-clause-small : goal.weight_over-amount-requires-clause-small
-weight_over-amount-requires-clause-small c = omega (arith, (first-can c.args.dens.now c.args.factor c.args.multiple c.loop-rest.rest.now c.in-len1-up.len_at_least c.loop-rest.invariant.within c.loop-rest.scratch _ c.loop-rest.invariant.can refl).2)
+weight_over-amount-requires-clause-small g c = omega (arith, (first-can c.args.dens.now c.args.factor c.args.multiple c.loop-rest.rest.now c.in-len1-up.len_at_least c.loop-rest.invariant.within g.T.Natural.most c.loop-rest.scratch _ c.loop-rest.invariant.can refl).2)
 
 pub add-requires-clause-inside : goal.add-requires-clause-inside
-add-requires-clause-inside c = (first-can c.args.dens.now c.args.factor c.args.multiple c.loop-rest.rest.now c.in-len1-up.len_at_least c.loop-rest.invariant.within c.loop-rest.scratch _ c.loop-rest.invariant.can refl).0
+add-requires-clause-inside g c = (first-can c.args.dens.now c.args.factor c.args.multiple c.loop-rest.rest.now c.in-len1-up.len_at_least c.loop-rest.invariant.within g.T.Natural.most c.loop-rest.scratch _ c.loop-rest.invariant.can refl).0
 
 pub add-requires-clause-some : goal.add-requires-clause-some
-add-requires-clause-some c = (first-can c.args.dens.now c.args.factor c.args.multiple c.loop-rest.rest.now c.in-len1-up.len_at_least c.loop-rest.invariant.within c.loop-rest.scratch c.weight_over-amount.result c.loop-rest.invariant.can c.weight_over-amount.ensures).1
+add-requires-clause-some g c = rw c.of.ensures (first-can c.args.dens.now c.args.factor c.args.multiple c.loop-rest.rest.now c.in-len1-up.len_at_least c.loop-rest.invariant.within g.T.Natural.most c.loop-rest.scratch c.weight_over-amount.result c.loop-rest.invariant.can c.weight_over-amount.ensures).1
 
 pub add-requires-clause-fits : goal.add-requires-clause-fits
-add-requires-clause-fits c = (first-can c.args.dens.now c.args.factor c.args.multiple c.loop-rest.rest.now c.in-len1-up.len_at_least c.loop-rest.invariant.within c.loop-rest.scratch c.weight_over-amount.result c.loop-rest.invariant.can c.weight_over-amount.ensures).2
+add-requires-clause-fits g c = rw c.of.ensures (first-can c.args.dens.now c.args.factor c.args.multiple c.loop-rest.rest.now c.in-len1-up.len_at_least c.loop-rest.invariant.within g.T.Natural.most c.loop-rest.scratch c.weight_over-amount.result c.loop-rest.invariant.can c.weight_over-amount.ensures).3
 
 pub returns : goal.returns
-returns c = sym (ap (λ l. added_shares 1 (corner_shares c.args.dens.now c.args.factor c.args.multiple l) c.loop-rest.scratch) (none-left c.loop-rest.rest.now c.in_default.len_below)) ∙ c.loop-rest.invariant.same
+returns g c = sym (ap (λ l. added_shares 1 (corner_shares c.args.dens.now c.args.factor c.args.multiple l) c.loop-rest.scratch) (none-left c.loop-rest.rest.now c.in_default.len_below)) ∙ c.loop-rest.invariant.same

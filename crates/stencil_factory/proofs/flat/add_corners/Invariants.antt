@@ -6,11 +6,11 @@ use Rattle.stencil_factory.proofs.flat.add_corners.Given as goal
 
 -- the corners from here on, added to what is there, are all corners added to what was there
 abbrev pub invariant-loop-rest : goal.invariant-loop-rest
-invariant-loop-rest l = record {
+invariant-loop-rest g l = record {
   within : All (λ v. v < length l.dens) l.rest;
-  can : CanAddAll (corner_shares l.dens l.factor l.multiple l.rest) l.scratch;
+  can : CanAddAll g.T.Natural.most (corner_shares l.dens l.factor l.multiple l.rest) l.scratch;
   same : added_shares 1 (corner_shares l.dens l.factor l.multiple l.rest) l.scratch ≡ added_shares 1 (corner_shares l.dens l.factor l.multiple l.corners) l.fn.scratch;
 }
 
 abbrev pub decreases-loop-rest : goal.decreases-loop-rest
-decreases-loop-rest l = length l.rest
+decreases-loop-rest g l = length l.rest

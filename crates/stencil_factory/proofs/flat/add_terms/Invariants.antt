@@ -7,12 +7,12 @@ use Rattle.stencil_factory.proofs.flat.add_terms.Given as goal
 
 -- the terms from here on, added to what is there, are all terms added to what was there
 abbrev pub invariant-loop-rest : goal.invariant-loop-rest
-invariant-loop-rest l = record {
+invariant-loop-rest g l = record {
   weigh : AllByRecursion (CanWeighTerm l.parent.level l.dens l.faces l.multiple) (terms_of l.rest);
-  can : CanAddAll (flat_shares l.parent.level l.dens l.faces l.multiple (terms_of l.rest)) l.scratch;
+  can : CanAddAll g.T.Natural.most (flat_shares l.parent.level l.dens l.faces l.multiple (terms_of l.rest)) l.scratch;
   same : added_shares 1 (flat_shares l.parent.level l.dens l.faces l.multiple (terms_of l.rest)) l.scratch
       ≡ added_shares 1 (flat_shares l.parent.level l.dens l.faces l.multiple (terms_of l.terms)) l.fn.scratch;
 }
 
 abbrev pub decreases-loop-rest : goal.decreases-loop-rest
-decreases-loop-rest l = length l.rest
+decreases-loop-rest g l = length l.rest

@@ -21,7 +21,7 @@ name_terms-requires c =
     let scheme = scheme_of c.args.scheme in
     let origin = origin_at c.args.child.now.origins c.args.p in
     terms-can-name c.args.parent.now c.facts.ensures scheme origin (origin-within c.args.parent.now c.args.child.now scheme c.facts-2.ensures c.requires.child c.args.p c.requires.known)
-    (seen_terms c.in-Terms.mask) c.in-Terms.ensures.1 (joined-from c.args.parent.now.level scheme origin)
+    (seen_terms c.mask.new.made c.in-Terms.mask) c.in-Terms.ensures.1 (joined-from c.args.parent.now.level scheme origin)
     (terms_of c.terms.result.now) c.terms.ensures c.start.new.self.count (ap (λ (m : Places). m.count) c.start.ensures ∙ c.requires.count)
 
 pub returns-in-Corners : goal.returns-in-Corners
@@ -41,7 +41,7 @@ returns-in-Terms c =
     named-since c.name_terms.result level scheme origin _ refl
     c.args.met.now c.start.new.self c.start.ensures c.name_terms.new.met
     (ok-weaker c.name_terms.result _ _
-    (terms-named level scheme origin (seen_terms c.in-Terms.mask) c.in-Terms.ensures.1 (joined-from level scheme origin)
+    (terms-named level scheme origin (seen_terms c.mask.new.made c.in-Terms.mask) c.in-Terms.ensures.1 (joined-from level scheme origin)
     (terms_of c.terms.result.now) c.terms.ensures c.start.new.self c.name_terms.new.met
     (ap (λ (m : Places). m.count) c.start.ensures ∙ c.requires.count) (ap (λ (m : Places). m.met) c.start.ensures))
     c.name_terms.ensures)

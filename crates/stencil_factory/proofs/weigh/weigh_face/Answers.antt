@@ -11,24 +11,24 @@ use Rattle.stencil_factory.proofs.KnownLemmas.{known-corners, flat-corners, give
 use Rattle.stencil_factory.proofs.weigh.weigh_face.Goals as goal
 
 pub add_corners-requires-clause-within : goal.add_corners-requires-clause-within
-add_corners-requires-clause-within c = rw c.face_vertices.ensures (face-corners c.args.parent.now c.facts.ensures c.args.f c.requires.known c.args.dens.now c.requires.dens)
+add_corners-requires-clause-within g c = rw c.face_vertices.ensures (face-corners c.args.parent.now c.facts.ensures c.args.f c.requires.known c.args.dens.now c.requires.dens)
 
 pub add_corners-requires-clause-positive : goal.add_corners-requires-clause-positive
-add_corners-requires-clause-positive c = c.requires.dens.positive
+add_corners-requires-clause-positive g c = c.requires.dens.positive
 
 pub add_corners-requires-clause-can : goal.add_corners-requires-clause-can
-add_corners-requires-clause-can c =
-    subst (λ l. CanAddAll l c.args.scratch.now) (flat-corners c.args.parent.now.level c.args.dens.now [] c.quotient-multiple.result c.face_vertices.result.now)
+add_corners-requires-clause-can g c =
+    subst (λ l. CanAddAll g.T.Natural.most l c.args.scratch.now) (flat-corners c.args.parent.now.level c.args.dens.now [] c.quotient-multiple.result c.face_vertices.result.now)
     (given-can c.args.parent.now.level c.args.dens.now [] c.requires.dens (corners_over (polygon_at c.args.parent.now.level.polygons c.args.f) c.face_mask-mask.result.size) _ c.face_mask-mask.ensures.mask
     (joined-corners (polygon_at c.args.parent.now.level.polygons c.args.f))
     (known-corners c.args.parent.now.level c.args.dens.now [] c.requires.dens (polygon_at c.args.parent.now.level.polygons c.args.f)
     (recursion_from_All (λ v. v < length c.args.dens.now) (polygon_at c.args.parent.now.level.polygons c.args.f)
     (face-corners c.args.parent.now c.facts.ensures c.args.f c.requires.known c.args.dens.now c.requires.dens)))
     c.args.den c.requires.den c.requires.short (weigh_points 1 c.face_vertices.result.now) (ap (weigh_points 1) c.face_vertices.ensures)
-    c.size.result c.quotient-multiple.result c.size.ensures c.quotient-multiple.ensures c.args.scratch.now c.requires.clear)
+    c.size.result c.quotient-multiple.result c.size.ensures c.quotient-multiple.ensures c.args.scratch.now c.requires.clear g.T.Natural.most c.requires.fits)
 
 pub returns : goal.returns
-returns c =
+returns g c =
     ok-weaker c.add_corners.result _ _
     (λ added. given-weighed c.args.parent.now.level c.args.dens.now [] c.requires.dens (corners_over (polygon_at c.args.parent.now.level.polygons c.args.f) c.face_mask-mask.result.size) _ c.face_mask-mask.ensures.mask
     (joined-corners (polygon_at c.args.parent.now.level.polygons c.args.f))

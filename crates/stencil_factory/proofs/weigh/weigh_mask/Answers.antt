@@ -7,28 +7,33 @@ use Rattle.child_masks.specs.Found.{AreFaceDenominators}
 use Rattle.child_masks.proofs.OriginLemmas.{origin-within}
 use Rattle.child_masks.proofs.MaskLemmas.{joined-from}
 use Rattle.stencil_factory.specs.Flat.{IsWeighed}
-use Rattle.stencil_factory.proofs.SurveyLemmas.{found-inside, found-read, found-faces}
+use Rattle.stencil_factory.proofs.SurveyLemmas.{found-inside, found-read, found-faces, den-fits}
 use Rattle.stencil_factory.proofs.KnownLemmas.{part-weigh, part-can, part-weighed, ok-weaker}
 use Rattle.stencil_factory.proofs.OriginLemmas.{of-point}
 use Rattle.stencil_factory.proofs.weigh.weigh_mask.Goals as goal
 
 pub index-den-requires : goal.index-den-requires
-index-den-requires c =
+index-den-requires g c =
     let inside = found-inside c.args.parent.now (scheme_of c.args.scheme) c.args.child.now.origins c.args.dens.now c.args.survey.now c.requires.survey c.args.p c.requires.known in
     omega (arith, inside, c.args.survey.now.dens.ok.0)
 
 pub weigh_face-requires-clause-den : goal.weigh_face-requires-clause-den
-weigh_face-requires-clause-den c =
+weigh_face-requires-clause-den g c =
     (found-read c.args.parent.now (scheme_of c.args.scheme) c.args.child.now.origins c.args.dens.now c.args.survey.now c.requires.survey
     c.args.p c.index-den.result.now (FromFace c.in-Corners.f) c.requires.known (sym c.in-Corners.ensures.0) c.index-den.ensures).0
 
 pub weigh_face-requires-clause-short : goal.weigh_face-requires-clause-short
-weigh_face-requires-clause-short c =
+weigh_face-requires-clause-short g c =
     (found-read c.args.parent.now (scheme_of c.args.scheme) c.args.child.now.origins c.args.dens.now c.args.survey.now c.requires.survey
     c.args.p c.index-den.result.now (FromFace c.in-Corners.f) c.requires.known (sym c.in-Corners.ensures.0) c.index-den.ensures).1
 
+pub weigh_face-requires-clause-fits : goal.weigh_face-requires-clause-fits
+weigh_face-requires-clause-fits g c =
+    let inside = found-inside c.args.parent.now (scheme_of c.args.scheme) c.args.child.now.origins c.args.dens.now c.args.survey.now c.requires.survey c.args.p c.requires.known in
+    den-fits _ _ _ _ inside c.index-den.ensures c.requires.fits
+
 pub add_terms-requires-clause-weigh : goal.add_terms-requires-clause-weigh
-add_terms-requires-clause-weigh c =
+add_terms-requires-clause-weigh g c =
     let parent = c.args.parent.now in
     let scheme = scheme_of c.args.scheme in
     let origins = c.args.child.now.origins in
@@ -38,12 +43,12 @@ add_terms-requires-clause-weigh c =
     let faces = subst (AreFaceDenominators parent.level dens) (sym c.deref.ensures.value) (found-faces parent scheme origins dens c.args.survey.now c.requires.survey) in
     let own = found-read parent scheme origins dens c.args.survey.now c.requires.survey c.args.p c.index-den.result.now origin c.requires.known refl c.index-den.ensures in
     part-weigh parent c.facts.ensures scheme origin within dens c.deref.result.now c.requires.dens faces
-    (seen_terms c.in-Terms.mask) c.in-Terms.ensures.1 (joined-from parent.level scheme origin) c.index-den.result.now own.0 own.1
+    (seen_terms c.mask.new.made c.in-Terms.mask) c.in-Terms.ensures.1 (joined-from parent.level scheme origin) c.index-den.result.now own.0 own.1
     (terms_of c.terms.result.now) c.terms.ensures c.denominator.result c.quotient-multiple.result c.denominator.ensures c.quotient-multiple.ensures
     c.args.scratch.now c.requires.clear
 
 pub add_terms-requires-clause-can : goal.add_terms-requires-clause-can
-add_terms-requires-clause-can c =
+add_terms-requires-clause-can g c =
     let parent = c.args.parent.now in
     let scheme = scheme_of c.args.scheme in
     let origins = c.args.child.now.origins in
@@ -53,17 +58,17 @@ add_terms-requires-clause-can c =
     let faces = subst (AreFaceDenominators parent.level dens) (sym c.deref.ensures.value) (found-faces parent scheme origins dens c.args.survey.now c.requires.survey) in
     let own = found-read parent scheme origins dens c.args.survey.now c.requires.survey c.args.p c.index-den.result.now origin c.requires.known refl c.index-den.ensures in
     part-can parent c.facts.ensures scheme origin within dens c.deref.result.now c.requires.dens faces
-    (seen_terms c.in-Terms.mask) c.in-Terms.ensures.1 (joined-from parent.level scheme origin) c.index-den.result.now own.0 own.1
+    (seen_terms c.mask.new.made c.in-Terms.mask) c.in-Terms.ensures.1 (joined-from parent.level scheme origin) c.index-den.result.now own.0 own.1
     (terms_of c.terms.result.now) c.terms.ensures c.denominator.result c.quotient-multiple.result c.denominator.ensures c.quotient-multiple.ensures
-    c.args.scratch.now c.requires.clear
+    c.args.scratch.now c.requires.clear g.T.Natural.most (den-fits _ _ _ _ (found-inside parent scheme origins dens c.args.survey.now c.requires.survey c.args.p c.requires.known) c.index-den.ensures c.requires.fits)
 
 pub returns-in-Corners : goal.returns-in-Corners
-returns-in-Corners c =
+returns-in-Corners g c =
     of-point c.weigh_face.result (λ mask. IsWeighed c.args.parent.now.level c.args.dens.now mask c.weigh_face.new.scratch)
     c.args.parent.now.level (scheme_of c.args.scheme) (FromFace c.in-Corners.f) _ (sym c.in-Corners.ensures.0) c.weigh_face.ensures
 
 pub returns-in-Terms : goal.returns-in-Terms
-returns-in-Terms c =
+returns-in-Terms g c =
     let parent = c.args.parent.now in
     let scheme = scheme_of c.args.scheme in
     let origins = c.args.child.now.origins in
@@ -74,7 +79,7 @@ returns-in-Terms c =
     let own = found-read parent scheme origins dens c.args.survey.now c.requires.survey c.args.p c.index-den.result.now origin c.requires.known refl c.index-den.ensures in
     ok-weaker c.add_terms.result _ _
     (part-weighed parent c.facts.ensures scheme origin within dens c.deref.result.now c.requires.dens faces
-    (seen_terms c.in-Terms.mask) c.in-Terms.ensures.1 (joined-from parent.level scheme origin) c.index-den.result.now own.0 own.1
+    (seen_terms c.mask.new.made c.in-Terms.mask) c.in-Terms.ensures.1 (joined-from parent.level scheme origin) c.index-den.result.now own.0 own.1
     (terms_of c.terms.result.now) c.terms.ensures c.denominator.result c.quotient-multiple.result c.denominator.ensures c.quotient-multiple.ensures
     c.args.scratch.now c.requires.clear c.add_terms.new.scratch)
     c.add_terms.ensures

@@ -1,14 +1,14 @@
-use Rattle.std.proofs.Common.{◌≡◌, ◌+◌, ◌*◌, ◌≤◌, length, drop}
+use Rattle.std.proofs.Common.{◌≡◌, ◌+◌, ◌*◌, ◌≤◌, length, map, drop}
 use Rattle.std.specs.List.{zip}
-use Rattle.subdiv_model.specs.Channel.{number_bound}
 use Rattle.stencil_apply.specs.Table.{total_of}
 use Rattle.stencil_factory.specs.Scratch.{added_shares, sum_of}
 use Rattle.stencil_factory.proofs.scratch.Scratch.add_shares.Given as goal
 
 -- the sums so far with the shares from here on are those with all shares
 abbrev pub invariant-loop-i : goal.invariant-loop-i
-invariant-loop-i l = record {
-  sums : added_shares l.factor (zip (drop l.i l.indices) (drop l.i l.numerators)) l.self ≡ added_shares l.factor (zip l.indices l.numerators) l.fn.self;
+invariant-loop-i g l = record {
+  sums : added_shares (g.T.Natural.value l.factor) (zip (drop l.i l.indices) (drop l.i (map g.S.Natural.value l.numerators))) l.self
+      ≡ added_shares (g.T.Natural.value l.factor) (zip l.indices (map g.S.Natural.value l.numerators)) l.fn.self;
   long : length l.self ≡ length l.fn.self;
-  fits : sum_of l.self + l.factor * total_of (zip (drop l.i l.indices) (drop l.i l.numerators)) ≤ number_bound;
+  fits : sum_of l.self + g.T.Natural.value l.factor * total_of (zip (drop l.i l.indices) (drop l.i (map g.S.Natural.value l.numerators))) ≤ g.T.Natural.most;
 }

@@ -2,4 +2,4 @@ use Rattle.stencil_factory.proofs.TouchedLemmas.{touched-none}
 use Rattle.stencil_factory.proofs.scratch.Scratch.new.Goals as goal
 
 pub invariant_of-result : goal.invariant_of-result
-invariant_of-result c = touched-none _ _ _ c.in_ok-with_capacity.ensures.items (c.in_ok-vec.ensures.items_if_clones_equal (λ y h. h))
+invariant_of-result g c = touched-none _ _ _ c.in_ok-with_capacity.ensures.items c.in_ok-zeros.ensures

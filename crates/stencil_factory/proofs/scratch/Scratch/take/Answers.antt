@@ -1,26 +1,21 @@
-use Rattle.std.proofs.Common.{rules, ◌≡◌, [], length, replicate, ap, ◌∙◌}
 use Rattle.std.proofs.lemmas.List.Sorted.{IsNonDecreasingBy-from_sort}
-use Rattle.stencil_apply.specs.Arrays.{shares_of}
-use Rattle.stencil_factory.proofs.TouchedLemmas.{touched-inside, touched-sorted, touched-none, cleared-zeros, entries-taken}
+use Rattle.stencil_factory.proofs.TouchedLemmas.{touched-permutation, taken-inside, taken-touched, taken-zeros, taken-sorted}
 use Rattle.stencil_factory.proofs.scratch.Scratch.take.Goals as goal
 
-pub move_sums-requires-clause-inside : goal.move_sums-requires-clause-inside
-move_sums-requires-clause-inside c =
-    touched-inside c.deref.result.now c.self.inside.sums.items (touched-sorted _ _ c.deref.result.now c.self.inside.sums.items c.sort_unstable.ensures.permutation c.deref.ensures.value c.self.invariant)
+pub replace-requires : goal.replace-requires
+replace-requires g c = record { inside = taken-inside g.T.Natural.value c.sort_unstable.new.self.items c.self.inside.sums.items (touched-permutation _ _ _ c.sort_unstable.ensures.permutation c.self.invariant) }
 
 pub invariant_of-self : goal.invariant_of-self
-invariant_of-self c =
-    touched-none c.clear-2.new.self.items c.move_sums.new.sums.items (length c.self.inside.sums.items) c.clear-2.ensures.items
-    (c.move_sums.ensures.sums ∙ cleared-zeros c.deref.result.now c.self.inside.sums.items (touched-sorted _ _ c.deref.result.now c.self.inside.sums.items c.sort_unstable.ensures.permutation c.deref.ensures.value c.self.invariant))
+invariant_of-self g c =
+    taken-touched g.T.Natural.value c.sort_unstable.new.self.items c.self.inside.sums.items (touched-permutation _ _ _ c.sort_unstable.ensures.permutation c.self.invariant) c.replace.result c.replace.new.sums.items c.replace.ensures.sums
+    c.replace.new.places.items c.replace.ensures.places c.replace.ensures.same_sums c.replace.ensures.same_places
 
 pub returns-clause-zeros : goal.returns-clause-zeros
-returns-clause-zeros c =
-    let same : c.self.inside.sums.items ≡ c.args.self.now = search rules in
-    c.move_sums.ensures.sums ∙ cleared-zeros c.deref.result.now c.self.inside.sums.items (touched-sorted _ _ c.deref.result.now c.self.inside.sums.items c.sort_unstable.ensures.permutation c.deref.ensures.value c.self.invariant)
-    ∙ ap (λ s. replicate (length s) 0) same
+returns-clause-zeros g c =
+    taken-zeros g.T.Natural.value c.sort_unstable.new.self.items c.self.inside.sums.items (touched-permutation _ _ _ c.sort_unstable.ensures.permutation c.self.invariant) c.replace.result c.replace.new.sums.items c.replace.ensures.sums
+    c.args.self.now c.self.view_is
 
 pub returns-clause-entries : goal.returns-clause-entries
-returns-clause-entries c =
-    let none : c.reserve.new.self.items ≡ [] = search rules in
-    entries-taken _ _ c.deref.result.now c.sort_unstable.new.self.items c.self.inside.sums.items c.args.self.now c.move_sums.ensures.entries (ap shares_of none) c.deref.ensures.value (IsNonDecreasingBy-from_sort (λ v. v) _ c.sort_unstable.ensures.sorted)
-    (touched-sorted _ _ c.deref.result.now c.self.inside.sums.items c.sort_unstable.ensures.permutation c.deref.ensures.value c.self.invariant) (search rules)
+returns-clause-entries g c =
+    taken-sorted g.T.Natural.value c.sort_unstable.new.self.items c.self.inside.sums.items (touched-permutation _ _ _ c.sort_unstable.ensures.permutation c.self.invariant) c.replace.result c.args.self.now c.self.view_is
+    c.replace.new.self c.replace.ensures.entries (IsNonDecreasingBy-from_sort (λ v. v) _ c.sort_unstable.ensures.sorted)

@@ -1,0 +1,99 @@
+//! The entries of a row: places, and a number for each.
+
+ghost use Rattle.std.specs.Prelude.{◌≡◌, ◌+◌, ◌<◌, ◌≤◌, [], ◌++◌, length, map, get_or, set, OnOk, OnErr};
+ghost use Rattle.std.specs.List.{All};
+ghost use Rattle.std.specs.Vec.{vec_capacity};
+ghost use Rattle.stencil_factory.specs.Touched.{moved, cleared};
+
+use number_width::Natural;
+use ratio128::Memory;
+use std::alloc::Global;
+use std::marker::Model;
+use std::mem::swap;
+
+/// Places, and a number for each.
+#[derive(Drop)]
+pub(crate) struct Entries<T: Natural> {
+    indices: Vec<u32>,
+    numerators: Vec<T>,
+}
+
+impl<T: Natural> Model for Entries<T> {
+    ghost use Rattle.std.specs.Prelude.{◌≡◌, List, length, map};
+    ghost use Rattle.std.specs.List.{zip};
+    ghost use Rattle.stencil_apply.specs.Table.{Share};
+
+    ghost Value = { List Share };
+
+    ghost view = { λ e. zip e.indices.items (map T.value e.numerators.items) };
+
+    ghost invariant = { λ e. length e.numerators.items ≡ length e.indices.items };
+}
+
+// Takes the sum of a place, and leaves 0 there.
+fn take_sum<T: Natural>(sums: &mut Vec<T>, place: u32) -> T
+    requires { place < length sums.old.items }
+    ensures sum { T.value result ≡ get_or (map T.value sums.old.items) place 0 }
+    ensures sums { map T.value sums.new.items ≡ set (map T.value sums.old.items) place 0 }
+{
+    let at = place as usize;
+    let sum = sums[at];
+    sums[at] = T::of(0);
+    sum
+}
+
+// Puts the sums of places behind the numbers, and leaves zeros there. There is capacity, so this takes no memory.
+fn move_sums<T: Natural>(sums: &mut Vec<T>, places: &[u32], numbers: &mut Vec<T>)
+    requires inside { All (λ place. place < length sums.old.items) places.now }
+    requires space { length numbers.old.items + length places.now ≤ vec_capacity numbers.old }
+    ensures numbers { map T.value numbers.new.items ≡ map T.value numbers.old.items ++ map (λ share. share.1) (moved places.now (map T.value sums.old.items)) }
+    ensures sums { map T.value sums.new.items ≡ cleared places.now (map T.value sums.old.items) }
+{
+    for place in places {
+        numbers.push_reserved(take_sum(sums, *place));
+    }
+}
+
+impl<T: Natural> Entries<T> {
+    /// No entries.
+    pub(crate) fn new(alloc: Global) -> Entries<T>
+        ensures { result ≡ [] }
+    {
+        Entries {
+            indices: Vec::new(alloc),
+            numerators: Vec::new(alloc),
+        }
+    }
+
+    /// The places, in their order.
+    pub(crate) fn indices(&self) -> &[u32]
+        ensures { result.now ≡ map (λ share. share.0) self.now }
+    {
+        &self.indices
+    }
+
+    /// The numbers, in the order of their places.
+    pub(crate) fn numerators(&self) -> &[T]
+        ensures { map T.value result.now ≡ map (λ share. share.1) self.now }
+    {
+        &self.numerators
+    }
+
+    /// Puts these places and their sums in the place of the entries. It leaves zeros there, and no places. After an error the
+    /// places and the sums are as they were.
+    pub(crate) fn replace(&mut self, places: &mut Vec<u32>, sums: &mut Vec<T>) -> Result<(), Memory>
+        requires inside { All (λ place. place < length sums.old.items) places.old.items }
+        ensures entries { OnOk result (self.new ≡ moved places.old.items (map T.value sums.old.items)) }
+        ensures sums { OnOk result (map T.value sums.new.items ≡ cleared places.old.items (map T.value sums.old.items)) }
+        ensures places { OnOk result (places.new.items ≡ []) }
+        ensures same_sums { OnErr result (sums.new.items ≡ sums.old.items) }
+        ensures same_places { OnErr result (places.new.items ≡ places.old.items) }
+    {
+        self.indices.clear();
+        self.numerators.clear();
+        self.numerators.reserve(places.len())?;
+        move_sums(sums, places, &mut self.numerators);
+        swap(places, &mut self.indices);
+        Ok(())
+    }
+}
