@@ -10,7 +10,7 @@ mod ComposedLemmas
 mod ResultLemmas
 mod WalkedLemmas
 mod WalkedTableLemmas
-mod PlaceLemmas
+mod ControlLemmas
 mod SumLemmas
 pub mod EvaluatedLemmas
 pub mod NumeratorLemmas

@@ -1,61 +1,36 @@
 //! A table evaluated over controls.
 
-ghost use Rattle.std.specs.Prelude.{◌≡◌, ◌+◌, ◌<◌, ◌≤◌, [], ◌∷◌, length, map, get_or, IfOk, OnOk};
+ghost use Rattle.std.specs.Prelude.{◌≡◌, ◌+◌, ◌≤◌, [], length, map, get_or, IfOk, OnOk};
 ghost use Rattle.std.specs.Vec.{vec_capacity};
-ghost use Rattle.ratio128.specs.Numbers.{zeros};
-ghost use Rattle.stencil_apply.specs.Table.{entries_of, row_at, sum_of_row};
+ghost use Rattle.stencil_apply.specs.Table.{entries_of};
 ghost use Rattle.primvar_refine.specs.View.{rows_of};
 ghost use Rattle.channel_refine.specs.Evaluated.{CanEvaluate, evaluated};
 
 use primvar_refine::Valued;
 use ratio128::{Memory, Primvar, Steps};
 use std::alloc::Global;
-use std::mem::replace;
 use std::sync::ledger::Ledger;
-use stencil_apply::{StencilTable, apply_range};
-
-// The sum of a row, with as many numbers as one of the controls. It is made in a place that has zeros before and after.
-fn row_sum<P: Primvar<L>, L: Ledger>(
-    table: &StencilTable,
-    controls: &[P],
-    like: &P,
-    place: &mut [P],
-    row: u32,
-    steps: &mut Steps<L>,
-) -> P
-    requires can { CanEvaluate table.now (map P.numbers controls.now) }
-    requires like { P.numbers like.now ≡ get_or (map P.numbers controls.now) 0 [] }
-    requires place { map P.numbers place.old ≡ zeros (P.numbers like.now) ∷ [] }
-    requires inside { row < length table.now.rows }
-    ensures sum { P.numbers result ≡ sum_of_row (zeros (P.numbers like.now)) (map P.numbers controls.now) (row_at table.now row) }
-    ensures place { map P.numbers place.new ≡ zeros (P.numbers like.now) ∷ [] }
-    ensures steps { steps.new ≡ steps.old + length (row_at table.now row).shares }
-{
-    table.facts();
-    apply_range(table, controls, row, row + 1, place, steps);
-    replace(&mut place[0], like.cleared())
-}
+use stencil_apply::{StencilTable, sum_at, sum_width};
 
 // Adds the sum of each row over its denominator, for which there is room.
 fn push_rows<P: Primvar<L>, L: Ledger>(
     table: &StencilTable,
     controls: &[P],
     like: &P,
-    place: &mut [P],
     values: &mut Vec<Valued<P>>,
     steps: &mut Steps<L>,
 )
     requires can { CanEvaluate table.now (map P.numbers controls.now) }
     requires like { P.numbers like.now ≡ get_or (map P.numbers controls.now) 0 [] }
-    requires place { map P.numbers place.old ≡ zeros (P.numbers like.now) ∷ [] }
     requires empty { values.old.items ≡ [] }
     requires room { length table.now.rows ≤ vec_capacity values.old }
     ensures values { rows_of P.numbers values.new.items ≡ evaluated table.now (map P.numbers controls.now) }
     ensures steps { steps.new ≡ steps.old + entries_of table.now.rows }
 {
     table.facts();
+    let width = sum_width(table, controls);
     for row in 0..table.rows() {
-        let value = row_sum(table, controls, like, place, row, steps);
+        let value = sum_at(table, row, controls, like, width, steps);
         values.push_reserved(Valued {
             value,
             den: table.denominator(row),
@@ -84,8 +59,6 @@ pub fn evaluate<P: Primvar<L>, L: Ledger>(
     let Some(like) = controls.first() else {
         return Ok(values);
     };
-    let mut place = Vec::with_capacity(alloc, 1)?;
-    place.push_reserved(like.cleared());
-    push_rows(table, controls, like, &mut place, &mut values, steps);
+    push_rows(table, controls, like, &mut values, steps);
     Ok(values)
 }

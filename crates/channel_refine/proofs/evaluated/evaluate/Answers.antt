@@ -2,7 +2,7 @@ use Rattle.std.proofs.Common.{map, arith, ap, sym, ◌∙◌}
 use Rattle.stencil_apply.specs.Table.{entries_of}
 use Rattle.primvar_refine.specs.View.{rows_of}
 use Rattle.channel_refine.proofs.EvaluatedLemmas.{evaluated_rows}
-use Rattle.channel_refine.proofs.PlaceLemmas.{none-over, first-numbers}
+use Rattle.channel_refine.proofs.ControlLemmas.{none-over, first-numbers}
 use Rattle.channel_refine.proofs.evaluated.evaluate.Goals as goal
 
 pub returns-in_default-clause-values : goal.returns-in_default-clause-values

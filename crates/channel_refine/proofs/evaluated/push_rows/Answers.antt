@@ -1,19 +1,31 @@
 use Rattle.std.proofs.lemmas.Grind.{common_steps}
-use Rattle.std.proofs.Common.{arith, map, ap, ◌∙◌}
-use Rattle.std.proofs.lemmas.List.{take_all}
+use Rattle.std.proofs.Common.{length, arith, map, ap, sym, ◌∙◌}
+use Rattle.std.proofs.lemmas.List.{take_all, length-map}
 use Rattle.stencil_apply.specs.Table.{entries_of}
 use Rattle.primvar_refine.specs.View.{rows_of}
 use Rattle.channel_refine.proofs.EvaluatedLemmas.{evaluated_row, evaluated_rows}
-use Rattle.channel_refine.proofs.PlaceLemmas.{rows-counted}
+use Rattle.channel_refine.proofs.ControlLemmas.{control-alike, control-fits, rows-counted}
 use Rattle.channel_refine.proofs.evaluated.push_rows.Goals as goal
 
 pub loop-row-init : goal.loop-row-init
 loop-row-init g c = record {
   values = ap (rows_of g.P.Primvar.numbers) c.requires.empty;
   room = c.requires.room;
-  place = c.requires.place;
   taken = omega arith;
 }
+
+pub sum_at-value-requires-clause-inside : goal.sum_at-value-requires-clause-inside
+sum_at-value-requires-clause-inside g c = omega (arith, c.loop-row-test.true, c.rows-row-end.ensures)
+
+pub sum_at-value-requires-clause-controls : goal.sum_at-value-requires-clause-controls
+sum_at-value-requires-clause-controls g c = sym (length-map c.args.controls.now g.P.Primvar.numbers) ∙ c.requires.can.each
+
+pub sum_at-value-requires-clause-same_length : goal.sum_at-value-requires-clause-same_length
+sum_at-value-requires-clause-same_length g c =
+    control-alike g.P.Primvar.numbers c.args.controls.now c.args.table.now c.requires.can (g.P.Primvar.numbers c.args.like.now) c.requires.like
+
+pub sum_at-value-requires-clause-fits : goal.sum_at-value-requires-clause-fits
+sum_at-value-requires-clause-fits g c = control-fits g.P.Primvar.numbers c.args.controls.now c.args.table.now c.requires.can
 
 pub push_reserved-requires : goal.push_reserved-requires
 push_reserved-requires g c =

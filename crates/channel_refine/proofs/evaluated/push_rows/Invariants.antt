@@ -1,16 +1,14 @@
-use Rattle.std.proofs.Common.{◌≡◌, ◌+◌, ◌≤◌, [], ◌∷◌, length, map, take}
+use Rattle.std.proofs.Common.{◌≡◌, ◌+◌, ◌≤◌, length, map, take}
 use Rattle.std.specs.Vec.{vec_capacity}
-use Rattle.ratio128.specs.Numbers.{zeros}
 use Rattle.stencil_apply.specs.Table.{entries_of}
 use Rattle.primvar_refine.specs.View.{rows_of}
 use Rattle.channel_refine.proofs.EvaluatedLemmas.{evaluated_rows}
 use Rattle.channel_refine.proofs.evaluated.push_rows.Given as goal
 
--- the values of the rows so far, the room for the others, the place, and the steps
+-- the values of the rows so far, the room for the others, and the steps
 abbrev pub invariant-loop-row : goal.invariant-loop-row
 invariant-loop-row g l = record {
   values : rows_of g.P.Primvar.numbers l.values.items ≡ evaluated_rows (map g.P.Primvar.numbers l.controls) (take l.row l.table.rows);
   room : length l.table.rows ≤ vec_capacity l.values;
-  place : map g.P.Primvar.numbers l.place ≡ zeros (g.P.Primvar.numbers l.like) ∷ [];
   taken : l.steps ≡ l.fn.steps + entries_of (take l.row l.table.rows);
 }

@@ -1,4 +1,4 @@
--- A row's sum in the one place that is kept for it.
+-- Controls that a table is evaluated over.
 use Rattle.std.proofs.Common.{◌≡◌, ℕ, zero, suc, ◌+◌, ◌*◌, ◌<◌, ◌≤◌, ℤ, List, [], ◌∷◌, length, map, take, get_or, Option, Some, None, Bor, arith, refl, ap, sym, ◌∙◌, subst}
 use Rattle.std.specs.List.{All, slice_get}
 use Rattle.std.specs.Option.{option_copied}
@@ -12,11 +12,6 @@ use Rattle.ratio128.specs.Numbers.{zeros, greatest_amount}
 use Rattle.ratio128.proofs.AmountLemmas.{length-zeros}
 use Rattle.stencil_apply.specs.Table.{Share, Row, Table, IsRow, IsTable, greatest_of, total_of, row_at, sum_of_row}
 use Rattle.channel_refine.specs.Evaluated.{CanEvaluate}
-
--- zeros of zeros
-pub zeros-twice : (xs : List ℤ) → zeros (zeros xs) ≡ zeros xs
-zeros-twice [] = refl
-zeros-twice (x ∷ xs) = grind (arith, zeros-twice xs)
 
 -- a table over no controls has no rows
 no-shares : (controls den : ℕ) (shares : List Share) → 0 < den → total_of shares ≡ den → All (λ share. share.0 < controls) shares → controls ≡ 0 → ⊥
@@ -43,43 +38,16 @@ pub first-numbers : {X : Type 0} (numbers : X → List ℤ) (r : Option (Bor X))
 first-numbers numbers r [] b copied some = let both : Some b.now ≡ None = ap option_copied (sym some) ∙ copied in absurd (cc)
 first-numbers numbers r (x ∷ xs) b copied some = let both : Some b.now ≡ Some x = ap option_copied (sym some) ∙ copied in let same : b.now ≡ x = cc in ap numbers same
 
--- the one list of several that are one
-one-at : (xs : List (List ℤ)) (x d : List ℤ) (k : ℕ) → xs ≡ x ∷ [] → k < length xs → get_or xs k d ≡ x
-one-at xs x d k e h = ap (λ ys. get_or ys k d) e ∙ first k (omega (arith, h, ap length e))
-  where
-    first : (n : ℕ) → n < 1 → get_or (x ∷ []) n d ≡ x
-    first zero below = refl
-    first (suc n) below = absurd (omega (arith, below))
+module _ {X : Type 0} (numbers : X → List ℤ) (controls : List X) (table : Table) (can : CanEvaluate table (map numbers controls)) where
+  -- each has as many numbers as the first
+  pub control-alike : (like : List ℤ) → like ≡ get_or (map numbers controls) 0 [] → (k : ℕ) (d : X) → k < length controls → length (numbers (get_or controls k d)) ≡ length like
+  control-alike like is k d h =
+      ap length (sym (get_or-map_all numbers controls k d)) ∙ can.alike k (numbers d) (omega (arith, h, length-map controls numbers)) ∙ ap length (sym is)
 
-module _ {X : Type 0} (numbers : X → List ℤ) (controls : List X) (table : Table) (can : CanEvaluate table (map numbers controls))
-    (like : List ℤ) (is : like ≡ get_or (map numbers controls) 0 []) (place : List X) (zero_place : map numbers place ≡ zeros like ∷ []) where
-  at-place : (k : ℕ) (d : X) → k < length place → numbers (get_or place k d) ≡ zeros like
-  at-place k d h =
-      sym (get_or-map_all numbers place k d) ∙ one-at (map numbers place) (zeros like) (numbers d) k zero_place (omega (arith, h, length-map place numbers))
-
-  -- the place has as many numbers as each control
-  pub place-alike : (k : ℕ) (d : X) → k < length place → (j : ℕ) (e : X) → j < length controls → length (numbers (get_or controls j e)) ≡ length (numbers (get_or place k d))
-  place-alike k d h j e below =
-      ap length (sym (get_or-map_all numbers controls j e)) ∙ can.alike j (numbers e) (omega (arith, below, length-map controls numbers))
-      ∙ ap length (sym is) ∙ sym (length-zeros like) ∙ ap length (sym (at-place k d h))
-
-  -- each control keeps the bound
+  -- and keeps the bound
   pub control-fits : (k : ℕ) (d : X) → k < length controls → greatest_of table * greatest_amount (numbers (get_or controls k d)) ≤ number_bound
   control-fits k d h =
       subst (λ ns. greatest_of table * greatest_amount ns ≤ number_bound) (get_or-map_all numbers controls k d) (can.fits k (numbers d) (omega (arith, h, length-map controls numbers)))
-
-  -- what is in the place after it is the sum of the row
-  pub sum-in-place : (after : List X) (row : ℕ) (value other : X) → value ≡ get_or after 0 other
-      → ((k : ℕ) (d : X) → k < length place → numbers (get_or after k d) ≡ sum_of_row (zeros (numbers (get_or place k d))) (map numbers controls) (row_at table (row + k)))
-      → numbers value ≡ sum_of_row (zeros like) (map numbers controls) (row_at table row)
-  sum-in-place after row value other e sums =
-      let first : 0 < length place = omega (arith, ap length zero_place, length-map place numbers) in
-      ap numbers e ∙ sums 0 other first
-      ∙ ap (λ start. sum_of_row start (map numbers controls) (row_at table (row + 0))) (ap zeros (at-place 0 other first) ∙ zeros-twice like)
-      ∙ ap (λ r. sum_of_row (zeros like) (map numbers controls) (row_at table r)) (none row)
-    where
-      none : (n : ℕ) → n + 0 ≡ n
-      none n = omega arith
 
 -- there is a value for each row so far
 pub rows-counted : {P : Type 0} (numbers : P → List ℤ) (values : List (Valued P)) (value_of : Row → rows.Row) (all : List Row) (n : ℕ) → n ≤ length all
