@@ -60,9 +60,10 @@ row-by-parts row indices numerators controls shares =
 pub within-shares : (indices numerators : List ℕ) (at : ℕ) → length numerators ≡ length indices → at < length indices → at < length (zip indices numerators)
 within-shares indices numerators at equal h = omega (arith, h, equal, length-zip indices numerators)
 
-pub share-at : (indices numerators : List ℕ) (at d e : ℕ) → length numerators ≡ length indices → at < length indices →
-    share_text (get_or indices at d, get_or numerators at e) ≡ share_text (get_or (zip indices numerators) at (d, e))
-share-at indices numerators at d e equal h = ap share_text (sym (get_or-zip indices numerators at (d, e) h (omega (arith, h, equal))))
+pub share-at : (indices numerators : List ℕ) (at d e n : ℕ) → length numerators ≡ length indices → at < length indices → n ≡ get_or numerators at e →
+    share_text (get_or indices at d, n) ≡ share_text (get_or (zip indices numerators) at (d, e))
+share-at indices numerators at d e n equal h is =
+    ap (λ n. share_text (get_or indices at d, n)) is ∙ ap share_text (sym (get_or-zip indices numerators at (d, e) h (omega (arith, h, equal))))
 
 pub all-shares : (indices numerators : List ℕ) (at : ℕ) → length indices ≤ at → flat_map share_text (take at (zip indices numerators)) ≡ flat_map share_text (zip indices numerators)
 all-shares indices numerators at past = ap (flat_map share_text) (take_all at (zip indices numerators) (omega (arith, past, length-zip indices numerators)))

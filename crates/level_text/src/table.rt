@@ -4,6 +4,7 @@ ghost use Rattle.std.specs.Prelude.{◌≡◌, ◌<◌, ◌∷◌, false, length
 ghost use Rattle.std.specs.List.{flat_map, zip};
 ghost use Rattle.subdiv_model.specs.NumberText.{number_text};
 ghost use Rattle.subdiv_model.specs.TableText.{table_line};
+ghost use Rattle.number_width.specs.Numbers.{numbers_in};
 ghost use Rattle.stencil_apply.specs.Table.{row_at, entries_of};
 ghost use Rattle.obj_out.specs.Puts.{Puts};
 ghost use Rattle.level_text.specs.TableText.{row_text, text_of_table};
@@ -12,6 +13,7 @@ ghost use Rattle.level_text.specs.TableLines.{share_text};
 use crate::table_words::{put_count, put_wide_word};
 use crate::words::{put_byte, put_number_word};
 use far_io::{Sink, WriteFailed};
+use number_width::NumberSlice;
 use obj_out::Out;
 use stencil_apply::StencilTable;
 
@@ -69,15 +71,15 @@ fn put_share<K: Sink>(
 fn put_shares<K: Sink>(
     out: &mut Out<'_, K>,
     indices: &[u32],
-    numerators: &[u128],
+    numerators: &NumberSlice<'_>,
 ) -> Result<(), WriteFailed>
     requires fine { out.old.failed ≡ false }
-    requires equal { length numerators.now ≡ length indices.now }
+    requires equal { length (numbers_in numerators.now) ≡ length indices.now }
     ensures same_reference { out.new.sink.ghost_name ≡ out.old.sink.ghost_name }
-    ensures puts { Puts K.held K.faults K.fixed out.old.sink.now out.new.sink.now out.old.waiting out.new.waiting out.old.failed out.new.failed (flat_map share_text (zip indices.now numerators.now)) result }
+    ensures puts { Puts K.held K.faults K.fixed out.old.sink.now out.new.sink.now out.old.waiting out.new.waiting out.old.failed out.new.failed (flat_map share_text (zip indices.now (numbers_in numerators.now))) result }
 {
     for at in 0..indices.len() {
-        put_share(out, indices[at], numerators[at])?;
+        put_share(out, indices[at], numerators.get(at))?;
     }
     Ok(())
 }
@@ -103,7 +105,7 @@ fn put_row<K: Sink>(out: &mut Out<'_, K>, table: &StencilTable, row: u32) -> Res
 {
     put_byte(out, b's')?;
     put_denominator(out, table, row)?;
-    put_shares(out, table.row_indices(row), table.row_numerators(row))?;
+    put_shares(out, table.row_indices(row), &table.row_numerators(row))?;
     put_byte(out, b'\n')
 }
 
