@@ -3,3 +3,4 @@ mod PlaceLemmas
 mod QuarterLemmas
 mod WheelLemmas
 mod ValueLemmas
+mod StepLemmas

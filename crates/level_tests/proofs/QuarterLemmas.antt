@@ -18,7 +18,7 @@ by-one : (P : ℕ → Type 0) → P 0 → (k : ℕ) → k < 1 → P k
 by-one P a zero h = a
 by-one P a (suc k) h = absurd (omega arith)
 
-by-four : (P : ℕ → Type 0) → P 0 → P 1 → P 2 → P 3 → (k : ℕ) → k < 4 → P k
+pub by-four : (P : ℕ → Type 0) → P 0 → P 1 → P 2 → P 3 → (k : ℕ) → k < 4 → P k
 by-four P a b c d zero h = a
 by-four P a b c d (suc zero) h = b
 by-four P a b c d (suc (suc zero)) h = c

@@ -1,9 +1,9 @@
 -- The tables of a square and of one of its quarters alone.
-use Rattle.std.specs.Prelude.{ℕ, ◌≡◌, true, false, List, [], ◌∷◌, replicate}
+use Rattle.std.specs.Prelude.{ℕ, ◌≡◌, ◌⊎◌, true, false, List, [], ◌∷◌, replicate}
 use Rattle.subdiv_model.specs.Sharpness.{Smooth, Infinite, Normal}
 use Rattle.level_topology.specs.Topology.{Topology}
 use Rattle.level_topology.specs.Rows.{Rows, topology_of}
-use Rattle.level_topology.specs.Child.{PointOrigin, FromVertex, FromFace, FromEdge, ChildTopology}
+use Rattle.level_topology.specs.Child.{PointOrigin, FromVertex, FromFace, FromEdge, ChildTopology, child_of}
 
 -- one face, four edges, and four points that are complete; point 3 is infinitely sharp, and so are the edges
 abbrev pub square_rows : Rows
@@ -56,6 +56,14 @@ square = topology_of square_rows
 
 unfoldable pub quarter : Topology
 quarter = topology_of quarter_rows
+
+-- this quarter as a child of the square
+abbrev pub quarter_child : ChildTopology
+quarter_child = child_of square quarter quarter_origins quarter_places
+
+-- the square, or its quarter
+abbrev pub IsSquareOrQuarter : Topology → Type 0
+IsSquareOrQuarter level = (level ≡ square) ⊎ (level ≡ quarter)
 
 -- how many parts the child that this quarter is has, and how many the square
 pub record IsQuarter (child : ChildTopology) : Type 0 where

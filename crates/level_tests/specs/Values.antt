@@ -1,5 +1,5 @@
 -- Points whose numbers keep their bounds.
-use Rattle.std.specs.Prelude.{◌<◌, ◌≤◌, unsigned_abs}
+use Rattle.std.specs.Prelude.{◌≡◌, ◌<◌, ◌≤◌, unsigned_abs}
 use Rattle.ratio128.specs.declared.point.Point3.{Point3}
 use Rattle.ratio128.specs.declared.valued.Valued.{Valued}
 use Rattle.subdiv_model.specs.Channel.{number_bound}
@@ -10,3 +10,10 @@ pub record IsGoodPoint (p : Valued Point3) : Type 0 where
   pub x : unsigned_abs p.value.x ≤ number_bound
   pub y : unsigned_abs p.value.y ≤ number_bound
   pub z : unsigned_abs p.value.z ≤ number_bound
+
+-- points over 1, whose numbers are at most 8
+pub record IsNearPoint (p : Valued Point3) : Type 0 where
+  pub one : p.den ≡ 1
+  pub x : unsigned_abs p.value.x ≤ 8
+  pub y : unsigned_abs p.value.y ≤ 8
+  pub z : unsigned_abs p.value.z ≤ 8

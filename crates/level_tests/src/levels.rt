@@ -5,7 +5,7 @@ ghost use Rattle.std.specs.List.{sum_by};
 ghost use Rattle.subdiv_model.specs.Sharpness.{Normal};
 ghost use Rattle.sharpness_rules.specs.View.{sharpness_of};
 ghost use Rattle.level_topology.specs.Rows.{no_rows, with_vertex};
-ghost use Rattle.level_tests.specs.Squares.{square, quarter, square_rows, quarter_rows, IsQuarter};
+ghost use Rattle.level_tests.specs.Squares.{square, quarter, square_rows, quarter_rows, quarter_child, IsQuarter};
 
 use crate::built_levels::square_lines;
 use crate::expect::expect_same;
@@ -62,7 +62,7 @@ fn put_square<L: Ledger>(rows: &mut LevelRows, steps: &mut Steps<L>)
     put_point(rows, 3, (2, 3), (1, 0), OUTER, true);
 }
 
-fn make_square<L: Ledger>(alloc: Global, steps: &mut Steps<L>) -> Result<Level, Memory>
+pub fn make_square<L: Ledger>(alloc: Global, steps: &mut Steps<L>) -> Result<Level, Memory>
     ensures { IfOk result (λ level. level ≡ square) }
 {
     let mut rows = LevelRows::new(alloc, 4, 4, 1, 4, 4, 8, Method::Normal)?;
@@ -94,9 +94,14 @@ fn make_quarter<L: Ledger>(alloc: Global, steps: &mut Steps<L>) -> Result<Level,
 }
 
 // One quarter as a child of the square.
-fn join_to<L: Ledger>(alloc: Global, parent: &Level, steps: &mut Steps<L>) -> Result<Child, Memory>
+pub fn join_to<L: Ledger>(
+    alloc: Global,
+    parent: &Level,
+    steps: &mut Steps<L>,
+) -> Result<Child, Memory>
     requires { parent.now ≡ square }
-    ensures { IfOk result IsQuarter }
+    ensures parts { IfOk result IsQuarter }
+    ensures child { IfOk result (λ child. child ≡ quarter_child) }
 {
     let level = make_quarter(alloc, steps)?;
     let child = Child::join(

@@ -1,4 +1,5 @@
-//! Tests of levels, of sharpness, of masks, of uniform refinement and of one step of values, on meshes from tables.
+//! Tests of levels, of sharpness, of masks, of uniform refinement, of one step of values, and of a walk over a part of a level,
+//! on meshes from tables.
 #![tactic(auto)]
 
 #[cfg(test)]
@@ -19,6 +20,8 @@ mod levels;
 mod mask_tables;
 #[cfg(test)]
 mod meshes;
+#[cfg(test)]
+mod parts_walked;
 #[cfg(test)]
 mod refined;
 #[cfg(test)]

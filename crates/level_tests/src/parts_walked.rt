@@ -1,0 +1,390 @@
+// A step that makes one quarter of the square alone, walked with values and with a table.
+
+ghost use Rattle.std.specs.Prelude.{◌≡◌, ◌<◌, [], ◌∷◌, true, length, IfOk};
+ghost use Rattle.std.specs.List.{All};
+ghost use Rattle.primvar_refine.specs.View.{rows_of};
+ghost use Rattle.channel_refine.specs.Step.{AreValues};
+ghost use Rattle.level_tests.specs.Squares.{square, quarter_child};
+ghost use Rattle.level_tests.specs.Values.{IsNearPoint};
+
+use crate::expect::expect_same;
+use crate::levels::{join_to, make_square};
+use channel_refine::{ByTable, ByValues, CarryFault};
+use level_topology::{Child, Level};
+use level_walk::{Cause, Dropped, NextLevel, Reached, WalkFault, walk};
+use mask_rules::Scheme;
+use primvar_refine::Valued;
+use ratio128::{Memory, Point3, Steps};
+use std::alloc::Global;
+use std::marker::{Brand, PhantomData};
+use std::process::Abort;
+use std::sync::ledger::{Blank, Ledger};
+use stencil_apply::{Entry, StencilTable};
+use stencil_factory::identity;
+
+// Why there is no quarter of a level.
+#[derive(Clone, Copy, Debug, PartialEq, Eq)]
+enum QuarterFault {
+    // The level is not the square: its point 0 is not complete.
+    NotComplete,
+    // Memory ran out.
+    Memory,
+}
+
+// The quarter of the square.
+fn quarter_of<L: Ledger>(
+    alloc: Global,
+    level: &Level,
+    steps: &mut Steps<L>,
+) -> Result<Child, QuarterFault>
+    requires { level.now ≡ square }
+    ensures { IfOk result (λ child. child ≡ quarter_child) }
+{
+    match join_to(alloc, level, steps) {
+        Ok(child) => Ok(child),
+        Err(_) => Err(QuarterFault::Memory),
+    }
+}
+
+// The next level of the square is one of its quarters, and that has none.
+#[derive(Clone, Copy)]
+struct Quarter;
+
+impl<L: Ledger> NextLevel<L> for Quarter {
+    type Level = Level;
+
+    type Next = Child;
+
+    type Fault = QuarterFault;
+
+    ghost use Rattle.std.specs.Prelude.{◌≡◌};
+    ghost use Rattle.level_tests.specs.Squares.{square, quarter_child, IsSquareOrQuarter};
+
+    ghost level_of = { λ level. level };
+
+    ghost child_of = { λ child. child };
+
+    ghost next_of = { λ child. child.topology };
+
+    ghost IsReady = { λ _ level. IsSquareOrQuarter level };
+
+    ghost Makes = { λ _ level child next old new. (level ≡ square) × (child ≡ quarter_child) × (next ≡ child.topology) };
+
+    ghost Refuses = { λ _ level fault old new. Unit {0} };
+
+    fn next_level(
+        &self,
+        alloc: Global,
+        level: &Level,
+        steps: &mut Steps<L>,
+    ) -> Result<Child, QuarterFault> {
+        if !level.is_complete(0) {
+            return Err(QuarterFault::NotComplete);
+        }
+        quarter_of(alloc, level, steps)
+    }
+
+    fn level(walked: &Level) -> &Level {
+        walked
+    }
+
+    fn child(next: &Child) -> &Child {
+        next
+    }
+
+    fn into_level(next: Child) -> Level {
+        next.into_level()
+    }
+}
+
+// Where a walk stops: the number of the level that it does not reach, and the fault of the step or of the carrier.
+type Stop = (u32, Option<QuarterFault>, Option<CarryFault>);
+
+// What a test shows of the fault of a walk.
+fn stop_of(fault: WalkFault<QuarterFault, CarryFault>) -> Stop {
+    match fault.cause {
+        Cause::Level(cause) => (fault.level, Some(cause), None),
+        Cause::Carried(cause) => (fault.level, None, Some(cause)),
+        Cause::Memory => (fault.level, None, None),
+    }
+}
+
+// Over each denominator the numerators of a point.
+macro_rules! point {
+    ($den:literal, $x:literal, $y:literal, $z:literal) => {
+        Valued { value: Point3 { x: $x, y: $y, z: $z }, den: $den }
+    };
+}
+
+// The points of the square, and the greatest of their numbers.
+const SQUARE_POINTS: &[Valued<Point3>] = &[
+    point!(1, 0, 0, 0),
+    point!(1, 8, 0, 4),
+    point!(1, 8, 8, 0),
+    point!(1, 0, 8, 8),
+];
+
+fn square_points() -> &'static [Valued<Point3>] {
+    SQUARE_POINTS
+}
+
+const MOST: u128 = 8;
+
+// The points of the quarter: of the vertex 1, which is on a crease, of the face, and of the edges before and after the vertex,
+// which are on the boundary.
+const QUARTER_POINTS: &[Valued<Point3>] = &[
+    point!(8, 56, 8, 24),
+    point!(4, 16, 16, 12),
+    point!(2, 8, 0, 4),
+    point!(2, 16, 8, 4),
+];
+
+// A depth, and the values there or where the walk stops.
+type ValueCase = (u32, Result<&'static [Valued<Point3>], Stop>);
+
+const VALUES: &[ValueCase] = &[
+    (0, Ok(SQUARE_POINTS)),
+    (1, Ok(QUARTER_POINTS)),
+    (2, Err((2, Some(QuarterFault::NotComplete), None))),
+];
+
+fn values() -> &'static [ValueCase] {
+    VALUES
+}
+
+// A row of a table: its denominator, and its control points with their numerators.
+type Row = (u128, &'static [Entry]);
+
+// Control points, each with its numerator.
+macro_rules! entries {
+    ($($index:literal $numerator:literal),*) => {
+        &[$(Entry { index: $index, numerator: $numerator }),*]
+    };
+}
+
+const SQUARE_ROWS: &[Row] = &[
+    (1, entries![0 1]),
+    (1, entries![1 1]),
+    (1, entries![2 1]),
+    (1, entries![3 1]),
+];
+
+const QUARTER_ROWS: &[Row] = &[
+    (8, entries![0 1, 1 6, 2 1]),
+    (4, entries![0 1, 1 1, 2 1, 3 1]),
+    (2, entries![0 1, 1 1]),
+    (2, entries![1 1, 2 1]),
+];
+
+// A depth, and the rows there or where the walk stops.
+type TableCase = (u32, Result<&'static [Row], Stop>);
+
+const TABLES: &[TableCase] = &[
+    (0, Ok(SQUARE_ROWS)),
+    (1, Ok(QUARTER_ROWS)),
+    (2, Err((2, Some(QuarterFault::NotComplete), None))),
+];
+
+fn tables() -> &'static [TableCase] {
+    TABLES
+}
+
+// What is carried at the end of a walk, or where it stops.
+fn carried_of<C: Drop>(
+    end: Result<Reached<Level, C>, WalkFault<QuarterFault, CarryFault>>,
+) -> Result<C, Stop> {
+    match end {
+        Ok(Reached { level, carried }) => {
+            drop(level);
+            Ok(carried)
+        }
+        Err(fault) => Err(stop_of(fault)),
+    }
+}
+
+// The values at a depth, or where the walk stops.
+fn walk_values<L: Ledger>(
+    alloc: Global,
+    level: Level,
+    carried: Vec<Valued<Point3>>,
+    depth: u32,
+    steps: &mut Steps<L>,
+) -> Result<Vec<Valued<Point3>>, Stop>
+    requires level { level ≡ square }
+    requires values { AreValues 8 square (rows_of (λ (q : Point3). q.x ∷ q.y ∷ q.z ∷ []) carried.items) }
+{
+    let by = ByValues {
+        scheme: Scheme::CatmullClark,
+        most: MOST,
+        of: PhantomData,
+    };
+    let start = Reached { level, carried };
+    carried_of(walk(alloc, &Quarter, &by, &mut Dropped, start, depth, steps))
+}
+
+// The table at a depth, or where the walk stops.
+fn walk_table<L: Ledger>(
+    alloc: Global,
+    level: Level,
+    carried: StencilTable,
+    depth: u32,
+    steps: &mut Steps<L>,
+) -> Result<StencilTable, Stop>
+    requires level { level ≡ square }
+    requires table { length carried.rows ≡ 4 }
+{
+    let by = ByTable {
+        scheme: Scheme::CatmullClark,
+        most: MOST,
+    };
+    let start = Reached { level, carried };
+    carried_of(walk(alloc, &Quarter, &by, &mut Dropped, start, depth, steps))
+}
+
+// Whether a point is over 1, and within the greatest of the numbers.
+fn is_near(p: &Valued<Point3>) -> bool
+    ensures { result ≡ true → IsNearPoint p.now }
+{
+    p.den == 1
+        && p.value.x.unsigned_abs() <= MOST
+        && p.value.y.unsigned_abs() <= MOST
+        && p.value.z.unsigned_abs() <= MOST
+}
+
+// Asserts that each point is over 1, with numbers up to 8.
+fn assert_near(rt: &impl Abort, points: &[Valued<Point3>])
+    ensures { All IsNearPoint points.now }
+{
+    let are_near = points.iter().all(|p| is_near(p));
+    assert!(rt; are_near);
+}
+
+// The points of the square, as values that can be carried from it.
+fn near_points(rt: &impl Abort, alloc: Global) -> Result<Vec<Valued<Point3>>, Memory>
+    ensures { IfOk result (λ points. AreValues 8 square (rows_of (λ (q : Point3). q.x ∷ q.y ∷ q.z ∷ []) points.items)) }
+{
+    let points = square_points().to_vec(alloc)?;
+    assert!(rt; points.len() == 4);
+    assert_near(rt, &points);
+    Ok(points)
+}
+
+// The walked values, or where the walk stops, are those of the case.
+fn expect_given(rt: &impl Abort, given: &Result<Vec<Valued<Point3>>, Stop>, case: &ValueCase) {
+    let values = match given {
+        Ok(values) => Ok(values.as_slice()),
+        Err(stop) => Err(*stop),
+    };
+    expect_same(rt, &values, &case.1, case);
+}
+
+// Walks the values of the square to the depth of the case.
+fn expect_values<L: Ledger>(
+    rt: &impl Abort,
+    alloc: Global,
+    case: &ValueCase,
+    steps: &mut Steps<L>,
+) -> Result<(), Memory> {
+    let points = near_points(rt, alloc)?;
+    let level = make_square(alloc, steps)?;
+    let given = walk_values(alloc, level, points, case.0, steps);
+    expect_given(rt, &given, case);
+    Ok(())
+}
+
+// A row is read back so.
+fn expect_row(rt: &impl Abort, table: &StencilTable, row: u32, want: &Row)
+    requires { row < length table.now.rows }
+{
+    let &(den, entries) = want;
+    expect_same(rt, &table.denominator(row), &den, want);
+    expect_same(rt, &(table.row_len(row) as usize), &entries.len(), want);
+    for at in 0..table.row_len(row) {
+        let (index, numerator) = (table.index(row, at), table.numerator(row, at));
+        let entry = Entry { index, numerator };
+        expect_same(rt, &Some(&entry), &entries.get(at as usize), want);
+    }
+}
+
+// A table has these rows.
+fn expect_rows(rt: &impl Abort, table: &StencilTable, rows: &[Row]) {
+    assert!(rt; rows.len() == table.rows() as usize);
+    for row in 0..table.rows() {
+        expect_row(rt, table, row, &rows[row as usize]);
+    }
+}
+
+// The walked table, or where the walk stops, is that of the case.
+fn expect_composed(rt: &impl Abort, given: &Result<StencilTable, Stop>, case: &TableCase) {
+    expect_same(rt, &given.as_ref().err(), &case.1.as_ref().err(), case);
+    if let (Ok(table), Ok(rows)) = (given, case.1) {
+        expect_rows(rt, table, rows);
+    }
+}
+
+// Walks the table of the square to the depth of the case.
+fn expect_table<L: Ledger>(
+    rt: &impl Abort,
+    alloc: Global,
+    case: &TableCase,
+    steps: &mut Steps<L>,
+) -> Result<(), Memory> {
+    let carried = identity(alloc, 4)?;
+    let level = make_square(alloc, steps)?;
+    let given = walk_table(alloc, level, carried, case.0, steps);
+    expect_composed(rt, &given, case);
+    Ok(())
+}
+
+// Walks values to each depth.
+fn expect_all_values<L: Ledger>(
+    rt: &impl Abort,
+    alloc: Global,
+    steps: &mut Steps<L>,
+) -> Result<(), Memory> {
+    for case in values() {
+        expect_values(rt, alloc, case, steps)?;
+    }
+    Ok(())
+}
+
+// Walks a table to each depth.
+fn expect_all_tables<L: Ledger>(
+    rt: &impl Abort,
+    alloc: Global,
+    steps: &mut Steps<L>,
+) -> Result<(), Memory> {
+    for case in tables() {
+        expect_table(rt, alloc, case, steps)?;
+    }
+    Ok(())
+}
+
+// Walks values and a table to each depth.
+fn expect_all<L: Ledger>(
+    rt: &impl Abort,
+    alloc: Global,
+    steps: &mut Steps<L>,
+) -> Result<(), Memory> {
+    expect_all_values(rt, alloc, steps)?;
+    expect_all_tables(rt, alloc, steps)
+}
+
+// Opens the counter of steps.
+fn expect_all_counted<L: Ledger>(rt: &impl Abort, alloc: Global, blank: Blank) -> Result<(), Memory>
+    requires name { blank.name ≡ L.name }
+    requires parts { blank.parts ≡ L.parts }
+    requires some { 0 < blank.parts }
+{
+    expect_all(rt, alloc, &mut Steps::start(blank.open::<L>()))
+}
+
+// Takes a counter of its own.
+fn expect_all_alone(rt: &impl Abort, alloc: Global) -> Result<(), Memory> {
+    expect_all_counted::<Brand>(rt, alloc, Blank::new(1))
+}
+
+#[test]
+fn walks_a_quarter_of_the_square(rt: HostRuntime) -> Result<(), Memory> {
+    expect_all_alone(&rt, rt.alloc())
+}
