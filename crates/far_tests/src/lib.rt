@@ -42,4 +42,6 @@ mod tables;
 #[cfg(test)]
 mod texts;
 #[cfg(test)]
+mod widths;
+#[cfg(test)]
 mod words;

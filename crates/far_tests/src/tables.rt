@@ -9,6 +9,7 @@ ghost use Rattle.stencil_apply.specs.Arrays.{row_of};
 ghost use Rattle.stencil_apply.specs.Built.{no_rows};
 
 use crate::expect::expect_same;
+use number_width::Width;
 use ratio128::{Memory, Point3, Steps};
 use std::alloc::Global;
 use std::marker::Brand;
@@ -132,7 +133,7 @@ fn add_rows(
 }
 
 // The table of these rows over four control points.
-fn table_of(rt: &impl Abort, alloc: Global, rows: &[Row]) -> Result<StencilTable, Memory> {
+pub fn table_of(rt: &impl Abort, alloc: Global, rows: &[Row]) -> Result<StencilTable, Memory> {
     let mut builder = TableBuilder::new(alloc, 4);
     add_rows(rt, &mut builder, 4, rows)?;
     Ok(builder.finish())
@@ -153,7 +154,7 @@ pub fn expect_row(rt: &impl Abort, table: &StencilTable, row: u32, want: &Row)
 }
 
 // The rows are read back so.
-fn expect_rows(rt: &impl Abort, table: &StencilTable, rows: &[Row]) -> Result<(), Fail> {
+pub fn expect_rows(rt: &impl Abort, table: &StencilTable, rows: &[Row]) -> Result<(), Fail> {
     expect_same(rt, &(table.rows() as usize), &rows.len(), &"rows");
     for row in 0..table.rows() {
         let want = rows.get(row as usize).ok_or("a row")?;
@@ -187,7 +188,7 @@ fn expect_table(
 
 // A row is taken into a table that has room for it.
 fn expect_taken_in_room(rt: &(impl Abort + AllocGlobal)) -> Result<(), Fail> {
-    let mut builder = TableBuilder::with_room(rt.alloc(), 4, 1, 3)?;
+    let mut builder = TableBuilder::with_room(rt.alloc(), 4, 1, 3, Width::Narrow)?;
     expect_same(rt, &builder.room(), &(1, 3), &"before");
     let added = add_rows(rt, &mut builder, 4, one_row());
     expect_same(rt, &builder.room(), &(0, 0), &"after");
