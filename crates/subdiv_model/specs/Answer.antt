@@ -1,6 +1,6 @@
 -- What the program answers and writes, for all words and all bytes of its input.
 -- Source: this profile.
-use Rattle.std.specs.Prelude.{ℕ, suc, ◌^◌, ℤ, Bool, true, false, nat_lt, List, [], ◌∷◌, ◌++◌, length, map, Option, Some, None, Result, Ok, Err, codes, if◌then◌else◌}
+use Rattle.std.specs.Prelude.{ℕ, ◌≡◌, suc, ◌^◌, ℤ, Bool, true, false, nat_lt, List, [], ◌∷◌, ◌++◌, length, map, Option, Some, None, Result, Ok, Err, codes, if◌then◌else◌}
 use Rattle.std.specs.List.{filter, flat_map, range_with_len, enumerate_from}
 use Rattle.subdiv_model.specs.Lists.{first_of}
 use Rattle.subdiv_model.specs.Polygons.{Polygon}
@@ -19,17 +19,14 @@ use Rattle.subdiv_model.specs.Support.{entries_after}
 use Rattle.subdiv_model.specs.Cut.{SeamMode, SmoothSeams, CornerSeams, BoundarySeams, cut_level, channel_values}
 use Rattle.subdiv_model.specs.Channel.{Channel, Asked, Sharpnesses, Values, Tables, greatest_amount, greatest_denominator, fault_where, channel_faults}
 use Rattle.subdiv_model.specs.Generator.{generated_mesh}
-use Rattle.subdiv_model.specs.Command.{Command, Refine, Stencils, Levels, Gen, Uv, SmoothUv, CornersUv, BoundariesUv, LinearUv, By, ByTable, ByLevel, Tags, NoTags, YesTags, read_words}
+use Rattle.subdiv_model.specs.Command.{Command, Reads, Makes, Streams, ReadCommand, Refine, Stencils, Levels, MakeCommand, Gen, StreamCommand, RefineOptions, Uv, SmoothUv, CornersUv, BoundariesUv, LinearUv, By, ByTable, ByLevel, read_words}
 use Rattle.subdiv_model.specs.Fault.{Fault, Usage, Long, Obj, Mesh, TooLarge, Points, Faces, FaceSize, Valence, LevelFaces, Positions, Texture}
+use Rattle.subdiv_model.specs.Refusal.{Answer, refused, answer_unless}
+use Rattle.subdiv_model.specs.Stream.{LineRule, answer_of_lines}
 use Rattle.subdiv_model.specs.NumberText.{number_text, value_text}
 use Rattle.subdiv_model.specs.Text.{line_text, mesh_text, textured_mesh_text, tags_text}
 use Rattle.subdiv_model.specs.LevelText.{levels_text}
 use Rattle.subdiv_model.specs.TableText.{table_text}
-
--- the text is empty where there is a refusal
-pub record Answer : Type 0 where
-  pub text : List ℕ
-  pub refusal : Option Fault
 
 -- the limits: bytes of an input, points and faces of a mesh, corners of a face and edges of a vertex, and faces of
 -- a level after the first
@@ -108,26 +105,27 @@ asked_of ByTable = Tables
 asked_of ByLevel = Values
 
 -- the faults of the positions' levels, and then of the texture's
-abbrev pub refine_faults : Asked → Uv → ℕ → ObjMesh → List Fault
-refine_faults asked uv depth mesh =
-    channel_faults asked (positions_of mesh) Positions depth
-    ++ (if mesh.has_texture then channel_faults asked (texture_of mesh uv) Texture depth else [])
+abbrev pub refine_faults : RefineOptions → ObjMesh → List Fault
+refine_faults options mesh =
+    channel_faults (asked_of options.by) (positions_of mesh) Positions options.depth
+    ++ (if mesh.has_texture then channel_faults (asked_of options.by) (texture_of mesh options.uv) Texture options.depth else [])
+
+-- the faults of a table of the positions
+abbrev pub table_faults : ℕ → ObjMesh → List Fault
+table_faults depth mesh = level_count_faults mesh.faces depth ++ channel_faults Tables (positions_of mesh) Positions depth
 
 -- the faults that a command has with a mesh that is accepted, in their order
-abbrev pub command_faults : Command → ObjMesh → List Fault
-command_faults (Refine depth decimals uv by tags) mesh = level_count_faults mesh.faces depth ++ refine_faults (asked_of by) uv depth mesh
-command_faults (Stencils depth) mesh = level_count_faults mesh.faces depth ++ channel_faults Tables (positions_of mesh) Positions depth
+abbrev pub command_faults : ReadCommand → ObjMesh → List Fault
+command_faults (Refine options) mesh = level_count_faults mesh.faces options.depth ++ refine_faults options mesh
+command_faults (Stencils depth) mesh = table_faults depth mesh
 command_faults (Levels depth) mesh = level_count_faults mesh.faces depth ++ channel_faults Sharpnesses (positions_of mesh) Positions depth
-command_faults (Gen seed size depth) mesh = level_count_faults mesh.faces depth ++ channel_faults Tables (positions_of mesh) Positions depth
 
--- faces that are holes are written where the tags are
-abbrev pub with_holes : Tags → Bool
-with_holes NoTags = false
-with_holes YesTags = true
+-- the mesh that a command makes, and the faults that it has with it
+abbrev pub made_mesh : MakeCommand → ObjMesh
+made_mesh (Gen options) = generated_mesh options.seed options.size
 
-abbrev pub written_tags : Tags → Level → List ℕ
-written_tags NoTags level = []
-written_tags YesTags level = tags_text level
+abbrev pub made_faults : MakeCommand → List Fault
+made_faults (Gen options) = table_faults options.depth (generated_mesh options.seed options.size)
 
 abbrev pub points_after : ObjMesh → ℕ → List Point
 points_after mesh depth = refined_points (base_level mesh) CatmullClark mesh.common mesh.points depth
@@ -135,11 +133,17 @@ points_after mesh depth = refined_points (base_level mesh) CatmullClark mesh.com
 abbrev pub texture_after : ObjMesh → Uv → ℕ → List (Value × Value)
 texture_after mesh uv depth = refined_texture (cut_level (seams_of uv) mesh) (scheme_of uv) mesh.texture_common (channel_values mesh) depth
 
-abbrev pub refined_mesh_text : Option ℕ → Uv → Tags → ℕ → ObjMesh → List ℕ
-refined_mesh_text decimals uv tags depth mesh =
+-- the points, the texture and the faces at a depth; faces that are holes are written where the tags are
+abbrev pub refined_mesh_text : RefineOptions → ObjMesh → List ℕ
+refined_mesh_text options mesh =
     if mesh.has_texture
-    then textured_mesh_text decimals (with_holes tags) (refined_level (base_level mesh) depth) (points_after mesh depth) (refined_level (cut_level (seams_of uv) mesh) depth) (texture_after mesh uv depth)
-    else mesh_text decimals (with_holes tags) (refined_level (base_level mesh) depth) (points_after mesh depth)
+    then textured_mesh_text options.decimals options.tags (refined_level (base_level mesh) options.depth) (points_after mesh options.depth)
+    (refined_level (cut_level (seams_of options.uv) mesh) options.depth) (texture_after mesh options.uv options.depth)
+    else mesh_text options.decimals options.tags (refined_level (base_level mesh) options.depth) (points_after mesh options.depth)
+
+-- the tags of a level, where they are asked for
+abbrev pub written_tags : Bool → Level → List ℕ
+written_tags tags level = if tags then tags_text level else []
 
 abbrev pub generated_line : ObjMesh → List ℕ
 generated_line mesh =
@@ -171,42 +175,42 @@ generated_text mesh depth =
     ++ last_line (points_after mesh depth))
 
 -- what a command writes of an accepted mesh without faults
-abbrev pub command_text : Command → ObjMesh → List ℕ
-command_text (Refine depth decimals uv by tags) mesh =
-    refined_mesh_text decimals uv tags depth mesh ++ written_tags tags (refined_level (base_level mesh) depth)
+abbrev pub command_text : ReadCommand → ObjMesh → List ℕ
+command_text (Refine options) mesh = refined_mesh_text options mesh ++ written_tags options.tags (refined_level (base_level mesh) options.depth)
 command_text (Stencils depth) mesh = table_text (base_level mesh) CatmullClark depth
 command_text (Levels depth) mesh = levels_text (base_level mesh) depth
-command_text (Gen seed size depth) mesh = generated_text mesh depth
 
-abbrev pub refused : Fault → Answer
-refused fault = record { text = []; refusal = Some fault }
-
-abbrev pub answer_unless : Option Fault → List ℕ → Answer
-answer_unless None text = record { text = text; refusal = None }
-answer_unless (Some fault) text = refused fault
+abbrev pub made_text : MakeCommand → List ℕ
+made_text (Gen options) = generated_text (generated_mesh options.seed options.size) options.depth
 
 -- of a mesh that is accepted: its counts are judged first
-abbrev pub answer_of_mesh : Command → ObjMesh → Answer
+abbrev pub answer_of_mesh : ReadCommand → ObjMesh → Answer
 answer_of_mesh command mesh = answer_unless (first_of (count_faults mesh ++ command_faults command mesh)) (command_text command mesh)
 
-abbrev pub answer_of_checked : Command → Option MeshFault → ObjMesh → Answer
+abbrev pub answer_of_checked : ReadCommand → Option MeshFault → ObjMesh → Answer
 answer_of_checked command (Some fault) mesh = refused (Mesh fault)
 answer_of_checked command None mesh = answer_of_mesh command mesh
 
-abbrev pub answer_of_read : Command → Option ObjFault → ObjMesh → Answer
+abbrev pub answer_of_read : ReadCommand → Option ObjFault → ObjMesh → Answer
 answer_of_read command (Some fault) mesh = refused (Obj fault)
 answer_of_read command None mesh = answer_of_checked command (first_mesh_fault (length mesh.points) mesh.faces) mesh
 
-abbrev pub answer_of_bytes : Command → List ℕ → Answer
+abbrev pub answer_of_bytes : ReadCommand → List ℕ → Answer
 answer_of_bytes command bytes =
     if nat_lt byte_limit (length bytes) then refused Long else answer_of_read command (read_obj_fault bytes 0) (read_obj_mesh bytes 0)
 
 -- a mesh that the program makes by itself is accepted unread
+abbrev pub answer_of_made : MakeCommand → Answer
+answer_of_made command = answer_unless (first_of (count_faults (made_mesh command) ++ made_faults command)) (made_text command)
+
+-- what each line of an input adds under a command that answers while it reads
+abbrev pub rule_of : StreamCommand → LineRule
+rule_of = elim [ ]
+
 abbrev pub answer_of_command : Command → List ℕ → Answer
-answer_of_command (Refine depth decimals uv by tags) bytes = answer_of_bytes (Refine depth decimals uv by tags) bytes
-answer_of_command (Stencils depth) bytes = answer_of_bytes (Stencils depth) bytes
-answer_of_command (Levels depth) bytes = answer_of_bytes (Levels depth) bytes
-answer_of_command (Gen seed size depth) bytes = answer_of_mesh (Gen seed size depth) (generated_mesh seed size)
+answer_of_command (Reads command) bytes = answer_of_bytes command bytes
+answer_of_command (Makes command) bytes = answer_of_made command
+answer_of_command (Streams command) bytes = answer_of_lines (rule_of command) byte_limit bytes
 
 abbrev pub answer_of_words : Result Command ℕ → List ℕ → Answer
 answer_of_words (Ok command) bytes = answer_of_command command bytes
@@ -215,3 +219,10 @@ answer_of_words (Err word) bytes = refused (Usage word)
 -- the answer to words and bytes
 abbrev pub answer : List (List ℕ) → List ℕ → Answer
 answer words bytes = answer_of_words (read_words words) bytes
+
+-- the mesh of a command is accepted: the one that it makes is, and one that is read where neither its text nor its faces have a fault
+abbrev pub IsAcceptedMesh : Command → List ℕ → ObjMesh → Type 0
+IsAcceptedMesh (Reads command) bytes mesh =
+    (read_obj_fault bytes 0 ≡ None) × (read_obj_mesh bytes 0 ≡ mesh) × (first_mesh_fault (length mesh.points) mesh.faces ≡ None)
+IsAcceptedMesh (Makes command) bytes mesh = made_mesh command ≡ mesh
+IsAcceptedMesh (Streams command) bytes mesh = ⊥

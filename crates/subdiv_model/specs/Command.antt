@@ -1,6 +1,6 @@
 -- Commands as values: the words of a command line with its options filled in.
 -- Source: this profile.
-use Rattle.std.specs.Prelude.{ℕ, List, [], ◌∷◌, Option, Some, None, Result, Ok, Err, bytes_eq, codes, unwrap_or, if◌then◌else◌}
+use Rattle.std.specs.Prelude.{ℕ, ◌≤◌, Bool, List, [], ◌∷◌, Option, Some, None, Result, Ok, Err, bytes_eq, codes, unwrap_or, IfSome, if◌then◌else◌}
 use Rattle.subdiv_model.specs.Words.{CommandRule, command_table, usage_of, value_of, number_of, required_number}
 
 -- how the texture is cut and refined
@@ -15,20 +15,41 @@ pub data By : Type 0 where
   ByTable : By
   ByLevel : By
 
--- whether the tags of the last level are written
-pub data Tags : Type 0 where
-  NoTags : Tags
-  YesTags : Tags
+-- what `refine` is asked for
+pub record RefineOptions : Type 0 where
+  pub depth : ℕ
+  -- rounded to so many decimals, or else in lowest terms
+  pub decimals : Option ℕ
+  pub uv : Uv
+  pub by : By
+  -- with the tags of the last level
+  pub tags : Bool
+
+-- what `gen` is asked for: the sheet, and the depth
+pub record GenOptions : Type 0 where
+  pub seed : ℕ
+  pub size : ℕ
+  pub depth : ℕ
+
+-- the commands that read a mesh and then answer
+pub data ReadCommand : Type 0 where
+  Refine : RefineOptions → ReadCommand
+  -- the depth
+  Stencils : ℕ → ReadCommand
+  -- the depth
+  Levels : ℕ → ReadCommand
+
+-- the commands that make their mesh, and read nothing
+pub data MakeCommand : Type 0 where
+  Gen : GenOptions → MakeCommand
+
+-- the commands that answer while they read: there is none
+pub data StreamCommand : Type 0 where
 
 pub data Command : Type 0 where
-  -- the depth, the decimals, the texture, the path and the tags
-  Refine : ℕ → Option ℕ → Uv → By → Tags → Command
-  -- the depth
-  Stencils : ℕ → Command
-  -- the depth
-  Levels : ℕ → Command
-  -- the seed, the size and the depth
-  Gen : ℕ → ℕ → ℕ → Command
+  Reads : ReadCommand → Command
+  Makes : MakeCommand → Command
+  Streams : StreamCommand → Command
 
 -- what the value of an option says, and the first of its names where it is missing
 abbrev pub uv_of : List ℕ → Uv
@@ -41,31 +62,35 @@ uv_of value =
 abbrev pub by_of : List ℕ → By
 by_of value = if bytes_eq value (codes "level") then ByLevel else ByTable
 
-abbrev pub tags_of : List ℕ → Tags
-tags_of value = if bytes_eq value (codes "yes") then YesTags else NoTags
+abbrev pub tags_of : List ℕ → Bool
+tags_of value = bytes_eq value (codes "yes")
 
-abbrev pub refine_of : List (List ℕ) → Command
-refine_of options =
-    Refine
-    (required_number options (codes "depth"))
-    (number_of options (codes "decimals"))
-    (uv_of (unwrap_or (value_of options (codes "uv")) (codes "smooth")))
-    (by_of (unwrap_or (value_of options (codes "by")) (codes "table")))
-    (tags_of (unwrap_or (value_of options (codes "tags")) (codes "no")))
+abbrev pub refine_of : List (List ℕ) → RefineOptions
+refine_of options = record {
+  depth = required_number options (codes "depth");
+  decimals = number_of options (codes "decimals");
+  uv = uv_of (unwrap_or (value_of options (codes "uv")) (codes "smooth"));
+  by = by_of (unwrap_or (value_of options (codes "by")) (codes "table"));
+  tags = tags_of (unwrap_or (value_of options (codes "tags")) (codes "no"));
+}
 
-abbrev pub gen_of : List (List ℕ) → Command
-gen_of options = Gen (required_number options (codes "seed")) (required_number options (codes "size")) (required_number options (codes "depth"))
+abbrev pub gen_of : List (List ℕ) → GenOptions
+gen_of options = record {
+  seed = required_number options (codes "seed");
+  size = required_number options (codes "size");
+  depth = required_number options (codes "depth");
+}
 
 -- the command of this name with these options, in a command line that is one
 abbrev pub command_named : List ℕ → List (List ℕ) → Command
 command_named name options =
-    if bytes_eq name (codes "refine") then refine_of options
-    else if bytes_eq name (codes "stencils") then Stencils (required_number options (codes "depth"))
-    else if bytes_eq name (codes "levels") then Levels (required_number options (codes "depth"))
-    else gen_of options
+    if bytes_eq name (codes "refine") then Reads (Refine (refine_of options))
+    else if bytes_eq name (codes "stencils") then Reads (Stencils (required_number options (codes "depth")))
+    else if bytes_eq name (codes "levels") then Reads (Levels (required_number options (codes "depth")))
+    else Makes (Gen (gen_of options))
 
 abbrev pub command_of : List (List ℕ) → Command
-command_of [] = Levels 0
+command_of [] = Reads (Levels 0)
 command_of (name ∷ options) = command_named name options
 
 abbrev pub read_or : Option ℕ → List (List ℕ) → Result Command ℕ
@@ -78,3 +103,18 @@ read_words_by table words = read_or (usage_of table words) words
 
 abbrev pub read_words : List (List ℕ) → Result Command ℕ
 read_words words = read_words_by command_table words
+
+-- the numbers of a command are those that the table of words allows: a depth of at most 10, at most 18 decimals, and a size
+-- from 1 to 256
+abbrev pub IsReadInRange : ReadCommand → Type 0
+IsReadInRange (Refine options) = (options.depth ≤ 10) × IfSome options.decimals (λ digits. digits ≤ 18)
+IsReadInRange (Stencils depth) = depth ≤ 10
+IsReadInRange (Levels depth) = depth ≤ 10
+
+abbrev pub IsMakeInRange : MakeCommand → Type 0
+IsMakeInRange (Gen options) = (1 ≤ options.size) × (options.size ≤ 256) × (options.depth ≤ 10)
+
+abbrev pub IsInRange : Command → Type 0
+IsInRange (Reads command) = IsReadInRange command
+IsInRange (Makes command) = IsMakeInRange command
+IsInRange (Streams command) = ⊥

@@ -27,6 +27,8 @@ pub mod ReadObj
 pub mod Base
 pub mod Cut
 pub mod Fault
+pub mod Refusal
+pub mod Stream
 pub mod Channel
 pub mod Text
 pub mod LevelText

@@ -4,11 +4,11 @@
 //@ Valence=Fault
 
 ghost use Rattle.std.specs.Prelude.{◌≡◌, List, [], ◌∷◌, ◌++◌, map, take, pos, Some, None, codes};
-ghost use Rattle.subdiv_model.specs.Answer.{answer, answer_of_mesh, count_faults, level_count_faults};
+ghost use Rattle.subdiv_model.specs.Answer.{answer, answer_of_made, answer_of_mesh, count_faults, level_count_faults, made_mesh};
 ghost use Rattle.subdiv_model.specs.Base.{base_level};
 ghost use Rattle.subdiv_model.specs.ExampleControls.{first_texture};
 ghost use Rattle.subdiv_model.specs.ExampleTexts.{corner_cube_refined_text, cube_text, seamed_text, square_text};
-ghost use Rattle.subdiv_model.specs.Command.{Command};
+ghost use Rattle.subdiv_model.specs.Command.{MakeCommand, ReadCommand};
 ghost use Rattle.subdiv_model.specs.Examples.{cube};
 ghost use Rattle.subdiv_model.specs.Fault.{ChaikinOverflow, Entries, Fault, FaceSize, LevelFaces, Long, Memory, Mesh, Obj, Overflow, Positions, Read, Texture, TooLarge, TransitionOverflow, Usage, Valence, ValueOverflow, Write, fault_line, fault_status, outcome_status};
 ghost use Rattle.subdiv_model.specs.Generator.{draws_from, generated_mesh, sheet_faces};
@@ -79,8 +79,10 @@ pub fn counts_past_their_limits()
 
 /// A mesh with a count past its limit is refused for the first such count, whatever the command.
 pub fn counts_come_first()
-    ensures { (command : Command) (mesh : ObjMesh) (fault : Fault) (faults : List Fault) → count_faults mesh ≡ fault ∷ faults
+    ensures read { (command : ReadCommand) (mesh : ObjMesh) (fault : Fault) (faults : List Fault) → count_faults mesh ≡ fault ∷ faults
         → (answer_of_mesh command mesh).refusal ≡ Some fault }
+    ensures made { (command : MakeCommand) (fault : Fault) (faults : List Fault) → count_faults (made_mesh command) ≡ fault ∷ faults
+        → (answer_of_made command).refusal ≡ Some fault }
 {}
 
 /// Each fault as a line on standard error, and its status.

@@ -11,6 +11,7 @@ pub mod masks;
 pub mod meshes;
 pub mod numerals;
 pub mod obj;
+pub mod streams;
 pub mod texts;
 pub mod texture;
 pub mod values;

@@ -1,7 +1,7 @@
 //! Examples of command lines, each proved by computing.
 
-ghost use Rattle.std.specs.Prelude.{◌≡◌, [], ◌∷◌, Some, None, Ok, Err, codes};
-ghost use Rattle.subdiv_model.specs.Command.{ByLevel, ByTable, CornersUv, Gen, Levels, NoTags, Refine, SmoothUv, YesTags, read_words};
+ghost use Rattle.std.specs.Prelude.{◌≡◌, false, true, [], ◌∷◌, Some, None, Ok, Err, codes};
+ghost use Rattle.subdiv_model.specs.Command.{ByLevel, ByTable, CornersUv, Gen, Levels, Makes, Reads, Refine, SmoothUv, read_words};
 ghost use Rattle.subdiv_model.specs.Words.{command_table, usage_of};
 
 /// Command lines and the place of their first bad word.
@@ -20,10 +20,10 @@ pub fn places_of_bad_words()
 
 /// What words say: options in any order, and the defaults where they are missing.
 pub fn commands_of_words()
-    ensures refine { read_words (codes "refine" ∷ codes "depth=0" ∷ []) ≡ Ok (Refine 0 None SmoothUv ByTable NoTags) }
+    ensures refine { read_words (codes "refine" ∷ codes "depth=0" ∷ []) ≡ Ok (Reads (Refine (record { depth = 0; decimals = None; uv = SmoothUv; by = ByTable; tags = false }))) }
     ensures all { read_words (codes "refine" ∷ codes "tags=yes" ∷ codes "by=level" ∷ codes "uv=corners" ∷ codes "decimals=18" ∷ codes "depth=10" ∷ [])
-        ≡ Ok (Refine 10 (Some 18) CornersUv ByLevel YesTags) }
-    ensures sheet { read_words (codes "gen" ∷ codes "size=256" ∷ codes "seed=4294967295" ∷ codes "depth=3" ∷ []) ≡ Ok (Gen 4294967295 256 3) }
-    ensures levels { read_words (codes "levels" ∷ codes "depth=1" ∷ []) ≡ Ok (Levels 1) }
+        ≡ Ok (Reads (Refine (record { depth = 10; decimals = Some 18; uv = CornersUv; by = ByLevel; tags = true }))) }
+    ensures sheet { read_words (codes "gen" ∷ codes "size=256" ∷ codes "seed=4294967295" ∷ codes "depth=3" ∷ []) ≡ Ok (Makes (Gen (record { seed = 4294967295; size = 256; depth = 3 }))) }
+    ensures levels { read_words (codes "levels" ∷ codes "depth=1" ∷ []) ≡ Ok (Reads (Levels 1)) }
     ensures bad { read_words (codes "levels" ∷ codes "depth=x" ∷ []) ≡ Err 1 }
 {}
