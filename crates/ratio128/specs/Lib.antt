@@ -1,2 +1,3 @@
 pub mod Ratio
 pub mod Numbers
+pub mod StepsTaken

@@ -1,3 +1,5 @@
+ghost use Rattle.std.specs.Prelude.{◌≡◌, Some, codes};
+
 use std::alloc::{AllocError, AllocFailed};
 use std::fmt;
 
@@ -5,13 +7,20 @@ use std::fmt;
 #[derive(Clone, Copy, Debug, PartialEq, Eq)]
 pub struct Memory;
 
-impl fmt::Display for Memory {
-    ghost use Rattle.std.specs.Prelude.{Some, codes};
+impl Memory {
+    /// The fault in words.
+    pub fn text(&self) -> &'static str
+        ensures { result.now ≡ codes "out of memory" }
+    {
+        "out of memory"
+    }
+}
 
+impl fmt::Display for Memory {
     ghost output = { λ _. Some (codes "out of memory") };
 
     fn fmt<W: fmt::Write>(&self, f: &mut fmt::Formatter<W>) -> fmt::Result {
-        write!(f, "out of memory")
+        f.write_str(self.text())
     }
 }
 
