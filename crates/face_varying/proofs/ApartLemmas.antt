@@ -38,7 +38,7 @@ module _ (mesh : ObjMesh) (base : Topology) (cuttable : IsCuttable mesh base) (i
   abbrev numbers : ℕ → ℕ × ℕ → ℕ × ℕ
   numbers f edge = (texture_number mesh f edge.0, texture_number mesh f edge.1)
 
-  -- they stand at the corners of its side
+  -- the texture numbers of a side stand at its corners
   numbers-there : (f c : ℕ) → c < length (polygon_at faces f) → side_at (polygon_at mesh.texture_corners f) c ≡ numbers f (side_at (polygon_at faces f) c)
   numbers-there f c inside =
       let row = polygon_at mesh.texture_corners f in
@@ -84,22 +84,22 @@ module _ (mesh : ObjMesh) (base : Topology) (cuttable : IsCuttable mesh base) (i
         go : (s : ℕ × ℕ) → same_edge edge s ≡ true → has_side s (polygon_at faces f) ≡ true → (edge ≡ s) ⊎ (edge ≡ (s.1, s.0)) → IsNotedAlong f ⊎ IsNotedAgainst f
         go s same there (inl e_is) =
             let forward : is_along faces s ≡ true = ap (λ (n : ℕ). nat_eq (edge_at faces n).0 s.0) (number s same) ∙ eq-eqb _ _ (ap (λ (t : ℕ × ℕ). t.0) e_is) in
-            let told = side-noted f s exists there in
+            let found = side-noted f s exists there in
             inl (
               ap (λ (t : ℕ × ℕ). has_side t (polygon_at faces f)) e_is ∙ there,
               ap (λ (n : ℕ). get_or along n (0, 0)) (sym (number s same))
-                  ∙ subst (λ (b : Bool). noted along against b (edge_number faces s) ≡ by_end b (numbers f s)) forward told
+                  ∙ subst (λ (b : Bool). noted along against b (edge_number faces s) ≡ by_end b (numbers f s)) forward found
                   ∙ ap (numbers f) (sym e_is),
             )
         go s same there (inr e_is) =
             let apart = side-ends faces is.simple f s there in
             let forward : is_along faces s ≡ false = false_from_ne_true _ (λ yes.
             absurd (apart (sym (eqb-true _ _ (sym (ap (λ (n : ℕ). nat_eq (edge_at faces n).0 s.0) (number s same)) ∙ yes)) ∙ ap (λ (t : ℕ × ℕ). t.0) e_is))) in
-            let told = side-noted f s exists there in
+            let found = side-noted f s exists there in
             inr (
               ap (λ (t : ℕ × ℕ). has_side (t.1, t.0) (polygon_at faces f)) e_is ∙ there,
               ap (λ (n : ℕ). get_or against n (0, 0)) (sym (number s same))
-                  ∙ subst (λ (b : Bool). noted along against b (edge_number faces s) ≡ by_end b (numbers f s)) forward told
+                  ∙ subst (λ (b : Bool). noted along against b (edge_number faces s) ≡ by_end b (numbers f s)) forward found
                   ∙ ap (numbers f) (sym e_is),
             )
 

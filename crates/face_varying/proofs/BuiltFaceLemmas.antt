@@ -21,19 +21,19 @@ module _ {points : ℕ} (faces : List Polygon) (numbers : List ℕ) (fit : AreFi
   inside : f < length (cut_by faces numbers)
   inside = omega (arith, before, all, length-map-range_with_len (cut_face faces numbers) 0 (length faces))
 
-  -- it is the one with this number
+  -- the face is the one with this number
   is : polygon ≡ polygon_at (cut_by faces numbers) f
   is = are ∙ sym (cut-there faces numbers f (omega (arith, before, all)))
 
-  -- it has three corners or more, each once
+  -- the face has three corners or more, each once
   pub face-simple : is_simple polygon ≡ true
   face-simple = ap is_simple is ∙ all-at is_simple (cut_by faces numbers) f [] inside fit.simple
 
-  -- it has few corners
+  -- the face has few corners
   pub face-size : length polygon ≤ 2 ^ 16
   face-size = omega (arith, ap (λ (p : Polygon). length p) is, fit.sizes f [] inside)
 
-  -- its corners are points
+  -- the corners of the face are points
   pub face-inside : All (λ v. v < points) polygon
   face-inside k d h =
       let over : list_all (λ v. nat_lt v points) polygon ≡ true = ap (list_all (λ v. nat_lt v points)) is ∙ all-at (list_all (λ v. nat_lt v points)) (cut_by faces numbers) f [] inside fit.over in

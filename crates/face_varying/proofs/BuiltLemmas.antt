@@ -102,7 +102,7 @@ pub face-named : (polygons : List Polygon) (f : ℕ) → f < length polygons →
 face-named polygons f h =
     all-at (λ polygon. list_all (λ side. list_any (same_edge side) (edges_of polygons)) (sides_of polygon)) polygons f [] h (sym (all-flat_map (λ side. list_any (same_edge side) (edges_of polygons)) sides_of polygons) ∙ all-named (all_sides polygons))
 
--- and so is each of them
+-- each side of a face is among the edges
 pub side-named : (edges : List (ℕ × ℕ)) (corners : Polygon) (c b : ℕ) → c < length corners → b ≡ (side_at corners c).1 → list_all (λ side. list_any (same_edge side) edges) (sides_of corners) ≡ true → list_any (same_edge (get_or corners c 0, b)) edges ≡ true
 side-named edges corners c b h is all =
     ap (λ (k : ℕ). list_any (same_edge (get_or corners c 0, k)) edges) is ∙ ap (λ (side : ℕ × ℕ). list_any (same_edge side) edges) (sym (side-there corners c h))

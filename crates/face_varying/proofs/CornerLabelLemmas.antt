@@ -50,7 +50,7 @@ module _ (mesh : ObjMesh) (t : Topology) (cuttable : IsCuttable mesh t) (is : Is
   label-own : (f c : ℕ) → c < length (polygon_at faces f) → get_or labels (start_of faces f + c) 0 ≡ label (vertex f c) f
   label-own f c within = ap (λ (k : ℕ). get_or labels (start_of faces f + k) 0) (sym (corner-own (polygon_at faces f) c (distinct-at faces f is.simple) within))
 
-  -- and its channel point
+  -- a corner and its channel point
   point-own : (f c : ℕ) → f < length faces → c < length (polygon_at faces f) → get_or (corner_points mesh) (start_of faces f + c) (0, 0) ≡ channel_point mesh f (vertex f c)
   point-own f c exists within =
       ap (λ (polygons : List Polygon). get_or (corner_points mesh) (start_of polygons f + c) (0, 0)) (same-faces mesh t cuttable)
@@ -65,7 +65,7 @@ module _ (mesh : ObjMesh) (t : Topology) (cuttable : IsCuttable mesh t) (is : Is
     pub exists : owner < length faces
     pub within : corner_of faces v owner < length (polygon_at faces owner)
     pub there : get_or (polygon_at faces owner) (corner_of faces v owner) 0 ≡ v
-    pub told : label v f ≡ corner_at faces v owner
+    pub labelled : label v f ≡ corner_at faces v owner
     pub point : channel_point mesh f v ≡ channel_point mesh owner v
 
   has-label : (v f : ℕ) → v < t.level.point_count → On f v → HasLabel v f
@@ -78,7 +78,7 @@ module _ (mesh : ObjMesh) (t : Topology) (cuttable : IsCuttable mesh t) (is : Is
         exists = place.exists;
         within = place.within;
         there = place.there;
-        told = found.2;
+        labelled = found.2;
         point = same-point mesh v f owner (to-mesh f v on) found.3;
       }
 
@@ -87,11 +87,11 @@ module _ (mesh : ObjMesh) (t : Topology) (cuttable : IsCuttable mesh t) (is : Is
   labels-points f c g d exists within exists_g within_g e =
       let one = has-label (vertex f c) f (vertex-exists f c exists within) (on-own f c within) in
       let two = has-label (vertex g d) g (vertex-exists g d exists_g within_g) (on-own g d within_g) in
-      let same = place-once faces one.owner (corner_of faces (vertex f c) one.owner) two.owner (corner_of faces (vertex g d) two.owner) one.exists one.within two.exists two.within (sym one.told ∙ e ∙ two.told) in
+      let same = place-once faces one.owner (corner_of faces (vertex f c) one.owner) two.owner (corner_of faces (vertex g d) two.owner) one.exists one.within two.exists two.within (sym one.labelled ∙ e ∙ two.labelled) in
       let vertices : vertex f c ≡ vertex g d = sym one.there ∙ ap (λ (n : ℕ). get_or (polygon_at faces n) (corner_of faces (vertex f c) one.owner) 0) same.0 ∙ ap (λ (n : ℕ). get_or (polygon_at faces two.owner) n 0) same.1 ∙ two.there in
       one.point ∙ ap (λ (n : ℕ). channel_point mesh n (vertex f c)) same.0 ∙ ap (channel_point mesh two.owner) vertices ∙ sym two.point
 
-  -- and one channel point has one label
+  -- one channel point has one label
   points-labels : (f c g d : ℕ) → f < length faces → c < length (polygon_at faces f) → d < length (polygon_at faces g) → channel_point mesh f (vertex f c) ≡ channel_point mesh g (vertex g d) → label (vertex f c) f ≡ label (vertex g d) g
   points-labels f c g d exists within within_g e =
       let v = vertex f c in
@@ -116,17 +116,17 @@ module _ (mesh : ObjMesh) (t : Topology) (cuttable : IsCuttable mesh t) (is : Is
       below k d h at =
           let v = vertex at.face at.corner in
           let has = has-label v at.face (vertex-exists at.face at.corner at.exists at.within) (on-own at.face at.corner at.within) in
-          let value : get_or labels k 0 ≡ corner_at faces v has.owner = ap (λ (n : ℕ). get_or labels n 0) at.place ∙ label-own at.face at.corner at.within ∙ has.told in
+          let value : get_or labels k 0 ≡ corner_at faces v has.owner = ap (λ (n : ℕ). get_or labels n 0) at.place ∙ label-own at.face at.corner at.within ∙ has.labelled in
           omega (arith, get_or_default labels k d 0 h, value, place-below faces has.owner (corner_of faces v has.owner) has.exists has.within, size)
 
       alike : (i j : ℕ) → IsCornerAt faces i → IsCornerAt faces j → (get_or labels i 0 ≡ get_or labels j 0) ↔ (get_or (corner_points mesh) i (0, 0) ≡ get_or (corner_points mesh) j (0, 0))
       alike i j at_i at_j = (
-        λ e. point i at_i ∙ labels-points at_i.face at_i.corner at_j.face at_j.corner at_i.exists at_i.within at_j.exists at_j.within (sym (told i at_i) ∙ e ∙ told j at_j) ∙ sym (point j at_j),
-        λ e. told i at_i ∙ points-labels at_i.face at_i.corner at_j.face at_j.corner at_i.exists at_i.within at_j.within (sym (point i at_i) ∙ e ∙ point j at_j) ∙ sym (told j at_j),
+        λ e. point i at_i ∙ labels-points at_i.face at_i.corner at_j.face at_j.corner at_i.exists at_i.within at_j.exists at_j.within (sym (label-at i at_i) ∙ e ∙ label-at j at_j) ∙ sym (point j at_j),
+        λ e. label-at i at_i ∙ points-labels at_i.face at_i.corner at_j.face at_j.corner at_i.exists at_i.within at_j.within (sym (point i at_i) ∙ e ∙ point j at_j) ∙ sym (label-at j at_j),
       )
         where
-          told : (k : ℕ) → (at : IsCornerAt faces k) → get_or labels k 0 ≡ label (vertex at.face at.corner) at.face
-          told k at = ap (λ (n : ℕ). get_or labels n 0) at.place ∙ label-own at.face at.corner at.within
+          label-at : (k : ℕ) → (at : IsCornerAt faces k) → get_or labels k 0 ≡ label (vertex at.face at.corner) at.face
+          label-at k at = ap (λ (n : ℕ). get_or labels n 0) at.place ∙ label-own at.face at.corner at.within
 
           point : (k : ℕ) → (at : IsCornerAt faces k) → get_or (corner_points mesh) k (0, 0) ≡ channel_point mesh at.face (vertex at.face at.corner)
           point k at = ap (λ (n : ℕ). get_or (corner_points mesh) n (0, 0)) at.place ∙ point-own at.face at.corner at.exists at.within

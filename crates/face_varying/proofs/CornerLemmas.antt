@@ -78,7 +78,7 @@ place-below (face ∷ faces) zero c inside corner = omega (arith, sum_by-cons le
 place-below (face ∷ faces) (suc f) c inside corner =
     omega (arith, place-below faces f c (omega arith) corner, sum_by-cons length face faces, sum_by-cons length face (take f faces))
 
--- and no two corners have one place
+-- no two corners have one place
 pub place-once : (faces : List Polygon) (f c g d : ℕ) → f < length faces → c < length (polygon_at faces f) → g < length faces → d < length (polygon_at faces g)
     → start_of faces f + c ≡ start_of faces g + d → (f ≡ g) × (c ≡ d)
 place-once [] f c g d inside corner inside_g corner_g e = absurd (omega arith)
@@ -98,7 +98,7 @@ start-next (face ∷ faces) (suc f) inside =
     ap (start_of (face ∷ faces)) next
     ∙ omega (arith, start-next faces f (omega arith), sum_by-cons length face (take (f + 1) faces), sum_by-cons length face (take f faces))
 
--- and all of them have the corners before the end
+-- all faces have the corners before the end
 pub start-all : (faces : List Polygon) → start_of faces (length faces) ≡ sum_by length faces
 start-all faces = ap (sum_by length) (take-length faces)
 

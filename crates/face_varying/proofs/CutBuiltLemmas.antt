@@ -110,7 +110,7 @@ pub record AreParts (mesh : ObjMesh) (mode : SeamMode) (level : Level) (apart : 
   pub vertices_are : vertices ≡ map (λ point. point.0) (channel_points mesh)
   pub kept_are : kept ≡ map (stays_sharp mode (cut_faces mesh)) (range_with_len 0 (cut_point_count mesh))
 
--- they are what the clauses say
+-- the parts are what the clauses say
 pub parts-of : {mesh : ObjMesh} {t : Topology} {apart : List Bool} {numbers vertices : List ℕ} {kept : List Bool} (mode : SeamMode) → IsCuttable mesh t → IsTopology t → apart ≡ apart_marks mesh → numbers ≡ corner_numbers mesh
     → vertices ≡ map (λ point. point.0) (channel_points mesh) → kept ≡ map (stays_sharp mode (cut_faces mesh)) (range_with_len 0 (cut_point_count mesh)) → AreParts mesh mode t.level apart numbers vertices kept
 parts-of {mesh = mesh} mode cuttable facts are_apart are_numbers are_vertices are_kept = record {
@@ -183,7 +183,7 @@ module _ {mesh : ObjMesh} {mode : SeamMode} {level : Level} {apart : List Bool} 
   pub sides-sharp : (sides : Built) → sides ≡ sided mesh mode level are.base → length sides.level.vertex_sharpness ≡ length vertices
   sides-sharp sides is = ap (λ (b : Built). length b.level.vertex_sharpness) is ∙ length-replicate (cut_point_count mesh) Smooth ∙ sym point-count
 
-  -- and a mark
+  -- each point has a mark
   pub sides-marks : (sides : Built) → sides ≡ sided mesh mode level are.base → length sides.complete ≡ length vertices
   sides-marks sides is = ap (λ (b : Built). length b.complete) is ∙ length-replicate (cut_point_count mesh) false ∙ sym point-count
 

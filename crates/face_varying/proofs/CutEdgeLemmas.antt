@@ -41,7 +41,7 @@ one-of n a h = here (or_cases (nat_eq n a) false h)
     here (inl same) = eqb-true n a same
     here (inr none) = absurd (cc)
 
--- and among two it is one of both
+-- a number among two is one of both
 one-of-two : (n a b : ℕ) → is_among (a ∷ (b ∷ [])) n ≡ true → (n ≡ a) ⊎ (n ≡ b)
 one-of-two n a b h = here (or_cases (nat_eq n a) (is_among (b ∷ []) n) h)
   where
@@ -92,7 +92,7 @@ module _ (mesh : ObjMesh) where
       starts : has_corner s.0 (polygon_at mesh.faces f) ≡ true
       starts = side-start (polygon_at mesh.faces f) s side
 
-      -- and ends at one
+      -- the side ends at a corner
       ends : has_corner s.1 (polygon_at mesh.faces f) ≡ true
       ends = side-end (polygon_at mesh.faces f) s side
 
@@ -114,7 +114,7 @@ module _ (mesh : ObjMesh) where
       cut-whole-edge : (polygon : Polygon) → has_edge cut_side polygon ≡ true → has_edge s (map (vertex_of mesh) polygon) ≡ true
       cut-whole-edge polygon h = ap (λ (t : ℕ × ℕ). has_edge t (map (vertex_of mesh) polygon)) (sym vertices) ∙ named-edge (vertex_of mesh) cut_side polygon h
 
-      -- and has the same point at an end
+      -- a face with the cut side has its point at an end
       end-point : (g v : ℕ) → has_corner v (polygon_at mesh.faces f) ≡ true → has_end (point_of mesh f v) cut_side ≡ true → has_cut_side g ≡ true → (has_corner v (polygon_at mesh.faces g) ≡ true) × (point_of mesh g v ≡ point_of mesh f v)
       end-point g v at_f is_end h =
           let corner = edge-end (polygon_at (cut_faces mesh) g) (point_of mesh f v) cut_side is_end h in
@@ -122,7 +122,7 @@ module _ (mesh : ObjMesh) where
           let same : found.0 ≡ v = sym (channel-vertex mesh g found.0 found.1) ∙ ap (vertex_of mesh) found.2 ∙ channel-vertex mesh f v at_f in
           (ap (λ (w : ℕ). has_corner w (polygon_at mesh.faces g)) (sym same) ∙ found.1, ap (point_of mesh g) (sym same) ∙ found.2)
 
-      -- and the same texture number
+      -- a face with the cut side has its texture number at an end
       end-texture : (g v : ℕ) → has_corner v (polygon_at mesh.faces f) ≡ true → has_end (point_of mesh f v) cut_side ≡ true → has_cut_side g ≡ true → texture_number mesh g v ≡ texture_number mesh f v
       end-texture g v at_f is_end h =
           let point = end-point g v at_f is_end h in
@@ -138,11 +138,11 @@ module _ (mesh : ObjMesh) where
       first-end : (a b : ℕ) → has_end a (a, b) ≡ true
       first-end a b = or_left _ _ (eq-eqb a a refl)
 
-      -- both of them
+      -- the second end is an end
       last-end : (a b : ℕ) → has_end b (a, b) ≡ true
       last-end a b = or_right _ _ (eq-eqb b b refl)
 
-      -- so that it has the edge in the cut mesh
+      -- a joined face has the edge in the cut mesh
       joined-side : (g : ℕ) → is_seam mesh s ≡ false → has_edge s (polygon_at mesh.faces g) ≡ true → has_cut_side g ≡ true
       joined-side g joins at_g = has-points g at_g (joined-end g s.0 starts (first-end s.0 s.1) joins at_g) (joined-end g s.1 ends (last-end s.0 s.1) joins at_g)
 
@@ -219,7 +219,7 @@ module _ (mesh : ObjMesh) where
         ∙ get_or-map (renamed (point_of mesh f)) (sides_of (polygon_at mesh.faces f)) c (0, 0) (0, 0) within
         ∙ ap (renamed (point_of mesh f)) (side-there (polygon_at mesh.faces f) c h)
 
-    -- and its points to the side
+    -- the points of a cut side lead to the side
     pub side-vertices : (f c : ℕ) → c < length (polygon_at mesh.faces f) → vertices_of mesh (side_at (polygon_at (cut_faces mesh) f) c) ≡ side_at (polygon_at mesh.faces f) c
     side-vertices f c h = ap (vertices_of mesh) (side-points f c h) ∙ vertices f (side_at (polygon_at mesh.faces f) c) (has-own-side (polygon_at mesh.faces f) c h)
 

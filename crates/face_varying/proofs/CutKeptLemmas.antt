@@ -92,7 +92,7 @@ module _ (mesh : ObjMesh) (points : ℕ) (count : points ≡ cut_point_count mes
         ap (λ (s : ℕ × ℕ). marked s (get_or (apart_marks mesh) (get_or edges c 0) false)) (side-from f c inside corner)
         ∙ ap (marked (side_at polygon c)) (side-mark mesh (all-simple (length mesh.points) mesh.faces manifold) manifold.sides_once f c corner))
 
-    -- and so are those of all faces
+    -- the sides of all faces with their marks
     sides-ends : ends_before (base_level mesh) (apart_marks mesh) (corner_numbers mesh) (length mesh.faces) ≡ map (with_own (is_boundary (cut_faces mesh))) (all_sides (cut_faces mesh))
     sides-ends = all-listed (is_boundary (cut_faces mesh)) (ends_at (base_level mesh) (apart_marks mesh) (corner_numbers mesh)) (length mesh.faces) (cut_faces mesh) (cut-count mesh) face-ends
 

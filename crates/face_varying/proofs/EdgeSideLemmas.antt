@@ -39,7 +39,7 @@ has-own-side polygon c h =
     subst (λ s. list_any (same_side s) (sides_of polygon) ≡ true) (side-there polygon c h)
     (list_any_at (same_side (get_or (sides_of polygon) c (0, 0))) (sides_of polygon) c (0, 0) within (same_side-refl (get_or (sides_of polygon) c (0, 0))))
 
--- and each side has its corner
+-- each side has its corner
 pub corner-of-side : (polygon : Polygon) (s : ℕ × ℕ) → has_side s polygon ≡ true → (c : ℕ) × (c < length polygon) × (side_at polygon c ≡ s)
 corner-of-side polygon s has =
     let c = position_or_len (same_side s) (sides_of polygon) in
@@ -97,7 +97,7 @@ module _ (polygons : List Polygon) where
           here (inr back) (inl e) = absurd (clash s.0 s.1 edge.0 (side-ends f s has_s) (inl (ap (λ (u : ℕ × ℕ). u.0) (sym e))) (turned back))
           here (inr back) (inr e) = absurd (clash s.0 s.1 edge.0 (side-ends f s has_s) (inr (ap (λ (u : ℕ × ℕ). u.1) (sym e))) (turned back))
 
-      -- and they are that of one corner
+      -- sides in one direction with one edge number are that of one corner
       pub side-place-once : (f c g d : ℕ) → c < length (polygon_at polygons f) → d < length (polygon_at polygons g)
           → edge_number polygons (side_at (polygon_at polygons f) c) ≡ edge_number polygons (side_at (polygon_at polygons g) d)
           → is_along polygons (side_at (polygon_at polygons f) c) ≡ is_along polygons (side_at (polygon_at polygons g) d) → (f ≡ g) × (c ≡ d)

@@ -1,4 +1,4 @@
--- What a level and a mesh tell of one face: its corners, its edges and its texture numbers.
+-- The corners, the edges and the texture numbers of one face of a level and a mesh.
 use Rattle.std.proofs.Common.{◌≡◌, ℕ, ◌+◌, ◌<◌, nat_eq, List, [], length, get_or, Some, slice_get, slice_set, arith, ap, sym, ◌∙◌, subst, if◌then◌else◌}
 use Rattle.std.proofs.lemmas.Option.{get_or_from_slice_get}
 use Rattle.subdiv_model.specs.Polygons.{polygon_at}

@@ -117,7 +117,7 @@ module _ (mesh : ObjMesh) (t : Topology) (cuttable : IsCuttable mesh t) (is : Is
   pub face-place : (f : ℕ) → has_corner v (polygon_at t.level.polygons f) ≡ true → (i : ℕ) × (i < face_count t v) × (face i ≡ f)
   face-place f has = among-at f (get_or t.faces_at v []) (faces-all t v f is inside ∙ has)
 
-  -- and an edge that it has there, at its place or at the next
+  -- an edge of a face at the vertex stands at the place of the face or at the next
   pub edge-place : (i e : ℕ) → i < face_count t v → e < length (edges_of t.level.polygons) → has_edge (edge_at t.level.polygons e) (polygon_at t.level.polygons (face i)) ≡ true → has_end v (edge_at t.level.polygons e) ≡ true → (e ≡ edge_in i) ⊎ (e ≡ edge_in (next i))
   edge-place i e h exists has ends = go (edge-numbers (face i) (edge_at t.level.polygons e) has ends)
     where
@@ -180,7 +180,7 @@ module _ (mesh : ObjMesh) (t : Topology) (cuttable : IsCuttable mesh t) (is : Is
         let parts = neither (is_boundary mesh.faces edge) (is_seam mesh edge) (sym (cut-is (next i) (after-next i h).0) ∙ joins) in
         near-from mesh v (face i) (face (next i)) edge (edge-ends (next i) (after-next i h).0) parts.1 (on-mesh (face i) edge (has-after i h)) (on-mesh (face (next i)) edge (has-before (next i) more))
 
-    -- and have one run
+    -- neighbours that are joined have one run
     pub next-run : (i : ℕ) → i < face_count t v → next i < face_count t v → is_cut t apart v (next i) ≡ false → run_of t apart v (next i) ≡ run_of t apart v i
     next-run i h more joins = go (nat_eq (i + 1) edge_count) refl
       where

@@ -41,7 +41,7 @@ module _ (t : Topology) (is : IsTopology t) (v : ℕ) (inside : v < t.level.poin
       let same = place-once t.level.polygons (face_in i) (corner_of t.level.polygons v (face_in i)) (face_in j) (corner_of t.level.polygons v (face_in j)) at.exists at.within at_j.exists at_j.within e in
       distinct-places (get_or t.faces_at v []) i j (faces-once t v is inside) hi hj same.0
 
-  -- and what is the corner of a face at the vertex, is the vertex
+  -- the corner of a face at the vertex is the vertex
   pub corner-vertex : (i f c : ℕ) → i < face_count t v → f < length t.level.polygons → c < length (polygon_at t.level.polygons f) → start_of t.level.polygons f + c ≡ corner_in t v i → get_or (polygon_at t.level.polygons f) c 0 ≡ v
   corner-vertex i f c hi exists within e =
       let at = face-there i hi in
@@ -80,13 +80,13 @@ module _ (t : Topology) (is : IsTopology t) (v : ℕ) (inside : v < t.level.poin
           ends s edge end (inl e) = or_right _ _ (eq-eqb _ _ (sym end ∙ ap (λ (p : ℕ × ℕ). p.1) e))
           ends s edge end (inr e) = or_left _ _ (eq-eqb _ _ (sym end ∙ ap (λ (p : ℕ × ℕ). p.1) e))
 
-  -- what a level tells of a corner
-  pub corner-told : (starts faces at : List ℕ) (i : ℕ) → i < face_count t v → faces ≡ get_or t.faces_at v [] → at ≡ map (corner_of t.level.polygons v) (get_or t.faces_at v []) → gaps starts ≡ map length t.level.polygons → Ascend starts (sum_by length t.level.polygons)
+  -- the corner of a face about a vertex, from the lists of a level
+  pub corner-listed : (starts faces at : List ℕ) (i : ℕ) → i < face_count t v → faces ≡ get_or t.faces_at v [] → at ≡ map (corner_of t.level.polygons v) (get_or t.faces_at v []) → gaps starts ≡ map length t.level.polygons → Ascend starts (sum_by length t.level.polygons)
       → (get_or faces i 0 < length starts) × (get_or starts (get_or faces i 0) 0 + get_or at i 0 ≡ corner_in t v i)
-  corner-told starts faces at i h faces_are at_is sizes ascend =
-      let told = start-at starts t.level.polygons sizes ascend in
+  corner-listed starts faces at i h faces_are at_is sizes ascend =
+      let found = start-at starts t.level.polygons sizes ascend in
       let there = face-there i h in
       let face : get_or faces i 0 ≡ face_in i = ap (λ (xs : List ℕ). get_or xs i 0) faces_are in
-      let start : get_or starts (get_or faces i 0) 0 ≡ start_of t.level.polygons (face_in i) = ap (λ (k : ℕ). get_or starts k 0) face ∙ told.1 (face_in i) (omega (arith, there.exists)) in
+      let start : get_or starts (get_or faces i 0) 0 ≡ start_of t.level.polygons (face_in i) = ap (λ (k : ℕ). get_or starts k 0) face ∙ found.1 (face_in i) (omega (arith, there.exists)) in
       let place : get_or at i 0 ≡ corner_of t.level.polygons v (face_in i) = ap (λ (xs : List ℕ). get_or xs i 0) at_is ∙ get_or-map (corner_of t.level.polygons v) (get_or t.faces_at v []) i 0 0 h in
-      (omega (arith, told.0, face, there.exists), ap (λ (k : ℕ). k + get_or at i 0) start ∙ ap (λ (k : ℕ). start_of t.level.polygons (face_in i) + k) place)
+      (omega (arith, found.0, face, there.exists), ap (λ (k : ℕ). k + get_or at i 0) start ∙ ap (λ (k : ℕ). start_of t.level.polygons (face_in i) + k) place)

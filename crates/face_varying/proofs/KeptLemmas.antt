@@ -59,14 +59,14 @@ counted-more numbers i p old new inside before is = go (nat_eq p (get_or numbers
     go false e =
         let now : new ≡ old = is ∙ ap chosen e in omega (arith, now, before, count_by_more_no (nat_eq p) numbers i 0 inside e)
 
--- one is told apart from more
-few-told : (n : ℕ) → nat_eq (min n 255) 1 ≡ nat_eq n 1
-few-told n = grind (arith, nat_tests)
+-- a count that stands as 255 is not one
+one-below : (n : ℕ) → nat_eq (min n 255) 1 ≡ nat_eq n 1
+one-below n = grind (arith, nat_tests)
 
 -- the points whose counts are one
 pub singles-are : (numbers counts : List ℕ) (marks : List Bool) (points : ℕ) → length marks ≡ points → ((p : ℕ) → p < points → get_or counts p 0 ≡ min (count_by (nat_eq p) numbers) 255) → ((p : ℕ) → p < points → get_or marks p false ≡ nat_eq (get_or counts p 0) 1)
     → marks ≡ map (λ p. nat_eq (count_by (nat_eq p) numbers) 1) (range_with_len 0 points)
-singles-are numbers counts marks points size counted each = marks-are (λ p. nat_eq (count_by (nat_eq p) numbers) 1) points marks size (λ p h. each p h ∙ ap (λ (n : ℕ). nat_eq n 1) (counted p h) ∙ few-told (count_by (nat_eq p) numbers))
+singles-are numbers counts marks points size counted each = marks-are (λ p. nat_eq (count_by (nat_eq p) numbers) 1) points marks size (λ p h. each p h ∙ ap (λ (n : ℕ). nat_eq n 1) (counted p h) ∙ one-below (count_by (nat_eq p) numbers))
 
 -- sides after sides
 with-append : (some more : List ((ℕ × ℕ) × Bool)) (marks : List Bool) → with_ends (some ++ more) marks ≡ with_ends more (with_ends some marks)
@@ -180,7 +180,7 @@ other-sides q s (t ∷ edges) alike none = here (same_edge s t) refl (other-side
         rw (e, fails) behind
     here false e behind = rw e (ap (λ (b : Bool). q t || b) behind)
 
--- so it holds of some side where it holds of some edge
+-- it holds of some side exactly where it holds of some edge
 pub sides-edges : (q : ℕ × ℕ → Bool) (sides : List (ℕ × ℕ)) → ((s t : ℕ × ℕ) → same_edge s t ≡ true → q s ≡ q t) → list_any q (first_named sides) ≡ list_any q sides
 sides-edges q [] alike = refl
 sides-edges q (s ∷ sides) alike = here (q s) refl (sides-edges q sides alike)

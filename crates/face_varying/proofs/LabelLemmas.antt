@@ -42,7 +42,7 @@ module _ (t : Topology) (is : IsTopology t) (v : ℕ) (inside : v < t.level.poin
           get_or-set_other labels place (corner_in t v j) label 0 (λ same. other (corner-once t is v inside j i (omega arith) h (same ∙ place_is)))
           ∙ before.each j less
 
-  -- and the corners at other vertices
+  -- the labels of corners at other vertices stay
   pub others-more : (old labels : List ℕ) (i place label : ℕ) → i < face_count t v → place ≡ corner_in t v i → HasOthers t v old labels → HasOthers t v old (slice_set labels place label)
   others-more old labels i place label h place_is before f c exists within other =
       get_or-set_other labels place (start_of t.level.polygons f + c) label 0 (λ same. other (corner-vertex t is v inside i f c h exists within (same ∙ place_is)))

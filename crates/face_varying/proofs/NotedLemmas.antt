@@ -21,7 +21,7 @@ noted-here along against next_along next_against true e s t inside inside_agains
 noted-here along against next_along next_against false e s t inside inside_against p q =
     ap (λ (xs : List (ℕ × ℕ)). get_or xs e (0, 0)) q ∙ get_or-set_same against e (t, s) (0, 0) inside_against
 
--- and nothing else changes
+-- nothing but the noted place changes
 noted-other : (along against next_along next_against : List (ℕ × ℕ)) (forward other : Bool) (e k s t : ℕ) → (k ≡ e → other ≡ forward → ⊥)
     → next_along ≡ (if forward then slice_set along e (s, t) else along) → next_against ≡ (if forward then against else slice_set against e (t, s))
     → noted next_along next_against other k ≡ noted along against other k

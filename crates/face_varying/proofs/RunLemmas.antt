@@ -23,7 +23,7 @@ module _ (test : ℕ → Bool) where
       go true e before = rw e (omega arith)
       go false e before = rw e before
 
-  -- and none passes after it
+  -- none passes after the last one
   pub none-after : (given n j : ℕ) → last_before test given n < j → j < n → test j ≡ false
   none-after given zero j after h = absurd (omega arith)
   none-after given (suc n) j after h = go (test n) refl (nat_eq j n) refl (λ before inside. none-after given n j before inside)
@@ -35,7 +35,7 @@ module _ (test : ℕ → Bool) where
           let apart : j ≢ n = λ same. absurd (let yes = eq-eqb _ _ same in cc) in
           behind (rw e at after) (omega arith)
 
-  -- from the last run on the same is found
+  -- the last run, searched for from itself
   pub last-again : (given n : ℕ) → last_before test (last_before test given n) n ≡ last_before test given n
   last-again given zero = refl
   last-again given (suc n) = go (test n) refl (last-again given n)

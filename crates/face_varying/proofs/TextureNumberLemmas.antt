@@ -69,7 +69,7 @@ module _ (mesh : ObjMesh) where
         (λ a b edge ends joins at_a at_b kept. eq-eqb _ _ (eqb-true _ _ kept ∙ unseamed edge (faces_of_edge mesh.faces edge) v a b (few-faces mesh.faces edge simple distinct) joins ends (edge-among mesh.faces edge a at_a) (edge-among mesh.faces edge b at_b)))
         f (eq-eqb _ _ refl) g h)
 
-    -- so the channel point of a face at a vertex has the texture number of the face there
+    -- the channel point of a face at a vertex has the texture number of the face there
     pub point-number-at : (f v : ℕ) → has_corner v (polygon_at mesh.faces f) ≡ true → texture_number mesh (channel_point mesh f v).1 v ≡ texture_number mesh f v
     point-number-at f v h =
         sym (joined-number v f (channel_point mesh f v).1 (first-among (joined_faces mesh v f) f f (joins-itself mesh v f h)))

@@ -38,7 +38,7 @@ first_sides level apart corners edges count = map (λ c. (side_at corners c, sid
 abbrev pub face_sides : Level → List Bool → Polygon → List ℕ → List ((ℕ × ℕ) × Sharpness)
 face_sides level apart corners edges = first_sides level apart corners edges (length corners)
 
--- the same for the face with a number, and for all faces before a number
+-- the sides of the face with a number, and of all faces before a number
 abbrev pub sides_at : Level → List Bool → List ℕ → ℕ → List ((ℕ × ℕ) × Sharpness)
 sides_at level apart numbers f = face_sides level apart (cut_face level.polygons numbers f) (face_edges_of level.polygons (polygon_at level.polygons f))
 

@@ -9,7 +9,7 @@ use Rattle.level_topology.specs.Topology.{Topology}
 use Rattle.mesh_check.specs.Checked.{IsAccepted}
 use Rattle.ratio128.specs.declared.point.Point2.{Point2}
 
--- a mesh with texture that was read and accepted, and its level 0
+-- a mesh with texture that was accepted, and its level 0
 pub record IsCuttable (mesh : ObjMesh) (base : Topology) : Type 0 where
   pub within : IsWithin mesh
   pub textured : mesh.has_texture ≡ true

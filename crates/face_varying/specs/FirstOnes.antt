@@ -17,6 +17,10 @@ abbrev pub numbers_after : {X : Type 0} → (X → X → Bool) → List X → Li
 numbers_after same met [] = []
 numbers_after same met (x ∷ xs) = position_or_len (same x) met ∷ numbers_after same (met_with same met x) xs
 
+-- a list, and an item after it where its number is as great as how many came before
+abbrev pub with_first : {X : Type 0} → ℕ → ℕ → List X → X → List X
+with_first count number xs x = if nat_eq number count then xs ++ x ∷ [] else xs
+
 -- the items whose number is as great as how many came before them
 abbrev pub first_ones : {X : Type 0} → ℕ → List ℕ → List X → List X
 first_ones count numbers [] = []

@@ -4,6 +4,7 @@ use Rattle.subdiv_model.specs.Polygons.{Polygon, polygon_at}
 use Rattle.subdiv_model.specs.Edges.{edges_of, edge_number}
 use Rattle.level_topology.specs.Topology.{edge_at, side_at}
 use Rattle.face_varying.specs.CornerPlaces.{start_of}
+use Rattle.face_varying.specs.declared.seams.SideNumbers.{SideNumbers}
 
 -- a side goes along its edge, from the first end to the second
 abbrev pub is_along : List Polygon → ℕ × ℕ → Bool
@@ -24,3 +25,7 @@ pub record AreNoted (polygons : List Polygon) (texture : List (List ℕ)) (along
   pub each : (f c : ℕ) → f < length polygons → c < length (polygon_at polygons f) → start_of polygons f + c < count
       → let side = side_at (polygon_at polygons f) c in
       noted along against (is_along polygons side) (edge_number polygons side) ≡ by_end (is_along polygons side) (side_at (polygon_at texture f) c)
+
+-- the sides of all corners are noted
+abbrev pub AreAllNoted : List Polygon → List (List ℕ) → SideNumbers → Type 0
+AreAllNoted polygons texture sides = AreNoted polygons texture sides.along.items sides.against.items (start_of polygons (length polygons))

@@ -1,5 +1,7 @@
 -- The texture values of corners and of channel points.
-use Rattle.std.specs.Prelude.{ℕ, ℤ, pos, List, get_or}
+use Rattle.std.specs.Prelude.{ℕ, ℤ, pos, List, map, get_or}
+use Rattle.raw_mesh.specs.View.{texture_of}
+use Rattle.face_varying.specs.declared.points.ChannelPoints.{ChannelPoints}
 use Rattle.subdiv_model.specs.ObjMesh.{ObjMesh}
 use Rattle.subdiv_model.specs.Cut.{texture_number}
 
@@ -10,3 +12,7 @@ value_at texture t = get_or texture t (pos 0, pos 0)
 -- the texture value of a channel point
 abbrev pub value_of : ObjMesh → ℕ × ℕ → ℤ × ℤ
 value_of mesh point = value_at mesh.texture (texture_number mesh point.1 point.0)
+
+-- the texture values of all points so far
+abbrev pub texture_values : ChannelPoints → List (ℤ × ℤ)
+texture_values points = map texture_of points.values.items

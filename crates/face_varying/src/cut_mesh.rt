@@ -1,7 +1,6 @@
 //! The cut mesh of a texture channel.
 
 ghost use Rattle.std.specs.Prelude.{◌≡◌, ◌+◌, ◌≤◌, true, length, IfOk};
-ghost use Rattle.raw_mesh.specs.Laws.{IsWithin};
 ghost use Rattle.mesh_check.specs.Checked.{IsAccepted};
 ghost use Rattle.face_varying.specs.Corners.{apart_marks, corner_numbers};
 ghost use Rattle.face_varying.specs.Cut.{IsCut, IsCuttable};
@@ -100,13 +99,13 @@ pub fn cut<L: Ledger>(
     mode: SeamMode,
     steps: &mut Steps<L>,
 ) -> Result<Channel, Memory>
-    requires within { IsWithin raw.now }
     requires textured { raw.now.has_texture ≡ true }
     requires accepted { IsAccepted raw.now level.now }
     ensures cut { IfOk result (λ channel. IsCut (mode_of mode) raw.now channel) }
     ensures steps { steps.new ≤ steps.old + length raw.now.faces }
     ensures later { steps.old ≤ steps.new }
 {
+    raw.facts();
     let apart = apart_edges(alloc, raw, level)?;
     cut_apart(alloc, raw, level, &apart, mode, steps)
 }

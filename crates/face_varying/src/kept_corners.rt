@@ -6,7 +6,7 @@ ghost use Rattle.std.specs.List.{count_by, range_with_len};
 use ratio128::Memory;
 use std::alloc::Global;
 
-// Counts a corner at its point, where there is such a point. More than 255 are not told apart.
+// Counts a corner at its point, where there is such a point. Counts above 255 stand as 255.
 fn count_corner(counts: &mut Vec<u8>, point: u32)
     ensures size { length counts.new.items ≡ length counts.old.items }
     ensures counts { (p : ℕ) → p < length counts.old.items → get_or counts.new.items p 0 ≡ (if nat_eq p point then min (get_or counts.old.items p 0 + 1) 255 else get_or counts.old.items p 0) }

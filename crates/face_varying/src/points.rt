@@ -1,13 +1,13 @@
 //! What is at each channel point.
 
-ghost use Rattle.std.specs.Prelude.{◌≡◌, ◌<◌, ◌++◌, ◌∷◌, [], nat_eq, length, map, IfOk, OnOk, if◌then◌else◌};
+ghost use Rattle.std.specs.Prelude.{◌≡◌, ◌<◌, ◌++◌, ◌∷◌, [], length, map, IfOk, OnOk};
 ghost use Rattle.std.specs.List.{All};
 ghost use Rattle.subdiv_model.specs.Cut.{channel_points, channel_values};
 ghost use Rattle.raw_mesh.specs.View.{texture_of};
 ghost use Rattle.face_varying.specs.Corners.{corner_numbers};
 ghost use Rattle.face_varying.specs.Cut.{IsCuttable};
-ghost use Rattle.face_varying.specs.FirstOnes.{first_ones};
-ghost use Rattle.face_varying.specs.TextureValues.{value_at};
+ghost use Rattle.face_varying.specs.FirstOnes.{first_ones, with_first};
+ghost use Rattle.face_varying.specs.TextureValues.{texture_values, value_at};
 
 use level_topology::Level;
 use ratio128::{Memory, Point2};
@@ -30,7 +30,7 @@ fn push_point(
 ) -> Result<(), Memory>
     requires { corner < length texture.now }
     ensures vertices { OnOk result (points.new.vertices.items ≡ points.old.vertices.items ++ vertex ∷ []) }
-    ensures values { OnOk result (map texture_of points.new.values.items ≡ map texture_of points.old.values.items ++ value_at (map texture_of texture.now) corner ∷ []) }
+    ensures values { OnOk result (texture_values points.new ≡ texture_values points.old ++ value_at (map texture_of texture.now) corner ∷ []) }
 {
     points.vertices.push(vertex)?;
     points.values.push(texture[corner as usize])?;
@@ -46,8 +46,8 @@ fn add_corner(
     texture: &[Point2],
 ) -> Result<(), Memory>
     requires { corner < length texture.now }
-    ensures vertices { OnOk result (points.new.vertices.items ≡ (if nat_eq number (length points.old.vertices.items) then points.old.vertices.items ++ vertex ∷ [] else points.old.vertices.items)) }
-    ensures values { OnOk result (map texture_of points.new.values.items ≡ (if nat_eq number (length points.old.vertices.items) then map texture_of points.old.values.items ++ value_at (map texture_of texture.now) corner ∷ [] else map texture_of points.old.values.items)) }
+    ensures vertices { OnOk result (points.new.vertices.items ≡ with_first (length points.old.vertices.items) number points.old.vertices.items vertex) }
+    ensures values { OnOk result (texture_values points.new ≡ with_first (length points.old.vertices.items) number (texture_values points.old) (value_at (map texture_of texture.now) corner)) }
 {
     if number as usize == points.vertices.len() {
         push_point(points, vertex, corner, texture)?;
@@ -67,7 +67,7 @@ fn add_face(
     requires corners { length corners.now ≡ length numbers.now }
     requires within { All (λ t. t < length texture.now) corners.now }
     ensures vertices { OnOk result (points.new.vertices.items ≡ points.old.vertices.items ++ first_ones (length points.old.vertices.items) numbers.now vertices.now) }
-    ensures values { OnOk result (map texture_of points.new.values.items ≡ map texture_of points.old.values.items ++ first_ones (length points.old.vertices.items) numbers.now (map (value_at (map texture_of texture.now)) corners.now)) }
+    ensures values { OnOk result (texture_values points.new ≡ texture_values points.old ++ first_ones (length points.old.vertices.items) numbers.now (map (value_at (map texture_of texture.now)) corners.now)) }
 {
     for c in 0..numbers.len() {
         add_corner(points, numbers[c], vertices[c], corners[c], texture)?;

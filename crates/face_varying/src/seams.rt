@@ -6,7 +6,7 @@ ghost use Rattle.level_topology.specs.Topology.{edge_at};
 ghost use Rattle.face_varying.specs.Corners.{apart_marks, is_apart};
 ghost use Rattle.face_varying.specs.CornerPlaces.{start_of};
 ghost use Rattle.face_varying.specs.Cut.{IsCuttable};
-ghost use Rattle.face_varying.specs.Sides.{AreNoted};
+ghost use Rattle.face_varying.specs.Sides.{AreNoted, AreAllNoted};
 
 use level_topology::{Level, corner_after};
 use ratio128::Memory;
@@ -77,7 +77,7 @@ impl SideNumbers {
     fn is_apart(&self, raw: &RawMesh, level: &Level, edge: u32) -> bool
         requires cuttable { IsCuttable raw.now level.now }
         requires edge { edge < length (edges_of level.now.level.polygons) }
-        requires noted { AreNoted level.now.level.polygons raw.now.texture_corners self.now.along.items self.now.against.items (start_of level.now.level.polygons (length level.now.level.polygons)) }
+        requires noted { AreAllNoted level.now.level.polygons raw.now.texture_corners self.now }
         ensures { result ≡ is_apart raw.now (edge_at level.now.level.polygons edge) }
     {
         level.facts();
@@ -91,7 +91,7 @@ impl SideNumbers {
 // The texture numbers of the sides of all faces.
 fn side_numbers(alloc: Global, raw: &RawMesh, level: &Level) -> Result<SideNumbers, Memory>
     requires { IsCuttable raw.now level.now }
-    ensures { IfOk result (λ sides. AreNoted level.now.level.polygons raw.now.texture_corners sides.along.items sides.against.items (start_of level.now.level.polygons (length level.now.level.polygons))) }
+    ensures { IfOk result (λ sides. AreAllNoted level.now.level.polygons raw.now.texture_corners sides) }
 {
     let mut sides = SideNumbers::none(alloc, level.edges() as usize)?;
     for f in 0..level.faces() {
@@ -108,7 +108,7 @@ fn marks_by(
     sides: &SideNumbers,
 ) -> Result<Vec<bool>, Memory>
     requires cuttable { IsCuttable raw.now level.now }
-    requires noted { AreNoted level.now.level.polygons raw.now.texture_corners sides.now.along.items sides.now.against.items (start_of level.now.level.polygons (length level.now.level.polygons)) }
+    requires noted { AreAllNoted level.now.level.polygons raw.now.texture_corners sides.now }
     ensures { IfOk result (λ apart. apart.items ≡ apart_marks raw.now) }
 {
     let mut apart = Vec::with_capacity(alloc, level.edges() as usize)?;

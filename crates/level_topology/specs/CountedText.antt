@@ -1,5 +1,4 @@
--- What there is too much of, as the definitions have it, and in words.
-use Rattle.std.specs.Prelude.{ℕ, List}
+-- What there is too much of, seen as that of the definitions.
 use Rattle.subdiv_model.specs.Fault as model
 use Rattle.level_topology.specs.declared.counted.Counted.{Counted}
 use Rattle.level_topology.specs.declared.counted.Counted.TheVariants.{Points, Faces, FaceSize, Valence, LevelFaces, Entries, LimitEntries}
@@ -12,6 +11,3 @@ counted_of (Valence vertex count) = model.Valence vertex count
 counted_of (LevelFaces level count) = model.LevelFaces level count
 counted_of (Entries level) = model.Entries level
 counted_of LimitEntries = model.LimitEntries
-
-abbrev pub text_of : Counted → List ℕ
-text_of counted = model.counted_text (counted_of counted)

@@ -1,9 +1,11 @@
 //! What there is too much of.
 
-ghost use Rattle.std.specs.Prelude.{Some};
-ghost use Rattle.level_topology.specs.CountedText.{text_of};
+ghost use Rattle.std.specs.Prelude.{◌≡◌, Some};
+ghost use Rattle.subdiv_model.specs.Fault.{counted_text};
+ghost use Rattle.level_topology.specs.CountedText.{counted_of};
 
 use std::fmt;
+use text_pieces::Pieces;
 
 /// What there is too much of, with how much. Faces and vertices are counted from 0.
 #[derive(Clone, Copy, Debug, PartialEq, Eq)]
@@ -24,19 +26,36 @@ pub enum Counted {
     LimitEntries,
 }
 
+impl Counted {
+    /// What there is too much of, in words.
+    pub fn pieces(&self) -> Pieces
+        ensures { result ≡ counted_text (counted_of self.now) }
+    {
+        match *self {
+            Counted::Points(count) => Pieces::about("too many points: ", count, ""),
+            Counted::Faces(count) => Pieces::about("too many faces: ", count, ""),
+            Counted::FaceSize { face, size } => {
+                Pieces::about_two("face ", u64::from(face), " has ", size, " corners")
+            }
+            Counted::Valence { vertex, count } => {
+                Pieces::about_two("vertex ", u64::from(vertex), " has ", count, " edges")
+            }
+            Counted::LevelFaces { level, count } => {
+                Pieces::about_two("level ", u64::from(level), " has ", count, " faces")
+            }
+            Counted::Entries { level } => {
+                Pieces::about("level ", u64::from(level), " has too many entries")
+            }
+            Counted::LimitEntries => Pieces::plain("the limit rows have too many entries"),
+        }
+    }
+}
+
 impl fmt::Display for Counted {
-    ghost output = { λ counted. Some (text_of counted) };
+    ghost output = { λ counted. Some (counted_text (counted_of counted)) };
 
     fn fmt<W: fmt::Write>(&self, f: &mut fmt::Formatter<W>) -> fmt::Result {
-        match *self {
-            Counted::Points(count) => write!(f, "too many points: {count}"),
-            Counted::Faces(count) => write!(f, "too many faces: {count}"),
-            Counted::FaceSize { face, size } => write!(f, "face {face} has {size} corners"),
-            Counted::Valence { vertex, count } => write!(f, "vertex {vertex} has {count} edges"),
-            Counted::LevelFaces { level, count } => write!(f, "level {level} has {count} faces"),
-            Counted::Entries { level } => write!(f, "level {level} has too many entries"),
-            Counted::LimitEntries => f.write_str("the limit rows have too many entries"),
-        }
+        write!(f, "{}", self.pieces())
     }
 }
 

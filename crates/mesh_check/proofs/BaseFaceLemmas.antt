@@ -33,7 +33,7 @@ sound-parts points polygons sound =
     let inner = and_parts (list_all is_simple polygons) (has_distinct_sides (all_sides polygons)) outer.0 in
     (inner.0, inner.1, outer.1)
 
--- they are simple
+-- the faces of a mesh without fault are simple
 pub sound-simple : (points : ℕ) (polygons : List Polygon) → first_mesh_fault points polygons ≡ None → list_all is_simple polygons ≡ true
 sound-simple points polygons sound = (sound-parts points polygons sound).0
 

@@ -25,7 +25,7 @@ large-found faces f face at large =
     let e : nat_lt size_limit (length face) ≡ true = grind (arith, nat_tests) in
     rw (drop-here faces f face at, e) refl
 
--- and one of few corners is not
+-- a face of few corners is passed over
 pub large-passed : (faces : List Polygon) (f : ℕ) (face : Polygon) → slice_get faces f ≡ Some face → length face ≤ 2 ^ 16 → sized (large_from f faces) ≡ sized (large_from (f + 1) faces)
 large-passed faces f face at small =
     let e : nat_lt size_limit (length face) ≡ false = grind (arith, nat_tests) in

@@ -182,7 +182,7 @@ module _ (v key : ℕ) (others rest : List ℕ) (old new : ℕ) (again : Bool) (
           let more : sum_by (ends_at v) (each_once (key ∷ others)) ≡ ends_at v key + sum_by (ends_at v) (each_once others) = rw (sym e) (sum_by-cons (ends_at v) key (each_once others)) in
           omega (arith, more, n, k)
 
-  -- and the counts stay small
+  -- the counts stay small
   pub ends-room : (total : ℕ) → old + 2 * length (each_once rest) ≤ total → new + 2 * length (each_once others) ≤ total
   ends-room total h = go again here counted (omega (arith, h, ap (λ xs. length (each_once xs)) whole))
     where

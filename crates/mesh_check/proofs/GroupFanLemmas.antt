@@ -1,4 +1,4 @@
--- The faces at a vertex, told with the corners before and after it, are one fan exactly where their places stand in one chain.
+-- The faces at a vertex, with the corners before and after it, are one fan exactly where their places stand in one chain.
 use Rattle.std.proofs.Common.{◌≡◌, ℕ, zero, suc, ◌+◌, ◌<◌, Bool, true, false, not, nat_eq, nat_lt, List, [], ◌∷◌, ◌++◌, length, map, take, get_or, arith, refl, ap, sym, subst, ◌∙◌}
 use Rattle.std.specs.List.{list_all, position_or_len}
 use Rattle.std.proofs.lemmas.Bool.Decides.{nat_tests}
@@ -73,7 +73,7 @@ module _ (polygons : List Polygon) (v : ℕ) (befores faces afters : List ℕ) (
       found : (x : ℕ) → position_or_len (nat_eq x) befores < length befores → get_or befores (position_or_len (nat_eq x) befores) 0 ≡ x
       found x inside = let e : nat_eq x (get_or befores (position_or_len (nat_eq x) befores) 0) ≡ true = passes_at_first (nat_eq x) befores 0 inside in grind (arith, nat_tests)
 
-  -- and the successor is at the next place
+  -- the successor is at the next place
   next-from : (i j : ℕ) → i < length faces → j < length faces → IsSuccessor polygons v (get_or faces i 0) (get_or faces j 0) → get_or (next_places befores afters) i (length (next_places befores afters)) ≡ j
   next-from i j h k s =
       let one = follower-unique (polygon_at polygons (get_or faces i 0)) v s.corner (get_or afters i 0) (distinct-at polygons (get_or faces i 0) simple) s.follows (g.follows i h) in

@@ -24,7 +24,7 @@ own-place xs i x once h is = position_or_len_is (nat_eq x) xs i 0 (omega arith) 
         let same = distinct-places xs k i once (omega arith) h (sym (eqb-true x (get_or xs k 0) e) ∙ sym is) in
         absurd (omega (arith, same, less))
 
--- and a number among others is at its place
+-- a number among others is at its place
 pub place-of : (x : ℕ) (xs : List ℕ) → is_distinct xs ≡ true → is_among xs x ≡ true → (position_or_len (nat_eq x) xs < length xs) × (get_or xs (position_or_len (nat_eq x) xs) 0 ≡ x)
 place-of x xs once there =
     let found = among-at x xs there in
@@ -61,7 +61,7 @@ among-map f (x ∷ xs) a h = go (nat_eq a x) refl (λ k. among-map f xs a k)
         let more = behind there in
         grind (arith, nat_tests)
 
--- and what it is made of
+-- a number of a list that is made by a function, and what it is made of
 pub map-among : (f : ℕ → ℕ) (xs : List ℕ) (y : ℕ) → is_among (map f xs) y ≡ true → (a : ℕ) × (is_among xs a ≡ true) × (f a ≡ y)
 map-among f [] y h = absurd (cc)
 map-among f (x ∷ xs) y h = go (nat_eq y (f x)) refl (λ k. map-among f xs y k)

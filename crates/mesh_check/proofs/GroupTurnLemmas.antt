@@ -1,4 +1,4 @@
--- The corners of faces at a vertex, in any order, tell of each face there with the corners before and after the vertex.
+-- The corners of faces at a vertex, in any order, have each face there with the corners before and after the vertex.
 use Rattle.std.proofs.Common.{◌≡◌, ℕ, zero, suc, ◌+◌, ◌-◌, ◌<◌, ◌≤◌, Bool, true, false, not, ◌&&◌, nat_eq, nat_lt, List, [], ◌∷◌, length, map, get_or, cond, arith, refl, ap, sym, ◌∙◌, zero-add}
 use Rattle.std.specs.List.{filter, list_all, count_by}
 use Rattle.std.specs.List.Sorted.{IsPermutation}

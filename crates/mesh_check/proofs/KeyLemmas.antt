@@ -116,7 +116,7 @@ low-second s h = go (nat_le s.0 s.1) refl
     go true e = rw e h.1
     go false e = rw e h.0
 
--- and two edges
+-- two edges have one number exactly where they are one
 pub edge-key-same : (s t : ℕ × ℕ) → IsWord s → IsWord t → nat_eq (edge_key s) (edge_key t) ≡ same_edge s t
 edge-key-same s t h k = side-key-same (low_first s) (low_first t) (low-second s h) (low-second t k) ∙ low-same s t
 

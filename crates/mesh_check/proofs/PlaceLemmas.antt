@@ -32,7 +32,7 @@ drop-all [] (suc i) h = refl
 drop-all (y ∷ ys) zero h = absurd (omega arith)
 drop-all (y ∷ ys) (suc i) h = drop-all ys i (omega arith)
 
--- and no place is found there
+-- no place is found at the end
 pub place-none : {X : Type 0} (test : X → Bool) (xs : List X) (i : ℕ) → length xs ≤ i → None ≡ first_of (places_from i test (drop i xs))
 place-none test xs i h = rw (drop-all xs i h) refl
 

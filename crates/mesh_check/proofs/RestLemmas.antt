@@ -20,11 +20,11 @@ none-left (x ∷ xs) h = absurd (omega arith)
 pub at-first : {X R : Type 0} (F : List X → R) (xs : List X) (d : X) → 1 ≤ length xs → F xs ≡ F (get_or xs 0 d ∷ others xs)
 at-first F xs d h = ap F (first-others xs d h)
 
--- the same, where the first item has a name
+-- a function of a list, at its first item by name
 pub at-item : {X R : Type 0} (F : List X → R) (xs : List X) (x : X) → 1 ≤ length xs → x ≡ get_or xs 0 x → F xs ≡ F (x ∷ others xs)
 at-item F xs x h is = at-first F xs x h ∙ ap (λ y. F (y ∷ others xs)) (sym is)
 
--- and at the end, of nothing
+-- a function of a list without items
 pub at-none : {X R : Type 0} (F : List X → R) (xs : List X) → length xs < 1 → F xs ≡ F []
 at-none F xs h = ap F (none-left xs h)
 

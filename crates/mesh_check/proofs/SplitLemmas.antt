@@ -27,7 +27,7 @@ turns_off v turns = filter (λ t. not (nat_eq v t.vertex)) turns
 abbrev pub first_vertex : List Turn → ℕ
 first_vertex turns = (get_or turns 0 no_turn).vertex
 
--- these corners are a group at the vertex
+-- the corners are a group at the vertex
 abbrev pub IsGroupOf : List Polygon → ℕ → List Turn → Type 0
 IsGroupOf polygons v group = IsGroup polygons v (map (λ (t : Turn). t.before) group) (map (λ (t : Turn). t.face) group) (map (λ (t : Turn). t.after) group)
 
@@ -152,11 +152,11 @@ module _ (rest : List Turn) (size : ℕ) (is : size ≡ prefix_len (λ t. nat_eq
   pub front-is : (group : List Turn) → group ≡ take size rest → group ≡ turns_at (first_vertex rest) rest
   front-is group at = at ∙ ap (λ n. take n rest) is ∙ (front-group (first_vertex rest) rest rises (first-least rest rises)).0
 
-  -- and the others are those behind
+  -- the other corners are those behind the group
   pub back-is : (others : List Turn) → others ≡ drop size rest → others ≡ turns_off (first_vertex rest) rest
   back-is others at = at ∙ ap (λ n. drop n rest) is ∙ (front-group (first_vertex rest) rest rises (first-least rest rises)).1
 
--- those behind are all corners at their vertices where the whole are
+-- the corners behind a group are all corners at their vertices, where the whole are
 pub off-groups : (polygons : List Polygon) (v : ℕ) (rest others : List Turn) → others ≡ turns_off v rest → ((w : ℕ) → is_among (vertices rest) w ≡ true → IsGroupOf polygons w (turns_at w rest)) → (w : ℕ) → is_among (vertices others) w ≡ true → IsGroupOf polygons w (turns_at w others)
 off-groups polygons v rest others is groups w there =
     let found = off-vertex v w rest (sym (ap (λ ts. is_among (vertices ts) w) is) ∙ there) in

@@ -47,7 +47,7 @@ last-side first v (w ∷ rest) = later (same_side (last_of w rest, first) (v, w)
     later true h = refl
     later false h = h
 
--- each corner of a face is told with the sides that come and go there
+-- each corner of a face stands with the sides that come and go there
 pub face-turns : (face : ℕ) (polygon : Polygon) → list_all (is_turn polygon) (turns_of face polygon) ≡ true
 face-turns face [] = refl
 face-turns face (v ∷ rest) =
@@ -64,7 +64,7 @@ path-vertices face first before (v ∷ rest) = ap (λ xs. v ∷ xs) (path-vertic
 pub face-vertices : (face : ℕ) (polygon : Polygon) → map (λ (t : Turn). t.vertex) (turns_of face polygon) ≡ polygon
 face-vertices face polygon = path-vertices face (get_or polygon 0 0) (get_or polygon (length polygon - 1) 0) polygon
 
--- the key of a corner, where the corner before it is cut to 32 bits, so that the key tells the vertex in any case
+-- the key of a corner, where the corner before it is cut to 32 bits, so that the key gives the vertex in any case
 abbrev pub cut_key : Turn → ℕ
 cut_key t = t.vertex * 2 ^ 32 + t.before % 2 ^ 32
 

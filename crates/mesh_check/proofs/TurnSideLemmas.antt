@@ -27,7 +27,7 @@ path-sides s face first before v (w ∷ rest) =
     let t : Turn = record { vertex = v; before = before; face = face; after = w } in
     omega (arith, count-cons (comes s) t (turns_from face first v (w ∷ rest)), count-cons (same_side s) (v, w) (sides_back_to first (w ∷ rest)), path-sides s face first v w rest)
 
--- about a face they are the same
+-- about a face the sides that come are the sides that go
 face-sides : (s : ℕ × ℕ) (face : ℕ) (polygon : Polygon) → count_by (comes s) (turns_of face polygon) ≡ count_by (same_side s) (sides_of polygon)
 face-sides s face [] = refl
 face-sides s face (v ∷ rest) =
@@ -45,7 +45,7 @@ turn-sides s k [] = refl
 turn-sides s k (polygon ∷ polygons) =
     omega (arith, count-append (comes s) (turns_of k polygon) (turns_after (k + 1) polygons), count-append (same_side s) (sides_of polygon) (all_sides polygons), face-sides s k polygon, turn-sides s (k + 1) polygons)
 
--- and at most as often as its number is the key of one
+-- a side comes to at most as many corners as have its number as their key
 comes-key : (s : ℕ × ℕ) (turns : List Turn) → count_by (comes s) turns ≤ count_by (nat_eq (side_key (reversed s))) (map turn_key turns)
 comes-key s [] = omega arith
 comes-key s (t ∷ turns) =
@@ -75,7 +75,7 @@ none-repeats : (xs : List ℕ) → has_equal_neighbours xs ≡ false → repeats
 none-repeats [] h = refl
 none-repeats (n ∷ xs) h = none-again n xs h
 
--- so each stands once, where they ascend
+-- each number stands once, where numbers ascend and no two neighbours are equal
 stands-once : (n : ℕ) (xs : List ℕ) → Rises xs → has_equal_neighbours xs ≡ false → count_by (nat_eq n) xs ≤ 1
 stands-once n xs rises h = low (count_by (nat_eq n) xs) (sym (repeats-count 1 n xs rises) ∙ ap (λ ys. is_among ys n) (none-repeats xs h))
   where

@@ -35,7 +35,7 @@ valence-found level v count h is large =
     above : (n : ℕ) → 2 ^ 16 < n → nat_lt size_limit n ≡ true
     above n k = grind (arith, nat_tests)
 
--- and one of few edges is not
+-- a vertex of few edges is passed over
 pub valence-passed : (level : Level) (v count : ℕ) → v < level.point_count → count ≡ length (edges_of_point level.polygons v) → count ≤ 2 ^ 16 → first_of (valence_faults_from level v) ≡ first_of (valence_faults_from level (v + 1))
 valence-passed level v count h is small =
     let e : nat_lt size_limit (length (edges_of_point level.polygons v)) ≡ false = ap (nat_lt size_limit) (sym is) ∙ below count small in
@@ -44,7 +44,7 @@ valence-passed level v count h is small =
     below : (n : ℕ) → n ≤ 2 ^ 16 → nat_lt size_limit n ≡ false
     below n k = grind (arith, nat_tests)
 
--- the faults of the counts are those that the mesh tells, and then those that its level tells
+-- the faults of the counts are those of the mesh, and then those of its level
 counts-joined : (mesh : ObjMesh) → count_faults mesh ≡ size_faults mesh ++ valence_faults (base_level mesh)
 counts-joined mesh =
     let points = fault_where (nat_lt mesh_limit (length mesh.points)) (TooLarge (Points (length mesh.points))) in

@@ -49,7 +49,7 @@ find-least test (x ∷ xs) n rises there passes = go (test x) refl (or_cases (na
     go false e (inl k) behind = let passed : test x ≡ true = ap test (sym (eqb-true n x k)) ∙ passes in absurd (cc)
     go false e (inr k) behind = let found = behind k in (found.0, rw e found.1, found.2)
 
--- so a search finds the same in any numbers that ascend and have all that pass
+-- a search finds the same in any numbers that ascend and have all that pass
 find-same : (test : ℕ → Bool) (xs ys : List ℕ) → Rises xs → Rises ys → ((n : ℕ) → test n ≡ true → is_among xs n ≡ true) → ((n : ℕ) → test n ≡ true → is_among ys n ≡ true) → find test xs ≡ find test ys
 find-same test xs ys rises climbs within there = go (find test xs) refl (find test ys) refl
   where
@@ -94,7 +94,7 @@ range-rises n = rises-from (range_with_len 0 n) (λ i j h k.
     let high : get_or (range_with_len 0 n) j 0 ≡ 0 + j = get_or-range_with_len 0 n j 0 inside in
     omega (arith, low, high))
 
--- and each below the end is one of them
+-- each number below the end is in the range
 range-among : (n v : ℕ) → v < n → is_among (range_with_len 0 n) v ≡ true
 range-among n v h = among-place v (range_with_len 0 n) v (omega (arith, length-range_with_len 0 n)) (get_or-range_with_len 0 n v 0 h ∙ zero-add v)
 

@@ -56,7 +56,7 @@ with_vertex_tags (tag ∷ tags) built = with_vertex_tags tags (with_sharp_vertex
 abbrev pub infinite : {K : Type 0} → List K → List (K × Sharpness)
 infinite named = map (λ k. (k, Infinite)) named
 
--- the vertices that are a corner of one face, where the list tells of how many each one is
+-- the vertices that are a corner of one face, where the list has of how many faces each one is
 abbrev pub single_corners : List ℕ → List ℕ
 single_corners counts = places (λ count. nat_eq count 1) counts
 

@@ -17,7 +17,7 @@ pub record IsOneChain (next : List ℕ) : Type 0 where
   pub all : (i : ℕ) → is_among order i ≡ nat_lt i (length next)
   pub links : Links next order
 
--- so many, from one on, each led to by the one before
+-- the items of a walk of this many steps, each led to by the one before
 abbrev pub walked : List ℕ → ℕ → ℕ → List ℕ
 walked next zero i = []
 walked next (suc steps) i = i ∷ walked next steps (get_or next i (length next))

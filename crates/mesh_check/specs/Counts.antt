@@ -1,4 +1,4 @@
--- The counts that are looked at before a level is made, and those that the level tells.
+-- The counts that are looked at before a level is made, and the counts of the level.
 use Rattle.std.specs.Prelude.{nat_lt, List, ◌++◌, length, map, Option, Some, None}
 use Rattle.std.specs.List.{filter, range_with_len}
 use Rattle.subdiv_model.specs.Edges.{edges_of_point}

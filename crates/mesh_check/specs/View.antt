@@ -1,8 +1,8 @@
 -- The faults of a check, seen as those of the definitions.
-use Rattle.std.specs.Prelude.{ℕ, List, codes, Option, Some, None}
+use Rattle.std.specs.Prelude.{Option, Some, None}
 use Rattle.subdiv_model.specs.MeshFault as model
 use Rattle.subdiv_model.specs.Fault as run
-use Rattle.level_topology.specs.CountedText.{text_of}
+use Rattle.level_topology.specs.CountedText.{counted_of}
 use Rattle.mesh_check.specs.declared.fault.MeshFault.{MeshFault}
 use Rattle.mesh_check.specs.declared.fault.MeshFault.TheVariants as mesh
 use Rattle.mesh_check.specs.declared.fault.CheckFault.{CheckFault}
@@ -20,7 +20,7 @@ abbrev pub named : Option MeshFault → Option model.MeshFault
 named None = None
 named (Some fault) = Some (mesh_fault_of fault)
 
-abbrev pub check_text : CheckFault → List ℕ
-check_text (check.Mesh fault) = run.mesh_fault_text (mesh_fault_of fault)
-check_text (check.TooLarge counted) = text_of counted
-check_text check.Memory = codes "out of memory"
+abbrev pub check_fault_of : CheckFault → run.Fault
+check_fault_of (check.Mesh fault) = run.Mesh (mesh_fault_of fault)
+check_fault_of (check.TooLarge counted) = run.TooLarge (counted_of counted)
+check_fault_of check.Memory = run.Memory

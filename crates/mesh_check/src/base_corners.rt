@@ -3,7 +3,6 @@
 ghost use Rattle.std.specs.Prelude.{◌≡◌, ℕ, ◌+◌, ◌^◌, ◌<◌, nat_eq, length, get_or, IfOk, OnOk, if◌then◌else◌};
 ghost use Rattle.std.specs.List.{All, count_by, filter, range_with_len, sum_by};
 ghost use Rattle.subdiv_model.specs.Base.{is_end_corner};
-ghost use Rattle.raw_mesh.specs.Laws.{IsWithin};
 ghost use Rattle.subdiv_model.specs.Sharpness.{Infinite};
 ghost use Rattle.level_builder.specs.Builder.{with_sharp_vertex};
 ghost use Rattle.mesh_check.specs.Base.{IsFit, with_vertex_tags, infinite, single_corners};
@@ -29,10 +28,10 @@ pub(crate) fn count_face(counts: &mut Vec<u32>, face: &[u32])
 
 // How many corners of faces are at each vertex.
 fn corner_counts(alloc: Global, raw: &RawMesh) -> Result<Vec<u32>, Memory>
-    requires { IsWithin raw.now }
     ensures size { IfOk result (λ counts. length counts.items ≡ length raw.now.points) }
     ensures counts { IfOk result (λ counts. (v : ℕ) → get_or counts.items v 0 ≡ sum_by (count_by (nat_eq v)) raw.now.faces) }
 {
+    raw.facts();
     let mut counts = no_marks(alloc, raw.points().len())?;
     for f in 0..raw.faces() {
         count_face(&mut counts, raw.face(f));

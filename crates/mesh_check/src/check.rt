@@ -1,7 +1,6 @@
 //! The check of a mesh, and level 0.
 
 ghost use Rattle.std.specs.Prelude.{◌≡◌, ◌+◌, ◌≤◌, true, None, length, replicate, IfOk, MatchResult};
-ghost use Rattle.raw_mesh.specs.Laws.{IsWithin};
 ghost use Rattle.subdiv_model.specs.Lists.{first_of};
 ghost use Rattle.subdiv_model.specs.MeshFault.{first_mesh_fault};
 ghost use Rattle.subdiv_model.specs.Base.{base_level};
@@ -33,7 +32,6 @@ fn level_of<L: Ledger>(
     edges: &[u64],
     steps: &mut Steps<L>,
 ) -> Result<Level, Memory>
-    requires within { IsWithin raw.now }
     requires sound { first_mesh_fault (length raw.now.points) raw.now.faces ≡ None }
     requires small { first_of (size_faults raw.now) ≡ None }
     requires sides { sides.items ≡ all_sides raw.now.faces }
@@ -46,6 +44,7 @@ fn level_of<L: Ledger>(
 {
     let boundary = mesh_boundary(alloc, raw, sides, edges)?;
     let holes = hole_marks(alloc, raw, &boundary)?;
+    raw.facts();
     let level = base_level(alloc, raw, edges, &boundary, &holes, steps)?;
     Ok(level)
 }
@@ -57,7 +56,6 @@ fn small_level<L: Ledger>(
     raw: &RawMesh,
     steps: &mut Steps<L>,
 ) -> Result<Level, CheckFault>
-    requires within { IsWithin raw.now }
     requires sound { first_mesh_fault (length raw.now.points) raw.now.faces ≡ None }
     requires small { first_of (size_faults raw.now) ≡ None }
     ensures checked { MatchResult result (λ level. IsAccepted raw.now level) (λ fault. IsRefused raw.now fault) }
@@ -89,7 +87,6 @@ pub fn check_mesh<L: Ledger>(
     raw: &RawMesh,
     steps: &mut Steps<L>,
 ) -> Result<Level, CheckFault>
-    requires { IsWithin raw.now }
     ensures checked { MatchResult result (λ level. IsAccepted raw.now level) (λ fault. IsRefused raw.now fault) }
     ensures steps { steps.new ≤ steps.old + length raw.now.faces }
     ensures later { steps.old ≤ steps.new }

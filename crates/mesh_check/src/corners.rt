@@ -5,7 +5,6 @@ ghost use Rattle.std.specs.List.{All};
 ghost use Rattle.subdiv_model.specs.Lists.{first_of};
 ghost use Rattle.subdiv_model.specs.Polygons.{is_distinct};
 ghost use Rattle.subdiv_model.specs.MeshFault.{small_faces, repeating_faces};
-ghost use Rattle.raw_mesh.specs.Laws.{IsWithin};
 
 use crate::marks::{mark_at, no_marks};
 use ratio128::Memory;
@@ -42,9 +41,9 @@ fn has_twice(face: &[u32], marks: &mut Vec<u32>, mark: u32) -> bool
 
 // The first face that has a vertex twice. A table holds for each vertex the last face that was met there.
 pub(crate) fn repeating_face(alloc: Global, raw: &RawMesh) -> Result<Option<u32>, Memory>
-    requires { IsWithin raw.now }
     ensures { IfOk result (λ found. found ≡ first_of (repeating_faces raw.now.faces)) }
 {
+    raw.facts();
     let mut marks = no_marks(alloc, raw.points().len())?;
     for f in 0..raw.faces() {
         if has_twice(raw.face(f), &mut marks, f + 1) {

@@ -1,12 +1,10 @@
 //! Whether the faces at a vertex are one fan.
 
-ghost use Rattle.std.specs.Prelude.{◌≡◌, ℕ, ◌^◌, ◌<◌, true, nat_eq, List, length, IfOk, IsTrue};
-ghost use Rattle.std.specs.List.{list_all, position_or_len};
-ghost use Rattle.subdiv_model.specs.Polygons.{Polygon, is_distinct, has_distinct_sides};
-ghost use Rattle.subdiv_model.specs.Edges.{all_sides};
-ghost use Rattle.subdiv_model.specs.Manifold.{is_simple, has_one_fan};
+ghost use Rattle.std.specs.Prelude.{◌≡◌, ◌^◌, ◌<◌, true, nat_eq, length, IfOk};
+ghost use Rattle.std.specs.List.{position_or_len};
+ghost use Rattle.subdiv_model.specs.Polygons.{is_distinct};
 ghost use Rattle.mesh_check.specs.Keys.{Rises};
-ghost use Rattle.mesh_check.specs.Group.{IsGroup, next_places};
+ghost use Rattle.mesh_check.specs.Group.{DecidesFan, next_places};
 
 use crate::chain::is_one_chain;
 use ratio128::Memory;
@@ -46,7 +44,7 @@ pub(crate) fn is_fan(alloc: Global, befores: &[u32], afters: &[u32]) -> Result<b
     requires once { is_distinct befores.now ≡ true }
     requires short { length befores.now < 2 ^ 32 }
     requires equal { length afters.now ≡ length befores.now }
-    ensures { (polygons : List Polygon) (v : ℕ) (faces : List ℕ) → IsGroup polygons v befores.now faces afters.now → IsTrue (list_all is_simple polygons) → IsTrue (has_distinct_sides (all_sides polygons)) → IfOk result (λ is. is ≡ has_one_fan polygons v) }
+    ensures { IfOk result (λ is. DecidesFan befores.now afters.now is) }
 {
     let next = next_places(alloc, befores, afters)?;
     let is = is_one_chain(alloc, &next)?;

@@ -1,12 +1,13 @@
 //! What is wrong with a mesh, and why a check gives no level.
 
 ghost use Rattle.std.specs.Prelude.{◌≡◌, Some};
-ghost use Rattle.subdiv_model.specs.Fault.{mesh_fault_text};
-ghost use Rattle.mesh_check.specs.View.{mesh_fault_of, check_text};
+ghost use Rattle.subdiv_model.specs.Fault.{mesh_fault_text, fault_text};
+ghost use Rattle.mesh_check.specs.View.{mesh_fault_of, check_fault_of};
 
 use level_topology::Counted;
 use ratio128::Memory;
 use std::fmt;
+use text_pieces::Pieces;
 
 /// What is wrong with a mesh. Faces and vertices are counted from 0.
 #[derive(Clone, Copy, Debug, PartialEq, Eq)]
@@ -23,21 +24,44 @@ pub enum MeshFault {
     SplitVertex(u32),
 }
 
+impl MeshFault {
+    /// The fault in words.
+    pub fn pieces(&self) -> Pieces
+        ensures { result ≡ mesh_fault_text (mesh_fault_of self.now) }
+    {
+        match *self {
+            MeshFault::FaceTooSmall(face) => {
+                Pieces::about("face ", u64::from(face), " has fewer than three corners")
+            }
+            MeshFault::RepeatedVertex(face) => {
+                Pieces::about("face ", u64::from(face), " repeats a vertex")
+            }
+            MeshFault::NonManifoldEdge(a, b) => Pieces::about_two(
+                "edge ",
+                u64::from(a),
+                " ",
+                u64::from(b),
+                " has more than two faces",
+            ),
+            MeshFault::WindingClash(a, b) => Pieces::about_two(
+                "edge ",
+                u64::from(a),
+                " ",
+                u64::from(b),
+                " is used twice in one direction",
+            ),
+            MeshFault::SplitVertex(v) => {
+                Pieces::about("vertex ", u64::from(v), " joins more than one fan")
+            }
+        }
+    }
+}
+
 impl fmt::Display for MeshFault {
     ghost output = { λ fault. Some (mesh_fault_text (mesh_fault_of fault)) };
 
     fn fmt<W: fmt::Write>(&self, f: &mut fmt::Formatter<W>) -> fmt::Result {
-        match *self {
-            MeshFault::FaceTooSmall(face) => {
-                write!(f, "face {face} has fewer than three corners")
-            }
-            MeshFault::RepeatedVertex(face) => write!(f, "face {face} repeats a vertex"),
-            MeshFault::NonManifoldEdge(a, b) => write!(f, "edge {a} {b} has more than two faces"),
-            MeshFault::WindingClash(a, b) => {
-                write!(f, "edge {a} {b} is used twice in one direction")
-            }
-            MeshFault::SplitVertex(v) => write!(f, "vertex {v} joins more than one fan"),
-        }
+        write!(f, "{}", self.pieces())
     }
 }
 
@@ -54,15 +78,24 @@ pub enum CheckFault {
     Memory,
 }
 
+impl CheckFault {
+    /// The fault in words.
+    pub fn pieces(&self) -> Pieces
+        ensures { result ≡ fault_text (check_fault_of self.now) }
+    {
+        match self {
+            CheckFault::Mesh(fault) => fault.pieces(),
+            CheckFault::TooLarge(counted) => counted.pieces(),
+            CheckFault::Memory => Pieces::plain(Memory.text()),
+        }
+    }
+}
+
 impl fmt::Display for CheckFault {
-    ghost output = { λ fault. Some (check_text fault) };
+    ghost output = { λ fault. Some (fault_text (check_fault_of fault)) };
 
     fn fmt<W: fmt::Write>(&self, f: &mut fmt::Formatter<W>) -> fmt::Result {
-        match self {
-            CheckFault::Mesh(fault) => write!(f, "{fault}"),
-            CheckFault::TooLarge(counted) => write!(f, "{counted}"),
-            CheckFault::Memory => f.write_str("out of memory"),
-        }
+        write!(f, "{}", self.pieces())
     }
 }
 

@@ -1,7 +1,6 @@
 //! The first fault of a mesh, kind by kind.
 
 ghost use Rattle.std.specs.Prelude.{◌≡◌, length, IfOk};
-ghost use Rattle.raw_mesh.specs.Laws.{IsWithin};
 ghost use Rattle.subdiv_model.specs.Lists.{first_of};
 ghost use Rattle.subdiv_model.specs.MeshFault.{first_mesh_fault};
 ghost use Rattle.mesh_check.specs.View.{named};
@@ -20,7 +19,6 @@ use std::alloc::Global;
 
 // The first fault of the corners of faces.
 pub(crate) fn corner_fault(alloc: Global, raw: &RawMesh) -> Result<Option<MeshFault>, Memory>
-    requires { IsWithin raw.now }
     ensures { IfOk result (λ found. named found ≡ first_of (corner_faults raw.now.faces)) }
 {
     if let Some(f) = small_face(raw) {
@@ -70,7 +68,6 @@ fn edge_fault(alloc: Global, raw: &RawMesh, turns: &[Turn]) -> Result<Option<Mes
 
 // The first fault of a mesh.
 pub(crate) fn mesh_fault(alloc: Global, raw: &RawMesh) -> Result<Option<MeshFault>, Memory>
-    requires { IsWithin raw.now }
     ensures { IfOk result (λ found. named found ≡ first_mesh_fault (length raw.now.points) raw.now.faces) }
 {
     if let Some(fault) = corner_fault(alloc, raw)? {

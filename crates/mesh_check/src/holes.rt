@@ -5,7 +5,6 @@ ghost use Rattle.std.specs.List.{filter, list_any, enumerate_from};
 ghost use Rattle.subdiv_model.specs.Edges.{all_sides, is_boundary, has_end};
 ghost use Rattle.subdiv_model.specs.Base.{is_base_hole};
 ghost use Rattle.subdiv_model.specs.Polygons.{is_among};
-ghost use Rattle.raw_mesh.specs.Laws.{IsWithin};
 ghost use Rattle.mesh_check.specs.Holes.{is_hiding};
 
 use crate::marks::{is_marked, marks_of, no_marks, set_mark};
@@ -67,11 +66,11 @@ fn holes_by(
     named: &[u32],
     hiding: &[u32],
 ) -> Result<Vec<bool>, Memory>
-    requires within { IsWithin raw.now }
     requires named { (j : ℕ) → j < length raw.now.faces → nat_eq (get_or named.now j 0) 1 ≡ is_among raw.now.holes j }
     requires hiding { (v : ℕ) → v < length raw.now.points → nat_eq (get_or hiding.now v 0) 1 ≡ is_hiding raw.now.boundary (filter (is_boundary raw.now.faces) (all_sides raw.now.faces)) v }
     ensures { IfOk result (λ marks. marks.items ≡ map (is_base_hole raw.now) (enumerate_from 0 raw.now.faces)) }
 {
+    raw.facts();
     let mut holes = Vec::with_capacity(alloc, raw.faces() as usize)?;
     for f in 0..raw.faces() {
         holes.push(is_hole(named, hiding, f, raw.face(f)))?;
@@ -85,8 +84,7 @@ pub(crate) fn hole_marks(
     raw: &RawMesh,
     boundary: &[(u32, u32)],
 ) -> Result<Vec<bool>, Memory>
-    requires within { IsWithin raw.now }
-    requires boundary { boundary.now ≡ filter (is_boundary raw.now.faces) (all_sides raw.now.faces) }
+    requires { boundary.now ≡ filter (is_boundary raw.now.faces) (all_sides raw.now.faces) }
     ensures { IfOk result (λ marks. marks.items ≡ map (is_base_hole raw.now) (enumerate_from 0 raw.now.faces)) }
 {
     let named = marks_of(alloc, raw.faces() as usize, raw.holes())?;

@@ -40,7 +40,7 @@ fn key_by(side: (u32, u32), directed: bool) -> u64
     }
 }
 
-// This number of each side.
+// The numbers of all sides.
 fn keys_by(alloc: Global, sides: &[(u32, u32)], directed: bool) -> Result<Vec<u64>, Memory>
     ensures keys { IfOk result (λ keys. keys.items ≡ map (key_by directed) sides.now) }
     ensures words { OnOk result (AreWords sides.now) }

@@ -1,15 +1,14 @@
 //! The first vertex whose faces are more than one fan.
 
-ghost use Rattle.std.specs.Prelude.{◌≡◌, ℕ, ◌^◌, ◌<◌, true, nat_eq, List, length, map, IfOk, IsTrue};
+ghost use Rattle.std.specs.Prelude.{◌≡◌, ◌^◌, ◌<◌, true, nat_eq, length, map, IfOk, IsTrue};
 ghost use Rattle.std.specs.List.{list_all, prefix_len};
-ghost use Rattle.raw_mesh.specs.Laws.{IsWithin};
 ghost use Rattle.subdiv_model.specs.Lists.{first_of};
-ghost use Rattle.subdiv_model.specs.Polygons.{Polygon, is_distinct, has_distinct_sides};
+ghost use Rattle.subdiv_model.specs.Polygons.{is_distinct, has_distinct_sides};
 ghost use Rattle.subdiv_model.specs.Edges.{all_sides};
-ghost use Rattle.subdiv_model.specs.Manifold.{is_simple, has_one_fan};
+ghost use Rattle.subdiv_model.specs.Manifold.{is_simple};
 ghost use Rattle.subdiv_model.specs.MeshFault.{split_vertices};
 ghost use Rattle.mesh_check.specs.Keys.{Rises};
-ghost use Rattle.mesh_check.specs.Group.{IsGroup};
+ghost use Rattle.mesh_check.specs.Group.{DecidesFan};
 ghost use Rattle.mesh_check.specs.Turns.{AreSortedTurns};
 
 use crate::fan::is_fan;
@@ -65,7 +64,7 @@ fn is_group_fan(alloc: Global, group: &[Turn]) -> Result<bool, Memory>
     requires rises { Rises (map (λ turn. turn.before) group.now) }
     requires once { is_distinct (map (λ turn. turn.before) group.now) ≡ true }
     requires short { length group.now < 2 ^ 32 }
-    ensures { (polygons : List Polygon) (v : ℕ) (faces : List ℕ) → IsGroup polygons v (map (λ turn. turn.before) group.now) faces (map (λ turn. turn.after) group.now) → IsTrue (list_all is_simple polygons) → IsTrue (has_distinct_sides (all_sides polygons)) → IfOk result (λ is. is ≡ has_one_fan polygons v) }
+    ensures { IfOk result (λ is. DecidesFan (map (λ turn. turn.before) group.now) (map (λ turn. turn.after) group.now) is) }
 {
     let befores = befores_of(alloc, group)?;
     let afters = afters_of(alloc, group)?;
@@ -79,12 +78,12 @@ pub(crate) fn split_vertex(
     raw: &RawMesh,
     turns: &[Turn],
 ) -> Result<Option<u32>, Memory>
-    requires within { IsWithin raw.now }
     requires simple { IsTrue (list_all is_simple raw.now.faces) }
     requires once { IsTrue (has_distinct_sides (all_sides raw.now.faces)) }
     requires sorted { AreSortedTurns raw.now.faces turns.now }
     ensures { IfOk result (λ found. found ≡ first_of (split_vertices (length raw.now.points) raw.now.faces)) }
 {
+    raw.facts();
     let mut rest = turns;
     while let [first, ..] = rest {
         let v = first.vertex;

@@ -6,7 +6,6 @@ ghost use Rattle.subdiv_model.specs.Lists.{first_of};
 ghost use Rattle.subdiv_model.specs.Edges.{all_sides, edges_of_point};
 ghost use Rattle.subdiv_model.specs.Base.{base_level};
 ghost use Rattle.subdiv_model.specs.MeshFault.{first_mesh_fault};
-ghost use Rattle.raw_mesh.specs.Laws.{IsWithin};
 ghost use Rattle.mesh_check.specs.Keys.{AreEdgeKeys, ends_of_key, each_once};
 ghost use Rattle.mesh_check.specs.Counts.{size_faults, valence_faults, count_named};
 
@@ -76,12 +75,12 @@ pub(crate) fn valence_fault(
     raw: &RawMesh,
     edges: &[u64],
 ) -> Result<Option<Counted>, Memory>
-    requires within { IsWithin raw.now }
     requires sound { first_mesh_fault (length raw.now.points) raw.now.faces ≡ None }
     requires small { first_of (size_faults raw.now) ≡ None }
     requires keys { AreEdgeKeys (all_sides raw.now.faces) edges.now }
     ensures { IfOk result (λ found. count_named found ≡ first_of (valence_faults (base_level raw.now))) }
 {
+    raw.facts();
     let counts = edge_counts(alloc, raw.points().len(), edges)?;
     Ok(crowded_vertex(raw, &counts))
 }

@@ -63,15 +63,15 @@ first-here kind common (Some place) has before line is e first =
     ∙ some-or _ _ _ first)
 first-here kind common None has before line is e first =
     let last : long_fault kind common (before ++ line ∷ []) (length before) ≡ (if has then Some NumberRange else None) = long-last kind common before line ∙ rw (is, e) refl in
-    told has (suc (length before))
+    long-if has (suc (length before))
     ∙ cause-of has (length before)
     ∙ sym
     (first-more (long_fault kind common (before ++ line ∷ [])) (long_fault kind common before) before line _ (λ k low. long-before kind common before line k low) last
     ∙ none-or _ _ first)
   where
-    told : (b : Bool) (n : ℕ) → option_map long_fault_at (first_long None n b) ≡ option_map long_fault_at (if b then Some n else None)
-    told true n = refl
-    told false n = refl
+    long-if : (b : Bool) (n : ℕ) → option_map long_fault_at (first_long None n b) ≡ option_map long_fault_at (if b then Some n else None)
+    long-if true n = refl
+    long-if false n = refl
 
 -- a line of the channel, whose number is kept where it is not too long
 pub channel-more : (Q : Type 0) (kind : Line → Bool) (over : ℕ → Line → Q) (common : ℕ) (numbers : List Q) (q : Q) (long : Option ℕ) (has : Bool) (before : List Line) (line : Line)

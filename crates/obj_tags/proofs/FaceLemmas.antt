@@ -22,7 +22,7 @@ bad-corner b w first word left next all cause e so_far bad =
     let here : corner_fault b w first word ≡ Some fault.BadCorner = rw bad.0 refl in
     sym so_far ∙ ap (fault.first_cause (corner_fault b w first)) e ∙ cause-some (corner_fault b w first) word next fault.BadCorner here ∙ ap (λ c. Some c) (sym bad.1)
 
--- it names a place that is not there
+-- the corner names a place that is not there
 pub bad-places : (b w : Counts) (first word : List ℕ) (left next all : List (List ℕ)) (corner : Corner) (cause : ObjCause) → left ≡ word ∷ next
     → fault.first_cause (corner_fault b w first) left ≡ fault.first_cause (corner_fault b w first) all
     → IsNextCorner (Ok corner) first word → NamesPlaces (Err cause) b w word
@@ -31,7 +31,7 @@ bad-places b w first word left next all corner cause e so_far good bad =
     let here : corner_fault b w first word ≡ Some fault.IndexRange = rw (good.0, bad.0) refl in
     sym so_far ∙ ap (fault.first_cause (corner_fault b w first)) e ∙ cause-some (corner_fault b w first) word next fault.IndexRange here ∙ ap (λ c. Some c) (sym bad.1)
 
--- it is a corner, and its places are kept
+-- the word is a corner, and its places are kept
 pub good-corner : (b w : Counts) (first word : List ℕ) (left next all : List (List ℕ)) (corner : Corner) (places : Places) → left ≡ word ∷ next
     → fault.first_cause (corner_fault b w first) left ≡ fault.first_cause (corner_fault b w first) all
     → IsNextCorner (Ok corner) first word → NamesPlaces (Ok places) b w word

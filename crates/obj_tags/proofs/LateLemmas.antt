@@ -25,7 +25,7 @@ pub late-channel : (Q : Type 0) (kind : Line → Bool) (over : ℕ → Line → 
 late-channel Q kind over start common numbers long lines is are =
     late-of kind start common.value common.wide long lines is.passes is.first is.value are.first
 
--- and its numbers, where there is none
+-- the numbers of a channel without a late fault
 pub late-kept : (Q : Type 0) (kind : Line → Bool) (over : ℕ → Line → Q) (start : ℕ) (common : Common) (numbers : List Q) (long : Option ℕ) (lines : List Line)
     → late_line common.wide long ≡ None → IsCommonOf kind start common lines → IsChannelOf Q kind over common.value numbers long lines
     → (common.value ≡ common_over start (filter kind lines))

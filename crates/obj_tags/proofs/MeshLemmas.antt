@@ -1,7 +1,7 @@
 -- The mesh of a draft of all lines is that of the lines.
-use Rattle.std.proofs.Common.{◌≡◌, ℕ, ℤ, ◌+◌, ◌^◌, None, Bool, true, false, nat_lt, List, [], ◌∷◌, ◌++◌, length, map, take, get_or, arith, refl, ap, sym, subst, ◌∙◌, option_map, ⊎_elim, if◌then◌else◌}
+use Rattle.std.proofs.Common.{◌≡◌, ℕ, ℤ, ◌+◌, ◌^◌, None, Bool, true, false, nat_lt, ◌≤◌, List, [], ◌∷◌, ◌++◌, length, map, take, get_or, arith, refl, ap, sym, subst, ◌∙◌, option_map, ⊎_elim, if◌then◌else◌}
 use Rattle.std.specs.Prelude.{unwrap_or}
-use Rattle.std.specs.List.{list_all, list_any, count_by, filter, flat_map}
+use Rattle.std.specs.List.{All, list_all, list_any, count_by, filter, flat_map}
 use Rattle.std.proofs.Math.Seq.{take-length}
 use Rattle.std.proofs.lemmas.Bool.{and_parts, cases_Bool}
 use Rattle.std.proofs.lemmas.Bool.Decides.{nat_tests}
@@ -9,16 +9,19 @@ use Rattle.std.proofs.lemmas.List.{length-map, length-append}
 use Rattle.std.proofs.lemmas.List.Folds.{list_all-map, flat_map-map}
 use Rattle.std.proofs.lemmas.List.Sums.{sum_by-append}
 use Rattle.subdiv_model.specs.ObjLine.{is_vertex_line, is_face_line}
+use Rattle.subdiv_model.specs.ObjMesh.{ObjMesh}
+use Rattle.subdiv_model.specs.Short.{IsShortPoint, IsShortTexture}
 use Rattle.subdiv_model.specs.ObjWord.{corner_point, corner_texture, has_texture_part}
-use Rattle.subdiv_model.specs.ReadObj.{counts_of, values_of, corner_numbers, has_texture_channel, texture_corners_of, is_texture_line, point_over, texture_over, mesh_of_lines, late_fault, lesser_fault, first_late_fault}
+use Rattle.subdiv_model.specs.ReadObj.{counts_of, values_of, corner_numbers, has_texture_channel, texture_corners_of, is_texture_line, point_over, texture_over, mesh_of_lines, late_fault, lesser_fault, first_late_fault, obj_lines, first_bad_line, read_obj_fault, read_obj_mesh}
 use Rattle.number_laws.proofs.CountLemmas.{any-count}
 use Rattle.obj_laws.proofs.ObjChannelLemmas.{passing-all, passing-count, corner-words, channel-counted}
 use Rattle.obj_laws.proofs.ObjLateLemmas.{filter-places}
+use Rattle.obj_laws.proofs.ShortNumberLemmas.{coordinates-short, texture-short}
 use Rattle.obj_tags.specs.Channel.{ArePositions, AreTextureValues, late_line, lesser_line}
-use Rattle.obj_tags.specs.Survey.{AreCommon, long_fault_at}
+use Rattle.obj_tags.specs.Survey.{AreCommon, IsBounded, long_fault_at}
 use Rattle.obj_tags.specs.declared.survey.Survey.{Survey}
 use Rattle.obj_tags.proofs.LateLemmas.{late-channel, late-kept, lesser-late}
-use Rattle.obj_tags.specs.Draft.{IsDraftOf, textures_at}
+use Rattle.obj_tags.specs.Draft.{coordinates_of, HasShortNumbers, IsDraftOf, textures_at}
 use Rattle.raw_mesh.specs.Mesh.{pieces, Ascend, names_all_texture, mesh_of}
 use Rattle.raw_mesh.specs.View.{point_of, texture_of}
 use Rattle.obj_tags.specs.declared.draft.Draft.{Draft}
@@ -43,7 +46,7 @@ points-count lines (i ∷ is) =
     let here : length (named i) ≡ length values = length-map values (λ corner. unwrap_or (corner_point (counts_of (take i lines)) (counts_of lines) corner) 0) in
     omega (arith, length-append (named i) (flat_map named is), length-append values (words-at lines is), here, points-count lines is)
 
--- and where it has a texture value it has one
+-- each corner with a texture part has one texture value
 textures-count : (lines : List Line) (is : List ℕ)
     → length (flat_map (textures_at lines) is) ≡ count_by has_texture_part (words-at lines is)
 textures-count lines [] = refl
@@ -65,7 +68,7 @@ has-texture draft lines all =
     let corners : length draft.faces.corners.items ≡ length (corner-words lines) = ap length all.corners ∙ points-count lines (face-places lines) ∙ ap length words in
     rw (some, textures, corners) (sym (channel-counted lines))
 
--- then these are all that were kept
+-- where all corners have a texture part, the texture values of all corners were kept
 all-textured : (lines : List Line) (is : List ℕ) → list_all (λ i. list_all has_texture_part (values_of (get_or lines i []))) is ≡ true
     → flat_map (textures_at lines) is ≡ flat_map (corner_numbers corner_texture lines) is
 all-textured lines [] h = refl
@@ -111,8 +114,7 @@ all-values found draft lines is = subst (AreTextureValues found.texture.value dr
 pub mesh-draft : (found : Survey) (draft : Draft) (lines : List Line) (least : ℕ) (has : Bool) → AreCommon found least lines
     → IsDraftOf found draft lines (length lines) → has ≡ names_all_texture draft.faces
     → late_line found.positions.wide draft.positions.long ≡ None → late_line found.texture.wide draft.texture.long ≡ None
-    → mesh_of draft.positions.points.items found.positions.value draft.texture.points.items found.texture.value draft.faces has draft.tags
-    ≡ mesh_of_lines lines least
+    → mesh_of (coordinates_of found draft) draft.faces has draft.tags ≡ mesh_of_lines lines least
 mesh-draft found draft lines least has are is e_has no-position no-texture =
     let all = of-all found draft lines is in
     let same : has ≡ has_texture_channel lines = e_has ∙ has-texture draft lines all in
@@ -131,3 +133,19 @@ late-draft found draft lines least are is =
     lesser-late (late_line found.positions.wide draft.positions.long) (late_line found.texture.wide draft.texture.long)
     ∙ ap (λ a. lesser_fault a (option_map long_fault_at (late_line found.texture.wide draft.texture.long))) positions
     ∙ ap (lesser_fault (late_fault is_vertex_line (10 ^ least) lines)) texture
+
+-- the numbers that were kept are short, where no line is bad and none is late
+pub short-draft : (found : Survey) (draft : Draft) (text : List ℕ) (least : ℕ) → AreCommon found least (obj_lines text)
+    → IsDraftOf found draft (obj_lines text) (length (obj_lines text)) → first_bad_line (obj_lines text) ≡ None
+    → IsBounded found.positions → IsBounded found.texture → HasShortNumbers found draft
+short-draft found draft text least are is good positions texture no-position no-texture =
+    let lines = obj_lines text in
+    let made : mesh_of (coordinates_of found draft) draft.faces (names_all_texture draft.faces) draft.tags ≡ read_obj_mesh text least = mesh-draft found draft lines least _ are is refl no-position no-texture in
+    let late : first_late_fault least lines ≡ None = sym (late-draft found draft lines least are is) ∙ rw (no-position, no-texture) refl in
+    let fine : read_obj_fault text least ≡ None = rw (good, late) refl in
+    record {
+      scale = (positions.positive, positions.short);
+      texture_scale = (texture.positive, texture.short);
+      points = subst (λ (mesh : ObjMesh). All IsShortPoint mesh.points) (sym made) (coordinates-short text least fine (subst (λ (mesh : ObjMesh). mesh.common ≤ 10 ^ 37) made positions.short));
+      texture = subst (λ (mesh : ObjMesh). All IsShortTexture mesh.texture) (sym made) (texture-short text least fine (subst (λ (mesh : ObjMesh). mesh.texture_common ≤ 10 ^ 37) made texture.short));
+    }

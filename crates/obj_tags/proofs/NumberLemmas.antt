@@ -125,7 +125,7 @@ sharp-fine word num den decimals kept form few sign near fine =
     too-fine word ∙ ap (λ d. nat_lt 6 d || nat_lt (10 ^ 6) (numeral_amount word).1) (sym few) ∙ ap (λ d. nat_lt 6 decimals || nat_lt (10 ^ 6) d) (sym same) ∙ fine in
     rw (kept, plus, close, test) refl
 
--- and one that is not
+-- a numeral that is kept as a sharpness
 pub sharp-kept : (word : List ℕ) (num : ℤ) (den decimals : ℕ) → numeral_fault word ≡ None → (num, den) ≡ numeral_form word
     → decimals ≡ decimals_of word → lt_z num (pos 0) ≡ false
     → nat_lt 6 decimals || nat_lt (10 ^ 6) den ≡ false

@@ -1,4 +1,4 @@
--- Words whose look alone tells that they change no common denominator.
+-- Words whose look alone shows that they change no common denominator.
 use Rattle.std.proofs.Common.{◌≡◌, ℕ, ◌+◌, ◌*◌, ◌/◌, ◌%◌, ◌^◌, ◌<◌, ◌≤◌, Bool, true, false, nat_eq, List, [], ◌∷◌, ◌++◌, length, take, drop, append-nil, arith, lit<, refl, ap, sym, subst, ◌∙◌, inl, inr, if◌then◌else◌}
 use Rattle.std.specs.Prelude.{is_some, is_none}
 use Rattle.std.specs.Int.{◌∣◌}

@@ -19,7 +19,7 @@ one-part p text h = slice_split_none p text (λ k d l. fails_before_first p text
 pub some-bytes : (text : List ℕ) (empty : Bool) → empty ≡ nat_eq (length text) 0 → empty ≡ false → 0 < length text
 some-bytes text empty e f = grind (arith, nat_tests)
 
--- the same, where the text is cut at that place
+-- the first line of a text that is cut at its first LF
 pub lines-at : (text prefix others : List ℕ) (n : ℕ) → n ≡ position_or_len is_lf text → prefix ≡ take n text → others ≡ drop n text
     → 0 < length text → lines_of text ≡ prefix ∷ lines_of (drop 1 others)
 lines-at text prefix others n e f g some =

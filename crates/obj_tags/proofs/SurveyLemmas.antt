@@ -108,7 +108,7 @@ common-line kind start value None before line positive kin is =
     let placed = there.wide ∙ ap (λ m. if nat_lt (10 ^ 37) m then Some (suc (length before)) else None) all in
     let last : wide_fault kind start (before ++ line ∷ []) (length before) ≡ (if passes_bound kind start (before ++ line ∷ []) then Some NumberRange else None) = wide-last kind start before line ∙ rw kin refl in
     record {
-      passes = ap is_some placed ∙ told (passes_bound kind start (before ++ line ∷ [])) (suc (length before));
+      passes = ap is_some placed ∙ some-if (passes_bound kind start (before ++ line ∷ [])) (suc (length before));
       value = λ e. there.value e ∙ all;
       first =
           ap (option_map long_fault_at) placed
@@ -118,9 +118,9 @@ common-line kind start value None before line positive kin is =
           ∙ none-or _ _ is.first);
     }
   where
-    told : (b : Bool) (n : ℕ) → is_some (if b then Some n else None) ≡ b
-    told true n = refl
-    told false n = refl
+    some-if : (b : Bool) (n : ℕ) → is_some (if b then Some n else None) ≡ b
+    some-if true n = refl
+    some-if false n = refl
 
 -- one more line
 common-step : (kind : Line → Bool) (start : ℕ) (common : Common) (before : List Line) (line : Line) → 0 < start

@@ -61,7 +61,7 @@ method-sound whole line word rest method kind fits e says =
     let strings : tag_strings line ≡ word ∷ [] = method-strings line word rest fits e in
     (rw (kind, fits, strings, says), rw (strings, says))
 
--- such a tag sets the mode, or the method, and nothing else
+-- a tag of the boundary or of the method sets the mode or the method, and nothing else
 pub adds-boundary : (words : List (List ℕ)) (before : Tags) (mode : declared.Boundary)
     → kind_of_name (tag_name (codes "t" ∷ words)) ≡ Some BoundaryTag → tag_mode (codes "t" ∷ words) ≡ boundary_of mode
     → AddsTag (codes "t" ∷ words) before (record before { boundary = mode })

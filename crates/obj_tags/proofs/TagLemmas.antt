@@ -2,7 +2,7 @@
 use Rattle.std.proofs.Common.{◌≡◌, ℕ, ◌+◌, ◌≤◌, List, length, map, take, drop, arith, ap, sym, ◌∙◌, length-drop}
 use Rattle.std.proofs.lemmas.List.{length-map, length-take-le}
 
--- so many words give so many values
+-- n words give n values
 pub length-said : {X : Type 0} (read : List ℕ → X) (n : ℕ) (words : List (List ℕ)) → n ≤ length words → length (map read (take n words)) ≡ n
 length-said read n words h = length-map (take n words) read ∙ length-take-le n words h
 

@@ -37,7 +37,7 @@ all-from test P (x ∷ xs) sound h =
     let parts = and_parts (test x) (list_all test xs) h in
     All-cons P x xs (sound x parts.0) (all-from test P xs sound parts.1)
 
--- the same of what is seen of each
+-- what a test says of the view of each
 all-seen : {X Y : Type 0} (view : X → Y) (test : Y → Bool) (P : X → Type 0) (xs : List X) (ys : List Y) → map view xs ≡ ys
     → ((x : X) → test (view x) ≡ true → P x) → list_all test ys ≡ true → All P xs
 all-seen view test P xs ys e sound h = all-from (λ x. test (view x)) P xs sound (sym (list_all-map test view xs) ∙ ap (list_all test) e ∙ h)

@@ -51,7 +51,7 @@ texture_from None v = None
 texture_from (Some u) None = None
 texture_from (Some u) (Some v) = Some (record { u = u; v = v })
 
--- and zeros where they are not
+-- a point, or zeros where there is none; and so for a texture value
 abbrev pub point_or_origin : Option Point3 → Point3
 point_or_origin None = record { x = pos 0; y = pos 0; z = pos 0 }
 point_or_origin (Some p) = p

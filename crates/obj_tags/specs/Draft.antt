@@ -1,5 +1,5 @@
 -- What was kept of the first lines of a text.
-use Rattle.std.specs.Prelude.{ℕ, suc, ◌≡◌, ◌+◌, ◌<◌, ◌≤◌, ◌^◌, List, [], length, map, take, get_or, codes}
+use Rattle.std.specs.Prelude.{ℕ, suc, ◌≡◌, ◌+◌, ◌<◌, ◌≤◌, ◌^◌, List, [], length, map, take, get_or, codes, None}
 use Rattle.std.specs.List.{flat_map}
 use Rattle.sharpness_rules.specs.View.{method_of}
 use Rattle.subdiv_model.specs.Lists.{places}
@@ -8,14 +8,15 @@ use Rattle.subdiv_model.specs.ObjWord.{corner_point}
 use Rattle.subdiv_model.specs.ObjTag.{tag_creases, tag_corners, tag_indices}
 use Rattle.subdiv_model.specs.ReadObj as model
 use Rattle.subdiv_model.specs.ReadObj.{counts_of, values_of, corner_numbers, tags_named}
-use Rattle.obj_tags.specs.Channel.{ArePositions, AreTextureValues}
+use Rattle.obj_tags.specs.Channel.{ArePositions, AreTextureValues, late_line}
 use Rattle.obj_tags.specs.Face.{named_textures}
 use Rattle.obj_tags.specs.Line.{Line}
-use Rattle.raw_mesh.specs.Mesh.{Ascend, pieces}
+use Rattle.raw_mesh.specs.Mesh.{AreShort, Ascend, pieces}
 use Rattle.raw_mesh.specs.View.{boundary_of, crease_of, corner_tag_of}
 use Rattle.obj_tags.specs.View as view
 use Rattle.obj_tags.specs.declared.face.Counts as face
 use Rattle.obj_tags.specs.declared.draft.Draft.{Draft}
+use Rattle.raw_mesh.specs.declared.mesh.Coordinates.{Coordinates}
 use Rattle.raw_mesh.specs.declared.mesh.Faces.{Faces}
 use Rattle.raw_mesh.specs.declared.tags.Tags.{Tags}
 use Rattle.obj_tags.specs.declared.survey.Survey.{Survey}
@@ -45,6 +46,15 @@ pub record IsDraftOf (all : Survey) (draft : Draft) (lines : List Line) (n : ℕ
   pub texture : AreTextureValues all.texture.value draft.texture (take n lines)
   pub faces : AreFaces draft.faces lines n
   pub tags : AreTags draft.tags (take n lines)
+
+-- the coordinates of a draft over the common denominators of all lines
+abbrev pub coordinates_of : Survey → Draft → Coordinates
+coordinates_of all draft = record { points = draft.positions.points; scale = all.positions.value; texture = draft.texture.points; texture_scale = all.texture.value }
+
+-- where neither channel has a late line, the numbers that were kept are short
+abbrev pub HasShortNumbers : Survey → Draft → Type 0
+HasShortNumbers all draft =
+    late_line all.positions.wide draft.positions.long ≡ None → late_line all.texture.wide draft.texture.long ≡ None → AreShort (coordinates_of all draft)
 
 -- no more was kept than all lines have, and so many corners more can be numbered
 pub record HasRoom (draft : Draft) (all : face.Counts) (more : ℕ) : Type 0 where

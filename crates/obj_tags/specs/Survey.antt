@@ -24,15 +24,15 @@ raised number common multiple =
 abbrev pub with_denominator : ℕ → Common → ℕ → Common
 with_denominator number common den = if is_some common.wide then common else raised number common (lcm_of common.value den)
 
--- with that of a word, unless the word is refused
+-- with the denominator of a word, unless the word is refused
 abbrev pub with_word : ℕ → Common → List ℕ → Common
 with_word number common word = if is_none (numeral_fault word) then with_denominator number common (denominator_of word) else common
 
--- with those of a line, if it is of the channel
+-- with the denominators of a line, if the line is of the channel
 abbrev pub with_line : (Line → Bool) → ℕ → Common → Line → Common
 with_line kind number common line = if kind line then fold (with_word number) common (kept_coordinates line) else common
 
--- with those of lines, of which the first has this number
+-- with the denominators of lines, of which the first has this number
 abbrev pub surveyed : (Line → Bool) → ℕ → Common → List Line → Common
 surveyed kind number common [] = common
 surveyed kind number common (line ∷ lines) = surveyed kind (suc number) (with_line kind number common line) lines
@@ -52,7 +52,7 @@ pub record IsCommonOf (kind : Line → Bool) (start : ℕ) (common : Common) (li
   pub value : common.wide ≡ None → common.value ≡ common_over start (filter kind lines)
   pub first : option_map long_fault_at common.wide ≡ first_fault (wide_fault kind start lines) (length lines)
 
--- those of both channels
+-- the common denominators of both channels
 pub record AreCommon (all : Survey) (least : ℕ) (lines : List Line) : Type 0 where
   pub positions : IsCommonOf is_vertex_line (10 ^ least) all.positions lines
   pub texture : IsCommonOf is_texture_line 1 all.texture lines

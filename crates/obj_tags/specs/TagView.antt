@@ -28,7 +28,7 @@ index_said word = unsigned_abs (index_of word)
 abbrev pub sharpness_said : List ℕ → model.Sharpness
 sharpness_said word = model.sharpness_of_fraction (numeral_amount word)
 
--- those of a tag with these counts
+-- the indices of a tag with these counts
 abbrev pub indices_said : TagCounts → List (List ℕ) → List ℕ
 indices_said counts words = map index_said (take counts.integers words)
 

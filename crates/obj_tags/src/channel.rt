@@ -21,7 +21,8 @@ pub(crate) struct Positions {
     pub(crate) long: Option<u32>,
 }
 
-/// The texture values over their common denominator, in the same way.
+/// The texture values over their common denominator, while their numbers have at most 37 digits: those of
+/// a line with a longer number are zeros. `long` is the first such line, counted from 1.
 #[derive(Drop)]
 pub(crate) struct TextureValues {
     pub(crate) points: Vec<Point2>,
@@ -37,7 +38,8 @@ fn number_of(word: &[u8], common: u128) -> Result<Option<i128>, ObjCause>
     Ok(over(number, common))
 }
 
-// The next numeral of a line in the same way. Too few words are too short a line.
+// The next numeral of a line over a common denominator, `None` where it has more than 37 digits there.
+// A line with no next word is too short.
 fn next_number(words: &mut Words<'_>, common: u128) -> Result<Option<i128>, ObjCause>
     requires some { 0 < length (words_left words.old) }
     requires short { common ≤ 10 ^ 37 }
@@ -49,7 +51,8 @@ fn next_number(words: &mut Words<'_>, common: u128) -> Result<Option<i128>, ObjC
     number_of(word, common)
 }
 
-// The numeral that a line may have next, in the same way. A missing one is 0.
+// The numeral that a line may have next, over a common denominator, `None` where it has more than 37
+// digits there. A missing one is 0.
 fn second_number(words: &mut Words<'_>, common: u128) -> Result<Option<i128>, ObjCause>
     requires short { common ≤ 10 ^ 37 }
     ensures rest { OnOk result (words_left words.new ≡ drop 1 (words_left words.old)) }

@@ -2,8 +2,10 @@ ghost use Rattle.std.specs.Prelude.{◌≡◌, Some};
 ghost use Rattle.subdiv_model.specs.Fault.{cause_text, obj_fault_text, fault_text};
 ghost use Rattle.obj_tags.specs.View.{cause_of, fault_of, read_fault_of};
 
+use ratio128::Memory;
 use std::alloc::{AllocError, AllocFailed};
 use std::fmt;
+use text_pieces::Pieces;
 
 /// Why a line is refused.
 #[derive(Clone, Copy, Debug, PartialEq, Eq)]
@@ -79,12 +81,20 @@ pub struct ObjFault {
     pub cause: ObjCause,
 }
 
+impl ObjFault {
+    /// The line and its cause in words.
+    pub fn pieces(&self) -> Pieces
+        ensures { result ≡ obj_fault_text (fault_of self.now) }
+    {
+        Pieces::about_with("line ", u64::from(self.line), ": ", self.cause.text())
+    }
+}
+
 impl fmt::Display for ObjFault {
     ghost output = { λ fault. Some (obj_fault_text (fault_of fault)) };
 
     fn fmt<W: fmt::Write>(&self, f: &mut fmt::Formatter<W>) -> fmt::Result {
-        let line = self.line;
-        write!(f, "line {line}: {}", self.cause)
+        write!(f, "{}", self.pieces())
     }
 }
 
@@ -99,14 +109,23 @@ pub enum ReadFault {
     Memory,
 }
 
+impl ReadFault {
+    /// The fault in words.
+    pub fn pieces(&self) -> Pieces
+        ensures { result ≡ fault_text (read_fault_of self.now) }
+    {
+        match self {
+            ReadFault::Obj(fault) => fault.pieces(),
+            ReadFault::Memory => Pieces::plain(Memory.text()),
+        }
+    }
+}
+
 impl fmt::Display for ReadFault {
     ghost output = { λ fault. Some (fault_text (read_fault_of fault)) };
 
     fn fmt<W: fmt::Write>(&self, f: &mut fmt::Formatter<W>) -> fmt::Result {
-        match self {
-            ReadFault::Obj(fault) => write!(f, "{fault}"),
-            ReadFault::Memory => f.write_str("out of memory"),
-        }
+        write!(f, "{}", self.pieces())
     }
 }
 

@@ -99,8 +99,8 @@ fn are_whole(digits: &[u8], common: u128) -> bool
     digits.len() <= 9 && rest * number_of(digits) % tens == 0
 }
 
-/// Whether the look of a word alone tells that its denominator divides a common denominator. It has no
-/// exponent and no slash then, and the digits after its point become whole over that.
+/// Whether the look of a word alone shows that its denominator divides a common denominator. Such a word
+/// has no exponent and no slash, and the digits after its point become whole over the common denominator.
 pub(crate) fn is_over(word: &[u8], common: u128) -> bool
     ensures { result ≡ true → denominator_of word.now ∣ common }
 {

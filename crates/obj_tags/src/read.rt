@@ -3,12 +3,11 @@ ghost use Rattle.subdiv_model.specs.ObjLine.{lines_of, line_words};
 ghost use Rattle.subdiv_model.specs.ReadObj as model;
 ghost use Rattle.subdiv_model.specs.ReadObj.{read_obj_fault, read_obj_mesh};
 ghost use Rattle.obj_tags.specs.Channel as spec;
-ghost use Rattle.obj_tags.specs.Draft.{IsDraftOf};
+ghost use Rattle.obj_tags.specs.Draft.{HasShortNumbers, IsDraftOf};
 ghost use Rattle.obj_tags.specs.Kept.{IsReadFault, TextKeptUnless};
-ghost use Rattle.raw_mesh.specs.Laws.{IsWithin};
 ghost use Rattle.obj_tags.specs.Line.{Line};
 ghost use Rattle.raw_mesh.specs.Mesh.{IsWhole};
-ghost use Rattle.obj_tags.specs.Survey.{AreCommon, IsBounded};
+ghost use Rattle.obj_tags.specs.Survey.{AreCommon};
 ghost use Rattle.obj_tags.specs.View.{counts_of};
 
 use crate::draft::Draft;
@@ -74,12 +73,10 @@ fn least_line(a: Option<u32>, b: Option<u32>) -> Option<u32>
 // Makes a mesh of what was kept; the error is the least line up to which a channel is too wide, or with
 // a number that is too long.
 fn finish(draft: Draft, all: Survey) -> Result<RawMesh, ReadFault>
-    requires positions { IsBounded all.positions }
-    requires texture { IsBounded all.texture }
+    requires short { HasShortNumbers all draft }
     requires whole { IsWhole (length draft.positions.points.items) (length draft.texture.points.items) false draft.faces draft.tags }
-    ensures read { (lines : List Line) (least : ℕ) → AreCommon all least lines → IsDraftOf all draft lines (length lines)
+    ensures { (lines : List Line) (least : ℕ) → AreCommon all least lines → IsDraftOf all draft lines (length lines)
         → TextKeptUnless result (model.first_late_fault least lines) (λ mesh. mesh ≡ model.mesh_of_lines lines least) }
-    ensures laws { IfOk result (λ mesh. IsWithin mesh) }
 {
     let Draft {
         positions,
@@ -120,7 +117,6 @@ pub fn read_obj(alloc: Global, bytes: &[u8], least_scale: u32) -> Result<RawMesh
         (λ fault. IsReadFault fault (read_obj_fault bytes.now least_scale)) }
     ensures good { OnOk result (read_obj_fault bytes.now least_scale ≡ None) }
     ensures mesh { IfOk result (λ mesh. mesh ≡ read_obj_mesh bytes.now least_scale) }
-    ensures laws { IfOk result (λ mesh. IsWithin mesh) }
 {
     let text = skip_mark(bytes);
     let all = survey_of(text, least_scale);

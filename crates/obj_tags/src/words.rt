@@ -52,7 +52,7 @@ pub(crate) struct Extent {
     pub(crate) continued: bool,
 }
 
-/// The extent of a line, told in one walk over its words.
+/// The extent of a line, found in one walk over its words.
 pub(crate) fn extent_of(line: &[u8]) -> Extent
     requires { length line.now ≤ 2 ^ 28 }
     ensures len { result.len ≡ length (line_words line.now) }

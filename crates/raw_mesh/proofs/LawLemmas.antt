@@ -1,14 +1,13 @@
 -- A mesh that is kept in whole lists has its numbers within the lists that they count.
-use Rattle.std.proofs.Common.{◌≡◌, ℕ, ◌+◌, ◌-◌, ◌^◌, ◌<◌, ◌≤◌, Bool, true, false, if◌then◌else◌, List, [], ◌∷◌, length, map, arith, refl, ap, sym, ◌∙◌, slice_range, drop, nat_lt}
+use Rattle.std.proofs.Common.{◌≡◌, ℕ, ◌+◌, ◌-◌, ◌<◌, ◌≤◌, Bool, true, false, if◌then◌else◌, List, [], ◌∷◌, length, map, arith, refl, ap, sym, ◌∙◌, slice_range, drop, nat_lt}
 use Rattle.std.specs.List.{All, sum_by}
 use Rattle.std.proofs.lemmas.Bool.{and_parts, eqb-true}
 use Rattle.std.proofs.lemmas.List.{length-map}
 use Rattle.std.proofs.lemmas.List.Elements.{All-nil, All-cons, All-map, All-weaker, All-take, All-drop}
-use Rattle.raw_mesh.specs.Mesh.{pieces, Ascend, names_all_texture, IsWhole, mesh_of}
+use Rattle.raw_mesh.specs.Mesh.{pieces, Ascend, names_all_texture, IsWhole, AreKept, mesh_of}
 use Rattle.raw_mesh.specs.Laws.{IsWithin}
 use Rattle.raw_mesh.specs.View.{point_of, texture_of, crease_of, corner_tag_of}
-use Rattle.ratio128.specs.declared.point.Point3.{Point3}
-use Rattle.ratio128.specs.declared.point.Point2.{Point2}
+use Rattle.raw_mesh.specs.declared.mesh.Coordinates.{Coordinates}
 use Rattle.raw_mesh.specs.declared.mesh.Faces.{Faces}
 use Rattle.raw_mesh.specs.declared.tags.Tags.{Tags}
 use Rattle.raw_mesh.proofs.PiecesLemmas.{length-pieces, sum_by-pieces, length-range, head_below}
@@ -50,20 +49,25 @@ texture-lengths : (has : Bool) (starts xs ys : List ℕ) → Ascend starts (leng
 texture-lengths true starts xs ys h same is = sym (pieces-lengths starts xs ys h (sym (same refl)))
 texture-lengths false starts xs ys h same is = cc is
 
--- the laws of a mesh, from what is kept
-pub within : (points : List Point3) (common : ℕ) (texture : List Point2) (texture_common : ℕ) (faces : Faces) (has_texture : Bool) (tags : Tags)
-    → 0 < common → common ≤ 10 ^ 37 → 0 < texture_common → texture_common ≤ 10 ^ 37 → IsWhole (length points) (length texture) has_texture faces tags
-    → IsWithin (mesh_of points common texture texture_common faces has_texture tags)
-within points common texture texture_common faces has_texture tags positive short texture_positive texture_short whole =
+-- what a mesh keeps of its numbers, from its lists
+pub within : (coordinates : Coordinates) (faces : Faces) (has_texture : Bool) (tags : Tags) → AreKept coordinates faces has_texture tags
+    → IsWithin (mesh_of coordinates faces has_texture tags)
+within coordinates faces has_texture tags are =
+    let points = coordinates.points.items in
+    let texture = coordinates.texture.items in
+    let short = are.short in
+    let whole = are.whole in
     let as_points : length (map point_of points) ≡ length points = length-map points point_of in
     let as_values : length (map texture_of texture) ≡ length texture = length-map texture texture_of in
     let as_faces = length-pieces faces.starts.items faces.corners.items in
     let polygons = pieces faces.starts.items faces.corners.items in
     record {
-      common = positive;
-      common_short = short;
-      texture_common = texture_positive;
-      texture_common_short = texture_short;
+      common = short.scale.0;
+      common_short = short.scale.1;
+      texture_common = short.texture_scale.0;
+      texture_common_short = short.texture_scale.1;
+      points = short.points;
+      texture = short.texture;
       faces = pieces-all (λ v. v < length (map point_of points)) faces.starts.items faces.corners.items (All-weaker (λ v. v < length points) (λ v. v < length (map point_of points)) (λ v h. omega (arith, h, as_points)) faces.corners.items whole.vertices);
       texture_corners = texture-all has_texture (λ t. t < length (map texture_of texture)) faces.starts.items faces.texture_corners.items (All-weaker (λ t. t < length texture) (λ t. t < length (map texture_of texture)) (λ t h. omega (arith, h, as_values)) faces.texture_corners.items whole.texture);
       textured = texture-lengths has_texture faces.starts.items faces.corners.items faces.texture_corners.items whole.ascend whole.same;

@@ -1,5 +1,5 @@
 -- Parts with which nothing is wrong are whole.
-use Rattle.std.proofs.Common.{◌≡◌, ℕ, ◌+◌, ◌^◌, ◌<◌, ◌≤◌, Bool, true, false, ◌||◌, nat_lt, nat_le, nat_eq, unsigned_abs, List, [], ◌∷◌, length, map, sum, Option, Some, None, option_map, cond, arith, refl, ap, ◌∙◌}
+use Rattle.std.proofs.Common.{◌≡◌, ℕ, ◌+◌, ◌^◌, ◌<◌, ◌≤◌, Bool, true, false, ◌||◌, nat_lt, nat_le, nat_eq, unsigned_abs, List, [], ◌∷◌, length, sum, Option, Some, None, option_map, cond, arith, refl, ap, ◌∙◌}
 use Rattle.std.specs.Option.{option_or}
 use Rattle.std.specs.List.{All, position, position_or_len}
 use Rattle.std.proofs.lemmas.Bool.{and_parts, eqb-true, ltb-true, ltb-false, leb-true}
@@ -7,7 +7,7 @@ use Rattle.std.proofs.lemmas.Bool.Decides.{nat_tests}
 use Rattle.std.proofs.lemmas.List.Elements.{All-nil, All-cons, All-map}
 use Rattle.ratio128.specs.declared.point.Point2.{Point2}
 use Rattle.ratio128.specs.declared.point.Point3.{Point3}
-use Rattle.raw_mesh.specs.Mesh.{IsWhole, mesh_of_lists}
+use Rattle.raw_mesh.specs.Mesh.{AreShort, IsWhole, mesh_of_lists}
 use Rattle.raw_mesh.specs.Parts.{bad_unless, is_scale, is_long, is_long_point, is_long_value, bad_coordinates, bad_counts, bad_corners, bad_part, mesh_of_parts}
 use Rattle.subdiv_model.specs.Short.{IsShortPoint, IsShortTexture}
 use Rattle.raw_mesh.specs.Starts.{starts_from}
@@ -61,13 +61,6 @@ or-parts true q e = cc
 both-below : (count a b : ℕ) → nat_le count a || nat_le count b ≡ false → (a < count) × (b < count)
 both-below count a b e = let parts = or-parts (nat_le count a) (nat_le count b) e in (below-from count a parts.0, below-from count b parts.1)
 
--- coordinates with which nothing is wrong
-pub record AreScaled (coordinates : Coordinates) : Type 0 where
-  pub scale : (0 < coordinates.scale) × (coordinates.scale ≤ 10 ^ 37)
-  pub texture_scale : (0 < coordinates.texture_scale) × (coordinates.texture_scale ≤ 10 ^ 37)
-  pub points : All (λ p. IsShortPoint (point_of p)) coordinates.points.items
-  pub texture : All (λ t. IsShortTexture (texture_of t)) coordinates.texture.items
-
 scale-from : (scale : ℕ) → is_scale scale ≡ true → (0 < scale) × (scale ≤ 10 ^ 37)
 scale-from scale e = let parts = and_parts (nat_lt 0 scale) (nat_le scale (10 ^ 37)) e in (ltb-true 0 scale parts.0, leb-true scale (10 ^ 37) parts.1)
 
@@ -81,21 +74,22 @@ value-short : (t : Point2) → is_long_value t ≡ false → IsShortTexture (tex
 value-short t e =
     let parts = or-parts (is_long t.u) (is_long t.v) e in (below-from (10 ^ 37) (unsigned_abs t.u) parts.0, below-from (10 ^ 37) (unsigned_abs t.v) parts.1)
 
-pub are-scaled : (coordinates : Coordinates) → bad_coordinates coordinates ≡ None → AreScaled coordinates
-are-scaled coordinates e =
+-- coordinates with which nothing is wrong
+pub are-short : (coordinates : Coordinates) → bad_coordinates coordinates ≡ None → AreShort coordinates
+are-short coordinates e =
     let first = or-none (bad_unless (is_scale coordinates.scale) bad.PointScale) _ e in
     let second = or-none (bad_unless (is_scale coordinates.texture_scale) bad.TextureScale) _ first.1 in
     let third = or-none (option_map bad.Point (position is_long_point coordinates.points.items)) _ second.1 in
     record {
       scale = scale-from coordinates.scale (unless-none _ _ first.0);
       texture_scale = scale-from coordinates.texture_scale (unless-none _ _ second.0);
-      points = none-first is_long_point (λ p. IsShortPoint (point_of p)) coordinates.points.items point-short (map-none bad.Point _ third.0);
-      texture = none-first is_long_value (λ t. IsShortTexture (texture_of t)) coordinates.texture.items value-short (map-none bad.TextureValue _ third.1);
+      points = All-map IsShortPoint point_of coordinates.points.items (none-first is_long_point (λ p. IsShortPoint (point_of p)) coordinates.points.items point-short (map-none bad.Point _ third.0));
+      texture = All-map IsShortTexture texture_of coordinates.texture.items (none-first is_long_value (λ t. IsShortTexture (texture_of t)) coordinates.texture.items value-short (map-none bad.TextureValue _ third.1));
     }
 
 -- the coordinates of parts with which nothing is wrong
-pub scaled-parts : (parts : MeshParts) → bad_part parts ≡ None → AreScaled parts.coordinates
-scaled-parts parts e = are-scaled parts.coordinates (or-none (bad_coordinates parts.coordinates) _ e).0
+pub short-parts : (parts : MeshParts) → bad_part parts ≡ None → AreShort parts.coordinates
+short-parts parts e = are-short parts.coordinates (or-none (bad_coordinates parts.coordinates) _ e).0
 
 -- the corners of all faces are as many as the corners
 pub sizes-sum : (parts : MeshParts) → bad_counts parts ≡ None
@@ -147,10 +141,3 @@ pub mesh-parts : (parts : MeshParts) (faces : Faces) → faces.starts.items ≡ 
 mesh-parts parts faces starts corners texture =
     let some : nat_lt 1 (length (starts_from 0 parts.face_sizes.items)) ≡ nat_lt 0 (length parts.face_sizes.items) = grind (arith, nat_tests, length-starts 0 parts.face_sizes.items) in
     rw (starts, corners, texture, some, pieces-starts 0 parts.face_sizes.items parts.corners.items, pieces-starts 0 parts.face_sizes.items parts.texture_corners.items) refl
-
--- the numbers of a mesh of parts are short
-pub short-points : (parts : MeshParts) → bad_part parts ≡ None → All IsShortPoint (map point_of parts.coordinates.points.items)
-short-points parts e = All-map IsShortPoint point_of parts.coordinates.points.items (scaled-parts parts e).points
-
-pub short-values : (parts : MeshParts) → bad_part parts ≡ None → All IsShortTexture (map texture_of parts.coordinates.texture.items)
-short-values parts e = All-map IsShortTexture texture_of parts.coordinates.texture.items (scaled-parts parts e).texture

@@ -64,7 +64,7 @@ sum_by-pieces s (t ∷ starts) xs a =
 cons-parts : {X : Type 0} (x y : X) (xs ys : List X) → x ∷ xs ≡ y ∷ ys → (x ≡ y) × (xs ≡ ys)
 cons-parts x y xs ys e = (cc, cc)
 
--- the same head before the same lists
+-- equal heads before equal lists
 pub join-cons : {p q : List ℕ} {ps qs : List (List ℕ)} → p ≡ q → ps ≡ qs → (p ∷ ps) ≡ (q ∷ qs)
 join-cons e f = cc
 
@@ -103,7 +103,7 @@ pieces-same f g same (s ∷ starts) xs is a e all =
     let long : length xs ≡ sum_by (λ i. length (f i)) is = ap length all ∙ length-flat_map f is in
     pieces-alike f g same (s ∷ starts) xs [] is a e (omega (arith, sum, each, long, sum_by-pieces s starts xs a))
 
--- the same, as code counts up
+-- the ends of a piece, where the place after f is written f + 1
 pub ascend_next : (starts : List ℕ) (end f : ℕ) → Ascend starts end → f + 1 < length starts
     → (get_or starts f 0 ≤ get_or starts (f + 1) 0) × (get_or starts (f + 1) 0 ≤ end)
 ascend_next starts end f a h = rw add-one (ascend_at starts end f a (omega arith))

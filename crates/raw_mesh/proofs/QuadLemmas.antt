@@ -5,10 +5,12 @@ use Rattle.std.proofs.lemmas.List.{drop-drop, drop_all, length-drop}
 use Rattle.std.proofs.lemmas.List.Elements.{All-nil}
 use Rattle.std.proofs.lemmas.List.FromFn.{length-map-range_with_len}
 use Rattle.std.proofs.Math.Nat.{div-add-mod}
-use Rattle.ratio128.specs.declared.point.Point2.{Point2}
 use Rattle.ratio128.specs.declared.point.Point3.{Point3}
-use Rattle.raw_mesh.specs.Mesh.{pieces, Ascend, IsWhole, mesh_of}
-use Rattle.raw_mesh.specs.Made.{quads_of, AreQuads, AreCreases, mesh_of_quads}
+use Rattle.subdiv_model.specs.Short.{IsShortPoint, IsShortTexture}
+use Rattle.raw_mesh.specs.Mesh.{pieces, Ascend, IsWhole, AreKept, mesh_of}
+use Rattle.raw_mesh.specs.Made.{quads_of, ArePoints, AreQuads, AreCreases, mesh_of_quads}
+use Rattle.raw_mesh.specs.View.{point_of}
+use Rattle.raw_mesh.specs.declared.mesh.Coordinates.{Coordinates}
 use Rattle.raw_mesh.specs.declared.tags.Crease.{Crease}
 use Rattle.raw_mesh.proofs.PiecesLemmas.{join-cons}
 use Rattle.raw_mesh.specs.declared.mesh.Faces.{Faces}
@@ -33,7 +35,7 @@ pieces-from a (suc n) xs e =
     (pieces-from (a + 1) n xs (omega (arith, e)) ∙ ap (λ k. quads_of (drop k xs)) (sym next) ∙ ap quads_of (sym (drop-drop 4 (4 * a) xs)))
     ∙ sym (first-quad (drop (4 * a) xs) (omega (arith, e, length-drop (4 * a) xs)))
 
--- they ascend to the end of the corners
+-- the places of the quads ascend to the end of the corners
 ascend-from : (a n end : ℕ) → end ≡ 4 * a + 4 * n → Ascend (map (λ k. 4 * k) (range_with_len a (suc n))) end
 ascend-from a zero end e = omega (arith, e)
 ascend-from a (suc n) end e = (omega arith, ascend-from (a + 1) n end (omega (arith, e)))
@@ -46,8 +48,8 @@ four-each corners fours = omega (arith, fours, div-add-mod (length corners) 4)
 counted : (quads : ℕ) → map (λ k. 4 * k) (range_with_len 0 (quads + 1)) ≡ map (λ k. 4 * k) (range_with_len 0 (suc quads))
 counted quads = ap (λ n. map (λ k. 4 * k) (range_with_len 0 n)) (add-one quads)
 
--- a mesh of quads with creases is whole
-pub quads-whole : (points values : ℕ) (corners : List ℕ) (creases : List Crease) (faces : Faces) (tags : Tags) → AreQuads corners faces → AreCreases creases tags
+-- the lists of a mesh of quads with creases are whole
+quads-whole : (points values : ℕ) (corners : List ℕ) (creases : List Crease) (faces : Faces) (tags : Tags) → AreQuads corners faces → AreCreases creases tags
     → length corners % 4 ≡ 0 → length corners < 2 ^ 27 → All (λ v. v < points) corners
     → All (λ c. (c.a < points) × (c.b < points)) creases → IsWhole points values false faces tags
 quads-whole points values corners creases faces tags are only fours short vertices ends =
@@ -65,10 +67,25 @@ quads-whole points values corners creases faces tags are only fours short vertic
       hole_faces = rw only.holes (All-nil _);
     }
 
--- and it is the mesh of its quads
-pub quads-mesh : (points : List Point3) (texture : List Point2) (corners : List ℕ) (creases : List Crease) (faces : Faces) (tags : Tags)
-    → texture ≡ [] → AreQuads corners faces → AreCreases creases tags → length corners % 4 ≡ 0
-    → mesh_of points 1 texture 1 faces false tags ≡ mesh_of_quads points corners creases
-quads-mesh points texture corners creases faces tags none are only fours =
+-- the lists of a mesh of quads are kept
+pub quads-kept : (given : List Point3) (corners : List ℕ) (creases : List Crease) (coordinates : Coordinates) (faces : Faces) (tags : Tags)
+    → ArePoints given coordinates → AreQuads corners faces → AreCreases creases tags → All IsShortPoint (map point_of given)
+    → length corners % 4 ≡ 0 → length corners < 2 ^ 27 → All (λ v. v < length given) corners
+    → All (λ c. (c.a < length given) × (c.b < length given)) creases → AreKept coordinates faces false tags
+quads-kept given corners creases coordinates faces tags points are only small fours short vertices ends = record {
+  short = record {
+    scale = rw points.scale (omega arith, omega arith);
+    texture_scale = rw points.texture_scale (omega arith, omega arith);
+    points = rw points.points small;
+    texture = rw points.texture (All-nil IsShortTexture);
+  };
+  whole = rw points.points (quads-whole (length given) (length coordinates.texture.items) corners creases faces tags are only fours short vertices ends);
+}
+
+-- the mesh of these lists is that of the quads
+pub quads-mesh : (given : List Point3) (corners : List ℕ) (creases : List Crease) (coordinates : Coordinates) (faces : Faces) (tags : Tags)
+    → ArePoints given coordinates → AreQuads corners faces → AreCreases creases tags → length corners % 4 ≡ 0
+    → mesh_of coordinates faces false tags ≡ mesh_of_quads given corners creases
+quads-mesh given corners creases coordinates faces tags points are only fours =
     let quads = length corners / 4 in
-    rw (none, are.starts, are.corners, counted quads, pieces-from 0 quads corners (four-each corners fours), only.creases, only.corners, only.holes, only.boundary, only.method) refl
+    rw (points.points, points.scale, points.texture, points.texture_scale, are.starts, are.corners, counted quads, pieces-from 0 quads corners (four-each corners fours), only.creases, only.corners, only.holes, only.boundary, only.method) refl

@@ -10,7 +10,7 @@ use Rattle.raw_mesh.proofs.PiecesLemmas.{join-cons}
 pub sum-cons : (x : ℕ) (xs : List ℕ) → sum (x ∷ xs) ≡ x + sum xs
 sum-cons x xs = sum_by-cons (λ n. n) x xs
 
--- they ascend to the end of the last
+-- the places where faces begin ascend to the end of the last face
 pub ascend-starts : (place : ℕ) (sizes : List ℕ) (end : ℕ) → end ≡ place + sum sizes → Ascend (starts_from place sizes) end
 ascend-starts place [] end e = omega (arith, e)
 ascend-starts place (size ∷ []) end e = (omega arith, ascend-starts (place + size) [] end (omega (arith, e, sum-cons size [])))

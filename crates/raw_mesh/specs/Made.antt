@@ -9,6 +9,7 @@ use Rattle.subdiv_model.specs.ObjMesh.{ObjMesh}
 use Rattle.sharpness_rules.specs.View.{method_of}
 use Rattle.raw_mesh.specs.View.{boundary_of, crease_of, point_of}
 use Rattle.raw_mesh.specs.declared.tags.Crease.{Crease}
+use Rattle.raw_mesh.specs.declared.mesh.Coordinates.{Coordinates}
 use Rattle.raw_mesh.specs.declared.mesh.Faces.{Faces}
 use Rattle.raw_mesh.specs.declared.tags.Tags.{Tags}
 
@@ -36,6 +37,13 @@ mesh_of_quads points corners creases = record {
   boundary = EdgeOnly;
   method = Normal;
 }
+
+-- these points over 1, without texture values
+pub record ArePoints (given : List Point3) (coordinates : Coordinates) : Type 0 where
+  pub points : coordinates.points.items ≡ given
+  pub scale : coordinates.scale ≡ 1
+  pub texture : coordinates.texture.items ≡ []
+  pub texture_scale : coordinates.texture_scale ≡ 1
 
 -- these corners as quads, one after the other, without texture
 pub record AreQuads (given : List ℕ) (faces : Faces) : Type 0 where

@@ -1,10 +1,9 @@
 -- A mesh in plain lists, seen as that of the definitions.
 use Rattle.std.specs.Prelude.{ℕ, ◌≡◌, ◌+◌, Bool, ◌&&◌, nat_eq, nat_lt, ◌≤◌, ◌<◌, ◌^◌, true, List, [], ◌∷◌, length, map, slice_range, if◌then◌else◌}
 use Rattle.std.specs.List.{All}
-use Rattle.ratio128.specs.declared.point.Point2.{Point2}
-use Rattle.ratio128.specs.declared.point.Point3.{Point3}
 use Rattle.sharpness_rules.specs.View.{method_of}
 use Rattle.subdiv_model.specs.ObjMesh.{ObjMesh}
+use Rattle.subdiv_model.specs.Short.{IsShortPoint, IsShortTexture}
 use Rattle.raw_mesh.specs.View.{boundary_of, crease_of, corner_tag_of, point_of, texture_of}
 use Rattle.raw_mesh.specs.declared.mesh.Coordinates.{Coordinates}
 use Rattle.raw_mesh.specs.declared.mesh.Faces.{Faces}
@@ -27,12 +26,12 @@ abbrev pub names_all_texture : Faces → Bool
 names_all_texture faces = nat_lt 1 (length faces.starts.items) && nat_eq (length faces.texture_corners.items) (length faces.corners.items)
 
 -- the points and the texture values over their common denominators, with the faces and the tags
-abbrev pub mesh_of : List Point3 → ℕ → List Point2 → ℕ → Faces → Bool → Tags → ObjMesh
-mesh_of points common texture texture_common faces has_texture tags = record {
-  points = map point_of points;
-  common = common;
-  texture = map texture_of texture;
-  texture_common = texture_common;
+abbrev pub mesh_of : Coordinates → Faces → Bool → Tags → ObjMesh
+mesh_of coordinates faces has_texture tags = record {
+  points = map point_of coordinates.points.items;
+  common = coordinates.scale;
+  texture = map texture_of coordinates.texture.items;
+  texture_common = coordinates.texture_scale;
   faces = pieces faces.starts.items faces.corners.items;
   has_texture = has_texture;
   texture_corners = if has_texture then pieces faces.starts.items faces.texture_corners.items else [];
@@ -43,10 +42,16 @@ mesh_of points common texture texture_common faces has_texture tags = record {
   method = method_of tags.method;
 }
 
--- the same, with texture where it names all texture
+-- the mesh of lists, which has texture where the faces name all texture
 abbrev pub mesh_of_lists : Coordinates → Faces → Tags → ObjMesh
-mesh_of_lists coordinates faces tags =
-    mesh_of coordinates.points.items coordinates.scale coordinates.texture.items coordinates.texture_scale faces (names_all_texture faces) tags
+mesh_of_lists coordinates faces tags = mesh_of coordinates faces (names_all_texture faces) tags
+
+-- each common denominator is from 1 to 10^37, and each numerator is below 10^37 in amount
+pub record AreShort (coordinates : Coordinates) : Type 0 where
+  pub scale : (0 < coordinates.scale) × (coordinates.scale ≤ 10 ^ 37)
+  pub texture_scale : (0 < coordinates.texture_scale) × (coordinates.texture_scale ≤ 10 ^ 37)
+  pub points : All IsShortPoint (map point_of coordinates.points.items)
+  pub texture : All IsShortTexture (map texture_of coordinates.texture.items)
 
 -- the places of the faces end at the corners, and numbers are in range
 pub record IsWhole (points values : ℕ) (has_texture : Bool) (faces : Faces) (tags : Tags) : Type 0 where
@@ -59,3 +64,8 @@ pub record IsWhole (points values : ℕ) (has_texture : Bool) (faces : Faces) (t
   pub crease_ends : All (λ c. (c.a < points) × (c.b < points)) tags.creases.items
   pub corner_vertices : All (λ c. c.vertex < points) tags.corners.items
   pub hole_faces : All (λ f. f + 1 < length faces.starts.items) tags.holes.items
+
+-- the lists of a mesh are short and whole
+pub record AreKept (coordinates : Coordinates) (faces : Faces) (has_texture : Bool) (tags : Tags) : Type 0 where
+  pub short : AreShort coordinates
+  pub whole : IsWhole (length coordinates.points.items) (length coordinates.texture.items) has_texture faces tags

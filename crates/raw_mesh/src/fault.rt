@@ -1,5 +1,6 @@
 ghost use Rattle.std.specs.Prelude.{◌≡◌};
 
+use ratio128::Memory;
 use std::alloc::{AllocError, AllocFailed};
 use std::fmt;
 
@@ -79,7 +80,7 @@ impl fmt::Display for PartsFault {
     fn fmt<W: fmt::Write>(&self, f: &mut fmt::Formatter<W>) -> fmt::Result {
         match self {
             PartsFault::Bad(bad) => write!(f, "{bad}"),
-            PartsFault::Memory => f.write_str("out of memory"),
+            PartsFault::Memory => f.write_str(Memory.text()),
         }
     }
 }

@@ -2,14 +2,27 @@
 
 ghost use Rattle.std.specs.Prelude.{◌≡◌, ◌+◌, ◌*◌, ◌%◌, ◌^◌, ◌<◌, ◌≤◌, length, map, IfOk};
 ghost use Rattle.std.specs.List.{All, range_with_len};
-ghost use Rattle.raw_mesh.specs.Laws.{IsWithin};
-ghost use Rattle.raw_mesh.specs.Made.{AreQuads, AreCreases, mesh_of_quads};
+ghost use Rattle.subdiv_model.specs.Short.{IsShortPoint};
+ghost use Rattle.raw_mesh.specs.Made.{ArePoints, AreQuads, AreCreases, mesh_of_quads};
+ghost use Rattle.raw_mesh.specs.View.{point_of};
 
 use crate::mesh::{Coordinates, Faces, RawMesh};
 use crate::tags::{Boundary, Crease, Tags};
 use ratio128::{Memory, Point3};
 use sharpness_rules::Method;
 use std::alloc::Global;
+
+// These points over 1, and no texture value.
+fn coordinates(alloc: Global, points: Vec<Point3>) -> Coordinates
+    ensures { ArePoints points.items result }
+{
+    Coordinates {
+        points,
+        scale: 1,
+        texture: Vec::new(alloc),
+        texture_scale: 1,
+    }
+}
 
 // Where each of so many quads begins among the corners, and where the last one ends.
 fn quad_starts(alloc: Global, quads: usize) -> Result<Vec<u32>, Memory>
@@ -54,7 +67,7 @@ impl RawMesh {
     /// [`Boundary::EdgeOnly`] and its method [`Method::Normal`].
     ///
     /// There are a multiple of four corners, fewer than 2^27. Each of them and each end of a crease is below the
-    /// number of points. The error is `Memory`, where memory ran out.
+    /// number of points. Each numerator is below 10^37 in amount. The error is `Memory`, where memory ran out.
     pub fn of_quads(
         alloc: Global,
         points: Vec<Point3>,
@@ -62,18 +75,16 @@ impl RawMesh {
         creases: Vec<Crease>,
     ) -> Result<RawMesh, Memory>
         requires quads { length corners.items % 4 ≡ 0 }
-        requires short { length corners.items < 2 ^ 27 }
+        requires few { length corners.items < 2 ^ 27 }
+        requires short { All IsShortPoint (map point_of points.items) }
         requires vertices { All (λ v. v < length points.items) corners.items }
         requires crease_ends { All (λ c. (c.a < length points.items) × (c.b < length points.items)) creases.items }
-        ensures mesh { IfOk result (λ mesh. mesh ≡ mesh_of_quads points.items corners.items creases.items) }
-        ensures laws { IfOk result (λ mesh. IsWithin mesh) }
+        ensures { IfOk result (λ mesh. mesh ≡ mesh_of_quads points.items corners.items creases.items) }
     {
+        let faces = quads(alloc, corners)?;
         Ok(RawMesh {
-            points,
-            common: 1,
-            texture: Vec::new(alloc),
-            texture_common: 1,
-            faces: quads(alloc, corners)?,
+            coordinates: coordinates(alloc, points),
+            faces,
             has_texture: false,
             tags: tags(alloc, creases),
         })

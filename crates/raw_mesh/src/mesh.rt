@@ -1,7 +1,7 @@
 ghost use Rattle.std.specs.Prelude.{◌≡◌, ◌+◌, ◌-◌, ◌<◌, ◌≤◌, ◌^◌, true, false, length, map, Some, slice_get, [], if◌then◌else◌};
 ghost use Rattle.sharpness_rules.specs.View.{method_of};
 ghost use Rattle.subdiv_model.specs.ObjMesh.{ObjMesh};
-ghost use Rattle.raw_mesh.specs.Mesh.{Ascend, pieces, names_all_texture, mesh_of, mesh_of_lists, IsWhole};
+ghost use Rattle.raw_mesh.specs.Mesh.{Ascend, pieces, names_all_texture, mesh_of, mesh_of_lists, AreShort, IsWhole, AreKept};
 ghost use Rattle.raw_mesh.specs.Laws.{IsWithin};
 ghost use Rattle.raw_mesh.specs.View.{boundary_of, crease_of, corner_tag_of, point_of, texture_of};
 
@@ -34,10 +34,7 @@ pub struct Faces {
 /// A mesh that need not be a manifold. Vertices, texture values and faces are counted from 0.
 #[derive(Drop)]
 pub struct RawMesh {
-    pub(crate) points: Vec<Point3>,
-    pub(crate) common: u128,
-    pub(crate) texture: Vec<Point2>,
-    pub(crate) texture_common: u128,
+    pub(crate) coordinates: Coordinates,
     pub(crate) faces: Faces,
     pub(crate) has_texture: bool,
     pub(crate) tags: Tags,
@@ -46,9 +43,9 @@ pub struct RawMesh {
 impl Model for RawMesh {
     ghost Value = { ObjMesh };
 
-    ghost view = { λ m. mesh_of m.points.items m.common m.texture.items m.texture_common m.faces m.has_texture m.tags };
+    ghost view = { λ m. mesh_of m.coordinates m.faces m.has_texture m.tags };
 
-    ghost invariant = { λ m. IsWhole (length m.points.items) (length m.texture.items) m.has_texture m.faces m.tags };
+    ghost invariant = { λ m. AreKept m.coordinates m.faces m.has_texture m.tags };
 }
 
 // The piece of a list from a place up to the next.
@@ -74,56 +71,59 @@ impl Faces {
 impl RawMesh {
     /// The mesh of these coordinates, faces and tags. Nothing is tested, and no memory is taken.
     ///
-    /// Each common denominator is from 1 to 10^37. The faces begin in ascending places and end with the corners,
-    /// of which there are fewer than 2^27. Each number of a corner, a texture corner or a tag is below the length
-    /// of the list that it counts.
+    /// Each common denominator is from 1 to 10^37, and each numerator is below 10^37 in amount. The faces begin
+    /// in ascending places and end with the corners, of which there are fewer than 2^27. Each number of a corner, a
+    /// texture corner or a tag is below the length of the list that it counts.
     pub fn of(coordinates: Coordinates, faces: Faces, tags: Tags) -> RawMesh
-        requires scale { (0 < coordinates.scale) × (coordinates.scale ≤ 10 ^ 37) }
-        requires texture_scale { (0 < coordinates.texture_scale) × (coordinates.texture_scale ≤ 10 ^ 37) }
+        requires short { AreShort coordinates }
         requires whole { IsWhole (length coordinates.points.items) (length coordinates.texture.items) false faces tags }
-        ensures mesh { result ≡ mesh_of_lists coordinates faces tags }
-        ensures laws { IsWithin result }
+        ensures { result ≡ mesh_of_lists coordinates faces tags }
     {
         let has_texture = faces.has_texture();
         RawMesh {
-            points: coordinates.points,
-            common: coordinates.scale,
-            texture: coordinates.texture,
-            texture_common: coordinates.texture_scale,
+            coordinates,
             faces,
             has_texture,
             tags,
         }
     }
 
-    /// The points, as numerators over the common denominator [`RawMesh::scale`]. Those of a mesh that was
-    /// read or made of parts have at most 37 digits.
+    /// What a mesh keeps of its numbers. Each common denominator is from 1 to 10^37, and each numerator is below
+    /// 10^37 in amount. Every number in a face, a texture corner or a tag is below the length of the list that it
+    /// counts. Where there is texture, each corner has a texture number. There are fewer than 2^27 corners.
+    pub fn facts(&self)
+        ensures { IsWithin self.now }
+    {
+        let _ = &self.coordinates;
+    }
+
+    /// The points, as numerators over the common denominator [`RawMesh::scale`]. They have at most 37 digits.
     pub fn points(&self) -> &[Point3]
         ensures { map point_of result.now ≡ self.now.points }
     {
-        self.points.as_slice()
+        self.coordinates.points.as_slice()
     }
 
     /// The common denominator of the points, at least 1 and at most 10^37.
     pub fn scale(&self) -> u128
         ensures { result ≡ self.now.common }
     {
-        self.common
+        self.coordinates.scale
     }
 
-    /// The texture values, as numerators over the common denominator [`RawMesh::texture_scale`]. Those of
-    /// a mesh that was read or made of parts have at most 37 digits.
+    /// The texture values, as numerators over the common denominator [`RawMesh::texture_scale`]. They have at
+    /// most 37 digits.
     pub fn texture(&self) -> &[Point2]
         ensures { map texture_of result.now ≡ self.now.texture }
     {
-        self.texture.as_slice()
+        self.coordinates.texture.as_slice()
     }
 
     /// The common denominator of the texture values, at least 1 and at most 10^37.
     pub fn texture_scale(&self) -> u128
         ensures { result ≡ self.now.texture_common }
     {
-        self.texture_common
+        self.coordinates.texture_scale
     }
 
     /// How many faces there are.

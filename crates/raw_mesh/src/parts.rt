@@ -1,10 +1,7 @@
 //! Meshes that are made of plain arrays.
 
 ghost use Rattle.std.specs.Prelude.{◌≡◌, ◌+◌, ◌<◌, ◌^◌, length, sum, None, IfOk, MatchResult};
-ghost use Rattle.std.specs.List.{All};
-ghost use Rattle.raw_mesh.specs.Laws.{IsWithin};
 ghost use Rattle.raw_mesh.specs.Parts.{bad_part, mesh_of_parts, IsPartsFault};
-ghost use Rattle.subdiv_model.specs.Short.{IsShortPoint, IsShortTexture};
 ghost use Rattle.raw_mesh.specs.Starts.{starts_from};
 
 use crate::bad_part::first_bad_part;
@@ -44,10 +41,7 @@ fn starts_of(alloc: Global, sizes: &[u32]) -> Result<Vec<u32>, AllocError>
 // The mesh of parts with which nothing is wrong.
 fn mesh_of_good(alloc: Global, parts: MeshParts) -> Result<RawMesh, AllocError>
     requires { bad_part parts ≡ None }
-    ensures mesh { IfOk result (λ mesh. mesh ≡ mesh_of_parts parts) }
-    ensures laws { IfOk result (λ mesh. IsWithin mesh) }
-    ensures short { IfOk result (λ mesh. All IsShortPoint mesh.points) }
-    ensures texture_short { IfOk result (λ mesh. All IsShortTexture mesh.texture) }
+    ensures { IfOk result (λ mesh. mesh ≡ mesh_of_parts parts) }
 {
     let starts = starts_of(alloc, &parts.face_sizes)?;
     let faces = Faces {
@@ -67,11 +61,8 @@ impl RawMesh {
     ///
     /// [`BadPart`]: crate::BadPart
     pub fn from_parts(alloc: Global, parts: MeshParts) -> Result<RawMesh, PartsFault>
-        ensures made { MatchResult result (λ mesh. (bad_part parts ≡ None) × (mesh ≡ mesh_of_parts parts))
+        ensures { MatchResult result (λ mesh. (bad_part parts ≡ None) × (mesh ≡ mesh_of_parts parts))
             (λ fault. IsPartsFault fault (bad_part parts)) }
-        ensures laws { IfOk result (λ mesh. IsWithin mesh) }
-        ensures short { IfOk result (λ mesh. All IsShortPoint mesh.points) }
-        ensures texture_short { IfOk result (λ mesh. All IsShortTexture mesh.texture) }
     {
         if let Some(bad) = first_bad_part(&parts) {
             return Err(PartsFault::Bad(bad));

@@ -8,7 +8,7 @@ use Rattle.mesh_check.proofs.BaseMarkLemmas.{counts-room, counts-more}
 use Rattle.mesh_check.proofs.base_corners.corner_counts.Goals as goal
 
 pub count_face-requires-clause-room : goal.count_face-requires-clause-room
-count_face-requires-clause-room c = λ v. counts-room c.args.raw.now.faces c.loop-f.f v _ c.face.result.now c.requires.few_corners c.face.ensures (c.loop-f.invariant.counts v)
+count_face-requires-clause-room c = λ v. counts-room c.args.raw.now.faces c.loop-f.f v _ c.face.result.now c.facts.ensures.few_corners c.face.ensures (c.loop-f.invariant.counts v)
 
 pub loop-f-preserved : goal.loop-f-preserved
 loop-f-preserved c = record {
@@ -23,7 +23,7 @@ loop-f-init c = record {
 }
 
 pub count_face-requires-clause-inside : goal.count_face-requires-clause-inside
-count_face-requires-clause-inside c = face-inside c.args.raw.now.faces c.loop-f.f _ _ c.face.result.now c.requires.faces c.face.ensures c.loop-f.invariant.size
+count_face-requires-clause-inside c = face-inside c.args.raw.now.faces c.loop-f.f _ _ c.face.result.now c.facts.ensures.faces c.face.ensures c.loop-f.invariant.size
 
 pub returns-clause-counts : goal.returns-clause-counts
 returns-clause-counts c = λ v.

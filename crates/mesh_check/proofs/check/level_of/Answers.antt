@@ -4,4 +4,4 @@ use Rattle.mesh_check.proofs.check.level_of.Goals as goal
 pub base_level-requires-clause-fit : goal.base_level-requires-clause-fit
 base_level-requires-clause-fit g c =
     let sizes = sizes-small c.args.raw.now c.requires.small in
-    record { within = c.requires.within; sound = c.requires.sound; points = sizes.0; faces = sizes.1; sizes = sizes.2 }
+    record { within = c.facts.ensures; sound = c.requires.sound; points = sizes.0; faces = sizes.1; sizes = sizes.2 }

@@ -24,7 +24,7 @@ loop-f-init c = record {
 }
 
 pub has_twice-requires-clause-inside : goal.has_twice-requires-clause-inside
-has_twice-requires-clause-inside c = face-inside c.args.raw.now.faces c.loop-f.f _ _ c.face.result.now c.requires.faces c.face.ensures c.loop-f.invariant.size
+has_twice-requires-clause-inside c = face-inside c.args.raw.now.faces c.loop-f.f _ _ c.face.result.now c.facts.ensures.faces c.face.ensures c.loop-f.invariant.size
 
 pub returns : goal.returns
 returns c = place-none (λ (polygon : Polygon). not (is_distinct polygon)) c.args.raw.now.faces c.loop-f.f (omega (arith, c.loop-f-test.false, c.faces-f-end.ensures)) ∙ c.loop-f.invariant.decides

@@ -19,7 +19,7 @@ loop-rest-init c =
       vertices = c.requires.sorted.vertices;
       short = omega (arith, moved-length faces turns c.requires.sorted.moved);
       groups = λ v there. group-of faces c.requires.simple v turns c.requires.sorted.moved;
-      decides = first-split (length c.args.raw.now.points) faces turns c.requires.within.faces c.requires.sorted.moved c.requires.sorted.vertices;
+      decides = first-split (length c.args.raw.now.points) faces turns c.facts.ensures.faces c.requires.sorted.moved c.requires.sorted.vertices;
     }
 
 pub split_at-requires : goal.split_at-requires

@@ -11,7 +11,7 @@ pub returns : goal.returns
 returns c =
     let along = c.args.self.now.along.items in
     let against = c.args.self.now.against.items in
-    let told = apart-two c.args.raw.now c.args.level.now c.requires.cuttable c.facts.ensures along against c.requires.noted c.args.edge c.requires.edge c.edge_faces.result.first c.edge_faces.result.second (ap not c.if-is_none.ensures) c.edge_faces.ensures in
+    let found = apart-two c.args.raw.now c.args.level.now c.requires.cuttable c.facts.ensures along against c.requires.noted c.args.edge c.requires.edge c.edge_faces.result.first c.edge_faces.result.second (ap not c.if-is_none.ensures) c.edge_faces.ensures in
     let one : c.index.result.now ≡ get_or along c.args.edge (0, 0) = c.index.ensures ∙ get_or_default along c.args.edge c.index.result.now (0, 0) (omega (arith, c.requires.edge, c.requires.noted.along_size)) in
     let other : c.index-2.result.now ≡ get_or against c.args.edge (0, 0) = c.index-2.ensures ∙ get_or_default against c.args.edge c.index-2.result.now (0, 0) (omega (arith, c.requires.edge, c.requires.noted.against_size)) in
-    c.differ.ensures ∙ ap (λ (p : ℕ × ℕ). differ p c.index-2.result.now) one ∙ ap (λ (p : ℕ × ℕ). differ (get_or along c.args.edge (0, 0)) p) other ∙ told
+    c.differ.ensures ∙ ap (λ (p : ℕ × ℕ). differ p c.index-2.result.now) one ∙ ap (λ (p : ℕ × ℕ). differ (get_or along c.args.edge (0, 0)) p) other ∙ found
