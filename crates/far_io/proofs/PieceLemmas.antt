@@ -23,7 +23,7 @@ rest-of_part size n part buf within same rest =
     ∙ sym (drop-append-le n (take size buf) (drop size buf) (omega (arith, within, same)))
     ∙ ap (drop n) (take-append-drop size buf)
 
--- the same of the answer of a read
+-- what a read that succeeded leaves of the part that it is lent, it leaves of the whole buffer
 pub OnOk-rest : {E : Type 0} (r : Result ℕ E) (size most : ℕ) (part buf : List ℕ) → IfOk r (λ n. n ≡ min most (length (take size buf))) →
     length part ≡ length (take size buf) → IfOk r (λ n. drop n part ≡ drop n (take size buf)) →
     IfOk r (λ n. drop n (part ++ drop size buf) ≡ drop n buf)

@@ -5,7 +5,7 @@ use Rattle.std.specs.Prelude.{ℕ, ◌≡◌, ◌-◌, ◌^◌, ◌<◌, ◌≤�
 abbrev pub Rose : ℕ → ℕ → Type 0
 Rose old new = (old < new) ⊎ (2 ^ 64 - 1 ≤ new)
 
--- these bytes are a prefix of what was left and were taken, where that is told
+-- these bytes are a prefix of what was left and were taken, where the source shows what is left
 abbrev pub Took : Option (List ℕ) → Option (List ℕ) → List ℕ → Type 0
 Took (Some old) (Some new) bytes = old ≡ bytes ++ new
 Took (Some old) None bytes = ⊥
@@ -22,7 +22,7 @@ TookMore bound old new = (taken : List ℕ) × Took old new taken × (bound < le
 abbrev pub TookAtMost : ℕ → Option (List ℕ) → Option (List ℕ) → Type 0
 TookAtMost bound old new = (taken : List ℕ) × Took old new taken × (length taken ≤ bound)
 
--- these bytes were added after what was held, where that is told
+-- these bytes were added after what was held, where the sink shows it
 abbrev pub Added : Option (List ℕ) → Option (List ℕ) → List ℕ → Type 0
 Added (Some old) (Some new) bytes = new ≡ old ++ bytes
 Added (Some old) None bytes = ⊥
@@ -36,7 +36,7 @@ AddedPrefix old new text = (n : ℕ) × (n ≤ length text) × Added old new (ta
 abbrev pub AddedProperPrefix : Option (List ℕ) → Option (List ℕ) → List ℕ → Type 0
 AddedProperPrefix old new text = (n : ℕ) × (n < length text) × Added old new (take n text)
 
--- nothing is left, where it is told
+-- nothing is left, where the source shows it
 abbrev pub IsDry : Option (List ℕ) → Type 0
 IsDry (Some left) = left ≡ []
 IsDry None = Unit {0}

@@ -3,3 +3,4 @@ pub mod Memory
 pub mod Standard
 pub mod Faults
 pub mod Reads
+pub mod Writes

@@ -41,9 +41,11 @@ impl MemSource {
         }
     }
 
-    /// The same, whose calls also pass on no more bytes than their size. The calls take the sizes in
-    /// turn, and begin again after the last: the size of call k, counted from 0, is the one in place
-    /// k mod `sizes.len()`. There is a size, and each is at least 1.
+    /// A source of these bytes, whose calls pass on no more bytes than their size. The calls whose
+    /// numbers, counted from 0, stand in `fails` fail, and no others.
+    ///
+    /// The calls take the sizes in turn, and begin again after the last: the size of call k, counted
+    /// from 0, is the one in place k mod `sizes.len()`. There is a size, and each is at least 1.
     pub fn in_pieces(bytes: Vec<u8>, fails: Vec<u32>, sizes: Vec<u32>) -> MemSource
         requires some { 0 < length sizes.items }
         requires positive { All (λ size. 0 < size) sizes.items }
@@ -90,7 +92,7 @@ impl Source for MemSource {
     }
 }
 
-/// Room for some bytes in memory, whose calls with stated numbers fail, and which may take what is
+/// A sink of a fixed size in memory, whose calls with stated numbers fail, and which may take what is
 /// written in pieces. It is for tests of what a failing or a short write leaves.
 #[derive(Drop)]
 pub struct MemSink {
@@ -110,7 +112,7 @@ impl Model for MemSink {
 impl MemSink {
     /// A sink that holds up to `n` bytes, and takes all its memory here. The calls whose numbers,
     /// counted from 0 over writes and flushes, stand in `fails` fail; the others do what those of a
-    /// `SureSink` do. `Memory` is answered where memory ran out.
+    /// `SureSink` do. `Memory` is returned where memory ran out.
     pub fn with_room(alloc: Global, n: usize, fails: Vec<u32>) -> Result<MemSink, Memory>
         ensures empty { IfOk result (λ s. (s.store.held ≡ []) × (s.store.room ≡ n)) }
         ensures plan { IfOk result (λ s. (s.fails ≡ fails.items) × (s.calls ≡ 0)) }
@@ -125,9 +127,11 @@ impl MemSink {
         })
     }
 
-    /// The same, whose calls also take no more bytes than their size. The calls take the sizes in
-    /// turn, and begin again after the last: the size of call k, counted from 0 over writes and
-    /// flushes, is the one in place k mod `sizes.len()`. There is a size, and each is at least 1.
+    /// A sink that holds up to `n` bytes, whose calls take no more bytes than their size. The calls
+    /// whose numbers, counted from 0 over writes and flushes, stand in `fails` fail.
+    ///
+    /// The calls take the sizes in turn, and begin again after the last: the size of call k is the
+    /// one in place k mod `sizes.len()`. There is a size, and each is at least 1.
     pub fn in_pieces(
         alloc: Global,
         n: usize,

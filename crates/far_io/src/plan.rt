@@ -52,7 +52,7 @@ impl Plan {
         }
     }
 
-    // Counts this call, and says how many of so many bytes it may pass on; `None` where it fails.
+    // Counts this call, and returns how many of so many bytes it may pass on; `None` where it fails.
     pub(crate) fn begin(&mut self, n: usize) -> Option<usize>
         ensures planned { IsNone result ↔ Contains self.old.fails self.old.calls }
         ensures piece { IfSome result (λ piece. piece ≡ piece_of self.old.sizes self.old.calls n) }

@@ -31,10 +31,10 @@ pub trait Sink {
     /// of that kind.
     ghost fixed: { Self → ℕ };
 
-    /// Adds the first bytes of the piece after what is held, and answers how many: at least one,
+    /// Adds the first bytes of the piece after what is held, and returns how many: at least one,
     /// unless the piece is empty.
     ///
-    /// `WriteFailed` is answered only where the count of faults rose, and then nothing was added.
+    /// `WriteFailed` is returned only where the count of faults rose, and then nothing was added.
     fn write(&mut self, piece: &[u8]) -> Result<usize, WriteFailed>
         ensures count { IfOk result (λ n. n ≤ length piece.now) }
         ensures some { IfOk result (λ n. 0 < length piece.now → 0 < n) }
@@ -46,7 +46,7 @@ pub trait Sink {
 
     /// Hands on what it holds, and changes none of it.
     ///
-    /// `WriteFailed` is answered only where the count of faults rose.
+    /// `WriteFailed` is returned only where the count of faults rose.
     fn flush(&mut self) -> Result<(), WriteFailed>
         ensures same { held self.new ≡ held self.old }
         ensures cause { OnErr result (Rose (faults self.old) (faults self.new)) }
@@ -56,7 +56,7 @@ pub trait Sink {
 
 /// Adds the whole text, or a prefix of it where the sink fails.
 ///
-/// `WriteFailed` is answered only where the sink's count of faults rose; the prefix that was added is
+/// `WriteFailed` is returned only where the sink's count of faults rose; the prefix that was added is
 /// then shorter than the text, and stays. The call takes no memory and does not flush.
 pub fn write_all_of<K: Sink>(sink: &mut K, text: &[u8]) -> Result<(), WriteFailed>
     ensures ok { OnOk result (Added (K.held sink.old) (K.held sink.new) text.now) }
@@ -72,7 +72,7 @@ pub fn write_all_of<K: Sink>(sink: &mut K, text: &[u8]) -> Result<(), WriteFaile
     Ok(())
 }
 
-// Writes once from this place of the text on, and answers the place after what was added.
+// Writes once from this place of the text on, and returns the place after what was added.
 fn write_from<K: Sink>(sink: &mut K, text: &[u8], at: usize) -> Result<usize, WriteFailed>
     requires { at < length text.now }
     ensures next { IfOk result (λ next. (at < next) × (next ≤ length text.now)) }

@@ -30,11 +30,11 @@ pub trait Source {
     /// How many calls have failed. It never falls, and it stays at 2^64 - 1 once it is there.
     ghost faults: { Self → ℕ };
 
-    /// Moves the first bytes that are left to the start of the buffer, and answers how many.
+    /// Moves the first bytes that are left to the start of the buffer, and returns how many.
     ///
-    /// For a buffer that is not empty, 0 is the end of input. `ReadFailed` is answered only where
-    /// the count of faults rose, and leaves the bytes as they were. What stands in the rest of the
-    /// buffer, and in all of it after `ReadFailed`, is not told.
+    /// For a buffer that is not empty, 0 is the end of input. `ReadFailed` is returned only where
+    /// the count of faults rose, and leaves the bytes as they were. No clause says what stands in the
+    /// rest of the buffer, or in all of it after `ReadFailed`.
     fn read(&mut self, buf: &mut [u8]) -> Result<usize, ReadFailed>
         ensures count { IfOk result (λ n. n ≤ length buf.old) }
         ensures taken { IfOk result (λ n. Took (left self.old) (left self.new) (take n buf.new)) }
@@ -91,7 +91,7 @@ fn is_long(count: usize, bound: usize) -> bool
     count > bound
 }
 
-// Reads once, and answers how many bytes it put at the start of the piece.
+// Reads once, and returns how many bytes it put at the start of the piece.
 fn read_piece<S: Source>(source: &mut S, piece: &mut [u8]) -> Result<usize, InputFault>
     ensures count { IfOk result (λ n. n ≤ length piece.old) }
     ensures taken { IfOk result (λ n. Took (S.left source.old) (S.left source.new) (take n piece.new)) }
@@ -133,8 +133,8 @@ fn read_into<S: Source>(source: &mut S, bound: usize, bytes: &mut Vec<u8>) -> Re
 
 /// Reads all bytes up to the end of input, where there are at most `bound` of them.
 ///
-/// `bound` is below 2^32. `Long` is answered exactly where more than `bound` bytes came, `Read` only
-/// where the source's count of faults rose, and `Memory` where memory ran out. Whatever is answered,
+/// `bound` is below 2^32. `Long` is returned exactly where more than `bound` bytes came, `Read` only
+/// where the source's count of faults rose, and `Memory` where memory ran out. Whatever is returned,
 /// what went from the source is a prefix of the bytes that it had left; an error drops them.
 pub fn read_all<S: Source>(
     alloc: Global,

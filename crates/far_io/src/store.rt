@@ -5,14 +5,14 @@ use ratio128::Memory;
 use std::alloc::Global;
 use std::marker::Model;
 
-// Bytes that take all their memory when they are made.
+// A buffer of a fixed size, which takes all its memory when it is made.
 #[derive(Drop)]
-pub(crate) struct Room {
+pub(crate) struct FixedBuffer {
     bytes: Vec<u8>,
     room: usize,
 }
 
-impl Model for Room {
+impl Model for FixedBuffer {
     ghost use Rattle.std.specs.Prelude.{◌≤◌, vec_len};
     ghost use Rattle.std.specs.Vec.{vec_capacity};
     ghost use Rattle.far_io.specs.Memory.{Store};
@@ -24,12 +24,12 @@ impl Model for Room {
     ghost invariant = { λ s. (vec_len s.bytes ≤ s.room) × (s.room ≤ vec_capacity s.bytes) };
 }
 
-impl Room {
-    pub(crate) fn with_room(alloc: Global, n: usize) -> Result<Room, Memory>
+impl FixedBuffer {
+    pub(crate) fn with_room(alloc: Global, n: usize) -> Result<FixedBuffer, Memory>
         ensures { IfOk result (λ s. (s.held ≡ []) × (s.room ≡ n)) }
     {
         let bytes = Vec::with_capacity(alloc, n)?;
-        Ok(Room { bytes, room: n })
+        Ok(FixedBuffer { bytes, room: n })
     }
 
     pub(crate) fn bytes(&self) -> &[u8]
@@ -38,7 +38,7 @@ impl Room {
         &self.bytes
     }
 
-    // Adds as much of the piece as there is room for, and says how much that is.
+    // Adds as much of the piece as there is room for, and returns how much that is.
     pub(crate) fn add(&mut self, piece: &[u8]) -> usize
         ensures count { result ≡ fitting self.old piece.now }
         ensures added { self.new.held ≡ self.old.held ++ take result piece.now }
@@ -52,7 +52,7 @@ impl Room {
     }
 }
 
-// Copies a prefix of the bytes to the start of the buffer, and says how many bytes it has.
+// Copies a prefix of the bytes to the start of the buffer, and returns how many bytes it has.
 pub(crate) fn copy_prefix(bytes: &[u8], buf: &mut [u8]) -> usize
     ensures count { result ≡ min (length bytes.now) (length buf.old) }
     ensures copied { take result buf.new ≡ take result bytes.now }

@@ -1,7 +1,7 @@
 ghost use Rattle.std.specs.Prelude.{◌≡◌, ℕ, ◌<◌, ◌≤◌, ◌↔◌, [], ◌++◌, length, take, drop, min, IsErr, IsOk, IfOk, OnOk, OnErr, Some};
 ghost use Rattle.far_io.specs.Memory.{one_more, fitting, IsFull, sure_faults};
 
-use crate::store::{Room, copy_prefix};
+use crate::store::{FixedBuffer, copy_prefix};
 use crate::{ReadFailed, Sink, Source, WriteFailed};
 use ratio128::Memory;
 use std::alloc::Global;
@@ -51,11 +51,11 @@ impl Source for SureSource {
     }
 }
 
-/// Room for some bytes in memory. Its writes do not fail while there is room for one byte more,
+/// A sink of a fixed size in memory. Its writes do not fail while there is room for one byte more,
 /// and its flushes never do.
 #[derive(Drop)]
 pub struct SureSink {
-    room: Room,
+    buffer: FixedBuffer,
     count: u64,
 }
 
@@ -64,25 +64,25 @@ impl Model for SureSink {
 
     ghost Value = { SureOutput };
 
-    ghost view = { λ s. record { store = s.room; failures = s.count } };
+    ghost view = { λ s. record { store = s.buffer; failures = s.count } };
 }
 
 impl SureSink {
-    /// A sink that holds up to `n` bytes, and takes all its memory here. `Memory` is answered where
+    /// A sink that holds up to `n` bytes, and takes all its memory here. `Memory` is returned where
     /// memory ran out.
     pub fn with_room(alloc: Global, n: usize) -> Result<SureSink, Memory>
         ensures empty { IfOk result (λ s. (s.store.held ≡ []) × (s.store.room ≡ n)) }
         ensures failures { IfOk result (λ s. s.failures ≡ 0) }
     {
-        let room = Room::with_room(alloc, n)?;
-        Ok(SureSink { room, count: 0 })
+        let buffer = FixedBuffer::with_room(alloc, n)?;
+        Ok(SureSink { buffer, count: 0 })
     }
 
     /// What it holds.
     pub fn bytes(&self) -> &[u8]
         ensures { result.now ≡ self.now.store.held }
     {
-        self.room.bytes()
+        self.buffer.bytes()
     }
 }
 
@@ -106,7 +106,7 @@ impl Sink for SureSink {
         ensures later { sure_faults self.old ≤ sure_faults self.new }
         ensures room { self.new.store.room ≡ self.old.store.room }
     {
-        let n = self.room.add(piece);
+        let n = self.buffer.add(piece);
         if n == 0 && !piece.is_empty() {
             self.count = self.count.saturating_add(1);
             return Err(WriteFailed);

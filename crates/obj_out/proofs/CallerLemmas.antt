@@ -1,52 +1,59 @@
--- What a caller needs that begins a text, puts its parts, and ends it.
-use Rattle.std.proofs.Common.{◌≡◌, ℕ, ◌+◌, List, [], ◌++◌, length, take, arith, Option, Some, None, Result, Ok, Err, OnOk, OnErr, length-append, ap, sym, ◌∙◌, subst}
-use Rattle.std.proofs.lemmas.List.{append-nil, take-append-le}
-use Rattle.far_io.specs.Bytes.{Added, AddedPrefix}
+-- What a caller needs that begins a text, puts it, and ends it.
+use Rattle.std.proofs.Common.{◌≡◌, ℕ, ◌≤◌, ◌⊎◌, inl, inr, Bool, false, List, ◌++◌, arith, Result, Ok, Err, IsTrue, IsErr, ap, ◌∙◌, subst}
+use Rattle.std.specs.Borrow.{GName}
+use Rattle.far_io.specs.Bytes.{Rose, AddedPrefix}
+use Rattle.far_io.specs.Writes.{Writes}
 use Rattle.far_io.specs.declared.sink.WriteFailed.{WriteFailed}
-use Rattle.far_io.proofs.BytesLemmas.{Added-more}
+use Rattle.far_io.specs.declared.sink.Sink.{Ghosts}
 use Rattle.obj_out.specs.TextSoFar.{IsTextSoFar}
-use Rattle.obj_out.proofs.TextSoFarLemmas.{prefix-more}
+use Rattle.obj_out.specs.Puts.{Begins, Puts, Ends}
+use Rattle.obj_out.specs.declared.put.Out.{Out}
+use Rattle.obj_out.proofs.PutsLemmas.{puts-fine, whole-at-end, prefix-at-end, rose-later}
 
-added-none : (held : Option (List ℕ)) → Added held held []
-added-none (Some held) = sym (append-nil held)
-added-none None = tt
+-- a count that rose where no call had failed
+rose-since : (failed : Bool) (start old new : ℕ) → failed ≡ false → start ≤ old → IsTrue failed ⊎ Rose old new → Rose start new
+rose-since failed start old new fine later (inl before) = absurd (cc)
+rose-since failed start old new fine later (inr rose) = rose-later start old new later rose
 
--- no text so far
-pub begun : (start held : Option (List ℕ)) (waiting : List ℕ) → held ≡ start → waiting ≡ [] → IsTextSoFar start held waiting []
-begun start held waiting same empty = ([], subst (λ (h : Option (List ℕ)). Added start h []) (sym same) (added-none start), empty)
+module _ {K : Type 0} {sink : Ghosts K} where
+  so-far : {name : GName} {start : K} {begun out : Out K} {text : List ℕ} → Begins begun name start → Puts sink begun out text (Ok tt) →
+      IsTextSoFar (sink.held start) (sink.held out.sink.now) out.waiting text
+  so-far {start} {begun} {out} {text} b p =
+      subst (λ (k : K). IsTextSoFar (sink.held k) (sink.held out.sink.now) out.waiting text) b.same
+      (subst (λ (w : List ℕ). IsTextSoFar (sink.held begun.sink.now) (sink.held out.sink.now) out.waiting (w ++ text)) b.empty p.put)
 
--- a prefix of a text is one of a longer text
-pub prefix-longer : (start held : Option (List ℕ)) (part whole rest : List ℕ) → whole ≡ part ++ rest → AddedPrefix start held part → AddedPrefix start held whole
-prefix-longer start held part whole rest e p =
-    let front : take p.0 whole ≡ take p.0 part = ap (λ r. take p.0 r) e ∙ take-append-le p.0 part rest p.1 in
-    let long : length whole ≡ length part + length rest = ap length e ∙ length-append part rest in
-    (p.0, omega (arith, long, p.1), subst (λ (r : List ℕ). Added start held r) (sym front) p.2)
+  -- where all was put, and the text was ended
+  pub written : {name : GName} {start final : K} {begun out : Out K} {text : List ℕ} {r : Result (Unit {0}) WriteFailed} →
+      Begins begun name start → Puts sink begun out text (Ok tt) → Ends sink out final r → Writes sink start final text r
+  written {start} {final} {begun} {out} {text} {r = Ok x} b p e = record {
+    ok = whole-at-end (sink.held start) (sink.held out.sink.now) (sink.held final) out.waiting text (so-far b p) e.whole;
+    prefix = tt;
+    cause = tt;
+    later = omega (arith, ap sink.faults b.same, p.later, e.later);
+    fixed = e.fixed ∙ p.fixed ∙ ap sink.fixed b.same;
+  }
+  written {start} {final} {begun} {out} {text} {r = Err x} b p e =
+      let later : sink.faults start ≤ sink.faults out.sink.now = omega (arith, ap sink.faults b.same, p.later) in
+      record {
+        ok = tt;
+        prefix = prefix-at-end (sink.held start) (sink.held out.sink.now) (sink.held final) out.waiting text (so-far b p) e.prefix;
+        cause = rose-since out.failed (sink.faults start) (sink.faults out.sink.now) (sink.faults final) (puts-fine p) later e.cause;
+        later = omega (arith, later, e.later);
+        fixed = e.fixed ∙ p.fixed ∙ ap sink.fixed b.same;
+      }
 
--- what is left where a call failed, and what at the end
-pub failed-at : (r : Result (Unit {0}) WriteFailed) (start old new final : Option (List ℕ)) (waited before part whole rest : List ℕ) →
-    IsTextSoFar start old waited before → AddedPrefix old new (waited ++ part) → final ≡ new → whole ≡ (before ++ part) ++ rest →
-    OnErr r (AddedPrefix start final whole)
-failed-at (Ok x) start old new final waited before part whole rest p q same e = tt
-failed-at (Err x) start old new final waited before part whole rest p q same e =
-    subst (λ (h : Option (List ℕ)). AddedPrefix start h whole) (sym same)
-    (prefix-longer start new (before ++ part) whole rest e (prefix-more start old new waited before part p q))
-
-pub ended : (r : Result (Unit {0}) WriteFailed) (start old new final : Option (List ℕ)) (waited before whole : List ℕ) →
-    IsTextSoFar start old waited before → OnOk r (Added old new waited) → final ≡ new → whole ≡ before → OnOk r (Added start final whole)
-ended (Err x) start old new final waited before whole p q same e = tt
-ended (Ok x) start old new final waited before whole p q same e =
-    subst (λ (h : Option (List ℕ)). Added start h whole) (sym same)
-    (subst (λ (t : List ℕ). Added start new t) (p.2 ∙ sym e) (Added-more start old new p.0 waited p.1 q))
-
-pub prefix-ended : (start old new : Option (List ℕ)) (waited before : List ℕ) → IsTextSoFar start old waited before → AddedPrefix old new waited →
-    AddedPrefix start new before
-prefix-ended start old new waited before p q =
-    prefix-longer start new (before ++ []) before [] (sym (append-nil before) ∙ sym (append-nil (before ++ [])))
-    (prefix-more start old new waited before [] p (subst (λ (t : List ℕ). AddedPrefix old new t) (sym (append-nil waited)) q))
-
-pub ended-failed : (r : Result (Unit {0}) WriteFailed) (start old new final : Option (List ℕ)) (waited before whole : List ℕ) →
-    IsTextSoFar start old waited before → OnErr r (AddedPrefix old new waited) → final ≡ new → whole ≡ before → OnErr r (AddedPrefix start final whole)
-ended-failed (Ok x) start old new final waited before whole p q same e = tt
-ended-failed (Err x) start old new final waited before whole p q same e =
-    subst (λ (h : Option (List ℕ)). AddedPrefix start h whole) (sym same)
-    (subst (λ (t : List ℕ). AddedPrefix start new t) (sym e) (prefix-ended start old new waited before p q))
+  -- where a call failed before all was put
+  pub unfinished : {name : GName} {start : K} {begun out : Out K} {text : List ℕ} {e : WriteFailed} {r : Result (Unit {0}) WriteFailed} →
+      Begins begun name start → IsErr r → Puts sink begun out text (Err e) → Writes sink start out.sink.now text r
+  unfinished {r = Ok x} b err p = absurd (cc)
+  unfinished {start} {begun} {out} {text} {r = Err x} b err p = record {
+    ok = tt;
+    prefix =
+        subst (λ (k : K). AddedPrefix (sink.held k) (sink.held out.sink.now) text) b.same
+        (subst (λ (w : List ℕ). AddedPrefix (sink.held begun.sink.now) (sink.held out.sink.now) (w ++ text)) b.empty p.put);
+    cause =
+        rose-since begun.failed (sink.faults start) (sink.faults begun.sink.now) (sink.faults out.sink.now) b.fine (omega (arith, ap sink.faults b.same))
+        p.cause;
+    later = omega (arith, ap sink.faults b.same, p.later);
+    fixed = p.fixed ∙ ap sink.fixed b.same;
+  }

@@ -1,11 +1,10 @@
 -- One call after another: what they put, and what a sink has got of it.
-use Rattle.std.proofs.Common.{◌≡◌, ℕ, ◌+◌, List, [], ◌++◌, length, take, arith, Option, Result, Ok, Err, IsErr, append_assoc, length-append, ap, sym, ◌∙◌, subst}
+use Rattle.std.proofs.Common.{◌≡◌, ℕ, ◌+◌, List, [], ◌++◌, length, take, arith, Option, append_assoc, length-append, ap, sym, ◌∙◌, subst}
 use Rattle.std.proofs.Math.Seq.{take-append-add}
-use Rattle.std.proofs.lemmas.List.{append-nil, take-append-le}
+use Rattle.std.proofs.lemmas.List.{append-nil}
 use Rattle.far_io.specs.Bytes.{Added, AddedPrefix}
-use Rattle.far_io.specs.declared.sink.WriteFailed.{WriteFailed}
 use Rattle.far_io.proofs.BytesLemmas.{Added-more}
-use Rattle.obj_out.specs.TextSoFar.{IsTextSoFar, IsPut}
+use Rattle.obj_out.specs.TextSoFar.{IsTextSoFar}
 
 -- a text that is put after the text so far
 pub text-more : (start old new : Option (List ℕ)) (waited waits before text : List ℕ) → IsTextSoFar start old waited before →
@@ -29,14 +28,6 @@ prefix-more start old new waited before text p q =
       subst (λ (r : List ℕ). Added start new r) (sym front) (Added-more start old new p.0 (take q.0 (waited ++ text)) p.1 q.2),
     )
 
--- either of them, after a call that put nothing
-pub put-more : (old mid new : Option (List ℕ)) (waited between waits text : List ℕ) (r : Result (Unit {0}) WriteFailed) →
-    IsTextSoFar old mid between (waited ++ []) → IsPut mid between text r new waits → IsPut old waited text r new waits
-put-more old mid new waited between waits text (Ok x) p q =
-    subst (λ (before : List ℕ). IsTextSoFar old new waits (before ++ text)) (append-nil waited) (text-more old mid new between waits (waited ++ []) text p q)
-put-more old mid new waited between waits text (Err e) p q =
-    subst (λ (before : List ℕ). AddedPrefix old new (before ++ text)) (append-nil waited) (prefix-more old mid new between (waited ++ []) text p q)
-
 -- a text that is put behind what waits, after a call that put nothing
 pub put-behind : (old new : Option (List ℕ)) (waited between waits text : List ℕ) → IsTextSoFar old new between (waited ++ []) → waits ≡ between ++ text →
     IsTextSoFar old new waits (waited ++ text)
@@ -45,11 +36,3 @@ put-behind old new waited between waits text p e = (
   p.1,
   ap (λ r. p.0 ++ r) e ∙ sym (append_assoc p.0 between text) ∙ ap (λ r. r ++ text) (p.2 ∙ append-nil waited),
 )
-
--- and where that call failed
-pub put-failed : (r : Result (Unit {0}) WriteFailed) (old new : Option (List ℕ)) (waited waits text : List ℕ) → IsErr r → AddedPrefix old new (waited ++ []) →
-    IsPut old waited text r new waits
-put-failed (Ok x) old new waited waits text err p = absurd (cc)
-put-failed (Err e) old new waited waits text err p =
-    let q = subst (λ (t : List ℕ). AddedPrefix old new t) (append-nil waited) p in
-    (q.0, omega (arith, q.1, length-append waited text), rw (take-append-le q.0 waited text q.1) q.2)

@@ -1,7 +1,6 @@
-ghost use Rattle.std.specs.Prelude.{◌≡◌, ℕ, ◌+◌, ◌<◌, ◌≤◌, ◌^◌, ◌⊎◌, ◌↔◌, [], ◌∷◌, ◌++◌, false, unsigned_abs, IsTrue, IsErr, OnOk, OnErr, length};
-ghost use Rattle.far_io.specs.Bytes.{Added, AddedPrefix, Rose};
+ghost use Rattle.std.specs.Prelude.{◌≡◌, ℕ, ◌+◌, ◌<◌, ◌≤◌, ◌^◌, [], ◌∷◌, false, unsigned_abs, OnOk, length};
 ghost use Rattle.subdiv_model.specs.NumberText.{number_text, fraction_text, rounded_text};
-ghost use Rattle.obj_out.specs.TextSoFar.{IsTextSoFar, IsPut};
+ghost use Rattle.obj_out.specs.Puts.{Begins, Puts, Ends};
 
 use crate::waiting::Waiting;
 use far_io::{Sink, WriteFailed, write_all_of};
@@ -9,12 +8,12 @@ use ratio128::Frac;
 
 /// Text on its way to a sink, gathered in a buffer of 4,096 bytes of its own. No call takes memory.
 ///
-/// The text so far is what was put, in order: what the sink has got of it since `new`, and what
+/// The text so far is all that was put, in order: what the sink has got of it since `new`, and what
 /// waits. Each call that puts a text appends it to the text so far.
 ///
-/// `WriteFailed` is answered only where the sink's count of faults rose. The sink then holds what it
-/// held at `new` and a prefix of the text so far, and every later call answers `WriteFailed` and
-/// leaves the sink alone.
+/// `WriteFailed` is returned only where the sink's count of faults rose. The sink then holds what it
+/// held at `new` and a prefix of the text so far, and every later call returns `WriteFailed` and
+/// leaves the sink as it is.
 #[derive(Drop)]
 pub struct Out<'a, K: Sink> {
     sink: &'a mut K,
@@ -25,10 +24,7 @@ pub struct Out<'a, K: Sink> {
 impl<'a, K: Sink> Out<'a, K> {
     /// A text of no bytes so far. It writes nothing.
     pub fn new(sink: &'a mut K) -> Out<'a, K>
-        ensures same_reference { result.sink.ghost_name ≡ sink.entry.ghost_name }
-        ensures sink { result.sink.now ≡ sink.entry.now }
-        ensures empty { result.waiting ≡ [] }
-        ensures failed { result.failed ≡ false }
+        ensures { Begins result sink.entry.ghost_name sink.entry.now }
     {
         Out {
             sink,
@@ -39,13 +35,7 @@ impl<'a, K: Sink> Out<'a, K> {
 
     /// Puts these bytes.
     pub fn put_bytes(&mut self, text: &[u8]) -> Result<(), WriteFailed>
-        ensures same_reference { self.new.sink.ghost_name ≡ self.old.sink.ghost_name }
-        ensures put { IsPut (K.held self.old.sink.now) self.old.waiting text.now result (K.held self.new.sink.now) self.new.waiting }
-        ensures failed { IsErr result ↔ IsTrue self.new.failed }
-        ensures cause { OnErr result (IsTrue self.old.failed ⊎ Rose (K.faults self.old.sink.now) (K.faults self.new.sink.now)) }
-        ensures stuck { IsTrue self.old.failed → IsErr result × (self.new.sink.now ≡ self.old.sink.now) }
-        ensures later { K.faults self.old.sink.now ≤ K.faults self.new.sink.now }
-        ensures fixed { K.fixed self.new.sink.now ≡ K.fixed self.old.sink.now }
+        ensures { Puts K.Sink self.old self.new text.now result }
     {
         if self.failed {
             return Err(WriteFailed);
@@ -61,13 +51,7 @@ impl<'a, K: Sink> Out<'a, K> {
     /// Puts one byte.
     #[inline]
     pub fn put_byte(&mut self, byte: u8) -> Result<(), WriteFailed>
-        ensures same_reference { self.new.sink.ghost_name ≡ self.old.sink.ghost_name }
-        ensures put { IsPut (K.held self.old.sink.now) self.old.waiting (byte ∷ []) result (K.held self.new.sink.now) self.new.waiting }
-        ensures failed { IsErr result ↔ IsTrue self.new.failed }
-        ensures cause { OnErr result (IsTrue self.old.failed ⊎ Rose (K.faults self.old.sink.now) (K.faults self.new.sink.now)) }
-        ensures stuck { IsTrue self.old.failed → IsErr result × (self.new.sink.now ≡ self.old.sink.now) }
-        ensures later { K.faults self.old.sink.now ≤ K.faults self.new.sink.now }
-        ensures fixed { K.fixed self.new.sink.now ≡ K.fixed self.old.sink.now }
+        ensures { Puts K.Sink self.old self.new (byte ∷ []) result }
     {
         if self.failed || self.waiting.room() == 0 {
             return self.put_bytes(&[byte]);
@@ -78,13 +62,7 @@ impl<'a, K: Sink> Out<'a, K> {
 
     /// Puts a whole number in decimal digits.
     pub fn put_number(&mut self, n: u64) -> Result<(), WriteFailed>
-        ensures same_reference { self.new.sink.ghost_name ≡ self.old.sink.ghost_name }
-        ensures put { IsPut (K.held self.old.sink.now) self.old.waiting (number_text n) result (K.held self.new.sink.now) self.new.waiting }
-        ensures failed { IsErr result ↔ IsTrue self.new.failed }
-        ensures cause { OnErr result (IsTrue self.old.failed ⊎ Rose (K.faults self.old.sink.now) (K.faults self.new.sink.now)) }
-        ensures stuck { IsTrue self.old.failed → IsErr result × (self.new.sink.now ≡ self.old.sink.now) }
-        ensures later { K.faults self.old.sink.now ≤ K.faults self.new.sink.now }
-        ensures fixed { K.fixed self.new.sink.now ≡ K.fixed self.old.sink.now }
+        ensures { Puts K.Sink self.old self.new (number_text n) result }
     {
         self.make_room()?;
         self.waiting.push_number(n);
@@ -93,13 +71,7 @@ impl<'a, K: Sink> Out<'a, K> {
 
     /// Puts a byte, and a whole number in decimal digits after it.
     pub fn put_number_after(&mut self, byte: u8, n: u64) -> Result<(), WriteFailed>
-        ensures same_reference { self.new.sink.ghost_name ≡ self.old.sink.ghost_name }
-        ensures put { IsPut (K.held self.old.sink.now) self.old.waiting (byte ∷ number_text n) result (K.held self.new.sink.now) self.new.waiting }
-        ensures failed { IsErr result ↔ IsTrue self.new.failed }
-        ensures cause { OnErr result (IsTrue self.old.failed ⊎ Rose (K.faults self.old.sink.now) (K.faults self.new.sink.now)) }
-        ensures stuck { IsTrue self.old.failed → IsErr result × (self.new.sink.now ≡ self.old.sink.now) }
-        ensures later { K.faults self.old.sink.now ≤ K.faults self.new.sink.now }
-        ensures fixed { K.fixed self.new.sink.now ≡ K.fixed self.old.sink.now }
+        ensures { Puts K.Sink self.old self.new (byte ∷ number_text n) result }
     {
         self.make_room()?;
         self.waiting.push_number_after(byte, n);
@@ -108,13 +80,7 @@ impl<'a, K: Sink> Out<'a, K> {
 
     /// Puts a whole number of up to 128 bits in decimal digits.
     pub fn put_wide(&mut self, n: u128) -> Result<(), WriteFailed>
-        ensures same_reference { self.new.sink.ghost_name ≡ self.old.sink.ghost_name }
-        ensures put { IsPut (K.held self.old.sink.now) self.old.waiting (number_text n) result (K.held self.new.sink.now) self.new.waiting }
-        ensures failed { IsErr result ↔ IsTrue self.new.failed }
-        ensures cause { OnErr result (IsTrue self.old.failed ⊎ Rose (K.faults self.old.sink.now) (K.faults self.new.sink.now)) }
-        ensures stuck { IsTrue self.old.failed → IsErr result × (self.new.sink.now ≡ self.old.sink.now) }
-        ensures later { K.faults self.old.sink.now ≤ K.faults self.new.sink.now }
-        ensures fixed { K.fixed self.new.sink.now ≡ K.fixed self.old.sink.now }
+        ensures { Puts K.Sink self.old self.new (number_text n) result }
     {
         self.make_room()?;
         self.waiting.push_wide(n);
@@ -128,13 +94,7 @@ impl<'a, K: Sink> Out<'a, K> {
     pub fn put_frac(&mut self, f: &Frac) -> Result<(), WriteFailed>
         requires positive { 0 < f.now.den }
         requires kept { unsigned_abs f.now.num < 2 ^ 127 }
-        ensures same_reference { self.new.sink.ghost_name ≡ self.old.sink.ghost_name }
-        ensures put { IsPut (K.held self.old.sink.now) self.old.waiting (fraction_text f.now.num f.now.den) result (K.held self.new.sink.now) self.new.waiting }
-        ensures failed { IsErr result ↔ IsTrue self.new.failed }
-        ensures cause { OnErr result (IsTrue self.old.failed ⊎ Rose (K.faults self.old.sink.now) (K.faults self.new.sink.now)) }
-        ensures stuck { IsTrue self.old.failed → IsErr result × (self.new.sink.now ≡ self.old.sink.now) }
-        ensures later { K.faults self.old.sink.now ≤ K.faults self.new.sink.now }
-        ensures fixed { K.fixed self.new.sink.now ≡ K.fixed self.old.sink.now }
+        ensures { Puts K.Sink self.old self.new (fraction_text f.now.num f.now.den) result }
     {
         self.make_room()?;
         self.waiting.push_frac(f);
@@ -147,13 +107,7 @@ impl<'a, K: Sink> Out<'a, K> {
     pub fn put_frac_after(&mut self, byte: u8, f: &Frac) -> Result<(), WriteFailed>
         requires positive { 0 < f.now.den }
         requires kept { unsigned_abs f.now.num < 2 ^ 127 }
-        ensures same_reference { self.new.sink.ghost_name ≡ self.old.sink.ghost_name }
-        ensures put { IsPut (K.held self.old.sink.now) self.old.waiting (byte ∷ fraction_text f.now.num f.now.den) result (K.held self.new.sink.now) self.new.waiting }
-        ensures failed { IsErr result ↔ IsTrue self.new.failed }
-        ensures cause { OnErr result (IsTrue self.old.failed ⊎ Rose (K.faults self.old.sink.now) (K.faults self.new.sink.now)) }
-        ensures stuck { IsTrue self.old.failed → IsErr result × (self.new.sink.now ≡ self.old.sink.now) }
-        ensures later { K.faults self.old.sink.now ≤ K.faults self.new.sink.now }
-        ensures fixed { K.fixed self.new.sink.now ≡ K.fixed self.old.sink.now }
+        ensures { Puts K.Sink self.old self.new (byte ∷ fraction_text f.now.num f.now.den) result }
     {
         self.make_room()?;
         self.waiting.push_frac_after(byte, f);
@@ -170,13 +124,7 @@ impl<'a, K: Sink> Out<'a, K> {
         requires positive { 0 < f.now.den }
         requires bounded { f.now.den < 2 ^ 126 }
         requires kept { unsigned_abs f.now.num < 2 ^ 127 }
-        ensures same_reference { self.new.sink.ghost_name ≡ self.old.sink.ghost_name }
-        ensures put { IsPut (K.held self.old.sink.now) self.old.waiting (rounded_text digits f.now.num f.now.den) result (K.held self.new.sink.now) self.new.waiting }
-        ensures failed { IsErr result ↔ IsTrue self.new.failed }
-        ensures cause { OnErr result (IsTrue self.old.failed ⊎ Rose (K.faults self.old.sink.now) (K.faults self.new.sink.now)) }
-        ensures stuck { IsTrue self.old.failed → IsErr result × (self.new.sink.now ≡ self.old.sink.now) }
-        ensures later { K.faults self.old.sink.now ≤ K.faults self.new.sink.now }
-        ensures fixed { K.fixed self.new.sink.now ≡ K.fixed self.old.sink.now }
+        ensures { Puts K.Sink self.old self.new (rounded_text digits f.now.num f.now.den) result }
     {
         self.make_room()?;
         self.waiting.push_rounded(f, digits);
@@ -192,13 +140,7 @@ impl<'a, K: Sink> Out<'a, K> {
         requires positive { 0 < f.now.den }
         requires bounded { f.now.den < 2 ^ 126 }
         requires kept { unsigned_abs f.now.num < 2 ^ 127 }
-        ensures same_reference { self.new.sink.ghost_name ≡ self.old.sink.ghost_name }
-        ensures put { IsPut (K.held self.old.sink.now) self.old.waiting (byte ∷ rounded_text digits f.now.num f.now.den) result (K.held self.new.sink.now) self.new.waiting }
-        ensures failed { IsErr result ↔ IsTrue self.new.failed }
-        ensures cause { OnErr result (IsTrue self.old.failed ⊎ Rose (K.faults self.old.sink.now) (K.faults self.new.sink.now)) }
-        ensures stuck { IsTrue self.old.failed → IsErr result × (self.new.sink.now ≡ self.old.sink.now) }
-        ensures later { K.faults self.old.sink.now ≤ K.faults self.new.sink.now }
-        ensures fixed { K.fixed self.new.sink.now ≡ K.fixed self.old.sink.now }
+        ensures { Puts K.Sink self.old self.new (byte ∷ rounded_text digits f.now.num f.now.den) result }
     {
         self.make_room()?;
         self.waiting.push_rounded_after(byte, f, digits);
@@ -208,14 +150,9 @@ impl<'a, K: Sink> Out<'a, K> {
     /// Hands on what waits, and flushes the sink. The sink then holds what it held at `new` and the
     /// whole text.
     ///
-    /// `WriteFailed` is answered where a call before failed, and where the rest or the flush fails.
+    /// `WriteFailed` is returned where a call before failed, and where the rest or the flush fails.
     pub fn end(self) -> Result<(), WriteFailed>
-        ensures whole { OnOk result (Added (K.held self.entry.sink.now) (K.held self.exit.0.now) self.entry.waiting) }
-        ensures prefix { OnErr result (AddedPrefix (K.held self.entry.sink.now) (K.held self.exit.0.now) self.entry.waiting) }
-        ensures cause { OnErr result (IsTrue self.entry.failed ⊎ Rose (K.faults self.entry.sink.now) (K.faults self.exit.0.now)) }
-        ensures stuck { IsTrue self.entry.failed → IsErr result × (self.exit.0.now ≡ self.entry.sink.now) }
-        ensures later { K.faults self.entry.sink.now ≤ K.faults self.exit.0.now }
-        ensures fixed { K.fixed self.exit.0.now ≡ K.fixed self.entry.sink.now }
+        ensures { Ends K.Sink self.entry self.exit.0.now result }
     {
         let Out {
             sink,
@@ -231,14 +168,8 @@ impl<'a, K: Sink> Out<'a, K> {
 
     // Room for the text of one number.
     fn make_room(&mut self) -> Result<(), WriteFailed>
-        ensures same_reference { self.new.sink.ghost_name ≡ self.old.sink.ghost_name }
-        ensures put { IsPut (K.held self.old.sink.now) self.old.waiting [] result (K.held self.new.sink.now) self.new.waiting }
+        ensures puts { Puts K.Sink self.old self.new [] result }
         ensures room { OnOk result (length self.new.waiting + 128 ≤ 4096) }
-        ensures failed { IsErr result ↔ IsTrue self.new.failed }
-        ensures cause { OnErr result (IsTrue self.old.failed ⊎ Rose (K.faults self.old.sink.now) (K.faults self.new.sink.now)) }
-        ensures stuck { IsTrue self.old.failed → IsErr result × (self.new.sink.now ≡ self.old.sink.now) }
-        ensures later { K.faults self.old.sink.now ≤ K.faults self.new.sink.now }
-        ensures fixed { K.fixed self.new.sink.now ≡ K.fixed self.old.sink.now }
     {
         if self.failed {
             return Err(WriteFailed);
@@ -252,13 +183,8 @@ impl<'a, K: Sink> Out<'a, K> {
     // Hands on what waits.
     fn hand_on(&mut self) -> Result<(), WriteFailed>
         requires { self.old.failed ≡ false }
-        ensures same_reference { self.new.sink.ghost_name ≡ self.old.sink.ghost_name }
-        ensures put { IsPut (K.held self.old.sink.now) self.old.waiting [] result (K.held self.new.sink.now) self.new.waiting }
+        ensures puts { Puts K.Sink self.old self.new [] result }
         ensures empty { OnOk result (self.new.waiting ≡ []) }
-        ensures failed { IsErr result ↔ IsTrue self.new.failed }
-        ensures cause { OnErr result (Rose (K.faults self.old.sink.now) (K.faults self.new.sink.now)) }
-        ensures later { K.faults self.old.sink.now ≤ K.faults self.new.sink.now }
-        ensures fixed { K.fixed self.new.sink.now ≡ K.fixed self.old.sink.now }
     {
         match write_all_of(self.sink, self.waiting.as_slice()) {
             Ok(()) => {
@@ -276,12 +202,7 @@ impl<'a, K: Sink> Out<'a, K> {
     fn put_first(&mut self, text: &[u8]) -> Result<(), WriteFailed>
         requires fine { self.old.failed ≡ false }
         requires empty { self.old.waiting ≡ [] }
-        ensures same_reference { self.new.sink.ghost_name ≡ self.old.sink.ghost_name }
-        ensures put { IsPut (K.held self.old.sink.now) self.old.waiting text.now result (K.held self.new.sink.now) self.new.waiting }
-        ensures failed { IsErr result ↔ IsTrue self.new.failed }
-        ensures cause { OnErr result (Rose (K.faults self.old.sink.now) (K.faults self.new.sink.now)) }
-        ensures later { K.faults self.old.sink.now ≤ K.faults self.new.sink.now }
-        ensures fixed { K.fixed self.new.sink.now ≡ K.fixed self.old.sink.now }
+        ensures { Puts K.Sink self.old self.new text.now result }
     {
         if text.len() <= self.waiting.room() {
             self.waiting.push(text);

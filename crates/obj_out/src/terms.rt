@@ -19,7 +19,7 @@ pub(crate) fn lowest_terms(num: u128, den: u128) -> (u128, u128)
     (quotient(num, common), quotient(den, common))
 }
 
-// The same over a power of two: it has no divisor in common with the numerator but a lesser one.
+// The numerator and the denominator in lowest terms, where the denominator is a power of two.
 fn shifted_terms(num: u128, den: u128) -> (u128, u128)
     requires positive { 0 < den }
     requires power { den / 2 ^ trailing_zeros w128 den ≡ 1 }

@@ -1,8 +1,8 @@
-use Rattle.obj_out.proofs.TextSoFarLemmas.{put-failed, put-more}
+use Rattle.obj_out.proofs.PutsLemmas.{puts-after, puts-cut}
 use Rattle.obj_out.proofs.put.Out.put_bytes.Goals as goal
 
-pub returns-in_err-hand_on-clause-put : goal.returns-in_err-hand_on-clause-put
-returns-in_err-hand_on-clause-put g c = put-failed _ _ _ _ _ _ c.from_residual.ensures.0 c.in_err-hand_on.ensures.put
+pub returns-in_err-hand_on : goal.returns-in_err-hand_on
+returns-in_err-hand_on g c = puts-cut _ c.from_residual.ensures.0 c.in_err-hand_on.ensures.puts
 
-pub returns-clause-put : goal.returns-clause-put
-returns-clause-put g c = put-more _ _ _ _ _ _ _ c.put_first.result c.in_ok-hand_on.ensures.put c.put_first.ensures.put
+pub returns : goal.returns
+returns g c = puts-after c.in_ok-hand_on.ensures.puts c.put_first.ensures

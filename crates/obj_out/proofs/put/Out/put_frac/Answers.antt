@@ -1,8 +1,9 @@
-use Rattle.obj_out.proofs.TextSoFarLemmas.{put-behind, put-failed}
+use Rattle.std.proofs.Common.{refl}
+use Rattle.obj_out.proofs.PutsLemmas.{puts-behind, puts-cut}
 use Rattle.obj_out.proofs.put.Out.put_frac.Goals as goal
 
-pub returns-in_err-make_room-clause-put : goal.returns-in_err-make_room-clause-put
-returns-in_err-make_room-clause-put g c = put-failed _ _ _ _ _ _ c.from_residual.ensures.0 c.in_err-make_room.ensures.put
+pub returns-in_err-make_room : goal.returns-in_err-make_room
+returns-in_err-make_room g c = puts-cut _ c.from_residual.ensures.0 c.in_err-make_room.ensures.puts
 
-pub returns-clause-put : goal.returns-clause-put
-returns-clause-put g c = put-behind _ _ _ _ _ _ c.in_ok-make_room.ensures.put c.push_frac.ensures
+pub returns : goal.returns
+returns g c = puts-behind c.in_ok-make_room.ensures.puts refl refl c.push_frac.ensures
