@@ -5,3 +5,4 @@ pub mod GoodOptionLemmas
 pub mod OrderLemmas
 pub mod ValueLemmas
 pub mod ReadLemmas
+pub mod WordsLemmas

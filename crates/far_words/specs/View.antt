@@ -11,10 +11,14 @@ use Rattle.far_words.specs.declared.command.Uv.{Uv}
 use Rattle.far_words.specs.declared.command.Uv.TheVariants.{Smooth, Corners, Boundaries, Linear}
 use Rattle.far_words.specs.declared.command.By.{By}
 use Rattle.far_words.specs.declared.command.By.TheVariants.{Table, Level}
-use Rattle.far_words.specs.declared.command.Tags.{Tags}
-use Rattle.far_words.specs.declared.command.Tags.TheVariants.{No, Yes}
+use Rattle.far_words.specs.declared.command.RefineOptions.{RefineOptions}
+use Rattle.far_words.specs.declared.command.GenOptions.{GenOptions}
+use Rattle.far_words.specs.declared.command.ReadCommand.{ReadCommand}
+use Rattle.far_words.specs.declared.command.ReadCommand.TheVariants.{Refine, Stencils, Levels}
+use Rattle.far_words.specs.declared.command.MakeCommand.{MakeCommand}
+use Rattle.far_words.specs.declared.command.MakeCommand.TheVariants.{Gen}
 use Rattle.far_words.specs.declared.command.Command.{Command}
-use Rattle.far_words.specs.declared.command.Command.TheVariants.{Refine, Stencils, Levels, Gen}
+use Rattle.far_words.specs.declared.command.Command.TheVariants.{Read, Make}
 
 abbrev pub kind_of_code : ValueKind → words.ValueKind
 kind_of_code (Between least greatest) = words.Between least greatest
@@ -39,15 +43,29 @@ abbrev pub by_of_code : By → model.By
 by_of_code Table = model.ByTable
 by_of_code Level = model.ByLevel
 
-abbrev pub tags_of_code : Tags → model.Tags
-tags_of_code No = model.NoTags
-tags_of_code Yes = model.YesTags
+abbrev pub refine_of_code : RefineOptions → model.RefineOptions
+refine_of_code options = record {
+  depth = options.depth;
+  decimals = options.decimals;
+  uv = uv_of_code options.uv;
+  by = by_of_code options.by;
+  tags = options.tags;
+}
+
+abbrev pub gen_of_code : GenOptions → model.GenOptions
+gen_of_code options = record { seed = options.seed; size = options.size; depth = options.depth }
+
+abbrev pub read_of_code : ReadCommand → model.ReadCommand
+read_of_code (Refine options) = model.Refine (refine_of_code options)
+read_of_code (Stencils depth) = model.Stencils depth
+read_of_code (Levels depth) = model.Levels depth
+
+abbrev pub make_of_code : MakeCommand → model.MakeCommand
+make_of_code (Gen options) = model.Gen (gen_of_code options)
 
 abbrev pub command_of_code : Command → model.Command
-command_of_code (Refine depth decimals uv by tags) = model.Refine depth decimals (uv_of_code uv) (by_of_code by) (tags_of_code tags)
-command_of_code (Stencils depth) = model.Stencils depth
-command_of_code (Levels depth) = model.Levels depth
-command_of_code (Gen seed size depth) = model.Gen seed size depth
+command_of_code (Read command) = model.Reads (read_of_code command)
+command_of_code (Make command) = model.Makes (make_of_code command)
 
 -- what reading says: a command, or the place of the first bad word
 abbrev pub result_of_code : Result Command ℕ → Result model.Command ℕ

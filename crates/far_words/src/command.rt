@@ -1,5 +1,9 @@
 //! Commands as values.
 
+ghost use Rattle.std.specs.Prelude.{◌↔◌, IsTrue};
+ghost use Rattle.subdiv_model.specs.Command.{IsInRange, IsMakeInRange, IsReadInRange};
+ghost use Rattle.far_words.specs.View.{command_of_code, make_of_code, read_of_code};
+
 /// How the texture is refined, and what stays sharp where seams cut it.
 #[derive(Clone, Copy, Debug, PartialEq, Eq)]
 pub enum Uv {
@@ -22,38 +26,90 @@ pub enum By {
     Level,
 }
 
-/// Whether the tags of the last level are written.
+/// What `refine` is asked for.
 #[derive(Clone, Copy, Debug, PartialEq, Eq)]
-pub enum Tags {
-    /// They are left out.
-    No,
-    /// They are written.
-    Yes,
+pub struct RefineOptions {
+    /// At most 10.
+    pub depth: u32,
+    /// How many decimals numbers are rounded to, at most 18, or `None` for fractions in lowest terms.
+    pub decimals: Option<u32>,
+    pub uv: Uv,
+    pub by: By,
+    /// Whether the tags of the last level are written.
+    pub tags: bool,
+}
+
+/// What `gen` is asked for: a sheet of `size` by `size` quads, and its depth.
+#[derive(Clone, Copy, Debug, PartialEq, Eq)]
+pub struct GenOptions {
+    pub seed: u32,
+    /// From 1 to 256.
+    pub size: u32,
+    /// At most 10.
+    pub depth: u32,
+}
+
+/// A command that reads a mesh and then answers. Each depth is at most 10.
+#[derive(Clone, Copy, Debug, PartialEq, Eq)]
+pub enum ReadCommand {
+    /// Refines a mesh, and writes it.
+    Refine(RefineOptions),
+    /// Writes the table of a mesh at a depth.
+    Stencils { depth: u32 },
+    /// Writes the counts of each level of a mesh to a depth.
+    Levels { depth: u32 },
+}
+
+/// A command that makes its mesh, and reads nothing.
+#[derive(Clone, Copy, Debug, PartialEq, Eq)]
+pub enum MakeCommand {
+    /// Makes a sheet of quads, and refines it.
+    Gen(GenOptions),
 }
 
 /// A command with its options filled in.
 #[derive(Clone, Copy, Debug, PartialEq, Eq)]
 pub enum Command {
-    /// Refines a mesh, and writes it as fractions, or in so many decimals.
-    Refine {
-        depth: u32,
-        decimals: Option<u32>,
-        uv: Uv,
-        by: By,
-        tags: Tags,
-    },
-    /// Writes the stencils of a mesh.
-    Stencils {
-        depth: u32,
-    },
-    /// Writes the levels of a mesh.
-    Levels {
-        depth: u32,
-    },
-    /// Makes a sheet of `size` by `size` quads, and refines it.
-    Gen {
-        seed: u32,
-        size: u32,
-        depth: u32,
-    },
+    Read(ReadCommand),
+    Make(MakeCommand),
+}
+
+impl ReadCommand {
+    /// Whether the numbers of the command are those that its options allow.
+    pub fn is_in_range(&self) -> bool
+        ensures { IsTrue result ↔ IsReadInRange (read_of_code self.now) }
+    {
+        match *self {
+            ReadCommand::Refine(options) => {
+                options.depth <= 10 && options.decimals.unwrap_or(0) <= 18
+            }
+            ReadCommand::Stencils { depth } => depth <= 10,
+            ReadCommand::Levels { depth } => depth <= 10,
+        }
+    }
+}
+
+impl MakeCommand {
+    /// Whether the numbers of the command are those that its options allow.
+    pub fn is_in_range(&self) -> bool
+        ensures { IsTrue result ↔ IsMakeInRange (make_of_code self.now) }
+    {
+        match *self {
+            MakeCommand::Gen(options) => {
+                1 <= options.size && options.size <= 256 && options.depth <= 10
+            }
+        }
+    }
+}
+
+impl Command {
+    /// Whether the numbers of the command are those that its options allow, as they are of a command that was read.
+    pub fn is_in_range(&self) -> bool
+        ensures { IsTrue result ↔ IsInRange (command_of_code self.now) }
+    {
+        match self {
+            Command::Read(command) => command.is_in_range(),
+            Command::Make(command) => command.is_in_range(),
+        }
+    }
 }

@@ -8,6 +8,6 @@ mod options;
 mod read;
 mod table;
 
-pub use command::{By, Command, Tags, Uv};
+pub use command::{By, Command, GenOptions, MakeCommand, ReadCommand, RefineOptions, Uv};
 pub use read::{read_words, read_words_by};
 pub use table::{CommandRule, OptionRule, ValueKind, command_table};

@@ -1,15 +1,15 @@
 //! The reading of words as a command.
 
-ghost use Rattle.std.specs.Prelude.{◌≡◌, ◌∷◌, map, string_bytes, Some, IsTrue};
+ghost use Rattle.std.specs.Prelude.{◌≡◌, ◌∷◌, map, string_bytes, Some, IfOk, IsTrue};
 ghost use Rattle.std.specs.Option.{option_map};
 ghost use Rattle.subdiv_model.specs.Words.{usage_of_rule};
 ghost use Rattle.subdiv_model.specs.Words as words;
-ghost use Rattle.subdiv_model.specs.Command.{read_or};
+ghost use Rattle.subdiv_model.specs.Command.{IsInRange, read_or};
 ghost use Rattle.subdiv_model.specs.Command as model;
-ghost use Rattle.far_words.specs.View.{table_of_code, rule_of_code, uv_of_code, by_of_code, tags_of_code, command_of_code, result_of_code};
+ghost use Rattle.far_words.specs.View.{table_of_code, rule_of_code, uv_of_code, by_of_code, refine_of_code, gen_of_code, command_of_code, result_of_code};
 ghost use Rattle.far_words.specs.Table.{AreNumbersU32, is_u32_rule, is_u32_table, u32_of_option};
 
-use crate::command::{By, Command, Tags, Uv};
+use crate::command::{By, Command, GenOptions, MakeCommand, ReadCommand, RefineOptions, Uv};
 use crate::options::{first_bad_option, has_required, number_of, value_of};
 use crate::table::{CommandRule, command_table};
 
@@ -33,15 +33,6 @@ fn by_named(name: &str) -> By
     }
 }
 
-fn tags_named(name: &str) -> Tags
-    ensures { tags_of_code result ≡ model.tags_of name.now }
-{
-    match name {
-        "yes" => Tags::Yes,
-        _ => Tags::No,
-    }
-}
-
 // The number of an option that must be there.
 fn required_number(options: &[String], name: &str) -> u32
     requires { u32_of_option (map string_bytes options.now) name.now ≡ words.number_of (map string_bytes options.now) name.now }
@@ -50,24 +41,24 @@ fn required_number(options: &[String], name: &str) -> u32
     number_of(options, name).unwrap_or(0)
 }
 
-fn refine_of(options: &[String]) -> Command
+fn refine_of(options: &[String]) -> RefineOptions
     requires { AreNumbersU32 (map string_bytes options.now) }
-    ensures { command_of_code result ≡ model.refine_of (map string_bytes options.now) }
+    ensures { refine_of_code result ≡ model.refine_of (map string_bytes options.now) }
 {
-    Command::Refine {
+    RefineOptions {
         depth: required_number(options, "depth"),
         decimals: number_of(options, "decimals"),
         uv: uv_named(value_of(options, "uv").unwrap_or("smooth")),
         by: by_named(value_of(options, "by").unwrap_or("table")),
-        tags: tags_named(value_of(options, "tags").unwrap_or("no")),
+        tags: value_of(options, "tags").unwrap_or("no") == "yes",
     }
 }
 
-fn gen_of(options: &[String]) -> Command
+fn gen_of(options: &[String]) -> GenOptions
     requires { AreNumbersU32 (map string_bytes options.now) }
-    ensures { command_of_code result ≡ model.gen_of (map string_bytes options.now) }
+    ensures { gen_of_code result ≡ model.gen_of (map string_bytes options.now) }
 {
-    Command::Gen {
+    GenOptions {
         seed: required_number(options, "seed"),
         size: required_number(options, "size"),
         depth: required_number(options, "depth"),
@@ -80,14 +71,14 @@ fn command_named(name: &str, options: &[String]) -> Command
     ensures { command_of_code result ≡ model.command_named name.now (map string_bytes options.now) }
 {
     match name {
-        "refine" => refine_of(options),
-        "stencils" => Command::Stencils {
+        "refine" => Command::Read(ReadCommand::Refine(refine_of(options))),
+        "stencils" => Command::Read(ReadCommand::Stencils {
             depth: required_number(options, "depth"),
-        },
-        "levels" => Command::Levels {
+        }),
+        "levels" => Command::Read(ReadCommand::Levels {
             depth: required_number(options, "depth"),
-        },
-        _ => gen_of(options),
+        }),
+        _ => Command::Make(MakeCommand::Gen(gen_of(options))),
     }
 }
 
@@ -135,9 +126,11 @@ pub fn read_words_by(table: &[CommandRule], words: &Vec<String>) -> Result<Comma
     }
 }
 
-/// The command that the words say, or the place of the first word that makes them none, as `read_words_by` has it.
+/// The command that the words say, or the place of the first word that makes them none, by the table of the program. The
+/// numbers of the command are those that the table allows.
 pub fn read_words(words: &Vec<String>) -> Result<Command, u32>
-    ensures { result_of_code result ≡ model.read_words (map string_bytes words.now.items) }
+    ensures read { result_of_code result ≡ model.read_words (map string_bytes words.now.items) }
+    ensures in_range { IfOk result (λ command. IsInRange (command_of_code command)) }
 {
     read_words_by(command_table(), words)
 }

@@ -1,0 +1,144 @@
+-- The commands that words say.
+use Rattle.std.proofs.Common.{◌≡◌, ℕ, ◌≤◌, Bool, true, false, cond, ◌&&◌, ◌||◌, nat_le, List, [], ◌∷◌, Option, Some, None, Result, Ok, Err, IfOk, codes, arith, refl, ap, sym, subst}
+use Rattle.std.specs.Prelude.{bytes_eq, is_some, IfSome, option_map}
+use Rattle.std.proofs.lemmas.Bool.Decides.{nat_tests}
+use Rattle.std.proofs.lemmas.Slice.Eq.{bytes_eq-Decides}
+use Rattle.subdiv_model.specs.Words.{CommandRule, command_table, required_option, number_option, name_option, texture_names, path_names, tags_names, is_number_word, usage_of, usage_of_rule, value_of, number_of, required_number}
+use Rattle.subdiv_model.specs.Digits.{number_of_digits}
+use Rattle.subdiv_model.specs.Command as model
+use Rattle.subdiv_model.specs.Command.{IsInRange, command_of, read_or, read_words_by}
+use Rattle.far_words.specs.declared.command.Command.{Command}
+use Rattle.far_words.specs.View.{command_of_code, result_of_code}
+use Rattle.far_words.proofs.ValueLemmas.{allowed-of-rule, required-of-rule}
+
+-- what was read is what the table says of the words
+understood-by : (usage : Option ℕ) (words : List (List ℕ)) (r : Result Command ℕ) (command : Command) → result_of_code r ≡ read_or usage words →
+    r ≡ Ok command → usage ≡ None
+understood-by (Some place) words r command read is = absurd (cc)
+understood-by None words r command read is = refl
+
+-- words that are read have no bad one
+pub understood : (words : List (List ℕ)) (r : Result Command ℕ) (command : Command) → result_of_code r ≡ read_words_by command_table words →
+    r ≡ Ok command → usage_of command_table words ≡ None
+understood words r command read is = understood-by (usage_of command_table words) words r command read is
+
+-- and the command is the one that they say
+same-ok : (r : Result model.Command ℕ) (a b : model.Command) → r ≡ Ok a → r ≡ Ok b → a ≡ b
+same-ok r a b e f = cc
+
+said-by : (usage : Option ℕ) (words : List (List ℕ)) (r : Result Command ℕ) (command : Command) → result_of_code r ≡ read_or usage words →
+    r ≡ Ok command → command_of_code command ≡ command_of words
+said-by (Some place) words r command read is = absurd (cc)
+said-by None words r command read is = same-ok (result_of_code r) (command_of_code command) (command_of words) (ap result_of_code is) read
+
+pub said : (words : List (List ℕ)) (r : Result Command ℕ) (command : Command) → result_of_code r ≡ read_words_by command_table words →
+    r ≡ Ok command → command_of_code command ≡ command_of words
+said words r command read is = said-by (usage_of command_table words) words r command read is
+
+-- the rows of the table
+abbrev refine_rule : CommandRule
+refine_rule = record {
+  name = codes "refine";
+  options =
+      required_option (codes "depth") 0 10
+      ∷ number_option (codes "decimals") 0 18
+      ∷ name_option (codes "uv") texture_names
+      ∷ name_option (codes "by") path_names
+      ∷ name_option (codes "tags") tags_names
+      ∷ [];
+}
+
+-- of a command with a depth and nothing else
+abbrev depth_rule : List ℕ → CommandRule
+depth_rule name = record { name = name; options = required_option (codes "depth") 0 10 ∷ [] }
+
+abbrev gen_rule : CommandRule
+gen_rule = record {
+  name = codes "gen";
+  options = required_option (codes "seed") 0 4294967295 ∷ required_option (codes "size") 1 256 ∷ required_option (codes "depth") 0 10 ∷ [];
+}
+
+-- a value that is a number between two others
+within_bounds : (digits : Bool) (least greatest n : ℕ) → ((digits && nat_le least n && nat_le n greatest) || false) ≡ true → (least ≤ n) × (n ≤ greatest)
+within_bounds true least greatest n allowed = (grind (arith, nat_tests), grind (arith, nat_tests))
+within_bounds false least greatest n allowed = absurd (cc)
+
+some_value : (found : Option (List ℕ)) → (is_some found && true) ≡ true → (value : List ℕ) × (found ≡ Some value)
+some_value (Some value) there = (value, refl)
+some_value None there = absurd (cc)
+
+-- of three options that are all there, the last two
+last_two : (a b c : Bool) → (a && (b && (c && true))) ≡ true → ((b && true) ≡ true) × ((c && true) ≡ true)
+last_two true true true all = (refl, refl)
+last_two true true false all = absurd (cc)
+last_two true false c all = absurd (cc)
+last_two false b c all = absurd (cc)
+
+-- the number of an option whose value is one between two others
+number_within : (options : List (List ℕ)) (name value : List ℕ) (least greatest : ℕ) → value_of options name ≡ Some value →
+    ((is_number_word value && nat_le least (number_of_digits value) && nat_le (number_of_digits value) greatest) || false) ≡ true →
+    (least ≤ required_number options name) × (required_number options name ≤ greatest)
+number_within options name value least greatest is allowed = rw is (within_bounds (is_number_word value) least greatest (number_of_digits value) allowed)
+
+-- options that are understood say a depth of at most 10, at most 18 decimals, and a size from 1 to 256
+refine_depth : (options : List (List ℕ)) → usage_of_rule (Some refine_rule) options ≡ None → required_number options (codes "depth") ≤ 10
+refine_depth options none =
+    let found = some_value (value_of options (codes "depth")) (required-of-rule (Some refine_rule) options refine_rule refl none) in
+    let allowed = allowed-of-rule (Some refine_rule) options refine_rule (codes "depth") found.0 refl none found.1 in
+    (number_within options (codes "depth") found.0 0 10 found.1 allowed).1
+
+refine_decimals : (options : List (List ℕ)) → usage_of_rule (Some refine_rule) options ≡ None → IfSome (number_of options (codes "decimals")) (λ digits. digits ≤ 18)
+refine_decimals options none = go (value_of options (codes "decimals")) refl
+  where
+    go : (found : Option (List ℕ)) → value_of options (codes "decimals") ≡ found → IfSome (option_map number_of_digits found) (λ digits. digits ≤ 18)
+    go None is = tt
+    go (Some value) is =
+        (within_bounds (is_number_word value) 0 18 (number_of_digits value)
+        (allowed-of-rule (Some refine_rule) options refine_rule (codes "decimals") value refl none is)).1
+
+depth_alone : (name : List ℕ) (options : List (List ℕ)) → usage_of_rule (Some (depth_rule name)) options ≡ None → required_number options (codes "depth") ≤ 10
+depth_alone name options none =
+    let found = some_value (value_of options (codes "depth")) (required-of-rule (Some (depth_rule name)) options (depth_rule name) refl none) in
+    let allowed = allowed-of-rule (Some (depth_rule name)) options (depth_rule name) (codes "depth") found.0 refl none found.1 in
+    (number_within options (codes "depth") found.0 0 10 found.1 allowed).1
+
+gen_numbers : (options : List (List ℕ)) → usage_of_rule (Some gen_rule) options ≡ None →
+    (1 ≤ required_number options (codes "size")) × (required_number options (codes "size") ≤ 256) × (required_number options (codes "depth") ≤ 10)
+gen_numbers options none =
+    let there = last_two (is_some (value_of options (codes "seed"))) (is_some (value_of options (codes "size"))) (is_some (value_of options (codes "depth")))
+    (required-of-rule (Some gen_rule) options gen_rule refl none) in
+    let size = some_value (value_of options (codes "size")) there.0 in
+    let depth = some_value (value_of options (codes "depth")) there.1 in
+    let size_within = number_within options (codes "size") size.0 1 256 size.1 (allowed-of-rule (Some gen_rule) options gen_rule (codes "size") size.0 refl none size.1) in
+    let depth_within = number_within options (codes "depth") depth.0 0 10 depth.1 (allowed-of-rule (Some gen_rule) options gen_rule (codes "depth") depth.0 refl none depth.1) in
+    (size_within.0, size_within.1, depth_within.1)
+
+-- words that are a command say one within the bounds of its options
+pub says-in-range : (words : List (List ℕ)) → usage_of command_table words ≡ None → IsInRange (command_of words)
+says-in-range [] none = absurd (cc)
+says-in-range (name ∷ options) none =
+    by_test (bytes_eq name (codes "refine")) (bytes_eq name (codes "stencils")) (bytes_eq name (codes "levels")) (bytes_eq name (codes "gen"))
+    refl refl refl refl none
+  where
+    -- the command is that of this name
+    named : (known : List ℕ) → bytes_eq name known ≡ true → IsInRange (command_of (known ∷ options)) → IsInRange (command_of (name ∷ options))
+    named known is built = subst IsInRange (sym (ap (λ n. command_of (n ∷ options)) ((bytes_eq-Decides name known).0 is))) built
+
+    by_test : (refined tabled counted made : Bool) → bytes_eq name (codes "refine") ≡ refined → bytes_eq name (codes "stencils") ≡ tabled →
+        bytes_eq name (codes "levels") ≡ counted → bytes_eq name (codes "gen") ≡ made →
+        usage_of_rule
+        (cond refined (Some refine_rule) (cond tabled (Some (depth_rule (codes "stencils"))) (cond counted (Some (depth_rule (codes "levels"))) (cond made (Some gen_rule) None))))
+        options ≡ None →
+        IsInRange (command_of (name ∷ options))
+    by_test true tabled counted made is e f g none = named (codes "refine") is (refine_depth options none, refine_decimals options none)
+    by_test false true counted made e is f g none = named (codes "stencils") is (depth_alone (codes "stencils") options none)
+    by_test false false true made e f is g none = named (codes "levels") is (depth_alone (codes "levels") options none)
+    by_test false false false true e f g is none = named (codes "gen") is (gen_numbers options none)
+    by_test false false false false e f g h none = absurd (cc)
+
+-- a command that was read is within the bounds of its options
+pub read-in-range : (words : List (List ℕ)) (r : Result Command ℕ) → result_of_code r ≡ read_words_by command_table words →
+    IfOk r (λ command. IsInRange (command_of_code command))
+read-in-range words (Err word) read = tt
+read-in-range words (Ok command) read =
+    subst IsInRange (sym (said words (Ok command) command read refl)) (says-in-range words (understood words (Ok command) command read refl))
