@@ -35,11 +35,11 @@ changed (Ok y) new fault P Q e p = cc
 changed (Err f) new fault P Q e q = let same : new ≡ fault f = cc in (f, (same, q))
 
 -- the fault is that of the next level
-pub stopped : {W C V A B : Type 0} (level_of : W → Topology) (Makes : W → ChildTopology → W → ℕ → ℕ → Type 0) (Refuses : W → A → ℕ → ℕ → Type 0)
-    (Follows : Topology → ChildTopology → C → C → ℕ → ℕ → Type 0) (Fails : Topology → ChildTopology → C → B → ℕ → ℕ → Type 0)
-    (Takes : V → W → C → V → Type 0) (start : Place W C V) (depth k : ℕ) (last : Place W C V) (fault : WalkFault A B) (new : ℕ)
+pub stopped : {W C V : Type 0} (level_of : W → Topology) (Makes : W → ChildTopology → W → ℕ → ℕ → Type 0) (Refuses : W → Cause → ℕ → ℕ → Type 0)
+    (Follows : Topology → ChildTopology → C → C → ℕ → ℕ → Type 0) (Fails : Topology → ChildTopology → C → Cause → ℕ → ℕ → Type 0)
+    (Takes : V → W → C → V → Type 0) (start : Place W C V) (depth k : ℕ) (last : Place W C V) (fault : WalkFault) (new : ℕ)
     → k < depth → IsWalked level_of Makes Follows Takes start k last
-    → (cause : Cause A B) × ((fault ≡ record { level = k + 1; cause = cause }) × IsCause level_of Makes Refuses Follows Fails last.reached cause last.steps new)
+    → (cause : Cause) × ((fault ≡ record { level = k + 1; cause = cause }) × IsCause level_of Makes Refuses Follows Fails last.reached cause last.steps new)
     → IsStopped level_of Makes Refuses Follows Fails Takes start depth fault new
 stopped level_of Makes Refuses Follows Fails Takes start depth k last fault new within walked (cause, (same, is)) =
     subst (λ f. IsStopped level_of Makes Refuses Follows Fails Takes start depth f new) (sym same) (record {

@@ -2,6 +2,7 @@
 use Rattle.std.specs.Prelude.{ℕ, zero, suc, ◌≡◌, ◌+◌, ◌<◌}
 use Rattle.level_topology.specs.Topology.{Topology}
 use Rattle.level_topology.specs.Child.{ChildTopology}
+use Rattle.level_walk.specs.declared.fault.Cause.{Cause}
 use Rattle.level_walk.specs.declared.fault.WalkFault.{WalkFault}
 use Rattle.level_walk.specs.declared.reached.Reached.{Reached}
 use Rattle.level_walk.specs.Round.{IsNext, IsCause}
@@ -32,9 +33,9 @@ abbrev pub IsWalked : {W C V : Type 0} → (W → Topology) → (W → ChildTopo
 IsWalked level_of Makes Follows Takes start k end = IsAfter (LeadsTo level_of Makes Follows Takes) start k end
 
 -- the walk comes to a place before its depth, and the fault is why it comes no further; it has the number of the next level
-pub record IsStopped {W C V A B : Type 0} (level_of : W → Topology) (Makes : W → ChildTopology → W → ℕ → ℕ → Type 0) (Refuses : W → A → ℕ → ℕ → Type 0)
-    (Follows : Topology → ChildTopology → C → C → ℕ → ℕ → Type 0) (Fails : Topology → ChildTopology → C → B → ℕ → ℕ → Type 0)
-    (Takes : V → W → C → V → Type 0) (start : Place W C V) (depth : ℕ) (fault : WalkFault A B) (new : ℕ) : Type 0 where
+pub record IsStopped {W C V : Type 0} (level_of : W → Topology) (Makes : W → ChildTopology → W → ℕ → ℕ → Type 0) (Refuses : W → Cause → ℕ → ℕ → Type 0)
+    (Follows : Topology → ChildTopology → C → C → ℕ → ℕ → Type 0) (Fails : Topology → ChildTopology → C → Cause → ℕ → ℕ → Type 0)
+    (Takes : V → W → C → V → Type 0) (start : Place W C V) (depth : ℕ) (fault : WalkFault) (new : ℕ) : Type 0 where
   pub k : ℕ
   pub last : Place W C V
   pub within : k < depth

@@ -14,7 +14,7 @@ use std::alloc::Global;
 use std::sync::ledger::Ledger;
 
 // What is reached, or why the level with this number is not.
-fn numbered<T, A, B>(reached: Result<T, Cause<A, B>>, number: u32) -> Result<T, WalkFault<A, B>>
+fn numbered<T>(reached: Result<T, Cause>, number: u32) -> Result<T, WalkFault>
     ensures { MatchResult reached
         (λ reached. result ≡ Ok reached)
         (λ cause. result ≡ Err (record { level = number; cause = cause })) }
@@ -40,7 +40,7 @@ pub fn walk<S: NextLevel<L>, C: Carrier<L>, V: Visitor<S::Level, C::Carried>, L:
     start: Reached<S::Level, C::Carried>,
     depth: u32,
     steps: &mut Steps<L>,
-) -> Result<Reached<S::Level, C::Carried>, WalkFault<S::Fault, C::Fault>>
+) -> Result<Reached<S::Level, C::Carried>, WalkFault>
     requires ready { S.IsReady step.now start.level }
     requires fits { C.Fits carrier.now (S.level_of start.level) start.carried }
     ensures { MatchResult result

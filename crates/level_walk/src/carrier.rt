@@ -4,6 +4,7 @@ ghost use Rattle.std.specs.Prelude.{◌≡◌, ℕ, IfOk, MatchResult};
 ghost use Rattle.subdiv_model.specs.Mask.{CatmullClark};
 ghost use Rattle.child_masks.specs.Masks.{CanRefine};
 
+use crate::fault::Cause;
 use level_topology::{Child, Level};
 use ratio128::Steps;
 use std::alloc::Global;
@@ -14,11 +15,9 @@ pub trait Carrier<L: Ledger> {
     /// What is carried.
     type Carried: Drop;
 
-    /// Why it cannot be carried on.
-    type Fault: Drop;
-
     ghost use Rattle.level_topology.specs.Topology.{Topology};
     ghost use Rattle.level_topology.specs.Child.{ChildTopology};
+    ghost use Rattle.level_walk.specs.declared.fault.Cause.{Cause};
 
     /// What can be carried on from a level.
     ghost Fits: { Self → Topology → Self.Carried → Type 0 };
@@ -27,7 +26,7 @@ pub trait Carrier<L: Ledger> {
     ghost Follows: { Self → Topology → ChildTopology → Self.Carried → Self.Carried → ℕ → ℕ → Type 0 };
 
     /// A level, its child, what is carried at the level, why it goes no further, and the steps taken before and after.
-    ghost Fails: { Self → Topology → ChildTopology → Self.Carried → Self.Fault → ℕ → ℕ → Type 0 };
+    ghost Fails: { Self → Topology → ChildTopology → Self.Carried → Cause → ℕ → ℕ → Type 0 };
 
     /// What is carried at a child of a level, from what is carried at the level.
     fn follow(
@@ -37,18 +36,14 @@ pub trait Carrier<L: Ledger> {
         child: &Child,
         before: &Self::Carried,
         steps: &mut Steps<L>,
-    ) -> Result<Self::Carried, Self::Fault>
+    ) -> Result<Self::Carried, Cause>
         requires fits { Fits self.now parent.now before.now }
         requires child { CanRefine parent.now child.now CatmullClark }
         ensures followed { MatchResult result
             (λ next. Follows self.now parent.now child.now before.now next steps.old steps.new)
-            (λ fault. Fails self.now parent.now child.now before.now fault steps.old steps.new) }
+            (λ cause. Fails self.now parent.now child.now before.now cause steps.old steps.new) }
         ensures fits { IfOk result (λ next. Fits self.now child.now.topology next) };
 }
-
-/// A fault that there is none of.
-#[derive(Drop)]
-pub enum Never {}
 
 /// Nothing is carried.
 #[derive(Clone, Copy)]
@@ -56,8 +51,6 @@ pub struct Nothing;
 
 impl<L: Ledger> Carrier<L> for Nothing {
     type Carried = ();
-
-    type Fault = Never;
 
     ghost Fits = { λ _ _ _. Unit {0} };
 
@@ -72,7 +65,7 @@ impl<L: Ledger> Carrier<L> for Nothing {
         child: &Child,
         before: &(),
         steps: &mut Steps<L>,
-    ) -> Result<(), Never> {
+    ) -> Result<(), Cause> {
         Ok(())
     }
 }

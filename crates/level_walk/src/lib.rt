@@ -11,8 +11,8 @@ mod step;
 mod visitor;
 
 pub use along::walk;
-pub use carrier::{Carrier, Never, Nothing};
-pub use fault::{Cause, WalkFault};
+pub use carrier::{Carrier, Nothing};
+pub use fault::{Cause, OverflowKind, WalkFault};
 pub use reached::Reached;
 pub use step::NextLevel;
 pub use visitor::{Dropped, Visitor};

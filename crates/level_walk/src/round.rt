@@ -12,23 +12,13 @@ use ratio128::Steps;
 use std::alloc::Global;
 use std::sync::ledger::Ledger;
 
-// The next level, or its fault as a cause.
-fn made<N, A, B>(next: Result<N, A>) -> Result<N, Cause<A, B>>
-    ensures { MatchResult next (λ next. result ≡ Ok next) (λ fault. result ≡ Err (Cause.Level fault)) }
-{
-    match next {
-        Ok(next) => Ok(next),
-        Err(fault) => Err(Cause::Level(fault)),
-    }
-}
-
-// A level with what is carried there, or why that cannot be as a cause.
-fn joined<W: Drop, C, A, B>(level: W, carried: Result<C, B>) -> Result<Reached<W, C>, Cause<A, B>>
-    ensures { MatchResult carried (λ carried. result ≡ Ok (record { level = level; carried = carried })) (λ fault. result ≡ Err (Cause.Carried fault)) }
+// A level with what is carried there, or why it cannot be carried there.
+fn joined<W: Drop, C>(level: W, carried: Result<C, Cause>) -> Result<Reached<W, C>, Cause>
+    ensures { MatchResult carried (λ carried. result ≡ Ok (record { level = level; carried = carried })) (λ cause. result ≡ Err cause) }
 {
     match carried {
         Ok(carried) => Ok(Reached { level, carried }),
-        Err(fault) => Err(Cause::Carried(fault)),
+        Err(cause) => Err(cause),
     }
 }
 
@@ -39,7 +29,7 @@ fn next<S: NextLevel<L>, C: Carrier<L>, L: Ledger>(
     carrier: &C,
     from: &Reached<S::Level, C::Carried>,
     steps: &mut Steps<L>,
-) -> Result<Reached<S::Level, C::Carried>, Cause<S::Fault, C::Fault>>
+) -> Result<Reached<S::Level, C::Carried>, Cause>
     requires ready { S.IsReady step.now from.now.level }
     requires fits { C.Fits carrier.now (S.level_of from.now.level) from.now.carried }
     ensures made { MatchResult result
@@ -48,7 +38,7 @@ fn next<S: NextLevel<L>, C: Carrier<L>, L: Ledger>(
     ensures ready { IfOk result (λ next. S.IsReady step.now next.level) }
     ensures fits { IfOk result (λ next. C.Fits carrier.now (S.level_of next.level) next.carried) }
 {
-    let next = made(step.next_level(alloc, &from.level, steps))?;
+    let next = step.next_level(alloc, &from.level, steps)?;
     let carried = carrier.follow(
         alloc,
         S::level(&from.level),
@@ -60,11 +50,11 @@ fn next<S: NextLevel<L>, C: Carrier<L>, L: Ledger>(
 }
 
 // Hands over what is left behind.
-fn leave<V: Visitor<W, C>, W: Drop, C: Drop, A, B>(
+fn leave<V: Visitor<W, C>, W: Drop, C: Drop>(
     visitor: &mut V,
     from: Reached<W, C>,
     next: Reached<W, C>,
-) -> Result<Reached<W, C>, Cause<A, B>>
+) -> Result<Reached<W, C>, Cause>
     ensures { MatchResult result
         (λ kept. (kept ≡ next) × V.Takes visitor.old from.level from.carried visitor.new)
         (λ cause. cause ≡ Cause.Memory) }
@@ -83,7 +73,7 @@ pub(crate) fn round<S: NextLevel<L>, C: Carrier<L>, V: Visitor<S::Level, C::Carr
     visitor: &mut V,
     from: Reached<S::Level, C::Carried>,
     steps: &mut Steps<L>,
-) -> Result<Reached<S::Level, C::Carried>, Cause<S::Fault, C::Fault>>
+) -> Result<Reached<S::Level, C::Carried>, Cause>
     requires ready { S.IsReady step.now from.level }
     requires fits { C.Fits carrier.now (S.level_of from.level) from.carried }
     ensures made { MatchResult result

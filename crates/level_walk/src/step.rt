@@ -4,6 +4,7 @@ ghost use Rattle.std.specs.Prelude.{◌≡◌, ℕ, IfOk, MatchResult};
 ghost use Rattle.subdiv_model.specs.Mask.{CatmullClark};
 ghost use Rattle.child_masks.specs.Masks.{CanRefine};
 
+use crate::fault::Cause;
 use level_topology::{Child, Level};
 use ratio128::Steps;
 use std::alloc::Global;
@@ -17,11 +18,9 @@ pub trait NextLevel<L: Ledger> {
     /// The next level, with its tables from the level before.
     type Next: Drop;
 
-    /// Why there is no next level.
-    type Fault: Drop;
-
     ghost use Rattle.level_topology.specs.Topology.{Topology};
     ghost use Rattle.level_topology.specs.Child.{ChildTopology};
+    ghost use Rattle.level_walk.specs.declared.fault.Cause.{Cause};
 
     /// The level in what is walked.
     ghost level_of: { Self.Level → Topology };
@@ -39,7 +38,7 @@ pub trait NextLevel<L: Ledger> {
     ghost Makes: { Self → Self.Level → ChildTopology → Self.Level → ℕ → ℕ → Type 0 };
 
     /// A level, why there is no next one, and the steps taken before and after.
-    ghost Refuses: { Self → Self.Level → Self.Fault → ℕ → ℕ → Type 0 };
+    ghost Refuses: { Self → Self.Level → Cause → ℕ → ℕ → Type 0 };
 
     /// The next level. Of each of its points the mask can be had.
     fn next_level(
@@ -47,11 +46,11 @@ pub trait NextLevel<L: Ledger> {
         alloc: Global,
         level: &Self::Level,
         steps: &mut Steps<L>,
-    ) -> Result<Self::Next, Self::Fault>
+    ) -> Result<Self::Next, Cause>
         requires { IsReady self.now level.now }
         ensures made { MatchResult result
             (λ next. Makes self.now level.now (child_of next) (next_of next) steps.old steps.new)
-            (λ fault. Refuses self.now level.now fault steps.old steps.new) }
+            (λ cause. Refuses self.now level.now cause steps.old steps.new) }
         ensures child { IfOk result (λ next. CanRefine (level_of level.now) (child_of next) CatmullClark) }
         ensures level { IfOk result (λ next. level_of (next_of next) ≡ (child_of next).topology) }
         ensures ready { IfOk result (λ next. IsReady self.now (next_of next)) };

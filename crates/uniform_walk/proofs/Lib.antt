@@ -2,3 +2,5 @@ pub mod OriginLemmas
 pub mod MaskLemmas
 pub mod WholeLemmas
 pub mod LevelLemmas
+pub mod FaultLemmas
+mod StepLemmas

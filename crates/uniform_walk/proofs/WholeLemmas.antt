@@ -1,5 +1,5 @@
 -- The next level of a whole one is whole again.
-use Rattle.std.proofs.Common.{◌≡◌, ◌+◌, ◌*◌, ◌^◌, ◌≤◌, true, nat_le, List, [], ◌∷◌, length, replicate, Result, Ok, Err, IfOk, MatchResult, arith, ap, sym, ◌∙◌, subst, IsTrue}
+use Rattle.std.proofs.Common.{◌≡◌, ◌+◌, ◌*◌, ◌≤◌, true, nat_le, List, [], ◌∷◌, length, replicate, Result, Ok, Err, IfOk, MatchResult, arith, ap, sym, ◌∙◌, subst, IsTrue}
 use Rattle.std.specs.List.{list_all, sum_by}
 use Rattle.std.proofs.lemmas.Bool.{and_parts, leb-true}
 use Rattle.std.proofs.lemmas.List.Sums.{sum_by-cons}

@@ -1,5 +1,5 @@
 -- The levels to a depth, one made from another.
-use Rattle.std.specs.Prelude.{ℕ, ◌≡◌, ◌^◌, ◌<◌, ◌≤◌, true, false, length}
+use Rattle.std.specs.Prelude.{ℕ, ◌≡◌, ◌+◌, ◌^◌, ◌<◌, ◌≤◌, true, false, length}
 use Rattle.std.specs.List.{sum_by, range_with_len}
 use Rattle.subdiv_model.specs.Level.{Level}
 use Rattle.subdiv_model.specs.Child.{refined_level}
@@ -24,3 +24,8 @@ pub record Overflows (level : Level) : Type 0 where
 -- how many faces the levels from 1 to a depth have
 abbrev pub faces_to : Level → ℕ → ℕ
 faces_to level depth = sum_by (λ k. length (refined_level level k).polygons) (range_with_len 1 depth)
+
+-- at most one step is taken for each face of the levels from 1 to a depth
+pub record AreLevelSteps (base : Level) (depth old new : ℕ) : Type 0 where
+  pub most : new ≤ old + faces_to base depth
+  pub later : old ≤ new

@@ -1,11 +1,17 @@
 -- The whole next level, as a step of a walk.
-use Rattle.std.specs.Prelude.{ℕ, ◌≡◌, ◌+◌, ◌*◌, ◌^◌, ◌≤◌, true, length, replicate, IsTrue}
+use Rattle.std.specs.Prelude.{ℕ, ◌≡◌, ◌+◌, ◌*◌, ◌^◌, ◌<◌, ◌≤◌, true, length, replicate, IsTrue}
 use Rattle.std.specs.List.{sum_by}
+use Rattle.subdiv_model.specs.Level.{Level}
 use Rattle.mask_laws.specs.SharpBoundary.{has_sharp_boundary}
 use Rattle.level_topology.specs.Topology.{Topology}
 use Rattle.level_topology.specs.Child.{ChildTopology}
-use Rattle.uniform_refiner.specs.Refined.{IsRefined, IsRefusal}
+use Rattle.level_walk.specs.declared.fault.Cause.{Cause}
+use Rattle.level_walk.specs.declared.fault.Cause.TheVariants as cause
+use Rattle.level_walk.specs.declared.fault.OverflowKind.TheVariants as kind
+use Rattle.uniform_refiner.specs.Refined.{IsRefined}
 use Rattle.uniform_refiner.specs.declared.fault.RefineFault.{RefineFault}
+use Rattle.uniform_refiner.specs.declared.fault.RefineFault.TheVariants.{TooLarge, Chaikin, Memory}
+use Rattle.uniform_walk.specs.Levels.{Overflows}
 
 -- A level of which all next ones can be made: each point is complete, and the boundary is infinitely sharp. It has at most 2^28
 -- points beside two for each face, and so have the levels after it, since a face has three corners or more.
@@ -25,7 +31,23 @@ pub record IsMade (parent : Topology) (child : ChildTopology) (next : Topology) 
   pub next_is : next ≡ child.topology
   pub steps : AreFaceSteps parent old new
 
+-- a fault of a refinement as the cause of a walk
+abbrev pub cause_of : RefineFault → Cause
+cause_of (TooLarge count) = cause.TooManyFaces count
+cause_of (Chaikin v) = cause.Overflow kind.Chaikin
+cause_of Memory = cause.Memory
+
+-- the next level would have so many faces and that is too many, or halves overflow at some point; memory may run out at any level
+abbrev pub IsLevelCause : Level → Cause → Type 0
+IsLevelCause level (cause.TooManyFaces count) = (count ≡ sum_by length level.polygons) × (2 ^ 22 < count)
+IsLevelCause level (cause.Overflow kind.Chaikin) = Overflows level
+IsLevelCause level (cause.Overflow kind.Transition) = ⊥
+IsLevelCause level (cause.Overflow kind.Denominator) = ⊥
+IsLevelCause level (cause.Overflow kind.Value) = ⊥
+IsLevelCause level cause.TooManyEntries = ⊥
+IsLevelCause level cause.Memory = Unit {0}
+
 -- why there is no next level
-pub record IsRefused (parent : Topology) (fault : RefineFault) (old new : ℕ) : Type 0 where
-  pub refusal : IsRefusal parent fault
+pub record IsRefused (parent : Topology) (cause : Cause) (old new : ℕ) : Type 0 where
+  pub is : IsLevelCause parent.level cause
   pub steps : AreFaceSteps parent old new

@@ -1,14 +1,35 @@
 //! The whole next level as a step of a walk.
 
-ghost use Rattle.std.specs.Prelude.{◌≡◌, ◌+◌, ◌≤◌, length, MatchResult};
-ghost use Rattle.std.specs.List.{sum_by};
+ghost use Rattle.std.specs.Prelude.{◌≡◌, Ok, Err, MatchResult};
+ghost use Rattle.uniform_walk.specs.Step.{cause_of};
 
 use level_topology::{Child, Level};
-use level_walk::NextLevel;
+use level_walk::{Cause, NextLevel, OverflowKind};
 use ratio128::Steps;
 use std::alloc::Global;
 use std::sync::ledger::Ledger;
 use uniform_refiner::{RefineFault, refine};
+
+// A fault of a refinement as the cause of a walk.
+fn cause_of_fault(fault: RefineFault) -> Cause
+    ensures { result ≡ cause_of fault }
+{
+    match fault {
+        RefineFault::TooLarge(count) => Cause::TooManyFaces { count },
+        RefineFault::Chaikin(_) => Cause::Overflow(OverflowKind::Chaikin),
+        RefineFault::Memory => Cause::Memory,
+    }
+}
+
+// What is made, or its fault as the cause of a walk.
+fn made<T>(made: Result<T, RefineFault>) -> Result<T, Cause>
+    ensures { MatchResult made (λ next. result ≡ Ok next) (λ fault. result ≡ Err (cause_of fault)) }
+{
+    match made {
+        Ok(next) => Ok(next),
+        Err(fault) => Err(cause_of_fault(fault)),
+    }
+}
 
 /// Each level is the whole next one. It is one step for each of its faces.
 #[derive(Clone, Copy)]
@@ -18,8 +39,6 @@ impl<L: Ledger> NextLevel<L> for Uniform {
     type Level = Level;
 
     type Next = Child;
-
-    type Fault = RefineFault;
 
     ghost use Rattle.uniform_walk.specs.Step.{IsWhole, IsMade, IsRefused};
 
@@ -33,16 +52,16 @@ impl<L: Ledger> NextLevel<L> for Uniform {
 
     ghost Makes = { λ _ level child next old new. IsMade level child next old new };
 
-    ghost Refuses = { λ _ level fault old new. IsRefused level fault old new };
+    ghost Refuses = { λ _ level cause old new. IsRefused level cause old new };
 
     fn next_level(
         &self,
         alloc: Global,
         level: &Level,
         steps: &mut Steps<L>,
-    ) -> Result<Child, RefineFault> {
+    ) -> Result<Child, Cause> {
         level.facts();
-        refine(alloc, level, steps)
+        made(refine(alloc, level, steps))
     }
 
     fn level(walked: &Level) -> &Level {
