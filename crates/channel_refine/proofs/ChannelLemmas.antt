@@ -18,7 +18,8 @@ use Rattle.level_topology.specs.Child.{ChildTopology}
 use Rattle.uniform_refiner.specs.Refined.{IsRefined}
 use Rattle.uniform_walk.proofs.LevelLemmas as series
 use Rattle.primvar_refine.specs.Rows.{Row, row_at, dens_of, value_at, StandFor, AreWithin, greatest_of}
-use Rattle.channel_refine.specs.Refined.{IsBase, AreControls, IsRefinedTo, channel_of, column_of, terms_to}
+use Rattle.channel_refine.specs.Base.{IsBase}
+use Rattle.channel_refine.specs.Refined.{AreControls, IsRefinedTo, column_of, terms_to}
 use Rattle.channel_refine.specs.Step.{AreValues, AreCarried}
 use Rattle.channel_refine.proofs.FaultLemmas.{HasNoFault, no-faults}
 use Rattle.channel_refine.proofs.FirstLemmas as first
@@ -56,6 +57,9 @@ none-more P k before here j h = go (nat_lt j k) refl
 
 -- Level 0.
 
+pub sound-base : (base : Topology) (level : Level) → IsTopology base → IsBase base → base.level ≡ level → IsSound level
+sound-base base level is of same = subst IsSound same (record { formed = is.formed; manifold = of.manifold; boundary = of.boundary })
+
 ones : (rows : List Row) (a n : ℕ) → length rows ≡ n → AllByRecursion (λ row. row.den ≡ 1) rows → dens_of rows ≡ map (λ v. 1) (range_with_len a n)
 ones [] a zero count all = refl
 ones [] a (suc n) count all = absurd (omega (arith, count))
@@ -68,26 +72,26 @@ same-control [] column p all h = absurd (omega (arith, h))
 same-control (row ∷ rows) column zero all h = ap (λ d. get_or row.numbers column (pos 0) *ℤ pos d) all.0
 same-control (row ∷ rows) column (suc p) all h = same-control rows column p all.1 (omega (arith, h))
 
-pub reached-none : (base : Topology) (scheme : Scheme) (greatest common : ℕ) (controls : List Row) → IsTopology base → IsBase base → length controls ≡ base.level.point_count
-    → AreControls greatest controls → max greatest common ≤ number_bound → IsReached (channel_of base.level scheme greatest common) controls 0 base controls
-reached-none base scheme greatest common controls is level each are short =
+pub reached-none : (channel : Channel) (base : Topology) (controls : List Row) → IsTopology base → IsBase base → base.level ≡ channel.base
+    → max channel.greatest channel.common ≤ number_bound → AreControls channel controls → IsReached channel controls 0 base controls
+reached-none channel base controls is level here short are =
     let whole = recursion_from_All (λ row. row.den ≡ 1) controls are.whole in
     record {
-      base = record { formed = is.formed; manifold = level.manifold; boundary = level.boundary };
-      level = series.reached-none base;
+      base = sound-base base channel.base is level here;
+      level = record { level = here; made = λ j h. absurd (omega (arith, h)) };
       none = λ j h. absurd (omega (arith, h));
-      dens = ones controls 0 base.level.point_count each whole;
+      dens = ones controls 0 channel.base.point_count are.each whole;
       values = λ column. record {
         count = length-map (column_of column controls) (λ n. record { num = n; den = 1 }) ∙ length-map controls (λ row. get_or row.numbers column (pos 0));
         same = λ p h. same-control controls column p whole h;
       };
       within = are.within;
-      each = each;
+      each = are.each ∙ ap (λ (level : Level). level.point_count) (sym here);
       grown = omega arith;
       alike = are.alike;
       positive = λ k d h. omega (arith, are.whole k d h);
       short = λ k d h. omega (arith, are.whole k d h);
-      room = λ k d h. room (get_or controls k d).den (max greatest common) (are.whole k d h) short;
+      room = λ k d h. room (get_or controls k d).den (max channel.greatest channel.common) (are.whole k d h) short;
     }
   where
     room : (den most : ℕ) → den ≡ 1 → most ≤ number_bound → den * most ≤ number_bound
@@ -117,7 +121,7 @@ module _ (channel : Channel) (controls : List Row) (k : ℕ) (t : Topology) (row
       below amount den greatest most h more = omega (arith, h, mul-le-mul_left den more)
 
   -- these are the last level and its values
-  pub reached-end : IsRefinedTo Values channel controls k t rows
+  pub reached-end : IsRefinedTo Values channel controls k (record { level = t; rows = rows })
   reached-end = record {
     fine = λ track. no-faults Values tt (whole_levels channel) track k is.none;
     few = λ j h. (is.level.made j h).few;

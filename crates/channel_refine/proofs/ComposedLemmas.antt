@@ -6,7 +6,7 @@ use Rattle.std.proofs.lemmas.List.{length-map}
 use Rattle.std.proofs.lemmas.List.FromFn.{length-map-range_with_len}
 use Rattle.subdiv_model.specs.Level.{Level}
 use Rattle.subdiv_model.specs.Child.{refined_level}
-use Rattle.subdiv_model.specs.Mask.{Scheme, child_masks}
+use Rattle.subdiv_model.specs.Mask.{child_masks}
 use Rattle.subdiv_model.specs.Refined.{mask_value, source_value, child_values, refined_values, control_values}
 use Rattle.subdiv_model.specs.Support.{mask_support, source_support, child_supports, refined_supports, entries_after}
 use Rattle.subdiv_model.specs.Channel.{Channel, Tables, number_bound, entry_bound, denominators_after, whole_levels}
@@ -20,13 +20,13 @@ use Rattle.child_masks.specs.Masks.{masks_from}
 use Rattle.stencil_apply.specs.Table.{Table, greatest_of}
 use Rattle.stencil_factory.specs.Rows.{supports_of, dens_of, row_values, AreSameValues}
 use Rattle.stencil_factory.specs.Composed.{identity_table, entries_from}
-use Rattle.channel_refine.specs.Refined.{IsBase, channel_of}
+use Rattle.channel_refine.specs.Base.{IsBase}
 use Rattle.channel_refine.specs.Composed.{IsComposedTo}
 use Rattle.channel_refine.specs.Step.{IsCarried}
 use Rattle.channel_refine.proofs.FaultLemmas.{HasNoFault, has_entry_fault, no-faults}
 use Rattle.channel_refine.proofs.FirstLemmas as first
 use Rattle.channel_refine.proofs.DenominatorLemmas.{IsSound}
-use Rattle.channel_refine.proofs.ChannelLemmas.{none-more}
+use Rattle.channel_refine.proofs.ChannelLemmas.{none-more, sound-base}
 use Rattle.channel_refine.proofs.IdentityLemmas.{identity-dens, identity-supports, identity-greatest, identity-values, entries-by-support}
 use Rattle.channel_refine.proofs.TableLemmas.{dens-short}
 use Rattle.channel_refine.proofs.UniformLemmas.{AreNextNumbers, next-numbers}
@@ -48,19 +48,20 @@ plus-one : (k : ℕ) → k + 1 ≡ suc k
 plus-one k = omega arith
 
 -- level 0
-pub reached-none : (base : Topology) (scheme : Scheme) (greatest common : ℕ) (table : Table) → IsTopology base → IsBase base → table ≡ identity_table base.level.point_count
-    → max greatest common ≤ number_bound → IsReached (channel_of base.level scheme greatest common) 0 base table
-reached-none base scheme greatest common table is level same short =
-    subst (IsReached (channel_of base.level scheme greatest common) 0 base) (sym same) (record {
-      base = record { formed = is.formed; manifold = level.manifold; boundary = level.boundary };
-      level = series.reached-none base;
+pub reached-none : (channel : Channel) (base : Topology) (table : Table) → IsTopology base → IsBase base → base.level ≡ channel.base
+    → max channel.greatest channel.common ≤ number_bound → table ≡ identity_table base.level.point_count → IsReached channel 0 base table
+reached-none channel base table is level here short same =
+    let count = ap (λ (level : Level). level.point_count) here in
+    subst (IsReached channel 0 base) (sym (same ∙ ap identity_table count)) (record {
+      base = sound-base base channel.base is level here;
+      level = record { level = here; made = λ j h. absurd (omega (arith, h)) };
       none = λ j h. absurd (omega (arith, h));
       controls = refl;
-      dens = identity-dens 0 base.level.point_count;
-      supports = identity-supports 0 base.level.point_count;
-      values = λ numbers count. identity-values numbers base.level.point_count count;
-      each = length-map-range_with_len (λ v. record { den = 1; shares = (v, 1) ∷ [] }) 0 base.level.point_count;
-      fits = fits (greatest_of (identity_table base.level.point_count)) (max greatest common) (identity-greatest base.level.point_count) short;
+      dens = identity-dens 0 channel.base.point_count;
+      supports = identity-supports 0 channel.base.point_count;
+      values = λ numbers count. identity-values numbers channel.base.point_count count;
+      each = length-map-range_with_len (λ v. record { den = 1; shares = (v, 1) ∷ [] }) 0 channel.base.point_count ∙ sym count;
+      fits = fits (greatest_of (identity_table channel.base.point_count)) (max channel.greatest channel.common) (identity-greatest channel.base.point_count) short;
     })
   where
     fits : (great most : ℕ) → great ≡ 1 → most ≤ number_bound → great * most ≤ number_bound
@@ -68,7 +69,7 @@ reached-none base scheme greatest common table is level same short =
 
 module _ (channel : Channel) (k : ℕ) (t : Topology) (table : Table) (is : IsReached channel k t table) where
   -- this is the last level and its table
-  pub reached-end : IsComposedTo channel k t table
+  pub reached-end : IsComposedTo channel k (record { level = t; table = table })
   reached-end = record {
     fine = λ track. no-faults Tables tt (whole_levels channel) track k is.none;
     few = λ j h. (is.level.made j h).few;

@@ -1,5 +1,5 @@
 -- Controls that a table is evaluated over.
-use Rattle.std.proofs.Common.{◌≡◌, ℕ, zero, suc, ◌+◌, ◌*◌, ◌<◌, ◌≤◌, ℤ, List, [], ◌∷◌, length, map, take, get_or, Option, Some, None, Bor, arith, refl, ap, sym, ◌∙◌, subst}
+use Rattle.std.proofs.Common.{◌≡◌, ℕ, ◌*◌, ◌<◌, ◌≤◌, ℤ, List, [], ◌∷◌, length, map, take, get_or, Option, Some, None, Bor, arith, refl, ap, sym, ◌∙◌, subst}
 use Rattle.std.specs.List.{All, slice_get}
 use Rattle.std.specs.Option.{option_copied}
 use Rattle.std.proofs.Math.ListN.{get_or-map as get_or-map_all}
@@ -8,9 +8,8 @@ use Rattle.ratio128.specs.declared.valued.Valued.{Valued}
 use Rattle.primvar_refine.specs.Rows as rows
 use Rattle.primvar_refine.specs.View.{row_of, rows_of}
 use Rattle.subdiv_model.specs.Channel.{number_bound}
-use Rattle.ratio128.specs.Numbers.{zeros, greatest_amount}
-use Rattle.ratio128.proofs.AmountLemmas.{length-zeros}
-use Rattle.stencil_apply.specs.Table.{Share, Row, Table, IsRow, IsTable, greatest_of, total_of, row_at, sum_of_row}
+use Rattle.ratio128.specs.Numbers.{greatest_amount}
+use Rattle.stencil_apply.specs.Table.{Share, Row, Table, IsRow, IsTable, greatest_of, total_of}
 use Rattle.channel_refine.specs.Evaluated.{CanEvaluate}
 
 -- a table over no controls has no rows

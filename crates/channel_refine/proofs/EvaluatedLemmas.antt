@@ -11,7 +11,6 @@ use Rattle.subdiv_model.specs.Refined.{point_value, refined_values, control_valu
 use Rattle.subdiv_model.specs.Support.{entries_after}
 use Rattle.subdiv_model.specs.Channel.{Channel, Tables, number_bound}
 use Rattle.ratio128.specs.Numbers.{zeros, greatest_amount}
-use Rattle.level_topology.specs.Topology.{Topology}
 use Rattle.primvar_refine.specs.Rows.{Row, row_at, dens_of, value_at, StandFor}
 use Rattle.ratio128.proofs.AmountLemmas.{IsWithin, IsWithin-zeros, greatest-within, length-zeros}
 use Rattle.primvar_refine.proofs.TermSumLemmas.{zeros-at}
@@ -21,7 +20,7 @@ use Rattle.stencil_factory.specs.Rows.{share_sum, row_values}
 use Rattle.stencil_factory.specs.Rows as factory
 use Rattle.channel_refine.specs.Refined.{AreControls, IsRefinedTo, column_of}
 use Rattle.channel_refine.proofs.DenominatorLemmas.{each-below}
-use Rattle.channel_refine.specs.Composed.{IsComposedTo}
+use Rattle.channel_refine.specs.Composed.{ComposedTable, IsComposedTo}
 use Rattle.channel_refine.specs.Evaluated.{CanEvaluate, control_rows, evaluated}
 use Rattle.channel_refine.proofs.IdentityLemmas.{value-row, entries-by-support}
 use Rattle.channel_refine.proofs.SumLemmas.{sum-at, length-sum, sum-within}
@@ -41,13 +40,13 @@ first-control : (controls : List (List ℤ)) → (row_at (control_rows controls)
 first-control [] = refl
 first-control (numbers ∷ controls) = refl
 
-controls-alike : (greatest : ℕ) (controls : List (List ℤ)) → AreControls greatest (control_rows controls) → All (λ numbers. length numbers ≡ length (get_or controls 0 [])) controls
-controls-alike greatest controls are k d h =
+controls-alike : (channel : Channel) (controls : List (List ℤ)) → AreControls channel (control_rows controls) → All (λ numbers. length numbers ≡ length (get_or controls 0 [])) controls
+controls-alike channel controls are k d h =
     of-controls (λ row. length row.numbers ≡ length (row_at (control_rows controls) 0).numbers) controls are.alike k d h ∙ ap length (first-control controls)
 
-controls-within : (greatest : ℕ) (controls : List (List ℤ)) → AreControls greatest (control_rows controls) → All (λ numbers. greatest_amount numbers ≤ greatest) controls
-controls-within greatest controls are k d h =
-    let one = of-controls (λ row. greatest_amount row.numbers ≤ row.den * greatest) controls are.within k d h in omega (arith, one)
+controls-within : (channel : Channel) (controls : List (List ℤ)) → AreControls channel (control_rows controls) → All (λ numbers. greatest_amount numbers ≤ channel.greatest) controls
+controls-within channel controls are k d h =
+    let one = of-controls (λ row. greatest_amount row.numbers ≤ row.den * channel.greatest) controls are.within k d h in omega (arith, one)
 
 -- the sums of rows over their denominators
 abbrev pub evaluated_row : List (List ℤ) → TableRow → Row
@@ -65,13 +64,20 @@ pub evaluated-dens : (rows : List TableRow) (controls : List (List ℤ)) (zero_n
 evaluated-dens [] controls zero_numbers = refl
 evaluated-dens (row ∷ rows) controls zero_numbers = ap (λ dens. row.den ∷ dens) (evaluated-dens rows controls zero_numbers)
 
-module _ (channel : Channel) (depth : ℕ) (level : Topology) (some : Table) (is : IsComposedTo channel depth level some) (made : IsTable some) where
+-- there are as many controls as points of level 0
+pub each-control : (channel : Channel) (controls : List (List ℤ)) → AreControls channel (control_rows controls) → length controls ≡ channel.base.point_count
+each-control channel controls are = sym (length-map controls control_row) ∙ are.each
+
+module _ (channel : Channel) (depth : ℕ) (composed : ComposedTable) (is : IsComposedTo channel depth composed) (made : IsTable composed.table) where
+  abbrev some : Table
+  some = composed.table
+
   -- the table can be evaluated over the controls of its channel
-  pub can-evaluate : (controls : List (List ℤ)) → length controls ≡ channel.base.point_count → AreControls channel.greatest (control_rows controls) → CanEvaluate some controls
-  can-evaluate controls each are = record {
-    each = each ∙ sym is.controls;
-    alike = controls-alike channel.greatest controls are;
-    fits = λ k d h. below (greatest_of some) (greatest_amount (get_or controls k d)) channel.greatest (max channel.greatest channel.common) (controls-within channel.greatest controls are k d h) (omega arith) is.fits;
+  pub can-evaluate : (controls : List (List ℤ)) → AreControls channel (control_rows controls) → CanEvaluate some controls
+  can-evaluate controls are = record {
+    each = each-control channel controls are ∙ sym is.controls;
+    alike = controls-alike channel controls are;
+    fits = λ k d h. below (greatest_of some) (greatest_amount (get_or controls k d)) channel.greatest (max channel.greatest channel.common) (controls-within channel controls are k d h) (omega arith) is.fits;
   }
     where
       below : (great amount greatest most : ℕ) → amount ≤ greatest → greatest ≤ most → great * most ≤ number_bound → great * amount ≤ number_bound
@@ -81,11 +87,11 @@ module _ (channel : Channel) (depth : ℕ) (level : Topology) (some : Table) (is
   pub entries-are : entries_of some.rows ≡ entries_after channel.base channel.scheme depth
   entries-are = sym (entries-by-support some.rows) ∙ ap (sum_by length) is.supports
 
-  module _ (controls : List (List ℤ)) (each : length controls ≡ channel.base.point_count) (are : AreControls channel.greatest (control_rows controls)) where
+  module _ (controls : List (List ℤ)) (are : AreControls channel (control_rows controls)) where
     -- the controls of a row's shares
     inside-all : (P : List ℤ → Type 0) → All P controls → (shares : List Share) → AllByRecursion (λ share. share.0 < some.controls) shares → AllByRecursion (λ share. P (get_or controls share.0 [])) shares
     inside-all P all [] h = tt
-    inside-all P all (share ∷ shares) h = (all share.0 [] (omega (arith, h.0, each, is.controls)), inside-all P all shares h.1)
+    inside-all P all (share ∷ shares) h = (all share.0 [] (omega (arith, h.0, each-control channel controls are, is.controls)), inside-all P all shares h.1)
 
     row-inside : (row : TableRow) → IsRow some.controls row → AllByRecursion (λ share. share.0 < some.controls) row.shares
     row-inside row one = recursion_from_All (λ share. share.0 < some.controls) row.shares one.inside
@@ -95,7 +101,7 @@ module _ (channel : Channel) (depth : ℕ) (level : Topology) (some : Table) (is
         → get_or (sum_of_row (zeros (get_or controls 0 [])) controls row) c (pos 0) ≡ share_sum (column_of c (control_rows controls)) row.shares
     row-at c row one =
         sum-at controls c (zeros (get_or controls 0 [])) row.shares
-        (inside-all (λ numbers. length numbers ≡ length (zeros (get_or controls 0 []))) (λ k d h. controls-alike channel.greatest controls are k d h ∙ sym (length-zeros (get_or controls 0 []))) row.shares (row-inside row one))
+        (inside-all (λ numbers. length numbers ≡ length (zeros (get_or controls 0 []))) (λ k d h. controls-alike channel controls are k d h ∙ sym (length-zeros (get_or controls 0 []))) row.shares (row-inside row one))
         ∙ ap (λ z. z +ℤ share_sum (column_of c (control_rows controls)) row.shares) (zeros-at (get_or controls 0 []) c)
         ∙ +ℤ_idl (share_sum (column_of c (control_rows controls)) row.shares)
 
@@ -104,7 +110,7 @@ module _ (channel : Channel) (depth : ℕ) (level : Topology) (some : Table) (is
         greatest-within (row.den * channel.greatest) (sum_of_row (zeros (get_or controls 0 [])) controls row)
         (subst (λ n. IsWithin n (sum_of_row (zeros (get_or controls 0 [])) controls row)) (zero-add (total_of row.shares * channel.greatest) ∙ ap (λ n. n * channel.greatest) one.whole)
         (sum-within controls channel.greatest 0 (zeros (get_or controls 0 [])) row.shares (IsWithin-zeros 0 (get_or controls 0 []))
-        (inside-all (λ numbers. greatest_amount numbers ≤ channel.greatest) (controls-within channel.greatest controls are) row.shares (row-inside row one))))
+        (inside-all (λ numbers. greatest_amount numbers ≤ channel.greatest) (controls-within channel controls are) row.shares (row-inside row one))))
 
     rows-length : length (evaluated some controls) ≡ length some.rows
     rows-length = length-map some.rows (evaluated_row controls)
@@ -121,8 +127,7 @@ module _ (channel : Channel) (depth : ℕ) (level : Topology) (some : Table) (is
         ∙ ap (λ (r : Row). value (get_or r.numbers c (pos 0)) r.den) (sym here)
 
     column-count : (c : ℕ) → length (column_of c (control_rows controls)) ≡ channel.base.point_count
-    column-count c =
-        length-map (control_rows controls) (λ row. get_or row.numbers c (pos 0)) ∙ length-map controls control_row ∙ each
+    column-count c = length-map (control_rows controls) (λ row. get_or row.numbers c (pos 0)) ∙ are.each
 
     stands : (c : ℕ) → StandFor (evaluated some controls) c (refined_values channel.base channel.scheme (control_values (column_of c (control_rows controls))) depth)
     stands c =
@@ -137,7 +142,7 @@ module _ (channel : Channel) (depth : ℕ) (level : Topology) (some : Table) (is
         }
 
     -- these are the last level and its values
-    pub evaluated-to : IsRefinedTo Tables channel (control_rows controls) depth level (evaluated some controls)
+    pub evaluated-to : IsRefinedTo Tables channel (control_rows controls) depth (record { level = composed.level; rows = evaluated some controls })
     evaluated-to = record {
       fine = is.fine;
       few = is.few;

@@ -1,25 +1,25 @@
 -- The first fault of a channel, where a level has one and those before it have none.
-use Rattle.std.proofs.Common.{◌≡◌, ℕ, suc, ◌+◌, ◌-◌, ◌*◌, ◌^◌, ◌<◌, ◌≤◌, true, false, nat_lt, max, List, [], length, Some, arith, ap, sym, ◌∙◌, subst}
-use Rattle.std.specs.List.{list_any, sum_by}
+use Rattle.std.proofs.Common.{◌≡◌, ℕ, suc, ◌+◌, ◌*◌, ◌<◌, ◌≤◌, true, false, nat_lt, max, List, Some, arith, ap, sym, ◌∙◌, subst}
+use Rattle.std.specs.List.{list_any}
 use Rattle.std.proofs.lemmas.Bool.{le-ltb, lt-ltb}
 use Rattle.subdiv_model.specs.Level.{Level}
 use Rattle.subdiv_model.specs.Child.{refined_level}
 use Rattle.subdiv_model.specs.Refined.{child_denominators}
 use Rattle.subdiv_model.specs.Fault as model
-use Rattle.subdiv_model.specs.Fault.{Overflow, ChaikinOverflow, TransitionOverflow, DenominatorOverflow, ValueOverflow}
-use Rattle.subdiv_model.specs.Channel.{Channel, Asked, number_bound, entry_bound, chaikin_overflows_at, transition_overflows_at, at_some_point, channel_level, denominators_after, greatest_denominator, channel_faults, whole_levels}
+use Rattle.subdiv_model.specs.Fault.{Overflow, TransitionOverflow, DenominatorOverflow, ValueOverflow}
+use Rattle.subdiv_model.specs.Channel.{Channel, Asked, number_bound, entry_bound, chaikin_overflows_at, transition_overflows_at, at_some_point, channel_level, denominators_after, greatest_denominator, whole_levels}
 use Rattle.level_topology.specs.Topology.{Topology}
 use Rattle.level_topology.specs.Child.{ChildTopology}
-use Rattle.uniform_refiner.specs.Refined.{IsRefined, IsRefusal}
-use Rattle.uniform_refiner.specs.declared.fault.RefineFault.{RefineFault}
-use Rattle.uniform_refiner.specs.declared.fault.RefineFault.TheVariants as refuse
+use Rattle.level_walk.specs.declared.fault.Cause.{Cause}
+use Rattle.level_walk.specs.declared.fault.Cause.TheVariants as cause
+use Rattle.level_walk.specs.declared.fault.OverflowKind.TheVariants as kind
+use Rattle.uniform_refiner.specs.Refined.{IsRefined}
+use Rattle.uniform_walk.specs.Faults.{IsLevelFault}
+use Rattle.uniform_walk.specs.Step.{IsLevelCause}
+use Rattle.uniform_walk.proofs.FaultLemmas.{refused-first}
 use Rattle.primvar_refine.specs.Rows.{greatest_of}
-use Rattle.channel_refine.specs.declared.fault.CarryFault.{CarryFault}
-use Rattle.channel_refine.specs.declared.fault.CarryFault.TheVariants as carry
-use Rattle.channel_refine.specs.Refined.{IsTooLarge, IsChannelFault}
-use Rattle.channel_refine.specs.Step.{IsCarryFault}
-use Rattle.channel_refine.specs.Faults.{channel_fault_of_level, channel_fault_of_carried}
-use Rattle.channel_refine.proofs.FaultLemmas.{AsksValues, HasNoFault, has_entry_fault, no-faults, any-from-0, chaikin-first, transition-first, denominator-first, entries-first, value-first}
+use Rattle.channel_refine.specs.Step.{IsCarryCause}
+use Rattle.channel_refine.proofs.FaultLemmas.{AsksValues, HasNoFault, has_entry_fault, none-of-level, transition-first, denominator-first, entries-first, value-first}
 use Rattle.channel_refine.proofs.UniformLemmas.{AreNextNumbers, no-chaikin, no-transition, some-transition}
 use Rattle.channel_refine.proofs.ValueLemmas.{none-passes}
 
@@ -33,10 +33,6 @@ module _ (asked : Asked) (values : AsksValues asked) (channel : Channel) (k : �
 
   chaikin-none : at_some_point (chaikin_overflows_at level) level ≡ false → at_some_point (chaikin_overflows_at (channel_level channel k)) (channel_level channel k) ≡ false
   chaikin-none h = subst (λ some. at_some_point (chaikin_overflows_at some) some ≡ false) here h
-
-  chaikin-some : (v : ℕ) → v < level.point_count → chaikin_overflows_at level v ≡ true → at_some_point (chaikin_overflows_at (channel_level channel k)) (channel_level channel k) ≡ true
-  chaikin-some v exists overflows =
-      subst (λ some. at_some_point (chaikin_overflows_at some) some ≡ true) here (any-from-0 (chaikin_overflows_at level) level.point_count v exists overflows)
 
   transition-none : at_some_point (transition_overflows_at level channel.scheme) level ≡ false
       → at_some_point (transition_overflows_at (channel_level channel k) channel.scheme) (channel_level channel k) ≡ false
@@ -64,24 +60,10 @@ module _ (asked : Asked) (values : AsksValues asked) (channel : Channel) (k : �
   named : suc k ≡ k + 1
   named = omega arith
 
-  large : (count : ℕ) → count ≡ sum_by length t.level.polygons → 2 ^ 22 < count → IsTooLarge asked channel depth (k + 1) count
-  large count is_count many =
-      let before : k ≡ k + 1 - 1 = omega arith in
-      record {
-        after_level_0 = omega arith;
-        within = omega (arith, within);
-        fine = λ track. subst (λ m. channel_faults asked channel track m ≡ []) before (no-faults asked values (whole_levels channel) track k none);
-        count_is = is_count ∙ ap (λ (some : Level). sum_by length some.polygons) (here ∙ ap (refined_level channel.base) before);
-        many = many;
-      }
-
   -- the level cannot be made
-  pub first-of-level : (fault : RefineFault) → IsRefusal t fault → IsChannelFault asked channel depth (channel_fault_of_level (k + 1) fault)
-  first-of-level (refuse.TooLarge count) is = large count is.0 is.1
-  first-of-level (refuse.Chaikin v) is = λ track.
-      chaikin-first asked values (whole_levels channel) track k depth within none (chaikin-some asked values channel k none t.level here dens known v is.exists is.overflows)
-      ∙ ap (λ m. Some (Overflow track m ChaikinOverflow)) named
-  first-of-level refuse.Memory is = tt
+  pub first-of-level : (cause : Cause) → IsLevelCause t.level cause → IsLevelFault asked channel depth (k + 1) cause
+  first-of-level cause is =
+      refused-first asked channel k (λ track j h. none-of-level asked values (whole_levels channel) track j (none j h)) t.level here depth within cause is
 
   -- or nothing can be carried to it
   module _ (child : ChildTopology) (refined : IsRefined t child) (next : List ℕ) (are : next ≡ child_denominators t.level channel.scheme dens)
@@ -92,27 +74,29 @@ module _ (asked : Asked) (values : AsksValues asked) (channel : Channel) (k : �
     chaikin : at_some_point (chaikin_overflows_at (channel_level channel k)) (channel_level channel k) ≡ false
     chaikin = chaikin-none asked values channel k none t.level here dens known (no-chaikin t child refined)
 
-    pub first-of-carried : (fault : CarryFault) → IsCarryFault (max channel.greatest channel.common) t.level channel.scheme child.origins next entries fault
-        → IsChannelFault asked channel depth (channel_fault_of_carried (k + 1) fault)
-    first-of-carried carry.Transition is = λ track.
+    pub first-of-carried : (cause : Cause) → IsCarryCause (max channel.greatest channel.common) t.level channel.scheme child.origins next entries cause
+        → IsLevelFault asked channel depth (k + 1) cause
+    first-of-carried (cause.Overflow kind.Transition) is = λ track.
         transition-first asked values (whole_levels channel) track k depth within none chaikin
         (transition-some asked values channel k none t.level here dens known (some-transition t child refined channel.scheme is.0 is.1))
         ∙ ap (λ m. Some (Overflow track m TransitionOverflow)) named
-    first-of-carried carry.Denominator is = λ track.
+    first-of-carried (cause.Overflow kind.Denominator) is = λ track.
         denominator-first asked values (whole_levels channel) track k depth within none chaikin
         (transition-none asked values channel k none t.level here dens known (no-transition t child refined channel.scheme is.0))
         (ap (list_any (nat_lt number_bound)) after ∙ is.1)
         ∙ ap (λ m. Some (Overflow track m DenominatorOverflow)) named
-    first-of-carried carry.Entries is = λ track.
+    first-of-carried cause.TooManyEntries is = λ track.
         entries-first asked values (whole_levels channel) track k depth within none chaikin
         (transition-none asked values channel k none t.level here dens known (no-transition t child refined channel.scheme is.0))
         (ap (list_any (nat_lt number_bound)) after ∙ is.1) (few ∙ lt-ltb entry_bound entries is.2)
         ∙ ap (λ m. Some (model.TooLarge (model.Entries m))) named
-    first-of-carried carry.Value is = λ track.
+    first-of-carried (cause.Overflow kind.Value) is = λ track.
         value-first asked values (whole_levels channel) track k depth within none chaikin
         (transition-none asked values channel k none t.level here dens known (no-transition t child refined channel.scheme is.0))
         (ap (list_any (nat_lt number_bound)) after ∙ is.1) (few ∙ le-ltb entry_bound entries is.2)
         (lt-ltb number_bound (greatest_denominator channel (suc k) * max channel.greatest channel.common)
         (subst (λ some. number_bound < greatest_of some * max channel.greatest channel.common) (sym after) is.3))
         ∙ ap (λ m. Some (Overflow track m ValueOverflow)) named
-    first-of-carried carry.Memory is = tt
+    first-of-carried cause.Memory is = tt
+    first-of-carried (cause.TooManyFaces count) is = absurd is
+    first-of-carried (cause.Overflow kind.Chaikin) is = absurd is

@@ -14,3 +14,4 @@ mod ControlLemmas
 mod SumLemmas
 pub mod EvaluatedLemmas
 pub mod NumeratorLemmas
+pub mod PathLemmas

@@ -16,11 +16,10 @@ use Rattle.subdiv_model.specs.Support.{unit_controls, stencil_numerator}
 use Rattle.subdiv_model.specs.Channel.{Channel}
 use Rattle.mask_laws.proofs.SumLemmas.{IsOver}
 use Rattle.stencil_laws.proofs.ShareLemmas.{value-positive}
-use Rattle.level_topology.specs.Topology.{Topology}
 use Rattle.stencil_apply.specs.Table.{Share, Row, Table, IsRow, IsTable, row_at}
 use Rattle.stencil_apply.specs.Means.{numerator_of}
 use Rattle.stencil_factory.specs.Rows.{share_sum}
-use Rattle.channel_refine.specs.Composed.{IsComposedTo}
+use Rattle.channel_refine.specs.Composed.{ComposedTable, IsComposedTo}
 use Rattle.channel_refine.proofs.IdentityLemmas.{value-row}
 
 -- a share of a control that is 1 or 0, and the shares after it
@@ -70,7 +69,10 @@ numerator-is den r x positive h =
 crossed-over : (x : Value) (den : ℕ) (z : ℤ) → IsSameValue x (record { num = z; den = den }) → IsOver den x z
 crossed-over x den z same = *ℤ_comm (pos den) x.num ∙ same ∙ *ℤ_comm z (pos x.den)
 
-module _ (channel : Channel) (depth : ℕ) (level : Topology) (table : Table) (is : IsComposedTo channel depth level table) (made : IsTable table) (p control : ℕ) (inside : p < length table.rows) where
+module _ (channel : Channel) (depth : ℕ) (composed : ComposedTable) (is : IsComposedTo channel depth composed) (made : IsTable composed.table) (p control : ℕ) (inside : p < length composed.table.rows) where
+  abbrev table : Table
+  table = composed.table
+
   abbrev row : Row
   row = row_at table p
 
@@ -105,9 +107,9 @@ module _ (channel : Channel) (depth : ℕ) (level : Topology) (table : Table) (i
       subst (IsOver row.den x) sum-is (crossed-over x row.den (share_sum numbers row.shares) (subst (IsSameValue x) (value-row table numbers p inside) same))
 
 -- the numerator of a control in a row is that of its point after all steps
-pub stencil-numerators : (channel : Channel) (depth : ℕ) (level : Topology) (table : Table) → IsComposedTo channel depth level table → IsTable table → (p control : ℕ) → p < length table.rows
-    → control < channel.base.point_count → numerator_of (row_at table p).shares control ≡ stencil_numerator channel.base channel.scheme depth p control
-stencil-numerators channel depth level table is made p control inside known =
-    let value = x channel depth level table is made p control inside in
-    sym (ap (λ n. unsigned_abs value.num * n / value.den) (den-is channel depth level table is made p control inside)
-    ∙ numerator-is (row_at table p).den (numerator_of (row_at table p).shares control) value (positive channel depth level table is made p control inside) (over channel depth level table is made p control inside))
+pub stencil-numerators : (channel : Channel) (depth : ℕ) (composed : ComposedTable) → IsComposedTo channel depth composed → IsTable composed.table → (p control : ℕ)
+    → p < length composed.table.rows → control < channel.base.point_count → numerator_of (row_at composed.table p).shares control ≡ stencil_numerator channel.base channel.scheme depth p control
+stencil-numerators channel depth composed is made p control inside known =
+    let value = x channel depth composed is made p control inside in
+    sym (ap (λ n. unsigned_abs value.num * n / value.den) (den-is channel depth composed is made p control inside)
+    ∙ numerator-is (row_at composed.table p).den (numerator_of (row_at composed.table p).shares control) value (positive channel depth composed is made p control inside) (over channel depth composed is made p control inside))

@@ -1,5 +1,8 @@
 -- Results that are made of others.
-use Rattle.std.proofs.Common.{◌≡◌, Result, Ok, Err, IsOkAnd, OnOk, MatchResult, sym, subst}
+use Rattle.std.proofs.Common.{◌≡◌, ℕ, ◌+◌, ◌≤◌, Result, Ok, Err, IsErr, IsOkAnd, OnOk, MatchResult, sym, subst}
+use Rattle.subdiv_model.specs.Channel.{Channel, Asked}
+use Rattle.uniform_walk.specs.Levels.{faces_to}
+use Rattle.channel_refine.specs.Refined.{path_steps, AreRefineSteps}
 
 -- what is made of what was found, or the fault as it is
 pub mapped : {X Y E : Type 0} (found : Result X E) (result : Result Y E) (Made : X → Y → Type 0) (P : X → Type 0) (Q : E → Type 0) (P' : Y → Type 0) (Q' : E → Type 0)
@@ -21,3 +24,12 @@ pub with-steps : {X E : Type 0} (r : Result X E) (P : X → Type 0) (Q : E → T
     → MatchResult r (λ x. P x × Exact) (λ fault. Q fault × Most)
 with-steps (Ok x) P Q Exact Most p exact most = (p, exact)
 with-steps (Err fault) P Q Exact Most q exact most = (q, most)
+
+-- the steps where nothing was found
+pub none-on : {X E : Type 0} (r : Result X E) (P : Type 0) → IsErr r → OnOk r P
+none-on (Ok x) P err = absurd (cc)
+none-on (Err fault) P err = tt
+
+pub steps-failed : {X E : Type 0} (asked : Asked) (channel : Channel) (depth : ℕ) (r : Result X E) (old new : ℕ) → IsErr r
+    → (new ≤ old + faces_to channel.base depth + path_steps asked channel depth) × (old ≤ new) → AreRefineSteps asked channel depth r old new
+steps-failed asked channel depth r old new err taken = record { least = none-on r (old + path_steps asked channel depth ≤ new) err; most = taken.0; later = taken.1 }

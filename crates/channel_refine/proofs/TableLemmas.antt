@@ -15,12 +15,13 @@ use Rattle.primvar_refine.specs.Rows.{greatest_of as greatest_number}
 use Rattle.child_masks.specs.Masks.{dens_from, mask_from, masks_from}
 use Rattle.stencil_apply.specs.Table.{Row, Table, IsTable, greatest_of}
 use Rattle.stencil_factory.specs.Rows.{dens_of}
-use Rattle.stencil_factory.specs.Composed.{IsComposed, IsTableFault as is_fault}
+use Rattle.stencil_factory.specs.Composed.{IsComposed, IsTableFault}
 use Rattle.stencil_factory.specs.declared.fault.TableFault.{TableFault}
 use Rattle.stencil_factory.specs.declared.fault.TableFault.TheVariants as table
-use Rattle.channel_refine.specs.Step.{IsTableFault}
-use Rattle.channel_refine.specs.Faults.{carried_of_table}
-use Rattle.channel_refine.specs.declared.fault.CarryFault.TheVariants.{Value}
+use Rattle.level_walk.specs.declared.fault.Cause.TheVariants.{Overflow}
+use Rattle.level_walk.specs.declared.fault.OverflowKind.TheVariants.{Value}
+use Rattle.channel_refine.specs.Step.{IsTableCause}
+use Rattle.channel_refine.specs.Causes.{cause_of_table}
 use Rattle.channel_refine.proofs.IdentityLemmas.{entries-by-support}
 use Rattle.channel_refine.proofs.ValueLemmas.{none-passes}
 
@@ -28,18 +29,18 @@ use Rattle.channel_refine.proofs.ValueLemmas.{none-passes}
 pub dens-short : (table : Table) → IsTable table → All (λ den. den ≤ number_bound) (dens_of table)
 dens-short table is = All-map (λ den. den ≤ number_bound) (λ (row : Row). row.den) table.rows (λ k d h. (is.rows k d h).short)
 
--- a fault of a table, as one of what is carried
-pub table-told : (most : ℕ) (level : Level) (scheme : Scheme) (origins : List PointOrigin) (some : Table) (fault : TableFault)
-    → is_fault level scheme origins some fault → IsTableFault most level scheme origins some (carried_of_table fault)
-table-told most level scheme origins some (table.Transition v) is = (v, is)
-table-told most level scheme origins some (table.Denominator p) is =
+-- a fault of a table, as the cause of a walk
+pub table-cause : (most : ℕ) (level : Level) (scheme : Scheme) (origins : List PointOrigin) (some : Table) (fault : TableFault)
+    → IsTableFault level scheme origins some fault → IsTableCause most level scheme origins some (cause_of_table fault)
+table-cause most level scheme origins some (table.Transition v) is = (v, is)
+table-cause most level scheme origins some (table.Denominator p) is =
     (is.0, list_any_at (nat_lt number_bound) (dens_from level scheme (dens_of some) origins) p 1 is.1.exists (lt-ltb number_bound _ is.1.great))
-table-told most level scheme origins some table.TooManyEntries is = (is.0, none-passes _ is.1, is.2)
-table-told most level scheme origins some table.Memory is = tt
+table-cause most level scheme origins some table.TooManyEntries is = (is.0, none-passes _ is.1, is.2)
+table-cause most level scheme origins some table.Memory is = tt
 
 -- a value that passes its bound where all other numbers keep theirs
 pub table-over : (most : ℕ) (level : Level) (scheme : Scheme) (origins : List PointOrigin) (some next : Table) → IsComposed level scheme origins some next → IsTable next
-    → number_bound < greatest_of next * most → IsTableFault most level scheme origins some Value
+    → number_bound < greatest_of next * most → IsTableCause most level scheme origins some (Overflow Value)
 table-over most level scheme origins some next is made over = (
   is.fine,
   ap (list_any (nat_lt number_bound)) (sym is.dens) ∙ none-passes (dens_of next) (dens-short next made),

@@ -13,7 +13,7 @@ use Rattle.primvar_refine.specs.Rows.{greatest_of}
 use Rattle.child_masks.specs.Masks.{masks_from, has_origin, IsFirstTransition, HasNoTransition}
 use Rattle.uniform_walk.proofs.OriginLemmas.{has-vertex}
 use Rattle.uniform_walk.proofs.MaskLemmas.{origins-are, vertex-of, dens-are}
-use Rattle.channel_refine.proofs.FaultLemmas.{any-none, any-from-0}
+use Rattle.uniform_walk.proofs.FaultLemmas.{any-none, any-from-0}
 
 -- no number of the next level passes its bound, whose common denominators follow from these
 pub record AreNextNumbers (most : ℕ) (level : Level) (scheme : Scheme) (dens next : List ℕ) : Type 0 where

@@ -22,12 +22,13 @@ use Rattle.primvar_refine.specs.declared.fault.ValueFault.{ValueFault}
 use Rattle.primvar_refine.specs.declared.fault.ValueFault.TheVariants as value
 use Rattle.primvar_refine.specs.Rows.{Row, row_at, dens_of, AreWithin, rounded_up, least_bound, greatest_of}
 use Rattle.child_masks.specs.Masks.{mask_from, masks_from, CanRefine}
-use Rattle.primvar_refine.specs.Step.{AreRefined, refined_dens, IsValueFault as is_fault}
+use Rattle.primvar_refine.specs.Step.{AreRefined, refined_dens, IsValueFault}
 use Rattle.child_masks.proofs.DenLemmas.{den-positive}
 use Rattle.primvar_refine.proofs.SurveyLemmas.{good-positive}
-use Rattle.channel_refine.specs.Step.{AreValues, AreCarried, IsValueFault}
-use Rattle.channel_refine.specs.Faults.{carried_of_value}
-use Rattle.channel_refine.specs.declared.fault.CarryFault.TheVariants.{Value}
+use Rattle.level_walk.specs.declared.fault.Cause.TheVariants.{Overflow}
+use Rattle.level_walk.specs.declared.fault.OverflowKind.TheVariants.{Value}
+use Rattle.channel_refine.specs.Step.{AreValues, AreCarried, IsValueCause}
+use Rattle.channel_refine.specs.Causes.{cause_of_value}
 use Rattle.channel_refine.proofs.DenominatorLemmas.{each-below}
 
 -- no denominator passes its bound
@@ -60,23 +61,23 @@ pub too-big : (rows : List Row) (most great : ℕ) → All (λ row. 0 < row.den)
 too-big rows most great positive within h =
     let more = mul-le-mul_left great (bound-below rows most positive within) in omega (arith, h, more)
 
--- a fault of values, as one of what is carried
-pub value-told : (most : ℕ) (t : Topology) (scheme : Scheme) (origins : List PointOrigin) (rows : List Row) (fault : ValueFault) → AreValues most t rows
-    → is_fault t.level scheme origins rows fault → IsValueFault most t.level scheme origins rows (carried_of_value fault)
-value-told most t scheme origins rows (value.Transition v) are is = (v, is)
-value-told most t scheme origins rows (value.Denominator p) are is =
+-- a fault of values, as the cause of a walk
+pub value-cause : (most : ℕ) (t : Topology) (scheme : Scheme) (origins : List PointOrigin) (rows : List Row) (fault : ValueFault) → AreValues most t rows
+    → IsValueFault t.level scheme origins rows fault → IsValueCause most t.level scheme origins rows (cause_of_value fault)
+value-cause most t scheme origins rows (value.Transition v) are is = (v, is)
+value-cause most t scheme origins rows (value.Denominator p) are is =
     (is.0, list_any_at (nat_lt number_bound) (refined_dens t.level scheme origins rows) p 1 is.1.exists (lt-ltb number_bound _ is.1.great))
-value-told most t scheme origins rows (value.TooBig p) are is = (
+value-cause most t scheme origins rows (value.TooBig p) are is = (
   is.0,
   none-passes _ is.1.short,
   omega arith,
   too-big rows most _ are.good.positive are.within is.1.great,
 )
-value-told most t scheme origins rows value.Memory are is = tt
+value-cause most t scheme origins rows value.Memory are is = tt
 
 -- values that pass their bound where all other numbers keep theirs
 pub value-over : (most : ℕ) (level : Level) (scheme : Scheme) (origins : List PointOrigin) (rows next : List Row) → AreRefined level scheme origins rows next
-    → number_bound < greatest_of (dens_of next) * most → IsValueFault most level scheme origins rows Value
+    → number_bound < greatest_of (dens_of next) * most → IsValueCause most level scheme origins rows (Overflow Value)
 value-over most level scheme origins rows next are over = (
   are.fine,
   ap (list_any (nat_lt number_bound)) (sym are.dens) ∙ none-passes (dens_of next) are.short,

@@ -10,16 +10,21 @@ use Rattle.level_topology.specs.Topology.{Topology}
 use Rattle.stencil_apply.specs.Table.{Table, greatest_of}
 use Rattle.stencil_factory.specs.Rows.{supports_of, dens_of, row_values, AreSameValues}
 
+-- a level, and the table of its points over those of level 0
+pub record ComposedTable : Type 0 where
+  pub level : Topology
+  pub table : Table
+
 -- No level has a fault, and none of the levels before the last has too many corners. This is the last level, and each row of the
 -- table has the controls that its point depends on and the point's common denominator, and makes its value of all controls. The
 -- greatest denominator times the greatest control number, or times the channel's own denominator, is within the bound of numbers.
-pub record IsComposedTo (channel : Channel) (depth : ℕ) (level : Topology) (table : Table) : Type 0 where
+pub record IsComposedTo (channel : Channel) (depth : ℕ) (composed : ComposedTable) : Type 0 where
   pub fine : (track : Track) → channel_faults Tables channel track depth ≡ []
   pub few : (k : ℕ) → k < depth → sum_by length (channel_level channel k).polygons ≤ 2 ^ 22
-  pub level_is : level.level ≡ channel_level channel depth
-  pub controls : table.controls ≡ channel.base.point_count
-  pub dens : dens_of table ≡ denominators_after channel depth
-  pub supports : supports_of table ≡ refined_supports channel.base channel.scheme depth
+  pub level_is : composed.level.level ≡ channel_level channel depth
+  pub controls : composed.table.controls ≡ channel.base.point_count
+  pub dens : dens_of composed.table ≡ denominators_after channel depth
+  pub supports : supports_of composed.table ≡ refined_supports channel.base channel.scheme depth
   pub values : (numbers : List ℤ) → length numbers ≡ channel.base.point_count
-      → AreSameValues (refined_values channel.base channel.scheme (control_values numbers) depth) (row_values table numbers)
-  pub fits : greatest_of table * max channel.greatest channel.common ≤ number_bound
+      → AreSameValues (refined_values channel.base channel.scheme (control_values numbers) depth) (row_values composed.table numbers)
+  pub fits : greatest_of composed.table * max channel.greatest channel.common ≤ number_bound

@@ -1,5 +1,7 @@
+pub mod Base
 pub mod Refined
 pub mod Step
-pub mod Faults
+pub mod Causes
 pub mod Composed
 pub mod Evaluated
+pub mod View

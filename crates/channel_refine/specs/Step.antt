@@ -8,13 +8,14 @@ use Rattle.subdiv_model.specs.Channel.{number_bound, entry_bound}
 use Rattle.level_topology.specs.Topology.{Topology}
 use Rattle.level_topology.specs.Child.{PointOrigin}
 use Rattle.primvar_refine.specs.Rows.{Row, dens_of, AreGood, AreWithin, greatest_of}
-use Rattle.child_masks.specs.Masks.{IsFirstTransition, IsFirstDenominator, HasNoTransition, step_terms, dens_from}
+use Rattle.child_masks.specs.Masks.{IsFirstTransition, HasNoTransition, step_terms, dens_from}
 use Rattle.primvar_refine.specs.Step.{refined_dens, AreRefined}
 use Rattle.stencil_apply.specs.Table.{Table, IsTable, greatest_of as greatest_in}
 use Rattle.stencil_factory.specs.Rows.{dens_of as dens_of_table}
 use Rattle.stencil_factory.specs.Composed.{IsComposed, entries_from}
-use Rattle.channel_refine.specs.declared.fault.CarryFault.{CarryFault}
-use Rattle.channel_refine.specs.declared.fault.CarryFault.TheVariants.{Transition, Denominator, Entries, Value, Memory}
+use Rattle.level_walk.specs.declared.fault.Cause.{Cause}
+use Rattle.level_walk.specs.declared.fault.Cause.TheVariants.{TooManyFaces, Overflow, TooManyEntries, Memory}
+use Rattle.level_walk.specs.declared.fault.OverflowKind.TheVariants.{Chaikin, Transition, Denominator, Value}
 
 -- a value for each point of a level, of at most so much in amount
 pub record AreValues (most : ℕ) (t : Topology) (rows : List Row) : Type 0 where
@@ -35,24 +36,26 @@ pub record IsCarried (most : ℕ) (level : Level) (scheme : Scheme) (origins : L
 
 -- Why numbers cannot be carried to points with these common denominators, in rows with so many entries: the first that passes its
 -- bound; memory may run out at any level.
-abbrev pub IsCarryFault : ℕ → Level → Scheme → List PointOrigin → List ℕ → ℕ → CarryFault → Type 0
-IsCarryFault most level scheme origins dens entries Transition = (v : ℕ) × IsFirstTransition level scheme origins v
-IsCarryFault most level scheme origins dens entries Denominator =
+abbrev pub IsCarryCause : ℕ → Level → Scheme → List PointOrigin → List ℕ → ℕ → Cause → Type 0
+IsCarryCause most level scheme origins dens entries (Overflow Transition) = (v : ℕ) × IsFirstTransition level scheme origins v
+IsCarryCause most level scheme origins dens entries (Overflow Denominator) =
     HasNoTransition level scheme origins × (list_any (nat_lt number_bound) dens ≡ true)
-IsCarryFault most level scheme origins dens entries Entries =
+IsCarryCause most level scheme origins dens entries TooManyEntries =
     HasNoTransition level scheme origins × (list_any (nat_lt number_bound) dens ≡ false) × (entry_bound < entries)
-IsCarryFault most level scheme origins dens entries Value =
+IsCarryCause most level scheme origins dens entries (Overflow Value) =
     HasNoTransition level scheme origins × (list_any (nat_lt number_bound) dens ≡ false) × (entries ≤ entry_bound) × (number_bound < greatest_of dens * most)
-IsCarryFault most level scheme origins dens entries Memory = Unit {0}
+IsCarryCause most level scheme origins dens entries Memory = Unit {0}
+IsCarryCause most level scheme origins dens entries (TooManyFaces count) = ⊥
+IsCarryCause most level scheme origins dens entries (Overflow Chaikin) = ⊥
 
 -- of values, which have no entries
-abbrev pub IsValueFault : ℕ → Level → Scheme → List PointOrigin → List Row → CarryFault → Type 0
-IsValueFault most level scheme origins rows fault = IsCarryFault most level scheme origins (refined_dens level scheme origins rows) 0 fault
+abbrev pub IsValueCause : ℕ → Level → Scheme → List PointOrigin → List Row → Cause → Type 0
+IsValueCause most level scheme origins rows cause = IsCarryCause most level scheme origins (refined_dens level scheme origins rows) 0 cause
 
 -- of a table
-abbrev pub IsTableFault : ℕ → Level → Scheme → List PointOrigin → Table → CarryFault → Type 0
-IsTableFault most level scheme origins table fault =
-    IsCarryFault most level scheme origins (dens_from level scheme (dens_of_table table) origins) (entries_from level scheme origins table) fault
+abbrev pub IsTableCause : ℕ → Level → Scheme → List PointOrigin → Table → Cause → Type 0
+IsTableCause most level scheme origins table cause =
+    IsCarryCause most level scheme origins (dens_from level scheme (dens_of_table table) origins) (entries_from level scheme origins table) cause
 
 -- at most one step is taken for each mask term
 pub record AreTermSteps (level : Level) (scheme : Scheme) (origins : List PointOrigin) (old new : ℕ) : Type 0 where

@@ -1,22 +1,17 @@
 //! The values of a channel, carried from level to level within the bounds of their numbers.
 
-ghost use Rattle.std.specs.Prelude.{◌≡◌, ℕ, ◌+◌, ◌*◌, ◌≤◌, nat_le, List, map, IfOk, MatchResult, OnOk};
+ghost use Rattle.std.specs.Prelude.{◌≡◌, ◌+◌, ◌*◌, ◌≤◌, nat_le, map, IfOk, MatchResult, OnOk};
 ghost use Rattle.subdiv_model.specs.Channel.{number_bound};
-ghost use Rattle.subdiv_model.specs.Level.{Level as model_level};
-ghost use Rattle.subdiv_model.specs.Mask.{Scheme as model_scheme, CatmullClark};
-ghost use Rattle.level_topology.specs.Child.{PointOrigin};
-ghost use Rattle.level_topology.specs.Topology.{Topology};
+ghost use Rattle.subdiv_model.specs.Mask.{CatmullClark};
 ghost use Rattle.mask_rules.specs.View.{scheme_of};
-ghost use Rattle.primvar_refine.specs.Rows.{Row, greatest_of};
+ghost use Rattle.primvar_refine.specs.Rows.{greatest_of};
 ghost use Rattle.primvar_refine.specs.View.{rows_of};
 ghost use Rattle.child_masks.specs.Masks.{CanRefine, step_terms};
-ghost use Rattle.primvar_refine.specs.Step.{IsValueFault as is_fault};
-ghost use Rattle.channel_refine.specs.Step.{AreValues, AreCarried, IsValueFault};
-ghost use Rattle.channel_refine.specs.Faults.{carried_of_value};
+ghost use Rattle.channel_refine.specs.Step.{AreValues, AreCarried, IsValueCause};
+ghost use Rattle.channel_refine.specs.Causes.{cause_of_value};
 
-use crate::fault::CarryFault;
 use level_topology::{Child, Level};
-use level_walk::Carrier;
+use level_walk::{Carrier, Cause, OverflowKind};
 use mask_rules::Scheme;
 use primvar_refine::{ValueFault, Valued, refine_values};
 use ratio128::limits::NUMBER_BOUND;
@@ -44,14 +39,14 @@ fn fits<P>(values: &[Valued<P>], most: u128) -> bool
 }
 
 // Why the points of a child have no values.
-fn value_fault(fault: ValueFault) -> CarryFault
-    ensures { result ≡ carried_of_value fault }
+fn value_cause(fault: ValueFault) -> Cause
+    ensures { result ≡ cause_of_value fault }
 {
     match fault {
-        ValueFault::Transition(_) => CarryFault::Transition,
-        ValueFault::Denominator(_) => CarryFault::Denominator,
-        ValueFault::TooBig(_) => CarryFault::Value,
-        ValueFault::Memory => CarryFault::Memory,
+        ValueFault::Transition(_) => Cause::Overflow(OverflowKind::Transition),
+        ValueFault::Denominator(_) => Cause::Overflow(OverflowKind::Denominator),
+        ValueFault::TooBig(_) => Cause::Overflow(OverflowKind::Value),
+        ValueFault::Memory => Cause::Memory,
     }
 }
 
@@ -65,12 +60,12 @@ fn next_values<P: Primvar<L>, L: Ledger>(
     most: u128,
     scheme: Scheme,
     steps: &mut Steps<L>,
-) -> Result<Vec<Valued<P>>, CarryFault>
+) -> Result<Vec<Valued<P>>, Cause>
     requires values { AreValues most level.now (rows_of P.numbers values.now) }
     requires child { CanRefine level.now child.now CatmullClark }
     ensures refined { MatchResult result
         (λ next. AreCarried most level.now.level (scheme_of scheme) child.now.origins (rows_of P.numbers values.now) (rows_of P.numbers next.items))
-        (λ fault. IsValueFault most level.now.level (scheme_of scheme) child.now.origins (rows_of P.numbers values.now) fault) }
+        (λ cause. IsValueCause most level.now.level (scheme_of scheme) child.now.origins (rows_of P.numbers values.now) cause) }
     ensures values { IfOk result (λ next. AreValues most child.now.topology (rows_of P.numbers next.items)) }
     ensures taken { OnOk result (steps.new ≡ steps.old + step_terms level.now.level (scheme_of scheme) child.now.origins) }
     ensures steps { steps.new ≤ steps.old + step_terms level.now.level (scheme_of scheme) child.now.origins }
@@ -80,10 +75,10 @@ fn next_values<P: Primvar<L>, L: Ledger>(
     child.facts();
     let next = match refine_values(alloc, level, child, values, scheme, steps) {
         Ok(next) => next,
-        Err(fault) => return Err(value_fault(fault)),
+        Err(fault) => return Err(value_cause(fault)),
     };
     if !fits(&next, most) {
-        return Err(CarryFault::Value);
+        return Err(Cause::Overflow(OverflowKind::Value));
     }
     Ok(next)
 }
@@ -101,13 +96,11 @@ pub struct ByValues<P> {
 impl<P: Primvar<L>, L: Ledger> Carrier<L> for ByValues<P> {
     type Carried = Vec<Valued<P>>;
 
-    type Fault = CarryFault;
-
     ghost use Rattle.std.specs.Prelude.{◌≡◌, ◌+◌};
     ghost use Rattle.mask_rules.specs.View.{scheme_of};
     ghost use Rattle.child_masks.specs.Masks.{step_terms};
     ghost use Rattle.primvar_refine.specs.View.{rows_of};
-    ghost use Rattle.channel_refine.specs.Step.{AreValues, AreCarried, IsValueFault, AreTermSteps};
+    ghost use Rattle.channel_refine.specs.Step.{AreValues, AreCarried, IsValueCause, AreTermSteps};
 
     ghost Fits = { λ by t values. AreValues by.most t (rows_of P.numbers values.items) };
 
@@ -115,8 +108,8 @@ impl<P: Primvar<L>, L: Ledger> Carrier<L> for ByValues<P> {
         AreCarried by.most t.level (scheme_of by.scheme) child.origins (rows_of P.numbers values.items) (rows_of P.numbers next.items)
         × (new ≡ old + step_terms t.level (scheme_of by.scheme) child.origins) };
 
-    ghost Fails = { λ by t child values fault old new.
-        IsValueFault by.most t.level (scheme_of by.scheme) child.origins (rows_of P.numbers values.items) fault × AreTermSteps t.level (scheme_of by.scheme) child.origins old new };
+    ghost Fails = { λ by t child values cause old new.
+        IsValueCause by.most t.level (scheme_of by.scheme) child.origins (rows_of P.numbers values.items) cause × AreTermSteps t.level (scheme_of by.scheme) child.origins old new };
 
     fn follow(
         &self,
@@ -125,7 +118,7 @@ impl<P: Primvar<L>, L: Ledger> Carrier<L> for ByValues<P> {
         child: &Child,
         before: &Vec<Valued<P>>,
         steps: &mut Steps<L>,
-    ) -> Result<Vec<Valued<P>>, CarryFault> {
+    ) -> Result<Vec<Valued<P>>, Cause> {
         next_values(alloc, parent, child, before, self.most, self.scheme, steps)
     }
 }

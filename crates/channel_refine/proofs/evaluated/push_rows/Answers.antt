@@ -1,5 +1,5 @@
 use Rattle.std.proofs.lemmas.Grind.{common_steps}
-use Rattle.std.proofs.Common.{length, arith, map, ap, sym, ◌∙◌}
+use Rattle.std.proofs.Common.{arith, map, ap, sym, ◌∙◌}
 use Rattle.std.proofs.lemmas.List.{take_all, length-map}
 use Rattle.stencil_apply.specs.Table.{entries_of}
 use Rattle.primvar_refine.specs.View.{rows_of}

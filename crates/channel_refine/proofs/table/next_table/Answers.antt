@@ -1,8 +1,8 @@
 use Rattle.std.proofs.Common.{sym, subst}
 use Rattle.mask_rules.specs.View.{scheme_of}
 use Rattle.level_walk.proofs.PromiseLemmas.{for-scheme}
-use Rattle.channel_refine.specs.Step.{IsTableFault}
-use Rattle.channel_refine.proofs.TableLemmas.{table-told, table-over, rows-next, test-fits, test-over}
+use Rattle.channel_refine.specs.Step.{IsTableCause}
+use Rattle.channel_refine.proofs.TableLemmas.{table-cause, table-over, rows-next, test-fits, test-over}
 use Rattle.channel_refine.proofs.table.next_table.Goals as goal
 
 pub compose_level-requires-clause-child : goal.compose_level-requires-clause-child
@@ -10,8 +10,8 @@ compose_level-requires-clause-child c = for-scheme c.args.level.now c.args.child
 
 pub returns-in-Err-clause-composed : goal.returns-in-Err-clause-composed
 returns-in-Err-clause-composed c =
-    subst (λ f. IsTableFault c.args.most c.args.level.now.level (scheme_of c.args.scheme) c.args.child.now.origins c.args.table.now f) (sym c.table_fault.ensures)
-    (table-told c.args.most c.args.level.now.level (scheme_of c.args.scheme) c.args.child.now.origins c.args.table.now _ c.in-Err.ensures)
+    subst (λ f. IsTableCause c.args.most c.args.level.now.level (scheme_of c.args.scheme) c.args.child.now.origins c.args.table.now f) (sym c.table_cause.ensures)
+    (table-cause c.args.most c.args.level.now.level (scheme_of c.args.scheme) c.args.child.now.origins c.args.table.now _ c.in-Err.ensures)
 
 pub returns-then-not-scale_fits-clause-composed : goal.returns-then-not-scale_fits-clause-composed
 returns-then-not-scale_fits-clause-composed c =

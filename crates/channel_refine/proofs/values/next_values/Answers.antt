@@ -2,8 +2,8 @@ use Rattle.std.proofs.Common.{sym, subst}
 use Rattle.mask_rules.specs.View.{scheme_of}
 use Rattle.level_walk.proofs.PromiseLemmas.{for-scheme}
 use Rattle.primvar_refine.specs.View.{rows_of}
-use Rattle.channel_refine.specs.Step.{IsValueFault}
-use Rattle.channel_refine.proofs.ValueLemmas.{value-told, values-next, value-over, test-fits, test-over}
+use Rattle.channel_refine.specs.Step.{IsValueCause}
+use Rattle.channel_refine.proofs.ValueLemmas.{value-cause, values-next, value-over, test-fits, test-over}
 use Rattle.channel_refine.proofs.values.next_values.Goals as goal
 
 pub refine_values-requires-clause-child : goal.refine_values-requires-clause-child
@@ -11,8 +11,8 @@ refine_values-requires-clause-child g c = for-scheme c.args.level.now c.args.chi
 
 pub returns-in-Err-clause-refined : goal.returns-in-Err-clause-refined
 returns-in-Err-clause-refined g c =
-    subst (λ f. IsValueFault c.args.most c.args.level.now.level (scheme_of c.args.scheme) c.args.child.now.origins (rows_of g.P.Primvar.numbers c.args.values.now) f) (sym c.value_fault.ensures)
-    (value-told c.args.most c.args.level.now (scheme_of c.args.scheme) c.args.child.now.origins (rows_of g.P.Primvar.numbers c.args.values.now) _ c.requires.values c.in-Err.ensures.refined)
+    subst (λ f. IsValueCause c.args.most c.args.level.now.level (scheme_of c.args.scheme) c.args.child.now.origins (rows_of g.P.Primvar.numbers c.args.values.now) f) (sym c.value_cause.ensures)
+    (value-cause c.args.most c.args.level.now (scheme_of c.args.scheme) c.args.child.now.origins (rows_of g.P.Primvar.numbers c.args.values.now) _ c.requires.values c.in-Err.ensures.refined)
 
 pub returns-then-not-fits-clause-refined : goal.returns-then-not-fits-clause-refined
 returns-then-not-fits-clause-refined g c =

@@ -1,0 +1,77 @@
+//! A channel before it is refined.
+
+ghost use Rattle.std.specs.Prelude.{◌≡◌, ◌≤◌, max};
+ghost use Rattle.subdiv_model.specs.Channel.{number_bound};
+ghost use Rattle.mask_rules.specs.View.{scheme_of};
+ghost use Rattle.channel_refine.specs.Base.{IsBase, channel_of};
+
+use level_topology::Level;
+use mask_rules::Scheme;
+use std::marker::Model;
+
+/// A channel before it is refined: its level 0 and its scheme, the greatest amount of its control numbers, and the denominator
+/// that all of them stand over.
+#[derive(Drop)]
+pub struct BaseChannel {
+    level: Level,
+    scheme: Scheme,
+    greatest: u128,
+    common: u128,
+}
+
+impl Model for BaseChannel {
+    ghost use Rattle.subdiv_model.specs.Channel.{Channel};
+    ghost use Rattle.mask_rules.specs.View.{scheme_of};
+    ghost use Rattle.channel_refine.specs.Base.{IsBaseOf, channel_of};
+
+    ghost Value = { Channel };
+
+    ghost view = { λ c. channel_of c.level.level (scheme_of c.scheme) c.greatest c.common };
+
+    ghost invariant = { λ c. IsBaseOf c.level c.greatest c.common };
+}
+
+impl BaseChannel {
+    /// The channel of a level 0, where both numbers are at most 2^126 - 1.
+    pub fn new(level: Level, scheme: Scheme, greatest: u128, common: u128) -> BaseChannel
+        requires base { IsBase level }
+        requires short { max greatest common ≤ number_bound }
+        ensures { result ≡ channel_of level.level (scheme_of scheme) greatest common }
+    {
+        BaseChannel {
+            level,
+            scheme,
+            greatest,
+            common,
+        }
+    }
+
+    /// Both numbers are at most 2^126 - 1.
+    pub fn facts(&self)
+        ensures { max self.now.greatest self.now.common ≤ number_bound }
+    {
+        let _ = &self.level;
+    }
+
+    // The scheme.
+    pub(crate) fn scheme(&self) -> Scheme
+        ensures { scheme_of result ≡ self.now.scheme }
+    {
+        self.scheme
+    }
+
+    // The greater of the greatest control number and the denominator.
+    pub(crate) fn most(&self) -> u128
+        ensures { result ≡ max self.now.greatest self.now.common }
+    {
+        self.greatest.max(self.common)
+    }
+
+    // Level 0 without the rest.
+    pub(crate) fn into_level(self) -> Level
+        ensures base { IsBase result }
+        ensures level { result.level ≡ self.base }
+    {
+        self.level
+    }
+}

@@ -1,0 +1,82 @@
+//! A channel refined by its table or level by level.
+
+ghost use Rattle.std.specs.Prelude.{◌≡◌, ◌≤◌, map, IfOk, MatchResult};
+ghost use Rattle.subdiv_model.specs.Channel.{Values};
+ghost use Rattle.uniform_walk.specs.Faults.{IsChannelFault};
+ghost use Rattle.channel_refine.specs.Refined.{AreControls, IsRefinedTo, AreRefineSteps};
+ghost use Rattle.channel_refine.specs.Evaluated.{control_rows};
+ghost use Rattle.channel_refine.specs.View.{asked_of_path, control_of, refined_of};
+
+use crate::base::BaseChannel;
+use crate::by_table::refine_by_table;
+use crate::refine::{RefinedChannel, refine_channel};
+use level_walk::WalkFault;
+use primvar_refine::Valued;
+use ratio128::{Memory, Primvar, Steps};
+use std::alloc::Global;
+use std::sync::ledger::Ledger;
+
+/// How a channel comes to a depth.
+#[derive(Clone, Copy, Debug, PartialEq, Eq)]
+pub enum Path {
+    /// By its table, which is evaluated once.
+    Table,
+    /// Level by level.
+    Levels,
+}
+
+// Control numbers as values, each over 1.
+fn controls_of<P: Copy + Drop>(alloc: Global, numbers: &[P]) -> Result<Vec<Valued<P>>, Memory>
+    ensures { IfOk result (λ controls. controls.items ≡ map control_of numbers.now) }
+{
+    let mut controls = Vec::with_capacity(alloc, numbers.len())?;
+    for value in numbers {
+        controls.push(Valued {
+            value: *value,
+            den: 1,
+        })?;
+    }
+    Ok(controls)
+}
+
+// A channel refined level by level.
+fn refine_by_levels<P: Primvar<L> + Copy, L: Ledger>(
+    alloc: Global,
+    base: BaseChannel,
+    controls: &[P],
+    depth: u32,
+    steps: &mut Steps<L>,
+) -> Result<RefinedChannel<P>, WalkFault>
+    requires depth { depth ≤ 10 }
+    requires controls { AreControls base (control_rows (map P.numbers controls.now)) }
+    ensures refined { MatchResult result
+        (λ refined. IsRefinedTo Values base (control_rows (map P.numbers controls.now)) depth (refined_of P.numbers refined))
+        (λ fault. IsChannelFault Values base depth fault) }
+    ensures steps { AreRefineSteps Values base depth result steps.old steps.new }
+{
+    let values = controls_of(alloc, controls)?;
+    refine_channel(alloc, base, values, depth, steps)
+}
+
+/// A channel refined to a depth of at most 10 from the control values of the points of level 0, by its table or level by level:
+/// see [`refine_by_table`] and [`refine_channel`].
+pub fn refine_along<P: Primvar<L> + Copy, L: Ledger>(
+    alloc: Global,
+    base: BaseChannel,
+    controls: &[P],
+    path: Path,
+    depth: u32,
+    steps: &mut Steps<L>,
+) -> Result<RefinedChannel<P>, WalkFault>
+    requires depth { depth ≤ 10 }
+    requires controls { AreControls base (control_rows (map P.numbers controls.now)) }
+    ensures refined { MatchResult result
+        (λ refined. IsRefinedTo (asked_of_path path) base (control_rows (map P.numbers controls.now)) depth (refined_of P.numbers refined))
+        (λ fault. IsChannelFault (asked_of_path path) base depth fault) }
+    ensures steps { AreRefineSteps (asked_of_path path) base depth result steps.old steps.new }
+{
+    match path {
+        Path::Table => refine_by_table(alloc, base, controls, depth, steps),
+        Path::Levels => refine_by_levels(alloc, base, controls, depth, steps),
+    }
+}
