@@ -29,7 +29,7 @@ pub count-most : (test : ℕ → Bool) (n count more : ℕ) (passes : Bool) → 
 count-most test n count more passes em ep ec =
     omega (arith, count-next test n count more passes em ep ec, count_by-le-length test (range_with_len 0 (n + 1)), length-range_with_len 0 (n + 1))
 
--- the same of the items of a list, one after another
+-- one item more of a list, which passes or does not
 pub list-next : {X : Type 0} (test : X → Bool) (xs : List X) (i : ℕ) (d : X) (count more : ℕ) (passes : Bool) → i < length xs → more ≡ from_bool passes → passes ≡ test (get_or xs i d)
     → count ≡ count_by test (take i xs) → count + more ≡ count_by test (take (i + 1) xs)
 list-next test xs i d count more passes inside em ep ec = go passes em ep

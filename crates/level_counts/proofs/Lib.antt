@@ -1,5 +1,3 @@
 mod CountLemmas
 mod PointLemmas
-mod LineLemmas
-mod LevelsLemmas
 pub mod SeriesLemmas

@@ -1,4 +1,2 @@
 pub mod Counts
 pub mod View
-pub mod Words
-pub mod Series

@@ -1,66 +1,22 @@
 //! The counts of the levels to a depth, of which one is kept at a time.
 
-ghost use Rattle.std.specs.Prelude.{◌≡◌, ℕ, ◌+◌, ◌^◌, ◌≤◌, true, length, map, replicate, [], ◌∷◌, ◌++◌, Ok, Err, IfOk, MatchResult, IsTrue};
+ghost use Rattle.std.specs.Prelude.{◌≡◌, ◌+◌, ◌^◌, ◌≤◌, true, map, replicate, [], ◌∷◌, ◌++◌, IfOk, MatchResult, IsTrue};
 ghost use Rattle.std.specs.List.{range_with_len};
 ghost use Rattle.subdiv_model.specs.Child.{refined_level};
+ghost use Rattle.subdiv_model.specs.Channel.{Channel, Sharpnesses};
 ghost use Rattle.mask_laws.specs.SharpBoundary.{has_sharp_boundary};
-ghost use Rattle.uniform_walk.specs.Levels.{AreMade, faces_to};
+ghost use Rattle.uniform_walk.specs.Faults.{IsChannelFault};
+ghost use Rattle.uniform_walk.specs.Levels.{AreMade, AreLevelSteps};
 ghost use Rattle.level_counts.specs.Counts.{counts_of};
-ghost use Rattle.level_counts.specs.Series.{IsSeriesFault, series_fault_of};
 ghost use Rattle.level_counts.specs.View.{seen_counts};
 
 use crate::counts::LevelCounts;
 use level_topology::Level;
-use level_walk::{Cause, Never, Nothing, Reached, Visitor, WalkFault, walk};
+use level_walk::{Nothing, Reached, Visitor, WalkFault, walk};
 use ratio128::{Memory, Steps};
 use std::alloc::Global;
 use std::sync::ledger::Ledger;
-use uniform_refiner::RefineFault;
 use uniform_walk::Uniform;
-
-/// Why the levels to a depth cannot all be made: the number of the first that cannot, from 1, and why.
-#[derive(Clone, Copy, Debug, PartialEq, Eq)]
-pub enum SeriesFault {
-    /// The level would have so many faces, and that is too many.
-    TooLarge { level: u32, count: u64 },
-    /// The halves of semi-sharp edges pass the bounds of a sharpness.
-    Chaikin { level: u32 },
-    /// Memory ran out.
-    Memory,
-}
-
-impl From<Memory> for SeriesFault {
-    ghost use Rattle.std.specs.Prelude.{◌≡◌};
-    ghost use Rattle.level_counts.specs.declared.series.SeriesFault.TheVariants as fault;
-
-    ghost from_gives = { λ _ e. e ≡ fault.Memory };
-
-    fn from(_: Memory) -> SeriesFault {
-        SeriesFault::Memory
-    }
-}
-
-// The fault of a walk that carries nothing, as that of the levels.
-fn series_fault(fault: WalkFault<RefineFault, Never>) -> SeriesFault
-    ensures { result ≡ series_fault_of fault }
-{
-    let level = fault.level;
-    match fault.cause {
-        Cause::Level(RefineFault::TooLarge(count)) => SeriesFault::TooLarge { level, count },
-        Cause::Level(RefineFault::Chaikin(_)) => SeriesFault::Chaikin { level },
-        _ => SeriesFault::Memory,
-    }
-}
-
-// What a walk reaches, or its fault as that of the levels.
-fn walked<T>(reached: Result<T, WalkFault<RefineFault, Never>>) -> Result<T, SeriesFault>
-    ensures { MatchResult reached (λ reached. result ≡ Ok reached) (λ fault. result ≡ Err (series_fault_of fault)) }
-{
-    match reached {
-        Ok(reached) => Ok(reached),
-        Err(fault) => Err(series_fault(fault)),
-    }
-}
 
 // The counts of the levels that were left behind.
 #[derive(Drop)]
@@ -115,23 +71,22 @@ pub fn count_levels<L: Ledger>(
     base: Level,
     depth: u32,
     steps: &mut Steps<L>,
-) -> Result<Vec<LevelCounts>, SeriesFault>
+) -> Result<Vec<LevelCounts>, WalkFault>
     requires depth { depth ≤ 10 }
     requires points { base.level.point_count ≤ 2 ^ 27 }
     requires whole { base.complete ≡ replicate base.level.point_count true }
     requires boundary { IsTrue (has_sharp_boundary base.level) }
     ensures counted { MatchResult result
         (λ counts. (map seen_counts counts.items ≡ map (λ k. counts_of (refined_level base.level k)) (range_with_len 0 (depth + 1))) × AreMade base.level depth)
-        (λ fault. IsSeriesFault base.level depth fault) }
-    ensures steps { steps.new ≤ steps.old + faces_to base.level depth }
-    ensures later { steps.old ≤ steps.new }
+        (λ fault. (channel : Channel) → channel.base ≡ base.level → IsChannelFault Sharpnesses channel depth fault) }
+    ensures steps { AreLevelSteps base.level depth steps.old steps.new }
 {
     let mut counting = Counting::with_room(alloc, depth)?;
     let start = Reached {
         level: base,
         carried: (),
     };
-    let end = walked(walk(
+    let end = walk(
         alloc,
         &Uniform,
         &Nothing,
@@ -139,7 +94,7 @@ pub fn count_levels<L: Ledger>(
         start,
         depth,
         steps,
-    ))?;
+    )?;
     let counts = with_last(counting, end.level)?;
     Ok(counts)
 }

@@ -1,0 +1,11 @@
+mod LineLemmas
+mod ListLemmas
+mod PartsLemmas
+mod NumberedLemmas
+mod RoundingLemmas
+mod TableLineLemmas
+pub mod LevelsLemmas
+pub mod SameTextLemmas
+pub mod SameTextureLemmas
+pub mod SameTableLemmas
+pub mod SameSummaryLemmas

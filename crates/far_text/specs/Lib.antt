@@ -1,0 +1,9 @@
+pub mod Points
+pub mod Texture
+pub mod Lines
+pub mod TableText
+pub mod Levels
+pub mod Summary
+pub mod TableLines
+pub mod Mesh
+pub mod Reply

@@ -1,0 +1,22 @@
+-- The text of a reply, and what must hold so that it can be put.
+use Rattle.std.specs.Prelude.{ℕ, List, map}
+use Rattle.level_counts.specs.View.{seen_counts}
+use Rattle.far_text.specs.Levels.{levels_lines}
+use Rattle.far_text.specs.Mesh.{CanBePut, refined_text}
+use Rattle.far_text.specs.Summary.{CanSummaryBeWritten, summary_text}
+use Rattle.far_text.specs.TableText.{text_of_table}
+use Rattle.far_text.specs.declared.reply.Reply.{Reply}
+use Rattle.far_text.specs.declared.reply.Reply.TheVariants.{Refined, Table, Counts, Sheet}
+
+abbrev pub reply_text : Reply → List ℕ
+reply_text (Refined mesh form) = refined_text mesh form
+reply_text (Table table) = text_of_table table
+reply_text (Counts counts) = levels_lines 0 (map seen_counts counts.items)
+reply_text (Sheet summary) = summary_text summary
+
+-- all numbers of the reply can be written
+abbrev pub CanPut : Reply → Type 0
+CanPut (Refined mesh form) = CanBePut mesh form
+CanPut (Table table) = Unit {0}
+CanPut (Counts counts) = Unit {0}
+CanPut (Sheet summary) = CanSummaryBeWritten summary

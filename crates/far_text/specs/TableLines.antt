@@ -1,0 +1,25 @@
+-- The lines of a table, of counts and of a summary, by the pieces in which they are put.
+use Rattle.std.specs.Prelude.{ℕ, List, [], ◌∷◌, ◌++◌, codes}
+use Rattle.subdiv_model.specs.NumberText.{number_text}
+use Rattle.level_counts.specs.Counts.{Counts}
+use Rattle.stencil_apply.specs.Table.{Share}
+
+-- a control with its numerator, each after a space
+abbrev pub share_text : Share → List ℕ
+share_text share = (32 ∷ number_text share.0) ++ (32 ∷ number_text share.1)
+
+-- a name, and a count after a space
+abbrev pub count_words : List ℕ → ℕ → List ℕ
+count_words name count = name ++ (32 ∷ number_text count)
+
+-- how many edges, faces and points of a kind there are, and the end of the line
+abbrev pub kind_words : Counts → List ℕ
+kind_words counts =
+    count_words (codes " boundary") counts.boundary
+    ++ (count_words (codes " holes") counts.holes
+    ++ (count_words (codes " sharp") counts.sharp
+    ++ (count_words (codes " extraordinary") counts.extraordinary ++ (10 ∷ []))))
+
+-- the greatest denominator, and the end of the line
+abbrev pub greatest_words : ℕ → List ℕ
+greatest_words greatest = codes " den" ++ ((32 ∷ number_text greatest) ++ (10 ∷ []))

@@ -1,0 +1,21 @@
+//! The lines of levels are those of their counts.
+//!
+//! Each public function here takes nothing, does nothing and returns nothing: its clauses are the laws.
+
+ghost use Rattle.std.specs.Prelude.{◌≡◌, ℕ, ◌+◌, map};
+ghost use Rattle.std.specs.List.{range_with_len};
+ghost use Rattle.subdiv_model.specs.Level.{Level};
+ghost use Rattle.subdiv_model.specs.Child.{refined_level};
+ghost use Rattle.subdiv_model.specs.LevelText.{level_line, levels_text};
+ghost use Rattle.level_counts.specs.Counts.{counts_of};
+ghost use Rattle.far_text.specs.Levels.{counts_line, levels_lines};
+
+/// The line of a level is that of its counts.
+pub fn line_of_a_level()
+    ensures { (k : ℕ) (level : Level) → level_line k level ≡ counts_line k (counts_of level) }
+{}
+
+/// The lines of the levels to a depth are those of their counts.
+pub fn lines_of_the_levels()
+    ensures { (base : Level) (depth : ℕ) → levels_text base depth ≡ levels_lines 0 (map (λ k. counts_of (refined_level base k)) (range_with_len 0 (depth + 1))) }
+{}

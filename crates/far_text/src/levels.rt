@@ -1,0 +1,68 @@
+//! The lines of levels' counts.
+
+ghost use Rattle.std.specs.Prelude.{◌≡◌, ◌++◌, false, map, codes};
+ghost use Rattle.subdiv_model.specs.NumberText.{sign_text};
+ghost use Rattle.subdiv_model.specs.LevelText.{whole_text};
+ghost use Rattle.level_counts.specs.View.{seen_counts};
+ghost use Rattle.obj_out.specs.Puts.{Puts};
+ghost use Rattle.far_text.specs.Levels.{counts_line, levels_lines};
+ghost use Rattle.far_text.specs.TableLines.{kind_words};
+
+use crate::words::put_count;
+use far_io::{Sink, WriteFailed};
+use level_counts::LevelCounts;
+use obj_out::Out;
+
+// Puts `-` where Euler's number is below 0, and nothing else.
+fn put_sign<K: Sink>(out: &mut Out<'_, K>, counts: &LevelCounts) -> Result<(), WriteFailed>
+    ensures { Puts K.Sink out.old out.new (sign_text counts.now.euler) result }
+{
+    out.put_bytes(if counts.euler < 0 { b"-" } else { b"" })
+}
+
+// Puts Euler's number, which may be below 0.
+fn put_euler<K: Sink>(out: &mut Out<'_, K>, counts: &LevelCounts) -> Result<(), WriteFailed>
+    ensures { Puts K.Sink out.old out.new (codes " euler " ++ whole_text counts.now.euler) result }
+{
+    out.put_bytes(b" euler ")?;
+    put_sign(out, counts)?;
+    out.put_number(counts.euler.unsigned_abs())
+}
+
+// Puts how many edges, faces and points of a kind there are, and the end of the line.
+fn put_kinds<K: Sink>(out: &mut Out<'_, K>, counts: &LevelCounts) -> Result<(), WriteFailed>
+    ensures { Puts K.Sink out.old out.new (kind_words (seen_counts counts.now)) result }
+{
+    put_count(out, b" boundary", counts.boundary as u64)?;
+    put_count(out, b" holes", counts.holes as u64)?;
+    put_count(out, b" sharp", counts.sharp as u64)?;
+    put_count(out, b" extraordinary", counts.extraordinary as u64)?;
+    out.put_byte(b'\n')
+}
+
+// Puts the line of the level with this number.
+fn put_level_line<K: Sink>(
+    out: &mut Out<'_, K>,
+    number: u64,
+    counts: &LevelCounts,
+) -> Result<(), WriteFailed>
+    ensures { Puts K.Sink out.old out.new (counts_line number (seen_counts counts.now)) result }
+{
+    put_count(out, b"level", number)?;
+    put_count(out, b" points", counts.points as u64)?;
+    put_count(out, b" edges", counts.edges as u64)?;
+    put_count(out, b" faces", counts.faces as u64)?;
+    put_euler(out, counts)?;
+    put_kinds(out, counts)
+}
+
+/// Puts the lines of levels with these counts, from level 0 on.
+pub fn put_levels<K: Sink>(out: &mut Out<'_, K>, counts: &[LevelCounts]) -> Result<(), WriteFailed>
+    requires fine { out.old.failed ≡ false }
+    ensures { Puts K.Sink out.old out.new (levels_lines 0 (map seen_counts counts.now)) result }
+{
+    for k in 0..counts.len() {
+        put_level_line(out, k as u64, &counts[k])?;
+    }
+    Ok(())
+}

@@ -1,0 +1,28 @@
+//! The texts that the program writes, put through an [`obj_out::Out`].
+//!
+//! A [`Reply`] is a refined mesh, a table of stencils, the counts of levels or the summary of a sheet. Each has its text in
+//! lines, of numbers and fractions in digits. No call takes memory.
+#![tactic(auto)]
+
+mod corner_tags;
+mod creases;
+mod faces;
+mod holes;
+pub mod laws;
+mod levels;
+mod mesh;
+mod points;
+mod reply;
+mod sharpness;
+mod summary;
+mod table;
+mod tags;
+mod texture;
+mod textured_faces;
+mod words;
+
+pub use levels::put_levels;
+pub use mesh::{MeshForm, RefinedMesh, RefinedTexture, put_refined};
+pub use reply::{Reply, put_reply, write_reply};
+pub use summary::{Summary, put_summary};
+pub use table::put_table;

@@ -1,0 +1,52 @@
+//! What the program writes, as values that are found before anything is written.
+
+ghost use Rattle.std.specs.Prelude.{◌≡◌, false};
+ghost use Rattle.far_io.specs.Writes.{Writes};
+ghost use Rattle.obj_out.specs.Puts.{Puts};
+ghost use Rattle.far_text.specs.Reply.{CanPut, reply_text};
+
+use crate::levels::put_levels;
+use crate::mesh::{MeshForm, RefinedMesh, put_refined};
+use crate::summary::{Summary, put_summary};
+use crate::table::put_table;
+use far_io::{Sink, WriteFailed};
+use level_counts::LevelCounts;
+use obj_out::Out;
+use stencil_apply::StencilTable;
+
+/// What the program writes, as values that are found before anything is written.
+#[derive(Drop)]
+pub enum Reply {
+    /// A refined mesh, and how it is written.
+    Refined(RefinedMesh, MeshForm),
+    /// The table of stencils of a mesh at a depth.
+    Table(StencilTable),
+    /// The counts of the levels from 0 on.
+    Counts(Vec<LevelCounts>),
+    /// The summary of a sheet that the program makes.
+    Sheet(Summary),
+}
+
+/// Puts the text of a reply. It takes no memory.
+pub fn put_reply<K: Sink>(out: &mut Out<'_, K>, reply: &Reply) -> Result<(), WriteFailed>
+    requires fine { out.old.failed ≡ false }
+    requires written { CanPut reply.now }
+    ensures { Puts K.Sink out.old out.new (reply_text reply.now) result }
+{
+    match reply {
+        Reply::Refined(mesh, form) => put_refined(out, mesh, *form),
+        Reply::Table(table) => put_table(out, table),
+        Reply::Counts(counts) => put_levels(out, counts),
+        Reply::Sheet(summary) => put_summary(out, summary),
+    }
+}
+
+/// Writes the text of a reply and hands it on, or writes a prefix of it where the sink fails. It takes no memory.
+pub fn write_reply<K: Sink>(sink: &mut K, reply: &Reply) -> Result<(), WriteFailed>
+    requires { CanPut reply.now }
+    ensures { Writes K.Sink sink.old sink.new (reply_text reply.now) result }
+{
+    let mut out = Out::new(sink);
+    put_reply(&mut out, reply)?;
+    out.end()
+}

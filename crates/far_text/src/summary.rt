@@ -1,0 +1,70 @@
+//! The summary of a sheet that the program makes.
+
+ghost use Rattle.std.specs.Prelude.{◌≡◌, false};
+ghost use Rattle.obj_out.specs.Puts.{Puts};
+ghost use Rattle.far_text.specs.Summary.{CanSummaryBeWritten, sheet_line, depth_line, summary_text};
+ghost use Rattle.far_text.specs.TableLines.{greatest_words};
+
+use crate::points::put_valued;
+use crate::words::{put_count, put_wide_word};
+use far_io::{Sink, WriteFailed};
+use obj_out::Out;
+use ratio128::{Point3, Valued};
+
+/// A sheet, the table of its points at a depth, and the last point there.
+#[derive(Drop)]
+pub struct Summary {
+    /// How many points and faces the sheet has.
+    pub points: u32,
+    pub faces: u32,
+    /// The depth, and how many points and faces its level has.
+    pub depth: u32,
+    pub level_points: u32,
+    pub level_faces: u32,
+    /// How many entries its table has, and the greatest denominator of a row.
+    pub entries: u64,
+    pub greatest: u128,
+    /// The last point of the level, over its own denominator.
+    pub last: Valued<Point3>,
+}
+
+// Puts how many points and faces the sheet has.
+fn put_sheet<K: Sink>(out: &mut Out<'_, K>, summary: &Summary) -> Result<(), WriteFailed>
+    ensures { Puts K.Sink out.old out.new (sheet_line summary.now.points summary.now.faces) result }
+{
+    put_count(out, b"gen points", summary.points as u64)?;
+    put_count(out, b" faces", summary.faces as u64)?;
+    out.put_byte(b'\n')
+}
+
+// Puts the greatest denominator, and the end of the line.
+fn put_greatest<K: Sink>(out: &mut Out<'_, K>, greatest: u128) -> Result<(), WriteFailed>
+    ensures { Puts K.Sink out.old out.new (greatest_words greatest) result }
+{
+    out.put_bytes(b" den")?;
+    put_wide_word(out, greatest)?;
+    out.put_byte(b'\n')
+}
+
+// Puts the depth, the counts of its level and of its table, and the greatest denominator.
+fn put_depth<K: Sink>(out: &mut Out<'_, K>, summary: &Summary) -> Result<(), WriteFailed>
+    ensures { Puts K.Sink out.old out.new (depth_line summary.now) result }
+{
+    put_count(out, b"level", summary.depth as u64)?;
+    put_count(out, b" points", summary.level_points as u64)?;
+    put_count(out, b" faces", summary.level_faces as u64)?;
+    put_count(out, b" entries", summary.entries)?;
+    put_greatest(out, summary.greatest)
+}
+
+/// Puts three lines: how many points and faces a sheet has; the depth with the counts of its level and its table and the greatest
+/// denominator; and the coordinates of the last point, in lowest terms. It takes no memory.
+pub fn put_summary<K: Sink>(out: &mut Out<'_, K>, summary: &Summary) -> Result<(), WriteFailed>
+    requires fine { out.old.failed ≡ false }
+    requires written { CanSummaryBeWritten summary.now }
+    ensures { Puts K.Sink out.old out.new (summary_text summary.now) result }
+{
+    put_sheet(out, summary)?;
+    put_depth(out, summary)?;
+    put_valued(out, b"last", &summary.last, 1, None)
+}

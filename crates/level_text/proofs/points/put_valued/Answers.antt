@@ -1,6 +1,0 @@
-use Rattle.std.proofs.Common.{rules}
-use Rattle.level_text.proofs.points.put_valued.Goals as goal
-
--- asked for by name, so that a body that breaks it is refused at once
-pub returns-clause-puts : goal.returns-clause-puts
-returns-clause-puts g c = search rules
