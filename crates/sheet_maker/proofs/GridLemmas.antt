@@ -25,7 +25,7 @@ faces-length size =
     let each = pieces-length (λ i. map (sheet_quad size i) (range_with_len 0 size)) size (λ i. length-map-range_with_len (sheet_quad size i) 0 size) (range_with_len 0 size) in
     each ∙ ap (λ (n : ℕ). n * size) (length-range_with_len 0 size)
 
--- and one point more a side
+-- a side has one point more than quads
 pub points-length : (size : ℕ) (draws : List ℕ) → length (sheet_points size draws) ≡ (size + 1) * (size + 1)
 points-length size draws =
     let point : ℕ → ℕ → ℤ × ℤ × ℤ = λ i j. (pos (10 * j), pos (10 * i), pos (get_or draws (sheet_point size i j) 0)) in

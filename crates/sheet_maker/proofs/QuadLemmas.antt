@@ -1,4 +1,4 @@
--- The quads of a sheet: their corners and sides, and which row and column these tell.
+-- The quads of a sheet: their corners and sides, and which row and column these give.
 use Rattle.std.proofs.Common.{◌≡◌, ℕ, ◌+◌, ◌<◌, ◌≤◌, true, false, nat_eq, [], ◌∷◌, arith, ◌⊎◌, inl, inr}
 use Rattle.std.proofs.lemmas.Nat.{same_from_place}
 use Rattle.std.proofs.lemmas.Bool.Decides.{nat_tests}
@@ -23,7 +23,7 @@ quad-sides size i j = (grind (arith, nat_tests), grind (arith, nat_tests), grind
 abbrev pub Touches : ℕ → ℕ → ℕ → ℕ → Type 0
 Touches r c i j = ((r ≡ i) ⊎ (r ≡ i + 1)) × ((c ≡ j) ⊎ (c ≡ j + 1))
 
--- a corner of a quad tells its row and column
+-- a corner of a quad gives its row and column
 pub corner-touches : (size r c i j : ℕ) → c < size + 1 → j < size → has_corner (sheet_point size r c) (sheet_quad size i j) ≡ true → Touches r c i j
 corner-touches size r c i j p q h = first (or_cases _ _ h)
   where
@@ -50,7 +50,7 @@ corner-touches size r c i j p q h = first (or_cases _ _ h)
 abbrev IsSideFrom : ℕ → ℕ → ℕ × ℕ → Type 0
 IsSideFrom w x s = ((s.0 ≡ x) × (s.1 ≡ x + 1)) ⊎ (((s.0 ≡ x + 1) × (s.1 ≡ x + 1 + w)) ⊎ (((s.0 ≡ x + w + 1) × (s.1 ≡ x + w)) ⊎ ((s.0 ≡ x + w) × (s.1 ≡ x))))
 
--- the way it goes tells which of the four, and so the point
+-- the direction of a side gives which of the four it is, and so the point
 from-one : (w x y : ℕ) (s : ℕ × ℕ) → 2 ≤ w → IsSideFrom w x s → IsSideFrom w y s → x ≡ y
 from-one w x y s wide p q = omega arith
 

@@ -55,7 +55,7 @@ quads-sheet : (size : ℕ) → quads_of (sheet_corners size) ≡ sheet_faces siz
 quads-sheet size = quads-rows size 0 size
 
 -- each corner is a point
-quad-inside : (size i j : ℕ) → i < size → j < size → All (λ v. v < point_count size) (sheet_quad size i j)
+pub quad-inside : (size i j : ℕ) → i < size → j < size → All (λ v. v < point_count size) (sheet_quad size i j)
 quad-inside size i j row column =
     let below : ℕ → Type 0 = λ v. v < point_count size in
     let last = sheet_point size (i + 1) j in
@@ -81,7 +81,7 @@ length-draws : (count x : ℕ) → length (draws_from count x) ≡ count
 length-draws zero x = refl
 length-draws (suc count) x = ap suc (length-draws count (drawn_next x))
 
--- so each coordinate is short
+-- each coordinate of a sheet is short
 points-short : (size count x : ℕ) → size ≤ 256 → All IsShortPoint (sheet_points size (draws_from count x))
 points-short size count x few =
     let draws = draws_from count x in
@@ -140,7 +140,7 @@ creases-more size k s draws old new inside e_s e_new h =
     ∙ ap (λ t. flat_map (drawn_creases size) (zip (range_with_len 1 k) draws) ++ row_creases size (k + 1) t) e_s
     ∙ sym (flat-zip-more (drawn_creases size) 1 k (k + 1) draws inside (omega arith))
 
--- those of all rows inside the sheet
+-- the creases of all rows inside the sheet
 pub creases-all : (size k : ℕ) (draws : List ℕ) (creases : List ((ℕ × ℕ) × Sharpness)) → k ≡ size - 1
     → creases ≡ flat_map (drawn_creases size) (zip (range_with_len 1 k) draws) → creases ≡ sheet_creases size draws
 creases-all size k draws creases e h =
@@ -155,16 +155,16 @@ pub sheet-mesh : (seed size : ℕ) (draws others : List ℕ) (points : List Poin
 sheet-mesh seed size draws others points corners creases e_draws e_others e_points e_corners e_creases =
     rw (e_points, e_corners, quads-sheet size, e_creases, e_draws, e_others) refl
 
--- where it is made
+-- the mesh of a sheet, where one is made
 pub sheet-made : {E : Type 0} (result : Result ObjMesh E) (made : ObjMesh) (seed size : ℕ) → made ≡ generated_mesh seed size → IfOk result (λ mesh. mesh ≡ made)
     → IfOk result (λ mesh. mesh ≡ generated_mesh seed size)
 sheet-made result made seed size e h = IfOk-weaker result (λ mesh. mesh ≡ made) (λ mesh. mesh ≡ generated_mesh seed size) (λ mesh is. is ∙ e) h
 
--- so many points were made
+-- as many points were made as the sheet has
 pub points-made : (size : ℕ) (draws : List ℕ) (points : List Point3) → map point_of points ≡ sheet_points size draws → length points ≡ point_count size
 points-made size draws points e = sym (length-map points point_of) ∙ ap length e ∙ length-points size draws
 
--- so many draws
+-- there are enough draws
 pub draws-made : (seed size : ℕ) (draws : List ℕ) → draws ≡ draws_of seed size → point_count size + size ≤ length draws
 draws-made seed size draws e = omega (arith, ap length e, length-draws (point_count size + size) (seed % 2 ^ 31))
 
@@ -186,12 +186,9 @@ pub ends-made : (size points : ℕ) (creases : List Crease) → points ≡ point
     → All (λ c. (c.a < points) × (c.b < points)) creases
 ends-made size points creases e ends = rw e ends
 
--- the points of the mesh are short
-pub short-made : {E : Type 0} (result : Result ObjMesh E) (seed size : ℕ) → size ≤ 256 → IfOk result (λ mesh. mesh ≡ generated_mesh seed size)
-    → IfOk result (λ mesh. All IsShortPoint mesh.points)
-short-made result seed size few h =
-    IfOk-weaker result (λ mesh. mesh ≡ generated_mesh seed size) (λ mesh. All IsShortPoint mesh.points)
-    (λ mesh is.
-    All-same IsShortPoint mesh.points (sheet_points size (draws_of seed size)) (ap (λ (m : ObjMesh). m.points) is)
-    (points-short size (point_count size + size) (seed % 2 ^ 31) few))
-    h
+-- the points that were made are short
+pub short-made : (seed size : ℕ) (draws : List ℕ) (points : List Point3) → size ≤ 256 → draws ≡ draws_of seed size
+    → map point_of points ≡ sheet_points size draws → All IsShortPoint (map point_of points)
+short-made seed size draws points few e_draws e_points =
+    All-same IsShortPoint (map point_of points) (sheet_points size (draws_of seed size)) (e_points ∙ ap (sheet_points size) e_draws)
+    (points-short size (point_count size + size) (seed % 2 ^ 31) few)

@@ -37,7 +37,7 @@ module _ (size : ℕ) where
   abbrev pub Follows : ℕ → ℕ → ℕ → ℕ → ℕ → ℕ → Type 0
   Follows r c i j k l = IsSuccessor (sheet_faces size) (sheet_point size r c) (face_number size i j) (face_number size k l)
 
-  -- it is, where a side of its quad comes back by one of the other's
+  -- a quad follows another, where a side of it comes back by a side of the other
   follows-quad : (v corner i j k l : ℕ) → i < size → j < size → k < size → l < size → has_side (v, corner) (sheet_quad size i j) ≡ true → has_side (corner, v) (sheet_quad size k l) ≡ true → IsSuccessor (sheet_faces size) v (face_number size i j) (face_number size k l)
   follows-quad v corner i j k l p q m n out back = record {
     corner = corner;

@@ -1,9 +1,6 @@
 //! A sheet of quads.
 
 ghost use Rattle.std.specs.Prelude.{◌≡◌, ◌≤◌, IfOk};
-ghost use Rattle.std.specs.List.{All};
-ghost use Rattle.raw_mesh.specs.Laws.{IsWithin};
-ghost use Rattle.subdiv_model.specs.Short.{IsShortPoint};
 ghost use Rattle.subdiv_model.specs.Generator.{generated_mesh};
 
 use crate::creases::creases_of_rows;
@@ -21,9 +18,7 @@ use std::alloc::Global;
 pub fn make_sheet(alloc: Global, seed: u32, size: u32) -> Result<RawMesh, Memory>
     requires some { 1 ≤ size }
     requires few { size ≤ 256 }
-    ensures sheet { IfOk result (λ mesh. mesh ≡ generated_mesh seed size) }
-    ensures within { IfOk result (λ mesh. IsWithin mesh) }
-    ensures short { IfOk result (λ mesh. All IsShortPoint mesh.points) }
+    ensures { IfOk result (λ mesh. mesh ≡ generated_mesh seed size) }
 {
     let points = (size + 1) * (size + 1);
     let draws = draws_of_seed(alloc, seed, points + size)?;

@@ -12,8 +12,13 @@ creases_of_rows-requires-clause-drawn c = draws-made c.args.seed c.args.size c.d
 pub of_quads-requires-clause-quads : goal.of_quads-requires-clause-quads
 of_quads-requires-clause-quads c = corners-fours c.args.size c.in_ok-corners_of_quads.field-0.items c.in_ok-corners_of_quads.ensures
 
+pub of_quads-requires-clause-few : goal.of_quads-requires-clause-few
+of_quads-requires-clause-few c = corners-few c.args.size c.in_ok-corners_of_quads.field-0.items c.requires.few c.in_ok-corners_of_quads.ensures
+
 pub of_quads-requires-clause-short : goal.of_quads-requires-clause-short
-of_quads-requires-clause-short c = corners-few c.args.size c.in_ok-corners_of_quads.field-0.items c.requires.few c.in_ok-corners_of_quads.ensures
+of_quads-requires-clause-short c =
+    short-made c.args.seed c.args.size c.deref.result.now c.in_ok-points_of_rows.field-0.items c.requires.few (c.deref.ensures.value ∙ c.in_ok-draws.ensures)
+    c.in_ok-points_of_rows.ensures
 
 pub of_quads-requires-clause-vertices : goal.of_quads-requires-clause-vertices
 of_quads-requires-clause-vertices c =
@@ -23,12 +28,7 @@ pub of_quads-requires-clause-crease_ends : goal.of_quads-requires-clause-crease_
 of_quads-requires-clause-crease_ends c =
     ends-made c.args.size _ c.in_ok-creases_of_rows.field-0.items (points-made c.args.size c.deref.result.now c.in_ok-points_of_rows.field-0.items c.in_ok-points_of_rows.ensures) c.in_ok-creases_of_rows.ensures.ends
 
-pub returns-clause-sheet : goal.returns-clause-sheet
-returns-clause-sheet c =
+pub returns : goal.returns
+returns c =
     let e = sheet-mesh c.args.seed c.args.size c.deref.result.now c.deref-2.result.now c.in_ok-points_of_rows.field-0.items c.in_ok-corners_of_quads.field-0.items c.in_ok-creases_of_rows.field-0.items (c.deref.ensures.value ∙ c.in_ok-draws.ensures) (c.deref-2.ensures.value ∙ c.in_ok-draws.ensures) c.in_ok-points_of_rows.ensures c.in_ok-corners_of_quads.ensures c.in_ok-creases_of_rows.ensures.creases in
-    sheet-made c.of_quads.result _ c.args.seed c.args.size e c.of_quads.ensures.mesh
-
-pub returns-clause-short : goal.returns-clause-short
-returns-clause-short c =
-    let e = sheet-mesh c.args.seed c.args.size c.deref.result.now c.deref-2.result.now c.in_ok-points_of_rows.field-0.items c.in_ok-corners_of_quads.field-0.items c.in_ok-creases_of_rows.field-0.items (c.deref.ensures.value ∙ c.in_ok-draws.ensures) (c.deref-2.ensures.value ∙ c.in_ok-draws.ensures) c.in_ok-points_of_rows.ensures c.in_ok-corners_of_quads.ensures c.in_ok-creases_of_rows.ensures.creases in
-    short-made c.of_quads.result c.args.seed c.args.size c.requires.few (sheet-made c.of_quads.result _ c.args.seed c.args.size e c.of_quads.ensures.mesh)
+    sheet-made c.of_quads.result _ c.args.seed c.args.size e c.of_quads.ensures
