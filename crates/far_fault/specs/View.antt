@@ -1,0 +1,31 @@
+-- The faults and the outcomes of the code, as those of the definitions.
+use Rattle.std.specs.Prelude.{Option, Some, None, Result, Ok, Err}
+use Rattle.subdiv_model.specs.Fault as model
+use Rattle.obj_tags.specs.View.{cause_of}
+use Rattle.level_topology.specs.CountedText.{counted_of}
+use Rattle.mesh_check.specs.View.{mesh_fault_of}
+use Rattle.level_walk.specs.View.{kind_of}
+use Rattle.far_fault.specs.declared.fault.Track.{Track}
+use Rattle.far_fault.specs.declared.fault.Track.TheVariants.{Positions, Texture}
+use Rattle.far_fault.specs.declared.fault.FarFault.{FarFault}
+use Rattle.far_fault.specs.declared.fault.FarFault.TheVariants.{Usage, Read, Long, Obj, Mesh, TooLarge, Overflow, Write, Memory}
+
+abbrev pub track_of : Track → model.Track
+track_of Positions = model.Positions
+track_of Texture = model.Texture
+
+abbrev pub fault_of : FarFault → model.Fault
+fault_of (Usage word) = model.Usage word
+fault_of Read = model.Read
+fault_of Long = model.Long
+fault_of (Obj line cause) = model.Obj (record { line = line; cause = cause_of cause })
+fault_of (Mesh fault) = model.Mesh (mesh_fault_of fault)
+fault_of (TooLarge counted) = model.TooLarge (counted_of counted)
+fault_of (Overflow track level kind) = model.Overflow (track_of track) level (kind_of kind)
+fault_of Write = model.Write
+fault_of Memory = model.Memory
+
+-- the fault of a run, where it has one
+abbrev pub outcome_of : Result (Unit {0}) FarFault → Option model.Fault
+outcome_of (Ok done) = None
+outcome_of (Err fault) = Some (fault_of fault)

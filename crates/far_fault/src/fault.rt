@@ -1,0 +1,138 @@
+//! The faults of a run.
+
+ghost use Rattle.std.specs.Prelude.{◌≡◌, ◌++◌, codes, Some};
+ghost use Rattle.subdiv_model.specs.Fault.{fault_text, fault_status, kind_text, track_text};
+ghost use Rattle.level_walk.specs.View.{kind_of};
+ghost use Rattle.far_fault.specs.View.{fault_of, track_of};
+
+use level_topology::Counted;
+use level_walk::OverflowKind;
+use mesh_check::MeshFault;
+use obj_tags::{ObjCause, ObjFault};
+use ratio128::Memory;
+use std::fmt;
+use text_pieces::Pieces;
+
+/// The values in which a number passes its bound.
+#[derive(Clone, Copy, Debug, PartialEq, Eq)]
+pub enum Track {
+    /// The positions of the points.
+    Positions,
+    /// The texture values.
+    Texture,
+}
+
+/// The fault of a run. Each fault has a status and a line on standard error.
+#[derive(Clone, Copy, Debug, PartialEq, Eq)]
+pub enum FarFault {
+    /// The words are no command. `word` is the place of the first bad one, counted from 0, or the
+    /// number of words where a required option is missing.
+    Usage {
+        word: u32,
+    },
+    /// A read failed.
+    Read,
+    /// The input has more than 2^28 bytes.
+    Long,
+    /// A line of the input is refused. `line` is the least such line, counted from 1, and `cause` tells what is wrong with it.
+    Obj {
+        line: u32,
+        cause: ObjCause,
+    },
+    /// The mesh is no manifold. The field is its first fault, in which faces and vertices are counted from 0.
+    Mesh(MeshFault),
+    /// The mesh is a manifold, and a count passes its limit. The field is the first such count. It counts levels from 1, and faces
+    /// and vertices from 0.
+    TooLarge(Counted),
+    /// A number passes its bound. `track` names the values, `level` is the first such level, counted from 1, and `kind` names the
+    /// number.
+    Overflow {
+        track: Track,
+        level: u32,
+        kind: OverflowKind,
+    },
+    /// A write or a flush failed.
+    Write,
+    /// Memory ran out.
+    Memory,
+}
+
+impl From<Memory> for FarFault {
+    ghost use Rattle.far_fault.specs.declared.fault.FarFault.TheVariants as fault;
+
+    ghost from_gives = { λ _ e. e ≡ fault.Memory };
+
+    fn from(_: Memory) -> FarFault {
+        FarFault::Memory
+    }
+}
+
+/// Returns the exit status of a fault: 2 to 8, 10 or 11, as `docs/formats.md` lists it.
+pub fn status(fault: &FarFault) -> u8
+    ensures { result ≡ fault_status (fault_of fault.now) }
+{
+    match fault {
+        FarFault::Usage { .. } => 2,
+        FarFault::Read => 3,
+        FarFault::Long => 4,
+        FarFault::Obj { .. } => 5,
+        FarFault::Mesh(_) => 6,
+        FarFault::TooLarge(_) => 7,
+        FarFault::Overflow { .. } => 8,
+        FarFault::Write => 10,
+        FarFault::Memory => 11,
+    }
+}
+
+// Returns the words of an overflow before its level, which name the track.
+fn track_words(track: Track) -> &'static str
+    ensures { result.now ≡ track_text (track_of track) ++ codes " level " }
+{
+    match track {
+        Track::Positions => "positions level ",
+        Track::Texture => "texture level ",
+    }
+}
+
+// Returns the words of an overflow after its level, which name the kind.
+fn kind_words(kind: OverflowKind) -> &'static str
+    ensures { result.now ≡ codes ": " ++ (kind_text (kind_of kind) ++ codes " overflow") }
+{
+    match kind {
+        OverflowKind::Chaikin => ": chaikin overflow",
+        OverflowKind::Transition => ": transition overflow",
+        OverflowKind::Denominator => ": denominator overflow",
+        OverflowKind::Value => ": value overflow",
+    }
+}
+
+impl FarFault {
+    /// Returns the words of the fault, without `far: ` and the end of line.
+    pub fn pieces(&self) -> Pieces
+        ensures { result ≡ fault_text (fault_of self.now) }
+    {
+        match *self {
+            FarFault::Usage { word } => Pieces::about("word ", word as u64, " is not understood"),
+            FarFault::Read => Pieces::plain("reading failed"),
+            FarFault::Long => Pieces::plain("input is longer than 268435456 bytes"),
+            FarFault::Obj { line, cause } => ObjFault { line, cause }.pieces(),
+            FarFault::Mesh(fault) => fault.pieces(),
+            FarFault::TooLarge(counted) => counted.pieces(),
+            FarFault::Overflow { track, level, kind } => {
+                Pieces::about(track_words(track), level as u64, kind_words(kind))
+            }
+            FarFault::Write => Pieces::plain("writing failed"),
+            FarFault::Memory => Pieces::plain(Memory.text()),
+        }
+    }
+}
+
+impl fmt::Display for FarFault {
+    ghost output = { λ fault. Some (fault_text (fault_of fault)) };
+
+    fn fmt<W: fmt::Write>(&self, f: &mut fmt::Formatter<W>) -> fmt::Result {
+        write!(f, "{}", self.pieces())
+    }
+}
+
+impl std::error::Error for FarFault {}
