@@ -1,0 +1,13 @@
+pub mod RefusalLemmas
+pub mod ReplyLemmas
+pub mod LevelLemmas
+pub mod CountLemmas
+pub mod ColumnLemmas
+pub mod PointLemmas
+pub mod PositionLemmas
+pub mod CutLemmas
+pub mod TextureLemmas
+pub mod RefineLemmas
+pub mod StepLemmas
+pub mod TableLemmas
+pub mod SummaryLemmas

@@ -1,0 +1,52 @@
+-- What a command owes at each of its ends.
+use Rattle.std.proofs.Common.{◌≡◌, ℕ, ◌+◌, ◌≤◌, Result, Ok, Err, IsErr, IsErrAnd, OnOk, sym, subst}
+use Rattle.subdiv_model.specs.Command.{ReadCommand, MakeCommand}
+use Rattle.subdiv_model.specs.ObjMesh.{ObjMesh}
+use Rattle.ratio128.specs.StepsTaken.{StepsTaken}
+use Rattle.far_text.specs.declared.reply.Reply.{Reply}
+use Rattle.far_fault.specs.View.{fault_of}
+use Rattle.far_fault.specs.declared.fault.FarFault.{FarFault}
+use Rattle.mesh_answers.specs.Refusals.{IsFound, refusal_of_mesh, refusal_of_made}
+use Rattle.mesh_answers.specs.Replies.{IsAnswerTo, IsMadeAnswer, IsMadeReply, IsReplyTo}
+use Rattle.mesh_answers.specs.StepCounts.{least_steps, step_limit, made_least, made_limit}
+
+-- where a call fails, it took no more than it may
+pub failed-steps : {T E : Type 0} (r : Result T E) (old new least most : ℕ) → IsErr r → old ≤ new → new ≤ old + most → StepsTaken r old new least most
+failed-steps (Ok x) old new least most err later within = absurd (cc)
+failed-steps (Err e) old new least most err later within = record { least = tt; most = within; later = later }
+
+-- where it took as many as it must in any case
+pub any-steps : {T E : Type 0} (r : Result T E) (old new least most : ℕ) → old + least ≤ new → old ≤ new → new ≤ old + most → StepsTaken r old new least most
+any-steps (Ok x) old new least most some later within = record { least = some; most = within; later = later }
+any-steps (Err e) old new least most some later within = record { least = tt; most = within; later = later }
+
+-- the steps of a call that succeeded, and of one that failed, are those of what is made of it
+pub ok-steps : {X Y E F : Type 0} (r : Result X E) (x : X) (old new least most : ℕ) → r ≡ Ok x → StepsTaken r old new least most → (q : Result Y F) → StepsTaken q old new least most
+ok-steps r x old new least most is taken q = any-steps q old new least most (subst (λ s. OnOk s (old + least ≤ new)) is taken.least) taken.later taken.most
+
+pub err-steps : {X Y E F : Type 0} (r : Result X E) (old new least most : ℕ) → StepsTaken r old new least most → (q : Result Y F) → IsErr q → StepsTaken q old new least most
+err-steps r old new least most taken q err = failed-steps q old new least most err taken.later taken.most
+
+module _ (command : ReadCommand) (mesh : ObjMesh) (old new : ℕ) (later : old ≤ new) (most : new ≤ old + step_limit command mesh) where
+  pub refuses : (r : Result Reply FarFault) (fault : FarFault) → IsErr r → IsErrAnd r (λ g. g ≡ fault) → IsFound (fault_of fault) (refusal_of_mesh command mesh) →
+      IsAnswerTo command mesh r old new
+  refuses (Ok reply) fault err same found = absurd (cc)
+  refuses (Err other) fault err same found = record {
+    reply = subst (λ f. IsFound (fault_of f) (refusal_of_mesh command mesh)) (sym same) found;
+    steps = record { least = tt; most = most; later = later };
+  }
+
+  pub replies : (reply : Reply) → IsReplyTo command mesh reply → old + least_steps command mesh ≤ new → IsAnswerTo command mesh (Ok reply) old new
+  replies reply is least = record { reply = is; steps = record { least = least; most = most; later = later } }
+
+module _ (command : MakeCommand) (old new : ℕ) (later : old ≤ new) (most : new ≤ old + made_limit command) where
+  pub made-refuses : (r : Result Reply FarFault) (fault : FarFault) → IsErr r → IsErrAnd r (λ g. g ≡ fault) → IsFound (fault_of fault) (refusal_of_made command) →
+      IsMadeAnswer command r old new
+  made-refuses (Ok reply) fault err same found = absurd (cc)
+  made-refuses (Err other) fault err same found = record {
+    reply = subst (λ f. IsFound (fault_of f) (refusal_of_made command)) (sym same) found;
+    steps = record { least = tt; most = most; later = later };
+  }
+
+  pub made-replies : (reply : Reply) → IsMadeReply command reply → old + made_least command ≤ new → IsMadeAnswer command (Ok reply) old new
+  made-replies reply is least = record { reply = is; steps = record { least = least; most = most; later = later } }

@@ -1,0 +1,6 @@
+pub mod Refusals
+pub mod StepCounts
+pub mod Replies
+pub mod Levels
+pub mod Tracks
+pub mod Tables

@@ -1,0 +1,34 @@
+-- What a mesh is refused for.
+-- Source: this profile.
+use Rattle.std.specs.Prelude.{◌≡◌, List, ◌++◌, length, Option, Some, None}
+use Rattle.subdiv_model.specs.Lists.{first_of}
+use Rattle.subdiv_model.specs.MeshFault.{MeshFault, first_mesh_fault}
+use Rattle.subdiv_model.specs.ObjMesh.{ObjMesh}
+use Rattle.subdiv_model.specs.Command.{ReadCommand, MakeCommand}
+use Rattle.subdiv_model.specs.Fault.{Fault, Obj, Mesh, TooLarge, Overflow, Memory}
+use Rattle.subdiv_model.specs.Answer.{answer_of_made, command_faults, count_faults}
+
+abbrev pub refusal_unless : Option MeshFault → Option Fault → Option Fault
+refusal_unless (Some fault) refusal = Some (Mesh fault)
+refusal_unless None refusal = refusal
+
+-- for what is wrong with it, or else for the first fault of its counts and of these
+abbrev pub refusal_by : List Fault → ObjMesh → Option Fault
+refusal_by faults mesh = refusal_unless (first_mesh_fault (length mesh.points) mesh.faces) (first_of (count_faults mesh ++ faults))
+
+-- what a command refuses of a mesh that was read
+abbrev pub refusal_of_mesh : ReadCommand → ObjMesh → Option Fault
+refusal_of_mesh command mesh = refusal_by (command_faults command mesh) mesh
+
+-- what a command refuses of the mesh that it makes
+abbrev pub refusal_of_made : MakeCommand → Option Fault
+refusal_of_made command = (answer_of_made command).refusal
+
+-- a fault of a mesh is the refusal that is defined; memory may run out at any mesh
+abbrev pub IsFound : Fault → Option Fault → Type 0
+IsFound Memory refusal = Unit {0}
+IsFound (Obj fault) refusal = refusal ≡ Some (Obj fault)
+IsFound (Mesh fault) refusal = refusal ≡ Some (Mesh fault)
+IsFound (TooLarge counted) refusal = refusal ≡ Some (TooLarge counted)
+IsFound (Overflow track level kind) refusal = refusal ≡ Some (Overflow track level kind)
+IsFound other refusal = ⊥

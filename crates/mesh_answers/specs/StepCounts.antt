@@ -1,0 +1,63 @@
+-- How many steps a command takes with a mesh.
+-- Source: this profile.
+use Rattle.std.specs.Prelude.{ℕ, ◌+◌, length, if◌then◌else◌}
+use Rattle.std.specs.List.{sum_by, range_with_len}
+use Rattle.subdiv_model.specs.Command.{ReadCommand, Refine, Stencils, Levels, MakeCommand, Gen, RefineOptions, By, ByTable, ByLevel}
+use Rattle.subdiv_model.specs.ObjMesh.{ObjMesh}
+use Rattle.subdiv_model.specs.Level.{Level}
+use Rattle.subdiv_model.specs.Base.{base_level}
+use Rattle.subdiv_model.specs.Child.{refined_level, faces_after}
+use Rattle.subdiv_model.specs.Cut.{cut_level}
+use Rattle.subdiv_model.specs.Mask.{Scheme, CatmullClark, mask_terms}
+use Rattle.subdiv_model.specs.Support.{entries_after}
+use Rattle.subdiv_model.specs.Answer.{made_mesh, seams_of, scheme_of}
+
+-- how many faces the levels of a mesh from 1 to a depth have, and those from 0
+abbrev pub later_faces : ℕ → ObjMesh → ℕ
+later_faces depth mesh = sum_by (faces_after mesh.faces) (range_with_len 1 depth)
+
+abbrev pub level_faces_to : ℕ → ObjMesh → ℕ
+level_faces_to depth mesh = length mesh.faces + later_faces depth mesh
+
+-- how many steps the values of a channel take to a depth: one for each entry of its table, or one for each mask term
+abbrev pub channel_steps : By → Level → Scheme → ℕ → ℕ
+channel_steps ByTable base scheme depth = entries_after base scheme depth
+channel_steps ByLevel base scheme depth = sum_by (λ k. mask_terms (refined_level base k) scheme) (range_with_len 0 depth)
+
+-- those of the positions, and those of the texture, where there is any
+abbrev pub position_steps : By → ℕ → ObjMesh → ℕ
+position_steps by depth mesh = channel_steps by (base_level mesh) CatmullClark depth
+
+abbrev pub texture_steps : RefineOptions → ObjMesh → ℕ
+texture_steps options mesh = channel_steps options.by (cut_level (seams_of options.uv) mesh) (scheme_of options.uv) options.depth
+
+abbrev pub where_textured : ObjMesh → ℕ → ℕ
+where_textured mesh steps = if mesh.has_texture then steps else 0
+
+abbrev pub refine_least : RefineOptions → ObjMesh → ℕ
+refine_least options mesh = position_steps options.by options.depth mesh + where_textured mesh (texture_steps options mesh)
+
+abbrev pub refine_limit : RefineOptions → ObjMesh → ℕ
+refine_limit options mesh =
+    level_faces_to options.depth mesh + position_steps options.by options.depth mesh
+    + where_textured mesh (level_faces_to options.depth mesh + texture_steps options mesh)
+
+-- how many steps a command takes at least with a mesh that it answers
+abbrev pub least_steps : ReadCommand → ObjMesh → ℕ
+least_steps (Refine options) mesh = refine_least options mesh
+least_steps (Stencils depth) mesh = 0
+least_steps (Levels depth) mesh = 0
+
+-- how many it may take: one for each face of the levels that it makes, of the positions and of the texture, and what the
+-- values take
+abbrev pub step_limit : ReadCommand → ObjMesh → ℕ
+step_limit (Refine options) mesh = refine_limit options mesh
+step_limit (Stencils depth) mesh = level_faces_to depth mesh
+step_limit (Levels depth) mesh = level_faces_to depth mesh
+
+-- those of a command that makes its mesh
+abbrev pub made_least : MakeCommand → ℕ
+made_least (Gen options) = position_steps ByTable options.depth (made_mesh (Gen options))
+
+abbrev pub made_limit : MakeCommand → ℕ
+made_limit (Gen options) = level_faces_to options.depth (made_mesh (Gen options)) + position_steps ByTable options.depth (made_mesh (Gen options))

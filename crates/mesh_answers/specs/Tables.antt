@@ -1,0 +1,23 @@
+-- The table of a mesh at a depth, and the summary of a sheet.
+use Rattle.std.specs.Prelude.{ℕ, ◌≡◌, None}
+use Rattle.subdiv_model.specs.ObjMesh.{ObjMesh}
+use Rattle.subdiv_model.specs.Answer.{positions_of, table_faults, generated_text}
+use Rattle.stencil_apply.specs.Table.{IsTable}
+use Rattle.channel_refine.specs.Composed.{IsComposedTo}
+use Rattle.channel_refine.specs.View.{composed_of}
+use Rattle.channel_refine.specs.declared.compose.ComposedChannel.{ComposedChannel}
+use Rattle.far_text.specs.Summary.{CanSummaryBeWritten, summary_text}
+use Rattle.far_text.specs.declared.summary.Summary.{Summary}
+use Rattle.mesh_answers.specs.Refusals.{refusal_by}
+
+-- the mesh is not refused where its table is composed, and this is the table
+pub record IsComposedOf (mesh : ObjMesh) (depth : ℕ) (channel : ComposedChannel) : Type 0 where
+  pub good : refusal_by (table_faults depth mesh) mesh ≡ None
+  pub composed : IsComposedTo (positions_of mesh) depth (composed_of channel)
+  pub made : IsTable channel.table
+
+-- and this is the summary of its level and its table
+pub record IsSummaryOf (mesh : ObjMesh) (depth : ℕ) (summary : Summary) : Type 0 where
+  pub good : refusal_by (table_faults depth mesh) mesh ≡ None
+  pub says : summary_text summary ≡ generated_text mesh depth
+  pub written : CanSummaryBeWritten summary

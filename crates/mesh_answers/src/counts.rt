@@ -1,0 +1,65 @@
+//! The counts of the levels of a mesh.
+
+ghost use Rattle.std.specs.Prelude.{◌≤◌, MatchResult};
+ghost use Rattle.subdiv_model.specs.Command.{Levels};
+ghost use Rattle.far_fault.specs.View.{fault_of};
+ghost use Rattle.ratio128.specs.StepsTaken.{StepsTaken};
+ghost use Rattle.subdiv_model.specs.ObjMesh.{ObjMesh};
+ghost use Rattle.mesh_answers.specs.Levels.{IsLevelWithin, AreCounted};
+ghost use Rattle.mesh_answers.specs.Refusals.{refusal_of_mesh, IsFound};
+ghost use Rattle.mesh_answers.specs.Replies.{IsAnswerTo};
+ghost use Rattle.mesh_answers.specs.StepCounts.{later_faces};
+
+use crate::level::level_within;
+use far_fault::{FarFault, Track, fault_of_walk};
+use far_text::Reply;
+use level_counts::{LevelCounts, count_levels};
+use level_topology::Level;
+use level_walk::WalkFault;
+use ratio128::Steps;
+use raw_mesh::RawMesh;
+use std::alloc::Global;
+use std::sync::ledger::Ledger;
+
+// The counts of the levels of a mesh, from its level 0 to a depth up to which no level has too many faces.
+fn counts_from<L: Ledger>(
+    alloc: Global,
+    level: Level,
+    depth: u32,
+    steps: &mut Steps<L>,
+) -> Result<Vec<LevelCounts>, FarFault>
+    requires depth { depth ≤ 10 }
+    requires level { (mesh : ObjMesh) × IsLevelWithin depth mesh level }
+    ensures counted { (mesh : ObjMesh) → IsLevelWithin depth mesh level → MatchResult result (λ counts. AreCounted mesh depth counts.items)
+        (λ fault. IsFound (fault_of fault) (refusal_of_mesh (Levels depth) mesh)) }
+    ensures steps { (mesh : ObjMesh) → IsLevelWithin depth mesh level → StepsTaken result steps.old steps.new 0 (later_faces depth mesh) }
+{
+    match count_levels(alloc, level, depth, steps) {
+        Ok(counts) => Ok(counts),
+        Err(fault) => Err(fault_of_walk(fault, Track::Positions)),
+    }
+}
+
+/// Returns the counts of each level of a mesh, from level 0 to the depth. The depth is at most 10.
+///
+/// The fault is the first of these:
+///
+/// - `Mesh` where the mesh is no manifold, with its first fault;
+/// - `TooLarge` with the first count of the mesh that passes its limit;
+/// - `TooLarge` with the first level from 1 to the depth that would have more than 2^22 faces, and how many;
+/// - `Overflow` with the first level, counted from 1, at which the half of an edge overflows (`Chaikin`).
+///
+/// `Memory` may come of any mesh. The call takes at most one step for each face of the levels from 0 to the depth.
+pub fn levels<L: Ledger>(
+    alloc: Global,
+    mesh: &RawMesh,
+    depth: u32,
+    steps: &mut Steps<L>,
+) -> Result<Reply, FarFault>
+    requires { depth ≤ 10 }
+    ensures { IsAnswerTo (Levels depth) mesh.now result steps.old steps.new }
+{
+    let level = level_within(alloc, mesh, depth, steps)?;
+    let counts = counts_from(alloc, level, depth, steps)?;
+    Ok(Reply::Counts(counts))
+}

@@ -1,0 +1,14 @@
+//! What each command answers of a mesh: a reply, or the fault for which the command refuses the mesh. No call writes anything.
+#![tactic(auto)]
+
+mod counts;
+mod level;
+mod refined;
+mod sheet;
+mod table;
+mod tracks;
+
+pub use counts::levels;
+pub use refined::refine;
+pub use sheet::generate;
+pub use table::stencils;
