@@ -1,16 +1,5 @@
-mod OutputLemmas
-mod RefusalLemmas
-mod WordsLemmas
-mod RunLemmas
-mod LevelLemmas
-mod SeriesLemmas
-mod ChannelLemmas
-mod PointLemmas
-mod PositionLemmas
-mod TextureLemmas
-mod RefineLemmas
-mod TableLemmas
-mod SummaryLemmas
-mod StepLemmas
-mod CutLemmas
-mod ManifoldLemmas
+pub mod AnswerLemmas
+pub mod ManifoldLemmas
+pub mod InputLemmas
+pub mod RunLemmas
+pub mod LawLemmas

@@ -1,10 +1,6 @@
-pub mod View
-pub mod Pieces
-pub mod Written
 pub mod Outcome
-pub mod Levels
-pub mod Refine
-pub mod Tables
+pub mod StepCounts
+pub mod Input
 pub mod Runs
-pub mod Replies
+pub mod Laws
 pub use Rattle.subdiv_model.specs.Words

@@ -1,51 +1,124 @@
 -- What a run does to its source and its sink, and what its report does to the sink of errors.
-use Rattle.std.specs.Prelude.{ℕ, ◌≡◌, ◌≢◌, ◌≤◌, ◌↔◌, ◌⊎◌, false, true, List, Option, Some, None, IsTrue}
-use Rattle.far_io.specs.Bytes.{Rose, TookPrefix, TookMore, Added, AddedPrefix, IsDry}
+-- A source and a sink are read as their traits have them.
+use Rattle.std.specs.Prelude.{ℕ, ◌≡◌, ◌≢◌, ◌≤◌, ◌↔◌, ◌⊎◌, List, [], Option, Some, None, IsTrue}
+use Rattle.far_io.specs.Bytes.{Rose, Took, TookPrefix, TookMore, Added, AddedPrefix, IsDry}
+use Rattle.far_io.specs.declared.source.Source.{Ghosts as Source}
+use Rattle.far_io.specs.declared.sink.Sink.{Ghosts as Sink}
+use Rattle.subdiv_model.specs.Level.{Level}
 use Rattle.subdiv_model.specs.Manifold.{IsManifold}
+use Rattle.subdiv_model.specs.Base.{base_level}
+use Rattle.subdiv_model.specs.Child.{refined_level}
+use Rattle.subdiv_model.specs.Cut.{SeamMode, cut_level}
+use Rattle.subdiv_model.specs.ObjMesh.{ObjMesh}
 use Rattle.subdiv_model.specs.Words.{command_table, usage_of}
-use Rattle.subdiv_model.specs.Command.{command_of}
-use Rattle.subdiv_model.specs.Cut.{SeamMode}
-use Rattle.subdiv_model.specs.Fault.{Fault, Usage, Read, Long, Write, fault_line}
-use Rattle.subdiv_model.specs.Answer.{byte_limit}
-use Rattle.far_engine.specs.Outcome.{refusal_of, text_of, level_of, cut_level_of, is_made, input_of, IsAnswered, is_after_reading}
+use Rattle.subdiv_model.specs.Command.{Command, Reads, Makes, Streams, ReadCommand, MakeCommand, command_of}
+use Rattle.subdiv_model.specs.Fault.{Fault, Usage, Read, Long, Write, Memory, fault_line, outcome_status}
+use Rattle.subdiv_model.specs.Refusal.{Answer}
+use Rattle.subdiv_model.specs.Stream.{LineRule, answer_so_far, answer_of_all, answer_of_lines}
+use Rattle.subdiv_model.specs.Answer.{IsAcceptedMesh, answer_of_bytes, answer_of_made, byte_limit, rule_of}
+use Rattle.far_engine.specs.Outcome.{IsAnswered, is_after_reading}
+use Rattle.far_engine.specs.StepCounts.{RunSteps}
 
--- A run over a source and a sink, from what they were to what they are after it, with its outcome.
--- `left`, `held`, `source_faults`, `sink_faults` and `fixed` read a source or a sink as its trait has them.
-pub record Runs {S K : Type 0} (left : S → Option (List ℕ)) (source_faults : S → ℕ) (held : K → Option (List ℕ))
-    (sink_faults fixed : K → ℕ) (words : List (List ℕ)) (s s' : S) (k k' : K) (outcome : Option Fault) : Type 0 where
+-- What holds of every command, over a source and a sink, from what they were to what they are, with the outcome.
+pub record Ran {S K : Type 0} (source : Source S) (sink : Sink K) (s s' : S) (k k' : K) (outcome : Option Fault) : Type 0 where
+  pub not_usage : (word : ℕ) → outcome ≢ Some (Usage word)
+  -- Read and Write come only where the count of faults rose
+  pub read : outcome ≡ Some Read → Rose (source.faults s) (source.faults s')
+  pub write : outcome ≡ Some Write → Rose (sink.faults k) (sink.faults k')
+  -- whatever the outcome: a prefix of the input was taken, text was added at the end, and no count fell
+  pub taken : TookPrefix (source.left s) (source.left s')
+  pub added : (text : List ℕ) × Added (sink.held k) (sink.held k') text
+  pub source_later : source.faults s ≤ source.faults s'
+  pub sink_later : sink.faults k ≤ sink.faults k'
+  pub sink_fixed : sink.fixed k' ≡ sink.fixed k
+
+-- The outcome is that of an answer as a whole, or Read, Write or Memory. Without a fault the whole text was added, after Write a
+-- prefix of it.
+pub record AnswersWhole {K : Type 0} (sink : Sink K) (answer : Answer) (k k' : K) (outcome : Option Fault) : Type 0 where
+  pub answered : IsAnswered outcome answer.refusal
+  pub text : outcome ≡ None → Added (sink.held k) (sink.held k') answer.text
+  pub prefix : outcome ≡ Some Write → AddedPrefix (sink.held k) (sink.held k') answer.text
+
+-- A command that reads a mesh and then answers.
+pub record RunsRead {S K : Type 0} (source : Source S) (sink : Sink K) (command : ReadCommand) (s s' : S) (k k' : K) (outcome : Option Fault) : Type 0 where
+  pub ran : Ran source sink s s' k k' outcome
+  -- the answer is the one that is defined for the bytes that the source had
+  pub answer : (bytes : List ℕ) → source.left s ≡ Some bytes → AnswersWhole sink (answer_of_bytes command bytes) k k' outcome
+  -- where it comes after reading, the input was read to its end, and Long only where more bytes came
+  pub whole : IsTrue (is_after_reading outcome) → IsDry (source.left s')
+  pub long : outcome ≡ Some Long → TookMore byte_limit (source.left s) (source.left s')
+  -- after any fault but Write the sink was not called
+  pub kept : (fault : Fault) → outcome ≡ Some fault → fault ≢ Write → k' ≡ k
+
+-- A command that makes its mesh: the source is not called.
+pub record RunsMake {S K : Type 0} (source : Source S) (sink : Sink K) (command : MakeCommand) (s s' : S) (k k' : K) (outcome : Option Fault) : Type 0 where
+  pub ran : Ran source sink s s' k k' outcome
+  pub answer : AnswersWhole sink (answer_of_made command) k k' outcome
+  pub unread : s' ≡ s
+  pub not_read : outcome ≢ Some Read
+  pub not_long : outcome ≢ Some Long
+  pub kept : (fault : Fault) → outcome ≡ Some fault → fault ≢ Write → k' ≡ k
+
+-- The outcome of an answer line by line: the first refusal, or none, with the text before it.
+pub record AnswersLines {K : Type 0} (sink : Sink K) (answer : Answer) (k k' : K) (outcome : Option Fault) : Type 0 where
+  pub answered : (outcome ≡ answer.refusal) ⊎ ((outcome ≡ Some Read) ⊎ ((outcome ≡ Some Write) ⊎ (outcome ≡ Some Memory)))
+  pub text : outcome ≡ answer.refusal → Added (sink.held k) (sink.held k') answer.text
+
+-- A command that answers while it reads, by what each line adds.
+pub record RunsStream {S K : Type 0} (source : Source S) (sink : Sink K) (rule : LineRule) (s s' : S) (k k' : K) (outcome : Option Fault) : Type 0 where
+  pub ran : Ran source sink s s' k k' outcome
+  pub answer : (bytes : List ℕ) → source.left s ≡ Some bytes → AnswersLines sink (answer_of_lines rule byte_limit bytes) k k' outcome
+  pub whole : outcome ≡ None → IsDry (source.left s')
+  pub long : outcome ≡ Some Long → TookMore byte_limit (source.left s) (source.left s')
+  -- after Read what was taken shows no refusal, and its answers were added
+  pub so_far : outcome ≡ Some Read → (bytes : List ℕ) × Took (source.left s) (source.left s') bytes
+      × ((answer_so_far rule bytes).refusal ≡ None) × Added (sink.held k) (sink.held k') (answer_so_far rule bytes).text
+  -- after Write a prefix of the answers to what was taken, which are not empty, was added
+  pub prefix : outcome ≡ Some Write → (bytes : List ℕ) × Took (source.left s) (source.left s') bytes
+      × ((answer_of_all rule bytes).text ≢ []) × AddedPrefix (sink.held k) (sink.held k') (answer_of_all rule bytes).text
+  pub kept : outcome ≡ Some Memory → k' ≡ k
+
+-- A command, by its kind.
+abbrev pub RunsCommand : {S K : Type 0} → Source S → Sink K → Command → S → S → K → K → Option Fault → Type 0
+RunsCommand source sink (Reads command) s s' k k' outcome = RunsRead source sink command s s' k k' outcome
+RunsCommand source sink (Makes command) s s' k k' outcome = RunsMake source sink command s s' k k' outcome
+RunsCommand source sink (Streams command) s s' k k' outcome = RunsStream source sink (rule_of command) s s' k k' outcome
+
+-- every level of a mesh, from its level 0, is a manifold
+abbrev pub AreManifolds : Level → Type 0
+AreManifolds base = (n : ℕ) → IsManifold (refined_level base n).point_count (refined_level base n).polygons
+
+-- so are those of the mesh, and those of its cut mesh, wherever seams are sharp
+pub record HasManifolds (mesh : ObjMesh) : Type 0 where
+  pub levels : AreManifolds (base_level mesh)
+  pub cut : (mode : SeamMode) → AreManifolds (cut_level mode mesh)
+
+-- A run of words.
+pub record Runs {S K : Type 0} (source : Source S) (sink : Sink K) (words : List (List ℕ)) (s s' : S) (k k' : K) (outcome : Option Fault) : Type 0 where
   -- Usage comes exactly where the words are no command, and then nothing is called
   pub usage : (word : ℕ) → (outcome ≡ Some (Usage word)) ↔ (usage_of command_table words ≡ Some word)
   pub uncalled : (word : ℕ) → outcome ≡ Some (Usage word) → (s' ≡ s) × (k' ≡ k)
-  -- a command that makes its mesh by itself does not call the source
-  pub unread : is_made (command_of words) ≡ true → s' ≡ s
-  -- the outcome is the one that is defined for the bytes that the source had, or Read, Write or Memory
-  pub answer : (bytes : List ℕ) → input_of (is_made (command_of words)) (left s) ≡ Some bytes → IsAnswered outcome (refusal_of words bytes)
-  -- where it comes after reading, the input was read to its end
-  pub whole : IsTrue (is_after_reading outcome) → is_made (command_of words) ≡ false → IsDry (left s')
-  -- without a fault the whole text was added, and every level of the mesh and of its cut mesh is a manifold
-  pub text : (bytes : List ℕ) → input_of (is_made (command_of words)) (left s) ≡ Some bytes → outcome ≡ None → Added (held k) (held k') (text_of words bytes)
-  pub manifold : (bytes : List ℕ) → input_of (is_made (command_of words)) (left s) ≡ Some bytes → outcome ≡ None → (n : ℕ) →
-      IsManifold (level_of words bytes n).point_count (level_of words bytes n).polygons
-  pub cut_manifold : (bytes : List ℕ) → input_of (is_made (command_of words)) (left s) ≡ Some bytes → outcome ≡ None → (mode : SeamMode) (n : ℕ) →
-      IsManifold (cut_level_of words bytes mode n).point_count (cut_level_of words bytes mode n).polygons
-  -- after Write a prefix of the text was added, and after any other fault nothing was called
-  pub prefix : (bytes : List ℕ) → input_of (is_made (command_of words)) (left s) ≡ Some bytes → outcome ≡ Some Write → AddedPrefix (held k) (held k') (text_of words bytes)
-  pub kept : (fault : Fault) → outcome ≡ Some fault → fault ≢ Write → k' ≡ k
-  -- Read and Write come only where the count of faults rose, and Long only where more bytes came; Read and Long never where
-  -- nothing is read
-  pub read : outcome ≡ Some Read → (is_made (command_of words) ≡ false) × Rose (source_faults s) (source_faults s')
-  pub write : outcome ≡ Some Write → Rose (sink_faults k) (sink_faults k')
-  pub long : outcome ≡ Some Long → (is_made (command_of words) ≡ false) × TookMore byte_limit (left s) (left s')
-  -- whatever the outcome: a prefix of the input was taken, text was added at the end, and no count fell
-  pub taken : TookPrefix (left s) (left s')
-  pub added : (text : List ℕ) × Added (held k) (held k') text
-  pub source_later : source_faults s ≤ source_faults s'
-  pub sink_later : sink_faults k ≤ sink_faults k'
-  pub sink_fixed : fixed k' ≡ fixed k
+  -- else the command that they say runs
+  pub command : usage_of command_table words ≡ None → RunsCommand source sink (command_of words) s s' k k' outcome
+  -- and whatever the outcome, all levels of a mesh that it accepts are manifolds
+  pub manifold : usage_of command_table words ≡ None → (bytes : List ℕ) (mesh : ObjMesh) → IsAcceptedMesh (command_of words) bytes mesh → HasManifolds mesh
 
 -- The report of an outcome to a sink of errors: its line, or a prefix of the line only where the count of faults
 -- rose; without a fault the sink is not called.
-abbrev pub Reports : {E : Type 0} → (E → Option (List ℕ)) → (E → ℕ) → E → E → Option Fault → Type 0
-Reports held faults e e' None = e' ≡ e
-Reports held faults e e' (Some fault) =
-    Added (held e) (held e') (fault_line fault) ⊎ (Rose (faults e) (faults e') × AddedPrefix (held e) (held e') (fault_line fault))
+abbrev pub Reports : {E : Type 0} → Sink E → E → E → Option Fault → Type 0
+Reports errors e e' None = e' ≡ e
+Reports errors e e' (Some fault) =
+    Added (errors.held e) (errors.held e') (fault_line fault)
+    ⊎ (Rose (errors.faults e) (errors.faults e') × AddedPrefix (errors.held e) (errors.held e') (fault_line fault))
+
+-- the status of an outcome, and its report to a sink of errors
+pub record ReportsStatus {E : Type 0} (errors : Sink E) (e e' : E) (outcome : Option Fault) (returned : ℕ) : Type 0 where
+  pub status : returned ≡ outcome_status outcome
+  pub reports : Reports errors e e' outcome
+  pub later : errors.faults e ≤ errors.faults e'
+  pub fixed : errors.fixed e' ≡ errors.fixed e
+
+-- a run of the program, with the count of steps before and after
+pub record RunsProgram {S K : Type 0} (source : Source S) (sink : Sink K) (words : List (List ℕ)) (s s' : S) (k k' : K) (old new : ℕ) (outcome : Option Fault) : Type 0 where
+  pub runs : Runs source sink words s s' k k' outcome
+  pub steps : RunSteps source words s s' outcome old new

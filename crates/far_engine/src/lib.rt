@@ -1,20 +1,12 @@
-//! The program `far` as a library: its words, its faults, and the call that does all its work.
+//! The program `far` as a library: the call that does all its work over words, the one over a command that is read already, and
+//! what they do to a source and a sink.
 #![tactic(auto)]
 
+mod command;
 mod engine;
-mod fault;
-mod levels;
-mod made;
-mod output;
-mod overflow;
-mod piece;
-mod positions;
-mod refine;
-mod reply;
-mod stencils;
-mod texture;
-mod track;
+mod input;
+pub mod laws;
 
+pub use command::run_command;
 pub use engine::{program, run};
-pub use fault::{FarFault, report, status};
-pub use overflow::{OverflowKind, Track};
+pub use far_fault::{FarFault, OverflowKind, Track, report, status};

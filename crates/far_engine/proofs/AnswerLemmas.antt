@@ -1,0 +1,87 @@
+-- What an input is refused for, by its length, its text and its mesh.
+use Rattle.std.proofs.Common.{◌≡◌, ℕ, ◌<◌, ◌≤◌, Bool, true, false, cond, nat_lt, List, ◌++◌, length, Option, Some, None, arith, refl, ap, sym, ◌∙◌}
+use Rattle.std.proofs.lemmas.Bool.Decides.{nat_tests}
+use Rattle.subdiv_model.specs.Lists.{first_of}
+use Rattle.subdiv_model.specs.ObjFault as reader
+use Rattle.subdiv_model.specs.ObjMesh.{ObjMesh}
+use Rattle.subdiv_model.specs.ReadObj.{read_obj_fault, read_obj_mesh}
+use Rattle.subdiv_model.specs.MeshFault.{MeshFault, first_mesh_fault}
+use Rattle.subdiv_model.specs.Command.{ReadCommand, MakeCommand}
+use Rattle.subdiv_model.specs.Fault.{Fault, Usage, Read, Long, Obj, Mesh, TooLarge, Overflow, Write, Memory}
+use Rattle.subdiv_model.specs.Refusal.{Answer, answer_unless, refused}
+use Rattle.subdiv_model.specs.Answer.{answer_of_bytes, answer_of_checked, answer_of_made, answer_of_read, byte_limit, command_faults, command_text, count_faults, made_faults, made_mesh, made_text}
+use Rattle.mesh_answers.specs.Refusals.{IsFound, refusal_of_mesh, refusal_unless}
+use Rattle.far_engine.specs.Outcome.{IsAnswered}
+
+-- an answer has no other refusal than its fault, and without one its text
+unless-refusal : (fault : Option Fault) (text : List ℕ) → (answer_unless fault text).refusal ≡ fault
+unless-refusal (Some fault) text = refl
+unless-refusal None text = refl
+
+unless-text : (fault : Option Fault) (text : List ℕ) → (answer_unless fault text).refusal ≡ None → (answer_unless fault text).text ≡ text
+unless-text None text h = refl
+unless-text (Some fault) text h = absurd (cc)
+
+-- a mesh is refused by a command, and has its text, as its faults say
+checked-refusal : (command : ReadCommand) (fault : Option MeshFault) (mesh : ObjMesh) →
+    (answer_of_checked command fault mesh).refusal ≡ refusal_unless fault (first_of (count_faults mesh ++ command_faults command mesh))
+checked-refusal command (Some fault) mesh = refl
+checked-refusal command None mesh = unless-refusal (first_of (count_faults mesh ++ command_faults command mesh)) (command_text command mesh)
+
+checked-text : (command : ReadCommand) (fault : Option MeshFault) (mesh : ObjMesh) → (answer_of_checked command fault mesh).refusal ≡ None →
+    (answer_of_checked command fault mesh).text ≡ command_text command mesh
+checked-text command None mesh h = unless-text (first_of (count_faults mesh ++ command_faults command mesh)) (command_text command mesh) h
+checked-text command (Some fault) mesh h = absurd (cc)
+
+pub made-text : (command : MakeCommand) → (answer_of_made command).refusal ≡ None → (answer_of_made command).text ≡ made_text command
+made-text command h = unless-text (first_of (count_faults (made_mesh command) ++ made_faults command)) (made_text command) h
+
+within : (n m : ℕ) → n ≤ m → nat_lt m n ≡ false
+within n m h = grind (arith, nat_tests)
+
+beyond : (n m : ℕ) → m < n → nat_lt m n ≡ true
+beyond n m h = grind (arith, nat_tests)
+
+module _ (command : ReadCommand) (bytes : List ℕ) where
+  by-length : (long : Bool) → nat_lt byte_limit (length bytes) ≡ long →
+      answer_of_bytes command bytes ≡ cond long (refused Long) (answer_of_read command (read_obj_fault bytes 0) (read_obj_mesh bytes 0))
+  by-length long is = ap (λ b. cond b (refused Long) (answer_of_read command (read_obj_fault bytes 0) (read_obj_mesh bytes 0))) is
+
+  -- an input that is too long is refused for its length
+  pub long-refusal : byte_limit < length bytes → (answer_of_bytes command bytes).refusal ≡ Some Long
+  long-refusal long = ap (λ (a : Answer). a.refusal) (by-length true (beyond (length bytes) byte_limit long))
+
+  module _ (short : length bytes ≤ byte_limit) where
+    -- another for the fault of its text
+    by-text : (fault : Option reader.ObjFault) → read_obj_fault bytes 0 ≡ fault → answer_of_bytes command bytes ≡ answer_of_read command fault (read_obj_mesh bytes 0)
+    by-text fault is =
+        by-length false (within (length bytes) byte_limit short)
+        ∙ ap (λ f. answer_of_read command f (read_obj_mesh bytes 0)) is
+
+    pub text-refusal : (fault : reader.ObjFault) → read_obj_fault bytes 0 ≡ Some fault → (answer_of_bytes command bytes).refusal ≡ Some (Obj fault)
+    text-refusal fault is = ap (λ (a : Answer). a.refusal) (by-text (Some fault) is)
+
+    -- and else for what its mesh is refused for
+    module _ (good : read_obj_fault bytes 0 ≡ None) where
+      pub mesh-refusal : (answer_of_bytes command bytes).refusal ≡ refusal_of_mesh command (read_obj_mesh bytes 0)
+      mesh-refusal =
+          let mesh = read_obj_mesh bytes 0 in
+          ap (λ (a : Answer). a.refusal) (by-text None good) ∙ checked-refusal command (first_mesh_fault (length mesh.points) mesh.faces) mesh
+
+      pub mesh-text : (answer_of_bytes command bytes).refusal ≡ None → (answer_of_bytes command bytes).text ≡ command_text command (read_obj_mesh bytes 0)
+      mesh-text none =
+          let mesh = read_obj_mesh bytes 0 in
+          let same = by-text None good in
+          ap (λ (a : Answer). a.text) same ∙ checked-text command (first_mesh_fault (length mesh.points) mesh.faces) mesh (ap (λ (a : Answer). a.refusal) (sym same) ∙ none)
+
+-- a fault that was found is an answer
+pub found-answers : (fault : Fault) (refusal : Option Fault) → IsFound fault refusal → IsAnswered (Some fault) refusal
+found-answers Memory refusal found = tt
+found-answers (Obj fault) refusal found = found
+found-answers (Mesh fault) refusal found = found
+found-answers (TooLarge counted) refusal found = found
+found-answers (Overflow track level kind) refusal found = found
+found-answers (Usage word) refusal found = absurd found
+found-answers Read refusal found = absurd found
+found-answers Long refusal found = absurd found
+found-answers Write refusal found = absurd found

@@ -1,0 +1,47 @@
+use Rattle.std.proofs.Common.{rules, ap, ◌∙◌}
+use Rattle.subdiv_model.specs.Command.{Makes, Reads}
+use Rattle.far_words.specs.View.{command_of_code, read_of_code}
+use Rattle.far_engine.proofs.RunLemmas.{fault-steps, make-steps, runs-as, runs-fault, runs-make, runs-mesh, steps-as, steps-mesh}
+use Rattle.far_engine.proofs.command.run_command.Goals as goal
+
+pub returns-in_err-mesh-in-Read-clause-run : goal.returns-in_err-mesh-in-Read-clause-run
+returns-in_err-mesh-in-Read-clause-run g c =
+    runs-fault g.S.Source g.K.Sink _ _ _ _ _ _ _ (ap command_of_code c.in-Read.is) c.from_residual.ensures.0 c.from_residual.ensures.1 (c.in_err-mesh-in-Read.ensures _)
+
+pub returns-in_err-mesh-in-Read-clause-steps : goal.returns-in_err-mesh-in-Read-clause-steps
+returns-in_err-mesh-in-Read-clause-steps g c =
+    fault-steps g.S.Source g.K.Sink _ _ _ _ _ _ _ (ap command_of_code c.in-Read.is) c.from_residual.ensures.0 (c.in_err-mesh-in-Read.ensures (read_of_code c.in-Read.command))
+
+pub returns-in-Refine-clause-run : goal.returns-in-Refine-clause-run
+returns-in-Refine-clause-run g c =
+    runs-mesh g.S.Source g.K.Sink _ _ (ap command_of_code c.in-Read.is ∙ ap (λ k. Reads (read_of_code k)) c.in-Refine.is) _ _ _ c.in_ok-mesh-in-Read.ensures _ _ _ c.refine.ensures _ _ _ c.put_found.ensures
+
+pub returns-in-Refine-clause-steps : goal.returns-in-Refine-clause-steps
+returns-in-Refine-clause-steps g c =
+    steps-mesh g.S.Source g.K.Sink _ _ (ap command_of_code c.in-Read.is ∙ ap (λ k. Reads (read_of_code k)) c.in-Refine.is) _ _ _ c.in_ok-mesh-in-Read.ensures _ _ _ c.refine.ensures _ _ _ c.put_found.ensures
+
+pub returns-in-Stencils-clause-run : goal.returns-in-Stencils-clause-run
+returns-in-Stencils-clause-run g c =
+    runs-mesh g.S.Source g.K.Sink _ _ (ap command_of_code c.in-Read.is ∙ ap (λ k. Reads (read_of_code k)) c.in-Stencils.is) _ _ _ c.in_ok-mesh-in-Read.ensures _ _ _ c.stencils.ensures _ _ _ c.put_found-in-Stencils.ensures
+
+pub returns-in-Stencils-clause-steps : goal.returns-in-Stencils-clause-steps
+returns-in-Stencils-clause-steps g c =
+    steps-mesh g.S.Source g.K.Sink _ _ (ap command_of_code c.in-Read.is ∙ ap (λ k. Reads (read_of_code k)) c.in-Stencils.is) _ _ _ c.in_ok-mesh-in-Read.ensures _ _ _ c.stencils.ensures _ _ _ c.put_found-in-Stencils.ensures
+
+pub returns-in-Read-clause-run : goal.returns-in-Read-clause-run
+returns-in-Read-clause-run g c =
+    runs-mesh g.S.Source g.K.Sink _ _ (ap command_of_code c.in-Read.is ∙ ap (λ k. Reads (read_of_code k)) c.in-Levels.is) _ _ _ c.in_ok-mesh-in-Read.ensures _ _ _ c.levels.ensures _ _ _ c.put_found-in-Levels.ensures
+
+pub returns-in-Read-clause-steps : goal.returns-in-Read-clause-steps
+returns-in-Read-clause-steps g c =
+    steps-mesh g.S.Source g.K.Sink _ _ (ap command_of_code c.in-Read.is ∙ ap (λ k. Reads (read_of_code k)) c.in-Levels.is) _ _ _ c.in_ok-mesh-in-Read.ensures _ _ _ c.levels.ensures _ _ _ c.put_found-in-Levels.ensures
+
+pub returns-clause-run : goal.returns-clause-run
+returns-clause-run g c =
+    runs-as g.S.Source g.K.Sink _ _ (ap command_of_code c.in-Make-Gen.is ∙ ap Makes (search rules)) _ _ _ _ _
+    (runs-make g.S.Source g.K.Sink _ c.args.source.now _ _ _ _ _ _ c.generate.ensures c.put_found-in-Make-Gen.ensures)
+
+pub returns-clause-steps : goal.returns-clause-steps
+returns-clause-steps g c =
+    steps-as g.S.Source g.K.Sink _ _ (ap command_of_code c.in-Make-Gen.is ∙ ap Makes (search rules)) _ _ _ _ _
+    (make-steps g.S.Source g.K.Sink _ c.args.source.now _ _ _ _ _ _ c.generate.ensures c.put_found-in-Make-Gen.ensures)

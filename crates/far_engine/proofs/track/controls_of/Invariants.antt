@@ -1,7 +1,0 @@
-use Rattle.std.proofs.Common.{◌≡◌, map, take}
-use Rattle.far_engine.specs.Refine.{control_of}
-use Rattle.far_engine.proofs.track.controls_of.Given as goal
-
--- the points so far
-abbrev pub invariant-loop-value : goal.invariant-loop-value
-invariant-loop-value g l = l.controls.items ≡ map control_of (take l.value-index l.numbers)

@@ -1,0 +1,41 @@
+-- How many steps a run takes.
+-- Source: this profile.
+use Rattle.std.specs.Prelude.{ℕ, ◌≡◌, ◌+◌, ◌≤◌, List, Option, Some, None}
+use Rattle.far_io.specs.Bytes.{Took}
+use Rattle.far_io.specs.declared.source.Source.{Ghosts}
+use Rattle.subdiv_model.specs.Words.{command_table, usage_of}
+use Rattle.subdiv_model.specs.Command.{Command, Reads, Makes, Streams, StreamCommand, command_of}
+use Rattle.subdiv_model.specs.Fault.{Fault}
+use Rattle.subdiv_model.specs.ReadObj.{read_obj_mesh}
+use Rattle.mesh_answers.specs.StepCounts as mesh
+
+abbrev pub stream_steps : StreamCommand → List ℕ → ℕ
+stream_steps = elim [ ]
+
+-- how many steps a command takes at least where it answers an input, and how many it may take
+abbrev pub least_steps : Command → List ℕ → ℕ
+least_steps (Reads command) bytes = mesh.least_steps command (read_obj_mesh bytes 0)
+least_steps (Makes command) bytes = mesh.made_least command
+least_steps (Streams command) bytes = stream_steps command bytes
+
+abbrev pub step_limit : Command → List ℕ → ℕ
+step_limit (Reads command) bytes = mesh.step_limit command (read_obj_mesh bytes 0)
+step_limit (Makes command) bytes = mesh.made_limit command
+step_limit (Streams command) bytes = stream_steps command bytes
+
+-- the count of steps before and after is within what the command takes with an input
+pub record IsWithinSteps (command : Command) (bytes : List ℕ) (outcome : Option Fault) (old new : ℕ) : Type 0 where
+  pub most : new ≤ old + step_limit command bytes
+  pub least : outcome ≡ None → old + least_steps command bytes ≤ new
+
+-- What a command that runs over a source takes: what it may with the bytes that came, whether the source tells them or not, and
+-- with all bytes of a source that tells them.
+pub record TakesSteps {S : Type 0} (source : Ghosts S) (command : Command) (s s' : S) (outcome : Option Fault) (old new : ℕ) : Type 0 where
+  pub later : old ≤ new
+  pub of_taken : (bytes : List ℕ) × Took (source.left s) (source.left s') bytes × IsWithinSteps command bytes outcome old new
+  pub of_told : (bytes : List ℕ) → source.left s ≡ Some bytes → IsWithinSteps command bytes outcome old new
+
+-- and words that are no command take none
+pub record RunSteps {S : Type 0} (source : Ghosts S) (words : List (List ℕ)) (s s' : S) (outcome : Option Fault) (old new : ℕ) : Type 0 where
+  pub refused : (word : ℕ) → usage_of command_table words ≡ Some word → new ≡ old
+  pub command : usage_of command_table words ≡ None → TakesSteps source (command_of words) s s' outcome old new

@@ -1,0 +1,80 @@
+//! A command that is read already, over a source and a sink.
+
+ghost use Rattle.std.specs.Prelude.{IfOk};
+ghost use Rattle.subdiv_model.specs.Command.{IsInRange};
+ghost use Rattle.far_fault.specs.View.{outcome_of};
+ghost use Rattle.far_text.specs.Reply.{CanPut};
+ghost use Rattle.far_words.specs.View.{command_of_code};
+ghost use Rattle.far_engine.specs.Input.{PutsFound};
+ghost use Rattle.far_engine.specs.Runs.{RunsCommand};
+ghost use Rattle.far_engine.specs.StepCounts.{TakesSteps};
+
+use crate::input::read_mesh;
+use far_fault::FarFault;
+use far_io::{Sink, Source, WriteFailed};
+use far_text::{Reply, write_reply};
+use far_words::{Command, MakeCommand, ReadCommand};
+use mesh_answers::{generate, levels, refine, stencils};
+use ratio128::Steps;
+use std::alloc::Global;
+use std::sync::ledger::Ledger;
+
+// Writes a reply into the sink.
+fn put_reply<K: Sink>(reply: &Reply, sink: &mut K) -> Result<(), FarFault>
+    requires { CanPut reply.now }
+    ensures { PutsFound K.Sink (Ok reply.now) sink.old sink.new result }
+{
+    match write_reply(sink, reply) {
+        Ok(()) => Ok(()),
+        Err(WriteFailed) => Err(FarFault::Write),
+    }
+}
+
+// Writes what was found into the sink, or hands its fault on.
+fn put_found<K: Sink>(found: Result<Reply, FarFault>, sink: &mut K) -> Result<(), FarFault>
+    requires { IfOk found (λ reply. CanPut reply) }
+    ensures { PutsFound K.Sink found sink.old sink.new result }
+{
+    let reply = found?;
+    put_reply(&reply, sink)
+}
+
+/// Runs a command that is read already: reads the source to its end, and writes the answer into the sink.
+///
+/// A command that makes its mesh does not call the source. The numbers of the command are those that its options allow, as
+/// [`Command::is_in_range`] tests. [`run`](crate::run) tells what each command answers and refuses, and the steps that it
+/// takes; its fault `Usage` never comes here.
+pub fn run_command<S: Source, K: Sink, L: Ledger>(
+    alloc: Global,
+    command: &Command,
+    source: &mut S,
+    sink: &mut K,
+    steps: &mut Steps<L>,
+) -> Result<(), FarFault>
+    requires { IsInRange (command_of_code command.now) }
+    ensures run { RunsCommand S.Source K.Sink (command_of_code command.now) source.old source.new sink.old sink.new (outcome_of result) }
+    ensures steps { TakesSteps S.Source (command_of_code command.now) source.old source.new (outcome_of result) steps.old steps.new }
+{
+    match command {
+        Command::Read(command) => {
+            let mesh = read_mesh(alloc, source)?;
+            match command {
+                ReadCommand::Refine(options) => put_found(
+                    refine(alloc, &mesh, options, steps),
+                    sink,
+                ),
+                ReadCommand::Stencils { depth } => put_found(
+                    stencils(alloc, &mesh, *depth, steps),
+                    sink,
+                ),
+                ReadCommand::Levels { depth } => put_found(
+                    levels(alloc, &mesh, *depth, steps),
+                    sink,
+                ),
+            }
+        }
+        Command::Make(MakeCommand::Gen(options)) => {
+            put_found(generate(alloc, options, steps), sink)
+        }
+    }
+}

@@ -1,0 +1,63 @@
+//! What a source has: its bytes, and the mesh that they are the text of.
+
+ghost use Rattle.std.specs.Prelude.{◌≡◌, ◌≤◌, ◌^◌, length, IfOk, IfErr, MatchResult, OnOk};
+ghost use Rattle.subdiv_model.specs.Answer.{byte_limit};
+ghost use Rattle.subdiv_model.specs.Command.{ReadCommand as model_command};
+ghost use Rattle.far_io.specs.Bytes.{Took, IsDry};
+ghost use Rattle.far_fault.specs.View.{fault_of};
+ghost use Rattle.far_engine.specs.Input.{IsMeshOf, IsMeshText, IsRefused, IsTextFault, input_fault_of};
+
+use far_fault::FarFault;
+use far_io::{InputFault, Source, read_all};
+use obj_tags::{ObjFault, ReadFault, read_obj};
+use raw_mesh::RawMesh;
+use std::alloc::Global;
+
+// How many bytes an input may have.
+const LIMIT: usize = 1 << 28;
+
+// The fault of a source that could not be read to its end.
+fn fault_of_input(fault: InputFault) -> FarFault
+    ensures { fault_of result ≡ input_fault_of fault }
+{
+    match fault {
+        InputFault::Read => FarFault::Read,
+        InputFault::Long => FarFault::Long,
+        InputFault::Memory => FarFault::Memory,
+    }
+}
+
+// All bytes that a source has.
+fn bytes_of<S: Source>(alloc: Global, source: &mut S) -> Result<Vec<u8>, FarFault>
+    ensures all { IfOk result (λ bytes. Took (S.left source.old) (S.left source.new) bytes.items) }
+    ensures dry { OnOk result (IsDry (S.left source.new)) }
+    ensures short { IfOk result (λ bytes. length bytes.items ≤ byte_limit) }
+    ensures fault { (command : model_command) → IfErr result (λ fault. IsRefused S.Source command source.old source.new (fault_of fault)) }
+    ensures later { S.faults source.old ≤ S.faults source.new }
+{
+    match read_all(alloc, source, LIMIT) {
+        Ok(bytes) => Ok(bytes),
+        Err(fault) => Err(fault_of_input(fault)),
+    }
+}
+
+// The mesh of an OBJ text.
+fn mesh_of(alloc: Global, bytes: &[u8]) -> Result<RawMesh, FarFault>
+    requires { length bytes.now ≤ 2 ^ 28 }
+    ensures { MatchResult result (λ mesh. IsMeshText bytes.now mesh) (λ fault. IsTextFault bytes.now (fault_of fault)) }
+{
+    match read_obj(alloc, bytes, 0) {
+        Ok(mesh) => Ok(mesh),
+        Err(ReadFault::Obj(ObjFault { line, cause })) => Err(FarFault::Obj { line, cause }),
+        Err(ReadFault::Memory) => Err(FarFault::Memory),
+    }
+}
+
+/// The mesh of a source, which is read to its end.
+pub(crate) fn read_mesh<S: Source>(alloc: Global, source: &mut S) -> Result<RawMesh, FarFault>
+    ensures { MatchResult result (λ mesh. IsMeshOf S.Source source.old source.new mesh)
+        (λ fault. (command : model_command) → IsRefused S.Source command source.old source.new (fault_of fault)) }
+{
+    let bytes = bytes_of(alloc, source)?;
+    mesh_of(alloc, &bytes)
+}
