@@ -1,9 +1,11 @@
 -- What the refinement of a channel asks of level 0 and of its controls.
 use Rattle.std.proofs.Common.{◌≡◌, ℕ, ◌*◌, ◌^◌, ◌≤◌, true, ℤ, unsigned_abs, List, [], ◌∷◌, length, replicate, arith, refl, ap, sym, ◌∙◌}
 use Rattle.std.specs.List.{All}
+use Rattle.std.proofs.lemmas.List.{length-map}
 use Rattle.std.proofs.lemmas.List.Elements.{All-map, All-weaker}
 use Rattle.ratio128.specs.Numbers.{greatest_amount}
 use Rattle.ratio128.specs.declared.point.Point3.{Point3}
+use Rattle.subdiv_model.specs.Channel.{Channel}
 use Rattle.subdiv_model.specs.ObjMesh.{ObjMesh}
 use Rattle.mesh_laws.proofs.FaultLemmas.{fault-decides}
 use Rattle.mesh_laws.proofs.WalkLemmas.{manifold-decides}
@@ -13,7 +15,8 @@ use Rattle.mesh_check.specs.Checked.{IsAccepted}
 use Rattle.ratio128.specs.declared.valued.Valued.{Valued}
 use Rattle.primvar_refine.specs.Rows.{Row, row_at}
 use Rattle.primvar_refine.specs.View.{row_of, rows_of}
-use Rattle.channel_refine.specs.Refined.{IsBase, AreControls}
+use Rattle.channel_refine.specs.Base.{IsBase}
+use Rattle.channel_refine.specs.Refined.{AreControls}
 use Rattle.far_tests.specs.Controls.{IsControl}
 
 -- level 0 of a mesh that is accepted, where it has few points
@@ -44,9 +47,14 @@ module _ (greatest : ℕ) where
       → greatest_amount (x ∷ y ∷ z ∷ []) ≤ den * greatest
   below den x y z e a b c = rw e (omega (arith, a, b, c))
 
-  pub are-controls : (points : List (Valued Point3)) → All (IsControl greatest) points → AreControls greatest (rows_of (λ (q : Point3). q.x ∷ q.y ∷ q.z ∷ []) points)
-  are-controls points all = record {
-    whole = each (λ (row : Row). row.den ≡ 1) (λ p h. h.whole) points all;
-    within = each (λ (row : Row). greatest_amount row.numbers ≤ row.den * greatest) (λ p h. below p.den p.value.x p.value.y p.value.z h.whole h.x h.y h.z) points all;
-    alike = alike points all;
-  }
+-- and so the controls of a channel
+pub are-controls : (channel : Channel) (points : List (Valued Point3)) → length points ≡ channel.base.point_count → All (IsControl channel.greatest) points
+    → AreControls channel (rows_of (λ (q : Point3). q.x ∷ q.y ∷ q.z ∷ []) points)
+are-controls channel points count all =
+    let greatest = channel.greatest in
+    record {
+      each = length-map points (row_of (λ (q : Point3). q.x ∷ q.y ∷ q.z ∷ [])) ∙ count;
+      whole = each greatest (λ (row : Row). row.den ≡ 1) (λ p h. h.whole) points all;
+      within = each greatest (λ (row : Row). greatest_amount row.numbers ≤ row.den * greatest) (λ p h. below greatest p.den p.value.x p.value.y p.value.z h.whole h.x h.y h.z) points all;
+      alike = alike greatest points all;
+    }

@@ -1,4 +1,3 @@
-mod SureLemmas
 mod ControlLemmas
 mod RowLemmas
 mod StepLemmas

@@ -2,13 +2,13 @@
 
 ghost use Rattle.std.specs.Prelude.{◌≡◌, ◌<◌, ◌≤◌, ◌^◌, true};
 ghost use Rattle.std.specs.List.{All};
-ghost use Rattle.raw_mesh.specs.Laws.{IsWithin};
 ghost use Rattle.far_tests.specs.Controls.{IsControl};
 
 use crate::expect::expect_same;
 use crate::inputs::TRIANGLES;
-use channel_refine::{ChannelFault, RefinedChannel, refine_channel};
+use channel_refine::{BaseChannel, RefinedChannel, refine_channel};
 use level_topology::Level;
+use level_walk::{Cause, OverflowKind, WalkFault};
 use mask_rules::Scheme;
 use mesh_check::check_mesh;
 use obj_tags::read_obj;
@@ -26,6 +26,23 @@ const NUMBER_BOUND: u128 = (1 << 126) - 1;
 
 // The greatest amount of the controls and the denominator that they stand over, the scheme, and the depth.
 type Asked = (u128, u128, Scheme, u32);
+
+// Memory ran out before a channel was refined.
+pub const NO_MEMORY: WalkFault = WalkFault {
+    level: 0,
+    cause: Cause::Memory,
+};
+
+// A value that is too great at the first level, and at the second.
+pub const GREAT_AT_1: WalkFault = WalkFault {
+    level: 1,
+    cause: Cause::Overflow(OverflowKind::Value),
+};
+
+const GREAT_AT_2: WalkFault = WalkFault {
+    level: 2,
+    cause: Cause::Overflow(OverflowKind::Value),
+};
 
 // The denominator and the numerators of a point.
 type Numbers = (u128, i128, i128, i128);
@@ -97,17 +114,16 @@ fn refine_by<L: Ledger>(
     controls: Vec<Valued<Point3>>,
     asked: Asked,
     blank: Blank,
-) -> Result<RefinedChannel<Point3>, ChannelFault>
+) -> Result<RefinedChannel<Point3>, WalkFault>
     requires name { blank.name ≡ L.name }
     requires parts { blank.parts ≡ L.parts }
     requires some { 0 < blank.parts }
-    requires within { IsWithin mesh.now }
 {
     let mut steps = Steps::start(blank.open::<L>());
     let (greatest, common, scheme, depth) = asked;
     let level = match check_mesh(alloc, mesh, &mut steps) {
         Ok(level) => level,
-        Err(_) => return Err(ChannelFault::Memory),
+        Err(_) => return Err(NO_MEMORY),
     };
     assert!(rt; controls.len() == level.points() as usize);
     assert!(rt; greatest <= NUMBER_BOUND);
@@ -115,9 +131,8 @@ fn refine_by<L: Ledger>(
     assert!(rt; depth <= 10);
     assert_few(rt, &level);
     assert_controls(rt, &controls, greatest);
-    refine_channel(
-        alloc, level, controls, greatest, common, scheme, depth, &mut steps,
-    )
+    let base = BaseChannel::new(level, scheme, greatest, common);
+    refine_channel(alloc, base, controls, depth, &mut steps)
 }
 
 // A mesh of three points, with those of the triangles as controls.
@@ -126,9 +141,7 @@ fn refine_mesh(
     alloc: Global,
     mesh: &RawMesh,
     asked: Asked,
-) -> Result<Result<RefinedChannel<Point3>, ChannelFault>, Fail>
-    requires { IsWithin mesh.now }
-{
+) -> Result<Result<RefinedChannel<Point3>, WalkFault>, Fail> {
     let controls = points_of(alloc, points())?;
     Ok(refine_by::<Brand>(rt, alloc, mesh, controls, asked, Blank::new(1)))
 }
@@ -138,7 +151,7 @@ fn refine_triangles(
     rt: &impl Abort,
     alloc: Global,
     asked: Asked,
-) -> Result<Result<RefinedChannel<Point3>, ChannelFault>, Fail> {
+) -> Result<Result<RefinedChannel<Point3>, WalkFault>, Fail> {
     let mesh = read_obj(alloc, TRIANGLES.as_bytes(), 0)?;
     refine_mesh(rt, alloc, &mesh, asked)
 }
@@ -171,7 +184,7 @@ fn refines_the_points_of_triangles(rt: HostRuntime) -> Result<(), Fail> {
 }
 
 // What is asked, and the fault or none. The greatest denominators are 12 and 768.
-type Bound = (Asked, Option<ChannelFault>);
+type Bound = (Asked, Option<WalkFault>);
 
 const BOUNDS: &[Bound] = &[
     ((12, 1, Scheme::CatmullClark, 0), None),
@@ -191,7 +204,7 @@ const BOUNDS: &[Bound] = &[
             Scheme::CatmullClark,
             1,
         ),
-        Some(ChannelFault::Value { level: 1 }),
+        Some(GREAT_AT_1),
     ),
     (
         (
@@ -200,7 +213,7 @@ const BOUNDS: &[Bound] = &[
             Scheme::CatmullClark,
             3,
         ),
-        Some(ChannelFault::Value { level: 1 }),
+        Some(GREAT_AT_1),
     ),
     (
         (
@@ -209,7 +222,7 @@ const BOUNDS: &[Bound] = &[
             Scheme::CatmullClark,
             2,
         ),
-        Some(ChannelFault::Value { level: 2 }),
+        Some(GREAT_AT_2),
     ),
     (
         (7089215977519551322153637654828504406, 1, Scheme::Linear, 1),

@@ -1,7 +1,6 @@
 // Meshes with the counts of their level 0, or what is wrong with them.
 
 ghost use Rattle.std.specs.Prelude.{◌≡◌, ◌<◌};
-ghost use Rattle.raw_mesh.specs.Laws.{IsWithin};
 
 use crate::expect::expect_same;
 use level_counts::LevelCounts;
@@ -36,16 +35,13 @@ fn counts_by<L: Ledger>(alloc: Global, mesh: &RawMesh, blank: Blank) -> Result<C
     requires name { blank.name ≡ L.name }
     requires parts { blank.parts ≡ L.parts }
     requires some { 0 < blank.parts }
-    requires within { IsWithin mesh.now }
 {
     let level = check_mesh(alloc, mesh, &mut Steps::start(blank.open::<L>()))?;
     Ok(listed(LevelCounts::of(&level)))
 }
 
 // The counts of level 0 of a mesh that was read.
-fn counts_of(alloc: Global, mesh: &RawMesh) -> Result<Counts, CheckFault>
-    requires { IsWithin mesh.now }
-{
+fn counts_of(alloc: Global, mesh: &RawMesh) -> Result<Counts, CheckFault> {
     counts_by::<Brand>(alloc, mesh, Blank::new(1))
 }
 

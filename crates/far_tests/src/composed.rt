@@ -2,16 +2,16 @@
 
 ghost use Rattle.std.specs.Prelude.{◌≡◌, ◌+◌, ◌*◌, ◌<◌, ◌≤◌, ◌∷◌, [], length};
 ghost use Rattle.std.specs.List.{All};
-ghost use Rattle.raw_mesh.specs.Laws.{IsWithin};
 ghost use Rattle.subdiv_model.specs.Channel.{number_bound};
 ghost use Rattle.ratio128.specs.Numbers.{greatest_amount};
 ghost use Rattle.stencil_apply.specs.Table.{entries_of, greatest_of};
 
-use crate::channels::assert_few;
+use crate::channels::{GREAT_AT_1, NO_MEMORY, assert_few};
 use crate::expect::expect_same;
 use crate::inputs::CUBE;
 use crate::tables::{NUMBER_BOUND, Row, assert_fits, counts_of, cube, expect_row};
-use channel_refine::{ChannelFault, ComposedChannel, compose_channel};
+use channel_refine::{BaseChannel, ComposedChannel, compose_channel};
+use level_walk::WalkFault;
 use mask_rules::Scheme;
 use mesh_check::check_mesh;
 use obj_tags::read_obj;
@@ -34,24 +34,23 @@ fn compose_by<L: Ledger>(
     mesh: &RawMesh,
     asked: Asked,
     blank: Blank,
-) -> Result<ComposedChannel, ChannelFault>
+) -> Result<ComposedChannel, WalkFault>
     requires name { blank.name ≡ L.name }
     requires parts { blank.parts ≡ L.parts }
     requires some { 0 < blank.parts }
-    requires within { IsWithin mesh.now }
 {
     let mut steps = Steps::start(blank.open::<L>());
     let (greatest, common, depth) = asked;
     let level = match check_mesh(alloc, mesh, &mut steps) {
         Ok(level) => level,
-        Err(_) => return Err(ChannelFault::Memory),
+        Err(_) => return Err(NO_MEMORY),
     };
     assert!(rt; greatest <= NUMBER_BOUND);
     assert!(rt; common <= NUMBER_BOUND);
     assert!(rt; depth <= 10);
     assert_few(rt, &level);
-    let scheme = Scheme::CatmullClark;
-    compose_channel(alloc, level, greatest, common, scheme, depth, &mut steps)
+    let base = BaseChannel::new(level, Scheme::CatmullClark, greatest, common);
+    compose_channel(alloc, base, depth, &mut steps)
 }
 
 fn compose_mesh(
@@ -59,9 +58,7 @@ fn compose_mesh(
     alloc: Global,
     mesh: &RawMesh,
     asked: Asked,
-) -> Result<ComposedChannel, ChannelFault>
-    requires { IsWithin mesh.now }
-{
+) -> Result<ComposedChannel, WalkFault> {
     compose_by::<Brand>(rt, alloc, mesh, asked, Blank::new(1))
 }
 
@@ -184,7 +181,7 @@ fn compose_cube(
     rt: &impl Abort,
     alloc: Global,
     asked: Asked,
-) -> Result<Result<ComposedChannel, ChannelFault>, Fail> {
+) -> Result<Result<ComposedChannel, WalkFault>, Fail> {
     let mesh = read_obj(alloc, CUBE.as_bytes(), 0)?;
     Ok(compose_mesh(rt, alloc, &mesh, asked))
 }
@@ -228,9 +225,7 @@ fn expect_sums(
     expect_parts(rt, table, controls, &whole)
 }
 
-fn expect_mesh_evaluated(rt: &(impl Abort + AllocGlobal), mesh: &RawMesh) -> Result<(), Fail>
-    requires { IsWithin mesh.now }
-{
+fn expect_mesh_evaluated(rt: &(impl Abort + AllocGlobal), mesh: &RawMesh) -> Result<(), Fail> {
     let composed = compose_mesh(rt, rt.alloc(), mesh, (1, 1, 1))?;
     expect_sums(rt, &composed.table, mesh.points())
 }
@@ -248,7 +243,7 @@ fn evaluates_the_cube_at_once_and_in_two_ranges(rt: HostRuntime) -> Result<(), F
 fn expect_overflow(rt: &(impl Abort + AllocGlobal)) -> Result<(), Fail> {
     let greatest = 2363071992506517107384545884942834802;
     let given = compose_cube(rt, rt.alloc(), (greatest, 1, 3))?;
-    let want = Some(ChannelFault::Value { level: 1 });
+    let want = Some(GREAT_AT_1);
     expect_same(rt, &given.err(), &want, &"at level 1");
     Ok(())
 }

@@ -1,7 +1,6 @@
 // Cut meshes of texture channels.
 
 ghost use Rattle.std.specs.Prelude.{◌≡◌, ◌<◌, true};
-ghost use Rattle.raw_mesh.specs.Laws.{IsWithin};
 ghost use Rattle.mesh_check.specs.Checked.{IsAccepted};
 
 use crate::expect::expect_same;
@@ -27,7 +26,6 @@ fn cut_level<L: Ledger>(
     mode: SeamMode,
     steps: &mut Steps<L>,
 ) -> Result<Channel, CheckFault>
-    requires within { IsWithin mesh.now }
     requires textured { mesh.now.has_texture ≡ true }
     requires accepted { IsAccepted mesh.now level.now }
 {
@@ -45,7 +43,6 @@ fn cut_by<L: Ledger>(
     requires name { blank.name ≡ L.name }
     requires parts { blank.parts ≡ L.parts }
     requires some { 0 < blank.parts }
-    requires within { IsWithin mesh.now }
 {
     assert!(rt; mesh.has_texture());
     let mut steps = Steps::start(blank.open::<L>());
@@ -58,9 +55,7 @@ fn cut_mesh(
     alloc: Global,
     mesh: &RawMesh,
     mode: SeamMode,
-) -> Result<Channel, CheckFault>
-    requires { IsWithin mesh.now }
-{
+) -> Result<Channel, CheckFault> {
     cut_by::<Brand>(rt, alloc, mesh, mode, Blank::new(1))
 }
 

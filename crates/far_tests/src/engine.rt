@@ -1,14 +1,14 @@
 // Whole runs, over memory whose calls succeed or fail.
 
-ghost use Rattle.std.specs.Prelude.{◌≡◌, ◌+◌, ◌<◌, ◌⊎◌, length, map, string_bytes, Err};
-ghost use Rattle.far_engine.specs.declared.fault.FarFault.TheVariants as fault;
-ghost use Rattle.far_engine.specs.Outcome.{refusal_of, text_of};
-ghost use Rattle.far_engine.specs.View.{outcome_of};
+ghost use Rattle.std.specs.Prelude.{◌≡◌, ◌<◌};
+ghost use Rattle.subdiv_model.specs.Command.{IsInRange};
+ghost use Rattle.far_words.specs.View.{command_of_code};
 
-use crate::expect::expect_same;
-use crate::inputs::{GEN, LEVELS, REFINE, SHEET, TRIANGLES, TRIANGLES_REFINED};
-use far_engine::{FarFault, program, run};
+use crate::expect::{expect_answer, expect_same};
+use crate::inputs::{CUBE, CUBE_LEVEL, GEN, LEVELS, REFINE, SHEET, TRIANGLES, TRIANGLES_REFINED};
+use far_engine::{FarFault, program, run, run_command};
 use far_io::{MemSink, MemSource, SureSink, SureSource};
+use far_words::{Command, GenOptions, MakeCommand, ReadCommand};
 use ratio128::{Memory, Steps};
 use std::alloc::{AllocError, Global};
 use std::marker::Brand;
@@ -16,25 +16,7 @@ use std::process::Abort;
 use std::sync::ledger::{Blank, Ledger};
 use std::test::Fail;
 
-// Over memory with room for the text and one byte more, no read and no write is answered as failed, and so the outcome is
-// the one that is defined, or want of memory: this follows from the clauses of `run` alone.
-fn run_surely<L: Ledger>(
-    alloc: Global,
-    words: &Vec<String>,
-    source: &mut SureSource,
-    sink: &mut SureSink,
-    steps: &mut Steps<L>,
-) -> Result<(), FarFault>
-    ensures no_read { result ≡ Err fault.Read → ⊥ }
-    ensures no_write { length sink.old.store.held + length (text_of (map string_bytes words.now.items) source.old) < sink.old.store.room →
-        result ≡ Err fault.Write → ⊥ }
-    ensures complete { length sink.old.store.held + length (text_of (map string_bytes words.now.items) source.old) < sink.old.store.room →
-        (outcome_of result ≡ refusal_of (map string_bytes words.now.items) source.old) ⊎ (result ≡ Err fault.Memory) }
-{
-    run(alloc, words, source, sink, steps)
-}
-
-fn surely_counted<L: Ledger>(
+fn run_counted<L: Ledger>(
     alloc: Global,
     blank: Blank,
     words: &Vec<String>,
@@ -45,7 +27,7 @@ fn surely_counted<L: Ledger>(
     requires parts { blank.parts ≡ L.parts }
     requires some { 0 < blank.parts }
 {
-    run_surely(
+    run(
         alloc,
         words,
         source,
@@ -76,14 +58,46 @@ fn program_counted<L: Ledger>(
     )
 }
 
-// A run, and the program, each with a counter of its own.
+fn command_counted<L: Ledger>(
+    alloc: Global,
+    blank: Blank,
+    command: &Command,
+    source: &mut SureSource,
+    sink: &mut SureSink,
+) -> Result<(), FarFault>
+    requires name { blank.name ≡ L.name }
+    requires parts { blank.parts ≡ L.parts }
+    requires some { 0 < blank.parts }
+    requires range { IsInRange (command_of_code command.now) }
+{
+    run_command(
+        alloc,
+        command,
+        source,
+        sink,
+        &mut Steps::start(blank.open::<L>()),
+    )
+}
+
+// A run, a command, and the program, each with a counter of its own.
 fn run_on(
     alloc: Global,
     words: &Vec<String>,
     source: &mut SureSource,
     sink: &mut SureSink,
 ) -> Result<(), FarFault> {
-    surely_counted::<Brand>(alloc, Blank::new(1), words, source, sink)
+    run_counted::<Brand>(alloc, Blank::new(1), words, source, sink)
+}
+
+fn command_on(
+    alloc: Global,
+    command: &Command,
+    source: &mut SureSource,
+    sink: &mut SureSink,
+) -> Result<(), FarFault>
+    requires { IsInRange (command_of_code command.now) }
+{
+    command_counted::<Brand>(alloc, Blank::new(1), command, source, sink)
 }
 
 fn program_on(
@@ -265,6 +279,49 @@ fn expect_calls(rt: &(impl Abort + AllocGlobal), row: &FailedCalls) -> Result<()
 fn answers_calls_that_fail(rt: HostRuntime) -> Result<(), Fail> {
     for row in failed_calls() {
         expect_calls(&rt, row)?;
+    }
+    Ok(())
+}
+
+// A command that no words said, and what it writes of a mesh.
+type Direct = (Command, &'static str, &'static str);
+
+const COMMANDS: &[Direct] = &[
+    (
+        Command::Read(ReadCommand::Levels { depth: 0 }),
+        CUBE,
+        CUBE_LEVEL,
+    ),
+    (
+        Command::Make(MakeCommand::Gen(GenOptions {
+            seed: 0,
+            size: 1,
+            depth: 1,
+        })),
+        "",
+        SHEET,
+    ),
+];
+
+fn commands() -> &'static [Direct] {
+    COMMANDS
+}
+
+fn expect_command(rt: &(impl Abort + AllocGlobal), row: &Direct) -> Result<(), Fail> {
+    let (command, mesh, written) = row;
+    assert!(rt; command.is_in_range());
+    let mut source = SureSource::new(mesh.as_bytes().to_vec(rt.alloc())?);
+    let mut sink = SureSink::with_room(rt.alloc(), 4096)?;
+    let given = command_on(rt.alloc(), command, &mut source, &mut sink);
+    let want = (&Ok(()), written.as_bytes());
+    expect_answer(rt, &given, sink.bytes(), want, row);
+    Ok(())
+}
+
+#[test]
+fn runs_commands_without_words(rt: HostRuntime) -> Result<(), Fail> {
+    for row in commands() {
+        expect_command(&rt, row)?;
     }
     Ok(())
 }

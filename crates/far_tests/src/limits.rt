@@ -7,6 +7,7 @@ use crate::inputs::LEVELS;
 use crate::runs::expect_run;
 use far_engine::FarFault;
 use level_topology::Counted;
+use obj_tags::ObjCause;
 use std::alloc::Global;
 use std::process::Abort;
 use std::test::Fail;
@@ -77,6 +78,68 @@ fn expect_wheel(rt: &(impl Abort + AllocGlobal), row: &Wheel) -> Result<(), Fail
 fn takes_so_many_spokes_and_no_more(rt: HostRuntime) -> Result<(), Fail> {
     for row in wheels() {
         expect_wheel(&rt, row)?;
+    }
+    Ok(())
+}
+
+// The beginning of a text, a piece of it and how often that stands there, its end, and why a run refuses it.
+type LongText = (&'static str, &'static str, u32, &'static str, FarFault);
+
+const LONG_TEXTS: &[LongText] = &[
+    (
+        "",
+        "v 0 0 0\n",
+        1_048_577,
+        "",
+        FarFault::TooLarge(Counted::Points(1_048_577)),
+    ),
+    // A tube of triangles: each point has two with the point before it and those a turn before, of five points.
+    (
+        "v 0 0 0\nv 0 0 0\nv 0 0 0\nv 0 0 0\nv 0 0 0\nv 0 0 0\n",
+        "v 0 0 0\nf -1 -6 -2\nf -2 -6 -7\n",
+        524_289,
+        "",
+        FarFault::TooLarge(Counted::Faces(1_048_578)),
+    ),
+    (
+        "",
+        "\n",
+        1_048_576,
+        "x",
+        FarFault::Obj {
+            line: 1_048_577,
+            cause: ObjCause::UnknownKeyword,
+        },
+    ),
+];
+
+fn long_texts() -> &'static [LongText] {
+    LONG_TEXTS
+}
+
+fn long_text(alloc: Global, row: &LongText) -> Result<Vec<u8>, Fail> {
+    let &(start, piece, count, end, _) = row;
+    let mut text = start.as_bytes().to_vec(alloc)?;
+    for _ in 0..count {
+        text.extend_from_slice(piece.as_bytes())?;
+    }
+    text.extend_from_slice(end.as_bytes())?;
+    Ok(text)
+}
+
+fn expect_long_refused(rt: &(impl Abort + AllocGlobal), row: &LongText) -> Result<(), Fail> {
+    let &(_, piece, _, _, fault) = row;
+    let text = long_text(rt.alloc(), row)?;
+    let (given, _) = run_within(rt.alloc(), LEVELS, text, 1)?;
+    expect_same(rt, &given, &Err(fault), &piece);
+    Ok(())
+}
+
+// Neither is answered as want of memory.
+#[test]
+fn counts_points_faces_and_lines_past_their_limits(rt: HostRuntime) -> Result<(), Fail> {
+    for row in long_texts() {
+        expect_long_refused(&rt, row)?;
     }
     Ok(())
 }

@@ -1,7 +1,6 @@
 // Meshes that are made of arrays.
 
-ghost use Rattle.std.specs.Prelude.{◌≡◌, ◌<◌, IfOk};
-ghost use Rattle.raw_mesh.specs.Laws.{IsWithin};
+ghost use Rattle.std.specs.Prelude.{◌≡◌, ◌<◌};
 
 use crate::expect::expect_same;
 use crate::inputs::CUBE;
@@ -222,9 +221,7 @@ fn names_the_first_bad_part(rt: HostRuntime) -> Result<(), Fail> {
 }
 
 // The cube of the text, but for its coordinates.
-fn cube_of_arrays(alloc: Global) -> Result<RawMesh, PartsFault>
-    ensures { IfOk result (λ mesh. IsWithin mesh) }
-{
+fn cube_of_arrays(alloc: Global) -> Result<RawMesh, PartsFault> {
     let parts = MeshParts {
         coordinates: coordinates_to(alloc, 7, 1, 0)?,
         face_sizes: vec![in alloc; 4; 6]?,
@@ -253,16 +250,13 @@ fn level_by<L: Ledger>(alloc: Global, mesh: &RawMesh, blank: Blank) -> Result<Ve
     requires name { blank.name ≡ L.name }
     requires parts { blank.parts ≡ L.parts }
     requires some { 0 < blank.parts }
-    requires within { IsWithin mesh.now }
 {
     let level = check_mesh(alloc, mesh, &mut Steps::start(blank.open::<L>()))?;
     Ok(numbers_of(alloc, &level)?)
 }
 
 // The numbers of level 0 of a mesh.
-fn level_of(alloc: Global, mesh: &RawMesh) -> Result<Vec<u32>, CheckFault>
-    requires { IsWithin mesh.now }
-{
+fn level_of(alloc: Global, mesh: &RawMesh) -> Result<Vec<u32>, CheckFault> {
     level_by::<Brand>(alloc, mesh, Blank::new(1))
 }
 

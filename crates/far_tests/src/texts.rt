@@ -1,7 +1,7 @@
 // Texts of numbers, fractions and decimals, on their way to a sink through a buffer.
 
-ghost use Rattle.std.specs.Prelude.{◌≡◌, ℕ, ◌<◌, ◌≤◌, ◌^◌, ◌++◌, unsigned_abs, codes, OnOk, OnErr};
-ghost use Rattle.far_io.specs.Bytes.{Added, AddedPrefix, Rose};
+ghost use Rattle.std.specs.Prelude.{◌≡◌, ◌<◌, ◌≤◌, ◌^◌, ◌++◌, unsigned_abs, codes};
+ghost use Rattle.far_io.specs.Writes.{Writes};
 ghost use Rattle.subdiv_model.specs.NumberText.{fraction_text};
 
 use crate::engine::failing_sink;
@@ -13,15 +13,11 @@ use std::alloc::{AllocError, Global};
 use std::process::Abort;
 use std::test::Fail;
 
-// A word and a fraction. What any sink has got of them at last follows from the clauses of the calls
-// alone.
+// Writes a word and a fraction. The contract follows from nothing but the clauses of the calls.
 fn put_word_and_fraction<K: Sink>(sink: &mut K, f: &Frac) -> Result<(), WriteFailed>
     requires positive { 0 < f.now.den }
     requires kept { unsigned_abs f.now.num < 2 ^ 127 }
-    ensures whole { OnOk result (Added (K.held sink.old) (K.held sink.new) (codes "v " ++ fraction_text f.now.num f.now.den)) }
-    ensures prefix { OnErr result (AddedPrefix (K.held sink.old) (K.held sink.new) (codes "v " ++ fraction_text f.now.num f.now.den)) }
-    ensures cause { OnErr result (Rose (K.faults sink.old) (K.faults sink.new)) }
-    ensures later { K.faults sink.old ≤ K.faults sink.new }
+    ensures { Writes K.Sink sink.old sink.new (codes "v " ++ fraction_text f.now.num f.now.den) result }
 {
     let mut out = Out::new(sink);
     out.put_bytes(b"v ")?;

@@ -2,14 +2,27 @@
 
 use crate::engine::words_of;
 use crate::expect::expect_same;
-use far_words::{By, Command, Tags, Uv, read_words};
+use far_words::{By, Command, GenOptions, MakeCommand, ReadCommand, RefineOptions, Uv, read_words};
 use std::process::Abort;
 use std::test::Fail;
 
-// Refining to a depth, with all else left out.
+// Refining with these options.
 macro_rules! refine {
-    ($depth:literal) => {
-        Command::Refine { depth: $depth, decimals: None, uv: Uv::Smooth, by: By::Table, tags: Tags::No }
+    ($depth:literal, $decimals:expr, $uv:ident, $by:ident, $tags:literal) => {
+        Ok(Command::Read(ReadCommand::Refine(RefineOptions {
+            depth: $depth,
+            decimals: $decimals,
+            uv: Uv::$uv,
+            by: By::$by,
+            tags: $tags,
+        })))
+    };
+}
+
+// The sheet of a seed and a size, refined to a depth.
+macro_rules! sheet {
+    ($seed:literal, $size:literal, $depth:literal) => {
+        Ok(Command::Make(MakeCommand::Gen(GenOptions { seed: $seed, size: $size, depth: $depth })))
     };
 }
 
@@ -17,56 +30,36 @@ macro_rules! refine {
 type Words = (&'static str, Result<Command, u32>);
 
 const WORDS: &[Words] = &[
-    ("refine depth=0", Ok(refine!(0))),
-    ("refine depth=10", Ok(refine!(10))),
-    ("refine by=table tags=no uv=smooth depth=9", Ok(refine!(9))),
+    ("refine depth=0", refine!(0, None, Smooth, Table, false)),
+    ("refine depth=10", refine!(10, None, Smooth, Table, false)),
+    (
+        "refine by=table tags=no uv=smooth depth=9",
+        refine!(9, None, Smooth, Table, false),
+    ),
     (
         "refine decimals=18 uv=boundaries tags=yes depth=1 by=level",
-        Ok(Command::Refine {
-            depth: 1,
-            decimals: Some(18),
-            uv: Uv::Boundaries,
-            by: By::Level,
-            tags: Tags::Yes,
-        }),
+        refine!(1, Some(18), Boundaries, Level, true),
     ),
     (
         "refine depth=2 decimals=0 uv=corners",
-        Ok(Command::Refine {
-            depth: 2,
-            decimals: Some(0),
-            uv: Uv::Corners,
-            by: By::Table,
-            tags: Tags::No,
-        }),
+        refine!(2, Some(0), Corners, Table, false),
     ),
     (
         "refine uv=linear by=level depth=5",
-        Ok(Command::Refine {
-            depth: 5,
-            decimals: None,
-            uv: Uv::Linear,
-            by: By::Level,
-            tags: Tags::No,
-        }),
+        refine!(5, None, Linear, Level, false),
     ),
-    ("stencils depth=3", Ok(Command::Stencils { depth: 3 })),
-    ("levels depth=10", Ok(Command::Levels { depth: 10 })),
     (
-        "gen seed=0 size=1 depth=0",
-        Ok(Command::Gen {
-            seed: 0,
-            size: 1,
-            depth: 0,
-        }),
+        "stencils depth=3",
+        Ok(Command::Read(ReadCommand::Stencils { depth: 3 })),
     ),
+    (
+        "levels depth=10",
+        Ok(Command::Read(ReadCommand::Levels { depth: 10 })),
+    ),
+    ("gen seed=0 size=1 depth=0", sheet!(0, 1, 0)),
     (
         "gen size=256 depth=10 seed=4294967295",
-        Ok(Command::Gen {
-            seed: 4_294_967_295,
-            size: 256,
-            depth: 10,
-        }),
+        sheet!(4_294_967_295, 256, 10),
     ),
     ("", Err(0)),
     ("Refine depth=1", Err(0)),

@@ -9,7 +9,7 @@ ghost use Rattle.level_tests.specs.Values.{IsNearPoint};
 
 use crate::expect::expect_same;
 use crate::levels::{join_to, make_square};
-use channel_refine::{ByTable, ByValues, CarryFault};
+use channel_refine::{ByTable, ByValues};
 use level_topology::{Child, Level};
 use level_walk::{Cause, Dropped, NextLevel, Reached, WalkFault, walk};
 use mask_rules::Scheme;
@@ -22,29 +22,19 @@ use std::sync::ledger::{Blank, Ledger};
 use stencil_apply::{Entry, StencilTable};
 use stencil_factory::identity;
 
-// Why there is no quarter of a level.
-#[derive(Clone, Copy, Debug, PartialEq, Eq)]
-enum QuarterFault {
-    // The level is not the square: its point 0 is not complete.
-    NotComplete,
-    // Memory ran out.
-    Memory,
-}
-
 // The quarter of the square.
-fn quarter_of<L: Ledger>(
-    alloc: Global,
-    level: &Level,
-    steps: &mut Steps<L>,
-) -> Result<Child, QuarterFault>
+fn quarter_of<L: Ledger>(alloc: Global, level: &Level, steps: &mut Steps<L>) -> Result<Child, Cause>
     requires { level.now ≡ square }
     ensures { IfOk result (λ child. child ≡ quarter_child) }
 {
     match join_to(alloc, level, steps) {
         Ok(child) => Ok(child),
-        Err(_) => Err(QuarterFault::Memory),
+        Err(_) => Err(Cause::Memory),
     }
 }
+
+// The cause that the quarter has no next level. No other level here has it.
+const NO_QUARTER: Cause = Cause::TooManyFaces { count: 0 };
 
 // The next level of the square is one of its quarters, and that has none.
 #[derive(Clone, Copy)]
@@ -54,8 +44,6 @@ impl<L: Ledger> NextLevel<L> for Quarter {
     type Level = Level;
 
     type Next = Child;
-
-    type Fault = QuarterFault;
 
     ghost use Rattle.std.specs.Prelude.{◌≡◌};
     ghost use Rattle.level_tests.specs.Squares.{square, quarter_child, IsSquareOrQuarter};
@@ -70,16 +58,16 @@ impl<L: Ledger> NextLevel<L> for Quarter {
 
     ghost Makes = { λ _ level child next old new. (level ≡ square) × (child ≡ quarter_child) × (next ≡ child.topology) };
 
-    ghost Refuses = { λ _ level fault old new. Unit {0} };
+    ghost Refuses = { λ _ level cause old new. Unit {0} };
 
     fn next_level(
         &self,
         alloc: Global,
         level: &Level,
         steps: &mut Steps<L>,
-    ) -> Result<Child, QuarterFault> {
+    ) -> Result<Child, Cause> {
         if !level.is_complete(0) {
-            return Err(QuarterFault::NotComplete);
+            return Err(NO_QUARTER);
         }
         quarter_of(alloc, level, steps)
     }
@@ -97,17 +85,11 @@ impl<L: Ledger> NextLevel<L> for Quarter {
     }
 }
 
-// Where a walk stops: the number of the level that it does not reach, and the fault of the step or of the carrier.
-type Stop = (u32, Option<QuarterFault>, Option<CarryFault>);
-
-// What a test shows of the fault of a walk.
-fn stop_of(fault: WalkFault<QuarterFault, CarryFault>) -> Stop {
-    match fault.cause {
-        Cause::Level(cause) => (fault.level, Some(cause), None),
-        Cause::Carried(cause) => (fault.level, None, Some(cause)),
-        Cause::Memory => (fault.level, None, None),
-    }
-}
+// The quarter has no next level, which is level 2.
+const AFTER_QUARTER: WalkFault = WalkFault {
+    level: 2,
+    cause: NO_QUARTER,
+};
 
 // Over each denominator the numerators of a point.
 macro_rules! point {
@@ -140,12 +122,12 @@ const QUARTER_POINTS: &[Valued<Point3>] = &[
 ];
 
 // A depth, and the values there or where the walk stops.
-type ValueCase = (u32, Result<&'static [Valued<Point3>], Stop>);
+type ValueCase = (u32, Result<&'static [Valued<Point3>], WalkFault>);
 
 const VALUES: &[ValueCase] = &[
     (0, Ok(SQUARE_POINTS)),
     (1, Ok(QUARTER_POINTS)),
-    (2, Err((2, Some(QuarterFault::NotComplete), None))),
+    (2, Err(AFTER_QUARTER)),
 ];
 
 fn values() -> &'static [ValueCase] {
@@ -177,12 +159,12 @@ const QUARTER_ROWS: &[Row] = &[
 ];
 
 // A depth, and the rows there or where the walk stops.
-type TableCase = (u32, Result<&'static [Row], Stop>);
+type TableCase = (u32, Result<&'static [Row], WalkFault>);
 
 const TABLES: &[TableCase] = &[
     (0, Ok(SQUARE_ROWS)),
     (1, Ok(QUARTER_ROWS)),
-    (2, Err((2, Some(QuarterFault::NotComplete), None))),
+    (2, Err(AFTER_QUARTER)),
 ];
 
 fn tables() -> &'static [TableCase] {
@@ -190,16 +172,10 @@ fn tables() -> &'static [TableCase] {
 }
 
 // What is carried at the end of a walk, or where it stops.
-fn carried_of<C: Drop>(
-    end: Result<Reached<Level, C>, WalkFault<QuarterFault, CarryFault>>,
-) -> Result<C, Stop> {
-    match end {
-        Ok(Reached { level, carried }) => {
-            drop(level);
-            Ok(carried)
-        }
-        Err(fault) => Err(stop_of(fault)),
-    }
+fn carried_of<C: Drop>(end: Result<Reached<Level, C>, WalkFault>) -> Result<C, WalkFault> {
+    let Reached { level, carried } = end?;
+    drop(level);
+    Ok(carried)
 }
 
 // The values at a depth, or where the walk stops.
@@ -209,7 +185,7 @@ fn walk_values<L: Ledger>(
     carried: Vec<Valued<Point3>>,
     depth: u32,
     steps: &mut Steps<L>,
-) -> Result<Vec<Valued<Point3>>, Stop>
+) -> Result<Vec<Valued<Point3>>, WalkFault>
     requires level { level ≡ square }
     requires values { AreValues 8 square (rows_of (λ (q : Point3). q.x ∷ q.y ∷ q.z ∷ []) carried.items) }
 {
@@ -229,7 +205,7 @@ fn walk_table<L: Ledger>(
     carried: StencilTable,
     depth: u32,
     steps: &mut Steps<L>,
-) -> Result<StencilTable, Stop>
+) -> Result<StencilTable, WalkFault>
     requires level { level ≡ square }
     requires table { length carried.rows ≡ 4 }
 {
@@ -270,10 +246,10 @@ fn near_points(rt: &impl Abort, alloc: Global) -> Result<Vec<Valued<Point3>>, Me
 }
 
 // The walked values, or where the walk stops, are those of the case.
-fn expect_given(rt: &impl Abort, given: &Result<Vec<Valued<Point3>>, Stop>, case: &ValueCase) {
+fn expect_given(rt: &impl Abort, given: &Result<Vec<Valued<Point3>>, WalkFault>, case: &ValueCase) {
     let values = match given {
         Ok(values) => Ok(values.as_slice()),
-        Err(stop) => Err(*stop),
+        Err(fault) => Err(*fault),
     };
     expect_same(rt, &values, &case.1, case);
 }
@@ -315,7 +291,7 @@ fn expect_rows(rt: &impl Abort, table: &StencilTable, rows: &[Row]) {
 }
 
 // The walked table, or where the walk stops, is that of the case.
-fn expect_composed(rt: &impl Abort, given: &Result<StencilTable, Stop>, case: &TableCase) {
+fn expect_composed(rt: &impl Abort, given: &Result<StencilTable, WalkFault>, case: &TableCase) {
     expect_same(rt, &given.as_ref().err(), &case.1.as_ref().err(), case);
     if let (Ok(table), Ok(rows)) = (given, case.1) {
         expect_rows(rt, table, rows);

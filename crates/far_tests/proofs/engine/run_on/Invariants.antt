@@ -1,4 +1,4 @@
 use Rattle.far_tests.proofs.engine.run_on.Given as goal
 
-abbrev pub ghosts-surely_counted : goal.ghosts-surely_counted
-ghosts-surely_counted a = record { name = a.blank.name; parts = a.blank.parts }
+abbrev pub ghosts-run_counted : goal.ghosts-run_counted
+ghosts-run_counted a = record { name = a.blank.name; parts = a.blank.parts }
