@@ -1,10 +1,10 @@
 #!/usr/bin/env python3
 """Checks that each name in the documents is one of the sources, and that each public definition is named in a document.
 
-The documents are README.md, docs/**/*.md, crates/*/README.md and cases/README.md. A name is an identifier in backquotes
-(`mask_of`), also qualified (`far_engine::program`), with arguments (`gcd(a, b)`) or with hyphens (an edit of must-fail, a
-case, or a lemma); an option (`by=level`, `far refine depth=1`), by what stands before the `=`; or a file (`Answer.antt`,
-`crates/far_cli`). Other text in backquotes is passed over, and so are fenced blocks.
+The documents are README.md, CONTRIBUTING.md, docs/**/*.md, crates/*/README.md and cases/README.md. A name is an identifier
+in backquotes (`mask_of`), also qualified (`far_engine::program`), with arguments (`gcd(a, b)`) or with hyphens (an edit of
+must-fail, a case, or a lemma); an option (`by=level`, `far refine depth=1`), by what stands before the `=`; or a file
+(`Answer.antt`, `crates/far_cli`). Other text in backquotes is passed over, and so are fenced blocks.
 
     tools/check_names.py
     tools/check_names.py --top ../copy
@@ -39,7 +39,7 @@ CASE_FILES = {"stdin", "stdout", "stderr"}
 REFUSED = {"V", "nan"}
 
 # Which files are what.
-DOCUMENTS = r"README\.md|docs/.*\.md|crates/\w+/README\.md|cases/README\.md"
+DOCUMENTS = r"(?:README|CONTRIBUTING)\.md|docs/.*\.md|crates/\w+/README\.md|cases/README\.md"
 DEFINITIONS = r"crates/(\w+)/(?:specs|proofs)/.*\.antt"
 CODE = r"crates/(\w+)/src/.*\.rt"
 MODEL = r"crates/subdiv_model/specs/\w+\.antt"

@@ -97,16 +97,29 @@ def refined_text(obj, options):
     return "".join(lines + (tag_lines(level) if with_tags else []))
 
 
+def depth_of(options):
+    return int(options[b"depth"])
+
+
+# The text of each command that reads a mesh, of the mesh and the options.
+TEXTS_OF_MESH = {
+    b"refine": refined_text,
+    b"stencils": lambda obj, options: table_text(obj, depth_of(options)),
+    b"levels": lambda obj, options: levels_text(obj, depth_of(options)),
+}
+
+# The text of each command that makes its mesh, of the options.
+TEXTS_OF_OPTIONS = {
+    b"gen": lambda options: sheet_text(int(options[b"seed"]), int(options[b"size"]), depth_of(options)),
+}
+
+
 def answer(words, source):
     """The text that the program writes for these words (a list of bytes) and this input, or a Refusal."""
     command, options = understood(words)
-    depth = int(options[b"depth"])
-    if command == b"gen":
-        return sheet_text(int(options[b"seed"]), int(options[b"size"]), depth)
-    obj = read_mesh(source)
-    if command == b"refine":
-        return refined_text(obj, options)
-    return levels_text(obj, depth) if command == b"levels" else table_text(obj, depth)
+    if command in TEXTS_OF_OPTIONS:
+        return TEXTS_OF_OPTIONS[command](options)
+    return TEXTS_OF_MESH[command](read_mesh(source), options)
 
 
 if __name__ == "__main__":
