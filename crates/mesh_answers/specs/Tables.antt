@@ -1,5 +1,5 @@
 -- The table of a mesh at a depth, and the summary of a sheet.
-use Rattle.std.specs.Prelude.{ℕ, ◌≡◌, None}
+use Rattle.std.specs.Prelude.{ℕ, ◌≡◌, None, Result, MatchResult}
 use Rattle.subdiv_model.specs.ObjMesh.{ObjMesh}
 use Rattle.subdiv_model.specs.Answer.{positions_of, table_faults, generated_text}
 use Rattle.stencil_apply.specs.Table.{IsTable}
@@ -8,7 +8,9 @@ use Rattle.channel_refine.specs.View.{composed_of}
 use Rattle.channel_refine.specs.declared.compose.ComposedChannel.{ComposedChannel}
 use Rattle.far_text.specs.Summary.{CanSummaryBeWritten, summary_text}
 use Rattle.far_text.specs.declared.summary.Summary.{Summary}
-use Rattle.mesh_answers.specs.Refusals.{refusal_by}
+use Rattle.far_fault.specs.View.{fault_of}
+use Rattle.far_fault.specs.declared.fault.FarFault.{FarFault}
+use Rattle.mesh_answers.specs.Refusals.{IsFound, refusal_by}
 
 -- the mesh is not refused where its table is composed, and this is the table
 pub record IsComposedOf (mesh : ObjMesh) (depth : ℕ) (channel : ComposedChannel) : Type 0 where
@@ -16,7 +18,11 @@ pub record IsComposedOf (mesh : ObjMesh) (depth : ℕ) (channel : ComposedChanne
   pub composed : IsComposedTo (positions_of mesh) depth (composed_of channel)
   pub made : IsTable channel.table
 
--- and this is the summary of its level and its table
+-- the table, or what is refused of the mesh where it is composed
+abbrev pub IsComposition : ObjMesh → ℕ → Result ComposedChannel FarFault → Type 0
+IsComposition mesh depth result = MatchResult result (IsComposedOf mesh depth) (λ fault. IsFound (fault_of fault) (refusal_by (table_faults depth mesh) mesh))
+
+-- the mesh is not refused, and this is the summary of its level and its table
 pub record IsSummaryOf (mesh : ObjMesh) (depth : ℕ) (summary : Summary) : Type 0 where
   pub good : refusal_by (table_faults depth mesh) mesh ≡ None
   pub says : summary_text summary ≡ generated_text mesh depth

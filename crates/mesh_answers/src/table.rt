@@ -1,15 +1,12 @@
 //! The table of a mesh at a depth.
 
-ghost use Rattle.std.specs.Prelude.{◌≤◌, MatchResult};
+ghost use Rattle.std.specs.Prelude.{◌≤◌};
 ghost use Rattle.subdiv_model.specs.Command.{Stencils};
-ghost use Rattle.subdiv_model.specs.Answer.{table_faults};
-ghost use Rattle.far_fault.specs.View.{fault_of};
 ghost use Rattle.ratio128.specs.StepsTaken.{StepsTaken};
 ghost use Rattle.mesh_answers.specs.Levels.{IsLevelWithin};
-ghost use Rattle.mesh_answers.specs.Refusals.{refusal_by, IsFound};
 ghost use Rattle.mesh_answers.specs.Replies.{IsAnswerTo};
 ghost use Rattle.mesh_answers.specs.StepCounts.{later_faces, level_faces_to};
-ghost use Rattle.mesh_answers.specs.Tables.{IsComposedOf};
+ghost use Rattle.mesh_answers.specs.Tables.{IsComposition};
 
 use crate::level::level_within;
 use crate::tracks::position_channel;
@@ -32,8 +29,7 @@ fn compose_from<L: Ledger>(
 ) -> Result<ComposedChannel, FarFault>
     requires depth { depth ≤ 10 }
     requires level { IsLevelWithin depth mesh.now level }
-    ensures composed { MatchResult result (λ composed. IsComposedOf mesh.now depth composed)
-        (λ fault. IsFound (fault_of fault) (refusal_by (table_faults depth mesh.now) mesh.now)) }
+    ensures composed { IsComposition mesh.now depth result }
     ensures steps { StepsTaken result steps.old steps.new 0 (later_faces depth mesh.now) }
 {
     match compose_channel(alloc, position_channel(mesh, level), depth, steps) {
@@ -53,8 +49,7 @@ pub(crate) fn compose<L: Ledger>(
     steps: &mut Steps<L>,
 ) -> Result<ComposedChannel, FarFault>
     requires { depth ≤ 10 }
-    ensures composed { MatchResult result (λ composed. IsComposedOf mesh.now depth composed)
-        (λ fault. IsFound (fault_of fault) (refusal_by (table_faults depth mesh.now) mesh.now)) }
+    ensures composed { IsComposition mesh.now depth result }
     ensures steps { StepsTaken result steps.old steps.new 0 (level_faces_to depth mesh.now) }
 {
     let level = level_within(alloc, mesh, depth, steps)?;
