@@ -118,7 +118,9 @@ pub record ReportsStatus {E : Type 0} (errors : Sink E) (e e' : E) (outcome : Op
   pub later : errors.faults e ≤ errors.faults e'
   pub fixed : errors.fixed e' ≡ errors.fixed e
 
--- a run of the program, with the count of steps before and after
-pub record RunsProgram {S K : Type 0} (source : Source S) (sink : Sink K) (words : List (List ℕ)) (s s' : S) (k k' : K) (old new : ℕ) (outcome : Option Fault) : Type 0 where
+-- A run of the program: its outcome, its steps, and the report of its outcome with the status that is returned.
+pub record RunsProgram {S K E : Type 0} (source : Source S) (sink : Sink K) (errors : Sink E) (words : List (List ℕ)) (s s' : S) (k k' : K) (e e' : E) (old new returned : ℕ) : Type 0 where
+  pub outcome : Option Fault
   pub runs : Runs source sink words s s' k k' outcome
   pub steps : RunSteps source words s s' outcome old new
+  pub reports : ReportsStatus errors e e' outcome returned

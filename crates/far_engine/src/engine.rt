@@ -1,7 +1,6 @@
 //! The program over words.
 
-ghost use Rattle.std.specs.Prelude.{◌≡◌, map, string_bytes, Option};
-ghost use Rattle.subdiv_model.specs.Fault.{Fault};
+ghost use Rattle.std.specs.Prelude.{map, string_bytes};
 ghost use Rattle.far_fault.specs.View.{outcome_of};
 ghost use Rattle.far_engine.specs.Runs.{ReportsStatus, Runs, RunsProgram};
 ghost use Rattle.far_engine.specs.StepCounts.{RunSteps};
@@ -95,9 +94,7 @@ pub fn program<S: Source, K: Sink, E: Sink, L: Ledger>(
     errors: &mut E,
     steps: &mut Steps<L>,
 ) -> u8
-    ensures { (outcome : Option Fault)
-        × RunsProgram S.Source K.Sink (map string_bytes words.now.items) source.old source.new sink.old sink.new steps.old steps.new outcome
-        × ReportsStatus E.Sink errors.old errors.new outcome result }
+    ensures { RunsProgram S.Source K.Sink E.Sink (map string_bytes words.now.items) source.old source.new sink.old sink.new errors.old errors.new steps.old steps.new result }
 {
     conclude(run(alloc, words, source, sink, steps), errors)
 }

@@ -2,4 +2,5 @@ use Rattle.far_engine.proofs.LawLemmas.{answered-without-faults}
 use Rattle.far_engine.proofs.laws.faults_alone_keep_the_answer.Goals as goal
 
 pub returns : goal.returns
-returns g c = λ words bytes s s' k k' outcome run had no_read no_write. answered-without-faults _ _ s s' k k' words bytes outcome run had no_read no_write
+returns g c = λ run.
+    answered-without-faults _ _ run.first run.last run.before run.after run.words run.bytes run.outcome run.runs run.told run.no_read_failed run.no_write_failed

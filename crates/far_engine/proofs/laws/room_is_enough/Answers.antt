@@ -4,9 +4,9 @@ use Rattle.far_engine.proofs.LawLemmas.{answered-by, cut-at, no-write, not-to-ze
 use Rattle.far_engine.proofs.laws.room_is_enough.Goals as goal
 
 pub returns : goal.returns
-returns c = λ words bytes left k k' outcome run fits.
-    answered-by _ _ bytes left k k' words bytes outcome run refl
-    (λ e. not-to-zero 0 (rose-at _ _ bytes left k k' words bytes outcome run refl e))
+returns c = λ run.
+    answered-by _ _ run.bytes run.left run.before run.after run.words run.bytes run.outcome run.runs refl
+    (λ e. not-to-zero 0 (rose-at _ _ run.bytes run.left run.before run.after run.words run.bytes run.outcome run.runs refl e))
     (λ e.
-    let cut = cut-at _ _ bytes left k k' words bytes outcome run refl e in
-    no-write (answer words bytes).text k k' fits cut.2 cut.1 cut.0)
+    let cut = cut-at _ _ run.bytes run.left run.before run.after run.words run.bytes run.outcome run.runs refl e in
+    no-write (answer run.words run.bytes).text run.before run.after run.room cut.2 cut.1 cut.0)
