@@ -1,2 +1,4 @@
 pub mod TagLines
 pub mod Descendants
+pub mod Laws
+pub mod Seams

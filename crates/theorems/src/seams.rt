@@ -1,39 +1,32 @@
 //! Laws of the boundary of a cut mesh, level by level.
 
-ghost use Rattle.std.specs.Prelude.{◌≡◌, ℕ, ◌<◌, ℤ, pos, List, [], ◌∷◌, length, IsTrue};
+ghost use Rattle.std.specs.Prelude.{◌≡◌, ℕ, ◌<◌, ℤ, pos, List, [], ◌∷◌, length};
 ghost use Rattle.std.specs.List.{list_any};
 ghost use Rattle.subdiv_model.specs.Polygons.{same_edge};
-ghost use Rattle.subdiv_model.specs.Edges.{is_boundary, has_end};
+ghost use Rattle.subdiv_model.specs.Edges.{is_boundary};
 ghost use Rattle.subdiv_model.specs.Manifold.{IsManifold};
 ghost use Rattle.subdiv_model.specs.ObjMesh.{ObjMesh};
-ghost use Rattle.subdiv_model.specs.Child.{refined_level};
 ghost use Rattle.subdiv_model.specs.Mask.{CatmullClark, Linear};
 ghost use Rattle.subdiv_model.specs.Value.{IsSameValue, whole_value};
 ghost use Rattle.subdiv_model.specs.Refined.{point_value, control_values, refined_values};
 ghost use Rattle.subdiv_model.specs.Cut.{SmoothSeams, BoundarySeams, cut_level};
 ghost use Rattle.subdiv_model.specs.Examples.{joined_quads};
 ghost use Rattle.theorems.specs.Descendants.{boundary_descendants};
+ghost use Rattle.theorems.specs.Seams.{SeamEnd, cut_value, seam_descendants, sharp_level, smooth_level};
 
 /// Where the boundary of a cut mesh stays sharp, its texture is refined linearly there: at every depth each end of a
 /// descendant of a boundary edge has the value that linear refinement of the cut mesh gives it, whatever the control
 /// numbers are, and both values have a denominator above 0. The descendants are exactly the boundary edges of their
 /// level, in either direction. Each level has the same points and faces as where seams are smooth.
 pub fn texture_is_linear_on_sharp_seams()
-    ensures linear { (mesh : ObjMesh) (controls : List ℤ) (k p : ℕ) → IsManifold (length mesh.points) mesh.faces
-        → IsTrue (list_any (has_end p) (boundary_descendants (cut_level BoundarySeams mesh) k))
-        → IsSameValue (point_value (refined_values (cut_level BoundarySeams mesh) CatmullClark (control_values controls) k) p)
-        (point_value (refined_values (cut_level SmoothSeams mesh) Linear (control_values controls) k) p) }
-    ensures above_zero { (mesh : ObjMesh) (controls : List ℤ) (k p : ℕ) → IsManifold (length mesh.points) mesh.faces
-        → IsTrue (list_any (has_end p) (boundary_descendants (cut_level BoundarySeams mesh) k))
-        → (0 < (point_value (refined_values (cut_level BoundarySeams mesh) CatmullClark (control_values controls) k) p).den)
-        × (0 < (point_value (refined_values (cut_level SmoothSeams mesh) Linear (control_values controls) k) p).den) }
+    ensures linear { (end : SeamEnd) (controls : List ℤ)
+        → IsSameValue (cut_value BoundarySeams CatmullClark controls end) (cut_value SmoothSeams Linear controls end) }
+    ensures above_zero { (end : SeamEnd) (controls : List ℤ)
+        → (0 < (cut_value BoundarySeams CatmullClark controls end).den) × (0 < (cut_value SmoothSeams Linear controls end).den) }
     ensures descendants { (mesh : ObjMesh) (k : ℕ) (edge : ℕ × ℕ) → IsManifold (length mesh.points) mesh.faces
-        → list_any (same_edge edge) (boundary_descendants (cut_level BoundarySeams mesh) k)
-        ≡ is_boundary (refined_level (cut_level BoundarySeams mesh) k).polygons edge }
-    ensures same_points { (mesh : ObjMesh) (k : ℕ)
-        → (refined_level (cut_level BoundarySeams mesh) k).point_count ≡ (refined_level (cut_level SmoothSeams mesh) k).point_count }
-    ensures same_faces { (mesh : ObjMesh) (k : ℕ)
-        → (refined_level (cut_level BoundarySeams mesh) k).polygons ≡ (refined_level (cut_level SmoothSeams mesh) k).polygons }
+        → list_any (same_edge edge) (seam_descendants mesh k) ≡ is_boundary (sharp_level mesh k).polygons edge }
+    ensures same_points { (mesh : ObjMesh) (k : ℕ) → (sharp_level mesh k).point_count ≡ (smooth_level mesh k).point_count }
+    ensures same_faces { (mesh : ObjMesh) (k : ℕ) → (sharp_level mesh k).polygons ≡ (smooth_level mesh k).polygons }
 {}
 
 /// Two quads side by side without a seam: their six outer edges, and the halves of these. A control number of 8 at one

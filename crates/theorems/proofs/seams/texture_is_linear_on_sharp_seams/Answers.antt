@@ -3,11 +3,11 @@ use Rattle.theorems.proofs.SeamLemmas.{seams-linear, seams-exact, seams-shape}
 use Rattle.theorems.proofs.seams.texture_is_linear_on_sharp_seams.Goals as goal
 
 pub returns-clause-linear : goal.returns-clause-linear
-returns-clause-linear c = λ mesh controls k p manifold there. (seams-linear mesh manifold controls k p there).same
+returns-clause-linear c = λ end controls. (seams-linear end.mesh end.manifold controls end.k end.p end.is_end).same
 
 pub returns-clause-above_zero : goal.returns-clause-above_zero
 returns-clause-above_zero c =
-    λ mesh controls k p manifold there. let one = seams-linear mesh manifold controls k p there in (one.first, one.second)
+    λ end controls. let one = seams-linear end.mesh end.manifold controls end.k end.p end.is_end in (one.first, one.second)
 
 pub returns-clause-descendants : goal.returns-clause-descendants
 returns-clause-descendants c = λ mesh k edge manifold. seams-exact mesh manifold k edge

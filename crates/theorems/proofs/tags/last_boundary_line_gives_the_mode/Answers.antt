@@ -4,15 +4,15 @@ use Rattle.theorems.proofs.TextTagLemmas.{last-mode, no-mode}
 use Rattle.theorems.proofs.tags.last_boundary_line_gives_the_mode.Goals as goal
 
 pub returns-clause-vertices : goal.returns-clause-vertices
-returns-clause-vertices c = λ lines before after words least v split is none.
-    mode-vertex lines least (tag_mode words) (last-mode lines before after words least split is none) v
+returns-clause-vertices c = λ text v last.
+    mode-vertex text.lines text.least (tag_mode last.element) (last-mode text.lines last.before last.after last.element text.least last.split last.is_one last.none_after) v
 
 pub returns-clause-holes : goal.returns-clause-holes
-returns-clause-holes c = λ lines before after words least face split is none.
-    mode-hole lines least (tag_mode words) (last-mode lines before after words least split is none) face
+returns-clause-holes c = λ text face last.
+    mode-hole text.lines text.least (tag_mode last.element) (last-mode text.lines last.before last.after last.element text.least last.split last.is_one last.none_after) face
 
 pub returns-clause-untagged_vertices : goal.returns-clause-untagged_vertices
-returns-clause-untagged_vertices c = λ lines least v none. mode-vertex lines least _ (no-mode lines least none) v
+returns-clause-untagged_vertices c = λ text v none. mode-vertex text.lines text.least _ (no-mode text.lines text.least none) v
 
 pub returns-clause-untagged_holes : goal.returns-clause-untagged_holes
-returns-clause-untagged_holes c = no-mode-hole
+returns-clause-untagged_holes c = λ text. no-mode-hole text.lines text.least
