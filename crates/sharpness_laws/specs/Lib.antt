@@ -1,2 +1,3 @@
 pub mod SameFraction
 pub mod SameWeights
+pub mod Orders

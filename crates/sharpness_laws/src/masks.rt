@@ -1,51 +1,37 @@
 //! Laws of masks: neither the order of edges, faces and corners nor the direction of an edge matters, and what the
 //! weights of the sources decide.
 
-ghost use Rattle.std.specs.Prelude.{◌≡◌, ◌*◌, IsTrue, ℕ, List, map};
+ghost use Rattle.std.specs.Prelude.{◌≡◌, ◌*◌, IsTrue, ℕ, List};
 ghost use Rattle.std.specs.List.{sum_by};
 ghost use Rattle.std.specs.List.Sorted.{IsPermutation};
 ghost use Rattle.subdiv_model.specs.Polygons.{Polygon};
-ghost use Rattle.subdiv_model.specs.Sharpness.{Sharpness, Method, uniform_child};
-ghost use Rattle.subdiv_model.specs.Level.{Level, edge_sharpness_of, vertex_sharpness_of, edges_at, faces_at};
-ghost use Rattle.subdiv_model.specs.Rule.{vertex_rule, same_mask, child_ring};
-ghost use Rattle.subdiv_model.specs.Mask.{SourcePoint, Term, Mask, CatmullClark, total_weight, mask_of, mask_of_rule, mask_of_vertex, mask_of_edge, mask_of_corners, vertex_mask, other_end};
+ghost use Rattle.subdiv_model.specs.Sharpness.{Sharpness, Method};
+ghost use Rattle.subdiv_model.specs.Level.{Level};
+ghost use Rattle.subdiv_model.specs.Mask.{SourcePoint, Term, Mask, CatmullClark, total_weight, mask_of, mask_of_vertex, mask_of_edge, mask_of_corners, vertex_mask};
 ghost use Rattle.subdiv_model.specs.Value.{Value};
 ghost use Rattle.subdiv_model.specs.Refined.{mask_value, mask_denominator};
+ghost use Rattle.sharpness_laws.specs.Orders.{Transition, Star, IsReordered, OrderAt, has_one_mask, mask_by_rule, mask_between, mask_by_method, mask_in_order};
 ghost use Rattle.sharpness_laws.specs.SameWeights.{HaveSameWeights, is_joined};
 
 /// The mask of a vertex by its rule has the same weights in whatever order its edges and faces stand: each edge
 /// with its other end and its sharpness.
 pub fn vertex_rules_follow_the_order()
-    ensures { (vertex : Sharpness) (v : ℕ) (around other : List (ℕ × Sharpness)) (faces others : List ℕ) → IsPermutation around other
-        → IsPermutation faces others
-        → HaveSameWeights
-        (mask_of_rule v (map (λ a. a.0) around) faces (vertex_rule vertex (map (λ a. a.1) around)))
-        (mask_of_rule v (map (λ a. a.0) other) others (vertex_rule vertex (map (λ a. a.1) other))) }
+    ensures { (vertex : Sharpness) (v : ℕ) (star other : Star Sharpness) → IsReordered star other
+        → HaveSameWeights (mask_by_rule vertex v star) (mask_by_rule vertex v other) }
 {}
 
 /// The mask of a vertex between two levels has the same weights in whatever order its edges and faces stand: each
 /// edge with its other end, its sharpness now and its sharpness in the next level. Two rules name one mask or two
 /// in every order. At a level the sharpness in the next one follows from the ring.
 pub fn vertex_masks_do_not_see_the_order()
-    ensures same_mask { (vertex vertex_child : Sharpness) (pairs other : List (Sharpness × Sharpness)) → IsPermutation pairs other
-        → same_mask (vertex_rule vertex (map (λ p. p.0) pairs)) (vertex_rule vertex_child (map (λ p. p.1) pairs))
-        ≡ same_mask (vertex_rule vertex (map (λ p. p.0) other)) (vertex_rule vertex_child (map (λ p. p.1) other)) }
-    ensures mask { (vertex vertex_child : Sharpness) (v : ℕ) (around other : List (ℕ × (Sharpness × Sharpness))) (faces others : List ℕ)
-        → IsPermutation around other → IsPermutation faces others
-        → HaveSameWeights
-        (mask_of_vertex vertex vertex_child (map (λ a. a.1.0) around) (map (λ a. a.1.1) around) v (map (λ a. a.0) around) faces)
-        (mask_of_vertex vertex vertex_child (map (λ a. a.1.0) other) (map (λ a. a.1.1) other) v (map (λ a. a.0) other) others) }
-    ensures ring { (method : Method) (vertex vertex_child : Sharpness) (v : ℕ) (around other : List (ℕ × Sharpness)) (faces others : List ℕ)
-        → IsPermutation around other → IsPermutation faces others
-        → HaveSameWeights
-        (mask_of_vertex vertex vertex_child (map (λ a. a.1) around) (child_ring method (map (λ a. a.1) around)) v (map (λ a. a.0) around) faces)
-        (mask_of_vertex vertex vertex_child (map (λ a. a.1) other) (child_ring method (map (λ a. a.1) other)) v (map (λ a. a.0) other) others) }
-    ensures level { (level : Level) (v : ℕ) (edges : List (ℕ × ℕ)) (faces : List ℕ) → IsPermutation (edges_at level v) edges
-        → IsPermutation (faces_at level v) faces
-        → HaveSameWeights
-        (vertex_mask level CatmullClark v)
-        (mask_of_vertex (vertex_sharpness_of level v) (uniform_child (vertex_sharpness_of level v))
-        (map (edge_sharpness_of level) edges) (child_ring level.method (map (edge_sharpness_of level) edges)) v (map (other_end v) edges) faces) }
+    ensures same_mask { (vertex : Transition) (ring other : List Transition) → IsPermutation ring other
+        → has_one_mask vertex ring ≡ has_one_mask vertex other }
+    ensures mask { (vertex : Transition) (v : ℕ) (star other : Star Transition) → IsReordered star other
+        → HaveSameWeights (mask_between vertex v star) (mask_between vertex v other) }
+    ensures ring { (method : Method) (vertex : Transition) (v : ℕ) (star other : Star Sharpness) → IsReordered star other
+        → HaveSameWeights (mask_by_method method vertex v star) (mask_by_method method vertex v other) }
+    ensures level { (level : Level) (v : ℕ) (order : OrderAt level v)
+        → HaveSameWeights (vertex_mask level CatmullClark v) (mask_in_order level v order.edges order.faces) }
 {}
 
 /// The mask of an edge has the same weights in either direction of the edge, and in whatever order its faces stand.

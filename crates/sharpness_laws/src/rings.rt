@@ -1,11 +1,12 @@
 //! Laws of the ring of edges at a vertex: its order does not matter.
 
-ghost use Rattle.std.specs.Prelude.{◌≡◌, ◌<◌, ℕ, List, map};
+ghost use Rattle.std.specs.Prelude.{◌≡◌, ◌<◌, ℕ, List};
 ghost use Rattle.std.specs.List.Sorted.{IsPermutation};
 ghost use Rattle.subdiv_model.specs.Fractions.{sum_of_fractions};
 ghost use Rattle.subdiv_model.specs.Multiples.{common_denominator};
 ghost use Rattle.subdiv_model.specs.Sharpness.{Sharpness, Method, sharpness_of_fraction, chaikin_value, chaikin_child_of, chaikin_overflows, half_child};
-ghost use Rattle.subdiv_model.specs.Rule.{child_ring, at_most_one, transition_weight, transition_overflows};
+ghost use Rattle.subdiv_model.specs.Rule.{child_ring, at_most_one};
+ghost use Rattle.sharpness_laws.specs.Orders.{Transition, weight_between, overflows_between};
 ghost use Rattle.sharpness_laws.specs.SameFraction.{IsSameFraction};
 
 /// The sum of fractions and their common denominator are the same in any order.
@@ -29,12 +30,10 @@ pub fn chaikin_children_do_not_see_the_order()
 /// The weight of a transition is one, and is refused or not, in whatever order the edges at the vertex stand: each
 /// with its sharpness in this level and in the next.
 pub fn transition_weights_do_not_see_the_order()
-    ensures weight { (vertex vertex_child : Sharpness) (pairs other : List (Sharpness × Sharpness)) → IsPermutation pairs other
-        → transition_weight vertex vertex_child (map (λ p. p.0) pairs) (map (λ p. p.1) pairs)
-        ≡ transition_weight vertex vertex_child (map (λ p. p.0) other) (map (λ p. p.1) other) }
-    ensures overflow { (vertex vertex_child : Sharpness) (pairs other : List (Sharpness × Sharpness)) → IsPermutation pairs other
-        → transition_overflows vertex vertex_child (map (λ p. p.0) pairs) (map (λ p. p.1) pairs)
-        ≡ transition_overflows vertex vertex_child (map (λ p. p.0) other) (map (λ p. p.1) other) }
+    ensures weight { (vertex : Transition) (ring other : List Transition) → IsPermutation ring other
+        → weight_between vertex ring ≡ weight_between vertex other }
+    ensures overflow { (vertex : Transition) (ring other : List Transition) → IsPermutation ring other
+        → overflows_between vertex ring ≡ overflows_between vertex other }
 {}
 
 /// Equal fractions name one sharpness and one weight, and a sum of equal value gives an equal child, whatever terms

@@ -5,15 +5,18 @@ use Rattle.sharpness_laws.proofs.RuleOrderLemmas.{same_mask-any_order, same-vert
 use Rattle.sharpness_laws.proofs.masks.vertex_masks_do_not_see_the_order.Goals as goal
 
 pub returns-clause-same_mask : goal.returns-clause-same_mask
-returns-clause-same_mask c = same_mask-any_order (λ p. p.0) (λ p. p.1)
+returns-clause-same_mask c = λ vertex. same_mask-any_order (λ edge. edge.0) (λ edge. edge.1) vertex.0 vertex.1
 
 pub returns-clause-mask : goal.returns-clause-mask
-returns-clause-mask c vertex vertex_child v around other faces others h k = same-vertex (λ a. a.1.0) (λ a. a.1.1) vertex vertex_child around other h (λ a. a.0) v faces others k
+returns-clause-mask c = λ vertex v star other same.
+    same-vertex (λ edge. edge.1.0) (λ edge. edge.1.1) vertex.0 vertex.1 star.edges other.edges same.edges (λ edge. edge.0) v star.faces other.faces same.faces
 
 pub returns-clause-ring : goal.returns-clause-ring
-returns-clause-ring c method vertex vertex_child v around other faces others h k = same-next_vertex (λ a. a.1) method vertex vertex_child around other h (λ a. a.0) v faces others k
+returns-clause-ring c = λ method vertex v star other same.
+    same-next_vertex (λ edge. edge.1) method vertex.0 vertex.1 star.edges other.edges same.edges (λ edge. edge.0) v star.faces other.faces same.faces
 
 pub returns-clause-level : goal.returns-clause-level
-returns-clause-level c level v edges faces h k =
+returns-clause-level c = λ level v order.
     let vertex = vertex_sharpness_of level v in
-    same-next_vertex (edge_sharpness_of level) level.method vertex (uniform_child vertex) (edges_at level v) edges h (other_end v) v (faces_at level v) faces k
+    same-next_vertex (edge_sharpness_of level) level.method vertex (uniform_child vertex) (edges_at level v) order.edges order.all_edges
+    (other_end v) v (faces_at level v) order.faces order.all_faces
