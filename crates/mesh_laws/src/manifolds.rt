@@ -8,6 +8,7 @@ ghost use Rattle.subdiv_model.specs.Manifold.{IsManifold, is_manifold};
 ghost use Rattle.subdiv_model.specs.MeshFault.{first_mesh_fault};
 ghost use Rattle.subdiv_model.specs.Level.{Level};
 ghost use Rattle.subdiv_model.specs.Child.{child_polygons, child_points, refined_level};
+ghost use Rattle.mesh_laws.specs.Manifolds.{IsManifoldOver, IsClosedManifold};
 
 /// The test for a manifold decides whether the polygons are one: the walk about each point meets all its
 /// faces exactly where they can be listed as a fan.
@@ -38,31 +39,46 @@ pub fn closed_manifold_goes_both_ways()
 
 /// Each child face of a manifold has four corners, all distinct, and each a point of the child level.
 pub fn child_faces_are_quads()
-    ensures { (points : ℕ) (polygons : List Polygon) → IsTrue (is_over points polygons) → IsManifold points polygons → All (λ quad. (length quad ≡ 4) × IsTrue (is_distinct quad) × All (λ v. v < child_points points polygons) quad) (child_polygons points polygons) }
+    ensures four { (points : ℕ) (polygons : List Polygon) → IsManifoldOver points polygons
+        → All (λ quad. length quad ≡ 4) (child_polygons points polygons) }
+    ensures distinct { (points : ℕ) (polygons : List Polygon) → IsManifoldOver points polygons
+        → All (λ quad. IsTrue (is_distinct quad)) (child_polygons points polygons) }
+    ensures points { (points : ℕ) (polygons : List Polygon) → IsManifoldOver points polygons
+        → All (λ quad. All (λ v. v < child_points points polygons) quad) (child_polygons points polygons) }
 {}
 
 /// The next level of a manifold is a manifold, at its boundary too: its faces are simple, each directed edge
 /// occurs once at most, and the faces at each point form one fan.
 pub fn child_of_a_manifold()
-    ensures { (points : ℕ) (polygons : List Polygon) → IsTrue (is_over points polygons) → IsManifold points polygons → IsManifold (child_points points polygons) (child_polygons points polygons) }
+    ensures { (points : ℕ) (polygons : List Polygon) → IsManifoldOver points polygons
+        → IsManifold (child_points points polygons) (child_polygons points polygons) }
 {}
 
 /// Where the corners of a level are points, those of each level after it are; and each level of a manifold is a
 /// manifold.
 pub fn levels_of_a_manifold()
-    ensures over { (level : Level) (k : ℕ) → IsTrue (is_over level.point_count level.polygons) → IsTrue (is_over (refined_level level k).point_count (refined_level level k).polygons) }
-    ensures manifold { (level : Level) (k : ℕ) → IsTrue (is_over level.point_count level.polygons) → IsManifold level.point_count level.polygons → IsManifold (refined_level level k).point_count (refined_level level k).polygons }
+    ensures over { (level : Level) (k : ℕ) → IsTrue (is_over level.point_count level.polygons)
+        → IsTrue (is_over (refined_level level k).point_count (refined_level level k).polygons) }
+    ensures manifold { (level : Level) (k : ℕ) → IsManifoldOver level.point_count level.polygons
+        → IsManifold (refined_level level k).point_count (refined_level level k).polygons }
 {}
 
 /// The child of a closed manifold is closed: each of its edges is in exactly two faces, and each directed edge
 /// occurs once, and once the other way.
 pub fn child_of_a_closed_manifold()
-    ensures closed { (points : ℕ) (polygons : List Polygon) → IsTrue (is_over points polygons) → IsManifold points polygons → IsTrue (is_closed polygons) → IsTrue (is_closed (child_polygons points polygons)) }
-    ensures both_ways { (points : ℕ) (polygons : List Polygon) → IsTrue (is_over points polygons) → IsManifold points polygons → IsTrue (is_closed polygons) → IsTrue (goes_both_ways (child_polygons points polygons)) }
+    ensures closed { (points : ℕ) (polygons : List Polygon) → IsClosedManifold points polygons
+        → IsTrue (is_closed (child_polygons points polygons)) }
+    ensures both_ways { (points : ℕ) (polygons : List Polygon) → IsClosedManifold points polygons
+        → IsTrue (goes_both_ways (child_polygons points polygons)) }
 {}
 
 /// Each level of a closed manifold is closed, has its corners among its points, and goes both ways at each
 /// edge.
 pub fn levels_of_a_closed_manifold()
-    ensures { (level : Level) (k : ℕ) → IsTrue (is_over level.point_count level.polygons) → IsManifold level.point_count level.polygons → IsTrue (is_closed level.polygons) → IsTrue (is_over (refined_level level k).point_count (refined_level level k).polygons) × IsTrue (is_closed (refined_level level k).polygons) × IsTrue (goes_both_ways (refined_level level k).polygons) }
+    ensures over { (level : Level) (k : ℕ) → IsClosedManifold level.point_count level.polygons
+        → IsTrue (is_over (refined_level level k).point_count (refined_level level k).polygons) }
+    ensures closed { (level : Level) (k : ℕ) → IsClosedManifold level.point_count level.polygons
+        → IsTrue (is_closed (refined_level level k).polygons) }
+    ensures both_ways { (level : Level) (k : ℕ) → IsClosedManifold level.point_count level.polygons
+        → IsTrue (goes_both_ways (refined_level level k).polygons) }
 {}

@@ -6,4 +6,4 @@ pub returns-clause-over : goal.returns-clause-over
 returns-clause-over c = levels-over-points
 
 pub returns-clause-manifold : goal.returns-clause-manifold
-returns-clause-manifold c = λ level k over is. (manifold-levels level k over is).1
+returns-clause-manifold c = λ level k is. (manifold-levels level k is.over is.manifold).1
