@@ -1,29 +1,28 @@
 //! Laws of levels: when level 0 is well formed or plain, how many marks and sharpnesses each level has, and where the
 //! next level gets its own from.
 
-ghost use Rattle.std.specs.Prelude.{◌≡◌, ℕ, ◌+◌, ◌<◌, ◌≤◌, List, [], ◌∷◌, length, get_or, take, IsTrue};
-ghost use Rattle.std.specs.List.{All, list_all, sum_by};
-ghost use Rattle.subdiv_model.specs.Polygons.{Polygon, sides_of, polygon_at, is_over};
-ghost use Rattle.subdiv_model.specs.Edges.{edges_of, has_end, is_closed};
-ghost use Rattle.subdiv_model.specs.Sharpness.{Smooth, Normal, is_proper_sharpness, uniform_child};
-ghost use Rattle.subdiv_model.specs.Boundary.{EdgeOnly};
+ghost use Rattle.std.specs.Prelude.{◌≡◌, ℕ, ◌<◌, ◌≤◌, List, length, IsTrue};
+ghost use Rattle.std.specs.List.{All};
+ghost use Rattle.subdiv_model.specs.Polygons.{Polygon, polygon_at};
+ghost use Rattle.subdiv_model.specs.Edges.{edges_of, is_closed};
+ghost use Rattle.subdiv_model.specs.Sharpness.{Smooth, uniform_child};
 ghost use Rattle.subdiv_model.specs.ObjMesh.{ObjMesh, has_faces_over_points};
 ghost use Rattle.subdiv_model.specs.Level.{Level, edge_sharpness_of, vertex_sharpness_of, is_hole, is_well_formed, plain_level};
-ghost use Rattle.subdiv_model.specs.Child.{edge_point, face_point, child_face, child_polygons, half_sharpness, child_level, refined_level, faces_after};
-ghost use Rattle.subdiv_model.specs.Lists.{last_of};
+ghost use Rattle.subdiv_model.specs.Child.{child_face, child_polygons, half_sharpness, child_level, refined_level, faces_after};
 ghost use Rattle.subdiv_model.specs.Base.{base_level};
+ghost use Rattle.level_laws.specs.Children.{Corner, EdgeEnd, IsFaceOverPoints, child_place, side_to, side_from, edge_point_of, face_point_of};
+ghost use Rattle.level_laws.specs.Tags.{HasProperTags, IsUntagged};
 
 /// Level 0 of a mesh whose corners are points and whose tags are well formed is well formed.
 pub fn base_levels_are_well_formed()
-    ensures { (mesh : ObjMesh) → IsTrue (has_faces_over_points mesh)
-        → IsTrue (list_all (λ crease. is_proper_sharpness crease.1) mesh.creases)
-        → IsTrue (list_all (λ tag. is_proper_sharpness tag.1) mesh.corner_tags) → IsTrue (is_well_formed (base_level mesh)) }
+    ensures { (mesh : ObjMesh) → IsTrue (has_faces_over_points mesh) → HasProperTags mesh
+        → IsTrue (is_well_formed (base_level mesh)) }
 {}
 
 /// Level 0 of a closed mesh without creases, corner tags and holes has no mark and no sharpness.
 pub fn base_of_an_untagged_closed_mesh_is_plain()
-    ensures { (mesh : ObjMesh) → mesh.creases ≡ [] → mesh.corner_tags ≡ [] → mesh.holes ≡ [] → mesh.boundary ≡ EdgeOnly
-        → mesh.method ≡ Normal → IsTrue (is_closed mesh.faces) → base_level mesh ≡ plain_level (length mesh.points) mesh.faces }
+    ensures { (mesh : ObjMesh) → IsUntagged mesh → IsTrue (is_closed mesh.faces)
+        → base_level mesh ≡ plain_level (length mesh.points) mesh.faces }
 {}
 
 /// Each level after a well-formed one is well formed: its corners are points, it has a mark for each face and a
@@ -41,30 +40,26 @@ pub fn levels_have_so_many_faces()
 /// The child of a face at a corner stands after the children of the faces before it, and is a hole exactly
 /// where the face is one.
 pub fn child_faces_are_holes_as_their_parents()
-    ensures place { (points : ℕ) (polygons : List Polygon) (face corner : ℕ) → face < length polygons
-        → corner < length (polygon_at polygons face)
-        → let sides = sides_of (polygon_at polygons face) in
-        polygon_at (child_polygons points polygons) (sum_by length (take face polygons) + corner)
-        ≡ child_face points polygons face (get_or (last_of (0, 0) sides ∷ sides) corner (0, 0)) (get_or sides corner (0, 0)) }
-    ensures hole { (level : Level) (face corner : ℕ) → face < length level.polygons → corner < length (polygon_at level.polygons face)
-        → is_hole (child_level level) (sum_by length (take face level.polygons) + corner) ≡ is_hole level face }
+    ensures place { (points : ℕ) (faces : List Polygon) (corner : Corner faces)
+        → polygon_at (child_polygons points faces) (child_place corner)
+        ≡ child_face points faces corner.face (side_to corner) (side_from corner) }
+    ensures hole { (level : Level) (corner : Corner level.polygons)
+        → is_hole (child_level level) (child_place corner) ≡ is_hole level corner.face }
 {}
 
 /// The half of an edge at each of its ends has the sharpness that the method of the level gives it.
 pub fn halves_have_their_sharpness()
-    ensures { (level : Level) → IsTrue (is_over level.point_count level.polygons)
-        → All (λ edge. (v : ℕ) → IsTrue (has_end v edge)
-        → edge_sharpness_of (child_level level) (v, edge_point level.point_count level.polygons edge) ≡ half_sharpness level edge v)
-        (edges_of level.polygons) }
+    ensures { (level : Level) (end : EdgeEnd level)
+        → edge_sharpness_of (child_level level) (end.v, edge_point_of level end.edge) ≡ half_sharpness level end.edge end.v }
 {}
 
 /// An edge inside a face, from its face point to an edge point, is smooth.
 pub fn edges_inside_faces_are_smooth()
-    ensures { (level : Level) (face : ℕ) → IsTrue (is_over level.point_count level.polygons) → face < length level.polygons
-        → All (λ edge.
-        let center = face_point level.point_count face in
-        let middle = edge_point level.point_count level.polygons edge in
-        (edge_sharpness_of (child_level level) (center, middle) ≡ Smooth) × (edge_sharpness_of (child_level level) (middle, center) ≡ Smooth))
+    ensures from_face_point { (level : Level) (face : ℕ) → IsFaceOverPoints level face
+        → All (λ edge. edge_sharpness_of (child_level level) (face_point_of level face, edge_point_of level edge) ≡ Smooth)
+        (edges_of level.polygons) }
+    ensures to_face_point { (level : Level) (face : ℕ) → IsFaceOverPoints level face
+        → All (λ edge. edge_sharpness_of (child_level level) (edge_point_of level edge, face_point_of level face) ≡ Smooth)
         (edges_of level.polygons) }
 {}
 
