@@ -1,7 +1,10 @@
 -- The parts of the cut mesh by the mesh alone.
-use Rattle.std.specs.Prelude.{ℕ, List, length}
+use Rattle.std.specs.Prelude.{ℕ, ◌<◌, List, length}
 use Rattle.subdiv_model.specs.Polygons.{Polygon}
+use Rattle.subdiv_model.specs.Sharpness.{Sharpness}
+use Rattle.subdiv_model.specs.Level.{vertex_sharpness_of}
 use Rattle.subdiv_model.specs.ObjMesh.{ObjMesh}
+use Rattle.subdiv_model.specs.Base.{base_level}
 use Rattle.subdiv_model.specs.Cut.{channel_points, channel_number, channel_vertex, cut_polygons}
 
 -- the faces of the cut mesh, over the numbers of its points
@@ -23,3 +26,12 @@ vertex_of mesh = channel_vertex (channel_points mesh)
 -- the vertices of two points
 abbrev pub vertices_of : ObjMesh → ℕ × ℕ → ℕ × ℕ
 vertices_of mesh edge = (vertex_of mesh edge.0, vertex_of mesh edge.1)
+
+-- the sharpness that the vertex of a point has in the mesh
+abbrev pub sharpness_in_mesh : ObjMesh → ℕ → Sharpness
+sharpness_in_mesh mesh p = vertex_sharpness_of (base_level mesh) (vertex_of mesh p)
+
+-- both numbers are of points of the cut mesh
+pub record AreCutPoints (mesh : ObjMesh) (p q : ℕ) : Type 0 where
+  pub first : p < cut_point_count mesh
+  pub second : q < cut_point_count mesh

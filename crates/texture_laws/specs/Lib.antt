@@ -1,2 +1,3 @@
 pub mod CutMesh
+pub mod Joined
 pub mod Seamless

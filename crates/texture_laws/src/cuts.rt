@@ -2,15 +2,17 @@
 
 ghost use Rattle.std.specs.Prelude.{◌≡◌, ℕ, ◌<◌, ◌≤◌, Bool, false, length, map, get_or, IsTrue, ◌↔◌};
 ghost use Rattle.std.specs.List.{All, list_any};
-ghost use Rattle.subdiv_model.specs.Polygons.{polygon_at, same_edge, has_corner, has_edge, has_distinct_sides, is_over, is_among};
-ghost use Rattle.subdiv_model.specs.Edges.{all_sides, edges_of, faces_of_edge, is_boundary, has_end};
+ghost use Rattle.subdiv_model.specs.Polygons.{polygon_at, has_corner, has_distinct_sides, is_over, is_among};
+ghost use Rattle.subdiv_model.specs.Edges.{all_sides, edges_of, faces_of_edge};
 ghost use Rattle.subdiv_model.specs.Manifold.{IsManifold, is_simple};
 ghost use Rattle.subdiv_model.specs.Sharpness.{Infinite};
 ghost use Rattle.subdiv_model.specs.Level.{edge_sharpness_of, vertex_sharpness_of, is_well_formed};
 ghost use Rattle.subdiv_model.specs.ObjMesh.{ObjMesh};
 ghost use Rattle.subdiv_model.specs.Base.{base_level};
-ghost use Rattle.subdiv_model.specs.Cut.{SeamMode, SmoothSeams, is_seam, joined_faces, channel_points, stays_sharp, cut_level};
-ghost use Rattle.texture_laws.specs.CutMesh.{cut_faces, cut_point_count, point_of, vertex_of, vertices_of};
+ghost use Rattle.subdiv_model.specs.Cut.{SeamMode, SmoothSeams, joined_faces, channel_points, stays_sharp, cut_level};
+ghost use Rattle.mesh_laws.specs.Edges.{IsInnerEdge, IsBoundaryEdge};
+ghost use Rattle.texture_laws.specs.CutMesh.{AreCutPoints, cut_faces, cut_point_count, point_of, vertex_of, vertices_of, sharpness_in_mesh};
+ghost use Rattle.texture_laws.specs.Joined.{HaveJoiningEdge, KeepsJoined, has_vertex};
 ghost use Rattle.texture_laws.specs.Seamless.{IsSeamlessManifold};
 
 /// The faces of the cut mesh are the faces of the mesh over channel points: as many faces, each with as many corners, and at
@@ -28,14 +30,21 @@ pub fn cut_faces_are_the_faces_of_the_mesh()
 /// Faces are joined at a vertex through the edges there that are no seams, and through nothing else. Joined faces have one list,
 /// in either direction, with the least of them first, so that faces have one channel point at a vertex exactly where they are joined there.
 pub fn joined_faces_are_joined_through_edges()
-    ensures within { (mesh : ObjMesh) (v face f : ℕ) → IsTrue (has_corner v (polygon_at mesh.faces face)) → IsTrue (is_among (joined_faces mesh v face) f) → IsTrue (has_corner v (polygon_at mesh.faces f)) }
-    ensures itself { (mesh : ObjMesh) (v face : ℕ) → IsTrue (has_corner v (polygon_at mesh.faces face)) → IsTrue (is_among (joined_faces mesh v face) face) }
-    ensures through_edges { (mesh : ObjMesh) (v face f g : ℕ) (edge : ℕ × ℕ) → IsTrue (has_corner v (polygon_at mesh.faces face)) → IsTrue (has_end v edge) → is_seam mesh edge ≡ false → IsTrue (has_edge edge (polygon_at mesh.faces f)) → IsTrue (has_edge edge (polygon_at mesh.faces g)) → is_among (joined_faces mesh v face) f ≡ is_among (joined_faces mesh v face) g }
-    ensures through_no_more { (mesh : ObjMesh) (v : ℕ) (kept : ℕ → Bool) → ((f g : ℕ) (edge : ℕ × ℕ) → IsTrue (has_end v edge) → is_seam mesh edge ≡ false → IsTrue (has_edge edge (polygon_at mesh.faces f)) → IsTrue (has_edge edge (polygon_at mesh.faces g)) → IsTrue (kept f) → IsTrue (kept g)) → (face : ℕ) → IsTrue (kept face) → (f : ℕ) → IsTrue (is_among (joined_faces mesh v face) f) → IsTrue (kept f) }
-    ensures both_ways { (mesh : ObjMesh) (v f g : ℕ) → IsTrue (has_corner v (polygon_at mesh.faces f)) → IsTrue (has_corner v (polygon_at mesh.faces g)) → is_among (joined_faces mesh v f) g ≡ is_among (joined_faces mesh v g) f }
-    ensures one_list { (mesh : ObjMesh) (v f g : ℕ) → IsTrue (has_corner v (polygon_at mesh.faces f)) → IsTrue (is_among (joined_faces mesh v f) g) → joined_faces mesh v g ≡ joined_faces mesh v f }
-    ensures least_first { (mesh : ObjMesh) (v face f : ℕ) → IsTrue (has_corner v (polygon_at mesh.faces face)) → IsTrue (is_among (joined_faces mesh v face) f) → get_or (joined_faces mesh v face) 0 face ≤ f }
-    ensures one_point { (mesh : ObjMesh) (v f g : ℕ) → IsTrue (has_corner v (polygon_at mesh.faces f)) → IsTrue (has_corner v (polygon_at mesh.faces g)) → (point_of mesh f v ≡ point_of mesh g v) ↔ IsTrue (is_among (joined_faces mesh v f) g) }
+    ensures within { (mesh : ObjMesh) (v face f : ℕ) → IsTrue (has_vertex mesh face v)
+        → IsTrue (is_among (joined_faces mesh v face) f) → IsTrue (has_vertex mesh f v) }
+    ensures itself { (mesh : ObjMesh) (v face : ℕ) → IsTrue (has_vertex mesh face v) → IsTrue (is_among (joined_faces mesh v face) face) }
+    ensures through_edges { (mesh : ObjMesh) (v face f g : ℕ) → IsTrue (has_vertex mesh face v) → HaveJoiningEdge mesh v f g
+        → is_among (joined_faces mesh v face) f ≡ is_among (joined_faces mesh v face) g }
+    ensures through_no_more { (mesh : ObjMesh) (v : ℕ) (kept : ℕ → Bool) → KeepsJoined mesh v kept → (face : ℕ) → IsTrue (kept face)
+        → (f : ℕ) → IsTrue (is_among (joined_faces mesh v face) f) → IsTrue (kept f) }
+    ensures both_ways { (mesh : ObjMesh) (v f g : ℕ) → IsTrue (has_vertex mesh f v) → IsTrue (has_vertex mesh g v)
+        → is_among (joined_faces mesh v f) g ≡ is_among (joined_faces mesh v g) f }
+    ensures one_list { (mesh : ObjMesh) (v f g : ℕ) → IsTrue (has_vertex mesh f v) → IsTrue (is_among (joined_faces mesh v f) g)
+        → joined_faces mesh v g ≡ joined_faces mesh v f }
+    ensures least_first { (mesh : ObjMesh) (v face f : ℕ) → IsTrue (has_vertex mesh face v)
+        → IsTrue (is_among (joined_faces mesh v face) f) → get_or (joined_faces mesh v face) 0 face ≤ f }
+    ensures one_point { (mesh : ObjMesh) (v f g : ℕ) → IsTrue (has_vertex mesh f v) → IsTrue (has_vertex mesh g v)
+        → (point_of mesh f v ≡ point_of mesh g v) ↔ IsTrue (is_among (joined_faces mesh v f) g) }
 {}
 
 /// Where the faces of the mesh are simple and have each directed edge once at most, the cut mesh is a manifold over the channel
@@ -50,21 +59,30 @@ pub fn cut_meshes_are_manifolds()
 /// where they have one vertex, so that the vertices of the channel points rename them one to one; the edges are those of the mesh
 /// in the same order, with the same faces, and with the same sharpness where seams are smooth.
 pub fn cut_mesh_without_seams_is_the_mesh()
-    ensures renamed { (mesh : ObjMesh) → IsSeamlessManifold mesh → (f g v w : ℕ) → IsTrue (has_corner v (polygon_at mesh.faces f)) → IsTrue (has_corner w (polygon_at mesh.faces g)) → (point_of mesh f v ≡ point_of mesh g w) ↔ (v ≡ w) }
-    ensures one_to_one { (mesh : ObjMesh) → IsSeamlessManifold mesh → (p q : ℕ) → p < cut_point_count mesh → q < cut_point_count mesh → vertex_of mesh p ≡ vertex_of mesh q → p ≡ q }
+    ensures renamed { (mesh : ObjMesh) → IsSeamlessManifold mesh → (f g v w : ℕ) → IsTrue (has_vertex mesh f v)
+        → IsTrue (has_vertex mesh g w) → (point_of mesh f v ≡ point_of mesh g w) ↔ (v ≡ w) }
+    ensures one_to_one { (mesh : ObjMesh) → IsSeamlessManifold mesh → (p q : ℕ) → AreCutPoints mesh p q
+        → vertex_of mesh p ≡ vertex_of mesh q → p ≡ q }
     ensures edges { (mesh : ObjMesh) → IsSeamlessManifold mesh → map (vertices_of mesh) (edges_of (cut_faces mesh)) ≡ edges_of mesh.faces }
-    ensures edge_faces { (mesh : ObjMesh) → IsSeamlessManifold mesh → (p q : ℕ) → p < cut_point_count mesh → q < cut_point_count mesh → faces_of_edge (cut_faces mesh) (p, q) ≡ faces_of_edge mesh.faces (vertices_of mesh (p, q)) }
-    ensures edge_sharpness { (mesh : ObjMesh) → IsSeamlessManifold mesh → (p q : ℕ) → p < cut_point_count mesh → q < cut_point_count mesh → edge_sharpness_of (cut_level SmoothSeams mesh) (p, q) ≡ edge_sharpness_of (base_level mesh) (vertices_of mesh (p, q)) }
+    ensures edge_faces { (mesh : ObjMesh) → IsSeamlessManifold mesh → (p q : ℕ) → AreCutPoints mesh p q
+        → faces_of_edge (cut_faces mesh) (p, q) ≡ faces_of_edge mesh.faces (vertices_of mesh (p, q)) }
+    ensures edge_sharpness { (mesh : ObjMesh) → IsSeamlessManifold mesh → (p q : ℕ) → AreCutPoints mesh p q
+        → edge_sharpness_of (cut_level SmoothSeams mesh) (p, q) ≡ edge_sharpness_of (base_level mesh) (vertices_of mesh (p, q)) }
 {}
 
 /// Level 0 of the cut mesh has the sharpness of the mesh, except where a seam makes a boundary or the mode keeps a point sharp,
 /// and has the holes of the mesh. It is well formed where that of the mesh is.
 pub fn cut_levels_are_as_sharp_as_the_mesh()
-    ensures boundary { (mode : SeamMode) (mesh : ObjMesh) (edge : ℕ × ℕ) → IsTrue (list_any (same_edge edge) (edges_of (cut_faces mesh))) → IsTrue (is_boundary (cut_faces mesh) edge) → edge_sharpness_of (cut_level mode mesh) edge ≡ Infinite }
-    ensures edges { (mode : SeamMode) (mesh : ObjMesh) (edge : ℕ × ℕ) → IsTrue (list_any (same_edge edge) (edges_of (cut_faces mesh))) → is_boundary (cut_faces mesh) edge ≡ false → edge_sharpness_of (cut_level mode mesh) edge ≡ edge_sharpness_of (base_level mesh) (vertices_of mesh edge) }
-    ensures kept_sharp { (mode : SeamMode) (mesh : ObjMesh) (p : ℕ) → p < cut_point_count mesh → IsTrue (stays_sharp mode (cut_faces mesh) p) → vertex_sharpness_of (cut_level mode mesh) p ≡ Infinite }
-    ensures vertices { (mode : SeamMode) (mesh : ObjMesh) (p : ℕ) → p < cut_point_count mesh → stays_sharp mode (cut_faces mesh) p ≡ false → vertex_sharpness_of (cut_level mode mesh) p ≡ vertex_sharpness_of (base_level mesh) (vertex_of mesh p) }
-    ensures smooth_seams { (mesh : ObjMesh) (p : ℕ) → p < cut_point_count mesh → vertex_sharpness_of (cut_level SmoothSeams mesh) p ≡ vertex_sharpness_of (base_level mesh) (vertex_of mesh p) }
+    ensures boundary { (mode : SeamMode) (mesh : ObjMesh) (edge : ℕ × ℕ) → IsBoundaryEdge (cut_faces mesh) edge
+        → edge_sharpness_of (cut_level mode mesh) edge ≡ Infinite }
+    ensures edges { (mode : SeamMode) (mesh : ObjMesh) (edge : ℕ × ℕ) → IsInnerEdge (cut_faces mesh) edge
+        → edge_sharpness_of (cut_level mode mesh) edge ≡ edge_sharpness_of (base_level mesh) (vertices_of mesh edge) }
+    ensures kept_sharp { (mode : SeamMode) (mesh : ObjMesh) (p : ℕ) → p < cut_point_count mesh
+        → IsTrue (stays_sharp mode (cut_faces mesh) p) → vertex_sharpness_of (cut_level mode mesh) p ≡ Infinite }
+    ensures vertices { (mode : SeamMode) (mesh : ObjMesh) (p : ℕ) → p < cut_point_count mesh
+        → stays_sharp mode (cut_faces mesh) p ≡ false → vertex_sharpness_of (cut_level mode mesh) p ≡ sharpness_in_mesh mesh p }
+    ensures smooth_seams { (mesh : ObjMesh) (p : ℕ) → p < cut_point_count mesh
+        → vertex_sharpness_of (cut_level SmoothSeams mesh) p ≡ sharpness_in_mesh mesh p }
     ensures well_formed { (mode : SeamMode) (mesh : ObjMesh) → IsTrue (is_well_formed (base_level mesh)) → IsTrue (is_well_formed (cut_level mode mesh)) }
     ensures holes { (mode : SeamMode) (mesh : ObjMesh) → (cut_level mode mesh).holes ≡ (base_level mesh).holes }
 {}

@@ -3,10 +3,10 @@ use Rattle.texture_laws.proofs.CutLevelLemmas.{cut-boundary, cut-inside, cut-ver
 use Rattle.texture_laws.proofs.cuts.cut_levels_are_as_sharp_as_the_mesh.Goals as goal
 
 pub returns-clause-boundary : goal.returns-clause-boundary
-returns-clause-boundary c = λ mode mesh. cut-boundary mesh mode
+returns-clause-boundary c = λ mode mesh edge is. cut-boundary mesh mode edge is.is_edge is.is_at_boundary
 
 pub returns-clause-edges : goal.returns-clause-edges
-returns-clause-edges c = λ mode mesh. cut-inside mesh mode
+returns-clause-edges c = λ mode mesh edge is. cut-inside mesh mode edge is.is_edge is.is_inner
 
 pub returns-clause-kept_sharp : goal.returns-clause-kept_sharp
 returns-clause-kept_sharp c = λ mode mesh. cut-vertex-sharp mesh mode

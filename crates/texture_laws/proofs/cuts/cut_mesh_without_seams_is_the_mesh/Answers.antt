@@ -6,13 +6,13 @@ pub returns-clause-renamed : goal.returns-clause-renamed
 returns-clause-renamed c = seamless-number
 
 pub returns-clause-one_to_one : goal.returns-clause-one_to_one
-returns-clause-one_to_one c = seamless-once
+returns-clause-one_to_one c = λ mesh is p q points. seamless-once mesh is p q points.first points.second
 
 pub returns-clause-edges : goal.returns-clause-edges
 returns-clause-edges c = seamless-edges
 
 pub returns-clause-edge_faces : goal.returns-clause-edge_faces
-returns-clause-edge_faces c = seamless-edge-faces
+returns-clause-edge_faces c = λ mesh is p q points. seamless-edge-faces mesh is p q points.first points.second
 
 pub returns-clause-edge_sharpness : goal.returns-clause-edge_sharpness
-returns-clause-edge_sharpness c = seamless-edge
+returns-clause-edge_sharpness c = λ mesh is p q points. seamless-edge mesh is p q points.first points.second

@@ -8,10 +8,12 @@ pub returns-clause-itself : goal.returns-clause-itself
 returns-clause-itself c = joins-itself
 
 pub returns-clause-through_edges : goal.returns-clause-through_edges
-returns-clause-through_edges c = joins-edge
+returns-clause-through_edges c = λ mesh v face f g here common.
+    joins-edge mesh v face f g common.edge here common.ends_there common.no_seam common.of_first common.of_second
 
 pub returns-clause-through_no_more : goal.returns-clause-through_no_more
-returns-clause-through_no_more c = joins-only
+returns-clause-through_no_more c = λ mesh v kept keeps. joins-only mesh v kept (λ f g edge ends no_seam of_first of_second.
+    keeps f g (record { edge = edge; ends_there = ends; no_seam = no_seam; of_first = of_first; of_second = of_second }))
 
 pub returns-clause-both_ways : goal.returns-clause-both_ways
 returns-clause-both_ways c = joins-alike
