@@ -2,8 +2,7 @@
 -- Source: this profile.
 use Rattle.std.specs.Prelude.{◌≡◌, ℕ, Bool, false, nat_eq, List, ◌∷◌, ◌++◌, length, IsTrue}
 use Rattle.std.specs.List.{list_any, count_by}
-use Rattle.subdiv_model.specs.Polygons.{Polygon, same_edge, polygon_at}
-use Rattle.subdiv_model.specs.Edges.{edges_of, is_boundary}
+use Rattle.subdiv_model.specs.Polygons.{same_edge, polygon_at}
 use Rattle.subdiv_model.specs.Sharpness.{Sharpness}
 use Rattle.subdiv_model.specs.Boundary.{Boundary}
 use Rattle.subdiv_model.specs.ObjMesh.{ObjMesh}
@@ -21,11 +20,6 @@ pub record LastOf {X : Type 0} (passes : X → Bool) (xs : List X) : Type 0 wher
   pub split : xs ≡ before ++ (element ∷ after)
   pub is_one : IsTrue (passes element)
   pub none_after : list_any passes after ≡ false
-
--- the edge is an edge of the faces, and no boundary edge
-pub record IsInnerEdge (faces : List Polygon) (edge : ℕ × ℕ) : Type 0 where
-  pub is_edge : IsTrue (list_any (same_edge edge) (edges_of faces))
-  pub is_inner : is_boundary faces edge ≡ false
 
 -- Of a mesh.
 

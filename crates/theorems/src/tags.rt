@@ -14,7 +14,8 @@ ghost use Rattle.subdiv_model.specs.ObjTag.{tag_creases, tag_corners, tag_mode, 
 ghost use Rattle.subdiv_model.specs.ReadObj.{faces_of, boundary_of};
 ghost use Rattle.subdiv_model.specs.Level.{edge_sharpness_of, vertex_sharpness_of, is_hole};
 ghost use Rattle.subdiv_model.specs.Base.{tagged_edge, tagged_vertex, is_end_corner, is_hidden, base_level};
-ghost use Rattle.theorems.specs.Laws.{Text, LastCrease, LastCornerTag, LastCreaseLine, LastCornerLine, LastBoundaryLine, LastMethodLine, IsInnerEdge, is_crease_of, is_corner_tag_of, mesh_of, level_of, edge_sharpness, vertex_sharpness, vertex_count, face_count, corner_sharpness, is_corner_under, is_mode_corner, is_named_hole, is_hidden_under};
+ghost use Rattle.mesh_laws.specs.Edges.{IsInnerEdge};
+ghost use Rattle.theorems.specs.Laws.{Text, LastCrease, LastCornerTag, LastCreaseLine, LastCornerLine, LastBoundaryLine, LastMethodLine, is_crease_of, is_corner_tag_of, mesh_of, level_of, edge_sharpness, vertex_sharpness, vertex_count, face_count, corner_sharpness, is_corner_under, is_mode_corner, is_named_hole, is_hidden_under};
 ghost use Rattle.theorems.specs.TagLines.{is_crease_line_of, is_corner_line_of, is_hole_line_of, is_boundary_line, is_method_line};
 
 // From the text to the mesh.
