@@ -1,8 +1,13 @@
--- Control numbers and creases of the small meshes, for the examples.
-use Rattle.std.specs.Prelude.{ℕ, ℤ, pos, negsuc, List, [], ◌∷◌, get_or, None}
+-- Control numbers, creases and terms of masks on the small meshes, for the examples.
+use Rattle.std.specs.Prelude.{ℕ, ◌^◌, ℤ, pos, negsuc, List, [], ◌∷◌, ◌++◌, map, get_or, None}
+use Rattle.subdiv_model.specs.Level.{Level}
 use Rattle.subdiv_model.specs.ObjMesh.{ObjMesh}
 use Rattle.subdiv_model.specs.Base.{base_level}
-use Rattle.subdiv_model.specs.Mask.{CatmullClark}
+use Rattle.subdiv_model.specs.Mask.{Scheme, CatmullClark, Term, weigh_points, weigh_faces}
+use Rattle.subdiv_model.specs.Refined.{control_values, refined_values}
+use Rattle.subdiv_model.specs.Channel.{Channel}
+use Rattle.subdiv_model.specs.Examples.{fine_cube}
+use Rattle.subdiv_model.specs.NumberText.{value_text}
 use Rattle.subdiv_model.specs.Text.{refined_text, texture_line}
 use Rattle.subdiv_model.specs.ReadObj.{read_obj_mesh}
 use Rattle.subdiv_model.specs.Value.{whole_value}
@@ -10,7 +15,7 @@ use Rattle.subdiv_model.specs.Words.{option_value}
 use Rattle.subdiv_model.specs.Command.{uv_of}
 use Rattle.subdiv_model.specs.Answer.{texture_after}
 use Rattle.subdiv_model.specs.ExampleTexts.{seamed_text}
-use Rattle.subdiv_model.specs.Sharpness.{Sharpness, Infinite}
+use Rattle.subdiv_model.specs.Sharpness.{Sharpness, Infinite, Chaikin}
 
 -- the cube's coordinates in x and in z
 abbrev pub cube_x : List ℤ
@@ -19,9 +24,37 @@ cube_x = negsuc 0 ∷ pos 1 ∷ negsuc 0 ∷ pos 1 ∷ negsuc 0 ∷ pos 1 ∷ ne
 abbrev pub cube_z : List ℤ
 cube_z = pos 1 ∷ pos 1 ∷ pos 1 ∷ pos 1 ∷ negsuc 0 ∷ negsuc 0 ∷ negsuc 0 ∷ negsuc 0 ∷ []
 
+-- the square's coordinates in x
+abbrev pub square_x : List ℤ
+square_x = pos 0 ∷ pos 4 ∷ pos 4 ∷ pos 0 ∷ []
+
+-- points of two triangles as whole numbers, and others over 100
+abbrev pub triangle_points : List (ℤ × ℤ × ℤ)
+triangle_points = (pos 0, pos 0, pos 0) ∷ (pos 12, pos 0, pos 0) ∷ (pos 0, pos 12, pos 0) ∷ []
+
+abbrev pub triangle_points_in_hundredths : List (ℤ × ℤ × ℤ)
+triangle_points_in_hundredths = (pos 0, pos 50, negsuc 149) ∷ (pos 100, pos 0, pos 0) ∷ (pos 0, pos 1, pos 0) ∷ []
+
+-- control numbers up to 10^37 on the fine cube, under the method chaikin
+abbrev pub fine_channel : Channel
+fine_channel = record {
+  base = fine_cube Chaikin;
+  scheme = CatmullClark;
+  greatest = 10 ^ 37;
+  common = 1;
+}
+
+-- terms of which two have one source, and one has weight 0
+abbrev pub repeated_terms : List Term
+repeated_terms = weigh_points 2 (5 ∷ 4 ∷ []) ++ (weigh_points 0 (3 ∷ []) ++ (weigh_points 1 (5 ∷ []) ++ weigh_faces 4 (5 ∷ [])))
+
 -- the edges of the cube's face at z = 1
 abbrev pub cube_ring : List ((ℕ × ℕ) × Sharpness)
 cube_ring = ((0, 1), Infinite) ∷ ((1, 3), Infinite) ∷ ((3, 2), Infinite) ∷ ((2, 0), Infinite) ∷ []
+
+-- the texts of the values after k steps, from these control numbers
+abbrev pub refined_value_texts : Level → Scheme → List ℤ → ℕ → List (List ℕ)
+refined_value_texts level scheme controls k = map value_text (refined_values level scheme (control_values controls) k)
 
 -- the text of a mesh without texture after k Catmull-Clark steps
 abbrev pub refined_text_of : ObjMesh → ℕ → List ℕ

@@ -1,8 +1,8 @@
 -- Small meshes for the examples.
-use Rattle.std.specs.Prelude.{ℕ, ◌+◌, ℤ, pos, Bool, false, true, nat_eq, nat_lt, List, [], ◌∷◌, ◌++◌, length, take, drop, replicate, Some, None, codes, if◌then◌else◌}
+use Rattle.std.specs.Prelude.{ℕ, ◌+◌, ◌^◌, ℤ, pos, Bool, false, true, nat_eq, nat_lt, List, [], ◌∷◌, ◌++◌, length, take, drop, replicate, Some, None, codes, if◌then◌else◌}
 use Rattle.subdiv_model.specs.Polygons.{Polygon}
-use Rattle.subdiv_model.specs.Sharpness.{Sharpness, Semi, Normal, Chaikin}
-use Rattle.subdiv_model.specs.Level.{Level}
+use Rattle.subdiv_model.specs.Sharpness.{Sharpness, Semi, Method, Normal, Chaikin}
+use Rattle.subdiv_model.specs.Level.{Level, plain_level}
 use Rattle.subdiv_model.specs.Boundary.{Boundary, EdgeOnly}
 use Rattle.subdiv_model.specs.ObjMesh.{ObjMesh}
 use Rattle.subdiv_model.specs.Base.{base_level}
@@ -87,6 +87,30 @@ creased_cube = base_level (record (tagged_mesh 8 cube (((3, 1), Semi 3 2) ∷ []
 -- the cube with edges of sharpness 1 and 3 that meet at 1, by the chaikin rule
 abbrev pub chaikin_cube : Level
 chaikin_cube = base_level (record (tagged_mesh 8 cube (((0, 1), Semi 1 1) ∷ ((1, 3), Semi 3 1) ∷ []) []) { method = Chaikin })
+
+-- the cube with edges of two sharpnesses that meet at 1, under a method
+abbrev pub cube_of_two_creases : Method → Sharpness → Sharpness → Level
+cube_of_two_creases method first second = base_level (record (tagged_mesh 8 cube (((0, 1), first) ∷ ((1, 3), second) ∷ []) []) { method = method })
+
+-- such a cube, whose sharpnesses are over too great a common denominator
+abbrev pub fine_cube : Method → Level
+fine_cube method = cube_of_two_creases method (Semi 1 (2 ^ 59)) (Semi 1 3)
+
+-- the cube with vertex 3 of this sharpness
+abbrev pub corner_cube : Sharpness → Level
+corner_cube sharpness = tagged_level 8 cube [] ((3, sharpness) ∷ [])
+
+-- the octahedron with edges of sharpness 1/2 and 3/2 that meet at the top, and with four sharp edges there
+abbrev pub octahedron_of_two_creases : Level
+octahedron_of_two_creases = tagged_level 6 octahedron (((4, 0), Semi 1 2) ∷ ((4, 1), Semi 3 2) ∷ []) []
+
+abbrev pub octahedron_of_four_creases : Level
+octahedron_of_four_creases =
+    tagged_level 6 octahedron (((4, 0), Semi 1 2) ∷ ((4, 1), Semi 3 1) ∷ ((4, 2), Semi 3 1) ∷ ((4, 3), Semi 3 1) ∷ []) []
+
+-- two triangles back to back, of which the first is a hole
+abbrev pub holed_triangles : Level
+holed_triangles = record (plain_level 3 two_triangles) { holes = true ∷ false ∷ [] }
 
 -- two quads side by side with these texture values, and these texture corners
 abbrev pub quads_with_texture : List (ℤ × ℤ) → List Polygon → ObjMesh

@@ -7,7 +7,7 @@ ghost use Rattle.std.specs.Prelude.{◌≡◌, List, [], ◌∷◌, ◌++◌, ma
 ghost use Rattle.subdiv_model.specs.Answer.{answer, answer_of_made, answer_of_mesh, count_faults, level_count_faults, made_mesh};
 ghost use Rattle.subdiv_model.specs.Base.{base_level};
 ghost use Rattle.subdiv_model.specs.ExampleControls.{first_texture};
-ghost use Rattle.subdiv_model.specs.ExampleTexts.{corner_cube_refined_text, cube_text, seamed_text, square_text};
+ghost use Rattle.subdiv_model.specs.ExampleTexts.{corner_cube_refined_text, cube_text, hidden_square_refined_text, refined_square_points_text, refined_square_text, seamed_text, sharp_square_refined_text, sheet_summary_text, square_text, tagged_cube_text};
 ghost use Rattle.subdiv_model.specs.Command.{MakeCommand, ReadCommand};
 ghost use Rattle.subdiv_model.specs.Examples.{cube};
 ghost use Rattle.subdiv_model.specs.Fault.{ChaikinOverflow, Entries, Fault, FaceSize, LevelFaces, Long, Memory, Mesh, Obj, Overflow, Positions, Read, Texture, TooLarge, TransitionOverflow, Usage, Valence, ValueOverflow, Write, fault_line, fault_status, outcome_status};
@@ -20,11 +20,9 @@ ghost use Rattle.subdiv_model.specs.Sharpness.{Semi};
 
 /// The words of `refine`, by the table and level by level, on small meshes.
 pub fn refined_meshes()
-    ensures square { answer (codes "refine" ∷ codes "depth=1" ∷ []) square_text
-        ≡ record { text = codes "v 1/2 1/2 0\nv 7/2 1/2 0\nv 7/2 7/2 0\nv 1/2 7/2 0\nv 2 2 0\nv 2 0 0\nv 4 2 0\nv 2 4 0\nv 0 2 0\nf 1 6 5 9\nf 2 7 5 6\nf 3 8 5 7\nf 4 9 5 8\n"; refusal = None } }
+    ensures square { answer (codes "refine" ∷ codes "depth=1" ∷ []) square_text ≡ record { text = refined_square_text; refusal = None } }
     ensures by_level { answer (codes "refine" ∷ codes "by=level" ∷ codes "depth=1" ∷ []) square_text ≡ answer (codes "refine" ∷ codes "depth=1" ∷ []) square_text }
-    ensures sharp_corners { (answer (codes "refine" ∷ codes "depth=1" ∷ []) (square_text ++ codes "t interpolateboundary 1/0/0 1\n")).text
-        ≡ codes "v 0 0 0\nv 4 0 0\nv 4 4 0\nv 0 4 0\nv 2 2 0\nv 2 0 0\nv 4 2 0\nv 2 4 0\nv 0 2 0\nf 1 6 5 9\nf 2 7 5 6\nf 3 8 5 7\nf 4 9 5 8\n" }
+    ensures sharp_corners { (answer (codes "refine" ∷ codes "depth=1" ∷ []) (square_text ++ codes "t interpolateboundary 1/0/0 1\n")).text ≡ sharp_square_refined_text }
     ensures decimals { (answer (codes "refine" ∷ codes "depth=0" ∷ codes "decimals=1" ∷ []) (codes "v 0.25 -0.75 7\n")).text ≡ codes "v 0.2 -0.8 7.0\n" }
     ensures empty { answer (codes "refine" ∷ codes "depth=3" ∷ []) [] ≡ record { text = []; refusal = None } }
     ensures point { (answer (codes "refine" ∷ codes "depth=3" ∷ []) (codes "v 7 8 9")).text ≡ codes "v 7 8 9\n" }
@@ -32,19 +30,16 @@ pub fn refined_meshes()
 
 /// With tags the level is written with its holes, and reads as the same level.
 pub fn levels_with_their_tags()
-    ensures hidden { (answer (codes "refine" ∷ codes "depth=1" ∷ codes "tags=yes" ∷ []) (square_text ++ codes "t interpolateboundary 1/0/0 0\n")).text
-        ≡ codes "v 1/2 1/2 0\nv 7/2 1/2 0\nv 7/2 7/2 0\nv 1/2 7/2 0\nv 2 2 0\nv 2 0 0\nv 4 2 0\nv 2 4 0\nv 0 2 0\nf 1 6 5 9\nf 2 7 5 6\nf 3 8 5 7\nf 4 9 5 8\nt interpolateboundary 1/0/0 2\nt hole 1/0/0 0\nt hole 1/0/0 1\nt hole 1/0/0 2\nt hole 1/0/0 3\n" }
-    ensures untagged { (answer (codes "refine" ∷ codes "depth=1" ∷ []) (square_text ++ codes "t interpolateboundary 1/0/0 0\n")).text
-        ≡ codes "v 1/2 1/2 0\nv 7/2 1/2 0\nv 7/2 7/2 0\nv 1/2 7/2 0\nv 2 2 0\nv 2 0 0\nv 4 2 0\nv 2 4 0\nv 0 2 0\n" }
+    ensures hidden { (answer (codes "refine" ∷ codes "depth=1" ∷ codes "tags=yes" ∷ []) (square_text ++ codes "t interpolateboundary 1/0/0 0\n")).text ≡ hidden_square_refined_text }
+    ensures untagged { (answer (codes "refine" ∷ codes "depth=1" ∷ []) (square_text ++ codes "t interpolateboundary 1/0/0 0\n")).text ≡ refined_square_points_text }
     ensures written { (answer (codes "refine" ∷ codes "depth=1" ∷ codes "tags=yes" ∷ []) (cube_text ++ codes "t corner 1/1/0 3 1.5\n")).text ≡ corner_cube_refined_text }
-    ensures read_again { base_level (read_obj_mesh (cube_text ++ codes "t corner 1/1/0 3 3\nt creasemethod 0/0/1 chaikin\nt crease 2/1/0 0 1 2\n") 0)
-        ≡ base_level (read_obj_mesh (answer (codes "refine" ∷ codes "depth=0" ∷ codes "tags=yes" ∷ codes "decimals=3" ∷ []) (cube_text ++ codes "t corner 1/1/0 3 3\nt creasemethod 0/0/1 chaikin\nt crease 2/1/0 0 1 2\n")).text 0) }
+    ensures read_again { base_level (read_obj_mesh tagged_cube_text 0)
+        ≡ base_level (read_obj_mesh (answer (codes "refine" ∷ codes "depth=0" ∷ codes "tags=yes" ∷ codes "decimals=3" ∷ []) tagged_cube_text).text 0) }
 {}
 
 /// Texture: channel points and their values in each mode.
 pub fn refined_texture_of_two_quads()
-    ensures smooth { (answer (codes "refine" ∷ codes "depth=0" ∷ []) seamed_text).text
-        ≡ codes "v 0 0 0\nv 1 0 0\nv 1 1 0\nv 0 1 0\nv 2 0 0\nv 2 1 0\nvt 0 0\nvt 1 0\nvt 1 1\nvt 0 1\nvt 4 0\nvt 5 0\nvt 5 1\nvt 4 1\nf 1/1 2/2 3/3 4/4\nf 2/5 5/6 6/7 3/8\n" }
+    ensures smooth { (answer (codes "refine" ∷ codes "depth=0" ∷ []) seamed_text).text ≡ seamed_text }
     ensures smooth_values { first_texture (codes "uv=smooth") ≡ codes "vt 1/8 1/8\n" }
     ensures corner_values { first_texture (codes "uv=corners") ≡ codes "vt 0 0\n" }
     ensures boundary_values { first_texture (codes "uv=boundaries") ≡ codes "vt 0 0\n" }
@@ -55,8 +50,7 @@ pub fn refined_texture_of_two_quads()
 pub fn levels_tables_and_sheets()
     ensures levels { answer (codes "levels" ∷ codes "depth=0" ∷ []) square_text ≡ record { text = codes "level 0 points 4 edges 4 faces 1 euler 1 boundary 4 holes 0 sharp 0 extraordinary 0\n"; refusal = None } }
     ensures stencils { (answer (codes "stencils" ∷ codes "depth=0" ∷ []) (codes "v 1 2 3\n")).text ≡ codes "table controls 1 rows 1 entries 1\ns 1 0 1\n" }
-    ensures sheet { answer (codes "gen" ∷ codes "seed=0" ∷ codes "size=1" ∷ codes "depth=1" ∷ []) (codes "x")
-        ≡ record { text = codes "gen points 4 faces 1\nlevel 1 points 9 faces 4 entries 24 den 8\nlast 0 5 3\n"; refusal = None } }
+    ensures sheet { answer (codes "gen" ∷ codes "seed=0" ∷ codes "size=1" ∷ codes "depth=1" ∷ []) (codes "x") ≡ record { text = sheet_summary_text; refusal = None } }
 {}
 
 /// The first refusal that applies.

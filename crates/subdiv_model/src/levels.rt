@@ -5,10 +5,10 @@ ghost use Rattle.subdiv_model.specs.Base.{base_level, tagged_edge};
 ghost use Rattle.subdiv_model.specs.Boundary.{EdgeAndCorner, EdgeOnly, Hidden};
 ghost use Rattle.subdiv_model.specs.Child.{child_level, child_points, child_polygons, faces_after, refined_level};
 ghost use Rattle.subdiv_model.specs.Edges.{edge_number, edges_of, is_closed};
-ghost use Rattle.subdiv_model.specs.Examples.{chaikin_cube, creased_cube, cube, frame, level_in, sheet, square, tagged_level, tagged_mesh, tetrahedron, two_triangles};
+ghost use Rattle.subdiv_model.specs.Examples.{chaikin_cube, creased_cube, cube, cube_of_two_creases, frame, level_in, sheet, square, tagged_level, tagged_mesh, tetrahedron, two_triangles};
 ghost use Rattle.subdiv_model.specs.Level.{edge_sharpness_of, is_hole, is_well_formed, plain_level, vertex_sharpness_of};
 ghost use Rattle.subdiv_model.specs.Manifold.{is_manifold};
-ghost use Rattle.subdiv_model.specs.Sharpness.{Infinite, Semi, Smooth, chaikin_child, half_overflows, sharpness_of, uniform_child};
+ghost use Rattle.subdiv_model.specs.Sharpness.{Infinite, Normal, Semi, Smooth, chaikin_child, half_overflows, sharpness_of, uniform_child};
 
 /// Sharpness is kept in lowest terms, and is infinite from 10 on.
 pub fn sharpness_in_lowest_terms()
@@ -164,8 +164,8 @@ pub fn triangle_that_is_a_hole()
 /// Two steps under each method: edges of sharpness 1 and 3 that meet at a vertex of the cube. At the vertex the
 /// uniform rule leaves 1 of the second after two steps, and the chaikin rule 1/4, from halves of 1/2 and 3/2.
 pub fn two_steps_of_sharpness()
-    ensures normal_low { edge_sharpness_of (refined_level (tagged_level 8 cube (((0, 1), Semi 1 1) ∷ ((1, 3), Semi 3 1) ∷ []) []) 1) (1, 14) ≡ Smooth }
-    ensures normal_high { edge_sharpness_of (refined_level (tagged_level 8 cube (((0, 1), Semi 1 1) ∷ ((1, 3), Semi 3 1) ∷ []) []) 2) (1, 54) ≡ Semi 1 1 }
+    ensures normal_low { edge_sharpness_of (refined_level (cube_of_two_creases Normal (Semi 1 1) (Semi 3 1)) 1) (1, 14) ≡ Smooth }
+    ensures normal_high { edge_sharpness_of (refined_level (cube_of_two_creases Normal (Semi 1 1) (Semi 3 1)) 2) (1, 54) ≡ Semi 1 1 }
     ensures chaikin_low { edge_sharpness_of (refined_level chaikin_cube 2) (1, 56) ≡ Smooth }
     ensures chaikin_high { edge_sharpness_of (refined_level chaikin_cube 2) (1, 54) ≡ Semi 1 4 }
 {}

@@ -1,10 +1,9 @@
 //! Examples of rules, masks and the weights between two rules, each proved by computing.
 
 ghost use Rattle.std.specs.Prelude.{◌≡◌, ◌^◌, true, false, [], ◌∷◌, ◌++◌};
-ghost use Rattle.subdiv_model.specs.Base.{base_level};
 ghost use Rattle.subdiv_model.specs.Child.{refined_level};
-ghost use Rattle.subdiv_model.specs.ExampleControls.{cube_ring};
-ghost use Rattle.subdiv_model.specs.Examples.{cube, octahedron, square, tagged_level, tagged_mesh, two_triangles};
+ghost use Rattle.subdiv_model.specs.ExampleControls.{cube_ring, repeated_terms};
+ghost use Rattle.subdiv_model.specs.Examples.{corner_cube, cube, cube_of_two_creases, octahedron_of_four_creases, octahedron_of_two_creases, square, tagged_level, two_triangles};
 ghost use Rattle.subdiv_model.specs.Level.{plain_level};
 ghost use Rattle.subdiv_model.specs.Mask.{CatmullClark, Linear, edge_mask, has_means, mask_of, mask_terms, vertex_mask, weigh_faces, weigh_points};
 ghost use Rattle.subdiv_model.specs.Rule.{CornerRule, transition_overflows, transition_weight, vertex_rule};
@@ -32,7 +31,7 @@ pub fn corners_without_a_sharp_vertex()
 
 /// A vertex of sharpness 1/2 on the cube: half of the corner's mask and half of the smooth one.
 pub fn corner_of_sharpness_one_half()
-    ensures { vertex_mask (tagged_level 8 cube [] ((3, Semi 1 2) ∷ [])) CatmullClark 3
+    ensures { vertex_mask (corner_cube (Semi 1 2)) CatmullClark 3
         ≡ record {
           terms = weigh_points 12 (3 ∷ []) ++ (weigh_points 1 (1 ∷ 2 ∷ 5 ∷ []) ++ weigh_faces 1 (0 ∷ 1 ∷ 4 ∷ []));
           denominator = 18;
@@ -67,7 +66,7 @@ pub fn masks_of_small_meshes()
 
 /// A vertex of sharpness 1/4 on the cube: a quarter of the corner's mask and three quarters of the smooth one.
 pub fn corner_of_sharpness_one_quarter()
-    ensures { vertex_mask (tagged_level 8 cube [] ((3, Semi 1 4) ∷ [])) CatmullClark 3
+    ensures { vertex_mask (corner_cube (Semi 1 4)) CatmullClark 3
         ≡ record {
           terms = weigh_points 18 (3 ∷ []) ++ (weigh_points 3 (1 ∷ 2 ∷ 5 ∷ []) ++ weigh_faces 3 (0 ∷ 1 ∷ 4 ∷ []));
           denominator = 36;
@@ -85,11 +84,9 @@ pub fn edges_of_three_quarters_and_one()
 /// Edges of 1/2 and 3/2 at a vertex of the octahedron: half of the crease's mask, over 8, and half of the smooth
 /// one, over 16, stand over twice their least common multiple.
 pub fn crease_and_dart_of_the_octahedron()
-    ensures { vertex_mask (tagged_level 6 octahedron (((4, 0), Semi 1 2) ∷ ((4, 1), Semi 3 2) ∷ []) []) CatmullClark 4
-        ≡ record {
-          terms = weigh_points 20 (4 ∷ []) ++ (weigh_points 3 (1 ∷ 0 ∷ []) ++ (weigh_points 1 (2 ∷ 3 ∷ []) ++ weigh_faces 1 (0 ∷ 1 ∷ 2 ∷ 3 ∷ [])));
-          denominator = 32;
-        } }
+    ensures terms { (vertex_mask octahedron_of_two_creases CatmullClark 4).terms
+        ≡ weigh_points 20 (4 ∷ []) ++ (weigh_points 3 (1 ∷ 0 ∷ []) ++ (weigh_points 1 (2 ∷ 3 ∷ []) ++ weigh_faces 1 (0 ∷ 1 ∷ 2 ∷ 3 ∷ []))) }
+    ensures denominator { (vertex_mask octahedron_of_two_creases CatmullClark 4).denominator ≡ 32 }
 {}
 
 /// A vertex on a crease, and one that is infinitely sharp on it.
@@ -103,15 +100,14 @@ pub fn vertices_on_a_crease()
 /// ends, and a crease that the chaikin rule keeps.
 pub fn rules_without_a_transition()
     ensures dart { (vertex_mask (tagged_level 8 cube (((0, 1), Semi 1 2) ∷ []) []) CatmullClark 1).denominator ≡ 9 }
-    ensures corner { vertex_mask (tagged_level 6 octahedron (((4, 0), Semi 1 2) ∷ ((4, 1), Semi 3 1) ∷ ((4, 2), Semi 3 1) ∷ ((4, 3), Semi 3 1) ∷ []) []) CatmullClark 4
-        ≡ record { terms = weigh_points 1 (4 ∷ []); denominator = 1 } }
-    ensures crease { vertex_mask (base_level (record (tagged_mesh 8 cube (((0, 1), Semi 1 2) ∷ ((1, 3), Semi 3 1) ∷ []) []) { method = Chaikin })) CatmullClark 1
+    ensures corner { vertex_mask octahedron_of_four_creases CatmullClark 4 ≡ record { terms = weigh_points 1 (4 ∷ []); denominator = 1 } }
+    ensures crease { vertex_mask (cube_of_two_creases Chaikin (Semi 1 2) (Semi 3 1)) CatmullClark 1
         ≡ record { terms = weigh_points 6 (1 ∷ []) ++ weigh_points 1 (0 ∷ 3 ∷ []); denominator = 8 } }
 {}
 
 /// Terms of one source are joined where it first stands, and those of weight 0 are left out.
 pub fn terms_of_one_source()
-    ensures { mask_of (weigh_points 2 (5 ∷ 4 ∷ []) ++ (weigh_points 0 (3 ∷ []) ++ (weigh_points 1 (5 ∷ []) ++ weigh_faces 4 (5 ∷ [])))) 9
+    ensures { mask_of repeated_terms 9
         ≡ record { terms = weigh_points 3 (5 ∷ []) ++ (weigh_points 2 (4 ∷ []) ++ weigh_faces 4 (5 ∷ [])); denominator = 9 } }
 {}
 

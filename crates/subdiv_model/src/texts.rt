@@ -1,17 +1,17 @@
 //! Examples of texts of numbers and of refined meshes, each proved by computing.
 
-ghost use Rattle.std.specs.Prelude.{◌≡◌, ◌+◌, ◌^◌, true, false, [], ◌∷◌, pos, negsuc, None, codes};
+ghost use Rattle.std.specs.Prelude.{◌≡◌, ◌+◌, ◌^◌, [], ◌∷◌, pos, negsuc, None, codes};
 ghost use Rattle.subdiv_model.specs.Boundary.{EdgeAndCorner, Hidden};
 ghost use Rattle.subdiv_model.specs.Child.{child_level};
-ghost use Rattle.subdiv_model.specs.ExampleControls.{refined_text_of};
-ghost use Rattle.subdiv_model.specs.ExampleTexts.{cube_text, other_cube_text, refined_cube_text};
-ghost use Rattle.subdiv_model.specs.Examples.{chaikin_cube, creased_cube, cube, level_in, square, tagged_level, two_triangles};
+ghost use Rattle.subdiv_model.specs.ExampleControls.{refined_text_of, triangle_points, triangle_points_in_hundredths};
+ghost use Rattle.subdiv_model.specs.ExampleTexts.{chaikin_levels_text, cube_text, other_cube_text, refined_cube_text, refined_triangles_text, square_table_text};
+ghost use Rattle.subdiv_model.specs.Examples.{chaikin_cube, creased_cube, cube, cube_of_two_creases, holed_triangles, level_in, square, tagged_level, two_triangles};
 ghost use Rattle.subdiv_model.specs.Level.{plain_level};
 ghost use Rattle.subdiv_model.specs.LevelText.{level_line, levels_text, whole_text};
 ghost use Rattle.subdiv_model.specs.Mask.{CatmullClark};
 ghost use Rattle.subdiv_model.specs.NumberText.{fraction_text, number_text, rounded_text};
 ghost use Rattle.subdiv_model.specs.ReadObj.{read_obj_fault, read_obj_mesh};
-ghost use Rattle.subdiv_model.specs.Sharpness.{Semi};
+ghost use Rattle.subdiv_model.specs.Sharpness.{Normal, Semi};
 ghost use Rattle.subdiv_model.specs.TableText.{table_text};
 ghost use Rattle.subdiv_model.specs.Text.{face_line, refined_text, tags_text};
 
@@ -43,14 +43,12 @@ pub fn cube_from_text_to_text()
 
 /// Two triangles back to back, refined once.
 pub fn two_triangles_refined_once()
-    ensures { refined_text (plain_level 3 two_triangles) CatmullClark 1 ((pos 0, pos 0, pos 0) ∷ (pos 12, pos 0, pos 0) ∷ (pos 0, pos 12, pos 0) ∷ []) 1
-        ≡ codes "v 5 5 0\nv 2 5 0\nv 5 2 0\nv 4 4 0\nv 4 4 0\nv 5 2 0\nv 5 5 0\nv 2 5 0\nf 1 6 4 8\nf 2 7 4 6\nf 3 8 4 7\nf 1 8 5 6\nf 3 7 5 8\nf 2 6 5 7\n" }
+    ensures { refined_text (plain_level 3 two_triangles) CatmullClark 1 triangle_points 1 ≡ refined_triangles_text }
 {}
 
 /// Numerators stand over the common denominator of their channel, and a face that is a hole is not written.
 pub fn common_denominator_and_hole_in_a_text()
-    ensures { refined_text (record (plain_level 3 two_triangles) { holes = true ∷ false ∷ [] }) CatmullClark 100 ((pos 0, pos 50, negsuc 149) ∷ (pos 100, pos 0, pos 0) ∷ (pos 0, pos 1, pos 0) ∷ []) 0
-        ≡ codes "v 0 1/2 -3/2\nv 1 0 0\nv 0 1/100 0\nf 1 3 2\n" }
+    ensures { refined_text holed_triangles CatmullClark 100 triangle_points_in_hundredths 0 ≡ codes "v 0 1/2 -3/2\nv 1 0 0\nv 0 1/100 0\nf 1 3 2\n" }
 {}
 
 /// Whole numbers of any length have all their digits.
@@ -86,9 +84,8 @@ pub fn tags_of_a_level()
 
 /// The lines of the levels of a cube with two creases, by each method, and of a square that is hidden.
 pub fn lines_of_levels()
-    ensures chaikin { levels_text chaikin_cube 1
-        ≡ codes "level 0 points 8 edges 12 faces 6 euler 2 boundary 0 holes 0 sharp 2 extraordinary 8\nlevel 1 points 26 edges 48 faces 24 euler 2 boundary 0 holes 0 sharp 3 extraordinary 8\n" }
-    ensures normal { level_line 1 (child_level (tagged_level 8 cube (((0, 1), Semi 1 1) ∷ ((1, 3), Semi 3 1) ∷ []) []))
+    ensures chaikin { levels_text chaikin_cube 1 ≡ chaikin_levels_text }
+    ensures normal { level_line 1 (child_level (cube_of_two_creases Normal (Semi 1 1) (Semi 3 1)))
         ≡ codes "level 1 points 26 edges 48 faces 24 euler 2 boundary 0 holes 0 sharp 2 extraordinary 8\n" }
     ensures hidden { level_line 0 (level_in Hidden 5 square) ≡ codes "level 0 points 5 edges 4 faces 1 euler 1 boundary 4 holes 1 sharp 0 extraordinary 0\n" }
     ensures negative { whole_text (negsuc 0) ≡ codes "-1" }
@@ -97,6 +94,5 @@ pub fn lines_of_levels()
 /// The table of a square after no step and after one.
 pub fn tables_of_a_square()
     ensures base { table_text (tagged_level 4 square [] []) CatmullClark 0 ≡ codes "table controls 4 rows 4 entries 4\ns 1 0 1\ns 1 1 1\ns 1 2 1\ns 1 3 1\n" }
-    ensures refined { table_text (tagged_level 4 square [] []) CatmullClark 1
-        ≡ codes "table controls 4 rows 9 entries 24\ns 8 0 6 1 1 3 1\ns 8 0 1 1 6 2 1\ns 8 1 1 2 6 3 1\ns 8 0 1 2 1 3 6\ns 4 0 1 1 1 2 1 3 1\ns 2 0 1 1 1\ns 2 1 1 2 1\ns 2 2 1 3 1\ns 2 0 1 3 1\n" }
+    ensures refined { table_text (tagged_level 4 square [] []) CatmullClark 1 ≡ square_table_text }
 {}

@@ -1,17 +1,16 @@
 //! Examples of refined values, common denominators and stencil rows, each proved by computing.
 
-ghost use Rattle.std.specs.Prelude.{◌≡◌, ◌+◌, ◌^◌, true, false, [], ◌∷◌, ◌++◌, map, get_or, replicate, pos, codes};
-ghost use Rattle.subdiv_model.specs.Base.{base_level};
+ghost use Rattle.std.specs.Prelude.{◌≡◌, ◌+◌, ◌^◌, true, false, [], ◌∷◌, ◌++◌, get_or, replicate, pos, codes};
 ghost use Rattle.subdiv_model.specs.Channel.{Sharpnesses, Tables, Values, chaikin_overflows_at, channel_faults, greatest_denominator, has_value_overflow, whole_levels, transition_overflows_at};
-ghost use Rattle.subdiv_model.specs.ExampleControls.{cube_ring, cube_x, cube_z};
-ghost use Rattle.subdiv_model.specs.Examples.{cube, square, tagged_level, tagged_mesh, tetrahedron, two_triangles};
+ghost use Rattle.subdiv_model.specs.ExampleControls.{cube_ring, cube_x, cube_z, fine_channel, refined_value_texts, square_x};
+ghost use Rattle.subdiv_model.specs.Examples.{cube, cube_of_two_creases, fine_cube, square, tagged_level, tetrahedron, two_triangles};
 ghost use Rattle.subdiv_model.specs.Fault.{ChaikinOverflow, Overflow, Positions, Texture, TransitionOverflow, ValueOverflow};
 ghost use Rattle.subdiv_model.specs.Fractions.{gcd_of};
 ghost use Rattle.subdiv_model.specs.Level.{plain_level};
 ghost use Rattle.subdiv_model.specs.Mask.{CatmullClark, Linear};
 ghost use Rattle.subdiv_model.specs.NumberText.{value_text};
 ghost use Rattle.subdiv_model.specs.Refined.{control_values, point_value, refined_denominators, refined_values};
-ghost use Rattle.subdiv_model.specs.Sharpness.{Chaikin, Semi};
+ghost use Rattle.subdiv_model.specs.Sharpness.{Chaikin, Normal, Semi};
 ghost use Rattle.subdiv_model.specs.Support.{entries_after, refined_supports, stencil_numerator};
 
 /// Euclid's algorithm computes, for long numbers too.
@@ -21,7 +20,7 @@ pub fn gcd_of_long_numbers()
 
 /// Under the linear scheme vertices stay, and faces and edges have their middle points.
 pub fn square_under_the_linear_scheme()
-    ensures { map value_text (refined_values (tagged_level 4 square [] []) Linear (control_values (pos 0 ∷ pos 4 ∷ pos 4 ∷ pos 0 ∷ [])) 1) ≡ codes "0" ∷ codes "4" ∷ codes "4" ∷ codes "0" ∷ codes "2" ∷ codes "2" ∷ codes "4" ∷ codes "2" ∷ codes "0" ∷ [] }
+    ensures { refined_value_texts (tagged_level 4 square [] []) Linear square_x 1 ≡ codes "0" ∷ codes "4" ∷ codes "4" ∷ codes "0" ∷ codes "2" ∷ codes "2" ∷ codes "4" ∷ codes "2" ∷ codes "0" ∷ [] }
 {}
 
 /// A crease between vertices 1 and 3 of the cube, of sharpness 1/2: the edge's point moves out, and
@@ -33,8 +32,8 @@ pub fn semi_sharp_crease_on_the_cube()
 
 /// Creases of 1/2 and 3/2 at vertex 1 of the cube: a crease now and a dart in the next level, by halves.
 pub fn fractional_transition_on_the_cube()
-    ensures x { value_text (point_value (refined_values (tagged_level 8 cube (((0, 1), Semi 1 2) ∷ ((1, 3), Semi 3 2) ∷ []) []) CatmullClark (control_values cube_x) 1) 1) ≡ codes "47/72" }
-    ensures z { value_text (point_value (refined_values (tagged_level 8 cube (((0, 1), Semi 1 2) ∷ ((1, 3), Semi 3 2) ∷ []) []) CatmullClark (control_values cube_z) 1) 1) ≡ codes "7/9" }
+    ensures x { value_text (point_value (refined_values (cube_of_two_creases Normal (Semi 1 2) (Semi 3 2)) CatmullClark (control_values cube_x) 1) 1) ≡ codes "47/72" }
+    ensures z { value_text (point_value (refined_values (cube_of_two_creases Normal (Semi 1 2) (Semi 3 2)) CatmullClark (control_values cube_z) 1) 1) ≡ codes "7/9" }
 {}
 
 /// The four edges of a face of the cube, infinitely sharp: a crease stays in its plane.
@@ -45,7 +44,7 @@ pub fn infinite_crease_on_the_cube()
 
 /// A square whose boundary edges are infinitely sharp: its corner, an edge's point and the face's point.
 pub fn open_square_refined_once()
-    ensures { map value_text (refined_values (tagged_level 4 square [] []) CatmullClark (control_values (pos 0 ∷ pos 4 ∷ pos 4 ∷ pos 0 ∷ [])) 1) ≡ codes "1/2" ∷ codes "7/2" ∷ codes "7/2" ∷ codes "1/2" ∷ codes "2" ∷ codes "2" ∷ codes "4" ∷ codes "2" ∷ codes "0" ∷ [] }
+    ensures { refined_value_texts (tagged_level 4 square [] []) CatmullClark square_x 1 ≡ codes "1/2" ∷ codes "7/2" ∷ codes "7/2" ∷ codes "1/2" ∷ codes "2" ∷ codes "2" ∷ codes "4" ∷ codes "2" ∷ codes "0" ∷ [] }
 {}
 
 /// Two steps: vertex 3 of the cube, and vertex 0 of two triangles back to back.
@@ -97,17 +96,17 @@ pub fn overflows_of_values()
 /// Where sharpness overflows: by the chaikin rule at a vertex of two semi-sharp edges, and in a transition where
 /// the two masks differ, under the scheme of Catmull and Clark alone.
 pub fn overflows_of_sharpness()
-    ensures chaikin { chaikin_overflows_at (base_level (record (tagged_mesh 8 cube (((0, 1), Semi 1 (2 ^ 59)) ∷ ((1, 3), Semi 1 3) ∷ []) []) { method = Chaikin })) 1 ≡ true }
-    ensures other_end { chaikin_overflows_at (base_level (record (tagged_mesh 8 cube (((0, 1), Semi 1 (2 ^ 59)) ∷ ((1, 3), Semi 1 3) ∷ []) []) { method = Chaikin })) 0 ≡ false }
-    ensures normal { chaikin_overflows_at (tagged_level 8 cube (((0, 1), Semi 1 (2 ^ 59)) ∷ ((1, 3), Semi 1 3) ∷ []) []) 1 ≡ false }
-    ensures transition { transition_overflows_at (tagged_level 8 cube (((0, 1), Semi 1 (2 ^ 59)) ∷ ((1, 3), Semi 1 3) ∷ []) []) CatmullClark 1 ≡ true }
+    ensures chaikin { chaikin_overflows_at (fine_cube Chaikin) 1 ≡ true }
+    ensures other_end { chaikin_overflows_at (fine_cube Chaikin) 0 ≡ false }
+    ensures normal { chaikin_overflows_at (fine_cube Normal) 1 ≡ false }
+    ensures transition { transition_overflows_at (fine_cube Normal) CatmullClark 1 ≡ true }
     ensures one_mask { transition_overflows_at (tagged_level 8 cube (((0, 1), Semi 1 (2 ^ 60 + 1)) ∷ []) []) CatmullClark 1 ≡ false }
-    ensures linear { transition_overflows_at (tagged_level 8 cube (((0, 1), Semi 1 (2 ^ 59)) ∷ ((1, 3), Semi 1 3) ∷ []) []) Linear 1 ≡ false }
+    ensures linear { transition_overflows_at (fine_cube Normal) Linear 1 ≡ false }
 {}
 
 /// The faults of a level in their order: the sharpness, the weights, the entries of tables and the values.
 pub fn faults_of_a_level()
-    ensures order { channel_faults Tables (record { base = base_level (record (tagged_mesh 8 cube (((0, 1), Semi 1 (2 ^ 59)) ∷ ((1, 3), Semi 1 3) ∷ []) []) { method = Chaikin }); scheme = CatmullClark; greatest = 10 ^ 37; common = 1 }) Positions 1
+    ensures order { channel_faults Tables fine_channel Positions 1
         ≡ Overflow Positions 1 ChaikinOverflow ∷ Overflow Positions 1 TransitionOverflow ∷ Overflow Positions 1 ValueOverflow ∷ [] }
     ensures sharpness_alone { channel_faults Sharpnesses (record { base = plain_level 8 cube; scheme = CatmullClark; greatest = 10 ^ 37; common = 1 }) Positions 1 ≡ [] }
     ensures later { channel_faults Values (record { base = tagged_level 4 square [] []; scheme = CatmullClark; greatest = 10 ^ 36; common = 1 }) Texture 2 ≡ Overflow Texture 2 ValueOverflow ∷ [] }

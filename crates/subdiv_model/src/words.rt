@@ -2,6 +2,7 @@
 
 ghost use Rattle.std.specs.Prelude.{◌≡◌, false, true, [], ◌∷◌, Some, None, Ok, Err, codes};
 ghost use Rattle.subdiv_model.specs.Command.{ByLevel, ByTable, CornersUv, Gen, Levels, Makes, Reads, Refine, SmoothUv, read_words};
+ghost use Rattle.subdiv_model.specs.ExampleTexts.{all_refine_words};
 ghost use Rattle.subdiv_model.specs.Words.{command_table, usage_of};
 
 /// Command lines and the place of their first bad word.
@@ -21,8 +22,7 @@ pub fn places_of_bad_words()
 /// What words say: options in any order, and the defaults where they are missing.
 pub fn commands_of_words()
     ensures refine { read_words (codes "refine" ∷ codes "depth=0" ∷ []) ≡ Ok (Reads (Refine (record { depth = 0; decimals = None; uv = SmoothUv; by = ByTable; tags = false }))) }
-    ensures all { read_words (codes "refine" ∷ codes "tags=yes" ∷ codes "by=level" ∷ codes "uv=corners" ∷ codes "decimals=18" ∷ codes "depth=10" ∷ [])
-        ≡ Ok (Reads (Refine (record { depth = 10; decimals = Some 18; uv = CornersUv; by = ByLevel; tags = true }))) }
+    ensures all { read_words all_refine_words ≡ Ok (Reads (Refine (record { depth = 10; decimals = Some 18; uv = CornersUv; by = ByLevel; tags = true }))) }
     ensures sheet { read_words (codes "gen" ∷ codes "size=256" ∷ codes "seed=4294967295" ∷ codes "depth=3" ∷ []) ≡ Ok (Makes (Gen (record { seed = 4294967295; size = 256; depth = 3 }))) }
     ensures levels { read_words (codes "levels" ∷ codes "depth=1" ∷ []) ≡ Ok (Reads (Levels 1)) }
     ensures bad { read_words (codes "levels" ∷ codes "depth=x" ∷ []) ≡ Err 1 }
