@@ -14,7 +14,8 @@ use Rattle.number_laws.proofs.MultipleLemmas.{all-divide_lcm, lcm_of_all-positiv
 use Rattle.sharpness_laws.specs.SameWeights.{HaveSameWeights}
 use Rattle.sharpness_laws.proofs.JoinedWeightLemmas.{weight_in-mask_of}
 use Rattle.sharpness_laws.proofs.SameWeightLemmas.{same-sum, same-total}
-use Rattle.mask_laws.proofs.SumLemmas.{weighted_sum, value_of_terms, IsOver, over-multiple, terms-over}
+use Rattle.mask_laws.specs.Laws.{value_of_terms}
+use Rattle.mask_laws.proofs.SumLemmas.{weighted_sum, IsOver, over-multiple, terms-over}
 
 -- What is true of each source of the terms is true of each source of the mask.
 

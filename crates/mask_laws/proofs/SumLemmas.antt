@@ -1,12 +1,13 @@
 -- The value of a sum of weighted terms is a whole number over a common denominator.
-use Rattle.std.proofs.Common.{◌≡◌, ℕ, ◌*◌, ◌/◌, ℤ, pos, ◌+ℤ◌, ◌*ℤ◌, List, [], ◌∷◌, map, arith, ap, sym, ◌∙◌}
+use Rattle.std.proofs.Common.{◌≡◌, ℕ, ◌*◌, ◌/◌, ℤ, pos, ◌+ℤ◌, ◌*ℤ◌, List, [], ◌∷◌, arith, ap, sym, ◌∙◌}
 use Rattle.std.specs.List.{AllByRecursion}
 use Rattle.std.specs.Int.{◌∣◌}
 use Rattle.std.proofs.Math.IntN.{*ℤ_comm, *ℤ-zero}
 use Rattle.std.proofs.Math.Nat.{div-mul_cancel}
 use Rattle.subdiv_model.specs.Mask.{SourcePoint, Term}
-use Rattle.subdiv_model.specs.Value.{Value, plus_value, weighted, sum_of_values}
+use Rattle.subdiv_model.specs.Value.{Value, plus_value, weighted}
 use Rattle.number_laws.proofs.WholeNumberLemmas.{pos-distrib, pos-assoc, pos-swap}
+use Rattle.mask_laws.specs.Laws.{value_of_terms}
 
 -- the sum of a whole number for each
 abbrev pub sum_ℤ : {X : Type 0} → (X → ℤ) → List X → ℤ
@@ -16,10 +17,6 @@ sum_ℤ f (x ∷ xs) = f x +ℤ sum_ℤ f xs
 -- the weighted sum over terms of a whole number for each source
 abbrev pub weighted_sum : (SourcePoint → ℤ) → List Term → ℤ
 weighted_sum f terms = sum_ℤ (λ t. pos t.weight *ℤ f t.source) terms
-
--- the value of terms over a denominator: that of a mask, whether its terms are joined or not
-abbrev pub value_of_terms : (SourcePoint → Value) → List Term → ℕ → Value
-value_of_terms value terms q = sum_of_values (map (λ t. weighted t.weight q (value t.source)) terms)
 
 -- over c the value is the whole number n
 abbrev pub IsOver : ℕ → Value → ℤ → Type 0

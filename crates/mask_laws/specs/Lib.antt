@@ -1,1 +1,2 @@
 pub mod SharpBoundary
+pub mod Laws

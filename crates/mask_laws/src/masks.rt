@@ -1,20 +1,21 @@
 //! Laws of masks: their weights and sources, the weights between two rules, and what holds at the boundary.
 
-ghost use Rattle.std.specs.Prelude.{◌≡◌, ◌+◌, ◌*◌, ◌<◌, ◌≤◌, IsTrue, ℕ, length, List, [], map, get_or, false};
-ghost use Rattle.std.specs.List.{list_all, sum_by};
+ghost use Rattle.std.specs.Prelude.{◌≡◌, ◌*◌, ◌<◌, ◌≤◌, IsTrue, ℕ, length, List, [], get_or, false};
+ghost use Rattle.std.specs.List.{sum_by};
 ghost use Rattle.subdiv_model.specs.Edges.{faces_of_edge, is_boundary, is_closed};
 ghost use Rattle.subdiv_model.specs.Polygons.{is_over};
-ghost use Rattle.subdiv_model.specs.ObjMesh.{ObjMesh, has_faces_over_points};
+ghost use Rattle.subdiv_model.specs.ObjMesh.{ObjMesh};
 ghost use Rattle.subdiv_model.specs.Base.{base_level, is_at_boundary};
 ghost use Rattle.subdiv_model.specs.Manifold.{IsManifold};
-ghost use Rattle.subdiv_model.specs.Sharpness.{Sharpness, Semi, Infinite, Method, uniform_child, is_proper_sharpness};
-ghost use Rattle.subdiv_model.specs.Level.{Level, is_well_formed, edge_sharpness_of, edges_at};
+ghost use Rattle.subdiv_model.specs.Sharpness.{Semi, Infinite};
+ghost use Rattle.subdiv_model.specs.Level.{Level, edge_sharpness_of, edges_at};
 ghost use Rattle.subdiv_model.specs.Child.{child_level, refined_level};
-ghost use Rattle.subdiv_model.specs.Rule.{is_smooth_or_dart, vertex_rule, same_mask, child_ring, transition_weight};
-ghost use Rattle.subdiv_model.specs.Mask.{Mask, Scheme, SourcePoint, Term, CatmullClark, Linear, mask_of, total_weight, weight_in, face_mask, edge_mask, vertex_mask, mask_of_edge, blend, is_mean, is_interior, is_proper_at, rule_at, child_rule_at, has_means, has_distinct_sources, has_distinct_masks};
-ghost use Rattle.subdiv_model.specs.Value.{Value, IsSameValue, weighted, sum_of_values};
+ghost use Rattle.subdiv_model.specs.Rule.{is_smooth_or_dart};
+ghost use Rattle.subdiv_model.specs.Mask.{Mask, Scheme, SourcePoint, Term, CatmullClark, Linear, mask_of, total_weight, face_mask, edge_mask, vertex_mask, mask_of_edge, blend, is_mean, is_interior, is_proper_at, rule_at, child_rule_at, has_means, has_distinct_sources, has_distinct_masks};
+ghost use Rattle.subdiv_model.specs.Value.{IsSameValue, weighted};
 ghost use Rattle.subdiv_model.specs.Refined.{mask_value};
 ghost use Rattle.mask_laws.specs.SharpBoundary.{has_sharp_boundary};
+ghost use Rattle.mask_laws.specs.Laws.{Transition, SourceValues, BoundaryPoint, IsManifoldMesh, HasProperTags, IsManifoldWithSharpBoundary, IsInteriorWhereSmooth, GiveSameWeights, mesh_level, weight_of, value_of_terms};
 
 /// The mask of a face with a corner is a mean: its weights are above 0 and sum to the denominator.
 pub fn face_masks_are_means()
@@ -33,9 +34,7 @@ pub fn edge_masks_are_means()
 /// The mask of a vertex is a mean: smooth, dart, crease, corner, and in a transition between two of
 /// them. Where its rule is smooth or a dart, now or in the next level, it has as many faces as edges.
 pub fn vertex_masks_are_means()
-    ensures catmull_clark { (level : Level) (v : ℕ) → IsTrue (is_proper_at level v)
-        → (IsTrue (is_smooth_or_dart (rule_at level v)) → IsTrue (is_interior level v))
-        → (IsTrue (is_smooth_or_dart (child_rule_at level v)) → IsTrue (is_interior level v))
+    ensures catmull_clark { (level : Level) (v : ℕ) → IsTrue (is_proper_at level v) → IsInteriorWhereSmooth level v
         → IsTrue (is_mean (vertex_mask level CatmullClark v)) }
     ensures linear { (level : Level) (v : ℕ) → IsTrue (is_mean (vertex_mask level Linear v)) }
 {}
@@ -48,11 +47,8 @@ pub fn blends_are_means()
 
 /// Where the masks of two levels differ at a vertex, the weight is above 0 and at most 1.
 pub fn transition_weights_are_above_zero()
-    ensures { (method : Method) (vertex : Sharpness) (ring : List Sharpness) → IsTrue (is_proper_sharpness vertex)
-        → IsTrue (list_all is_proper_sharpness ring)
-        → same_mask (vertex_rule vertex ring) (vertex_rule (uniform_child vertex) (child_ring method ring)) ≡ false
-        → (0 < (transition_weight vertex (uniform_child vertex) ring (child_ring method ring)).0)
-        × ((transition_weight vertex (uniform_child vertex) ring (child_ring method ring)).0 ≤ (transition_weight vertex (uniform_child vertex) ring (child_ring method ring)).1) }
+    ensures above_zero { (transition : Transition) → 0 < (weight_of transition).0 }
+    ensures at_most_one { (transition : Transition) → (weight_of transition).0 ≤ (weight_of transition).1 }
 {}
 
 /// Boundary edges, which are the edges of one face, stay infinitely sharp. At level 0 of every mesh they are, whatever
@@ -63,10 +59,8 @@ pub fn boundary_edges_stay_infinite()
     ensures closed { (level : Level) → IsTrue (is_closed level.polygons) → IsTrue (has_sharp_boundary level) }
     ensures child { (level : Level) → IsTrue (is_over level.point_count level.polygons) → IsManifold level.point_count level.polygons
         → IsTrue (has_sharp_boundary level) → IsTrue (has_sharp_boundary (child_level level)) }
-    ensures edges { (mesh : ObjMesh) (k : ℕ) (edge : ℕ × ℕ) → IsManifold (length mesh.points) mesh.faces
-        → IsTrue (has_faces_over_points mesh)
-        → IsTrue (is_boundary (refined_level (base_level mesh) k).polygons edge)
-        → edge_sharpness_of (refined_level (base_level mesh) k) edge ≡ Infinite }
+    ensures edges { (mesh : ObjMesh) (k : ℕ) (edge : ℕ × ℕ) → IsManifoldMesh mesh
+        → IsTrue (is_boundary (mesh_level mesh k).polygons edge) → edge_sharpness_of (mesh_level mesh k) edge ≡ Infinite }
 {}
 
 /// In a manifold a point away from the boundary, if an edge ends there, is interior: it has as many faces as edges,
@@ -74,10 +68,8 @@ pub fn boundary_edges_stay_infinite()
 pub fn points_are_interior_or_at_the_boundary()
     ensures interior { (level : Level) (v : ℕ) → IsManifold level.point_count level.polygons
         → is_at_boundary level.polygons v ≡ false → 1 ≤ length (edges_at level v) → IsTrue (is_interior level v) }
-    ensures boundary { (level : Level) (v : ℕ) → IsManifold level.point_count level.polygons → IsTrue (has_sharp_boundary level)
-        → IsTrue (is_at_boundary level.polygons v) → is_smooth_or_dart (rule_at level v) ≡ false }
-    ensures boundary_next { (level : Level) (v : ℕ) → IsManifold level.point_count level.polygons → IsTrue (has_sharp_boundary level)
-        → IsTrue (is_at_boundary level.polygons v) → is_smooth_or_dart (child_rule_at level v) ≡ false }
+    ensures boundary { (point : BoundaryPoint) → is_smooth_or_dart (rule_at point.level point.v) ≡ false }
+    ensures boundary_next { (point : BoundaryPoint) → is_smooth_or_dart (child_rule_at point.level point.v) ≡ false }
 {}
 
 /// Each mask of a manifold, at every level and under both schemes, is a mean of points and faces of its level: its
@@ -85,13 +77,10 @@ pub fn points_are_interior_or_at_the_boundary()
 /// sharp, as that of a closed one is, and from level 0 of every mesh, open or closed, whatever its tags, where each
 /// sharpness in them is well formed.
 pub fn masks_of_manifolds_are_means()
-    ensures level { (level : Level) (scheme : Scheme) (k : ℕ) → IsTrue (is_well_formed level) → IsManifold level.point_count level.polygons
-        → IsTrue (has_sharp_boundary level) → IsTrue (has_means (refined_level level k) scheme) }
-    ensures mesh { (mesh : ObjMesh) (scheme : Scheme) (k : ℕ) → IsManifold (length mesh.points) mesh.faces
-        → IsTrue (has_faces_over_points mesh)
-        → IsTrue (list_all (λ crease. is_proper_sharpness crease.1) mesh.creases)
-        → IsTrue (list_all (λ tag. is_proper_sharpness tag.1) mesh.corner_tags)
-        → IsTrue (has_means (refined_level (base_level mesh) k) scheme) }
+    ensures level { (level : Level) (scheme : Scheme) (k : ℕ) → IsManifoldWithSharpBoundary level
+        → IsTrue (has_means (refined_level level k) scheme) }
+    ensures mesh { (mesh : ObjMesh) (scheme : Scheme) (k : ℕ) → IsManifoldMesh mesh → HasProperTags mesh
+        → IsTrue (has_means (mesh_level mesh k) scheme) }
 {}
 
 /// A mask lists each of its sources once, whatever terms it is made of; so do all masks of a level, those between two
@@ -108,10 +97,8 @@ pub fn sums_do_not_see_how_terms_are_joined()
     ensures weights { (terms : List Term) (q : ℕ) → total_weight (mask_of terms q).terms ≡ total_weight terms }
     ensures numbers { (number : SourcePoint → ℕ) (terms : List Term) (q : ℕ)
         → sum_by (λ t. t.weight * number t.source) (mask_of terms q).terms ≡ sum_by (λ t. t.weight * number t.source) terms }
-    ensures value { (value : SourcePoint → Value) (terms : List Term) (q : ℕ) → ((source : SourcePoint) → 0 < (value source).den) → 0 < q
-        → IsSameValue (mask_value value (mask_of terms q)) (sum_of_values (map (λ t. weighted t.weight q (value t.source)) terms)) }
-    ensures order { (value : SourcePoint → Value) (first second : List Term) (q : ℕ) → ((source : SourcePoint) → 0 < (value source).den)
-        → 0 < q
-        → ((source : SourcePoint) → weight_in first source ≡ weight_in second source)
-        → IsSameValue (sum_of_values (map (λ t. weighted t.weight q (value t.source)) first)) (sum_of_values (map (λ t. weighted t.weight q (value t.source)) second)) }
+    ensures value { (values : SourceValues) (terms : List Term) (q : ℕ) → 0 < q
+        → IsSameValue (mask_value values.value (mask_of terms q)) (value_of_terms values.value terms q) }
+    ensures order { (values : SourceValues) (first second : List Term) (q : ℕ) → 0 < q → GiveSameWeights first second
+        → IsSameValue (value_of_terms values.value first q) (value_of_terms values.value second q) }
 {}

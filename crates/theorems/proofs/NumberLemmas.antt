@@ -7,7 +7,8 @@ use Rattle.subdiv_model.specs.Value.{Value, IsSameValue}
 use Rattle.subdiv_model.specs.Refined.{mask_value}
 use Rattle.number_laws.proofs.WholeNumberLemmas.{pos-sum, pos-assoc, pos-swap, pos-cancel, times-one}
 use Rattle.number_laws.proofs.MultipleLemmas.{product-positive}
-use Rattle.mask_laws.proofs.SumLemmas.{weighted_sum, value_of_terms, IsOver, terms-over}
+use Rattle.mask_laws.specs.Laws.{value_of_terms}
+use Rattle.mask_laws.proofs.SumLemmas.{weighted_sum, IsOver, terms-over}
 use Rattle.mask_laws.proofs.JoinedLemmas.{joined-all, joined-sum}
 
 -- Over a multiple the number is as many times as great.

@@ -12,4 +12,4 @@ pub returns-clause-child : goal.returns-clause-child
 returns-clause-child c = child-sharp
 
 pub returns-clause-edges : goal.returns-clause-edges
-returns-clause-edges c = boundary-meshes
+returns-clause-edges c = λ mesh k edge is. boundary-meshes mesh k edge is.manifold is.over_points

@@ -7,9 +7,11 @@ returns-clause-interior c level v is away some =
     interior-away level (all-simple level.point_count level.polygons is) is.sides_once v away some
 
 pub returns-clause-boundary : goal.returns-clause-boundary
-returns-clause-boundary c level v is sharp at =
-    boundary-now level (all-simple level.point_count level.polygons is) is.sides_once sharp v at
+returns-clause-boundary c = λ point.
+    boundary-now point.level (all-simple point.level.point_count point.level.polygons point.manifold) point.manifold.sides_once
+    point.sharp_boundary point.v point.at_boundary
 
 pub returns-clause-boundary_next : goal.returns-clause-boundary_next
-returns-clause-boundary_next c level v is sharp at =
-    boundary-next level (all-simple level.point_count level.polygons is) is.sides_once sharp v at
+returns-clause-boundary_next c = λ point.
+    boundary-next point.level (all-simple point.level.point_count point.level.polygons point.manifold) point.manifold.sides_once
+    point.sharp_boundary point.v point.at_boundary

@@ -8,7 +8,7 @@ pub returns-clause-numbers : goal.returns-clause-numbers
 returns-clause-numbers c = joined-number
 
 pub returns-clause-value : goal.returns-clause-value
-returns-clause-value c = joined-value
+returns-clause-value c = λ values terms q. joined-value values.value terms q values.above_zero
 
 pub returns-clause-order : goal.returns-clause-order
-returns-clause-order c = order-value
+returns-clause-order c = λ values first second q. order-value values.value first second q values.above_zero

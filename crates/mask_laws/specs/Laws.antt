@@ -1,0 +1,110 @@
+-- What the laws of masks and of refined values speak of: meshes, levels, points, terms, and controls that are refined.
+-- Source: this profile.
+use Rattle.std.specs.Prelude.{◌≡◌, ℕ, ◌<◌, false, ℤ, List, length, map, IsTrue}
+use Rattle.std.specs.List.{list_all}
+use Rattle.subdiv_model.specs.Manifold.{IsManifold}
+use Rattle.subdiv_model.specs.ObjMesh.{ObjMesh, has_faces_over_points}
+use Rattle.subdiv_model.specs.Base.{base_level, is_at_boundary}
+use Rattle.subdiv_model.specs.Sharpness.{Sharpness, Method, uniform_child, is_proper_sharpness}
+use Rattle.subdiv_model.specs.Level.{Level, is_well_formed}
+use Rattle.subdiv_model.specs.Child.{refined_level}
+use Rattle.subdiv_model.specs.Rule.{is_smooth_or_dart, vertex_rule, same_mask, child_ring, transition_weight}
+use Rattle.subdiv_model.specs.Mask.{Scheme, SourcePoint, Term, weight_in, is_interior, rule_at, child_rule_at, has_means}
+use Rattle.subdiv_model.specs.Value.{Value, weighted, sum_of_values}
+use Rattle.subdiv_model.specs.Refined.{control_values, translated_controls, refined_values}
+use Rattle.mask_laws.specs.SharpBoundary.{has_sharp_boundary}
+
+-- Of a mesh.
+
+-- the faces of the mesh have points of the mesh as corners, and are a manifold
+pub record IsManifoldMesh (mesh : ObjMesh) : Type 0 where
+  pub manifold : IsManifold (length mesh.points) mesh.faces
+  pub over_points : IsTrue (has_faces_over_points mesh)
+
+-- each sharpness in the tags of the mesh is well formed
+pub record HasProperTags (mesh : ObjMesh) : Type 0 where
+  pub creases : IsTrue (list_all (λ crease. is_proper_sharpness crease.1) mesh.creases)
+  pub corner_tags : IsTrue (list_all (λ tag. is_proper_sharpness tag.1) mesh.corner_tags)
+
+-- the level of the mesh after k steps
+abbrev pub mesh_level : ObjMesh → ℕ → Level
+mesh_level mesh k = refined_level (base_level mesh) k
+
+-- Of a level.
+
+-- the level is well formed and a manifold, and its boundary is infinitely sharp
+pub record IsManifoldWithSharpBoundary (level : Level) : Type 0 where
+  pub formed : IsTrue (is_well_formed level)
+  pub manifold : IsManifold level.point_count level.polygons
+  pub sharp_boundary : IsTrue (has_sharp_boundary level)
+
+-- the masks of each of the first k steps from the level are means
+abbrev pub HasMeansInSteps : Level → Scheme → ℕ → Type 0
+HasMeansInSteps level scheme k = (j : ℕ) → j < k → IsTrue (has_means (refined_level level j) scheme)
+
+-- Of a point.
+
+-- the point is interior where its rule is smooth or a dart, in its level or in the next
+pub record IsInteriorWhereSmooth (level : Level) (v : ℕ) : Type 0 where
+  pub now : IsTrue (is_smooth_or_dart (rule_at level v)) → IsTrue (is_interior level v)
+  pub next : IsTrue (is_smooth_or_dart (child_rule_at level v)) → IsTrue (is_interior level v)
+
+-- a point at the boundary of a manifold, where the boundary is infinitely sharp
+pub record BoundaryPoint : Type 0 where
+  pub level : Level
+  pub v : ℕ
+  pub manifold : IsManifold level.point_count level.polygons
+  pub sharp_boundary : IsTrue (has_sharp_boundary level)
+  pub at_boundary : IsTrue (is_at_boundary level.polygons v)
+
+-- a vertex by its sharpness and those of its ring, each well formed, whose mask is another in the next level
+pub record Transition : Type 0 where
+  pub method : Method
+  pub vertex : Sharpness
+  pub ring : List Sharpness
+  pub proper_vertex : IsTrue (is_proper_sharpness vertex)
+  pub proper_ring : IsTrue (list_all is_proper_sharpness ring)
+  pub masks_differ : same_mask (vertex_rule vertex ring) (vertex_rule (uniform_child vertex) (child_ring method ring)) ≡ false
+
+-- the weight of the mask of this level in the transition
+abbrev pub weight_of : Transition → ℕ × ℕ
+weight_of transition =
+    transition_weight transition.vertex (uniform_child transition.vertex) transition.ring (child_ring transition.method transition.ring)
+
+-- Of terms.
+
+-- a value for each source, over a denominator above 0
+pub record SourceValues : Type 0 where
+  pub value : SourcePoint → Value
+  pub above_zero : (source : SourcePoint) → 0 < (value source).den
+
+-- the terms of both lists give each source the same weight in all
+abbrev pub GiveSameWeights : List Term → List Term → Type 0
+GiveSameWeights first second = (source : SourcePoint) → weight_in first source ≡ weight_in second source
+
+-- the value of terms over a denominator: that of a mask, whether its terms are joined or not
+abbrev pub value_of_terms : (SourcePoint → Value) → List Term → ℕ → Value
+value_of_terms value terms q = sum_of_values (map (λ t. weighted t.weight q (value t.source)) terms)
+
+-- Of controls.
+
+-- a control number for each point of the level
+pub record Controls (level : Level) : Type 0 where
+  pub numbers : List ℤ
+  pub one_each : length numbers ≡ level.point_count
+
+-- controls of the level, and so many steps of a scheme that refine them
+pub record Refinement (level : Level) : Type 0 where
+  pub controls : Controls level
+  pub scheme : Scheme
+  pub steps : ℕ
+
+-- the values that the controls are refined to
+abbrev pub values_of : {level : Level} → Refinement level → List Value
+values_of {level} refinement =
+    refined_values level refinement.scheme (control_values refinement.controls.numbers) refinement.steps
+
+-- the values that they are refined to where all controls move by a number
+abbrev pub translated_values : {level : Level} → ℤ → Refinement level → List Value
+translated_values {level} t refinement =
+    refined_values level refinement.scheme (control_values (translated_controls t refinement.controls.numbers)) refinement.steps
