@@ -2,3 +2,4 @@ pub mod Table
 pub mod Arrays
 pub mod Built
 pub mod Means
+pub mod Laws

@@ -3,10 +3,11 @@
 //! Each public function here takes nothing, does nothing and returns nothing: its clauses are the laws.
 
 ghost use Rattle.std.specs.Prelude.{◌≡◌, ℕ, ◌+◌, ◌≤◌, ℤ, pos, ◌*ℤ◌, List, length, map};
-ghost use Rattle.std.specs.List.{All, range_with_len};
+ghost use Rattle.std.specs.List.{range_with_len};
 ghost use Rattle.ratio128.specs.Numbers.{zeros};
 ghost use Rattle.stencil_apply.specs.Table.{Row, Table, IsRow, entries_of, rows_in, sum_of_row};
-ghost use Rattle.stencil_apply.specs.Means.{moved, unit_numbers, numerator_of};
+ghost use Rattle.stencil_apply.specs.Means.{moved, numerator_of};
+ghost use Rattle.stencil_apply.specs.Laws.{SummedRow, identity_of};
 
 /// Two ranges of rows that meet have as many entries as both together, and all rows have those of the table. So ranges that
 /// cover each row once take as many steps as the table has entries, in whatever order.
@@ -18,11 +19,13 @@ pub fn ranges_cover_the_table()
 /// With each number of each control moved by one whole number, each number of a row's sum moves by the row's denominator times
 /// that number. So its value over the denominator moves as the controls do.
 pub fn rows_are_means()
-    ensures { (row : Row) (controls : List (List ℤ)) (start : List ℤ) (by : ℤ) → IsRow (length controls) row → All (λ numbers. length numbers ≡ length start) controls → sum_of_row start (map (moved by) controls) row ≡ moved (pos row.den *ℤ by) (sum_of_row start controls row) }
+    ensures { (sum : SummedRow) (by : ℤ) → sum_of_row sum.start (map (moved by) sum.controls) sum.row
+        ≡ moved (pos sum.row.den *ℤ by) (sum_of_row sum.start sum.controls sum.row) }
 {}
 
 /// Over controls of as many numbers as there are controls, each with 1 at its own place and 0 at the others, the sum of a row is
 /// its numerators, each at the place of its control, and 0 where a control does not stand in the row.
 pub fn rows_of_the_identity()
-    ensures { (row : Row) (place : List ℤ) → IsRow (length place) row → sum_of_row (zeros place) (map (unit_numbers (length place)) (range_with_len 0 (length place))) row ≡ map (λ v. pos (numerator_of row.shares v)) (range_with_len 0 (length place)) }
+    ensures { (row : Row) (place : List ℤ) → IsRow (length place) row → sum_of_row (zeros place) (identity_of (length place)) row
+        ≡ map (λ v. pos (numerator_of row.shares v)) (range_with_len 0 (length place)) }
 {}
