@@ -9,3 +9,5 @@ pub mod ChildTables
 pub mod Numbering
 pub mod ListPlaces
 pub mod PointRows
+pub mod Laws
+pub mod ChildLaws

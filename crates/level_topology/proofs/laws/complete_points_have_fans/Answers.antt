@@ -1,16 +1,16 @@
 use Rattle.level_topology.proofs.laws.complete_points_have_fans.Goals as goal
 
 pub returns-clause-faces : goal.returns-clause-faces
-returns-clause-faces c = λ t v is inside. (is.listed v inside).faces
+returns-clause-faces c = λ v. (v.is_topology.listed v.number v.exists).faces
 
 pub returns-clause-edges : goal.returns-clause-edges
-returns-clause-edges c = λ t v is inside. (is.listed v inside).edges
+returns-clause-edges c = λ v. (v.is_topology.listed v.number v.exists).edges
 
 pub returns-clause-fan : goal.returns-clause-fan
-returns-clause-fan c = λ t v is inside complete. (is.listed v inside).fan complete
+returns-clause-fan c = λ v. (v.is_topology.listed v.number v.exists).fan
 
 pub returns-clause-other_faces : goal.returns-clause-other_faces
-returns-clause-other_faces c = λ t v is inside other. (is.listed v inside).ascending_faces other
+returns-clause-other_faces c = λ v. (v.is_topology.listed v.number v.exists).ascending_faces
 
 pub returns-clause-other_edges : goal.returns-clause-other_edges
-returns-clause-other_edges c = λ t v is inside other. (is.listed v inside).ascending_edges other
+returns-clause-other_edges c = λ v. (v.is_topology.listed v.number v.exists).ascending_edges
