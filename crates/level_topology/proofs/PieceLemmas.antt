@@ -82,9 +82,9 @@ pub piece_next : {X : Type 0} (starts : List ℕ) (xs : List X) (i : ℕ) → i 
 piece_next starts xs i h = rw add-one (piece_at starts xs i (omega arith))
 
 -- one more list, and what stands beside it
-pub IsPacked-push : {X : Type 0} (starts items list : List ℕ) (beside more : List X) (list_limit item_limit a b c a' b' c' : ℕ) → IsPacked starts items beside list_limit item_limit a b c → length more ≡ length list → length (pieces starts items) < list_limit → sum_by length (pieces starts items) + length list ≤ item_limit → a ≤ a' → b ≤ b' → c ≤ c' → IsPacked (starts ++ (length items + length list) ∷ []) (items ++ list) (beside ++ more) list_limit item_limit a' b' c'
-IsPacked-push [] items list beside more list_limit item_limit a b c a' b' c' is equal few short ha hb hc = absurd is.ascend
-IsPacked-push (s ∷ starts) items list beside more list_limit item_limit a b c a' b' c' is equal few short ha hb hc = record {
+pub IsPacked-push : {X : Type 0} (starts items list : List ℕ) (beside more : List X) {list_limit item_limit a b c a' b' c' : ℕ} → IsPacked starts items beside list_limit item_limit a b c → length more ≡ length list → length (pieces starts items) < list_limit → sum_by length (pieces starts items) + length list ≤ item_limit → a ≤ a' → b ≤ b' → c ≤ c' → IsPacked (starts ++ (length items + length list) ∷ []) (items ++ list) (beside ++ more) list_limit item_limit a' b' c'
+IsPacked-push [] items list beside more is equal few short ha hb hc = absurd is.ascend
+IsPacked-push (s ∷ starts) items list beside more is equal few short ha hb hc = record {
   ascend = rw length-append (Ascend-push (s ∷ starts) (length items) (length list) is.ascend);
   begins = is.begins;
   equal = omega (arith, equal, is.equal, length-append beside more, length-append items list);

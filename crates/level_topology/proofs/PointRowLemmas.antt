@@ -52,8 +52,8 @@ module _ (polygons : List Polygon) (complete : List Bool) where
     λ e. ap (λ k. get_or (lists ++ row ∷ []) k []) (e ∙ sym count) ∙ get_or-append_seam lists row [] [],
   )
 
-  pub rows-push : (v : ℕ) (faces at edges ends faces' at' edges' ends' : List (List ℕ)) (f a e n : List ℕ) → AreRows polygons complete v faces at edges ends → IsRow polygons v (get_or complete v false) f a e n → faces' ≡ faces ++ f ∷ [] → at' ≡ at ++ a ∷ [] → edges' ≡ edges ++ e ∷ [] → ends' ≡ ends ++ n ∷ [] → AreRows polygons complete (v + 1) faces' at' edges' ends'
-  rows-push v faces at edges ends faces' at' edges' ends' f a e n are is p q r s = record {
+  pub rows-push : (v : ℕ) (faces at edges ends : List (List ℕ)) {faces' at' edges' ends' : List (List ℕ)} {f a e n : List ℕ} → AreRows polygons complete v faces at edges ends → IsRow polygons v (get_or complete v false) f a e n → faces' ≡ faces ++ f ∷ [] → at' ≡ at ++ a ∷ [] → edges' ≡ edges ++ e ∷ [] → ends' ≡ ends ++ n ∷ [] → AreRows polygons complete (v + 1) faces' at' edges' ends'
+  rows-push v faces at edges ends {faces'} {at'} {edges'} {ends'} {f} {a} {e} {n} are is p q r s = record {
     face_count = omega (arith, ap length p, length-append faces (f ∷ []), are.face_count);
     at_count = omega (arith, ap length q, length-append at (a ∷ []), are.at_count);
     edge_count = omega (arith, ap length r, length-append edges (e ∷ []), are.edge_count);

@@ -77,7 +77,7 @@ module _ (t : Topology) (is : IsTopology t) where
       let room = point-room v rows faces at edges ends are row in
       let mark : get_or (replicate (child_points t.level.point_count t.level.polygons) true) v false ≡ true = get_or-replicate (child_points t.level.point_count t.level.polygons) v true false low in
       subst (λ r. ArePoints t.level (v + 1) r) (sym made) (record {
-        rows_are = rows-push quads (replicate (child_points t.level.point_count t.level.polygons) true) v rows.vertex_faces rows.vertex_faces_at rows.vertex_edges rows.vertex_edges_at _ _ _ _ faces at edges ends are.rows_are (subst (λ b. IsRow quads v b faces at edges ends) (sym mark) row) refl refl refl refl;
+        rows_are = rows-push quads (replicate (child_points t.level.point_count t.level.polygons) true) v rows.vertex_faces rows.vertex_faces_at rows.vertex_edges rows.vertex_edges_at are.rows_are (subst (λ b. IsRow quads v b faces at edges ends) (sym mark) row) refl refl refl refl;
         sharpness = ap (λ xs. xs ++ sharp ∷ []) are.sharpness ∙ ap (λ x. take v (child_vertex_sharpness t.level) ++ x ∷ []) s ∙ sym (take_more (child_vertex_sharpness t.level) v Smooth (omega (arith, low, long)));
         complete = ap (λ xs. xs ++ true ∷ []) are.complete ∙ sym (replicate-push v true);
         face_sum = sum-push rows.vertex_faces (rows.vertex_faces ++ faces ∷ []) faces refl ∙ room.0.0;

@@ -35,7 +35,7 @@ loop-v-preserved c =
     let edges : c.push-in-loop-v.new.self.lists ≡ c.loop-v.edges.lists ++ c.ordered_row.new.turning.row.edges.items ∷ [] = ap (λ (p : Paired ℕ). p.lists) c.push-in-loop-v.ensures ∙ ap (λ (l : List ℕ). c.loop-v.edges.lists ++ l ∷ []) c.deref-in-loop-v-2.ensures.value in
     let ends : c.push-in-loop-v.new.self.beside ≡ c.loop-v.edges.beside ++ c.ordered_row.new.turning.row.edges_at.items ∷ [] = ap (λ (p : Paired ℕ). p.beside) c.push-in-loop-v.ensures ∙ ap (λ (l : List ℕ). c.loop-v.edges.beside ++ l ∷ []) c.deref-in-loop-v-3.ensures.value in
     record {
-      rows = rows-push c.args.self.now.level.polygons c.args.self.now.complete c.loop-v.v c.loop-v.faces.lists c.loop-v.faces.beside c.loop-v.edges.lists c.loop-v.edges.beside _ _ _ _ _ _ _ _ c.loop-v.invariant.rows c.in_ok-ordered_row.ensures.row faces at edges ends;
+      rows = rows-push c.args.self.now.level.polygons c.args.self.now.complete c.loop-v.v c.loop-v.faces.lists c.loop-v.faces.beside c.loop-v.edges.lists c.loop-v.edges.beside c.loop-v.invariant.rows c.in_ok-ordered_row.ensures.row faces at edges ends;
       face_sum = sum-push _ _ _ faces ∙ (push-room c.args.self.now.level.polygons c.args.places.now.faces.places.items.items c.args.places.now.faces.places.owners.items c.args.places.now.faces.places.within.items c.loop-v.v (sum_by length c.loop-v.faces.lists) c.ordered_row.new.turning.row.faces.items c.requires.places.corners.placed c.loop-v.invariant.face_sum c.in_ok-ordered_row.ensures.row.faces_are).0;
       edge_sum = sum-push _ _ _ edges ∙ (push-room (map pair_list (edges_of c.args.self.now.level.polygons)) c.args.places.now.edges.places.items.items c.args.places.now.edges.places.owners.items c.args.places.now.edges.places.within.items c.loop-v.v (sum_by length c.loop-v.edges.lists) c.ordered_row.new.turning.row.edges.items c.requires.places.ends.placed c.loop-v.invariant.edge_sum
           (subst (λ xs. IsPermutation xs c.ordered_row.new.turning.row.edges.items) (sym (edges-listed c.args.self.now.level.polygons c.loop-v.v)) c.in_ok-ordered_row.ensures.row.edges_are)).0;

@@ -39,7 +39,7 @@ invariant_of-self g c =
     let short : sum_by length (pieces c.self.inside.starts.items c.self.inside.items.items) + length c.args.list.now ≤ c.self.inside.item_limit =
     omega (arith, c.requires.short, ap (λ (p : Paired g.row.T.Denot). sum_by length p.lists) c.self.view_is, ap (λ (p : Paired g.row.T.Denot). p.item_limit) c.self.view_is) in
     rw (c.append.ensures.starts, c.append.ensures.items, c.append.ensures.beside)
-    (IsPacked-push c.self.inside.starts.items c.self.inside.items.items c.args.list.now c.self.inside.beside.items c.args.beside.now _ _ _ _ _ _ _ _
+    (IsPacked-push c.self.inside.starts.items c.self.inside.items.items c.args.list.now c.self.inside.beside.items c.args.beside.now
     c.self.invariant c.requires.equal few short c.append.ensures.start_capacity c.append.ensures.item_capacity c.append.ensures.beside_capacity)
 
 pub returns : goal.returns
