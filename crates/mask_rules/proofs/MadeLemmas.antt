@@ -1,6 +1,6 @@
 -- Terms that are written one after another into their places.
-use Rattle.std.proofs.Common.{◌≡◌, ℕ, zero, suc, ◌+◌, ◌<◌, ◌≤◌, List, [], ◌∷◌, ◌++◌, length, take, set, map, arith, refl, ap, ◌∙◌}
-use Rattle.std.proofs.lemmas.List.{take_more_set, length-append, length-map, map-append, length-take-le}
+use Rattle.std.proofs.Common.{◌≡◌, ◌+◌, ◌≤◌, List, [], ◌∷◌, ◌++◌, length, take, set, arith, ap, ◌∙◌}
+use Rattle.std.proofs.lemmas.List.{length-append}
 use Rattle.subdiv_model.specs.Mask as model
 use Rattle.mask_rules.specs.declared.mask.Term.{Term}
 use Rattle.mask_rules.specs.View.{term_of, terms_of}

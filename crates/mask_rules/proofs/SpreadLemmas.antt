@@ -238,12 +238,12 @@ two-rules w parent child v ends faces h k multiple e =
       weights = λ source.
           weight_in-positive (spread_terms parent child (w.0 * (multiple / p)) ((w.1 - w.0) * (multiple / r)) v ends faces) source
           ∙ spread-weight parent child (w.0 * (multiple / p)) ((w.1 - w.0) * (multiple / r)) v ends faces source
-          ∙ amounts _ _ _ _ _ _ _ _ by rest (rule-weight parent v ends faces source h) (rule-weight child v ends faces source k)
+          ∙ amounts by rest (rule-weight parent v ends faces source h) (rule-weight child v ends faces source k)
           ∙ sym (weight_in-blend w m n source);
     }
   where
-    amounts : (a b c d x y z u : ℕ) → a ≡ b → c ≡ d → x ≡ y → z ≡ u → a * x + c * z ≡ b * y + d * u
-    amounts a b c d x y z u e f g h = cc
+    amounts : {a b c d x y z u : ℕ} → a ≡ b → c ≡ d → x ≡ y → z ≡ u → a * x + c * z ≡ b * y + d * u
+    amounts e f g h = cc
 
 -- whether sources stand once each does not depend on their weights
 ends-source : (weight : ℕ → ℕ) (place : ℕ) (ends : List ℕ) (source : SourcePoint) → has_source (end_terms weight place ends) source ≡ has_source (weigh_points 1 ends) source
