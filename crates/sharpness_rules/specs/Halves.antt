@@ -3,7 +3,7 @@ use Rattle.std.specs.Prelude.{◌≡◌, ℕ, ◌-◌, ◌*◌, ◌<◌, ◌≤�
 use Rattle.std.specs.List.{flat_map}
 use Rattle.subdiv_model.specs.Multiples.{common_denominator}
 use Rattle.subdiv_model.specs.Sharpness as model
-use Rattle.subdiv_model.specs.Sharpness.{semi_values, is_chaikin, is_too_fine, chaikin_overflows}
+use Rattle.subdiv_model.specs.Sharpness.{semi_values, is_chaikin, is_too_fine, chaikin_overflows, half_child}
 use Rattle.sharpness_rules.specs.declared.child.Method.{Method}
 use Rattle.sharpness_rules.specs.declared.child.Method.TheVariants.{Normal, Chaikin}
 use Rattle.sharpness_rules.specs.declared.sharpness.Sharpness.{Sharpness}
@@ -31,3 +31,7 @@ AreHalves Chaikin ring halves = IsWay (map sharpness_of ring) halves.way
 -- the semi-sharp edges of the ring have no half by the method
 abbrev pub halves_overflow : Method → List Sharpness → Bool
 halves_overflow method ring = is_chaikin (method_of method) && chaikin_overflows (map sharpness_of ring)
+
+-- the half by the method, in the ring, of an edge of this sharpness
+abbrev pub half_in : Method → List Sharpness → Sharpness → model.Sharpness
+half_in method ring s = half_child (method_of method) (map sharpness_of ring) (sharpness_of s)

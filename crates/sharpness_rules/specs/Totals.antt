@@ -1,5 +1,5 @@
 -- Sums of values over their common denominator.
-use Rattle.std.specs.Prelude.{◌≡◌, ℕ, ◌*◌, ◌/◌, ◌^◌, ◌<◌, List, length, Result, MatchResult}
+use Rattle.std.specs.Prelude.{◌≡◌, ℕ, ◌+◌, ◌-◌, ◌*◌, ◌/◌, ◌^◌, ◌<◌, List, length, Result, MatchResult}
 use Rattle.std.specs.List.{sum_by}
 use Rattle.subdiv_model.specs.Multiples.{common_denominator}
 use Rattle.sharpness_rules.specs.declared.overflow.SharpOverflow.{SharpOverflow}
@@ -18,3 +18,10 @@ pub record IsTotal (values : List (ℕ × ℕ)) (total : Total) : Type 0 where
 -- the answer is the total of these values, or their common denominator passes 2^60
 abbrev pub Sums : List (ℕ × ℕ) → Result Total SharpOverflow → Type 0
 Sums values result = MatchResult result (IsTotal values) (λ _. 2 ^ 60 < common_denominator values)
+
+-- the chaikin half of one of these values, as a fraction: 3/4 of it and its share of the others, less by 1 and not below 0
+abbrev pub half_fraction : Total → ℕ × ℕ → ℕ × ℕ
+half_fraction total value =
+    let own = parts_over total.den value in
+    let whole = 4 * (total.count - 1) * total.den in
+    (3 * (total.count - 1) * own + (total.num - own) - whole, whole)

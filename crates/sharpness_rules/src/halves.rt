@@ -22,12 +22,12 @@ pub struct Halves {
 }
 
 impl Halves {
-    ghost use Rattle.std.specs.Prelude.{◌≡◌, ℕ, ◌^◌, ◌<◌, ◌&&◌, ◌↔◌, List, IfOk, IsErr, IsTrue, get_or, length, map};
-    ghost use Rattle.subdiv_model.specs.Sharpness.{half_child, is_semi_sharp};
+    ghost use Rattle.std.specs.Prelude.{◌≡◌, ℕ, ◌^◌, ◌<◌, ◌&&◌, ◌↔◌, List, IfOk, IsErr, IsTrue, get_or, length};
+    ghost use Rattle.subdiv_model.specs.Sharpness.{is_semi_sharp};
     ghost use Rattle.sharpness_rules.specs.declared.child.Method.{Method};
     ghost use Rattle.sharpness_rules.specs.declared.sharpness.Sharpness.{Sharpness};
-    ghost use Rattle.sharpness_rules.specs.View.{sharpness_of, method_of};
-    ghost use Rattle.sharpness_rules.specs.Halves.{AreHalves, halves_overflow};
+    ghost use Rattle.sharpness_rules.specs.View.{sharpness_of};
+    ghost use Rattle.sharpness_rules.specs.Halves.{AreHalves, halves_overflow, half_in};
 
     /// The halves by a method. Under `Method::Normal` the ring is not visited.
     pub fn of(method: Method, ring: &[Sharpness]) -> Halves
@@ -47,8 +47,7 @@ impl Halves {
         ensures overflow { (method : Method) (ring : List Sharpness) → AreHalves method ring self.now
             → (IsErr result ↔ IsTrue (is_semi_sharp (sharpness_of s) && halves_overflow method ring)) }
         ensures half { (method : Method) (ring : List Sharpness) (at : ℕ) → AreHalves method ring self.now → at < length ring
-            → s ≡ get_or ring at s → IfOk result (λ half. sharpness_of half
-            ≡ half_child (method_of method) (map sharpness_of ring) (sharpness_of s)) }
+            → s ≡ get_or ring at s → IfOk result (λ half. sharpness_of half ≡ half_in method ring s) }
     {
         let Sharpness::Semi(edge) = s else {
             return Ok(s);

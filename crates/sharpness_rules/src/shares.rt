@@ -1,6 +1,6 @@
-ghost use Rattle.std.specs.Prelude.{◌≡◌, ◌+◌, ◌-◌, ◌*◌, ◌^◌, ◌<◌, ◌≤◌, MatchOption};
+ghost use Rattle.std.specs.Prelude.{◌≡◌, ◌-◌, ◌*◌, ◌^◌, ◌<◌, ◌≤◌, MatchOption};
 ghost use Rattle.subdiv_model.specs.Sharpness.{sharpness_of_fraction};
-ghost use Rattle.sharpness_rules.specs.Totals.{parts_over};
+ghost use Rattle.sharpness_rules.specs.Totals.{half_fraction};
 
 use crate::sums::parts_of;
 use crate::total::Total;
@@ -39,9 +39,7 @@ impl Shares {
 
     /// The half of one of the edges.
     pub fn half_of(self, edge: Semi) -> Sharpness
-        ensures { let own = parts_over self.total.den (edge.num, edge.den) in
-            let whole = 4 * (self.total.count - 1) * self.total.den in
-            sharpness_of result ≡ sharpness_of_fraction (3 * (self.total.count - 1) * own + (self.total.num - own) - whole, whole) }
+        ensures { sharpness_of result ≡ sharpness_of_fraction (half_fraction self.total (edge.num, edge.den)) }
     {
         let others = (self.total.count - 1) as u128;
         let own = parts_of(edge, self.total.den);
