@@ -1,16 +1,11 @@
--- What the laws of a level speak of: a point of a level with its faces and its edges, and an edge by its number.
+-- What the laws of a level speak of: an edge of a face, and a point of a level with its faces and its edges.
 use Rattle.std.specs.Prelude.{ℕ, ◌<◌, List, [], get_or}
 use Rattle.subdiv_model.specs.Polygons.{Polygon, polygon_at}
-use Rattle.subdiv_model.specs.Edges.{faces_of_edge}
-use Rattle.level_topology.specs.Topology.{Topology, IsTopology, edge_at, face_edges_of}
+use Rattle.level_topology.specs.Topology.{Topology, IsTopology, face_edges_of}
 
 -- the number of the edge of a face from a corner to the next
 abbrev pub face_edge_at : List Polygon → ℕ → ℕ → ℕ
 face_edge_at polygons f c = get_or (face_edges_of polygons (polygon_at polygons f)) c 0
-
--- the faces of the edge with a number
-abbrev pub faces_of_edge_at : List Polygon → ℕ → List ℕ
-faces_of_edge_at polygons e = faces_of_edge polygons (edge_at polygons e)
 
 -- a point of a level
 pub record LevelPoint : Type 0 where

@@ -4,7 +4,7 @@ use Rattle.std.specs.Prelude.{ℕ, ◌≡◌, ◌+◌, ◌-◌, ◌<◌, ◌≤�
 use Rattle.std.specs.List.{All, list_all, position_or_len, sum_by}
 use Rattle.std.specs.List.Sorted.{IsPermutation}
 use Rattle.subdiv_model.specs.Polygons.{Polygon, polygon_at, sides_of, has_edge, has_distinct_sides}
-use Rattle.subdiv_model.specs.Edges.{all_sides, edges_of, edge_number, faces_of_point, edges_of_point}
+use Rattle.subdiv_model.specs.Edges.{all_sides, edges_of, edge_number, faces_of_edge, faces_of_point, edges_of_point}
 use Rattle.subdiv_model.specs.Manifold.{is_simple, IsPath}
 use Rattle.subdiv_model.specs.Level.{Level, is_well_formed}
 
@@ -19,6 +19,10 @@ pub record Topology : Type 0 where
 -- the edge with a number, its ends as it first appears
 abbrev pub edge_at : List Polygon → ℕ → ℕ × ℕ
 edge_at polygons e = get_or (edges_of polygons) e (0, 0)
+
+-- the faces of the edge with a number
+abbrev pub faces_of_edge_at : List Polygon → ℕ → List ℕ
+faces_of_edge_at polygons e = faces_of_edge polygons (edge_at polygons e)
 
 -- the numbers of the edges of a polygon: edge c joins corner c to the next
 abbrev pub face_edges_of : List Polygon → Polygon → List ℕ

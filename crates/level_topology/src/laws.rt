@@ -4,8 +4,8 @@ ghost use Rattle.std.specs.Prelude.{◌≡◌, ℕ, ◌+◌, ◌<◌, ◌≤◌,
 ghost use Rattle.std.specs.List.Sorted.{IsPermutation};
 ghost use Rattle.subdiv_model.specs.Polygons.{Polygon, polygon_at, same_edge, has_edge, has_corner, is_among, is_distinct};
 ghost use Rattle.subdiv_model.specs.Edges.{edges_of, edge_number, faces_of_point, has_end};
-ghost use Rattle.level_topology.specs.Topology.{Topology, IsTopology, IsFan, IsFaceAt, IsEdgeAt, IsFaceOf, edge_at, face_edges_of, edge_numbers_at, side_at};
-ghost use Rattle.level_topology.specs.Laws.{LevelPoint, face_edge_at, faces_of_edge_at, listed_faces, listed_edges};
+ghost use Rattle.level_topology.specs.Topology.{Topology, IsTopology, IsFan, IsFaceAt, IsEdgeAt, IsFaceOf, edge_at, faces_of_edge_at, face_edges_of, edge_numbers_at, side_at};
+ghost use Rattle.level_topology.specs.Laws.{LevelPoint, face_edge_at, listed_faces, listed_edges};
 
 /// Edge `c` of a face joins its corner `c` and the next.
 pub fn face_edges_join_corners()

@@ -2,8 +2,12 @@
 use Rattle.std.specs.Prelude.{◌≡◌, ℕ, ◌+◌, ◌-◌, ◌*◌, ◌<◌, ◌≤◌, ◌⊎◌, Bool, true, false, nat_le, Option, Some, None, [], ◌∷◌, ◌++◌, IsTrue}
 use Rattle.subdiv_model.specs.Polygons.{Polygon}
 use Rattle.subdiv_model.specs.Sharpness.{Sharpness, Smooth, Semi, Infinite}
-use Rattle.subdiv_model.specs.Mask.{Mask, Scheme, CatmullClark, Linear, weigh_points, weigh_faces, is_mean}
+use Rattle.subdiv_model.specs.Mask.{Mask, Scheme, CatmullClark, Linear, weigh_points, weigh_faces, is_mean, vertex_mask}
+use Rattle.subdiv_model.specs.Level.{Level}
+use Rattle.subdiv_model.specs.Channel.{transition_overflows_at}
 use Rattle.sharpness_laws.specs.SameWeights.{HaveSameWeights, is_joined}
+use Rattle.mask_rules.specs.declared.vertex.VertexMask.{VertexMask}
+use Rattle.mask_rules.specs.View.{seen_vertex}
 
 -- Over one denominator each source has one weight in both. The mask lists each of its sources once; its weights are above 0,
 -- and they sum to the denominator.
@@ -16,6 +20,10 @@ pub record IsMask (mask defined : Mask) : Type 0 where
 pub record IsJoinedAs (mask defined : Mask) : Type 0 where
   pub same : HaveSameWeights mask defined
   pub joined : IsTrue (is_joined mask)
+
+-- the mask is that of a vertex of a level by a scheme, and the weight between its rules is not refused
+abbrev pub IsVertexMask : Level → Scheme → ℕ → VertexMask → Type 0
+IsVertexMask level scheme v mask = IsMask (seen_vertex mask) (vertex_mask level scheme v) × (transition_overflows_at level scheme v ≡ false)
 
 -- a weight of 1 for each corner
 abbrev pub corners_over : Polygon → ℕ → Mask

@@ -1,11 +1,11 @@
 //! The new point of an edge.
 
 ghost use Rattle.std.specs.Prelude.{◌≡◌, ◌<◌, ◌⊎◌, IsTrue, length, get_or};
-ghost use Rattle.subdiv_model.specs.Edges.{edges_of, faces_of_edge};
+ghost use Rattle.subdiv_model.specs.Edges.{edges_of};
 ghost use Rattle.subdiv_model.specs.Sharpness.{Smooth};
 ghost use Rattle.subdiv_model.specs.Mask.{CatmullClark, OfPoint, OfFace, weigh, edge_mask};
 ghost use Rattle.sharpness_rules.specs.View.{sharpness_of};
-ghost use Rattle.level_topology.specs.Topology.{edge_at};
+ghost use Rattle.level_topology.specs.Topology.{edge_at, faces_of_edge_at};
 ghost use Rattle.mask_rules.specs.View.{scheme_of, term_of};
 ghost use Rattle.mask_rules.specs.Masks.{IsMask, is_at_least_one, IsBelowOne, IsPartBelowOne, ends_over, around_over};
 
@@ -91,7 +91,7 @@ impl MadeMask {
     pub fn put_edge(&mut self, level: &Level, e: u32, scheme: Scheme)
         requires known { e < length (edges_of level.now.level.polygons) }
         requires inside { scheme_of scheme ≡ CatmullClark
-            → (length (faces_of_edge level.now.level.polygons (edge_at level.now.level.polygons e)) ≡ 2)
+            → (length (faces_of_edge_at level.now.level.polygons e) ≡ 2)
             ⊎ IsTrue (is_at_least_one (get_or level.now.level.edge_sharpness e Smooth)) }
         ensures { IsMask self.new (edge_mask level.now.level (scheme_of scheme) (edge_at level.now.level.polygons e)) }
     {

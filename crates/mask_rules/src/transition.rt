@@ -3,12 +3,12 @@
 ghost use Rattle.std.specs.Prelude.{◌≡◌, ◌+◌, ◌<◌, ◌≤◌, ◌^◌, true, false, IsTrue, [], length, map, get_or, IsOk, IfOk, IfErr, MatchResult};
 ghost use Rattle.subdiv_model.specs.Sharpness.{Chaikin, chaikin_overflows};
 ghost use Rattle.subdiv_model.specs.Rule.{child_ring};
-ghost use Rattle.subdiv_model.specs.Mask.{CatmullClark, mask_of_rule, transition_mask, vertex_mask};
+ghost use Rattle.subdiv_model.specs.Mask.{CatmullClark, mask_of_rule, transition_mask};
 ghost use Rattle.subdiv_model.specs.Channel.{chaikin_overflows_at, transition_overflows_at};
 ghost use Rattle.sharpness_rules.specs.View.{sharpness_of, rule_of};
 ghost use Rattle.mask_rules.specs.View.{scheme_of, seen_vertex};
 ghost use Rattle.mask_rules.specs.Spread.{IsRuleAmong};
-ghost use Rattle.mask_rules.specs.Masks.{IsMask, IsJoinedAs};
+ghost use Rattle.mask_rules.specs.Masks.{IsVertexMask, IsJoinedAs};
 ghost use Rattle.mask_rules.specs.Around.{ends_in, faces_in, ring_in, mask_in, is_refused_in, IsFaultWhere, HasSharpBoundaryAt, HasFewTerms};
 
 use crate::mask::{MaskFault, Scheme};
@@ -148,8 +148,7 @@ pub fn vertex_mask(
     requires complete { get_or level.now.complete v false ≡ true }
     requires boundary { scheme_of scheme ≡ CatmullClark → HasSharpBoundaryAt level.now.level v }
     requires fine { scheme_of scheme ≡ CatmullClark → chaikin_overflows_at level.now.level v ≡ false }
-    ensures mask { MatchResult result
-        (λ m. IsMask (seen_vertex m) (vertex_mask level.now.level (scheme_of scheme) v) × (transition_overflows_at level.now.level (scheme_of scheme) v ≡ false))
+    ensures mask { MatchResult result (IsVertexMask level.now.level (scheme_of scheme) v)
         (IsFaultWhere (transition_overflows_at level.now.level (scheme_of scheme) v)) }
     ensures few { (scheme_of scheme ≡ CatmullClark → HasFewTerms level.now v) → IfErr result (λ fault. fault ≡ MaskFault.Transition) }
 {
