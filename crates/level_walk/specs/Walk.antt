@@ -1,5 +1,5 @@
 -- A walk over levels, and where it stops.
-use Rattle.std.specs.Prelude.{ℕ, zero, suc, ◌≡◌, ◌+◌, ◌<◌}
+use Rattle.std.specs.Prelude.{ℕ, zero, suc, ◌≡◌, ◌+◌, ◌<◌, Result, MatchResult}
 use Rattle.level_topology.specs.Topology.{Topology}
 use Rattle.level_topology.specs.Child.{ChildTopology}
 use Rattle.level_walk.specs.declared.fault.Cause.{Cause}
@@ -42,3 +42,11 @@ pub record IsStopped {W C V : Type 0} (level_of : W → Topology) (Makes : W →
   pub walked : IsWalked level_of Makes Follows Takes start k last
   pub number : fault.level ≡ k + 1
   pub cause : IsCause level_of Makes Refuses Follows Fails last.reached fault.cause last.steps new
+
+-- A walk of so many levels comes to its end, or stops before. After the result stand the visitor and the steps taken by then.
+abbrev pub IsWalk : {W C V : Type 0} → (W → Topology) → (W → ChildTopology → W → ℕ → ℕ → Type 0) → (W → Cause → ℕ → ℕ → Type 0)
+    → (Topology → ChildTopology → C → C → ℕ → ℕ → Type 0) → (Topology → ChildTopology → C → Cause → ℕ → ℕ → Type 0)
+    → (V → W → C → V → Type 0) → Place W C V → ℕ → Result (Reached W C) WalkFault → V → ℕ → Type 0
+IsWalk level_of Makes Refuses Follows Fails Takes start depth result visitor new =
+    MatchResult result (λ end. IsWalked level_of Makes Follows Takes start depth (at end visitor new))
+    (λ fault. IsStopped level_of Makes Refuses Follows Fails Takes start depth fault new)

@@ -1,7 +1,7 @@
 //! The levels to a depth.
 
 ghost use Rattle.std.specs.Prelude.{◌≡◌, Err, MatchResult};
-ghost use Rattle.level_walk.specs.Walk.{IsWalked, IsStopped, at};
+ghost use Rattle.level_walk.specs.Walk.{IsWalk, at};
 
 use crate::carrier::Carrier;
 use crate::fault::{Cause, WalkFault};
@@ -43,9 +43,7 @@ pub fn walk<S: NextLevel<L>, C: Carrier<L>, V: Visitor<S::Level, C::Carried>, L:
 ) -> Result<Reached<S::Level, C::Carried>, WalkFault>
     requires ready { S.IsReady step.now start.level }
     requires fits { C.Fits carrier.now (S.level_of start.level) start.carried }
-    ensures { MatchResult result
-        (λ end. IsWalked S.level_of (S.Makes step.now) (C.Follows carrier.now) V.Takes (at start visitor.old steps.old) depth (at end visitor.new steps.new))
-        (λ fault. IsStopped S.level_of (S.Makes step.now) (S.Refuses step.now) (C.Follows carrier.now) (C.Fails carrier.now) V.Takes (at start visitor.old steps.old) depth fault steps.new) }
+    ensures { IsWalk S.level_of (S.Makes step.now) (S.Refuses step.now) (C.Follows carrier.now) (C.Fails carrier.now) V.Takes (at start visitor.old steps.old) depth result visitor.new steps.new }
 {
     let mut reached = start;
     for k in 0..depth {
