@@ -1,13 +1,11 @@
 //! The counts of the levels to a depth, of which one is kept at a time.
 
-ghost use Rattle.std.specs.Prelude.{◌≡◌, ◌+◌, ◌^◌, ◌≤◌, true, map, replicate, [], ◌∷◌, ◌++◌, IfOk, MatchResult, IsTrue};
-ghost use Rattle.std.specs.List.{range_with_len};
-ghost use Rattle.subdiv_model.specs.Child.{refined_level};
+ghost use Rattle.std.specs.Prelude.{◌≡◌, ◌^◌, ◌≤◌, true, map, replicate, [], ◌∷◌, ◌++◌, IfOk, MatchResult, OnOk, IsTrue};
 ghost use Rattle.subdiv_model.specs.Channel.{Channel, Sharpnesses};
 ghost use Rattle.mask_laws.specs.SharpBoundary.{has_sharp_boundary};
 ghost use Rattle.uniform_walk.specs.Faults.{IsChannelFault};
 ghost use Rattle.uniform_walk.specs.Levels.{AreMade, AreLevelSteps};
-ghost use Rattle.level_counts.specs.Counts.{counts_of};
+ghost use Rattle.level_counts.specs.Counts.{counts_of, counts_to};
 ghost use Rattle.level_counts.specs.View.{seen_counts};
 
 use crate::counts::LevelCounts;
@@ -76,9 +74,9 @@ pub fn count_levels<L: Ledger>(
     requires points { base.level.point_count ≤ 2 ^ 27 }
     requires whole { base.complete ≡ replicate base.level.point_count true }
     requires boundary { IsTrue (has_sharp_boundary base.level) }
-    ensures counted { MatchResult result
-        (λ counts. (map seen_counts counts.items ≡ map (λ k. counts_of (refined_level base.level k)) (range_with_len 0 (depth + 1))) × AreMade base.level depth)
+    ensures counted { MatchResult result (λ counts. map seen_counts counts.items ≡ counts_to base.level depth)
         (λ fault. (channel : Channel) → channel.base ≡ base.level → IsChannelFault Sharpnesses channel depth fault) }
+    ensures made { OnOk result (AreMade base.level depth) }
     ensures steps { AreLevelSteps base.level depth steps.old steps.new }
 {
     let mut counting = Counting::with_room(alloc, depth)?;

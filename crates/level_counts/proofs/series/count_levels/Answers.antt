@@ -25,7 +25,11 @@ returns-in_err-counts-clause-steps g c =
 pub returns-clause-counted : goal.returns-clause-counted
 returns-clause-counted g c =
     let is = walked-levels (λ v. map seen_counts v.counts.items) _ c.in_ok-counting.ensures c.args.depth (at c.in_ok-end.end c.walk.new.visitor c.walk.new.steps) c.in_ok-end.ensures in
-    (counts-more c.args.base.level c.args.depth c.in_ok-end.end.level.level _ _ is.0.level is.1.0 c.in_ok-counts.ensures, is.0.made)
+    counts-more c.args.base.level c.args.depth c.in_ok-end.end.level.level _ _ is.0.level is.1.0 c.in_ok-counts.ensures
+
+pub returns-clause-made : goal.returns-clause-made
+returns-clause-made g c =
+    (walked-levels (λ v. map seen_counts v.counts.items) _ c.in_ok-counting.ensures c.args.depth (at c.in_ok-end.end c.walk.new.visitor c.walk.new.steps) c.in_ok-end.ensures).0.made
 
 pub returns-clause-steps : goal.returns-clause-steps
 returns-clause-steps g c =

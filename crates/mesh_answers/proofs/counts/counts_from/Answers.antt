@@ -14,7 +14,7 @@ pub count_levels-requires-clause-boundary : goal.count_levels-requires-clause-bo
 count_levels-requires-clause-boundary g c = accepted-boundary c.requires.level.0 c.args.level c.requires.level.1.accepted
 
 pub returns-in-Ok-clause-counted : goal.returns-in-Ok-clause-counted
-returns-in-Ok-clause-counted g c = λ mesh within. counted-levels mesh c.args.level c.args.depth c.in-Ok.counts.items within c.in-Ok.ensures.counted
+returns-in-Ok-clause-counted g c = λ mesh within. counted-levels mesh c.args.level c.args.depth c.in-Ok.counts.items within (c.in-Ok.ensures.counted, c.in-Ok.ensures.made)
 
 pub returns-in-Ok-clause-steps : goal.returns-in-Ok-clause-steps
 returns-in-Ok-clause-steps g c = λ mesh within. counts-steps mesh c.args.level c.args.depth c.args.steps.now c.count_levels.new.steps _ within c.count_levels.ensures.steps.most c.count_levels.ensures.steps.later
