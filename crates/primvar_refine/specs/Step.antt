@@ -1,6 +1,6 @@
 -- One step of values: the points of a child of a level, each by the mask of the part of the level that it comes from.
 -- Source: this profile.
-use Rattle.std.specs.Prelude.{ℕ, ◌≡◌, ◌*◌, ◌<◌, ◌≤◌, List, length, get_or}
+use Rattle.std.specs.Prelude.{ℕ, ◌≡◌, ◌*◌, ◌<◌, ◌≤◌, List, length, get_or, Result, MatchResult}
 use Rattle.std.specs.List.{All}
 use Rattle.subdiv_model.specs.Level.{Level}
 use Rattle.subdiv_model.specs.Value.{Value}
@@ -43,3 +43,8 @@ IsValueFault level scheme origins rows (Denominator p) =
 IsValueFault level scheme origins rows (TooBig p) =
     HasNoTransition level scheme origins × IsTooBig (refined_dens level scheme origins rows) (least_bound rows) p
 IsValueFault level scheme origins rows Memory = Unit {0}
+
+-- The values of the points from those of the level's, or the first fault of the step. The last function shows values as rows.
+abbrev pub IsValueRefinement : {X : Type 0} → Level → Scheme → List PointOrigin → List Row → Result X ValueFault → (X → List Row) → Type 0
+IsValueRefinement level scheme origins rows result shown =
+    MatchResult result (λ refined. AreRefined level scheme origins rows (shown refined)) (λ fault. IsValueFault level scheme origins rows fault)

@@ -1,11 +1,11 @@
 //! One step of values.
 
-ghost use Rattle.std.specs.Prelude.{◌≡◌, ◌+◌, ◌≤◌, length, MatchResult, OnOk};
+ghost use Rattle.std.specs.Prelude.{◌≡◌, ◌+◌, ◌≤◌, length, OnOk};
 ghost use Rattle.mask_rules.specs.View.{scheme_of};
 ghost use Rattle.primvar_refine.specs.Rows.{AreGood};
 ghost use Rattle.primvar_refine.specs.View.{rows_of};
 ghost use Rattle.child_masks.specs.Masks.{CanRefine, step_terms};
-ghost use Rattle.primvar_refine.specs.Step.{AreRefined, IsValueFault};
+ghost use Rattle.primvar_refine.specs.Step.{IsValueRefinement};
 
 use crate::Valued;
 use crate::bound::{greatest_of, least_bound, sum_width};
@@ -40,9 +40,7 @@ pub fn refine_values<P: Primvar<L>, L: Ledger>(
     requires child { CanRefine parent.now child.now (scheme_of scheme) }
     requires each { length values.now ≡ parent.now.level.point_count }
     requires good { AreGood (rows_of P.numbers values.now) }
-    ensures refined { MatchResult result
-        (λ refined. AreRefined parent.now.level (scheme_of scheme) child.now.origins (rows_of P.numbers values.now) (rows_of P.numbers refined.items))
-        (λ fault. IsValueFault parent.now.level (scheme_of scheme) child.now.origins (rows_of P.numbers values.now) fault) }
+    ensures refined { IsValueRefinement parent.now.level (scheme_of scheme) child.now.origins (rows_of P.numbers values.now) result (λ refined. rows_of P.numbers refined.items) }
     ensures taken { OnOk result (steps.new ≡ steps.old + step_terms parent.now.level (scheme_of scheme) child.now.origins) }
     ensures steps { steps.new ≤ steps.old + step_terms parent.now.level (scheme_of scheme) child.now.origins }
     ensures later { steps.old ≤ steps.new }
