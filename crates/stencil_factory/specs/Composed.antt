@@ -1,6 +1,6 @@
 -- One step of a table: the rows of the points of a child, each by the mask of the part of the level that it comes from.
 -- Source: this profile; the words are those of OpenSubdiv's Far layer.
-use Rattle.std.specs.Prelude.{ℕ, ◌≡◌, ◌<◌, ◌≤◌, ℤ, List, [], ◌∷◌, length, map}
+use Rattle.std.specs.Prelude.{ℕ, ◌≡◌, ◌<◌, ◌≤◌, ℤ, List, [], ◌∷◌, length, map, Result, MatchResult}
 use Rattle.std.specs.List.{All, sum_by, range_with_len}
 use Rattle.subdiv_model.specs.Level.{Level}
 use Rattle.subdiv_model.specs.Value.{Value}
@@ -50,3 +50,8 @@ IsTableFault level scheme origins table TooManyEntries =
     HasNoTransition level scheme origins × All (λ den. den ≤ number_bound) (dens_from level scheme (dens_of table) origins)
     × (entry_bound < entries_from level scheme origins table)
 IsTableFault level scheme origins table Memory = Unit {0}
+
+-- the table of the points from that of the level's, or the first fault of the step
+abbrev pub IsTableComposition : Level → Scheme → List PointOrigin → Table → Result Table TableFault → Type 0
+IsTableComposition level scheme origins table result =
+    MatchResult result (λ composed. IsComposed level scheme origins table composed) (λ fault. IsTableFault level scheme origins table fault)

@@ -1,6 +1,6 @@
 //! One step of a table.
 
-ghost use Rattle.std.specs.Prelude.{◌≡◌, ◌+◌, ◌*◌, ◌<◌, ◌≤◌, List, length, get_or, max, replicate, IfOk, MatchResult, OnOk};
+ghost use Rattle.std.specs.Prelude.{◌≡◌, ◌+◌, ◌*◌, ◌<◌, ◌≤◌, List, length, get_or, max, replicate, IfOk, OnOk};
 ghost use Rattle.std.specs.List.{All, fold};
 ghost use Rattle.number_width.specs.Numbers.{width_for, most_of};
 ghost use Rattle.subdiv_model.specs.Level as model_level;
@@ -15,7 +15,7 @@ ghost use Rattle.stencil_apply.specs.Built.{no_rows};
 ghost use Rattle.stencil_factory.specs.Rows.{dens_of};
 ghost use Rattle.stencil_factory.specs.Scratch.{added_shares, shares_from, sum_of};
 ghost use Rattle.stencil_factory.specs.Composing.{added_rows, CanAddRows, IsComposedRow};
-ghost use Rattle.stencil_factory.specs.Composed.{entries_from, IsComposed, IsTableFault};
+ghost use Rattle.stencil_factory.specs.Composed.{entries_from, IsComposed, IsTableComposition, IsTableFault};
 
 use crate::count::count_entries;
 use crate::entries::Entries;
@@ -310,9 +310,7 @@ fn compose_found(
     requires child { CanRefine parent.now child.now (scheme_of scheme) }
     requires each { length table.now.rows ≡ parent.now.level.point_count }
     requires survey { IsSurvey parent.now (scheme_of scheme) child.now.origins (dens_of table.now) survey.now }
-    ensures { MatchResult result
-        (λ composed. IsComposed parent.now.level (scheme_of scheme) child.now.origins table.now composed)
-        (λ fault. IsTableFault parent.now.level (scheme_of scheme) child.now.origins table.now fault) }
+    ensures { IsTableComposition parent.now.level (scheme_of scheme) child.now.origins table.now result }
 {
     match count_entries(alloc, table, parent, child, scheme, survey)? {
         Some(entries) => {
@@ -337,9 +335,7 @@ pub fn compose_level(
 ) -> Result<StencilTable, TableFault>
     requires child { CanRefine parent.now child.now (scheme_of scheme) }
     requires each { length table.now.rows ≡ parent.now.level.point_count }
-    ensures { MatchResult result
-        (λ composed. IsComposed parent.now.level (scheme_of scheme) child.now.origins table.now composed)
-        (λ fault. IsTableFault parent.now.level (scheme_of scheme) child.now.origins table.now fault) }
+    ensures { IsTableComposition parent.now.level (scheme_of scheme) child.now.origins table.now result }
 {
     parent.facts();
     child.facts();
