@@ -1,6 +1,6 @@
 -- A channel refined to a depth.
 -- Source: this profile.
-use Rattle.std.specs.Prelude.{ℕ, ◌≡◌, ◌+◌, ◌*◌, ◌^◌, ◌<◌, ◌≤◌, ℤ, pos, List, [], length, map, get_or, max, OnOk, Result}
+use Rattle.std.specs.Prelude.{ℕ, ◌≡◌, ◌+◌, ◌*◌, ◌^◌, ◌<◌, ◌≤◌, ℤ, pos, List, [], length, map, get_or, max, OnOk, Result, MatchResult}
 use Rattle.std.specs.List.{All, sum_by, range_with_len}
 use Rattle.subdiv_model.specs.Level.{Level}
 use Rattle.subdiv_model.specs.Child.{refined_level}
@@ -11,6 +11,8 @@ use Rattle.subdiv_model.specs.Fault.{Track}
 use Rattle.subdiv_model.specs.Channel.{Channel, Asked, Sharpnesses, Values, Tables, number_bound, channel_level, denominators_after, channel_faults}
 use Rattle.level_topology.specs.Topology.{Topology}
 use Rattle.primvar_refine.specs.Rows.{Row, row_at, dens_of, StandFor, AreWithin}
+use Rattle.level_walk.specs.declared.fault.WalkFault.{WalkFault}
+use Rattle.uniform_walk.specs.Faults.{IsChannelFault}
 use Rattle.uniform_walk.specs.Levels.{faces_to}
 
 -- the numbers of a column
@@ -41,6 +43,11 @@ pub record IsRefinedTo (asked : Asked) (channel : Channel) (controls : List Row)
   pub short : All (λ row. row.den * max channel.greatest channel.common ≤ number_bound) refined.rows
   pub positive : All (λ row. 0 < row.den) refined.rows
   pub alike : All (λ row. length row.numbers ≡ length (row_at controls 0).numbers) refined.rows
+
+-- The channel at the depth, or the first fault of its levels. The last function shows a level with its values as rows.
+abbrev pub IsRefinement : {X : Type 0} → Asked → Channel → List Row → ℕ → Result X WalkFault → (X → RefinedRows) → Type 0
+IsRefinement asked channel controls depth result shown =
+    MatchResult result (λ refined. IsRefinedTo asked channel controls depth (shown refined)) (λ fault. IsChannelFault asked channel depth fault)
 
 -- how many mask terms the levels from 1 to a depth have
 abbrev pub terms_to : Level → Scheme → ℕ → ℕ

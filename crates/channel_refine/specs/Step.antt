@@ -1,6 +1,6 @@
 -- Numbers carried from a level to a child of it, within their bounds, or the first reason why they are not.
 -- Source: this profile.
-use Rattle.std.specs.Prelude.{ℕ, ◌≡◌, ◌+◌, ◌*◌, ◌<◌, ◌≤◌, true, false, nat_lt, List, length}
+use Rattle.std.specs.Prelude.{ℕ, ◌≡◌, ◌+◌, ◌*◌, ◌<◌, ◌≤◌, true, false, nat_lt, List, length, Result, MatchResult}
 use Rattle.std.specs.List.{list_any}
 use Rattle.subdiv_model.specs.Level.{Level}
 use Rattle.subdiv_model.specs.Mask.{Scheme}
@@ -56,6 +56,16 @@ IsValueCause most level scheme origins rows cause = IsCarryCause most level sche
 abbrev pub IsTableCause : ℕ → Level → Scheme → List PointOrigin → Table → Cause → Type 0
 IsTableCause most level scheme origins table cause =
     IsCarryCause most level scheme origins (dens_from level scheme (dens_of_table table) origins) (entries_from level scheme origins table) cause
+
+-- the values of the points of a child, or why there are none; the last function shows values as rows
+abbrev pub AreNextValues : {X : Type 0} → ℕ → Level → Scheme → List PointOrigin → List Row → Result X Cause → (X → List Row) → Type 0
+AreNextValues most level scheme origins rows result shown =
+    MatchResult result (λ next. AreCarried most level scheme origins rows (shown next)) (λ cause. IsValueCause most level scheme origins rows cause)
+
+-- the table of these points, or why there is none
+abbrev pub IsNextTable : ℕ → Level → Scheme → List PointOrigin → Table → Result Table Cause → Type 0
+IsNextTable most level scheme origins table result =
+    MatchResult result (λ next. IsCarried most level scheme origins table next) (λ cause. IsTableCause most level scheme origins table cause)
 
 -- at most one step is taken for each mask term
 pub record AreTermSteps (level : Level) (scheme : Scheme) (origins : List PointOrigin) (old new : ℕ) : Type 0 where

@@ -1,10 +1,9 @@
 //! A channel refined to a depth by its table.
 
-ghost use Rattle.std.specs.Prelude.{◌≡◌, ◌+◌, ◌≤◌, map, IfOk, MatchResult, OnOk};
+ghost use Rattle.std.specs.Prelude.{◌≡◌, ◌+◌, ◌≤◌, map, IfOk, OnOk};
 ghost use Rattle.subdiv_model.specs.Channel.{Tables};
 ghost use Rattle.stencil_apply.specs.Table.{entries_of};
-ghost use Rattle.uniform_walk.specs.Faults.{IsChannelFault};
-ghost use Rattle.channel_refine.specs.Refined.{AreControls, IsRefinedTo, AreRefineSteps};
+ghost use Rattle.channel_refine.specs.Refined.{AreControls, IsRefinement, AreRefineSteps};
 ghost use Rattle.channel_refine.specs.Evaluated.{CanEvaluate, control_rows, evaluated};
 ghost use Rattle.channel_refine.specs.View.{refined_of};
 
@@ -49,9 +48,7 @@ pub fn refine_by_table<P: Primvar<L>, L: Ledger>(
 ) -> Result<RefinedChannel<P>, WalkFault>
     requires depth { depth ≤ 10 }
     requires controls { AreControls base (control_rows (map P.numbers controls.now)) }
-    ensures refined { MatchResult result
-        (λ refined. IsRefinedTo Tables base (control_rows (map P.numbers controls.now)) depth (refined_of P.numbers refined))
-        (λ fault. IsChannelFault Tables base depth fault) }
+    ensures refined { IsRefinement Tables base (control_rows (map P.numbers controls.now)) depth result (refined_of P.numbers) }
     ensures steps { AreRefineSteps Tables base depth result steps.old steps.new }
 {
     let composed = compose_channel(alloc, base, depth, steps)?;

@@ -1,9 +1,8 @@
 //! A channel refined by its table or level by level.
 
-ghost use Rattle.std.specs.Prelude.{◌≡◌, ◌≤◌, map, IfOk, MatchResult};
+ghost use Rattle.std.specs.Prelude.{◌≡◌, ◌≤◌, map, IfOk};
 ghost use Rattle.subdiv_model.specs.Channel.{Values};
-ghost use Rattle.uniform_walk.specs.Faults.{IsChannelFault};
-ghost use Rattle.channel_refine.specs.Refined.{AreControls, IsRefinedTo, AreRefineSteps};
+ghost use Rattle.channel_refine.specs.Refined.{AreControls, IsRefinement, AreRefineSteps};
 ghost use Rattle.channel_refine.specs.Evaluated.{control_rows};
 ghost use Rattle.channel_refine.specs.View.{asked_of_path, control_of, refined_of};
 
@@ -49,9 +48,7 @@ fn refine_by_levels<P: Primvar<L> + Copy, L: Ledger>(
 ) -> Result<RefinedChannel<P>, WalkFault>
     requires depth { depth ≤ 10 }
     requires controls { AreControls base (control_rows (map P.numbers controls.now)) }
-    ensures refined { MatchResult result
-        (λ refined. IsRefinedTo Values base (control_rows (map P.numbers controls.now)) depth (refined_of P.numbers refined))
-        (λ fault. IsChannelFault Values base depth fault) }
+    ensures refined { IsRefinement Values base (control_rows (map P.numbers controls.now)) depth result (refined_of P.numbers) }
     ensures steps { AreRefineSteps Values base depth result steps.old steps.new }
 {
     let values = controls_of(alloc, controls)?;
@@ -70,9 +67,7 @@ pub fn refine_along<P: Primvar<L> + Copy, L: Ledger>(
 ) -> Result<RefinedChannel<P>, WalkFault>
     requires depth { depth ≤ 10 }
     requires controls { AreControls base (control_rows (map P.numbers controls.now)) }
-    ensures refined { MatchResult result
-        (λ refined. IsRefinedTo (asked_of_path path) base (control_rows (map P.numbers controls.now)) depth (refined_of P.numbers refined))
-        (λ fault. IsChannelFault (asked_of_path path) base depth fault) }
+    ensures refined { IsRefinement (asked_of_path path) base (control_rows (map P.numbers controls.now)) depth result (refined_of P.numbers) }
     ensures steps { AreRefineSteps (asked_of_path path) base depth result steps.old steps.new }
 {
     match path {

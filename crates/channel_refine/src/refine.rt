@@ -2,9 +2,8 @@
 
 ghost use Rattle.std.specs.Prelude.{◌≡◌, ◌≤◌, Err, IsOkAnd, MatchResult};
 ghost use Rattle.subdiv_model.specs.Channel.{Values};
-ghost use Rattle.uniform_walk.specs.Faults.{IsChannelFault};
 ghost use Rattle.primvar_refine.specs.View.{rows_of};
-ghost use Rattle.channel_refine.specs.Refined.{AreControls, IsRefinedTo, AreRefineSteps};
+ghost use Rattle.channel_refine.specs.Refined.{AreControls, IsRefinement, AreRefineSteps};
 ghost use Rattle.channel_refine.specs.View.{refined_of};
 
 use crate::base::BaseChannel;
@@ -53,9 +52,7 @@ pub fn refine_channel<P: Primvar<L>, L: Ledger>(
 ) -> Result<RefinedChannel<P>, WalkFault>
     requires depth { depth ≤ 10 }
     requires controls { AreControls base (rows_of P.numbers controls.items) }
-    ensures refined { MatchResult result
-        (λ refined. IsRefinedTo Values base (rows_of P.numbers controls.items) depth (refined_of P.numbers refined))
-        (λ fault. IsChannelFault Values base depth fault) }
+    ensures refined { IsRefinement Values base (rows_of P.numbers controls.items) depth result (refined_of P.numbers) }
     ensures steps { AreRefineSteps Values base depth result steps.old steps.new }
 {
     base.facts();

@@ -1,10 +1,10 @@
 //! The table of a channel, carried from level to level within the bounds of its numbers.
 
-ghost use Rattle.std.specs.Prelude.{◌≡◌, length, IfOk, MatchResult};
+ghost use Rattle.std.specs.Prelude.{◌≡◌, length, IfOk};
 ghost use Rattle.subdiv_model.specs.Mask.{CatmullClark};
 ghost use Rattle.mask_rules.specs.View.{scheme_of};
 ghost use Rattle.child_masks.specs.Masks.{CanRefine};
-ghost use Rattle.channel_refine.specs.Step.{IsCarried, IsTableCause};
+ghost use Rattle.channel_refine.specs.Step.{IsNextTable};
 ghost use Rattle.channel_refine.specs.Causes.{cause_of_table};
 
 use level_topology::{Child, Level};
@@ -39,9 +39,7 @@ fn next_table(
 ) -> Result<StencilTable, Cause>
     requires each { length table.now.rows ≡ level.now.level.point_count }
     requires child { CanRefine level.now child.now CatmullClark }
-    ensures composed { MatchResult result
-        (λ next. IsCarried most level.now.level (scheme_of scheme) child.now.origins table.now next)
-        (λ cause. IsTableCause most level.now.level (scheme_of scheme) child.now.origins table.now cause) }
+    ensures composed { IsNextTable most level.now.level (scheme_of scheme) child.now.origins table.now result }
     ensures each { IfOk result (λ next. length next.rows ≡ child.now.topology.level.point_count) }
 {
     child.facts();

@@ -1,13 +1,13 @@
 //! The values of a channel, carried from level to level within the bounds of their numbers.
 
-ghost use Rattle.std.specs.Prelude.{◌≡◌, ◌+◌, ◌*◌, ◌≤◌, nat_le, map, IfOk, MatchResult, OnOk};
+ghost use Rattle.std.specs.Prelude.{◌≡◌, ◌+◌, ◌*◌, ◌≤◌, nat_le, map, IfOk, OnOk};
 ghost use Rattle.subdiv_model.specs.Channel.{number_bound};
 ghost use Rattle.subdiv_model.specs.Mask.{CatmullClark};
 ghost use Rattle.mask_rules.specs.View.{scheme_of};
 ghost use Rattle.primvar_refine.specs.Rows.{greatest_of};
 ghost use Rattle.primvar_refine.specs.View.{rows_of};
 ghost use Rattle.child_masks.specs.Masks.{CanRefine, step_terms};
-ghost use Rattle.channel_refine.specs.Step.{AreValues, AreCarried, IsValueCause};
+ghost use Rattle.channel_refine.specs.Step.{AreValues, AreNextValues};
 ghost use Rattle.channel_refine.specs.Causes.{cause_of_value};
 
 use level_topology::{Child, Level};
@@ -63,9 +63,7 @@ fn next_values<P: Primvar<L>, L: Ledger>(
 ) -> Result<Vec<Valued<P>>, Cause>
     requires values { AreValues most level.now (rows_of P.numbers values.now) }
     requires child { CanRefine level.now child.now CatmullClark }
-    ensures refined { MatchResult result
-        (λ next. AreCarried most level.now.level (scheme_of scheme) child.now.origins (rows_of P.numbers values.now) (rows_of P.numbers next.items))
-        (λ cause. IsValueCause most level.now.level (scheme_of scheme) child.now.origins (rows_of P.numbers values.now) cause) }
+    ensures refined { AreNextValues most level.now.level (scheme_of scheme) child.now.origins (rows_of P.numbers values.now) result (λ next. rows_of P.numbers next.items) }
     ensures values { IfOk result (λ next. AreValues most child.now.topology (rows_of P.numbers next.items)) }
     ensures taken { OnOk result (steps.new ≡ steps.old + step_terms level.now.level (scheme_of scheme) child.now.origins) }
     ensures steps { steps.new ≤ steps.old + step_terms level.now.level (scheme_of scheme) child.now.origins }
