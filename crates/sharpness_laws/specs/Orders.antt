@@ -6,46 +6,46 @@ use Rattle.subdiv_model.specs.Level.{Level, edge_sharpness_of, vertex_sharpness_
 use Rattle.subdiv_model.specs.Rule.{vertex_rule, same_mask, child_ring, transition_weight, transition_overflows}
 use Rattle.subdiv_model.specs.Mask.{Mask, mask_of_rule, mask_of_vertex, other_end}
 
--- the sharpness in a level, and that in the next level
-abbrev pub Transition : Type 0
-Transition = Sharpness × Sharpness
+-- a sharpness in a level, and in the next level
+abbrev pub Decrement : Type 0
+Decrement = Sharpness × Sharpness
 
 -- the sharpness of each edge in the level
-abbrev pub ring_now : List Transition → List Sharpness
+abbrev pub ring_now : List Decrement → List Sharpness
 ring_now ring = map (λ edge. edge.0) ring
 
 -- the sharpness of each edge in the next level
-abbrev pub ring_next : List Transition → List Sharpness
+abbrev pub ring_next : List Decrement → List Sharpness
 ring_next ring = map (λ edge. edge.1) ring
 
 -- the rules of the vertex in both levels name one mask
-abbrev pub has_one_mask : Transition → List Transition → Bool
+abbrev pub has_one_mask : Decrement → List Decrement → Bool
 has_one_mask vertex ring = same_mask (vertex_rule vertex.0 (ring_now ring)) (vertex_rule vertex.1 (ring_next ring))
 
 -- the weight of the transition of a vertex
-abbrev pub weight_between : Transition → List Transition → ℕ × ℕ
+abbrev pub weight_between : Decrement → List Decrement → ℕ × ℕ
 weight_between vertex ring = transition_weight vertex.0 vertex.1 (ring_now ring) (ring_next ring)
 
 -- that weight is refused
-abbrev pub overflows_between : Transition → List Transition → Bool
+abbrev pub overflows_between : Decrement → List Decrement → Bool
 overflows_between vertex ring = transition_overflows vertex.0 vertex.1 (ring_now ring) (ring_next ring)
 
--- the edges at a vertex, each by its other end and what is told of its sharpness, and the faces there
-pub record Star (Told : Type 0) : Type 0 where
-  pub edges : List (ℕ × Told)
+-- the edges at a vertex, each by its other end and its sharpness, in one level or in two, and the faces there
+pub record Star (S : Type 0) : Type 0 where
+  pub edges : List (ℕ × S)
   pub faces : List ℕ
 
 -- both stars have the same edges and the same faces, in any order
-pub record IsReordered {Told : Type 0} (star other : Star Told) : Type 0 where
+pub record IsReordered {S : Type 0} (star other : Star S) : Type 0 where
   pub edges : IsPermutation star.edges other.edges
   pub faces : IsPermutation star.faces other.faces
 
 -- the other ends of the edges
-abbrev pub ends_of : {Told : Type 0} → Star Told → List ℕ
+abbrev pub ends_of : {S : Type 0} → Star S → List ℕ
 ends_of star = map (λ edge. edge.0) star.edges
 
--- what is told of the sharpness of the edges
-abbrev pub ring_of : {Told : Type 0} → Star Told → List Told
+-- the sharpness of the edges
+abbrev pub ring_of : {S : Type 0} → Star S → List S
 ring_of star = map (λ edge. edge.1) star.edges
 
 -- the mask of a vertex by its rule
@@ -53,12 +53,12 @@ abbrev pub mask_by_rule : Sharpness → ℕ → Star Sharpness → Mask
 mask_by_rule vertex v star = mask_of_rule v (ends_of star) star.faces (vertex_rule vertex (ring_of star))
 
 -- the mask of a vertex between two levels
-abbrev pub mask_between : Transition → ℕ → Star Transition → Mask
+abbrev pub mask_between : Decrement → ℕ → Star Decrement → Mask
 mask_between vertex v star =
     mask_of_vertex vertex.0 vertex.1 (map (λ edge. edge.1.0) star.edges) (map (λ edge. edge.1.1) star.edges) v (ends_of star) star.faces
 
 -- the mask of a vertex between two levels, where the method gives the sharpness of the edges in the next level
-abbrev pub mask_by_method : Method → Transition → ℕ → Star Sharpness → Mask
+abbrev pub mask_by_method : Method → Decrement → ℕ → Star Sharpness → Mask
 mask_by_method method vertex v star =
     mask_of_vertex vertex.0 vertex.1 (ring_of star) (child_ring method (ring_of star)) v (ends_of star) star.faces
 

@@ -10,7 +10,7 @@ ghost use Rattle.subdiv_model.specs.Level.{Level};
 ghost use Rattle.subdiv_model.specs.Mask.{SourcePoint, Term, Mask, CatmullClark, total_weight, mask_of, mask_of_vertex, mask_of_edge, mask_of_corners, vertex_mask};
 ghost use Rattle.subdiv_model.specs.Value.{Value};
 ghost use Rattle.subdiv_model.specs.Refined.{mask_value, mask_denominator};
-ghost use Rattle.sharpness_laws.specs.Orders.{Transition, Star, IsReordered, OrderAt, has_one_mask, mask_by_rule, mask_between, mask_by_method, mask_in_order};
+ghost use Rattle.sharpness_laws.specs.Orders.{Decrement, Star, IsReordered, OrderAt, has_one_mask, mask_by_rule, mask_between, mask_by_method, mask_in_order};
 ghost use Rattle.sharpness_laws.specs.SameWeights.{HaveSameWeights, is_joined};
 
 /// The mask of a vertex by its rule has the same weights in whatever order its edges and faces stand: each edge
@@ -24,11 +24,11 @@ pub fn vertex_rules_follow_the_order()
 /// edge with its other end, its sharpness now and its sharpness in the next level. Two rules name one mask or two
 /// in every order. At a level the sharpness in the next one follows from the ring.
 pub fn vertex_masks_do_not_see_the_order()
-    ensures same_mask { (vertex : Transition) (ring other : List Transition) → IsPermutation ring other
+    ensures same_mask { (vertex : Decrement) (ring other : List Decrement) → IsPermutation ring other
         → has_one_mask vertex ring ≡ has_one_mask vertex other }
-    ensures mask { (vertex : Transition) (v : ℕ) (star other : Star Transition) → IsReordered star other
+    ensures mask { (vertex : Decrement) (v : ℕ) (star other : Star Decrement) → IsReordered star other
         → HaveSameWeights (mask_between vertex v star) (mask_between vertex v other) }
-    ensures ring { (method : Method) (vertex : Transition) (v : ℕ) (star other : Star Sharpness) → IsReordered star other
+    ensures ring { (method : Method) (vertex : Decrement) (v : ℕ) (star other : Star Sharpness) → IsReordered star other
         → HaveSameWeights (mask_by_method method vertex v star) (mask_by_method method vertex v other) }
     ensures level { (level : Level) (v : ℕ) (order : OrderAt level v)
         → HaveSameWeights (vertex_mask level CatmullClark v) (mask_in_order level v order.edges order.faces) }
