@@ -6,10 +6,11 @@ use Rattle.subdiv_model.specs.ObjFault as reader
 use Rattle.subdiv_model.specs.ObjMesh.{ObjMesh}
 use Rattle.subdiv_model.specs.ReadObj.{read_obj_fault, read_obj_mesh}
 use Rattle.subdiv_model.specs.MeshFault.{MeshFault, first_mesh_fault}
-use Rattle.subdiv_model.specs.Command.{ReadCommand, MakeCommand}
+use Rattle.far_model.specs.Command.{ReadCommand, MakeCommand}
 use Rattle.subdiv_model.specs.Fault.{Fault, Usage, Read, Long, Obj, Mesh, TooLarge, Overflow, Write, Memory}
-use Rattle.subdiv_model.specs.Refusal.{Answer, answer_unless, refused}
-use Rattle.subdiv_model.specs.Answer.{answer_of_bytes, answer_of_checked, answer_of_made, answer_of_read, byte_limit, command_faults, command_text, count_faults, made_faults, made_mesh, made_text}
+use Rattle.far_model.specs.Refusal.{Answer, answer_unless, refused}
+use Rattle.subdiv_model.specs.Limits.{count_faults}
+use Rattle.far_model.specs.Answer.{answer_of_bytes, answer_of_checked, answer_of_made, answer_of_read, byte_limit, command_faults, command_text, made_faults, made_mesh, made_text}
 use Rattle.mesh_answers.specs.Refusals.{IsFound, refusal_of_mesh, refusal_unless}
 use Rattle.far_engine.specs.Outcome.{IsAnswered}
 

@@ -4,11 +4,11 @@ use Rattle.far_io.specs.Bytes.{Rose, Took, TookPrefix, TookMore, IsDry}
 use Rattle.far_io.specs.declared.source.Source.{Ghosts}
 use Rattle.far_io.specs.declared.source.InputFault.{InputFault}
 use Rattle.far_io.specs.declared.source.InputFault.TheVariants.{Read as ReadFailed, Long as TooLong, Memory as NoMemory}
-use Rattle.subdiv_model.specs.Command.{ReadCommand}
+use Rattle.far_model.specs.Command.{ReadCommand}
 use Rattle.subdiv_model.specs.ObjMesh.{ObjMesh}
 use Rattle.subdiv_model.specs.ReadObj.{read_obj_fault, read_obj_mesh}
 use Rattle.subdiv_model.specs.Fault.{Fault, Usage, Read, Long, Obj, Mesh, TooLarge, Overflow, Write, Memory}
-use Rattle.subdiv_model.specs.Answer.{answer_of_bytes, byte_limit}
+use Rattle.far_model.specs.Answer.{answer_of_bytes, byte_limit}
 use Rattle.ratio128.specs.StepsTaken.{StepsTaken}
 use Rattle.far_text.specs.declared.reply.Reply.{Reply}
 use Rattle.far_fault.specs.View.{fault_of}

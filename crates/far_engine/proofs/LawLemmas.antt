@@ -5,11 +5,11 @@ use Rattle.far_io.specs.Bytes.{Rose, AddedPrefix}
 use Rattle.far_io.specs.Memory.{SureOutput, sure_faults}
 use Rattle.far_io.specs.declared.source.Source.{Ghosts as Source}
 use Rattle.far_io.specs.declared.sink.Sink.{Ghosts as Sink}
-use Rattle.subdiv_model.specs.Words.{command_table, usage_of}
-use Rattle.subdiv_model.specs.Command.{Command, Reads, Makes, Streams, StreamCommand, command_of, read_or}
+use Rattle.far_model.specs.Words.{command_table, usage_of}
+use Rattle.far_model.specs.Command.{Command, Reads, Makes, Streams, StreamCommand, command_of, read_or}
 use Rattle.subdiv_model.specs.Fault.{Fault, Usage, Read, Long, Obj, Mesh, TooLarge, Overflow, Write, Memory}
-use Rattle.subdiv_model.specs.Refusal.{Answer}
-use Rattle.subdiv_model.specs.Answer.{answer, answer_of_command, answer_of_words}
+use Rattle.far_model.specs.Refusal.{Answer}
+use Rattle.far_model.specs.Answer.{answer, answer_of_command, answer_of_words}
 use Rattle.far_engine.specs.Laws.{IsAnsweredBy}
 use Rattle.far_engine.specs.Runs.{AnswersWhole, Ran, Runs, RunsCommand}
 

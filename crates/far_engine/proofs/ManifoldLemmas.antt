@@ -7,9 +7,9 @@ use Rattle.subdiv_model.specs.ReadObj.{read_obj_fault, read_obj_mesh}
 use Rattle.subdiv_model.specs.MeshFault.{first_mesh_fault}
 use Rattle.subdiv_model.specs.Base.{base_level}
 use Rattle.subdiv_model.specs.Cut.{cut_level}
-use Rattle.subdiv_model.specs.Command.{Command, Reads, Makes, Streams, Gen, IsInRange}
+use Rattle.far_model.specs.Command.{Command, Reads, Makes, Streams, Gen, IsInRange}
 use Rattle.subdiv_model.specs.Generator.{generated_mesh}
-use Rattle.subdiv_model.specs.Answer.{IsAcceptedMesh}
+use Rattle.far_model.specs.Answer.{IsAcceptedMesh}
 use Rattle.mesh_laws.proofs.Laws.{manifold-levels}
 use Rattle.mesh_laws.proofs.FaultLemmas.{fault-decides}
 use Rattle.mesh_laws.proofs.WalkLemmas.{manifold-decides}

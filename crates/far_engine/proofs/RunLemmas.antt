@@ -3,8 +3,8 @@ use Rattle.std.proofs.Common.{◌≡◌, ℕ, ◌+◌, ◌≤◌, List, [], take
 use Rattle.far_io.specs.Bytes.{Rose, Took, Added, AddedPrefix}
 use Rattle.far_io.specs.declared.source.Source.{Ghosts as Source}
 use Rattle.far_io.specs.declared.sink.Sink.{Ghosts as Sink}
-use Rattle.subdiv_model.specs.Words.{command_table, usage_of}
-use Rattle.subdiv_model.specs.Command.{Command, Reads, Makes, Streams, ReadCommand, MakeCommand, command_of}
+use Rattle.far_model.specs.Words.{command_table, usage_of}
+use Rattle.far_model.specs.Command.{Command, Reads, Makes, Streams, ReadCommand, MakeCommand, command_of}
 use Rattle.subdiv_model.specs.Fault.{Fault, Usage, Read, Long, Write}
 use Rattle.subdiv_model.specs.ObjMesh.{ObjMesh}
 use Rattle.ratio128.specs.StepsTaken.{StepsTaken}

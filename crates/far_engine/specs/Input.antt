@@ -5,12 +5,12 @@ use Rattle.far_io.specs.declared.sink.Sink.{Ghosts as Sink}
 use Rattle.far_io.specs.declared.source.Source.{Ghosts}
 use Rattle.far_io.specs.declared.source.InputFault.{InputFault}
 use Rattle.far_io.specs.declared.source.InputFault.TheVariants.{Read as ReadFailed, Long as TooLong, Memory as NoMemory}
-use Rattle.subdiv_model.specs.Command.{ReadCommand}
+use Rattle.far_model.specs.Command.{ReadCommand}
 use Rattle.subdiv_model.specs.ObjMesh.{ObjMesh}
 use Rattle.subdiv_model.specs.ReadObj.{read_obj_fault, read_obj_mesh}
 use Rattle.subdiv_model.specs.Fault as model
 use Rattle.subdiv_model.specs.Fault.{Fault, Usage, Read, Long, Obj, Write, Memory}
-use Rattle.subdiv_model.specs.Answer.{answer_of_bytes, byte_limit}
+use Rattle.far_model.specs.Answer.{answer_of_bytes, byte_limit}
 use Rattle.far_text.specs.Reply.{CanPut, reply_text}
 use Rattle.far_text.specs.declared.reply.Reply.{Reply}
 use Rattle.ratio128.specs.StepsTaken.{StepsTaken}

@@ -5,8 +5,8 @@ use Rattle.far_io.specs.Memory.{SureOutput}
 use Rattle.far_io.specs.declared.source.Source.{Ghosts as Source}
 use Rattle.far_io.specs.declared.sink.Sink.{Ghosts as Sink}
 use Rattle.subdiv_model.specs.Fault.{Fault, Memory}
-use Rattle.subdiv_model.specs.Refusal.{Answer}
-use Rattle.subdiv_model.specs.Answer.{answer}
+use Rattle.far_model.specs.Refusal.{Answer}
+use Rattle.far_model.specs.Answer.{answer}
 use Rattle.far_engine.specs.Runs.{Runs}
 
 -- the refusal of the answer, or its whole text; or want of memory, and the sink is as it was

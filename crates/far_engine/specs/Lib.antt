@@ -3,4 +3,4 @@ pub mod StepCounts
 pub mod Input
 pub mod Runs
 pub mod Laws
-pub use Rattle.subdiv_model.specs.Words
+pub use Rattle.far_model.specs.Words

@@ -2,7 +2,7 @@
 -- Source: this profile.
 use Rattle.std.specs.Prelude.{ℕ, ◌≡◌, Bool, true, false, List, Option, Some, None}
 use Rattle.subdiv_model.specs.Fault.{Fault, Usage, Read, Long, Write, Memory}
-use Rattle.subdiv_model.specs.Answer.{answer}
+use Rattle.far_model.specs.Answer.{answer}
 
 -- what words and bytes are refused for, and the text that they say to write
 abbrev pub refusal_of : List (List ℕ) → List ℕ → Option Fault

@@ -10,12 +10,12 @@ use Rattle.subdiv_model.specs.Base.{base_level}
 use Rattle.subdiv_model.specs.Child.{refined_level}
 use Rattle.subdiv_model.specs.Cut.{SeamMode, cut_level}
 use Rattle.subdiv_model.specs.ObjMesh.{ObjMesh}
-use Rattle.subdiv_model.specs.Words.{command_table, usage_of}
-use Rattle.subdiv_model.specs.Command.{Command, Reads, Makes, Streams, ReadCommand, MakeCommand, command_of}
+use Rattle.far_model.specs.Words.{command_table, usage_of}
+use Rattle.far_model.specs.Command.{Command, Reads, Makes, Streams, ReadCommand, MakeCommand, command_of}
 use Rattle.subdiv_model.specs.Fault.{Fault, Usage, Read, Long, Write, Memory, fault_line, outcome_status}
-use Rattle.subdiv_model.specs.Refusal.{Answer}
-use Rattle.subdiv_model.specs.Stream.{LineRule, answer_so_far, answer_of_all, answer_of_lines}
-use Rattle.subdiv_model.specs.Answer.{IsAcceptedMesh, answer_of_bytes, answer_of_made, byte_limit, rule_of}
+use Rattle.far_model.specs.Refusal.{Answer}
+use Rattle.far_model.specs.Stream.{LineRule, answer_so_far, answer_of_all, answer_of_lines}
+use Rattle.far_model.specs.Answer.{IsAcceptedMesh, answer_of_bytes, answer_of_made, byte_limit, rule_of}
 use Rattle.far_engine.specs.Outcome.{IsAnswered, is_after_reading}
 use Rattle.far_engine.specs.StepCounts.{RunSteps}
 

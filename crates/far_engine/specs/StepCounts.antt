@@ -3,8 +3,8 @@
 use Rattle.std.specs.Prelude.{ℕ, ◌≡◌, ◌+◌, ◌≤◌, List, Option, Some, None}
 use Rattle.far_io.specs.Bytes.{Took}
 use Rattle.far_io.specs.declared.source.Source.{Ghosts}
-use Rattle.subdiv_model.specs.Words.{command_table, usage_of}
-use Rattle.subdiv_model.specs.Command.{Command, Reads, Makes, Streams, StreamCommand, command_of}
+use Rattle.far_model.specs.Words.{command_table, usage_of}
+use Rattle.far_model.specs.Command.{Command, Reads, Makes, Streams, StreamCommand, command_of}
 use Rattle.subdiv_model.specs.Fault.{Fault}
 use Rattle.subdiv_model.specs.ReadObj.{read_obj_mesh}
 use Rattle.mesh_answers.specs.StepCounts as mesh

@@ -1,7 +1,7 @@
 //! A command that is read already, over a source and a sink.
 
 ghost use Rattle.std.specs.Prelude.{IfOk};
-ghost use Rattle.subdiv_model.specs.Command.{IsInRange};
+ghost use Rattle.far_model.specs.Command.{IsInRange};
 ghost use Rattle.far_fault.specs.View.{outcome_of};
 ghost use Rattle.far_text.specs.Reply.{CanPut};
 ghost use Rattle.far_words.specs.View.{command_of_code};

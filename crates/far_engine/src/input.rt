@@ -1,8 +1,8 @@
 //! What a source has: its bytes, and the mesh that they are the text of.
 
 ghost use Rattle.std.specs.Prelude.{◌≡◌, ◌≤◌, ◌^◌, length, IfOk, IfErr, MatchResult, OnOk};
-ghost use Rattle.subdiv_model.specs.Answer.{byte_limit};
-ghost use Rattle.subdiv_model.specs.Command.{ReadCommand as model_command};
+ghost use Rattle.far_model.specs.Answer.{byte_limit};
+ghost use Rattle.far_model.specs.Command.{ReadCommand as model_command};
 ghost use Rattle.far_io.specs.Bytes.{Took, IsDry};
 ghost use Rattle.far_fault.specs.View.{fault_of};
 ghost use Rattle.far_engine.specs.Input.{IsMeshOf, IsMeshText, IsRefused, IsTextFault, input_fault_of};

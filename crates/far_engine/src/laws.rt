@@ -3,7 +3,7 @@
 //! Each public function here takes nothing, does nothing and returns nothing: its clauses are the laws. They hold of `run` and of
 //! `program`, whose contracts have the record `Runs`.
 
-ghost use Rattle.subdiv_model.specs.Answer.{answer};
+ghost use Rattle.far_model.specs.Answer.{answer};
 ghost use Rattle.far_engine.specs.Laws.{IsAnsweredBy, RunInRoom, RunWithoutFaults};
 
 use far_io::{Sink, Source, SureSink, SureSource};

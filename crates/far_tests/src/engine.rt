@@ -1,7 +1,7 @@
 // Whole runs, over memory whose calls succeed or fail.
 
 ghost use Rattle.std.specs.Prelude.{◌≡◌, ◌<◌};
-ghost use Rattle.subdiv_model.specs.Command.{IsInRange};
+ghost use Rattle.far_model.specs.Command.{IsInRange};
 ghost use Rattle.far_words.specs.View.{command_of_code};
 
 use crate::expect::{expect_answer, expect_same};

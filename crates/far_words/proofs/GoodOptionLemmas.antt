@@ -10,7 +10,7 @@ use Rattle.std.proofs.lemmas.List.Folds.{list_all-append}
 use Rattle.std.proofs.lemmas.Slice.Eq.{bytes_eq-Decides}
 use Rattle.std.proofs.lemmas.Map.Keys.{IsDistinct-push, IsDistinct-tail, IsDistinct-head}
 use Rattle.std.proofs.lemmas.Map.Made.{length-le_from_is_member}
-use Rattle.subdiv_model.specs.Words.{OptionRule, is_value, option_name, option_value, is_option_of, has_option, is_bad_option, first_bad_option, is_equals, has_required, CommandRule, usage_of_options, usage_of_rule}
+use Rattle.far_model.specs.Words.{OptionRule, is_value, option_name, option_value, is_option_of, has_option, is_bad_option, first_bad_option, is_equals, has_required, CommandRule, usage_of_options, usage_of_rule}
 
 -- the names of options
 abbrev pub names_of : List (List ℕ) → List (List ℕ)

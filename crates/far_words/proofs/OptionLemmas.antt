@@ -5,8 +5,8 @@ use Rattle.std.specs.List.{list_any, position_or_len}
 use Rattle.std.proofs.lemmas.List.{take-map, get_or-map}
 use Rattle.std.proofs.lemmas.Bool.{and_left, lt-ltb, le-ltb}
 use Rattle.std.proofs.lemmas.Bool.Decides.{nat_tests}
-use Rattle.subdiv_model.specs.Words as model
-use Rattle.subdiv_model.specs.Words.{is_equals, is_value, option_name, option_value, is_option_of, has_option, is_bad_option}
+use Rattle.far_model.specs.Words as model
+use Rattle.far_model.specs.Words.{is_equals, is_value, option_name, option_value, is_option_of, has_option, is_bad_option}
 
 has-equals : (word : List ℕ) → list_any is_equals word ≡ nat_lt (position_or_len is_equals word) (length word)
 has-equals [] = refl

@@ -5,7 +5,7 @@ use Rattle.std.specs.Option.{option_map}
 use Rattle.std.specs.List.{list_all, list_any, find}
 use Rattle.std.proofs.lemmas.Bool.{and_parts}
 use Rattle.std.proofs.lemmas.Slice.Eq.{bytes_eq-Decides}
-use Rattle.subdiv_model.specs.Words.{OptionRule, CommandRule, is_value, option_name, option_value, is_option_of, is_equals, has_option, has_required, value_of, usage_of_rule}
+use Rattle.far_model.specs.Words.{OptionRule, CommandRule, is_value, option_name, option_value, is_option_of, is_equals, has_option, has_required, value_of, usage_of_rule}
 use Rattle.far_words.proofs.GoodOptionLemmas.{IsGood}
 use Rattle.far_words.proofs.OrderLemmas.{understood-parts}
 

@@ -3,10 +3,10 @@ use Rattle.std.proofs.Common.{◌≡◌, ℕ, ◌≤◌, Bool, true, false, cond
 use Rattle.std.specs.Prelude.{bytes_eq, is_some, IfSome, option_map}
 use Rattle.std.proofs.lemmas.Bool.Decides.{nat_tests}
 use Rattle.std.proofs.lemmas.Slice.Eq.{bytes_eq-Decides}
-use Rattle.subdiv_model.specs.Words.{CommandRule, command_table, required_option, number_option, name_option, texture_names, path_names, tags_names, is_number_word, usage_of, usage_of_rule, value_of, number_of, required_number}
+use Rattle.far_model.specs.Words.{CommandRule, command_table, required_option, number_option, name_option, texture_names, path_names, tags_names, is_number_word, usage_of, usage_of_rule, value_of, number_of, required_number}
 use Rattle.subdiv_model.specs.Digits.{number_of_digits}
-use Rattle.subdiv_model.specs.Command as model
-use Rattle.subdiv_model.specs.Command.{IsInRange, command_of, read_or, read_words_by}
+use Rattle.far_model.specs.Command as model
+use Rattle.far_model.specs.Command.{IsInRange, command_of, read_or, read_words_by}
 use Rattle.far_words.specs.declared.command.Command.{Command}
 use Rattle.far_words.specs.View.{command_of_code, result_of_code}
 use Rattle.far_words.proofs.ValueLemmas.{allowed-of-rule, required-of-rule}

@@ -1,7 +1,7 @@
 -- What the laws of words speak of: words in another order, words with a bad one, and words that are understood.
 use Rattle.std.specs.Prelude.{◌≡◌, ℕ, List, ◌∷◌, Some, None}
 use Rattle.std.specs.List.Sorted.{IsPermutation}
-use Rattle.subdiv_model.specs.Words.{CommandRule, rule_named, usage_of}
+use Rattle.far_model.specs.Words.{CommandRule, rule_named, usage_of}
 
 -- a command that is understood with its options, and others that differ from them only in order
 pub record ReorderedWords : Type 0 where

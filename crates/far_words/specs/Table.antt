@@ -3,7 +3,7 @@ use Rattle.std.specs.Prelude.{◌≡◌, ℕ, Bool, false, not, ◌||◌, ◌&&�
 use Rattle.std.specs.Option.{option_and_then}
 use Rattle.std.specs.List.{list_all, list_any}
 use Rattle.subdiv_model.specs.Digits.{is_digit, number_of_digits}
-use Rattle.subdiv_model.specs.Words.{ValueKind, Between, OneOf, OptionRule, CommandRule, is_number_word, value_of, number_of}
+use Rattle.far_model.specs.Words.{ValueKind, Between, OneOf, OptionRule, CommandRule, is_number_word, value_of, number_of}
 
 abbrev pub fits_u32 : ℕ → Bool
 fits_u32 n = nat_le n 4294967295

@@ -1,8 +1,8 @@
 -- The types of this crate, seen as those of the definitions.
 use Rattle.std.specs.Prelude.{ℕ, List, map, Result}
 use Rattle.std.specs.Result.{result_map_both}
-use Rattle.subdiv_model.specs.Words as words
-use Rattle.subdiv_model.specs.Command as model
+use Rattle.far_model.specs.Words as words
+use Rattle.far_model.specs.Command as model
 use Rattle.far_words.specs.declared.table.ValueKind.{ValueKind}
 use Rattle.far_words.specs.declared.table.ValueKind.TheVariants.{Between, OneOf}
 use Rattle.far_words.specs.declared.table.OptionRule.{OptionRule}

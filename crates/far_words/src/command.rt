@@ -1,7 +1,7 @@
 //! Commands as values.
 
 ghost use Rattle.std.specs.Prelude.{◌↔◌, IsTrue};
-ghost use Rattle.subdiv_model.specs.Command.{IsInRange, IsMakeInRange, IsReadInRange};
+ghost use Rattle.far_model.specs.Command.{IsInRange, IsMakeInRange, IsReadInRange};
 ghost use Rattle.far_words.specs.View.{command_of_code, make_of_code, read_of_code};
 
 /// How the texture is refined, and what stays sharp where seams cut it.

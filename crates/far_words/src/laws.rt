@@ -2,8 +2,8 @@
 
 ghost use Rattle.std.specs.Prelude.{◌≡◌, ℕ, ◌+◌, ◌≤◌, not, ◌&&◌, ◌||◌, List, ◌∷◌, length, is_some, bytes_eq, Some, None, IsTrue};
 ghost use Rattle.std.specs.List.{list_all, list_any};
-ghost use Rattle.subdiv_model.specs.Words.{is_value, usage_of, value_of};
-ghost use Rattle.subdiv_model.specs.Command.{read_words_by};
+ghost use Rattle.far_model.specs.Words.{is_value, usage_of, value_of};
+ghost use Rattle.far_model.specs.Command.{read_words_by};
 ghost use Rattle.far_words.specs.Laws.{RefusedWords, ReorderedWords, UnderstoodWords};
 
 /// Words that differ only in the order of their options say one command.

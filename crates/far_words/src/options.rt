@@ -3,8 +3,8 @@
 ghost use Rattle.std.specs.Prelude.{◌≡◌, not, ◌&&◌, ◌||◌, map, string_bytes, bytes_eq};
 ghost use Rattle.std.specs.Option.{option_map};
 ghost use Rattle.std.specs.List.{list_any};
-ghost use Rattle.subdiv_model.specs.Words as model;
-ghost use Rattle.subdiv_model.specs.Words.{Between};
+ghost use Rattle.far_model.specs.Words as model;
+ghost use Rattle.far_model.specs.Words.{Between};
 ghost use Rattle.far_words.specs.View.{kind_of_code, option_of_code};
 ghost use Rattle.far_words.specs.Table.{u32_of_option};
 

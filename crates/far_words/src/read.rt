@@ -2,10 +2,10 @@
 
 ghost use Rattle.std.specs.Prelude.{◌≡◌, ◌∷◌, map, string_bytes, Some, IfOk, IsTrue};
 ghost use Rattle.std.specs.Option.{option_map};
-ghost use Rattle.subdiv_model.specs.Words.{usage_of_rule};
-ghost use Rattle.subdiv_model.specs.Words as words;
-ghost use Rattle.subdiv_model.specs.Command.{IsInRange, read_or};
-ghost use Rattle.subdiv_model.specs.Command as model;
+ghost use Rattle.far_model.specs.Words.{usage_of_rule};
+ghost use Rattle.far_model.specs.Words as words;
+ghost use Rattle.far_model.specs.Command.{IsInRange, read_or};
+ghost use Rattle.far_model.specs.Command as model;
 ghost use Rattle.far_words.specs.View.{table_of_code, rule_of_code, uv_of_code, by_of_code, refine_of_code, gen_of_code, command_of_code, result_of_code};
 ghost use Rattle.far_words.specs.Table.{AreNumbersU32, is_u32_rule, is_u32_table, u32_of_option};
 

@@ -1,7 +1,7 @@
 //! The table of commands: a command or an option is added by a line of it.
 
 ghost use Rattle.std.specs.Prelude.{◌≡◌};
-ghost use Rattle.subdiv_model.specs.Words as model;
+ghost use Rattle.far_model.specs.Words as model;
 ghost use Rattle.far_words.specs.View.{table_of_code};
 
 /// What the value of an option may be.

@@ -10,7 +10,7 @@ use Rattle.subdiv_model.specs.Child.{refined_level, faces_after}
 use Rattle.subdiv_model.specs.ObjMesh.{ObjMesh}
 use Rattle.subdiv_model.specs.Fault.{Fault, Track, TooLarge, LevelFaces}
 use Rattle.subdiv_model.specs.Channel.{Channel, Asked, channel_faults, fault_where}
-use Rattle.subdiv_model.specs.Answer.{face_limit, mesh_limit, level_count_faults, count_faults}
+use Rattle.subdiv_model.specs.Limits.{face_limit, mesh_limit, level_count_faults, count_faults}
 use Rattle.level_laws.proofs.FaceLemmas.{faces-after, child_polygons-length}
 use Rattle.level_topology.specs.Topology.{Topology}
 use Rattle.level_topology.specs.declared.counted.Counted.{Counted}

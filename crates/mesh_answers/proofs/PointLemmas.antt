@@ -6,7 +6,7 @@ use Rattle.std.proofs.lemmas.List.Elements.{All-from_recursion, recursion_from_A
 use Rattle.subdiv_model.specs.Value.{Value}
 use Rattle.subdiv_model.specs.Channel.{Channel, number_bound, greatest_amount}
 use Rattle.subdiv_model.specs.Refined.{point_value, over_common, points_of_coordinates}
-use Rattle.subdiv_model.specs.Answer.{point_numbers}
+use Rattle.far_model.specs.Answer.{point_numbers}
 use Rattle.number_laws.proofs.MultipleLemmas.{product-positive}
 use Rattle.raw_mesh.specs.View as reader
 use Rattle.subdiv_model.specs.Short.{IsShortPoint}

@@ -5,12 +5,12 @@ use Rattle.std.proofs.lemmas.List.{length-map}
 use Rattle.subdiv_model.specs.Base.{base_level}
 use Rattle.subdiv_model.specs.ObjMesh.{ObjMesh}
 use Rattle.subdiv_model.specs.Mask.{CatmullClark}
-use Rattle.subdiv_model.specs.Command.{By, ByTable, ByLevel, RefineOptions}
+use Rattle.far_model.specs.Command.{By, ByTable, ByLevel, RefineOptions}
 use Rattle.subdiv_model.specs.Fault.{Positions}
 use Rattle.subdiv_model.specs.Channel.{Channel, Asked, greatest_amount, number_bound}
 use Rattle.subdiv_model.specs.Value.{Value}
 use Rattle.subdiv_model.specs.Refined.{refined_values, control_values}
-use Rattle.subdiv_model.specs.Answer.{asked_of, point_numbers, positions_of}
+use Rattle.far_model.specs.Answer.{asked_of, point_numbers, positions_of}
 use Rattle.mask_laws.proofs.BoundaryLemmas.{boundary-base}
 use Rattle.level_topology.specs.Topology.{Topology}
 use Rattle.level_walk.specs.declared.fault.WalkFault.{WalkFault}

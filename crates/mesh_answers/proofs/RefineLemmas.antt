@@ -7,11 +7,11 @@ use Rattle.subdiv_model.specs.Base.{base_level}
 use Rattle.subdiv_model.specs.Child.{refined_level}
 use Rattle.subdiv_model.specs.Cut.{cut_level}
 use Rattle.subdiv_model.specs.ObjMesh.{ObjMesh}
-use Rattle.subdiv_model.specs.Command.{Refine, RefineOptions}
+use Rattle.far_model.specs.Command.{Refine, RefineOptions}
 use Rattle.subdiv_model.specs.Fault.{Fault}
 use Rattle.subdiv_model.specs.Refined.{Point}
 use Rattle.subdiv_model.specs.Text.{mesh_text, textured_mesh_text}
-use Rattle.subdiv_model.specs.Answer.{asked_of, refine_faults, points_after, texture_after, seams_of, written_tags}
+use Rattle.far_model.specs.Answer.{asked_of, refine_faults, points_after, texture_after, seams_of, written_tags}
 use Rattle.ratio128.specs.declared.valued.Valued.{Valued}
 use Rattle.ratio128.specs.declared.point.Point3.{Point3}
 use Rattle.far_text.specs.Points.{points_of, CanBeWritten}

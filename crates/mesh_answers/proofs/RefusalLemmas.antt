@@ -5,7 +5,7 @@ use Rattle.subdiv_model.specs.Manifold.{IsManifold}
 use Rattle.subdiv_model.specs.ObjMesh.{ObjMesh}
 use Rattle.subdiv_model.specs.Fault.{Fault, Usage, Read, Long, Obj, Mesh, TooLarge, Overflow, Write, Memory}
 use Rattle.subdiv_model.specs.MeshFault.{MeshFault, first_mesh_fault}
-use Rattle.subdiv_model.specs.Answer.{count_faults, level_count_faults}
+use Rattle.subdiv_model.specs.Limits.{count_faults, level_count_faults}
 use Rattle.mesh_laws.proofs.FaultLemmas.{fault-decides}
 use Rattle.mesh_laws.proofs.WalkLemmas.{manifold-decides}
 use Rattle.uniform_walk.proofs.FaultLemmas.{first-here, first-behind}

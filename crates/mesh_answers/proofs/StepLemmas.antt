@@ -1,7 +1,7 @@
 -- The steps of a refinement, by those of its parts.
 use Rattle.std.proofs.Common.{◌≡◌, ℕ, ◌+◌, ◌≤◌, Bool, true, false, cond, length, arith, refl, ap}
 use Rattle.subdiv_model.specs.ObjMesh.{ObjMesh}
-use Rattle.subdiv_model.specs.Command.{RefineOptions}
+use Rattle.far_model.specs.Command.{RefineOptions}
 use Rattle.mesh_answers.specs.StepCounts.{later_faces, position_steps, refine_least, refine_limit, texture_steps, where_textured}
 
 -- what is counted where there is a texture, in parts and together

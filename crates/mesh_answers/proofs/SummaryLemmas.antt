@@ -10,11 +10,12 @@ use Rattle.subdiv_model.specs.Child.{refined_level}
 use Rattle.subdiv_model.specs.ObjMesh.{ObjMesh}
 use Rattle.subdiv_model.specs.Mask.{CatmullClark}
 use Rattle.subdiv_model.specs.MeshFault.{first_mesh_fault}
-use Rattle.subdiv_model.specs.Command.{Gen, GenOptions, ByTable}
+use Rattle.far_model.specs.Command.{Gen, GenOptions, ByTable}
 use Rattle.subdiv_model.specs.Fault.{Fault}
 use Rattle.subdiv_model.specs.Channel.{Tables}
-use Rattle.subdiv_model.specs.Refusal.{answer_unless}
-use Rattle.subdiv_model.specs.Answer.{count_faults, generated_text, made_faults, made_text, positions_of, table_faults}
+use Rattle.far_model.specs.Refusal.{answer_unless}
+use Rattle.subdiv_model.specs.Limits.{count_faults}
+use Rattle.far_model.specs.Answer.{generated_text, made_faults, made_text, positions_of, table_faults}
 use Rattle.subdiv_model.specs.Generator.{draws_of, generated_mesh}
 use Rattle.sheet_maker.proofs.GridLemmas.{points-length}
 use Rattle.stencil_laws.proofs.SupportLemmas.{length-supports}

@@ -4,10 +4,10 @@ use Rattle.subdiv_model.specs.Lists.{first_of}
 use Rattle.subdiv_model.specs.Base.{base_level}
 use Rattle.subdiv_model.specs.ObjMesh.{ObjMesh}
 use Rattle.subdiv_model.specs.Mask.{CatmullClark}
-use Rattle.subdiv_model.specs.Command.{Stencils}
+use Rattle.far_model.specs.Command.{Stencils}
 use Rattle.subdiv_model.specs.Fault.{Positions}
 use Rattle.subdiv_model.specs.Channel.{Channel, Tables, channel_faults}
-use Rattle.subdiv_model.specs.Answer.{positions_of, table_faults}
+use Rattle.far_model.specs.Answer.{positions_of, table_faults}
 use Rattle.level_walk.specs.declared.fault.WalkFault.{WalkFault}
 use Rattle.uniform_walk.specs.Faults.{IsChannelFault}
 use Rattle.uniform_walk.specs.Levels.{AreLevelSteps}

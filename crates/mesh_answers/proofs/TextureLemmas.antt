@@ -13,12 +13,12 @@ use Rattle.subdiv_model.specs.Manifold.{IsManifold}
 use Rattle.subdiv_model.specs.ObjMesh.{ObjMesh}
 use Rattle.subdiv_model.specs.Cut.{SeamMode, texture_number, channel_point, channel_points, channel_values, cut_level}
 use Rattle.subdiv_model.specs.Mask.{Scheme}
-use Rattle.subdiv_model.specs.Command.{Uv, By, ByTable, ByLevel, RefineOptions}
+use Rattle.far_model.specs.Command.{Uv, By, ByTable, ByLevel, RefineOptions}
 use Rattle.subdiv_model.specs.Fault.{Texture}
 use Rattle.subdiv_model.specs.Channel.{Channel, Asked, greatest_amount, number_bound}
 use Rattle.subdiv_model.specs.Value.{Value}
 use Rattle.subdiv_model.specs.Refined.{point_value, over_common, refined_values, control_values}
-use Rattle.subdiv_model.specs.Answer.{asked_of, texture_numbers, texture_of, seams_of, scheme_of}
+use Rattle.far_model.specs.Answer.{asked_of, texture_numbers, texture_of, seams_of, scheme_of}
 use Rattle.number_laws.proofs.MultipleLemmas.{product-positive}
 use Rattle.mesh_laws.proofs.Laws.{all-simple}
 use Rattle.mask_laws.specs.SharpBoundary.{is_infinite, has_sharp_boundary}

@@ -5,9 +5,9 @@ use Rattle.subdiv_model.specs.Lists.{first_of}
 use Rattle.subdiv_model.specs.MeshFault.{first_mesh_fault}
 use Rattle.subdiv_model.specs.Base.{base_level}
 use Rattle.subdiv_model.specs.Child.{refined_level}
-use Rattle.subdiv_model.specs.Command.{Levels}
+use Rattle.far_model.specs.Command.{Levels}
 use Rattle.subdiv_model.specs.Fault.{Fault}
-use Rattle.subdiv_model.specs.Answer.{count_faults, level_count_faults}
+use Rattle.subdiv_model.specs.Limits.{count_faults, level_count_faults}
 use Rattle.subdiv_model.specs.ObjMesh.{ObjMesh}
 use Rattle.level_topology.specs.Topology.{Topology}
 use Rattle.mesh_check.specs.Checked.{IsAccepted}

@@ -4,9 +4,10 @@ use Rattle.std.specs.Prelude.{◌≡◌, List, ◌++◌, length, Option, Some, N
 use Rattle.subdiv_model.specs.Lists.{first_of}
 use Rattle.subdiv_model.specs.MeshFault.{MeshFault, first_mesh_fault}
 use Rattle.subdiv_model.specs.ObjMesh.{ObjMesh}
-use Rattle.subdiv_model.specs.Command.{ReadCommand, MakeCommand}
+use Rattle.far_model.specs.Command.{ReadCommand, MakeCommand}
 use Rattle.subdiv_model.specs.Fault.{Fault, Obj, Mesh, TooLarge, Overflow, Memory}
-use Rattle.subdiv_model.specs.Answer.{answer_of_made, command_faults, count_faults}
+use Rattle.subdiv_model.specs.Limits.{count_faults}
+use Rattle.far_model.specs.Answer.{answer_of_made, command_faults}
 
 abbrev pub refusal_unless : Option MeshFault → Option Fault → Option Fault
 refusal_unless (Some fault) refusal = Some (Mesh fault)

@@ -1,8 +1,8 @@
 -- What a command finds of a mesh: a reply, or why there is none.
 use Rattle.std.specs.Prelude.{ℕ, ◌≡◌, List, None, Result, MatchResult}
-use Rattle.subdiv_model.specs.Command.{ReadCommand, MakeCommand}
+use Rattle.far_model.specs.Command.{ReadCommand, MakeCommand}
 use Rattle.subdiv_model.specs.ObjMesh.{ObjMesh}
-use Rattle.subdiv_model.specs.Answer.{command_text, made_text}
+use Rattle.far_model.specs.Answer.{command_text, made_text}
 use Rattle.ratio128.specs.StepsTaken.{StepsTaken}
 use Rattle.far_text.specs.Reply.{CanPut, reply_text}
 use Rattle.far_text.specs.declared.reply.Reply.{Reply}

@@ -2,7 +2,7 @@
 -- Source: this profile.
 use Rattle.std.specs.Prelude.{ℕ, ◌+◌, length, if◌then◌else◌}
 use Rattle.std.specs.List.{sum_by, range_with_len}
-use Rattle.subdiv_model.specs.Command.{ReadCommand, Refine, Stencils, Levels, MakeCommand, Gen, RefineOptions, By, ByTable, ByLevel}
+use Rattle.far_model.specs.Command.{ReadCommand, Refine, Stencils, Levels, MakeCommand, Gen, RefineOptions, By, ByTable, ByLevel}
 use Rattle.subdiv_model.specs.ObjMesh.{ObjMesh}
 use Rattle.subdiv_model.specs.Level.{Level}
 use Rattle.subdiv_model.specs.Base.{base_level}
@@ -10,7 +10,7 @@ use Rattle.subdiv_model.specs.Child.{refined_level, faces_after}
 use Rattle.subdiv_model.specs.Cut.{cut_level}
 use Rattle.subdiv_model.specs.Mask.{Scheme, CatmullClark, mask_terms}
 use Rattle.subdiv_model.specs.Support.{entries_after}
-use Rattle.subdiv_model.specs.Answer.{made_mesh, seams_of, scheme_of}
+use Rattle.far_model.specs.Answer.{made_mesh, seams_of, scheme_of}
 
 -- how many faces the levels of a mesh from 1 to a depth have, and those from 0
 abbrev pub later_faces : ℕ → ObjMesh → ℕ

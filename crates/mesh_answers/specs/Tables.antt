@@ -1,7 +1,7 @@
 -- The table of a mesh at a depth, and the summary of a sheet.
 use Rattle.std.specs.Prelude.{ℕ, ◌≡◌, None, Result, MatchResult}
 use Rattle.subdiv_model.specs.ObjMesh.{ObjMesh}
-use Rattle.subdiv_model.specs.Answer.{positions_of, table_faults, generated_text}
+use Rattle.far_model.specs.Answer.{positions_of, table_faults, generated_text}
 use Rattle.stencil_apply.specs.Table.{IsTable}
 use Rattle.channel_refine.specs.Composed.{IsComposedTo}
 use Rattle.channel_refine.specs.View.{composed_of}

@@ -5,11 +5,11 @@ use Rattle.subdiv_model.specs.Lists.{first_of}
 use Rattle.subdiv_model.specs.Base.{base_level}
 use Rattle.subdiv_model.specs.Child.{refined_level}
 use Rattle.subdiv_model.specs.Cut.{cut_level, channel_values}
-use Rattle.subdiv_model.specs.Command.{Uv, RefineOptions}
+use Rattle.far_model.specs.Command.{Uv, RefineOptions}
 use Rattle.subdiv_model.specs.ObjMesh.{ObjMesh}
 use Rattle.subdiv_model.specs.Fault.{Fault, Positions, Texture}
 use Rattle.subdiv_model.specs.Channel.{Asked, channel_faults}
-use Rattle.subdiv_model.specs.Answer.{points_after, texture_after, positions_of, texture_of, seams_of, asked_of}
+use Rattle.far_model.specs.Answer.{points_after, texture_after, positions_of, texture_of, seams_of, asked_of}
 use Rattle.level_topology.specs.Topology.{Topology}
 use Rattle.ratio128.specs.declared.valued.Valued.{Valued}
 use Rattle.ratio128.specs.declared.point.Point3.{Point3}

@@ -1,7 +1,7 @@
 //! The counts of the levels of a mesh.
 
 ghost use Rattle.std.specs.Prelude.{◌≤◌, MatchResult};
-ghost use Rattle.subdiv_model.specs.Command.{Levels};
+ghost use Rattle.far_model.specs.Command.{Levels};
 ghost use Rattle.far_fault.specs.View.{fault_of};
 ghost use Rattle.ratio128.specs.StepsTaken.{StepsTaken};
 ghost use Rattle.subdiv_model.specs.ObjMesh.{ObjMesh};

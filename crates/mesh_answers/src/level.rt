@@ -5,7 +5,7 @@ ghost use Rattle.std.specs.List.{sum_by};
 ghost use Rattle.subdiv_model.specs.Polygons.{Polygon};
 ghost use Rattle.subdiv_model.specs.Lists.{first_of};
 ghost use Rattle.subdiv_model.specs.Fault.{Fault};
-ghost use Rattle.subdiv_model.specs.Answer.{level_count_faults};
+ghost use Rattle.subdiv_model.specs.Limits.{level_count_faults};
 ghost use Rattle.mesh_check.specs.Checked.{IsAccepted};
 ghost use Rattle.mesh_check.specs.Counts.{count_named};
 ghost use Rattle.ratio128.specs.StepsTaken.{StepsTaken};

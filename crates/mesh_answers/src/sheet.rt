@@ -1,8 +1,8 @@
 //! The summary of a sheet that the program makes by itself.
 
 ghost use Rattle.std.specs.Prelude.{◌≡◌, ◌+◌, ◌-◌, ◌<◌, ◌≤◌, length, get_or, MatchResult};
-ghost use Rattle.subdiv_model.specs.Command.{Gen, IsMakeInRange, ByTable};
-ghost use Rattle.subdiv_model.specs.Answer.{table_faults};
+ghost use Rattle.far_model.specs.Command.{Gen, IsMakeInRange, ByTable};
+ghost use Rattle.far_model.specs.Answer.{table_faults};
 ghost use Rattle.stencil_apply.specs.Table.{entries_of, greatest_of};
 ghost use Rattle.ratio128.specs.declared.valued.Valued as valued;
 ghost use Rattle.ratio128.specs.declared.point.Point3 as point;

@@ -1,7 +1,7 @@
 //! The table of a mesh at a depth.
 
 ghost use Rattle.std.specs.Prelude.{◌≤◌};
-ghost use Rattle.subdiv_model.specs.Command.{Stencils};
+ghost use Rattle.far_model.specs.Command.{Stencils};
 ghost use Rattle.ratio128.specs.StepsTaken.{StepsTaken};
 ghost use Rattle.mesh_answers.specs.Levels.{IsLevelWithin};
 ghost use Rattle.mesh_answers.specs.Replies.{IsAnswerTo};

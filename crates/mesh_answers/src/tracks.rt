@@ -4,7 +4,7 @@ ghost use Rattle.std.specs.Prelude.{◌≡◌, ◌+◌, true, length, map, Some,
 ghost use Rattle.raw_mesh.specs.View.{point_of, texture_of as value_of};
 ghost use Rattle.subdiv_model.specs.MeshFault.{first_mesh_fault};
 ghost use Rattle.subdiv_model.specs.Channel.{greatest_amount};
-ghost use Rattle.subdiv_model.specs.Answer.{point_numbers, positions_of, texture_numbers, seams_of, scheme_of};
+ghost use Rattle.far_model.specs.Answer.{point_numbers, positions_of, texture_numbers, seams_of, scheme_of};
 ghost use Rattle.mask_rules.specs.View as rules;
 ghost use Rattle.mesh_check.specs.Checked.{IsAccepted};
 ghost use Rattle.face_varying.specs.Cut.{IsCut};

@@ -9,7 +9,7 @@ use Rattle.subdiv_model.specs.Lists.{first_of}
 use Rattle.subdiv_model.specs.Polygons.{Polygon}
 use Rattle.subdiv_model.specs.ObjMesh.{ObjMesh}
 use Rattle.subdiv_model.specs.Fault.{TooLarge, FaceSize}
-use Rattle.subdiv_model.specs.Answer.{mesh_limit, size_limit, large_faces}
+use Rattle.subdiv_model.specs.Limits.{mesh_limit, size_limit, large_faces}
 use Rattle.mesh_check.specs.Counts.{size_faults}
 use Rattle.mesh_check.proofs.PlaceLemmas.{drop-here}
 

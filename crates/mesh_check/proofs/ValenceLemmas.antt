@@ -12,7 +12,7 @@ use Rattle.subdiv_model.specs.ObjMesh.{ObjMesh}
 use Rattle.subdiv_model.specs.Base.{base_level}
 use Rattle.subdiv_model.specs.Fault.{Fault, TooLarge, Points, Faces, FaceSize, Valence}
 use Rattle.subdiv_model.specs.Channel.{fault_where}
-use Rattle.subdiv_model.specs.Answer.{mesh_limit, size_limit, large_faces, count_faults}
+use Rattle.subdiv_model.specs.Limits.{mesh_limit, size_limit, large_faces, count_faults}
 use Rattle.level_topology.specs.declared.counted.Counted.{Counted}
 use Rattle.mesh_check.specs.Counts.{size_faults, valence_faults, count_named}
 use Rattle.mesh_check.proofs.FaultLemmas.{first-behind}

@@ -4,7 +4,7 @@ use Rattle.subdiv_model.specs.MeshFault.{first_mesh_fault}
 use Rattle.subdiv_model.specs.ObjMesh.{ObjMesh}
 use Rattle.subdiv_model.specs.Lists.{first_of}
 use Rattle.subdiv_model.specs.Base.{base_level}
-use Rattle.subdiv_model.specs.Answer.{count_faults}
+use Rattle.subdiv_model.specs.Limits.{count_faults}
 use Rattle.subdiv_model.specs.Fault as run
 use Rattle.level_topology.specs.Topology.{Topology}
 use Rattle.level_topology.specs.CountedText.{counted_of}

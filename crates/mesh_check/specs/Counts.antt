@@ -7,7 +7,7 @@ use Rattle.subdiv_model.specs.Fault.{Fault, TooLarge}
 use Rattle.subdiv_model.specs.Fault as run
 use Rattle.subdiv_model.specs.Channel.{fault_where}
 use Rattle.subdiv_model.specs.ObjMesh.{ObjMesh}
-use Rattle.subdiv_model.specs.Answer.{mesh_limit, size_limit, large_faces}
+use Rattle.subdiv_model.specs.Limits.{mesh_limit, size_limit, large_faces}
 use Rattle.level_topology.specs.declared.counted.Counted.{Counted}
 use Rattle.level_topology.specs.CountedText.{counted_of}
 

@@ -2,7 +2,7 @@
 
 ghost use Rattle.std.specs.Prelude.{◌≡◌, length, map};
 ghost use Rattle.subdiv_model.specs.Lists.{first_of};
-ghost use Rattle.subdiv_model.specs.Answer.{large_faces};
+ghost use Rattle.subdiv_model.specs.Limits.{large_faces};
 ghost use Rattle.mesh_check.specs.Counts.{size_faults, count_named};
 
 use level_topology::Counted;

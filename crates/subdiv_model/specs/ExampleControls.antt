@@ -11,9 +11,6 @@ use Rattle.subdiv_model.specs.NumberText.{value_text}
 use Rattle.subdiv_model.specs.Text.{refined_text, texture_line}
 use Rattle.subdiv_model.specs.ReadObj.{read_obj_mesh}
 use Rattle.subdiv_model.specs.Value.{whole_value}
-use Rattle.subdiv_model.specs.Words.{option_value}
-use Rattle.subdiv_model.specs.Command.{uv_of}
-use Rattle.subdiv_model.specs.Answer.{texture_after}
 use Rattle.subdiv_model.specs.ExampleTexts.{seamed_text}
 use Rattle.subdiv_model.specs.Sharpness.{Sharpness, Infinite, Chaikin}
 
@@ -59,7 +56,3 @@ refined_value_texts level scheme controls k = map value_text (refined_values lev
 -- the text of a mesh without texture after k Catmull-Clark steps
 abbrev pub refined_text_of : ObjMesh → ℕ → List ℕ
 refined_text_of mesh k = refined_text (base_level mesh) CatmullClark mesh.common mesh.points k
-
--- the first texture line after a step, where the texture is refined so
-abbrev pub first_texture : List ℕ → List ℕ
-first_texture uv = texture_line None (get_or (texture_after (read_obj_mesh seamed_text 0) (uv_of (option_value uv)) 1) 0 (whole_value (pos 0), whole_value (pos 0)))

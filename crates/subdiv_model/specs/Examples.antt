@@ -10,8 +10,6 @@ use Rattle.subdiv_model.specs.Generator.{sheet_faces}
 use Rattle.subdiv_model.specs.NumberText.{number_text}
 use Rattle.subdiv_model.specs.ObjFault.{UnknownKeyword, LongLine}
 use Rattle.subdiv_model.specs.Fault.{Obj}
-use Rattle.subdiv_model.specs.Refusal.{refused, answer_unless}
-use Rattle.subdiv_model.specs.Stream.{LineRule}
 
 -- four triangles round four points
 abbrev pub tetrahedron : List Polygon
@@ -139,20 +137,4 @@ slit_sheet = record (tagged_mesh 9 (sheet_faces 2) [] []) {
   texture = replicate 10 (pos 0, pos 0);
   has_texture = true;
   texture_corners = (0 ∷ 1 ∷ 4 ∷ 3 ∷ []) ∷ (9 ∷ 2 ∷ 5 ∷ 4 ∷ []) ∷ drop 2 (sheet_faces 2);
-}
-
-abbrev pub begins_with_x : List ℕ → Bool
-begins_with_x [] = false
-begins_with_x (b ∷ line) = nat_eq b 120
-
--- a rule that writes each line again, refuses a line that begins with `x` and an unclosed line of more than two bytes, and writes
--- how many lines there were
-abbrev pub echo_rule : LineRule
-echo_rule = record {
-  line = λ before line.
-      if begins_with_x line
-      then refused (Obj (record { line = length before + 1; cause = UnknownKeyword }))
-      else answer_unless None (line ++ codes "\n");
-  unclosed = λ before bytes. if nat_lt 2 (length bytes) then Some (Obj (record { line = length before + 1; cause = LongLine })) else None;
-  end = λ lines. answer_unless None (number_text (length lines));
 }

@@ -27,16 +27,12 @@ pub mod ReadObj
 pub mod Base
 pub mod Cut
 pub mod Fault
-pub mod Refusal
-pub mod Stream
 pub mod Channel
+pub mod Limits
 pub mod Text
 pub mod LevelText
 pub mod TableText
 pub mod Generator
-pub mod Words
-pub mod Command
-pub mod Answer
 pub mod Examples
 pub mod ExampleTexts
 pub mod ExampleControls

@@ -1,5 +1,5 @@
 use Rattle.std.proofs.Common.{rules, ap, ◌∙◌}
-use Rattle.subdiv_model.specs.Command.{Makes, Reads}
+use Rattle.far_model.specs.Command.{Makes, Reads}
 use Rattle.far_words.specs.View.{command_of_code, read_of_code}
 use Rattle.far_engine.proofs.RunLemmas.{fault-steps, make-steps, runs-as, runs-fault, runs-make, runs-mesh, steps-as, steps-mesh}
 use Rattle.far_engine.proofs.command.run_command.Goals as goal

@@ -1,5 +1,5 @@
 use Rattle.std.proofs.Common.{refl}
-use Rattle.subdiv_model.specs.Answer.{answer}
+use Rattle.far_model.specs.Answer.{answer}
 use Rattle.far_engine.proofs.LawLemmas.{answered-by, cut-at, no-write, not-to-zero, rose-at}
 use Rattle.far_engine.proofs.laws.room_is_enough.Goals as goal
 

@@ -1,4 +1,4 @@
-use Rattle.subdiv_model.specs.Words.{rule_named}
+use Rattle.far_model.specs.Words.{rule_named}
 use Rattle.far_words.proofs.GoodOptionLemmas.{early-word}
 use Rattle.far_words.proofs.laws.bad_words_come_early.Goals as goal
 

@@ -1,4 +1,4 @@
-use Rattle.subdiv_model.specs.Words.{rule_named}
+use Rattle.far_model.specs.Words.{rule_named}
 use Rattle.far_words.proofs.OrderLemmas.{usage-order, reading-order}
 use Rattle.far_words.proofs.laws.options_go_in_any_order.Goals as goal
 

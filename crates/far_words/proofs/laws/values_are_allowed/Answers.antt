@@ -1,4 +1,4 @@
-use Rattle.subdiv_model.specs.Words.{rule_named}
+use Rattle.far_model.specs.Words.{rule_named}
 use Rattle.far_words.proofs.ValueLemmas.{allowed-of-rule, required-of-rule}
 use Rattle.far_words.proofs.laws.values_are_allowed.Goals as goal
 

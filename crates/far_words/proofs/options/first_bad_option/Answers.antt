@@ -1,6 +1,6 @@
 use Rattle.std.proofs.Common.{map, string_bytes, length, arith, sym, ◌∙◌}
 use Rattle.std.proofs.lemmas.List.{length-map}
-use Rattle.subdiv_model.specs.Words.{is_bad_option}
+use Rattle.far_model.specs.Words.{is_bad_option}
 use Rattle.far_words.specs.View.{option_of_code}
 use Rattle.far_words.proofs.ListLemmas.{find-more, find-here}
 use Rattle.far_words.proofs.OptionLemmas.{bad-at-place}

@@ -1,6 +1,6 @@
 use Rattle.std.proofs.Common.{◌≡◌, map, string_bytes, None}
 use Rattle.std.specs.List.{find, range_with_len}
-use Rattle.subdiv_model.specs.Words.{is_bad_option}
+use Rattle.far_model.specs.Words.{is_bad_option}
 use Rattle.far_words.specs.View.{option_of_code}
 use Rattle.far_words.proofs.options.first_bad_option.Given as goal
 

@@ -1,5 +1,5 @@
 use Rattle.std.proofs.Common.{◌≡◌, map, length, string_bytes}
-use Rattle.subdiv_model.specs.Words as model
+use Rattle.far_model.specs.Words as model
 use Rattle.far_words.specs.View.{option_of_code}
 use Rattle.far_words.proofs.options.has_required.Given as goal
 

@@ -1,6 +1,6 @@
 use Rattle.std.proofs.Common.{◌≡◌, ◌&&◌, map, length, bytes_eq}
 use Rattle.std.specs.List.{list_any}
-use Rattle.subdiv_model.specs.Words.{is_value}
+use Rattle.far_model.specs.Words.{is_value}
 use Rattle.far_words.specs.View.{option_of_code}
 use Rattle.far_words.proofs.options.some_rule_allows.Given as goal
 

@@ -1,5 +1,5 @@
 use Rattle.std.proofs.Common.{◌≡◌, map, length, string_bytes}
-use Rattle.subdiv_model.specs.Words as model
+use Rattle.far_model.specs.Words as model
 use Rattle.far_words.proofs.options.value_of.Given as goal
 
 -- the words that are left decide

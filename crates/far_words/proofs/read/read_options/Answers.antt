@@ -1,6 +1,6 @@
 use Rattle.std.proofs.Common.{◌≡◌, Some, map, string_bytes, arith, sym, ◌∙◌}
 use Rattle.std.proofs.lemmas.List.{length-map}
-use Rattle.subdiv_model.specs.Words.{first_bad_option}
+use Rattle.far_model.specs.Words.{first_bad_option}
 use Rattle.far_words.specs.View.{rule_of_code, option_of_code}
 use Rattle.far_words.proofs.ReadLemmas.{small-numbers, few-rules}
 use Rattle.far_words.proofs.GoodOptionLemmas.{length-IsGood, early-of-some, good-of-none}

@@ -1,5 +1,5 @@
 use Rattle.std.proofs.Common.{◌≡◌, map, rules, string_bytes, subst}
-use Rattle.subdiv_model.specs.Command.{read_words_by}
+use Rattle.far_model.specs.Command.{read_words_by}
 use Rattle.far_words.specs.View.{result_of_code}
 use Rattle.far_words.proofs.WordsLemmas.{read-in-range}
 use Rattle.far_words.proofs.read.read_words.Goals as goal

@@ -1,5 +1,5 @@
 use Rattle.std.proofs.Common.{◌≡◌, length}
-use Rattle.subdiv_model.specs.Words as words
+use Rattle.far_model.specs.Words as words
 use Rattle.far_words.specs.View.{table_of_code}
 use Rattle.far_words.proofs.read.rule_named.Given as goal
 

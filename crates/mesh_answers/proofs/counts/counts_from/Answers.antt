@@ -1,5 +1,5 @@
 use Rattle.std.proofs.Common.{arith, sym, subst}
-use Rattle.subdiv_model.specs.Command.{Levels}
+use Rattle.far_model.specs.Command.{Levels}
 use Rattle.mesh_answers.specs.Refusals.{IsFound, refusal_of_mesh}
 use Rattle.mesh_answers.proofs.CountLemmas.{accepted-boundary, accepted-points, accepted-whole, counted-levels, counts-failed, counts-steps}
 use Rattle.mesh_answers.proofs.counts.counts_from.Goals as goal

@@ -1,5 +1,5 @@
 use Rattle.std.proofs.Common.{arith, refl}
-use Rattle.subdiv_model.specs.Command.{Levels}
+use Rattle.far_model.specs.Command.{Levels}
 use Rattle.mesh_answers.proofs.CountLemmas.{counts-reply}
 use Rattle.mesh_answers.proofs.ReplyLemmas.{replies}
 use Rattle.mesh_answers.proofs.counts.levels.Goals as goal

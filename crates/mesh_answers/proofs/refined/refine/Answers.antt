@@ -1,5 +1,5 @@
 use Rattle.std.proofs.Common.{arith}
-use Rattle.subdiv_model.specs.Command.{Refine}
+use Rattle.far_model.specs.Command.{Refine}
 use Rattle.far_words.specs.View.{refine_of_code}
 use Rattle.mesh_answers.proofs.RefineLemmas.{positions-found, refined-reply, texture-found}
 use Rattle.mesh_answers.proofs.ReplyLemmas.{refuses, replies}

@@ -1,5 +1,5 @@
 use Rattle.std.proofs.Common.{◌+◌, ◌<◌, ◌≤◌, length, arith, sym, subst}
-use Rattle.subdiv_model.specs.Command.{Gen, ByTable}
+use Rattle.far_model.specs.Command.{Gen, ByTable}
 use Rattle.subdiv_model.specs.ObjMesh.{ObjMesh}
 use Rattle.far_words.specs.View.{gen_of_code}
 use Rattle.mesh_answers.specs.StepCounts.{level_faces_to, position_steps}

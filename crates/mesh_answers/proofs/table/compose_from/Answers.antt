@@ -1,5 +1,5 @@
 use Rattle.std.proofs.Common.{sym, subst}
-use Rattle.subdiv_model.specs.Answer.{table_faults}
+use Rattle.far_model.specs.Answer.{table_faults}
 use Rattle.mesh_answers.specs.Refusals.{IsFound, refusal_by}
 use Rattle.mesh_answers.proofs.RefusalLemmas.{small-manifold}
 use Rattle.mesh_answers.proofs.TableLemmas.{table-composed, table-failed, table-steps}

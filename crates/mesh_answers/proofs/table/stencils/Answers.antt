@@ -1,5 +1,5 @@
 use Rattle.std.proofs.Common.{arith}
-use Rattle.subdiv_model.specs.Command.{Stencils}
+use Rattle.far_model.specs.Command.{Stencils}
 use Rattle.mesh_answers.proofs.ReplyLemmas.{replies}
 use Rattle.mesh_answers.proofs.TableLemmas.{table-reply}
 use Rattle.mesh_answers.proofs.table.stencils.Goals as goal

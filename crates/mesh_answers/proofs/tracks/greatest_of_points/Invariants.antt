@@ -2,7 +2,7 @@ use Rattle.std.proofs.Common.{◌≡◌, max, unsigned_abs, length, map}
 use Rattle.std.specs.List.{fold}
 use Rattle.raw_mesh.specs.View.{point_of}
 use Rattle.subdiv_model.specs.Channel.{greatest_amount}
-use Rattle.subdiv_model.specs.Answer.{point_numbers}
+use Rattle.far_model.specs.Answer.{point_numbers}
 use Rattle.mesh_answers.proofs.tracks.greatest_of_points.Given as goal
 
 -- the greatest so far, and from here on, is that of all

@@ -1,7 +1,7 @@
 use Rattle.std.proofs.Common.{◌≡◌, ℕ, nat_lt, length, map, drop}
 use Rattle.std.specs.List.{filter, enumerate_from}
 use Rattle.subdiv_model.specs.Lists.{first_of}
-use Rattle.subdiv_model.specs.Answer.{large_faces, size_limit}
+use Rattle.subdiv_model.specs.Limits.{large_faces, size_limit}
 use Rattle.mesh_check.proofs.counts.large_face.Given as goal
 
 -- the faces from here on decide

@@ -1,9 +1,9 @@
 //! Examples of command lines, each proved by computing.
 
 ghost use Rattle.std.specs.Prelude.{◌≡◌, false, true, [], ◌∷◌, Some, None, Ok, Err, codes};
-ghost use Rattle.subdiv_model.specs.Command.{ByLevel, ByTable, CornersUv, Gen, Levels, Makes, Reads, Refine, SmoothUv, read_words};
+ghost use Rattle.far_model.specs.Command.{ByLevel, ByTable, CornersUv, Gen, Levels, Makes, Reads, Refine, SmoothUv, read_words};
 ghost use Rattle.subdiv_model.specs.ExampleTexts.{all_refine_words};
-ghost use Rattle.subdiv_model.specs.Words.{command_table, usage_of};
+ghost use Rattle.far_model.specs.Words.{command_table, usage_of};
 
 /// Command lines and the place of their first bad word.
 pub fn places_of_bad_words()

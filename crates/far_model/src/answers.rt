@@ -4,11 +4,12 @@
 //@ Valence=Fault
 
 ghost use Rattle.std.specs.Prelude.{◌≡◌, List, [], ◌∷◌, ◌++◌, map, take, pos, Some, None, codes};
-ghost use Rattle.subdiv_model.specs.Answer.{answer, answer_of_made, answer_of_mesh, count_faults, level_count_faults, made_mesh};
+ghost use Rattle.subdiv_model.specs.Limits.{count_faults, level_count_faults};
+ghost use Rattle.far_model.specs.Answer.{answer, answer_of_made, answer_of_mesh, made_mesh};
 ghost use Rattle.subdiv_model.specs.Base.{base_level};
-ghost use Rattle.subdiv_model.specs.ExampleControls.{first_texture};
+ghost use Rattle.far_model.specs.Examples.{first_texture};
 ghost use Rattle.subdiv_model.specs.ExampleTexts.{corner_cube_refined_text, cube_text, hidden_square_refined_text, refined_square_points_text, refined_square_text, seamed_text, sharp_square_refined_text, sheet_summary_text, square_text, tagged_cube_text};
-ghost use Rattle.subdiv_model.specs.Command.{MakeCommand, ReadCommand};
+ghost use Rattle.far_model.specs.Command.{MakeCommand, ReadCommand};
 ghost use Rattle.subdiv_model.specs.Examples.{cube};
 ghost use Rattle.subdiv_model.specs.Fault.{ChaikinOverflow, Entries, Fault, FaceSize, LevelFaces, Long, Memory, Mesh, Obj, Overflow, Positions, Read, Texture, TooLarge, TransitionOverflow, Usage, Valence, ValueOverflow, Write, fault_line, fault_status, outcome_status};
 ghost use Rattle.subdiv_model.specs.Generator.{draws_from, generated_mesh, sheet_faces};

@@ -1,7 +1,7 @@
 -- Commands as values: the words of a command line with its options filled in.
 -- Source: this profile.
 use Rattle.std.specs.Prelude.{ℕ, ◌≤◌, Bool, List, [], ◌∷◌, Option, Some, None, Result, Ok, Err, bytes_eq, codes, unwrap_or, IfSome, if◌then◌else◌}
-use Rattle.subdiv_model.specs.Words.{CommandRule, command_table, usage_of, value_of, number_of, required_number}
+use Rattle.far_model.specs.Words.{CommandRule, command_table, usage_of, value_of, number_of, required_number}
 
 -- how the texture is cut and refined
 pub data Uv : Type 0 where

@@ -19,51 +19,19 @@ use Rattle.subdiv_model.specs.Support.{entries_after}
 use Rattle.subdiv_model.specs.Cut.{SeamMode, SmoothSeams, CornerSeams, BoundarySeams, cut_level, channel_values}
 use Rattle.subdiv_model.specs.Channel.{Channel, Asked, Sharpnesses, Values, Tables, greatest_amount, greatest_denominator, fault_where, channel_faults}
 use Rattle.subdiv_model.specs.Generator.{generated_mesh}
-use Rattle.subdiv_model.specs.Command.{Command, Reads, Makes, Streams, ReadCommand, Refine, Stencils, Levels, MakeCommand, Gen, StreamCommand, RefineOptions, Uv, SmoothUv, CornersUv, BoundariesUv, LinearUv, By, ByTable, ByLevel, read_words}
+use Rattle.far_model.specs.Command.{Command, Reads, Makes, Streams, ReadCommand, Refine, Stencils, Levels, MakeCommand, Gen, StreamCommand, RefineOptions, Uv, SmoothUv, CornersUv, BoundariesUv, LinearUv, By, ByTable, ByLevel, read_words}
+use Rattle.subdiv_model.specs.Limits.{count_faults, level_count_faults}
 use Rattle.subdiv_model.specs.Fault.{Fault, Usage, Long, Obj, Mesh, TooLarge, Points, Faces, FaceSize, Valence, LevelFaces, Positions, Texture}
-use Rattle.subdiv_model.specs.Refusal.{Answer, refused, answer_unless}
-use Rattle.subdiv_model.specs.Stream.{LineRule, answer_of_lines}
+use Rattle.far_model.specs.Refusal.{Answer, refused, answer_unless}
+use Rattle.far_model.specs.Stream.{LineRule, answer_of_lines}
 use Rattle.subdiv_model.specs.NumberText.{number_text, value_text}
 use Rattle.subdiv_model.specs.Text.{line_text, mesh_text, textured_mesh_text, tags_text}
 use Rattle.subdiv_model.specs.LevelText.{levels_text}
 use Rattle.subdiv_model.specs.TableText.{table_text}
 
--- the limits: bytes of an input, points and faces of a mesh, corners of a face and edges of a vertex, and faces of
--- a level after the first
+-- how many bytes an input has at most
 abbrev pub byte_limit : ℕ
 byte_limit = 2 ^ 28
-
-abbrev pub mesh_limit : ℕ
-mesh_limit = 2 ^ 20
-
-abbrev pub size_limit : ℕ
-size_limit = 2 ^ 16
-
-abbrev pub face_limit : ℕ
-face_limit = 2 ^ 22
-
-abbrev pub valence_of : ObjMesh → ℕ → ℕ
-valence_of mesh v = length (edges_of_point mesh.faces v)
-
--- the faces of too many corners, and the vertices of too many edges, ascending
-abbrev pub large_faces : ObjMesh → List (ℕ × Polygon)
-large_faces mesh = filter (λ face. nat_lt size_limit (length face.1)) (enumerate_from 0 mesh.faces)
-
-abbrev pub large_vertices : ObjMesh → List ℕ
-large_vertices mesh = filter (λ v. nat_lt size_limit (valence_of mesh v)) (range_with_len 0 (length mesh.points))
-
--- the faults of the counts of a mesh, in their order
-abbrev pub count_faults : ObjMesh → List Fault
-count_faults mesh =
-    fault_where (nat_lt mesh_limit (length mesh.points)) (TooLarge (Points (length mesh.points)))
-    ++ (fault_where (nat_lt mesh_limit (length mesh.faces)) (TooLarge (Faces (length mesh.faces)))
-    ++ (map (λ face. TooLarge (FaceSize face.0 (length face.1))) (large_faces mesh)
-    ++ map (λ v. TooLarge (Valence v (valence_of mesh v))) (large_vertices mesh)))
-
--- the levels from 1 to the depth that have too many faces
-abbrev pub level_count_faults : List Polygon → ℕ → List Fault
-level_count_faults polygons depth =
-    flat_map (λ k. fault_where (nat_lt face_limit (faces_after polygons (suc k))) (TooLarge (LevelFaces (suc k) (faces_after polygons (suc k))))) (range_with_len 0 depth)
 
 -- the coordinates of all points, and the coordinates of all texture values
 abbrev pub point_numbers : List (ℤ × ℤ × ℤ) → List ℤ

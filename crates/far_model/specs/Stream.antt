@@ -5,7 +5,7 @@ use Rattle.std.specs.List.{slice_split}
 use Rattle.subdiv_model.specs.Lists.{last_of}
 use Rattle.subdiv_model.specs.ObjLine.{is_lf}
 use Rattle.subdiv_model.specs.Fault.{Fault, Long}
-use Rattle.subdiv_model.specs.Refusal.{Answer, refused, answer_unless, then_answer}
+use Rattle.far_model.specs.Refusal.{Answer, refused, answer_unless, then_answer}
 
 -- What the lines of an input add, each after the lines before it.
 pub record LineRule : Type 0 where

@@ -1,10 +1,10 @@
 //! Examples of answers line by line, each proved by computing.
 
 ghost use Rattle.std.specs.Prelude.{◌≡◌, [], Some, None, codes};
-ghost use Rattle.subdiv_model.specs.Examples.{echo_rule};
+ghost use Rattle.far_model.specs.Examples.{echo_rule};
 ghost use Rattle.subdiv_model.specs.Fault.{Long, Obj};
 ghost use Rattle.subdiv_model.specs.ObjFault.{LongLine, UnknownKeyword};
-ghost use Rattle.subdiv_model.specs.Stream.{answer_of_lines, answer_so_far};
+ghost use Rattle.far_model.specs.Stream.{answer_of_lines, answer_so_far};
 
 /// What all bytes of an input add, and what the first of them add while more may come.
 pub fn lines_are_answered_one_by_one()

@@ -1,0 +1,6 @@
+pub mod Words
+pub mod Command
+pub mod Refusal
+pub mod Stream
+pub mod Answer
+pub mod Examples
