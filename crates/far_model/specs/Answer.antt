@@ -1,31 +1,29 @@
 -- What the program answers and writes, for all words and all bytes of its input.
 -- Source: this profile.
-use Rattle.std.specs.Prelude.{ℕ, ◌≡◌, suc, ◌^◌, ℤ, Bool, true, false, nat_lt, List, [], ◌∷◌, ◌++◌, length, map, Option, Some, None, Result, Ok, Err, codes, if◌then◌else◌}
-use Rattle.std.specs.List.{filter, flat_map, range_with_len, enumerate_from}
+use Rattle.std.specs.Prelude.{ℕ, ◌≡◌, ◌^◌, ℤ, Bool, nat_lt, List, [], ◌∷◌, ◌++◌, length, Option, Some, None, Result, Ok, Err, codes, if◌then◌else◌}
+use Rattle.std.specs.List.{flat_map}
 use Rattle.subdiv_model.specs.Lists.{first_of}
-use Rattle.subdiv_model.specs.Polygons.{Polygon}
-use Rattle.subdiv_model.specs.Edges.{edges_of_point}
 use Rattle.subdiv_model.specs.MeshFault.{MeshFault, first_mesh_fault}
 use Rattle.subdiv_model.specs.ObjFault.{ObjFault}
 use Rattle.subdiv_model.specs.ObjMesh.{ObjMesh}
-use Rattle.subdiv_model.specs.ReadObj.{read_obj_fault, read_obj_mesh}
+use Rattle.subdiv_model.specs.ReadObj.{read_obj_fault, read_obj_mesh, lines_fault, mesh_of_lines}
 use Rattle.subdiv_model.specs.Level.{Level}
 use Rattle.subdiv_model.specs.Base.{base_level}
-use Rattle.subdiv_model.specs.Child.{refined_level, faces_after}
+use Rattle.subdiv_model.specs.Child.{refined_level}
 use Rattle.subdiv_model.specs.Mask.{Scheme, CatmullClark, Linear}
 use Rattle.subdiv_model.specs.Value.{Value}
 use Rattle.subdiv_model.specs.Refined.{Point, refined_points, refined_texture}
 use Rattle.subdiv_model.specs.Support.{entries_after}
 use Rattle.subdiv_model.specs.Cut.{SeamMode, SmoothSeams, CornerSeams, BoundarySeams, cut_level, channel_values}
-use Rattle.subdiv_model.specs.Channel.{Channel, Asked, Sharpnesses, Values, Tables, greatest_amount, greatest_denominator, fault_where, channel_faults}
+use Rattle.subdiv_model.specs.Channel.{Channel, Asked, Sharpnesses, Values, Tables, greatest_amount, greatest_denominator, channel_faults}
 use Rattle.subdiv_model.specs.Generator.{generated_mesh}
-use Rattle.far_model.specs.Command.{Command, Reads, Makes, Streams, ReadCommand, Refine, Stencils, Levels, MakeCommand, Gen, StreamCommand, RefineOptions, Uv, SmoothUv, CornersUv, BoundariesUv, LinearUv, By, ByTable, ByLevel, read_words}
+use Rattle.far_model.specs.Command.{Command, Reads, Makes, Streams, ReadCommand, Refine, Stencils, Levels, MakeCommand, Gen, StreamCommand, RefineOptions, FramesOptions, Uv, SmoothUv, CornersUv, BoundariesUv, LinearUv, By, ByTable, ByLevel, read_words}
 use Rattle.subdiv_model.specs.Limits.{count_faults, level_count_faults}
-use Rattle.subdiv_model.specs.Fault.{Fault, Usage, Long, Obj, Mesh, TooLarge, Points, Faces, FaceSize, Valence, LevelFaces, Positions, Texture}
+use Rattle.subdiv_model.specs.Fault.{Fault, Usage, Long, Obj, Mesh, Positions, Texture}
 use Rattle.far_model.specs.Refusal.{Answer, refused, answer_unless}
 use Rattle.far_model.specs.Stream.{LineRule, answer_of_lines}
-use Rattle.subdiv_model.specs.NumberText.{number_text, value_text}
-use Rattle.subdiv_model.specs.Text.{line_text, mesh_text, textured_mesh_text, tags_text}
+use Rattle.subdiv_model.specs.NumberText.{number_text}
+use Rattle.subdiv_model.specs.Text.{line_text, point_words, mesh_text, textured_mesh_text, tags_text}
 use Rattle.subdiv_model.specs.LevelText.{levels_text}
 use Rattle.subdiv_model.specs.TableText.{table_text}
 
@@ -127,9 +125,6 @@ generated_level_line depth level channel =
     ∷ codes "den" ∷ number_text (greatest_denominator channel depth)
     ∷ [])
 
-abbrev pub point_words : Point → List (List ℕ)
-point_words point = value_text point.0 ∷ value_text point.1 ∷ value_text point.2 ∷ []
-
 -- the line of the last point
 abbrev pub last_line : List Point → List ℕ
 last_line [] = []
@@ -170,6 +165,14 @@ answer_of_bytes command bytes =
 -- a mesh that the program makes by itself is accepted unread
 abbrev pub answer_of_made : MakeCommand → Answer
 answer_of_made command = answer_unless (first_of (count_faults (made_mesh command) ++ made_faults command)) (made_text command)
+
+-- what is refused of the lines of a mesh whose points are moved: what `stencils` refuses
+abbrev pub frames_refusal : FramesOptions → List (List (List ℕ)) → Option Fault
+frames_refusal options lines = (answer_of_read (Stencils options.depth) (lines_fault lines options.scale) (mesh_of_lines lines options.scale)).refusal
+
+-- the mesh, by its lines
+abbrev pub frames_mesh : FramesOptions → List (List (List ℕ)) → ObjMesh
+frames_mesh options lines = mesh_of_lines lines options.scale
 
 -- what each line of an input adds under a command that answers while it reads
 abbrev pub rule_of : StreamCommand → LineRule

@@ -31,6 +31,11 @@ pub record GenOptions : Type 0 where
   pub size : ℕ
   pub depth : ℕ
 
+-- how the points of a mesh are moved: the depth, and a power of ten that divides their common denominator
+pub record FramesOptions : Type 0 where
+  pub depth : ℕ
+  pub scale : ℕ
+
 -- the commands that read a mesh and then answer
 pub data ReadCommand : Type 0 where
   Refine : RefineOptions → ReadCommand

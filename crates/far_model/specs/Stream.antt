@@ -1,6 +1,6 @@
 -- The answers of a command that answers while it reads, line by line.
 -- Source: this profile.
-use Rattle.std.specs.Prelude.{ℕ, nat_lt, List, [], ◌∷◌, ◌++◌, length, take, Option, Some, None, if◌then◌else◌}
+use Rattle.std.specs.Prelude.{ℕ, nat_lt, List, [], ◌∷◌, ◌++◌, length, take, Option, if◌then◌else◌}
 use Rattle.std.specs.List.{slice_split}
 use Rattle.subdiv_model.specs.Lists.{last_of}
 use Rattle.subdiv_model.specs.ObjLine.{is_lf}

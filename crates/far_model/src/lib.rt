@@ -6,5 +6,6 @@
 #![tactic(auto)]
 
 pub mod answers;
+pub mod frames;
 pub mod streams;
 pub mod words;

@@ -14,7 +14,8 @@ use Rattle.subdiv_model.specs.Support.{entries_after}
 use Rattle.subdiv_model.specs.Channel.{greatest_denominator}
 use Rattle.subdiv_model.specs.NumberText.{number_text, value_text}
 use Rattle.subdiv_model.specs.Text.{line_text}
-use Rattle.far_model.specs.Answer.{points_after, positions_of, point_words, last_line, generated_text}
+use Rattle.far_model.specs.Answer.{points_after, positions_of, last_line, generated_text}
+use Rattle.subdiv_model.specs.Text.{point_words}
 use Rattle.far_text.specs.Points.{CanBeWritten, IsSamePoint, HasDenominators, point_of, points_of}
 use Rattle.far_text.proofs.SameTextLemmas.{value-same, written-denominators}
 use Rattle.far_text.specs.declared.summary.Summary.{Summary}

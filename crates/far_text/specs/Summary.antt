@@ -3,7 +3,7 @@
 use Rattle.std.specs.Prelude.{ℕ, List, [], ◌∷◌, ◌++◌, codes}
 use Rattle.subdiv_model.specs.NumberText.{number_text}
 use Rattle.subdiv_model.specs.Text.{line_text}
-use Rattle.far_model.specs.Answer.{point_words}
+use Rattle.subdiv_model.specs.Text.{point_words}
 use Rattle.far_text.specs.Points.{CanBeWritten, point_of}
 use Rattle.ratio128.specs.declared.valued.Valued.{Valued}
 use Rattle.ratio128.specs.declared.point.Point3.{Point3}

@@ -1,5 +1,5 @@
 -- Control numbers, creases and terms of masks on the small meshes, for the examples.
-use Rattle.std.specs.Prelude.{ℕ, ◌^◌, ℤ, pos, negsuc, List, [], ◌∷◌, ◌++◌, map, get_or, None}
+use Rattle.std.specs.Prelude.{ℕ, ◌^◌, ℤ, pos, negsuc, List, [], ◌∷◌, ◌++◌, map}
 use Rattle.subdiv_model.specs.Level.{Level}
 use Rattle.subdiv_model.specs.ObjMesh.{ObjMesh}
 use Rattle.subdiv_model.specs.Base.{base_level}
@@ -8,10 +8,7 @@ use Rattle.subdiv_model.specs.Refined.{control_values, refined_values}
 use Rattle.subdiv_model.specs.Channel.{Channel}
 use Rattle.subdiv_model.specs.Examples.{fine_cube}
 use Rattle.subdiv_model.specs.NumberText.{value_text}
-use Rattle.subdiv_model.specs.Text.{refined_text, texture_line}
-use Rattle.subdiv_model.specs.ReadObj.{read_obj_mesh}
-use Rattle.subdiv_model.specs.Value.{whole_value}
-use Rattle.subdiv_model.specs.ExampleTexts.{seamed_text}
+use Rattle.subdiv_model.specs.Text.{refined_text}
 use Rattle.subdiv_model.specs.Sharpness.{Sharpness, Infinite, Chaikin}
 
 -- the cube's coordinates in x and in z

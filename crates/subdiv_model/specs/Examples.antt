@@ -1,5 +1,5 @@
 -- Small meshes for the examples.
-use Rattle.std.specs.Prelude.{ℕ, ◌+◌, ◌^◌, ℤ, pos, Bool, false, true, nat_eq, nat_lt, List, [], ◌∷◌, ◌++◌, length, take, drop, replicate, Some, None, codes, if◌then◌else◌}
+use Rattle.std.specs.Prelude.{ℕ, ◌^◌, ℤ, pos, false, true, List, [], ◌∷◌, ◌++◌, take, drop, replicate}
 use Rattle.subdiv_model.specs.Polygons.{Polygon}
 use Rattle.subdiv_model.specs.Sharpness.{Sharpness, Semi, Method, Normal, Chaikin}
 use Rattle.subdiv_model.specs.Level.{Level, plain_level}
@@ -7,9 +7,6 @@ use Rattle.subdiv_model.specs.Boundary.{Boundary, EdgeOnly}
 use Rattle.subdiv_model.specs.ObjMesh.{ObjMesh}
 use Rattle.subdiv_model.specs.Base.{base_level}
 use Rattle.subdiv_model.specs.Generator.{sheet_faces}
-use Rattle.subdiv_model.specs.NumberText.{number_text}
-use Rattle.subdiv_model.specs.ObjFault.{UnknownKeyword, LongLine}
-use Rattle.subdiv_model.specs.Fault.{Obj}
 
 -- four triangles round four points
 abbrev pub tetrahedron : List Polygon

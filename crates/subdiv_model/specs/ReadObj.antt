@@ -169,9 +169,13 @@ lesser_fault (Some fault) (Some other) = if nat_lt other.line fault.line then So
 abbrev pub first_late_fault : ℕ → List (List (List ℕ)) → Option ObjFault
 first_late_fault least lines = lesser_fault (late_fault is_vertex_line (10 ^ least) lines) (late_fault is_texture_line 1 lines)
 
--- the fault of a text, read with a common denominator of the positions that is a multiple of `10^least`
+-- the fault of lines, read with a common denominator of the positions that is a multiple of `10^least`
+abbrev pub lines_fault : List (List (List ℕ)) → ℕ → Option ObjFault
+lines_fault lines least = option_or (first_bad_line lines) (first_late_fault least lines)
+
+-- the fault of a text
 abbrev pub read_obj_fault : List ℕ → ℕ → Option ObjFault
-read_obj_fault text least = option_or (first_bad_line (obj_lines text)) (first_late_fault least (obj_lines text))
+read_obj_fault text least = lines_fault (obj_lines text) least
 
 -- a point over a common denominator, and a texture value, whose second coordinate is 0 where it is missing
 abbrev pub point_over : ℕ → List (List ℕ) → ℤ × ℤ × ℤ

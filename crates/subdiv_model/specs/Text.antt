@@ -10,11 +10,15 @@ use Rattle.subdiv_model.specs.Value.{Value}
 use Rattle.subdiv_model.specs.Child.{refined_level}
 use Rattle.subdiv_model.specs.Mask.{Scheme}
 use Rattle.subdiv_model.specs.Refined.{Point, refined_points}
-use Rattle.subdiv_model.specs.NumberText.{number_text, ratio_text, value_text_with}
+use Rattle.subdiv_model.specs.NumberText.{number_text, ratio_text, value_text, value_text_with}
 
 -- a keyword, and each word after one space
 abbrev pub line_text : List ℕ → List (List ℕ) → List ℕ
 line_text keyword words = keyword ++ (flat_map (λ word. 32 ∷ word) words ++ (10 ∷ []))
+
+-- the coordinates of a point in lowest terms
+abbrev pub point_words : Point → List (List ℕ)
+point_words point = value_text point.0 ∷ value_text point.1 ∷ value_text point.2 ∷ []
 
 -- a point, in lowest terms or rounded to the decimals that are given
 abbrev pub point_line : Option ℕ → Point → List ℕ
