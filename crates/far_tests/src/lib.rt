@@ -28,6 +28,8 @@ mod limits;
 #[cfg(test)]
 mod lines;
 #[cfg(test)]
+mod marks;
+#[cfg(test)]
 mod meshes;
 #[cfg(test)]
 mod numbers;
