@@ -1,2 +1,5 @@
+pub mod BufferLemmas
 pub mod BytesLemmas
+pub mod LfLemmas
+pub mod LineLemmas
 pub mod PieceLemmas

@@ -1,5 +1,5 @@
 -- What one call of a source or a sink does to its bytes and to its count of faults.
-use Rattle.std.specs.Prelude.{ℕ, ◌≡◌, ◌-◌, ◌^◌, ◌<◌, ◌≤◌, ◌⊎◌, List, [], ◌++◌, length, take, Option, Some, None}
+use Rattle.std.specs.Prelude.{ℕ, ◌≡◌, ◌-◌, ◌^◌, ◌<◌, ◌≤◌, ◌⊎◌, List, [], ◌∷◌, ◌++◌, length, take, Option, Some, None}
 
 -- the count of faults rose, or stands at its end
 abbrev pub Rose : ℕ → ℕ → Type 0
@@ -12,9 +12,12 @@ Took (Some old) None bytes = ⊥
 Took None (Some new) bytes = ⊥
 Took None None bytes = Unit {0}
 
--- some prefix was taken; one of more than so many bytes; and one of at most so many
+-- some prefix was taken; one byte; a prefix of more than so many bytes; and one of at most so many
 abbrev pub TookPrefix : Option (List ℕ) → Option (List ℕ) → Type 0
 TookPrefix old new = (taken : List ℕ) × Took old new taken
+
+abbrev pub TookOne : Option (List ℕ) → Option (List ℕ) → Type 0
+TookOne old new = (byte : ℕ) × Took old new (byte ∷ [])
 
 abbrev pub TookMore : ℕ → Option (List ℕ) → Option (List ℕ) → Type 0
 TookMore bound old new = (taken : List ℕ) × Took old new taken × (bound < length taken)

@@ -1,4 +1,6 @@
+pub mod Buffer
 pub mod Bytes
+pub mod Lines
 pub mod Memory
 pub mod Standard
 pub mod Faults

@@ -5,7 +5,10 @@
 //! a contract that ties a fault to it refuses a body that gives up without one.
 #![tactic(auto)]
 
+mod buffer;
+mod lines;
 mod memory;
+mod part;
 mod plan;
 mod sink;
 mod source;
@@ -13,6 +16,7 @@ mod standard;
 mod store;
 mod sure;
 
+pub use lines::{LineReader, NextLine};
 pub use memory::{MemSink, MemSource};
 pub use sink::{Sink, WriteFailed, write_all_of};
 pub use source::{InputFault, ReadFailed, Source, read_all};

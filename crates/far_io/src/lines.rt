@@ -1,0 +1,165 @@
+ghost use Rattle.std.specs.Prelude.{◌≡◌, ℕ, ◌^◌, ◌<◌, ◌≤◌, List, [], length, Option, IfOk, Ok, Some, true, false};
+ghost use Rattle.far_io.specs.Bytes.{Took, IsDry};
+ghost use Rattle.std.specs.List.{list_any};
+ghost use Rattle.far_io.specs.Lines.{is_lf, LineInput, HasNoLf, IsNext, IsCounted, ReadsLine, ReadsOn, ReadsMore};
+
+use crate::buffer::LineBuffer;
+use crate::part::has_more;
+use crate::{ReadFailed, Source};
+use ratio128::Memory;
+use std::alloc::Global;
+use std::marker::Model;
+
+/// What a reader of lines found next.
+#[derive(Clone, Copy, Debug, PartialEq, Eq)]
+pub enum NextLine {
+    /// A line that LF closes.
+    Closed,
+    /// The input ended, and the line is all that came after the last LF. It is not empty.
+    Last,
+    /// The input ended, and there is no line.
+    End,
+    /// As many bytes as the reader holds came without LF.
+    Full,
+    /// More bytes came than are allowed.
+    Long,
+}
+
+/// A reader of lines of a bounded length.
+///
+/// It takes all its memory when it is made. It reads only where no LF is pending.
+#[derive(Drop)]
+pub struct LineReader {
+    buffer: LineBuffer,
+    allowed: usize,
+}
+
+impl Model for LineReader {
+    ghost use Rattle.std.specs.List.{list_any};
+    ghost use Rattle.far_io.specs.Lines.{is_lf, LineInput};
+
+    ghost Value = { LineInput };
+
+    ghost view = { λ r. record { line = r.buffer.line; pending = r.buffer.pending; room = r.buffer.room; allowed = r.allowed } };
+}
+
+impl LineReader {
+    /// A reader that holds up to `room` bytes of one line, with its LF, and to which up to `allowed` bytes may come.
+    ///
+    /// The bytes of `first` were read before, and are not counted. The room is from 1 to 2^20 and not below the length of
+    /// `first`, and `allowed` is at most 2^32. `Memory` is returned where memory ran out.
+    pub fn new(
+        alloc: Global,
+        room: usize,
+        first: &[u8],
+        allowed: usize,
+    ) -> Result<LineReader, Memory>
+        requires some { 0 < room }
+        requires small { room ≤ 2 ^ 20 }
+        requires first { length first.now ≤ room }
+        requires allowed { allowed ≤ 2 ^ 32 }
+        ensures line { IfOk result (λ r. r.line ≡ []) }
+        ensures pending { IfOk result (λ r. r.pending ≡ first.now) }
+        ensures room { IfOk result (λ r. r.room ≡ room) }
+        ensures allowed { IfOk result (λ r. r.allowed ≡ allowed) }
+    {
+        let buffer = LineBuffer::new(alloc, room, first)?;
+        Ok(LineReader { buffer, allowed })
+    }
+
+    /// The line that it stands at, without its LF.
+    pub fn line(&self) -> &[u8]
+        ensures { result.now ≡ self.now.line }
+    {
+        self.buffer.line()
+    }
+
+    /// Moves on to the next line, and takes no memory.
+    ///
+    /// A line whose LF is pending is returned without a read. `Full` and `Long` drop no byte that is pending, and neither
+    /// does `ReadFailed`, which is returned only where the source's count of faults rose. The byte after the last allowed
+    /// one is read and dropped by `Long`.
+    pub fn next<S: Source>(&mut self, source: &mut S) -> Result<NextLine, ReadFailed>
+        ensures reads { ReadsLine S.Source self.old self.new source.old source.new result }
+        ensures still { list_any is_lf self.old.pending ≡ true → source.new ≡ source.old }
+    {
+        if self.buffer.close() {
+            return Ok(NextLine::Closed);
+        }
+        self.read_line(source)
+    }
+
+    // Reads up to the end of the line.
+    fn read_line<S: Source>(&mut self, source: &mut S) -> Result<NextLine, ReadFailed>
+        requires plain { HasNoLf self.old.pending }
+        requires line { self.old.line ≡ [] }
+        ensures { ReadsLine S.Source self.old self.new source.old source.new result }
+    {
+        loop {
+            if let Some(found) = self.read_more(source)? {
+                return Ok(found);
+            }
+        }
+    }
+
+    // Reads once, where there is room.
+    fn read_more<S: Source>(&mut self, source: &mut S) -> Result<Option<NextLine>, ReadFailed>
+        requires plain { HasNoLf self.old.pending }
+        requires line { self.old.line ≡ [] }
+        ensures { ReadsMore S.Source self.old self.new source.old source.new result }
+    {
+        if self.buffer.is_full() {
+            return Ok(Some(NextLine::Full));
+        }
+        if self.allowed == 0 {
+            return self.past_bound(source);
+        }
+        self.read_some(source)
+    }
+
+    // Reads once behind what is pending.
+    fn read_some<S: Source>(&mut self, source: &mut S) -> Result<Option<NextLine>, ReadFailed>
+        requires plain { HasNoLf self.old.pending }
+        requires room { length self.old.pending < self.old.room }
+        requires some { 0 < self.old.allowed }
+        ensures { ReadsMore S.Source self.old self.new source.old source.new result }
+    {
+        let n = self.buffer.fill(source, self.allowed)?;
+        self.allowed -= n;
+        if n == 0 {
+            return Ok(Some(self.ended()));
+        }
+        if self.buffer.close() {
+            return Ok(Some(NextLine::Closed));
+        }
+        Ok(None)
+    }
+
+    // Reads one byte, which is one too many.
+    fn past_bound<S: Source>(&mut self, source: &mut S) -> Result<Option<NextLine>, ReadFailed>
+        requires plain { HasNoLf self.old.pending }
+        requires line { self.old.line ≡ [] }
+        requires room { length self.old.pending < self.old.room }
+        requires none { self.old.allowed ≡ 0 }
+        ensures { ReadsMore S.Source self.old self.new source.old source.new result }
+    {
+        if has_more(source)? {
+            return Ok(Some(NextLine::Long));
+        }
+        Ok(Some(self.ended()))
+    }
+
+    // What is found where the input has ended.
+    fn ended(&mut self) -> NextLine
+        requires { HasNoLf self.old.pending }
+        ensures next { (left : Option (List ℕ)) → IsDry left → IsNext self.old self.new [] left (Ok result) }
+        ensures counted { IsCounted self.old.allowed self.new.allowed [] (Ok result) }
+        ensures room { self.new.room ≡ self.old.room }
+    {
+        if self.buffer.finish() {
+            NextLine::Last
+        } else {
+            NextLine::End
+        }
+    }
+}
