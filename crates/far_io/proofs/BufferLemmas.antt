@@ -1,5 +1,5 @@
 -- What stands where in a buffer, after each of its changes.
-use Rattle.std.proofs.Common.{◌≡◌, ℕ, ◌+◌, ◌-◌, ◌<◌, ◌≤◌, false, List, [], ◌∷◌, ◌++◌, length, take, drop, Option, Some, None, Result, Ok, Err, IsErr, arith, refl, sym, ap, ◌∙◌, subst, length-drop, length-take}
+use Rattle.std.proofs.Common.{◌≡◌, ℕ, ◌+◌, ◌-◌, ◌<◌, ◌≤◌, List, ◌∷◌, ◌++◌, length, take, drop, Some, None, Result, Ok, Err, IsErr, arith, sym, ap, ◌∙◌, subst, length-drop}
 use Rattle.std.specs.List.{position, list_any}
 use Rattle.std.proofs.Math.Seq.{take-add}
 use Rattle.std.proofs.lemmas.List.{take-take, take_all, take-append-le, drop-take, drop-drop, length-take-le}

@@ -1,5 +1,5 @@
 -- The first LF of a list.
-use Rattle.std.proofs.Common.{◌≡◌, ℕ, zero, suc, ◌+◌, ◌-◌, ◌<◌, ◌≤◌, Bool, true, false, cond, nat_lt, nat_eq, List, [], ◌∷◌, ◌++◌, length, get_or, take, drop, Option, Some, None, arith, refl, sym, ap, ◌∙◌, length-drop, length-take}
+use Rattle.std.proofs.Common.{◌≡◌, ℕ, zero, suc, ◌+◌, ◌<◌, ◌≤◌, Bool, true, false, cond, List, [], ◌∷◌, ◌++◌, length, get_or, take, drop, Some, None, arith, refl, sym, ap, ◌∙◌, length-drop, length-take}
 use Rattle.std.specs.List.{All, position, position_or_len, list_any}
 use Rattle.std.proofs.lemmas.Bool.{ltb-false}
 use Rattle.std.proofs.lemmas.Bool.Decides.{nat_tests}
@@ -53,6 +53,12 @@ some-or false place e = refl
 -- none was found
 pub has-none : (xs : List ℕ) → position is_lf xs ≡ None → HasNoLf xs
 has-none xs e = list_any_none is_lf xs (none-passes is_lf xs (ltb-false (position_or_len is_lf xs) (length xs) (some-or _ _ e)))
+
+-- LF stands at the place that was found
+pub lf-at : (xs : List ℕ) (k : ℕ) → position is_lf xs ≡ Some k → get_or xs k 0 ≡ 10
+lf-at xs k e =
+    let at = position-Some is_lf xs k 0 e in
+    grind (arith, nat_tests, at.1)
 
 -- the first was found at k
 pub found-at : (xs : List ℕ) (k : ℕ) → position is_lf xs ≡ Some k → (k < length xs) × IsClosed xs (take k xs) (drop (k + 1) xs)

@@ -3,3 +3,4 @@ pub mod BytesLemmas
 pub mod LfLemmas
 pub mod LineLemmas
 pub mod PieceLemmas
+pub mod TextLemmas

@@ -1,9 +1,9 @@
 -- One read of a reader of lines after another.
-use Rattle.std.proofs.Common.{◌≡◌, ℕ, ◌+◌, ◌-◌, ◌^◌, ◌<◌, ◌≤◌, ◌⊎◌, inl, inr, false, List, [], ◌∷◌, ◌++◌, length, Option, Some, None, Result, Ok, Err, IsErr, OnErr, arith, refl, sym, ap, ◌∙◌, subst, append_assoc, append-nil, length-append}
-use Rattle.far_io.specs.Bytes.{Rose, Took, IsDry}
+use Rattle.std.proofs.Common.{◌≡◌, ℕ, ◌+◌, ◌≤◌, inl, inr, List, [], ◌++◌, length, Option, Some, None, Result, Ok, Err, IsErr, OnErr, arith, refl, sym, ap, ◌∙◌, subst, append_assoc, append-nil, length-append}
+use Rattle.far_io.specs.Bytes.{Rose, Took}
 use Rattle.std.proofs.lemmas.List.{nil_from_length}
 use Rattle.far_io.specs.Buffer.{BufferedLine, FillsBy}
-use Rattle.far_io.specs.Lines.{LineInput, HasNoLf, IsNext, IsCounted, ReadsLine, ReadsOn, ReadsMore}
+use Rattle.far_io.specs.Lines.{LineInput, HasNoLf, IsNext, IsCounted, ReadsLine, ReadsOn}
 use Rattle.far_io.specs.declared.source.ReadFailed.{ReadFailed}
 use Rattle.far_io.specs.declared.source.Source.{Ghosts}
 use Rattle.far_io.specs.declared.lines.NextLine.{NextLine}
@@ -14,12 +14,12 @@ pub Took-none : (left : Option (List ℕ)) → Took left left []
 Took-none (Some left) = refl
 Took-none None = tt
 
-rose-later : (start old new : ℕ) → start ≤ old → Rose old new → Rose start new
+pub rose-later : (start old new : ℕ) → start ≤ old → Rose old new → Rose start new
 rose-later start old new later (inl rose) = inl (omega (arith, later, rose))
 rose-later start old new later (inr end) = inr end
 
 -- what was pending at first, and all that came
-joined : (first pending bytes more : List ℕ) → pending ≡ first ++ bytes → first ++ (bytes ++ more) ≡ pending ++ more
+pub joined : (first pending bytes more : List ℕ) → pending ≡ first ++ bytes → first ++ (bytes ++ more) ≡ pending ++ more
 joined first pending bytes more kept = sym (append_assoc first bytes more) ∙ ap (λ r. r ++ more) (sym kept)
 
 module _ (a b c : LineInput) (bytes more : List ℕ) (left : Option (List ℕ)) (kept : b.pending ≡ a.pending ++ bytes) where

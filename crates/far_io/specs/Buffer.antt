@@ -1,5 +1,5 @@
 -- A line and what came after it, in a buffer of a fixed length.
-use Rattle.std.specs.Prelude.{ℕ, ◌≡◌, ◌+◌, ◌≤◌, List, ◌++◌, length, take, drop, Option, Result, Ok, Err}
+use Rattle.std.specs.Prelude.{ℕ, ◌≡◌, ◌+◌, ◌≤◌, List, ◌++◌, length, take, drop, Result, Ok, Err}
 use Rattle.far_io.specs.Bytes.{Took, IsDry, Rose}
 use Rattle.far_io.specs.Lines.{HasNoLf}
 use Rattle.far_io.specs.declared.source.ReadFailed.{ReadFailed}

@@ -3,6 +3,7 @@ pub mod Bytes
 pub mod Lines
 pub mod Memory
 pub mod Standard
+pub mod Text
 pub mod Faults
 pub mod Reads
 pub mod Writes

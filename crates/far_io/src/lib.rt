@@ -15,6 +15,7 @@ mod source;
 mod standard;
 mod store;
 mod sure;
+mod text;
 
 pub use lines::{LineReader, NextLine};
 pub use memory::{MemSink, MemSource};
@@ -22,3 +23,4 @@ pub use sink::{Sink, WriteFailed, write_all_of};
 pub use source::{InputFault, ReadFailed, Source, read_all};
 pub use standard::{StdSink, StdSource};
 pub use sure::{SureSink, SureSource};
+pub use text::{NextText, TextReader};

@@ -46,18 +46,15 @@ impl Model for LineReader {
 impl LineReader {
     /// A reader that holds up to `room` bytes of one line, with its LF, and to which up to `allowed` bytes may come.
     ///
-    /// The bytes of `first` were read before, and are not counted. The room is from 1 to 2^20 and not below the length of
-    /// `first`, and `allowed` is at most 2^32. `Memory` is returned where memory ran out.
+    /// The bytes of `first` were read before, and are not counted. The room is not below the length of `first`.
+    /// `Memory` is returned where memory ran out.
     pub fn new(
         alloc: Global,
         room: usize,
         first: &[u8],
         allowed: usize,
     ) -> Result<LineReader, Memory>
-        requires some { 0 < room }
-        requires small { room ≤ 2 ^ 20 }
-        requires first { length first.now ≤ room }
-        requires allowed { allowed ≤ 2 ^ 32 }
+        requires { length first.now ≤ room }
         ensures line { IfOk result (λ r. r.line ≡ []) }
         ensures pending { IfOk result (λ r. r.pending ≡ first.now) }
         ensures room { IfOk result (λ r. r.room ≡ room) }

@@ -1,4 +1,4 @@
-use Rattle.std.proofs.Common.{◌+◌, ◌++◌, length, take, drop, arith, ap, sym, ◌∙◌, length-drop, length-take}
+use Rattle.std.proofs.Common.{◌+◌, ◌++◌, length, take, drop, arith, ap, ◌∙◌, length-drop}
 use Rattle.std.proofs.lemmas.List.{length-take-le}
 use Rattle.far_io.specs.Buffer.{BufferedLine}
 use Rattle.far_io.proofs.BufferLemmas.{placed-grown, pending-kept, pending-grown, fills-failed}

@@ -1,5 +1,3 @@
-use Rattle.std.proofs.Common.{Ok, subst}
-use Rattle.far_io.specs.Lines.{ReadsMore}
 use Rattle.far_io.proofs.LineLemmas.{on-line, failed-any}
 use Rattle.far_io.proofs.lines.LineReader.read_line.Goals as goal
 

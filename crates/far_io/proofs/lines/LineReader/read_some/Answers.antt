@@ -1,4 +1,4 @@
-use Rattle.std.proofs.Common.{◌+◌, arith, ap, sym, refl, ◌∙◌}
+use Rattle.std.proofs.Common.{arith, ap, refl, ◌∙◌}
 use Rattle.far_io.specs.Lines.{LineInput}
 use Rattle.far_io.proofs.LineLemmas.{Took-none, ends-now, none-came, on-line}
 use Rattle.far_io.proofs.lines.LineReader.read_some.Goals as goal

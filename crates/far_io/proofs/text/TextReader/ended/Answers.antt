@@ -1,0 +1,7 @@
+use Rattle.std.proofs.Common.{ap, ◌∙◌}
+use Rattle.far_io.specs.Text.{passed}
+use Rattle.far_io.proofs.TextLemmas.{before-place}
+use Rattle.far_io.proofs.text.TextReader.ended.Goals as goal
+
+pub returns-clause-before : goal.returns-clause-before
+returns-clause-before c = before-place _ _ _ _ _ c.self.invariant ∙ ap passed c.self.view_is
