@@ -28,9 +28,9 @@ rest-part at k count bytes h =
     ap (λ n. drop k (take n (drop at bytes))) (sym split) ∙ drop-take k (count - k) (drop at bytes) ∙ ap (take (count - k)) (drop-drop k at bytes)
 
 -- where no LF was found, all that is pending is known
-pub placed-plain : (bytes pending : List ℕ) (start size from count searched : ℕ) → IsPlaced bytes start size from count searched →
+pub placed-plain : {bytes pending : List ℕ} {start size from count searched : ℕ} → IsPlaced bytes start size from count searched →
     part from count bytes ≡ pending → None ≡ position is_lf pending → IsPlaced bytes start 0 from count count × HasNoLf (part from count bytes)
-placed-plain bytes pending start size from count searched p same none =
+placed-plain {bytes} {pending} {start} {size} {from} {count} {searched} p same none =
     let plain = has-none (part from count bytes) (ap (position is_lf) same ∙ sym none) in (
       record {
         line_in = omega (arith, p.line_in);
@@ -42,10 +42,10 @@ placed-plain bytes pending start size from count searched p same none =
     )
 
 -- where one was found, the line and what came after it
-pub placed-closed : (bytes pending : List ℕ) (start size from count searched k : ℕ) → IsPlaced bytes start size from count searched →
+pub placed-closed : {bytes pending : List ℕ} {start size from count searched k : ℕ} → IsPlaced bytes start size from count searched →
     part from count bytes ≡ pending → Some k ≡ position is_lf pending →
     (k < count) × IsClosed pending (part from k bytes) (part (from + (k + 1)) (count - (k + 1)) bytes)
-placed-closed bytes pending start size from count searched k p same found =
+placed-closed {bytes} {pending} {start} {size} {from} {count} {searched} {k} p same found =
     let at = found-at (part from count bytes) k (ap (position is_lf) same ∙ sym found) in
     let below : k < count = omega (arith, at.0, length-part from count bytes p.pending_in) in
     let line = part-part from k count bytes (omega (arith, below)) in

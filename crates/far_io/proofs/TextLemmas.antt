@@ -17,9 +17,9 @@ use Rattle.far_io.proofs.LfLemmas.{has-none, found-at, lf-at}
 use Rattle.far_io.proofs.LineLemmas.{Took-none, rose-later, joined}
 
 -- all before a place is what stands before the line, the line, and its end
-pub before-place : (bytes : List ℕ) (start size from searched : ℕ) → IsTextPlaced bytes start size from searched →
+pub before-place : {bytes : List ℕ} {start size from searched : ℕ} → IsTextPlaced bytes start size from searched →
     take from bytes ≡ take start bytes ++ (part start size bytes ++ part (start + size) (from - (start + size)) bytes)
-before-place bytes start size from searched placed =
+before-place {bytes} {start} {size} {from} {searched} placed =
     let end : from - (start + size) + (start + size) ≡ from = omega (arith, placed.line_in) in
     ap (λ n. take n bytes) (omega (arith, end))
     ∙ take-add start (size + (from - (start + size))) bytes
@@ -27,9 +27,9 @@ before-place bytes start size from searched placed =
     ∙ ap (λ r. take start bytes ++ (part start size bytes ++ take (from - (start + size)) r)) (drop-drop size start bytes)
 
 -- where no LF was found, all that is pending is known
-pub text-plain : (bytes pending : List ℕ) (start size from searched all : ℕ) → IsTextPlaced bytes start size from searched → drop from bytes ≡ pending →
+pub text-plain : {bytes pending : List ℕ} {start size from searched all : ℕ} → IsTextPlaced bytes start size from searched → drop from bytes ≡ pending →
     None ≡ position is_lf pending → all ≡ length bytes - from → IsTextPlaced bytes from 0 from all × HasNoLf (drop from bytes)
-text-plain bytes pending start size from searched all placed same none is =
+text-plain {bytes} {pending} {start} {size} {from} {searched} {all} placed same none is =
     let plain = has-none (drop from bytes) (ap (position is_lf) same ∙ sym none) in (
       record {
         line_in = omega arith;

@@ -1,5 +1,5 @@
 -- A line and what came after it, in a buffer of a fixed length.
-use Rattle.std.specs.Prelude.{ℕ, ◌≡◌, ◌+◌, ◌≤◌, List, ◌++◌, length, take, drop, Result, Ok, Err}
+use Rattle.std.specs.Prelude.{ℕ, ◌≡◌, ◌+◌, ◌-◌, ◌≤◌, List, ◌++◌, length, take, drop, Result, Ok, Err}
 use Rattle.far_io.specs.Bytes.{Took, IsDry, Rose}
 use Rattle.far_io.specs.Lines.{HasNoLf}
 use Rattle.far_io.specs.declared.source.ReadFailed.{ReadFailed}
@@ -16,6 +16,15 @@ pub record BufferedLine : Type 0 where
 -- so many of the bytes from a place on
 abbrev pub part : ℕ → ℕ → List ℕ → List ℕ
 part at count bytes = take count (drop at bytes)
+
+-- a line of so many bytes and what is pending, by the places where they begin
+abbrev pub buffered : (bytes : List ℕ) → (all start size from count : ℕ) → BufferedLine
+buffered bytes all start size from count = record {
+  line = part start size bytes;
+  pending = part from count bytes;
+  room = all;
+  space = all - (from + count);
+}
 
 -- what stands in which places of the buffer
 pub record IsPlaced (bytes : List ℕ) (start size from count searched : ℕ) : Type 0 where

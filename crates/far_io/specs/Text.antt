@@ -1,5 +1,6 @@
 -- What a reader of a text takes from a source, and what it finds.
-use Rattle.std.specs.Prelude.{ℕ, ◌≡◌, ◌+◌, ◌<◌, ◌≤◌, List, [], ◌∷◌, ◌++◌, length, take, drop, Option, Some, None, Result, Ok, Err}
+use Rattle.std.specs.Prelude.{ℕ, ◌≡◌, ◌+◌, ◌-◌, ◌<◌, ◌≤◌, List, [], ◌∷◌, ◌++◌, length, take, drop, Option, Some, None, Result, Ok, Err}
+use Rattle.far_io.specs.Buffer.{part}
 use Rattle.far_io.specs.Bytes.{Rose, Took, IsDry}
 use Rattle.far_io.specs.Lines.{HasNoLf, IsClosed}
 use Rattle.far_io.specs.declared.source.InputFault.{InputFault}
@@ -81,6 +82,16 @@ abbrev pub IsKept : List ℕ → TextInput → List ℕ → Result (Option NextT
 IsKept pending new piece (Ok (Some found)) = (left : Option (List ℕ)) → IsNextText pending new piece left (Ok found)
 IsKept pending new piece (Ok None) = IsPending pending new piece
 IsKept pending new piece (Err fault) = (fault ≡ Memory) × IsPending pending new []
+
+-- a line of so many bytes and what stands around it, by the places where they begin
+abbrev pub text_input : (bytes : List ℕ) → (start size from allowed : ℕ) → TextInput
+text_input bytes start size from allowed = record {
+  before = take start bytes;
+  line = part start size bytes;
+  end = part (start + size) (from - (start + size)) bytes;
+  pending = drop from bytes;
+  allowed = allowed;
+}
 
 -- what stands in which places of the text
 pub record IsTextPlaced (bytes : List ℕ) (start size from searched : ℕ) : Type 0 where

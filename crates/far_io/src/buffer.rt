@@ -24,12 +24,12 @@ pub(crate) struct LineBuffer {
 }
 
 impl Model for LineBuffer {
-    ghost use Rattle.std.specs.Prelude.{◌+◌, ◌-◌, ◌≤◌, ◌^◌, ◌≡◌, vec_len};
-    ghost use Rattle.far_io.specs.Buffer.{BufferedLine, IsPlaced, part};
+    ghost use Rattle.std.specs.Prelude.{vec_len};
+    ghost use Rattle.far_io.specs.Buffer.{BufferedLine, IsPlaced, buffered};
 
     ghost Value = { BufferedLine };
 
-    ghost view = { λ b. record { line = part b.start b.size b.bytes.items; pending = part b.from b.count b.bytes.items; room = vec_len b.bytes; space = vec_len b.bytes - (b.from + b.count) } };
+    ghost view = { λ b. buffered b.bytes.items (vec_len b.bytes) b.start b.size b.from b.count };
 
     ghost invariant = { λ b. IsPlaced b.bytes.items b.start b.size b.from b.count b.searched };
 }

@@ -7,7 +7,7 @@ ghost use Rattle.far_io.specs.Lines.{is_lf, HasNoLf};
 
 use crate::{ReadFailed, Source};
 
-// The place of the first LF. None stands before the place from which it is sought.
+// The place of the first LF, where none stands before the place from which it is sought.
 pub(crate) fn first_lf(bytes: &[u8], searched: usize) -> Option<usize>
     requires within { searched ≤ length bytes.now }
     requires plain { HasNoLf (take searched bytes.now) }
@@ -19,10 +19,11 @@ pub(crate) fn first_lf(bytes: &[u8], searched: usize) -> Option<usize>
     }
 }
 
+// The place of the first LF.
 fn lf_of(bytes: &[u8]) -> Option<usize>
     ensures { result ≡ position is_lf bytes.now }
 {
-    bytes.iter().position(|byte| *byte == 10)
+    bytes.iter().position(|byte| *byte == b'\n')
 }
 
 // Reads once, and puts at most so many bytes at the start of the piece.

@@ -37,13 +37,11 @@ pub struct TextReader {
 }
 
 impl Model for TextReader {
-    ghost use Rattle.std.specs.Prelude.{◌+◌, ◌-◌, take, drop};
-    ghost use Rattle.far_io.specs.Buffer.{part};
-    ghost use Rattle.far_io.specs.Text.{TextInput, IsTextPlaced};
+    ghost use Rattle.far_io.specs.Text.{TextInput, IsTextPlaced, text_input};
 
     ghost Value = { TextInput };
 
-    ghost view = { λ r. record { before = take r.start r.text.items; line = part r.start r.size r.text.items; end = part (r.start + r.size) (r.from - (r.start + r.size)) r.text.items; pending = drop r.from r.text.items; allowed = r.allowed } };
+    ghost view = { λ r. text_input r.text.items r.start r.size r.from r.allowed };
 
     ghost invariant = { λ r. IsTextPlaced r.text.items r.start r.size r.from r.searched };
 }

@@ -4,4 +4,4 @@ use Rattle.far_io.proofs.TextLemmas.{before-place}
 use Rattle.far_io.proofs.text.TextReader.ended.Goals as goal
 
 pub returns-clause-before : goal.returns-clause-before
-returns-clause-before c = before-place _ _ _ _ _ c.self.invariant ∙ ap passed c.self.view_is
+returns-clause-before c = before-place c.self.invariant ∙ ap passed c.self.view_is
