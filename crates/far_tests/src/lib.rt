@@ -38,6 +38,8 @@ mod numerals;
 #[cfg(test)]
 mod parts;
 #[cfg(test)]
+mod readers;
+#[cfg(test)]
 mod runs;
 #[cfg(test)]
 mod tables;
