@@ -1,0 +1,5 @@
+pub mod PartLemmas
+pub mod HandledLemmas
+pub mod BytesLemmas
+pub mod RefusedLemmas
+pub mod EndLemmas

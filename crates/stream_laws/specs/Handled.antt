@@ -1,0 +1,24 @@
+-- What a program that answers line by line has done with the lines so far.
+-- Source: this profile.
+use Rattle.std.specs.Prelude.{◌≡◌, ℕ, Bool, true, not, List, [], ◌∷◌, ◌++◌, None}
+use Rattle.std.specs.List.{list_any, list_all, flat_map}
+use Rattle.subdiv_model.specs.ObjLine.{is_lf}
+use Rattle.subdiv_model.specs.Refusal.{Answer}
+use Rattle.subdiv_model.specs.Stream.{LineRule, answer_from}
+
+-- a byte of them is LF
+abbrev pub has_lf : List ℕ → Bool
+has_lf bytes = list_any is_lf bytes
+
+-- each is without LF, so that LF can close it
+abbrev pub are_lines : List (List ℕ) → Bool
+are_lines lines = list_all (λ line. not (has_lf line)) lines
+
+-- lines, each closed by LF, as bytes
+abbrev pub text_of_lines : List (List ℕ) → List ℕ
+text_of_lines lines = flat_map (λ line. line ++ 10 ∷ []) lines
+
+-- the lines come to this text, and none is refused
+pub record IsHandled (rule : LineRule) (lines : List (List ℕ)) (text : List ℕ) : Type 0 where
+  pub closed : are_lines lines ≡ true
+  pub answered : answer_from rule (λ before. record { text = []; refusal = None }) [] lines ≡ record { text = text; refusal = None }
