@@ -3,3 +3,4 @@ pub mod HandledLemmas
 pub mod BytesLemmas
 pub mod RefusedLemmas
 pub mod EndLemmas
+pub mod StartLemmas

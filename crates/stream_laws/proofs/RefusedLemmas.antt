@@ -9,7 +9,7 @@ use Rattle.stream_laws.proofs.HandledLemmas.{after-nothing}
 use Rattle.stream_laws.proofs.BytesLemmas.{all-of, so-far-of, end-so-far, all-after, so-far-after, within, refused-either}
 
 -- bytes whose first line is refused
-first-refused : (rule : LineRule) (end : List (List ℕ) → Answer) (lines : List (List ℕ)) (line more : List ℕ) (fault : Fault) → has_lf line ≡ false
+pub first-refused : (rule : LineRule) (end : List (List ℕ) → Answer) (lines : List (List ℕ)) (line more : List ℕ) (fault : Fault) → has_lf line ≡ false
     → rule.line lines line ≡ refused fault → answer_from rule end lines (closed_of (line ++ 10 ∷ more)) ≡ refused fault
 first-refused rule end lines line more fault none is =
     ap (answer_from rule end lines) (first-closed line more none)
@@ -53,7 +53,7 @@ last-so-far rule lines line none =
     ap (λ last. answer_from rule (end-so-far rule last) lines (closed_of line)) (all-unclosed line none)
     ∙ ap (answer_from rule (end-so-far rule line) lines) (none-closed line none)
 
-last-refused : (rule : LineRule) (lines : List (List ℕ)) (line : List ℕ) (fault : Fault) → has_lf line ≡ false → 0 < length line
+pub last-refused : (rule : LineRule) (lines : List (List ℕ)) (line : List ℕ) (fault : Fault) → has_lf line ≡ false → 0 < length line
     → rule.line lines line ≡ refused fault → all-of rule lines line ≡ refused fault
 last-refused rule lines line fault none some is =
     last-of-all rule lines line none ∙ last-line rule lines line some ∙ ap (λ first. then_answer first (rule.end (lines ++ line ∷ []))) is

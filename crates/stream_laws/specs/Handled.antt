@@ -1,9 +1,10 @@
 -- What a program that answers line by line has done with the lines so far.
 -- Source: this profile.
-use Rattle.std.specs.Prelude.{◌≡◌, ℕ, Bool, true, not, List, [], ◌∷◌, ◌++◌, None}
+use Rattle.std.specs.Prelude.{◌≡◌, ℕ, Bool, true, not, List, [], ◌∷◌, ◌++◌, Some, None}
 use Rattle.std.specs.List.{list_any, list_all, flat_map}
 use Rattle.subdiv_model.specs.ObjLine.{is_lf}
-use Rattle.subdiv_model.specs.Refusal.{Answer}
+use Rattle.subdiv_model.specs.Fault.{Fault}
+use Rattle.subdiv_model.specs.Refusal.{Answer, refused}
 use Rattle.subdiv_model.specs.Stream.{LineRule, answer_from}
 
 -- a byte of them is LF
@@ -22,3 +23,8 @@ text_of_lines lines = flat_map (λ line. line ++ 10 ∷ []) lines
 pub record IsHandled (rule : LineRule) (lines : List (List ℕ)) (text : List ℕ) : Type 0 where
   pub closed : are_lines lines ≡ true
   pub answered : answer_from rule (λ before. record { text = []; refusal = None }) [] lines ≡ record { text = text; refusal = None }
+
+-- each line that begins with these bytes is refused, and so are the bytes themselves while nothing closes them
+pub record IsRefusedStart (rule : LineRule) (lines : List (List ℕ)) (start : List ℕ) (fault : Fault) : Type 0 where
+  pub line : (others : List ℕ) → rule.line lines (start ++ others) ≡ refused fault
+  pub unclosed : (others : List ℕ) → rule.unclosed lines (start ++ others) ≡ Some fault
