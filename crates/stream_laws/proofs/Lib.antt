@@ -4,3 +4,5 @@ pub mod BytesLemmas
 pub mod RefusedLemmas
 pub mod EndLemmas
 pub mod StartLemmas
+pub mod WordLemmas
+pub mod FrameLemmas

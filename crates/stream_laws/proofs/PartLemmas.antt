@@ -10,11 +10,11 @@ use Rattle.subdiv_model.specs.Stream.{but_last, parts_of, closed_of, unclosed_of
 use Rattle.stream_laws.specs.Handled.{has_lf, are_lines, text_of_lines}
 
 -- each byte of a line without LF is another
-no-lf : (line : List ℕ) → has_lf line ≡ false → All (λ b. is_lf b ≡ false) line
+pub no-lf : (line : List ℕ) → has_lf line ≡ false → All (λ b. is_lf b ≡ false) line
 no-lf line none = λ k d inside. false_from_ne_true (is_lf (get_or line k d)) (λ yes. true≢false (sym (list_any_at is_lf line k d inside yes) ∙ none))
 
 -- a line is without LF
-not-lf : (line : List ℕ) → not (has_lf line) ≡ true → has_lf line ≡ false
+pub not-lf : (line : List ℕ) → not (has_lf line) ≡ true → has_lf line ≡ false
 not-lf line h = false_from_ne_true (has_lf line) (λ yes. true≢false (sym h ∙ ap not yes))
 
 -- one more line is without LF, as those before it
@@ -56,7 +56,7 @@ pub all-unclosed : (bytes : List ℕ) → has_lf bytes ≡ false → unclosed_of
 all-unclosed bytes none = ap (last_of []) (slice_split_none is_lf bytes (no-lf bytes none))
 
 -- the text of lines begins with the first line
-text-first : (line : List ℕ) (lines : List (List ℕ)) (rest : List ℕ)
+pub text-first : (line : List ℕ) (lines : List (List ℕ)) (rest : List ℕ)
     → text_of_lines (line ∷ lines) ++ rest ≡ line ++ 10 ∷ (text_of_lines lines ++ rest)
 text-first line lines rest =
     append_assoc (line ++ 10 ∷ []) (text_of_lines lines) rest ∙ append_assoc line (10 ∷ []) (text_of_lines lines ++ rest)

@@ -1,1 +1,2 @@
 pub mod Handled
+pub mod Marked
