@@ -6,3 +6,4 @@ pub mod EndLemmas
 pub mod StartLemmas
 pub mod WordLemmas
 pub mod FrameLemmas
+pub mod RuleLemmas
