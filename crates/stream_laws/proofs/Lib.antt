@@ -7,3 +7,4 @@ pub mod StartLemmas
 pub mod WordLemmas
 pub mod FrameLemmas
 pub mod RuleLemmas
+pub mod MarkLemmas

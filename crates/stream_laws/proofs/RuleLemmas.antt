@@ -23,11 +23,11 @@ abbrev Words : Type 0
 Words = List (List (List ℕ))
 
 -- a line that is too long
-abbrev pub long-line : ℕ → Fault
+abbrev long-line : ℕ → Fault
 long-line number = Obj (record { line = number; cause = LongLine })
 
 -- nothing but what is refused, if anything is
-pub unless-nothing : (fault : Option Fault) → answer_unless fault [] ≡ record { text = []; refusal = fault }
+unless-nothing : (fault : Option Fault) → answer_unless fault [] ≡ record { text = []; refusal = fault }
 unless-nothing None = refl
 unless-nothing (Some fault) = refl
 
@@ -36,7 +36,7 @@ long-cause : (count common : ℕ) (line : List ℕ) → 65535 < length line → 
 long-cause count common line long = ap (λ test. if test then Some LongLine else words_cause count common (line_words line)) (lt-ltb 65535 (length line) long)
 
 -- and is refused
-pub long-answer : (depth : ℕ) (mesh : ObjMesh) (before : Words) (number : ℕ) (line : List ℕ) → 65535 < length line
+long-answer : (depth : ℕ) (mesh : ObjMesh) (before : Words) (number : ℕ) (line : List ℕ) → 65535 < length line
     → frame_answer depth mesh before number line ≡ refused (long-line number)
 long-answer depth mesh before number line long =
     let fault : frame_fault depth mesh number line ≡ Some (long-line number) =
@@ -87,7 +87,7 @@ module _ (depth : ℕ) (refusal : Words → Option Fault) (mesh : Words → ObjM
 
   -- a frame line of too many bytes is refused, whatever follows them
   pub long-refused : (before : Lines) (start : List ℕ) → has_frames (words_of_lines before) ≡ true → 65535 < length start
-      → IsRefusedStart (frames_rule depth refusal mesh) before start (long-line (suc (length before)))
+      → IsRefusedStart (frames_rule depth refusal mesh) before start (Obj (record { line = suc (length before); cause = LongLine }))
   long-refused before start some long = record {
     line = λ others. frame-line before (start ++ others) some
         ∙ long-answer depth (mesh (mesh_lines (words_of_lines before))) (frame_lines (words_of_lines before)) (suc (length before)) (start ++ others) (still-long start others long);
