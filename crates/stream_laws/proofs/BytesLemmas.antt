@@ -1,11 +1,11 @@
 -- Bytes that begin with handled lines: what they add, in all and so far, up to a limit and past it.
-use Rattle.std.proofs.Common.{◌≡◌, ℕ, ◌+◌, ◌-◌, ◌<◌, ◌≤◌, cond, true, false, nat_lt, List, [], ◌∷◌, ◌++◌, length, take, Option, None, Some, arith, refl, ap, sym, ◌∙◌, append_assoc, append-nil, ⊎_elim, lt-ltb, le-ltb, add-sub_of_le}
+use Rattle.std.proofs.Common.{◌≡◌, ℕ, ◌-◌, ◌<◌, ◌≤◌, List, [], ◌++◌, length, take, Some, refl, ap, sym, ◌∙◌, append_assoc, ⊎_elim, lt-ltb, le-ltb, add-sub_of_le}
 use Rattle.std.proofs.lemmas.Bool.{cases_lt}
 use Rattle.std.proofs.Math.Seq.{take-append-add}
 use Rattle.subdiv_model.specs.Fault.{Fault, Long}
-use Rattle.subdiv_model.specs.Refusal.{Answer, after_text, then_answer, answer_unless, answer_unless_refused, refused}
+use Rattle.subdiv_model.specs.Refusal.{Answer, after_text, then_answer, answer_unless, refused}
 use Rattle.subdiv_model.specs.Stream.{LineRule, answer_from, answer_at_end, answer_so_far, answer_of_all, answer_of_lines, closed_of, unclosed_of}
-use Rattle.stream_laws.specs.Handled.{has_lf, are_lines, text_of_lines, IsHandled}
+use Rattle.stream_laws.specs.Handled.{text_of_lines, IsHandled}
 use Rattle.stream_laws.proofs.PartLemmas.{lines-closed, lines-unclosed}
 use Rattle.stream_laws.proofs.HandledLemmas.{handled-then}
 
@@ -59,7 +59,7 @@ refused-either rule limit first part more text fault fits so_far all =
     let bytes = first ++ (part ++ more) in
     let cut = take (limit - length (first ++ part)) more in
     ⊎_elim (λ long. past rule limit bytes long
-        ∙ ap (λ taken. then_answer (answer_so_far rule taken) (refused Long)) (take-parts first part more limit fits)
-        ∙ ap (λ answer. then_answer answer (refused Long)) (so_far cut))
+    ∙ ap (λ taken. then_answer (answer_so_far rule taken) (refused Long)) (take-parts first part more limit fits)
+    ∙ ap (λ answer. then_answer answer (refused Long)) (so_far cut))
     (λ short. within rule limit bytes short ∙ all more)
     (cases_lt limit (length bytes))

@@ -1,12 +1,12 @@
 -- What handled lines come to so far, where more may come, and at the end of the input.
-use Rattle.std.proofs.Common.{◌≡◌, ℕ, ◌<◌, ◌≤◌, false, List, [], ◌∷◌, ◌++◌, length, take, Option, None, Some, arith, refl, ap, sym, ◌∙◌, append_assoc, append-nil}
-use Rattle.subdiv_model.specs.Fault.{Fault, Long}
-use Rattle.subdiv_model.specs.Refusal.{Answer, after_text, then_answer, answer_unless, answer_unless_refused, refused}
+use Rattle.std.proofs.Common.{◌≡◌, ℕ, ◌<◌, ◌≤◌, false, List, [], ◌∷◌, ◌++◌, length, Option, None, ap, sym, ◌∙◌, append-nil}
+use Rattle.subdiv_model.specs.Fault.{Fault}
+use Rattle.subdiv_model.specs.Refusal.{Answer, after_text, then_answer, answer_unless, answer_unless_refused}
 use Rattle.subdiv_model.specs.Stream.{LineRule, answer_from, answer_at_end, answer_so_far, answer_of_all, answer_of_lines, closed_of, unclosed_of}
-use Rattle.stream_laws.specs.Handled.{has_lf, are_lines, text_of_lines, IsHandled}
+use Rattle.stream_laws.specs.Handled.{has_lf, text_of_lines, IsHandled}
 use Rattle.stream_laws.proofs.PartLemmas.{first-closed}
 use Rattle.stream_laws.proofs.HandledLemmas.{after-nothing, after-after}
-use Rattle.stream_laws.proofs.BytesLemmas.{all-of, so-far-of, all-after, so-far-after, within}
+use Rattle.stream_laws.proofs.BytesLemmas.{all-of, all-after, so-far-after, within}
 use Rattle.stream_laws.proofs.RefusedLemmas.{last-line, last-of-all, last-so-far}
 
 -- the input ends after a closed line
@@ -45,36 +45,39 @@ not-refused {rule = rule} {lines = lines} {text = text} taken pending handled no
     ∙ ap (after_text text) (last-so-far rule lines pending none ∙ ap (λ fault. answer_unless fault []) good)
     ∙ after-nothing text None
 
--- a text that begins with the first, and then the second
-abbrev pub BeginsWith : List ℕ → List ℕ → List ℕ → Type 0
-BeginsWith text first second = (rest : List ℕ) × (text ≡ first ++ (second ++ rest))
-
 -- where a line is not refused its text is written
 then-text : (first next : Answer) → first.refusal ≡ None → (then_answer first next).text ≡ first.text ++ next.text
 then-text first next good = ap (λ r. (answer_unless_refused r first.text next).text) good
 
--- what is written of handled lines and one more stays
+-- what is written of handled lines stays
+pub handled-stays : {rule : LineRule} {lines : List (List ℕ)} {text : List ℕ} (more : List ℕ) → IsHandled rule lines text
+    → (rest : List ℕ) × ((answer_of_all rule (text_of_lines lines ++ more)).text ≡ text ++ rest)
+handled-stays {rule = rule} {lines = lines} more handled = ((all-of rule lines more).text, ap (λ (a : Answer). a.text) (all-after more handled))
+
+-- and of one more line
 pub written-stays : {rule : LineRule} {lines : List (List ℕ)} {text : List ℕ} (taken line pending : List ℕ)
     → IsHandled rule lines text → has_lf line ≡ false → (rule.line lines line).refusal ≡ None
-    → taken ≡ text_of_lines lines ++ (line ++ 10 ∷ pending) → BeginsWith (answer_of_all rule taken).text text (rule.line lines line).text
+    → taken ≡ text_of_lines lines ++ (line ++ 10 ∷ pending) → (rest : List ℕ) × ((answer_of_all rule taken).text ≡ text ++ ((rule.line lines line).text ++ rest))
 written-stays {rule = rule} {lines = lines} {text = text} taken line pending handled none good split =
     let rest = line ++ 10 ∷ pending in
     let end = answer_at_end rule (unclosed_of rest) in
-    let next = answer_from rule end (lines ++ line ∷ []) (closed_of pending) in
-    (next.text,
-        ap (λ bytes. (answer_of_all rule bytes).text) split
-        ∙ ap (λ (a : Answer). a.text) (all-after rest handled)
-        ∙ ap (λ closed. text ++ (answer_from rule end lines closed).text) (first-closed line pending none)
-        ∙ ap (λ more. text ++ more) (then-text (rule.line lines line) next good))
+    let next = answer_from rule end (lines ++ line ∷ []) (closed_of pending) in (
+      next.text,
+      ap (λ bytes. (answer_of_all rule bytes).text) split
+          ∙ ap (λ (a : Answer). a.text) (all-after rest handled)
+          ∙ ap (λ closed. text ++ (answer_from rule end lines closed).text) (first-closed line pending none)
+          ∙ ap (λ more. text ++ more) (then-text (rule.line lines line) next good),
+    )
 
 -- and of a last line that nothing closes
 pub last-written-stays : {rule : LineRule} {lines : List (List ℕ)} {text : List ℕ} (taken line : List ℕ)
     → IsHandled rule lines text → has_lf line ≡ false → 0 < length line → (rule.line lines line).refusal ≡ None
-    → taken ≡ text_of_lines lines ++ line → BeginsWith (answer_of_all rule taken).text text (rule.line lines line).text
+    → taken ≡ text_of_lines lines ++ line → (rest : List ℕ) × ((answer_of_all rule taken).text ≡ text ++ ((rule.line lines line).text ++ rest))
 last-written-stays {rule = rule} {lines = lines} {text = text} taken line handled none some good split =
-    let next = rule.end (lines ++ line ∷ []) in
-    (next.text,
-        ap (λ bytes. (answer_of_all rule bytes).text) split
-        ∙ ap (λ (a : Answer). a.text) (all-after line handled)
-        ∙ ap (λ (a : Answer). text ++ a.text) (last-of-all rule lines line none ∙ last-line rule lines line some)
-        ∙ ap (λ more. text ++ more) (then-text (rule.line lines line) next good))
+    let next = rule.end (lines ++ line ∷ []) in (
+      next.text,
+      ap (λ bytes. (answer_of_all rule bytes).text) split
+          ∙ ap (λ (a : Answer). a.text) (all-after line handled)
+          ∙ ap (λ (a : Answer). text ++ a.text) (last-of-all rule lines line none ∙ last-line rule lines line some)
+          ∙ ap (λ more. text ++ more) (then-text (rule.line lines line) next good),
+    )

@@ -1,12 +1,11 @@
 -- The lines of a mesh, the line `frames` and the frame lines, one line more.
-use Rattle.std.proofs.Common.{◌≡◌, ℕ, suc, ◌+◌, ◌<◌, ◌≤◌, ℤ, Bool, true, false, not, ◌||◌, cond, List, [], ◌∷◌, ◌++◌, length, map, drop, take_while, refl, ap, sym, ◌∙◌, true≢false}
-use Rattle.std.specs.List.{list_any, fold}
+use Rattle.std.proofs.Common.{◌≡◌, ℕ, suc, Bool, true, false, not, ◌||◌, List, [], ◌∷◌, ◌++◌, length, drop, refl, ap, sym, ◌∙◌, true≢false}
 use Rattle.std.proofs.lemmas.Bool.{or_parts, or_from, or_left, or_right}
 use Rattle.std.proofs.lemmas.List.Folds.{list_any-append}
 use Rattle.std.proofs.lemmas.List.Sums.{take_while-cons, fold-append}
 use Rattle.subdiv_model.specs.ObjLine.{line_words}
 use Rattle.subdiv_model.specs.ObjMesh.{ObjMesh}
-use Rattle.subdiv_model.specs.Frames.{Frame, words_after, words_of_lines, is_frames_line, has_frames, mesh_lines, frame_lines, frame_after, frame_at}
+use Rattle.subdiv_model.specs.Frames.{words_after, words_of_lines, is_frames_line, has_frames, mesh_lines, frame_lines, frame_after, frame_at}
 use Rattle.stream_laws.proofs.WordLemmas.{words-more}
 
 abbrev Words : Type 0

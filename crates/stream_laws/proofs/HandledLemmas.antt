@@ -1,10 +1,10 @@
 -- Lines that are handled one after another, and what comes after them.
-use Rattle.std.proofs.Common.{◌≡◌, ℕ, false, true, List, [], ◌∷◌, ◌++◌, Option, None, Some, refl, ap, sym, ◌∙◌, append_assoc, append-nil, subst}
+use Rattle.std.proofs.Common.{◌≡◌, ℕ, false, List, [], ◌∷◌, ◌++◌, Option, None, Some, refl, ap, sym, ◌∙◌, append_assoc, append-nil}
 use Rattle.std.proofs.lemmas.Option.{none-some}
 use Rattle.subdiv_model.specs.Fault.{Fault}
 use Rattle.subdiv_model.specs.Refusal.{Answer, after_text, then_answer, answer_unless_refused, refused}
 use Rattle.subdiv_model.specs.Stream.{LineRule, answer_from}
-use Rattle.stream_laws.specs.Handled.{has_lf, are_lines, text_of_lines, IsHandled}
+use Rattle.stream_laws.specs.Handled.{has_lf, IsHandled}
 use Rattle.stream_laws.proofs.PartLemmas.{lines-more}
 
 abbrev pub nothing-more : List (List ℕ) → Answer

@@ -8,3 +8,4 @@ pub mod WordLemmas
 pub mod FrameLemmas
 pub mod RuleLemmas
 pub mod MarkLemmas
+pub mod LawLemmas

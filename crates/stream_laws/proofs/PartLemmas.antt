@@ -1,7 +1,6 @@
 -- Bytes that begin with closed lines: the lines that LF closes in them, and the bytes after the last LF.
-use Rattle.std.proofs.Common.{◌≡◌, ℕ, suc, ◌+◌, ◌<◌, ◌≤◌, Bool, true, false, not, ◌&&◌, ◌||◌, List, [], ◌∷◌, ◌++◌, ◌⊎◌, inl, inr, ⊎_elim, length, get_or, arith, refl, ap, sym, ◌∙◌, true≢false, append_assoc, All, eqb-true}
-use Rattle.std.specs.List.{slice_split, list_any}
-use Rattle.std.proofs.lemmas.Bool.{and_from, and_parts, or_parts, or_from, not_from_false, false_from_ne_true}
+use Rattle.std.proofs.Common.{◌≡◌, ℕ, ◌<◌, Bool, true, false, not, List, [], ◌∷◌, ◌++◌, ◌⊎◌, inl, inr, length, get_or, arith, refl, ap, sym, ◌∙◌, true≢false, append_assoc, All, eqb-true}
+use Rattle.std.proofs.lemmas.Bool.{and_from, and_parts, or_from, not_from_false, false_from_ne_true}
 use Rattle.std.proofs.lemmas.List.Folds.{list_any_at, list_any-append}
 use Rattle.std.proofs.lemmas.List.Splits.{slice_split_none, slice_split_at, length-slice_split}
 use Rattle.subdiv_model.specs.Lists.{last_of}

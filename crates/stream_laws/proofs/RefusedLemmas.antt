@@ -1,10 +1,10 @@
 -- A line that is refused, bytes that are refused as soon as they are there, and input that is too long.
-use Rattle.std.proofs.Common.{◌≡◌, ℕ, ◌+◌, ◌<◌, ◌≤◌, true, false, List, [], ◌∷◌, ◌++◌, length, take, Option, None, Some, arith, refl, ap, sym, ◌∙◌, append_assoc, append-nil, ⊎_elim}
-use Rattle.subdiv_model.specs.Fault.{Fault, Long}
-use Rattle.subdiv_model.specs.Refusal.{Answer, after_text, then_answer, answer_unless, answer_unless_refused, refused}
+use Rattle.std.proofs.Common.{◌≡◌, ℕ, ◌<◌, ◌≤◌, false, List, [], ◌∷◌, ◌++◌, length, Some, arith, refl, ap, sym, ◌∙◌, append_assoc}
+use Rattle.subdiv_model.specs.Fault.{Fault}
+use Rattle.subdiv_model.specs.Refusal.{Answer, after_text, then_answer, answer_unless, refused}
 use Rattle.subdiv_model.specs.Stream.{LineRule, answer_from, answer_at_end, answer_so_far, answer_of_all, answer_of_lines, closed_of, unclosed_of}
-use Rattle.stream_laws.specs.Handled.{has_lf, are_lines, text_of_lines, IsHandled}
-use Rattle.stream_laws.proofs.PartLemmas.{first-closed, none-closed, all-unclosed, joined-lf, FirstLine, first-line}
+use Rattle.stream_laws.specs.Handled.{has_lf, text_of_lines, IsHandled}
+use Rattle.stream_laws.proofs.PartLemmas.{first-closed, none-closed, all-unclosed}
 use Rattle.stream_laws.proofs.HandledLemmas.{after-nothing}
 use Rattle.stream_laws.proofs.BytesLemmas.{all-of, so-far-of, end-so-far, all-after, so-far-after, within, refused-either}
 
@@ -27,13 +27,13 @@ line-refused {rule = rule} {lines = lines} {text = text} limit bytes line more f
     ap (answer_of_lines rule limit) (split ∙ sym (joined more))
     ∙ refused-either rule limit first (line ++ 10 ∷ []) more text fault fits
     (λ rest. ap (answer_so_far rule) (joined rest)
-        ∙ so-far-after (line ++ 10 ∷ rest) handled
-        ∙ ap (after_text text) (first-refused rule (end-so-far rule (unclosed_of (line ++ 10 ∷ rest))) lines line rest fault none is)
-        ∙ after-nothing text (Some fault))
+    ∙ so-far-after (line ++ 10 ∷ rest) handled
+    ∙ ap (after_text text) (first-refused rule (end-so-far rule (unclosed_of (line ++ 10 ∷ rest))) lines line rest fault none is)
+    ∙ after-nothing text (Some fault))
     (λ rest. ap (answer_of_all rule) (joined rest)
-        ∙ all-after (line ++ 10 ∷ rest) handled
-        ∙ ap (after_text text) (first-refused rule (answer_at_end rule (unclosed_of (line ++ 10 ∷ rest))) lines line rest fault none is)
-        ∙ after-nothing text (Some fault))
+    ∙ all-after (line ++ 10 ∷ rest) handled
+    ∙ ap (after_text text) (first-refused rule (answer_at_end rule (unclosed_of (line ++ 10 ∷ rest))) lines line rest fault none is)
+    ∙ after-nothing text (Some fault))
 
 -- bytes that LF does not close are the last line, where there are some
 pub last-line : (rule : LineRule) (lines : List (List ℕ)) (line : List ℕ) → 0 < length line

@@ -1,7 +1,6 @@
 -- What lines add under `frames`: nothing before the line `frames`, and then an answer to each; and what is too long.
-use Rattle.std.proofs.Common.{◌≡◌, ℕ, suc, ◌<◌, ◌≤◌, Bool, true, false, not, ◌&&◌, ◌||◌, nat_lt, cond, List, [], ◌∷◌, ◌++◌, length, map, Option, None, Some, option_map, arith, refl, ap, sym, ◌∙◌, append-nil, append_assoc, if◌then◌else◌, lt-ltb, le-ltb}
+use Rattle.std.proofs.Common.{◌≡◌, ℕ, suc, ◌<◌, ◌≤◌, true, false, nat_lt, List, [], ◌∷◌, ◌++◌, length, map, Option, None, Some, option_map, arith, refl, ap, sym, ◌∙◌, append_assoc, if◌then◌else◌, lt-ltb, le-ltb}
 use Rattle.std.specs.Option.{option_or}
-use Rattle.std.specs.List.{list_any}
 use Rattle.std.proofs.lemmas.Bool.{or_parts, and_right}
 use Rattle.std.proofs.lemmas.List.{length-append}
 use Rattle.std.proofs.lemmas.List.Folds.{list_any-append}
@@ -9,9 +8,9 @@ use Rattle.subdiv_model.specs.Fault.{Fault, Obj, Overflow, Positions, ValueOverf
 use Rattle.subdiv_model.specs.ObjFault.{LongLine}
 use Rattle.subdiv_model.specs.ObjLine.{line_words}
 use Rattle.subdiv_model.specs.ObjMesh.{ObjMesh}
-use Rattle.subdiv_model.specs.Refusal.{Answer, answer_unless, refused, then_answer, answer_unless_refused, after_text}
-use Rattle.subdiv_model.specs.Stream.{LineRule, answer_from}
-use Rattle.subdiv_model.specs.Frames.{words_after, words_of_lines, is_frames_line, has_frames, mesh_lines, frame_lines, line_limit, frame_cause, words_cause, frame_fault, overflows, frame_answer, frame_text, frame_at, is_go_line, line_answer, unclosed_fault, end_answer, frames_rule}
+use Rattle.subdiv_model.specs.Refusal.{answer_unless, refused, then_answer, after_text}
+use Rattle.subdiv_model.specs.Stream.{answer_from}
+use Rattle.subdiv_model.specs.Frames.{words_after, words_of_lines, is_frames_line, has_frames, mesh_lines, frame_lines, line_limit, frame_cause, words_cause, frame_fault, overflows, frame_answer, frame_text, frame_at, is_go_line, frames_rule}
 use Rattle.stream_laws.specs.Handled.{are_lines, IsHandled, IsRefusedStart}
 use Rattle.stream_laws.proofs.WordLemmas.{words-next}
 use Rattle.stream_laws.proofs.HandledLemmas.{nothing-more, only-text}
@@ -41,7 +40,7 @@ long-answer : (depth : ℕ) (mesh : ObjMesh) (before : Words) (number : ℕ) (li
 long-answer depth mesh before number line long =
     let fault : frame_fault depth mesh number line ≡ Some (long-line number) =
     ap (λ cause. option_or (option_map (λ found. Obj (record { line = number; cause = found })) cause)
-        (if overflows depth mesh (line_words line) then Some (Overflow Positions depth ValueOverflow) else None))
+    (if overflows depth mesh (line_words line) then Some (Overflow Positions depth ValueOverflow) else None))
     (long-cause (length mesh.points) mesh.common line long) in
     ap (λ found. answer_unless found (if is_go_line (line_words line) then frame_text depth mesh (frame_at mesh before) else [])) fault
 
@@ -49,7 +48,6 @@ still-long : (start others : List ℕ) → 65535 < length start → 65535 < leng
 still-long start others long = omega (arith, length-append start others)
 
 module _ (depth : ℕ) (refusal : Words → Option Fault) (mesh : Words → ObjMesh) where
-
   -- before the line `frames` a line adds nothing
   pub mesh-line : (before : Lines) (line : List ℕ) → has_frames (words_of_lines before) ≡ false → is_frames_line (words_after before line) ≡ false
       → (frames_rule depth refusal mesh).line before line ≡ record { text = []; refusal = None }

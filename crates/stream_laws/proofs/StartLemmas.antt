@@ -1,10 +1,10 @@
 -- Pending bytes that are refused whatever follows them, and those after which the input is too long.
-use Rattle.std.proofs.Common.{◌≡◌, ℕ, ◌+◌, ◌<◌, ◌≤◌, false, List, [], ◌∷◌, ◌++◌, length, take, Option, None, Some, arith, refl, ap, sym, ◌∙◌, append_assoc, ⊎_elim, le_of_eq}
+use Rattle.std.proofs.Common.{◌≡◌, ℕ, ◌<◌, ◌≤◌, false, List, [], ◌∷◌, ◌++◌, length, take, None, Some, arith, ap, sym, ◌∙◌, append_assoc, ⊎_elim}
 use Rattle.std.proofs.lemmas.List.{length-append}
 use Rattle.std.proofs.Math.Seq.{take-append_seam}
 use Rattle.subdiv_model.specs.Fault.{Fault, Long}
 use Rattle.subdiv_model.specs.Refusal.{Answer, after_text, then_answer, answer_unless, refused}
-use Rattle.subdiv_model.specs.Stream.{LineRule, answer_from, answer_at_end, answer_so_far, answer_of_all, answer_of_lines, closed_of, unclosed_of}
+use Rattle.subdiv_model.specs.Stream.{LineRule, answer_from, answer_at_end, answer_of_lines, closed_of, unclosed_of}
 use Rattle.stream_laws.specs.Handled.{has_lf, text_of_lines, IsHandled, IsRefusedStart}
 use Rattle.stream_laws.proofs.PartLemmas.{joined-lf, FirstLine, first-line}
 use Rattle.stream_laws.proofs.HandledLemmas.{after-nothing}

@@ -1,6 +1,6 @@
 -- The words of lines, one line more, and the words of their text as a mesh reads it.
-use Rattle.std.proofs.Common.{◌≡◌, ℕ, ◌<◌, Bool, true, false, not, ◌&&◌, ◌||◌, cond, List, [], ◌∷◌, ◌++◌, length, map, take, drop, bytes_eq, arith, refl, ap, sym, ◌∙◌, append-nil, if◌then◌else◌, nat_eq}
-use Rattle.std.specs.List.{slice_split, list_any}
+use Rattle.std.proofs.Common.{◌≡◌, ℕ, ◌<◌, Bool, true, false, not, ◌||◌, cond, List, [], ◌∷◌, ◌++◌, length, map, take, drop, bytes_eq, arith, refl, ap, sym, ◌∙◌, append-nil, nat_eq}
+use Rattle.std.specs.List.{slice_split}
 use Rattle.std.proofs.lemmas.Bool.{and_parts, and_right, or_parts, cond_both}
 use Rattle.std.proofs.lemmas.Bool.Decides.{nat_tests}
 use Rattle.std.proofs.lemmas.List.{map-append, take-append-drop}

@@ -1,2 +1,3 @@
 pub mod Handled
 pub mod Marked
+pub mod Laws

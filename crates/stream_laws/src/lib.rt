@@ -2,3 +2,6 @@
 //!
 //! Each public function here takes nothing, does nothing and returns nothing: its clauses are the laws.
 #![tactic(auto)]
+
+pub mod frames;
+pub mod lines;

@@ -1,0 +1,134 @@
+-- What the laws speak of: handled lines, and the line or the bytes after them.
+-- Source: this profile.
+use Rattle.std.specs.Prelude.{◌≡◌, ℕ, ◌<◌, Bool, true, false, List, [], ◌∷◌, ◌++◌, length, Option, None}
+use Rattle.subdiv_model.specs.Fault.{Fault, Obj}
+use Rattle.subdiv_model.specs.ObjFault.{LongLine}
+use Rattle.subdiv_model.specs.ObjMesh.{ObjMesh}
+use Rattle.subdiv_model.specs.Refusal.{Answer, refused}
+use Rattle.subdiv_model.specs.Stream.{LineRule}
+use Rattle.subdiv_model.specs.Frames.{Frame, words_of_lines, words_after, is_frames_line, has_frames, mesh_lines, frame_lines, frame_at, frames_rule}
+use Rattle.stream_laws.specs.Handled.{has_lf, are_lines, text_of_lines, IsHandled, IsRefusedStart}
+
+-- a text, and what is refused after it
+abbrev pub answer_with : List ℕ → Option Fault → Answer
+answer_with text refusal = record { text = text; refusal = refusal }
+
+-- the second text begins with the first
+abbrev pub BeginsWith : List ℕ → List ℕ → Type 0
+BeginsWith first text = (rest : List ℕ) × (text ≡ first ++ rest)
+
+-- lines that are handled, with their text
+pub record Handled (rule : LineRule) : Type 0 where
+  pub lines : List (List ℕ)
+  pub text : List ℕ
+  pub is_handled : IsHandled rule lines text
+
+-- bytes without LF after handled lines
+pub record Pending (rule : LineRule) : Type 0 where
+  pub before : Handled rule
+  pub bytes : List ℕ
+  pub without_lf : has_lf bytes ≡ false
+
+-- the bytes of handled lines
+abbrev pub bytes_of : {rule : LineRule} → Handled rule → List ℕ
+bytes_of at = text_of_lines at.lines
+
+-- the same with the pending bytes, and with these closed by LF
+abbrev pub bytes_to : {rule : LineRule} → Pending rule → List ℕ
+bytes_to at = text_of_lines at.before.lines ++ at.bytes
+
+abbrev pub closed_to : {rule : LineRule} → Pending rule → List ℕ
+closed_to at = text_of_lines at.before.lines ++ (at.bytes ++ 10 ∷ [])
+
+-- the handled lines with the pending bytes as one more
+abbrev pub lines_to : {rule : LineRule} → Pending rule → List (List ℕ)
+lines_to at = at.before.lines ++ at.bytes ∷ []
+
+-- what the pending bytes add as a line, and what is refused of them while nothing closes them
+abbrev pub added_by : {rule : LineRule} → Pending rule → Answer
+added_by {rule = rule} at = rule.line at.before.lines at.bytes
+
+abbrev pub unclosed_at : {rule : LineRule} → Pending rule → Option Fault
+unclosed_at {rule = rule} at = rule.unclosed at.before.lines at.bytes
+
+-- the text of the handled lines, and a refusal
+abbrev pub answer_to : {rule : LineRule} → Pending rule → Option Fault → Answer
+answer_to at refusal = answer_with at.before.text refusal
+
+-- a line that is refused
+pub record RefusedLine (rule : LineRule) : Type 0 where
+  pub line : Pending rule
+  pub fault : Fault
+  pub is_refused : added_by line ≡ refused fault
+
+-- pending bytes, some of them, that are refused whatever follows
+pub record RefusedStart (rule : LineRule) : Type 0 where
+  pub start : Pending rule
+  pub fault : Fault
+  pub some : 0 < length start.bytes
+  pub is_refused : IsRefusedStart rule start.before.lines start.bytes fault
+
+-- the last line is closed, and the end is judged
+pub record EndOfLines (rule : LineRule) : Type 0 where
+  pub lines : Handled rule
+  pub refusal : Option Fault
+  pub ended : rule.end lines.lines ≡ answer_with [] refusal
+
+-- the last line is one that nothing closes, and the end is judged
+pub record EndOfLine (rule : LineRule) : Type 0 where
+  pub line : Pending rule
+  pub text : List ℕ
+  pub refusal : Option Fault
+  pub some : 0 < length line.bytes
+  pub added : added_by line ≡ answer_with text None
+  pub ended : rule.end (lines_to line) ≡ answer_with [] refusal
+
+-- closed lines, and a last one that nothing closes
+pub record OpenText : Type 0 where
+  pub lines : List (List ℕ)
+  pub last : List ℕ
+  pub closed : are_lines lines ≡ true
+  pub without_lf : has_lf last ≡ false
+  pub some : 0 < length last
+
+-- its bytes, and its lines
+abbrev pub bytes_of_text : OpenText → List ℕ
+bytes_of_text text = text_of_lines text.lines ++ text.last
+
+abbrev pub lines_of_text : OpenText → List (List ℕ)
+lines_of_text text = text.lines ++ text.last ∷ []
+
+-- what `frames` asks: a depth, what is refused of the lines of a mesh, and the mesh that they say
+pub record Asked : Type 0 where
+  pub depth : ℕ
+  pub refusal : List (List (List ℕ)) → Option Fault
+  pub mesh : List (List (List ℕ)) → ObjMesh
+
+abbrev pub rule_for : Asked → LineRule
+rule_for asked = frames_rule asked.depth asked.refusal asked.mesh
+
+-- one of the lines is a line `frames`
+abbrev pub have_frames : List (List ℕ) → Bool
+have_frames lines = has_frames (words_of_lines lines)
+
+-- the first line `frames`, after others
+pub record FirstFrames : Type 0 where
+  pub before : List (List ℕ)
+  pub line : List ℕ
+  pub none_before : have_frames before ≡ false
+  pub is_frames : is_frames_line (words_after before line) ≡ true
+
+-- the words of the mesh's lines, and of the frame lines
+abbrev pub mesh_words : List (List ℕ) → List (List (List ℕ))
+mesh_words lines = mesh_lines (words_of_lines lines)
+
+abbrev pub frame_words : List (List ℕ) → List (List (List ℕ))
+frame_words lines = frame_lines (words_of_lines lines)
+
+-- what the frame lines have come to
+abbrev pub frame_of : ObjMesh → List (List ℕ) → Frame
+frame_of mesh lines = frame_at mesh (frame_words lines)
+
+-- a line that is too long, by its number, which counts from 1
+abbrev pub long_line : ℕ → Fault
+long_line number = Obj (record { line = number; cause = LongLine })
