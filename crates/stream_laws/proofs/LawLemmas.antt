@@ -1,9 +1,9 @@
 -- The laws of lines, over the records that they speak of.
-use Rattle.std.proofs.Common.{◌≡◌, ℕ, ◌<◌, ◌≤◌, List, [], ◌∷◌, ◌++◌, length, Some, None, refl, ap, sym, ◌∙◌, append_assoc}
+use Rattle.std.proofs.Common.{◌≡◌, ℕ, ◌<◌, ◌≤◌, List, [], ◌∷◌, ◌++◌, length, None, refl, ap, sym, ◌∙◌, append_assoc}
 use Rattle.subdiv_model.specs.Fault.{Long}
 use Rattle.subdiv_model.specs.Stream.{LineRule, answer_of_all, answer_of_lines}
 use Rattle.stream_laws.specs.Handled.{text_of_lines}
-use Rattle.stream_laws.specs.Laws.{Pending, RefusedLine, RefusedStart, EndOfLine, BeginsWith, answer_with, bytes_to, closed_to, added_by, unclosed_at, answer_to}
+use Rattle.stream_laws.specs.Laws.{Pending, RefusedLine, RefusedStart, EndOfLine, BeginsWith, answer_with, bytes_to, closed_to, added_by, unclosed_at, refused_after}
 use Rattle.stream_laws.proofs.RefusedLemmas.{line-refused, last-line-refused}
 use Rattle.stream_laws.proofs.StartLemmas.{pending-refused, too-long}
 use Rattle.stream_laws.proofs.EndLemmas.{ended-unclosed, written-stays, last-written-stays}
@@ -15,27 +15,27 @@ closed-split lines line more =
     append_assoc (text_of_lines lines) (line ++ 10 ∷ []) more ∙ ap (λ rest. text_of_lines lines ++ rest) (append_assoc line (10 ∷ []) more)
 
 pub refused-closed : (rule : LineRule) (at : RefusedLine rule) (limit : ℕ) (more : List ℕ) → length (closed_to at.line) ≤ limit
-    → answer_of_lines rule limit (closed_to at.line ++ more) ≡ answer_to at.line (Some at.fault)
+    → answer_of_lines rule limit (closed_to at.line ++ more) ≡ refused_after at.line at.fault
 refused-closed rule at limit more fits =
     let line = at.line in
     line-refused limit (closed_to line ++ more) line.bytes more at.fault line.before.is_handled line.without_lf at.is_refused
     (closed-split line.before.lines line.bytes more) fits
 
 pub refused-last : (rule : LineRule) (at : RefusedLine rule) (limit : ℕ) → 0 < length at.line.bytes → length (bytes_to at.line) ≤ limit
-    → answer_of_lines rule limit (bytes_to at.line) ≡ answer_to at.line (Some at.fault)
+    → answer_of_lines rule limit (bytes_to at.line) ≡ refused_after at.line at.fault
 refused-last rule at limit some fits =
     let line = at.line in
     last-line-refused limit (bytes_to line) line.bytes at.fault line.before.is_handled line.without_lf some at.is_refused refl fits
 
 pub refused-start : (rule : LineRule) (at : RefusedStart rule) (limit : ℕ) (more : List ℕ) → length (bytes_to at.start) ≤ limit
-    → answer_of_lines rule limit (bytes_to at.start ++ more) ≡ answer_to at.start (Some at.fault)
+    → answer_of_lines rule limit (bytes_to at.start ++ more) ≡ refused_after at.start at.fault
 refused-start rule at limit more fits =
     let start = at.start in
     pending-refused limit (bytes_to start ++ more) more start.before.is_handled at.is_refused start.without_lf at.some
     (append_assoc (text_of_lines start.before.lines) start.bytes more) fits
 
 pub long-input : (rule : LineRule) (at : Pending rule) (b : ℕ) (more : List ℕ) → unclosed_at at ≡ None
-    → answer_of_lines rule (length (bytes_to at)) (bytes_to at ++ b ∷ more) ≡ answer_to at (Some Long)
+    → answer_of_lines rule (length (bytes_to at)) (bytes_to at ++ b ∷ more) ≡ refused_after at Long
 long-input rule at b more good =
     too-long (length (bytes_to at)) (bytes_to at ++ b ∷ more) at.bytes b more at.before.is_handled at.without_lf refl
     (append_assoc (text_of_lines at.before.lines) at.bytes (b ∷ more)) good

@@ -1,6 +1,6 @@
 -- What the laws speak of: handled lines, and the line or the bytes after them.
 -- Source: this profile.
-use Rattle.std.specs.Prelude.{◌≡◌, ℕ, ◌<◌, Bool, true, false, List, [], ◌∷◌, ◌++◌, length, Option, None}
+use Rattle.std.specs.Prelude.{◌≡◌, ℕ, ◌<◌, Bool, true, false, List, [], ◌∷◌, ◌++◌, length, Option, Some, None}
 use Rattle.subdiv_model.specs.Fault.{Fault, Obj}
 use Rattle.subdiv_model.specs.ObjFault.{LongLine}
 use Rattle.subdiv_model.specs.ObjMesh.{ObjMesh}
@@ -51,9 +51,9 @@ added_by {rule = rule} at = rule.line at.before.lines at.bytes
 abbrev pub unclosed_at : {rule : LineRule} → Pending rule → Option Fault
 unclosed_at {rule = rule} at = rule.unclosed at.before.lines at.bytes
 
--- the text of the handled lines, and a refusal
-abbrev pub answer_to : {rule : LineRule} → Pending rule → Option Fault → Answer
-answer_to at refusal = answer_with at.before.text refusal
+-- the text of the handled lines, and then a refusal
+abbrev pub refused_after : {rule : LineRule} → Pending rule → Fault → Answer
+refused_after at fault = answer_with at.before.text (Some fault)
 
 -- a line that is refused
 pub record RefusedLine (rule : LineRule) : Type 0 where

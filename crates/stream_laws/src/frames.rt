@@ -11,11 +11,11 @@ ghost use Rattle.subdiv_model.specs.Frames.{words_of_lines, frame_after};
 ghost use Rattle.stream_laws.specs.Handled.{are_lines, text_of_lines, IsHandled, IsRefusedStart};
 ghost use Rattle.stream_laws.specs.Laws.{Asked, FirstFrames, OpenText, bytes_of_text, lines_of_text, rule_for, have_frames, mesh_words, frame_words, frame_of, long_line, answer_with};
 
-/// Lines have the words that a mesh reads from their text, and `frames` refuses of a text that ends with an open line what it
+/// Lines have the words that a mesh reads from their text, and of a text whose last line nothing closes `frames` refuses what it
 /// refuses of its lines.
 pub fn lines_have_the_words_of_their_text()
     ensures words { (lines : List (List ℕ)) → are_lines lines ≡ true → obj_lines (text_of_lines lines) ≡ words_of_lines lines }
-    ensures open { (options : FramesOptions) (text : OpenText)
+    ensures unclosed { (options : FramesOptions) (text : OpenText)
         → frames_refusal options (obj_lines (bytes_of_text text)) ≡ frames_refusal options (words_of_lines (lines_of_text text)) }
 {}
 
@@ -35,10 +35,10 @@ pub fn lines_after_frames_are_frame_lines()
         → frame_of mesh (before ++ line ∷ []) ≡ frame_after mesh.common (frame_of mesh before) (line_words line) }
 {}
 
-/// The lines of the mesh add nothing and none is refused while it is open; the mesh is judged at the first line `frames`, or at the end.
+/// The lines of the mesh add nothing, also while nothing closes them; the mesh is judged at the first line `frames`, or at the end.
 pub fn lines_of_a_mesh_add_nothing()
     ensures lines { (asked : Asked) (lines : List (List ℕ)) → are_lines lines ≡ true → have_frames lines ≡ false → IsHandled (rule_for asked) lines [] }
-    ensures open { (asked : Asked) (before : List (List ℕ)) (bytes : List ℕ) → have_frames before ≡ false → (rule_for asked).unclosed before bytes ≡ None }
+    ensures unclosed { (asked : Asked) (before : List (List ℕ)) (bytes : List ℕ) → have_frames before ≡ false → (rule_for asked).unclosed before bytes ≡ None }
     ensures frames { (asked : Asked) (at : FirstFrames)
         → (rule_for asked).line at.before at.line ≡ answer_unless (asked.refusal (words_of_lines at.before)) [] }
     ensures end { (asked : Asked) (before : List (List ℕ)) → have_frames before ≡ false

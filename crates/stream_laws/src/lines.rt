@@ -4,7 +4,7 @@ ghost use Rattle.std.specs.Prelude.{◌≡◌, ℕ, ◌<◌, ◌≤◌, List, []
 ghost use Rattle.subdiv_model.specs.Fault.{Long};
 ghost use Rattle.subdiv_model.specs.Stream.{LineRule, answer_so_far, answer_of_all, answer_of_lines};
 ghost use Rattle.stream_laws.specs.Handled.{IsHandled};
-ghost use Rattle.stream_laws.specs.Laws.{Handled, Pending, RefusedLine, RefusedStart, EndOfLines, EndOfLine, BeginsWith, answer_with, bytes_of, bytes_to, closed_to, lines_to, added_by, unclosed_at, answer_to};
+ghost use Rattle.stream_laws.specs.Laws.{Handled, Pending, RefusedLine, RefusedStart, EndOfLines, EndOfLine, BeginsWith, answer_with, bytes_of, bytes_to, closed_to, lines_to, added_by, unclosed_at, refused_after};
 
 /// No lines are handled with no text. A line that is not refused is handled after those before it, and its text comes after theirs.
 pub fn lines_are_handled_one_by_one()
@@ -16,22 +16,22 @@ pub fn lines_are_handled_one_by_one()
 /// Where a line is refused, the answer is the text of the lines before it and the refusal, whatever comes after the line.
 pub fn refused_lines_end_the_answer()
     ensures closed { (rule : LineRule) (at : RefusedLine rule) (limit : ℕ) (more : List ℕ) → length (closed_to at.line) ≤ limit
-        → answer_of_lines rule limit (closed_to at.line ++ more) ≡ answer_to at.line (Some at.fault) }
+        → answer_of_lines rule limit (closed_to at.line ++ more) ≡ refused_after at.line at.fault }
     ensures last { (rule : LineRule) (at : RefusedLine rule) (limit : ℕ) → 0 < length at.line.bytes → length (bytes_to at.line) ≤ limit
-        → answer_of_lines rule limit (bytes_to at.line) ≡ answer_to at.line (Some at.fault) }
+        → answer_of_lines rule limit (bytes_to at.line) ≡ refused_after at.line at.fault }
 {}
 
 /// Where pending bytes are refused whatever follows them, the answer is the text of the lines before them and the refusal.
 pub fn refused_bytes_end_the_answer()
     ensures { (rule : LineRule) (at : RefusedStart rule) (limit : ℕ) (more : List ℕ) → length (bytes_to at.start) ≤ limit
-        → answer_of_lines rule limit (bytes_to at.start ++ more) ≡ answer_to at.start (Some at.fault) }
+        → answer_of_lines rule limit (bytes_to at.start ++ more) ≡ refused_after at.start at.fault }
 {}
 
 /// Pending bytes that are not refused add nothing so far, and where they fill the limit one byte more is too long.
 pub fn pending_bytes_add_nothing()
-    ensures so_far { (rule : LineRule) (at : Pending rule) → unclosed_at at ≡ None → answer_so_far rule (bytes_to at) ≡ answer_to at None }
+    ensures so_far { (rule : LineRule) (at : Pending rule) → unclosed_at at ≡ None → answer_so_far rule (bytes_to at) ≡ answer_with at.before.text None }
     ensures long { (rule : LineRule) (at : Pending rule) (b : ℕ) (more : List ℕ) → unclosed_at at ≡ None
-        → answer_of_lines rule (length (bytes_to at)) (bytes_to at ++ b ∷ more) ≡ answer_to at (Some Long) }
+        → answer_of_lines rule (length (bytes_to at)) (bytes_to at ++ b ∷ more) ≡ refused_after at Long }
 {}
 
 /// Where the input ends, what is refused of all lines comes after their text; bytes that nothing closes are the last line.
