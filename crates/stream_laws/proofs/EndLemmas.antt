@@ -54,7 +54,7 @@ pub handled-stays : {rule : LineRule} {lines : List (List ℕ)} {text : List ℕ
     → (rest : List ℕ) × ((answer_of_all rule (text_of_lines lines ++ more)).text ≡ text ++ rest)
 handled-stays {rule = rule} {lines = lines} more handled = ((all-of rule lines more).text, ap (λ (a : Answer). a.text) (all-after more handled))
 
--- and of one more line
+-- what is written of handled lines and one more stays
 pub written-stays : {rule : LineRule} {lines : List (List ℕ)} {text : List ℕ} (taken line pending : List ℕ)
     → IsHandled rule lines text → has_lf line ≡ false → (rule.line lines line).refusal ≡ None
     → taken ≡ text_of_lines lines ++ (line ++ 10 ∷ pending) → (rest : List ℕ) × ((answer_of_all rule taken).text ≡ text ++ ((rule.line lines line).text ++ rest))
@@ -69,7 +69,7 @@ written-stays {rule = rule} {lines = lines} {text = text} taken line pending han
           ∙ ap (λ more. text ++ more) (then-text (rule.line lines line) next good),
     )
 
--- and of a last line that nothing closes
+-- what is written of handled lines and a last one that nothing closes stays
 pub last-written-stays : {rule : LineRule} {lines : List (List ℕ)} {text : List ℕ} (taken line : List ℕ)
     → IsHandled rule lines text → has_lf line ≡ false → 0 < length line → (rule.line lines line).refusal ≡ None
     → taken ≡ text_of_lines lines ++ line → (rest : List ℕ) × ((answer_of_all rule taken).text ≡ text ++ ((rule.line lines line).text ++ rest))

@@ -93,7 +93,7 @@ pub words-later : (before : List (List ℕ)) (line : List ℕ) → has_frames (w
 words-later [] line some = absurd (true≢false (sym some))
 words-later (first ∷ before) line some = refl
 
--- lines of bytes, one more: before the line `frames`, at it and after it
+-- one more line of bytes: before the line `frames`, at it and after it
 pub line-none : (before : List (List ℕ)) (line : List ℕ) → has_frames (words_of_lines before) ≡ false → is_frames_line (words_after before line) ≡ false
     → has_frames (words_of_lines (before ++ line ∷ [])) ≡ false
 line-none before line none no-frames = ap has_frames (words-more before line) ∙ frames-none (words_of_lines before) (words_after before line) none no-frames

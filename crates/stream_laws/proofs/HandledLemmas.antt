@@ -27,7 +27,7 @@ from-append : (rule : LineRule) (end : List (List ℕ) → Answer) (before lines
 from-append rule end before [] rest = refl
 from-append rule end before (line ∷ lines) rest = ap (then_answer (rule.line before line)) (from-append rule end (before ++ line ∷ []) lines rest)
 
--- an answer that is not refused begins with one that is not
+-- where two answers are a text without a refusal, so is each
 then-parts : (refusal : Option Fault) (text : List ℕ) (next : Answer) (all : List ℕ) → answer_unless_refused refusal text next ≡ only-text all
     → (refusal ≡ None) × (next ≡ only-text next.text) × (text ++ next.text ≡ all)
 then-parts None text next all h = (refl, ap (λ r. record { text = next.text; refusal = r }) (ap (λ (a : Answer). a.refusal) h), ap (λ (a : Answer). a.text) h)
@@ -48,7 +48,7 @@ end-after rule end before (line ∷ lines) text h =
     ∙ after-after first.text next.text (end (before ++ line ∷ lines))
     ∙ ap (λ t. after_text t (end (before ++ line ∷ lines))) parts.2
 
--- what comes after the handled lines, comes after their text
+-- what comes after handled lines comes after their text
 pub handled-then : {rule : LineRule} {lines : List (List ℕ)} {text : List ℕ} (end : List (List ℕ) → Answer) (rest : List (List ℕ)) → IsHandled rule lines text
     → answer_from rule end [] (lines ++ rest) ≡ after_text text (answer_from rule end lines rest)
 handled-then {rule = rule} {lines = lines} {text = text} end rest handled =
@@ -58,7 +58,7 @@ handled-then {rule = rule} {lines = lines} {text = text} end rest handled =
 pub handled-none : {rule : LineRule} → IsHandled rule [] []
 handled-none = record { closed = refl; answered = refl }
 
--- and one more line is, where it is not refused
+-- a line that is not refused is handled after those before it
 pub handled-more : {rule : LineRule} {lines : List (List ℕ)} {text line more : List ℕ} → IsHandled rule lines text → has_lf line ≡ false
     → rule.line lines line ≡ record { text = more; refusal = None } → IsHandled rule (lines ++ line ∷ []) (text ++ more)
 handled-more {rule = rule} {lines = lines} {text = text} {line = line} {more = more} handled none answered = record {

@@ -9,3 +9,4 @@ pub mod FrameLemmas
 pub mod RuleLemmas
 pub mod MarkLemmas
 pub mod LawLemmas
+pub mod CutLemmas

@@ -30,11 +30,11 @@ unless-nothing : (fault : Option Fault) → answer_unless fault [] ≡ record { 
 unless-nothing None = refl
 unless-nothing (Some fault) = refl
 
--- a line of too many bytes has the cause
+-- the cause of a line of too many bytes
 long-cause : (count common : ℕ) (line : List ℕ) → 65535 < length line → frame_cause count common line ≡ Some LongLine
 long-cause count common line long = ap (λ test. if test then Some LongLine else words_cause count common (line_words line)) (lt-ltb 65535 (length line) long)
 
--- and is refused
+-- a frame line of too many bytes is refused
 long-answer : (depth : ℕ) (mesh : ObjMesh) (before : Words) (number : ℕ) (line : List ℕ) → 65535 < length line
     → frame_answer depth mesh before number line ≡ refused (long-line number)
 long-answer depth mesh before number line long =
@@ -58,7 +58,7 @@ module _ (depth : ℕ) (refusal : Words → Option Fault) (mesh : Words → ObjM
       → (frames_rule depth refusal mesh).line before line ≡ answer_unless (refusal (words_of_lines before)) []
   frames-line before line none is = rw none rw is refl
 
-  -- after it the frame lines are answered
+  -- after a line `frames` a line is answered
   pub frame-line : (before : Lines) (line : List ℕ) → has_frames (words_of_lines before) ≡ true
       → (frames_rule depth refusal mesh).line before line
       ≡ frame_answer depth (mesh (mesh_lines (words_of_lines before))) (frame_lines (words_of_lines before)) (suc (length before)) line
@@ -74,7 +74,7 @@ module _ (depth : ℕ) (refusal : Words → Option Fault) (mesh : Words → ObjM
       ap (λ test. if test then Some (long-line (suc (length before))) else None)
       (and_right (has_frames (words_of_lines before)) (nat_lt line_limit (length bytes)) (le-ltb 65535 (length bytes) short))
 
-  -- where the input ends the mesh is judged, unless it was
+  -- where the input ends the mesh is judged, unless a line `frames` was there
   pub mesh-end : (before : Lines) → has_frames (words_of_lines before) ≡ false
       → (frames_rule depth refusal mesh).end before ≡ record { text = []; refusal = refusal (words_of_lines before) }
   mesh-end before none = rw none (unless-nothing (refusal (words_of_lines before)))
@@ -83,7 +83,7 @@ module _ (depth : ℕ) (refusal : Words → Option Fault) (mesh : Words → ObjM
       → (frames_rule depth refusal mesh).end before ≡ record { text = []; refusal = None }
   frames-end before some = rw some refl
 
-  -- a frame line of too many bytes is refused, whatever follows them
+  -- pending bytes of a frame line are refused where they are too many, whatever follows them
   pub long-refused : (before : Lines) (start : List ℕ) → has_frames (words_of_lines before) ≡ true → 65535 < length start
       → IsRefusedStart (frames_rule depth refusal mesh) before start (Obj (record { line = suc (length before); cause = LongLine }))
   long-refused before start some long = record {

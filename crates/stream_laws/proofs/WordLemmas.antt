@@ -18,17 +18,17 @@ pub words-bytes : (before : List (List ℕ)) (line : List ℕ) → words_after b
 words-bytes [] line = refl
 words-bytes (first ∷ before) line = refl
 
--- one line more
+-- the words of one line more
 pub words-more : (before : List (List ℕ)) (line : List ℕ) → words_of_lines (before ++ line ∷ []) ≡ words_of_lines before ++ words_after before line ∷ []
 words-more [] line = refl
 words-more (first ∷ before) line = ap (λ words. words_after [] first ∷ words) (map-append line_words before (line ∷ []))
 
--- lines after others, which begin with a line
+-- the words of lines after others, the first of which stands by itself
 pub words-append : (first : List ℕ) (before lines : List (List ℕ))
     → words_of_lines ((first ∷ before) ++ lines) ≡ words_of_lines (first ∷ before) ++ map line_words lines
 words-append first before lines = ap (λ words. words_after [] first ∷ words) (map-append line_words before lines)
 
--- a line and more of them, after others
+-- the words of a line after others, and of those after it
 pub words-next : (before : List (List ℕ)) (line : List ℕ) (lines : List (List ℕ))
     → words_of_lines (before ++ line ∷ lines) ≡ words_of_lines before ++ words_after before line ∷ map line_words lines
 words-next [] line lines = refl
@@ -98,7 +98,7 @@ text-words [] closed = refl
 text-words (line ∷ lines) closed =
     ap obj_lines (sym (append-nil (text_of_lines (line ∷ lines)))) ∙ first-words line lines [] closed ∙ append-nil (words_of_lines (line ∷ lines))
 
--- and with a last line that nothing closes
+-- the words of the text of lines, the last of which nothing closes
 pub last-words : (lines : List (List ℕ)) (line : List ℕ) → are_lines lines ≡ true → has_lf line ≡ false → 0 < length (bytes_after lines line)
     → obj_lines (text_of_lines lines ++ line) ≡ words_of_lines (lines ++ line ∷ [])
 last-words [] line closed none some = ap (map line_words) (last-of-lines (without_mark line) (marked-lf line none) some)

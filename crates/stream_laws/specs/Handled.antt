@@ -7,11 +7,11 @@ use Rattle.subdiv_model.specs.Fault.{Fault}
 use Rattle.subdiv_model.specs.Refusal.{refused}
 use Rattle.subdiv_model.specs.Stream.{LineRule, answer_from}
 
--- a byte of them is LF
+-- one of the bytes is LF
 abbrev pub has_lf : List ℕ → Bool
 has_lf bytes = list_any is_lf bytes
 
--- each is without LF, so that LF can close it
+-- each line is without LF, so that LF can close it
 abbrev pub are_lines : List (List ℕ) → Bool
 are_lines lines = list_all (λ line. not (has_lf line)) lines
 

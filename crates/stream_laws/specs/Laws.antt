@@ -33,7 +33,7 @@ pub record Pending (rule : LineRule) : Type 0 where
 abbrev pub bytes_of : {rule : LineRule} → Handled rule → List ℕ
 bytes_of at = text_of_lines at.lines
 
--- the same with the pending bytes, and with these closed by LF
+-- the bytes of handled lines and the pending bytes, which in `closed_to` LF closes
 abbrev pub bytes_to : {rule : LineRule} → Pending rule → List ℕ
 bytes_to at = text_of_lines at.before.lines ++ at.bytes
 
@@ -91,7 +91,7 @@ pub record OpenText : Type 0 where
   pub without_lf : has_lf last ≡ false
   pub some : 0 < length last
 
--- its bytes, and its lines
+-- the bytes of the text, and its lines
 abbrev pub bytes_of_text : OpenText → List ℕ
 bytes_of_text text = text_of_lines text.lines ++ text.last
 

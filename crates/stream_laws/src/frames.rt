@@ -11,7 +11,7 @@ ghost use Rattle.subdiv_model.specs.Frames.{words_of_lines, frame_after};
 ghost use Rattle.stream_laws.specs.Handled.{are_lines, text_of_lines, IsHandled, IsRefusedStart};
 ghost use Rattle.stream_laws.specs.Laws.{Asked, FirstFrames, OpenText, bytes_of_text, lines_of_text, rule_for, have_frames, mesh_words, frame_words, frame_of, long_line, answer_with};
 
-/// Lines have the words that a mesh reads from their text, and of a text whose last line nothing closes `frames` refuses what it
+/// Lines have the words that a mesh reads from their text. Of a text whose last line nothing closes, `frames` refuses what it
 /// refuses of its lines.
 pub fn lines_have_the_words_of_their_text()
     ensures words { (lines : List (List ℕ)) → are_lines lines ≡ true → obj_lines (text_of_lines lines) ≡ words_of_lines lines }
@@ -19,14 +19,14 @@ pub fn lines_have_the_words_of_their_text()
         → frames_refusal options (obj_lines (bytes_of_text text)) ≡ frames_refusal options (words_of_lines (lines_of_text text)) }
 {}
 
-/// Without a line `frames` all lines are the mesh's, and at the first one those before it are, without a frame line.
+/// Without a line `frames` all lines are the mesh's. At the first one those before it are, and there is no frame line yet.
 pub fn lines_before_frames_are_the_mesh()
     ensures all { (lines : List (List ℕ)) → have_frames lines ≡ false → mesh_words lines ≡ words_of_lines lines }
     ensures mesh { (at : FirstFrames) → mesh_words (at.before ++ at.line ∷ []) ≡ words_of_lines at.before }
     ensures frames { (at : FirstFrames) → frame_words (at.before ++ at.line ∷ []) ≡ [] }
 {}
 
-/// After a line `frames` the mesh's lines stay, and one more line is a frame line, which moves the frame.
+/// After a line `frames` the mesh's lines stay. One more line is a frame line, and moves what the frame lines have come to.
 pub fn lines_after_frames_are_frame_lines()
     ensures mesh { (before : List (List ℕ)) (line : List ℕ) → have_frames before ≡ true → mesh_words (before ++ line ∷ []) ≡ mesh_words before }
     ensures frames { (before : List (List ℕ)) (line : List ℕ) → have_frames before ≡ true
@@ -35,7 +35,8 @@ pub fn lines_after_frames_are_frame_lines()
         → frame_of mesh (before ++ line ∷ []) ≡ frame_after mesh.common (frame_of mesh before) (line_words line) }
 {}
 
-/// The lines of the mesh add nothing, also while nothing closes them; the mesh is judged at the first line `frames`, or at the end.
+/// The lines of the mesh add nothing, also while nothing closes them. The mesh is judged at the first line `frames`, or at the
+/// end of the input where there is none.
 pub fn lines_of_a_mesh_add_nothing()
     ensures lines { (asked : Asked) (lines : List (List ℕ)) → are_lines lines ≡ true → have_frames lines ≡ false → IsHandled (rule_for asked) lines [] }
     ensures unclosed { (asked : Asked) (before : List (List ℕ)) (bytes : List ℕ) → have_frames before ≡ false → (rule_for asked).unclosed before bytes ≡ None }
@@ -45,7 +46,8 @@ pub fn lines_of_a_mesh_add_nothing()
         → (rule_for asked).end before ≡ answer_with [] (asked.refusal (words_of_lines before)) }
 {}
 
-/// Pending bytes of a line are not refused while they are at most 65,535, and more of a frame line are, whatever follows them.
+/// Pending bytes of a line are not refused while they are at most 65,535. More of a frame line are refused, whatever follows
+/// them.
 pub fn long_frame_lines_are_refused()
     ensures short { (asked : Asked) (before : List (List ℕ)) (bytes : List ℕ) → length bytes ≤ 65535 → (rule_for asked).unclosed before bytes ≡ None }
     ensures long { (asked : Asked) (before : List (List ℕ)) (bytes : List ℕ) → have_frames before ≡ true → 65535 < length bytes

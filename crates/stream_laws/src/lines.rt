@@ -27,14 +27,14 @@ pub fn refused_bytes_end_the_answer()
         → answer_of_lines rule limit (bytes_to at.start ++ more) ≡ refused_after at.start at.fault }
 {}
 
-/// Pending bytes that are not refused add nothing so far, and where they fill the limit one byte more is too long.
+/// Pending bytes that are not refused add nothing so far. Where they fill the limit, an input of one byte more is too long.
 pub fn pending_bytes_add_nothing()
     ensures so_far { (rule : LineRule) (at : Pending rule) → unclosed_at at ≡ None → answer_so_far rule (bytes_to at) ≡ answer_with at.before.text None }
     ensures long { (rule : LineRule) (at : Pending rule) (b : ℕ) (more : List ℕ) → unclosed_at at ≡ None
         → answer_of_lines rule (length (bytes_to at)) (bytes_to at ++ b ∷ more) ≡ refused_after at Long }
 {}
 
-/// Where the input ends, what is refused of all lines comes after their text; bytes that nothing closes are the last line.
+/// Where the input ends, what is refused of all lines comes after their text. Bytes that nothing closes are the last line.
 pub fn the_end_comes_last()
     ensures closed { (rule : LineRule) (at : EndOfLines rule) (limit : ℕ) → length (bytes_of at.lines) ≤ limit
         → answer_of_lines rule limit (bytes_of at.lines) ≡ answer_with at.lines.text at.refusal }
