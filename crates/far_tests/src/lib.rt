@@ -32,6 +32,8 @@ mod marks;
 #[cfg(test)]
 mod meshes;
 #[cfg(test)]
+mod number_lists;
+#[cfg(test)]
 mod numbers;
 #[cfg(test)]
 mod numerals;

@@ -1,6 +1,6 @@
 //! A list of numbers that are all of one width.
 
-ghost use Rattle.std.specs.Prelude.{◌≡◌, ◌+◌, ◌<◌, ◌≤◌, ℕ, [], ◌∷◌, ◌++◌, List, length, get_or, map, slice_range, IfOk, OnOk, OnErr, IsOk};
+ghost use Rattle.std.specs.Prelude.{◌≡◌, ◌+◌, ◌<◌, ◌≤◌, ℕ, [], ◌∷◌, ◌++◌, List, length, get_or, map, replicate, set, slice_range, IfOk, OnOk, OnErr, IsOk};
 ghost use Rattle.std.specs.List.{All};
 ghost use Rattle.std.specs.Vec.{vec_capacity};
 ghost use Rattle.number_width.specs.Numbers.{most_of, numbers_in};
@@ -84,6 +84,19 @@ impl NumberList {
         Ok(NumberList { items })
     }
 
+    /// So many zeros, of a width.
+    pub fn zeros(alloc: Global, width: Width, len: usize) -> Result<NumberList, Memory>
+        ensures items { IfOk result (λ list. list.items ≡ replicate len 0) }
+        ensures width { IfOk result (λ list. list.width ≡ width) }
+        ensures capacity { IfOk result (λ list. len ≤ list.capacity) }
+    {
+        let items = match width {
+            Width::Narrow => Items::Narrow(vec![in alloc; 0; len]?),
+            Width::Wide => Items::Wide(vec![in alloc; 0; len]?),
+        };
+        Ok(NumberList { items })
+    }
+
     /// How many numbers there are.
     pub fn len(&self) -> usize
         ensures { result ≡ length self.now.items }
@@ -158,6 +171,20 @@ impl NumberList {
         match &mut self.items {
             Items::Narrow(items) => append(items, numbers),
             Items::Wide(items) => append(items, numbers),
+        }
+    }
+
+    /// Puts a number in the place of another. The number is one of the list's width.
+    pub fn set(&mut self, at: usize, number: u128)
+        requires inside { at < length self.old.items }
+        requires small { number ≤ most_of self.old.width }
+        ensures items { self.new.items ≡ set self.old.items at number }
+        ensures width { self.new.width ≡ self.old.width }
+        ensures capacity { self.new.capacity ≡ self.old.capacity }
+    {
+        match &mut self.items {
+            Items::Narrow(items) => items[at] = number as u64,
+            Items::Wide(items) => items[at] = number,
         }
     }
 }
