@@ -3,8 +3,8 @@ use Rattle.std.proofs.Common.{◌≡◌, ℕ, ◌-◌, ◌<◌, ◌≤◌, List,
 use Rattle.std.proofs.lemmas.Bool.{cases_lt}
 use Rattle.std.proofs.Math.Seq.{take-append-add}
 use Rattle.subdiv_model.specs.Fault.{Fault, Long}
-use Rattle.subdiv_model.specs.Refusal.{Answer, after_text, then_answer, answer_unless, refused}
-use Rattle.subdiv_model.specs.Stream.{LineRule, answer_from, answer_at_end, answer_so_far, answer_of_all, answer_of_lines, closed_of, unclosed_of}
+use Rattle.far_model.specs.Refusal.{Answer, after_text, then_answer, answer_unless, refused}
+use Rattle.far_model.specs.Stream.{LineRule, answer_from, answer_at_end, answer_so_far, answer_of_all, answer_of_lines, closed_of, unclosed_of}
 use Rattle.stream_laws.specs.Handled.{text_of_lines, IsHandled}
 use Rattle.stream_laws.proofs.PartLemmas.{lines-closed, lines-unclosed}
 use Rattle.stream_laws.proofs.HandledLemmas.{handled-then}

@@ -1,8 +1,8 @@
 -- What handled lines come to so far, where more may come, and at the end of the input.
 use Rattle.std.proofs.Common.{◌≡◌, ℕ, ◌<◌, ◌≤◌, false, List, [], ◌∷◌, ◌++◌, length, Option, None, ap, sym, ◌∙◌, append-nil}
 use Rattle.subdiv_model.specs.Fault.{Fault}
-use Rattle.subdiv_model.specs.Refusal.{Answer, after_text, then_answer, answer_unless, answer_unless_refused}
-use Rattle.subdiv_model.specs.Stream.{LineRule, answer_from, answer_at_end, answer_so_far, answer_of_all, answer_of_lines, closed_of, unclosed_of}
+use Rattle.far_model.specs.Refusal.{Answer, after_text, then_answer, answer_unless, answer_unless_refused}
+use Rattle.far_model.specs.Stream.{LineRule, answer_from, answer_at_end, answer_so_far, answer_of_all, answer_of_lines, closed_of, unclosed_of}
 use Rattle.stream_laws.specs.Handled.{has_lf, text_of_lines, IsHandled}
 use Rattle.stream_laws.proofs.PartLemmas.{first-closed}
 use Rattle.stream_laws.proofs.HandledLemmas.{after-nothing, after-after}

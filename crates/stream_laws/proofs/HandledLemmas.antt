@@ -2,8 +2,8 @@
 use Rattle.std.proofs.Common.{◌≡◌, ℕ, false, List, [], ◌∷◌, ◌++◌, Option, None, Some, refl, ap, sym, ◌∙◌, append_assoc, append-nil}
 use Rattle.std.proofs.lemmas.Option.{none-some}
 use Rattle.subdiv_model.specs.Fault.{Fault}
-use Rattle.subdiv_model.specs.Refusal.{Answer, after_text, then_answer, answer_unless_refused, refused}
-use Rattle.subdiv_model.specs.Stream.{LineRule, answer_from}
+use Rattle.far_model.specs.Refusal.{Answer, after_text, then_answer, answer_unless_refused, refused}
+use Rattle.far_model.specs.Stream.{LineRule, answer_from}
 use Rattle.stream_laws.specs.Handled.{has_lf, IsHandled}
 use Rattle.stream_laws.proofs.PartLemmas.{lines-more}
 

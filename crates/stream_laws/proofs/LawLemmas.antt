@@ -1,7 +1,7 @@
 -- The laws of lines, over the records that they speak of.
 use Rattle.std.proofs.Common.{◌≡◌, ℕ, ◌<◌, ◌≤◌, List, [], ◌∷◌, ◌++◌, length, None, refl, ap, sym, ◌∙◌, append_assoc}
 use Rattle.subdiv_model.specs.Fault.{Long}
-use Rattle.subdiv_model.specs.Stream.{LineRule, answer_of_all, answer_of_lines}
+use Rattle.far_model.specs.Stream.{LineRule, answer_of_all, answer_of_lines}
 use Rattle.stream_laws.specs.Handled.{text_of_lines}
 use Rattle.stream_laws.specs.Laws.{Pending, RefusedLine, RefusedStart, EndOfLine, BeginsWith, answer_with, bytes_to, closed_to, added_by, unclosed_at, refused_after}
 use Rattle.stream_laws.proofs.RefusedLemmas.{line-refused, last-line-refused}

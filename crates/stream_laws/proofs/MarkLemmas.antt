@@ -1,9 +1,9 @@
 -- What `frames` refuses of the lines of a text whose last line nothing closes is what it refuses of the text.
 use Rattle.std.proofs.Common.{◌≡◌, ℕ, ◌<◌, true, false, List, [], ◌∷◌, ◌++◌, length, arith, refl, ap, sym, ◌∙◌, ⊎_elim, eq-zero-or-pos}
-use Rattle.subdiv_model.specs.Command.{FramesOptions, Stencils}
+use Rattle.far_model.specs.Command.{FramesOptions, Stencils}
 use Rattle.subdiv_model.specs.ReadObj.{obj_lines, lines_fault, mesh_of_lines}
-use Rattle.subdiv_model.specs.Frames.{words_of_lines}
-use Rattle.subdiv_model.specs.Answer.{answer_of_read, frames_refusal}
+use Rattle.far_model.specs.Frames.{words_of_lines}
+use Rattle.far_model.specs.Answer.{answer_of_read, frames_refusal}
 use Rattle.stream_laws.specs.Handled.{has_lf, are_lines, text_of_lines}
 use Rattle.stream_laws.specs.Marked.{bytes_after}
 use Rattle.stream_laws.proofs.WordLemmas.{last-words, only-mark}

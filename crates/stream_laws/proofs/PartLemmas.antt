@@ -5,7 +5,7 @@ use Rattle.std.proofs.lemmas.List.Folds.{list_any_at, list_any-append}
 use Rattle.std.proofs.lemmas.List.Splits.{slice_split_none, slice_split_at, length-slice_split}
 use Rattle.subdiv_model.specs.Lists.{last_of}
 use Rattle.subdiv_model.specs.ObjLine.{is_lf}
-use Rattle.subdiv_model.specs.Stream.{but_last, parts_of, closed_of, unclosed_of}
+use Rattle.far_model.specs.Stream.{but_last, parts_of, closed_of, unclosed_of}
 use Rattle.stream_laws.specs.Handled.{has_lf, are_lines, text_of_lines}
 
 -- each byte of a line without LF is another

@@ -1,8 +1,8 @@
 -- A line that is refused, bytes that are refused as soon as they are there, and input that is too long.
 use Rattle.std.proofs.Common.{◌≡◌, ℕ, ◌<◌, ◌≤◌, false, List, [], ◌∷◌, ◌++◌, length, Some, arith, refl, ap, sym, ◌∙◌, append_assoc}
 use Rattle.subdiv_model.specs.Fault.{Fault}
-use Rattle.subdiv_model.specs.Refusal.{Answer, after_text, then_answer, answer_unless, refused}
-use Rattle.subdiv_model.specs.Stream.{LineRule, answer_from, answer_at_end, answer_so_far, answer_of_all, answer_of_lines, closed_of, unclosed_of}
+use Rattle.far_model.specs.Refusal.{Answer, after_text, then_answer, answer_unless, refused}
+use Rattle.far_model.specs.Stream.{LineRule, answer_from, answer_at_end, answer_so_far, answer_of_all, answer_of_lines, closed_of, unclosed_of}
 use Rattle.stream_laws.specs.Handled.{has_lf, text_of_lines, IsHandled}
 use Rattle.stream_laws.proofs.PartLemmas.{first-closed, none-closed, all-unclosed}
 use Rattle.stream_laws.proofs.HandledLemmas.{after-nothing}

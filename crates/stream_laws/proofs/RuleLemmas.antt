@@ -8,9 +8,9 @@ use Rattle.subdiv_model.specs.Fault.{Fault, Obj, Overflow, Positions, ValueOverf
 use Rattle.subdiv_model.specs.ObjFault.{LongLine}
 use Rattle.subdiv_model.specs.ObjLine.{line_words}
 use Rattle.subdiv_model.specs.ObjMesh.{ObjMesh}
-use Rattle.subdiv_model.specs.Refusal.{answer_unless, refused, then_answer, after_text}
-use Rattle.subdiv_model.specs.Stream.{answer_from}
-use Rattle.subdiv_model.specs.Frames.{words_after, words_of_lines, is_frames_line, has_frames, mesh_lines, frame_lines, line_limit, frame_cause, words_cause, frame_fault, overflows, frame_answer, frame_text, frame_at, is_go_line, frames_rule}
+use Rattle.far_model.specs.Refusal.{answer_unless, refused, then_answer, after_text}
+use Rattle.far_model.specs.Stream.{answer_from}
+use Rattle.far_model.specs.Frames.{words_after, words_of_lines, is_frames_line, has_frames, mesh_lines, frame_lines, line_limit, frame_cause, words_cause, frame_fault, overflows, frame_answer, frame_text, frame_at, is_go_line, frames_rule}
 use Rattle.stream_laws.specs.Handled.{are_lines, IsHandled, IsRefusedStart}
 use Rattle.stream_laws.proofs.WordLemmas.{words-next}
 use Rattle.stream_laws.proofs.HandledLemmas.{nothing-more, only-text}

@@ -3,8 +3,8 @@ use Rattle.std.proofs.Common.{◌≡◌, ℕ, ◌<◌, ◌≤◌, false, List, [
 use Rattle.std.proofs.lemmas.List.{length-append}
 use Rattle.std.proofs.Math.Seq.{take-append_seam}
 use Rattle.subdiv_model.specs.Fault.{Fault, Long}
-use Rattle.subdiv_model.specs.Refusal.{Answer, after_text, then_answer, answer_unless, refused}
-use Rattle.subdiv_model.specs.Stream.{LineRule, answer_from, answer_at_end, answer_of_lines, closed_of, unclosed_of}
+use Rattle.far_model.specs.Refusal.{Answer, after_text, then_answer, answer_unless, refused}
+use Rattle.far_model.specs.Stream.{LineRule, answer_from, answer_at_end, answer_of_lines, closed_of, unclosed_of}
 use Rattle.stream_laws.specs.Handled.{has_lf, text_of_lines, IsHandled, IsRefusedStart}
 use Rattle.stream_laws.proofs.PartLemmas.{joined-lf, FirstLine, first-line}
 use Rattle.stream_laws.proofs.HandledLemmas.{after-nothing}

@@ -8,7 +8,7 @@ use Rattle.std.proofs.lemmas.List.Folds.{list_any-append}
 use Rattle.std.proofs.lemmas.List.Splits.{slice_split_none, slice_split_at, length-slice_split}
 use Rattle.subdiv_model.specs.ObjLine.{is_lf, closed_lines, lines_of, line_words}
 use Rattle.subdiv_model.specs.ReadObj.{byte_order_mark, without_mark, obj_lines}
-use Rattle.subdiv_model.specs.Frames.{words_after, words_of_lines}
+use Rattle.far_model.specs.Frames.{words_after, words_of_lines}
 use Rattle.stream_laws.specs.Handled.{has_lf, are_lines, text_of_lines}
 use Rattle.stream_laws.specs.Marked.{bytes_after}
 use Rattle.stream_laws.proofs.PartLemmas.{no-lf, not-lf, text-first}

@@ -4,8 +4,8 @@ use Rattle.std.specs.Prelude.{◌≡◌, ℕ, Bool, true, not, List, [], ◌∷�
 use Rattle.std.specs.List.{list_any, list_all, flat_map}
 use Rattle.subdiv_model.specs.ObjLine.{is_lf}
 use Rattle.subdiv_model.specs.Fault.{Fault}
-use Rattle.subdiv_model.specs.Refusal.{refused}
-use Rattle.subdiv_model.specs.Stream.{LineRule, answer_from}
+use Rattle.far_model.specs.Refusal.{refused}
+use Rattle.far_model.specs.Stream.{LineRule, answer_from}
 
 -- one of the bytes is LF
 abbrev pub has_lf : List ℕ → Bool

@@ -4,9 +4,9 @@ use Rattle.std.specs.Prelude.{◌≡◌, ℕ, ◌<◌, Bool, true, false, List, 
 use Rattle.subdiv_model.specs.Fault.{Fault, Obj}
 use Rattle.subdiv_model.specs.ObjFault.{LongLine}
 use Rattle.subdiv_model.specs.ObjMesh.{ObjMesh}
-use Rattle.subdiv_model.specs.Refusal.{Answer, refused}
-use Rattle.subdiv_model.specs.Stream.{LineRule}
-use Rattle.subdiv_model.specs.Frames.{Frame, words_of_lines, words_after, is_frames_line, has_frames, mesh_lines, frame_lines, frame_at, frames_rule}
+use Rattle.far_model.specs.Refusal.{Answer, refused}
+use Rattle.far_model.specs.Stream.{LineRule}
+use Rattle.far_model.specs.Frames.{Frame, words_of_lines, words_after, is_frames_line, has_frames, mesh_lines, frame_lines, frame_at, frames_rule}
 use Rattle.stream_laws.specs.Handled.{has_lf, are_lines, text_of_lines, IsHandled, IsRefusedStart}
 
 -- a text, and what is refused after it

@@ -4,10 +4,10 @@ ghost use Rattle.std.specs.Prelude.{◌≡◌, ℕ, suc, ◌<◌, ◌≤◌, tru
 ghost use Rattle.subdiv_model.specs.ObjLine.{line_words};
 ghost use Rattle.subdiv_model.specs.ObjMesh.{ObjMesh};
 ghost use Rattle.subdiv_model.specs.ReadObj.{obj_lines};
-ghost use Rattle.subdiv_model.specs.Refusal.{answer_unless};
-ghost use Rattle.subdiv_model.specs.Command.{FramesOptions};
-ghost use Rattle.subdiv_model.specs.Answer.{frames_refusal};
-ghost use Rattle.subdiv_model.specs.Frames.{words_of_lines, frame_after};
+ghost use Rattle.far_model.specs.Refusal.{answer_unless};
+ghost use Rattle.far_model.specs.Command.{FramesOptions};
+ghost use Rattle.far_model.specs.Answer.{frames_refusal};
+ghost use Rattle.far_model.specs.Frames.{words_of_lines, frame_after};
 ghost use Rattle.stream_laws.specs.Handled.{are_lines, text_of_lines, IsHandled, IsRefusedStart};
 ghost use Rattle.stream_laws.specs.Laws.{Asked, FirstFrames, OpenText, bytes_of_text, lines_of_text, rule_for, have_frames, mesh_words, frame_words, frame_of, long_line, answer_with};
 

@@ -2,7 +2,7 @@
 
 ghost use Rattle.std.specs.Prelude.{◌≡◌, ℕ, ◌<◌, ◌≤◌, List, [], ◌∷◌, ◌++◌, length, Some, None};
 ghost use Rattle.subdiv_model.specs.Fault.{Long};
-ghost use Rattle.subdiv_model.specs.Stream.{LineRule, answer_so_far, answer_of_all, answer_of_lines};
+ghost use Rattle.far_model.specs.Stream.{LineRule, answer_so_far, answer_of_all, answer_of_lines};
 ghost use Rattle.stream_laws.specs.Handled.{IsHandled};
 ghost use Rattle.stream_laws.specs.Laws.{Handled, Pending, RefusedLine, RefusedStart, EndOfLines, EndOfLine, BeginsWith, answer_with, bytes_of, bytes_to, closed_to, lines_to, added_by, unclosed_at, refused_after};
 

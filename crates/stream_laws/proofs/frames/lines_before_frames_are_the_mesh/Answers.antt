@@ -1,4 +1,4 @@
-use Rattle.subdiv_model.specs.Frames.{words_of_lines}
+use Rattle.far_model.specs.Frames.{words_of_lines}
 use Rattle.stream_laws.proofs.FrameLemmas.{mesh-all, line-mesh, line-frames}
 use Rattle.stream_laws.proofs.frames.lines_before_frames_are_the_mesh.Goals as goal
 
