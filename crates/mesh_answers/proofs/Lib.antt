@@ -9,5 +9,6 @@ pub mod CutLemmas
 pub mod TextureLemmas
 pub mod RefineLemmas
 pub mod StepLemmas
+pub mod EndLemmas
 pub mod TableLemmas
 pub mod SummaryLemmas

@@ -1,6 +1,8 @@
 -- What a command owes at each of its ends.
 use Rattle.std.proofs.Common.{◌≡◌, ℕ, ◌+◌, ◌≤◌, Result, Ok, Err, IsErr, IsErrAnd, OnOk, sym, subst}
 use Rattle.far_model.specs.Command.{ReadCommand, MakeCommand}
+use Rattle.std.proofs.Common.{◌≡◌, ℕ, ◌+◌, ◌≤◌, Result, Ok, Err, IsErr, IsErrAnd, sym, subst}
+use Rattle.subdiv_model.specs.Command.{ReadCommand, MakeCommand}
 use Rattle.subdiv_model.specs.ObjMesh.{ObjMesh}
 use Rattle.ratio128.specs.StepsTaken.{StepsTaken}
 use Rattle.far_text.specs.declared.reply.Reply.{Reply}
@@ -19,13 +21,6 @@ failed-steps (Err e) old new least most err later within = record { least = tt; 
 pub any-steps : {T E : Type 0} (r : Result T E) (old new least most : ℕ) → old + least ≤ new → old ≤ new → new ≤ old + most → StepsTaken r old new least most
 any-steps (Ok x) old new least most some later within = record { least = some; most = within; later = later }
 any-steps (Err e) old new least most some later within = record { least = tt; most = within; later = later }
-
--- the steps of a call that succeeded, and of one that failed, are those of what is made of it
-pub ok-steps : {X Y E F : Type 0} (r : Result X E) (x : X) (old new least most : ℕ) → r ≡ Ok x → StepsTaken r old new least most → (q : Result Y F) → StepsTaken q old new least most
-ok-steps r x old new least most is taken q = any-steps q old new least most (subst (λ s. OnOk s (old + least ≤ new)) is taken.least) taken.later taken.most
-
-pub err-steps : {X Y E F : Type 0} (r : Result X E) (old new least most : ℕ) → StepsTaken r old new least most → (q : Result Y F) → IsErr q → StepsTaken q old new least most
-err-steps r old new least most taken q err = failed-steps q old new least most err taken.later taken.most
 
 module _ (command : ReadCommand) (mesh : ObjMesh) (old new : ℕ) (later : old ≤ new) (most : new ≤ old + step_limit command mesh) where
   pub refuses : (r : Result Reply FarFault) (fault : FarFault) → IsErr r → IsErrAnd r (λ g. g ≡ fault) → IsFound (fault_of fault) (refusal_of_mesh command mesh) →

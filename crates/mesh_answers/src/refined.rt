@@ -3,21 +3,20 @@
 ghost use Rattle.std.specs.Prelude.{◌≡◌, ◌+◌, ◌≤◌, MatchResult};
 ghost use Rattle.far_model.specs.Command.{Refine, IsReadInRange};
 ghost use Rattle.far_model.specs.Answer.{asked_of, positions_of};
+ghost use Rattle.std.specs.Prelude.{◌≡◌};
+ghost use Rattle.subdiv_model.specs.Command.{Refine, IsReadInRange};
+ghost use Rattle.subdiv_model.specs.Answer.{asked_of};
 ghost use Rattle.channel_refine.specs.View.{asked_of_path};
-ghost use Rattle.far_fault.specs.View.{fault_of};
-ghost use Rattle.far_words.specs.View.{by_of_code, uv_of_code, refine_of_code};
-ghost use Rattle.ratio128.specs.StepsTaken.{StepsTaken};
+ghost use Rattle.far_words.specs.View.{by_of_code, refine_of_code};
 ghost use Rattle.mesh_answers.specs.Levels.{IsSmallManifold};
-ghost use Rattle.mesh_answers.specs.Replies.{IsAnswerTo};
-ghost use Rattle.mesh_answers.specs.StepCounts.{later_faces, position_steps, texture_steps, where_textured};
-ghost use Rattle.mesh_answers.specs.Tracks.{ArePositions, IsPositionFault, IsBaseTexture, IsTextureOf, IsTextureFault};
+ghost use Rattle.mesh_answers.specs.Replies.{IsAnswerTo, IsReplyTo};
+ghost use Rattle.mesh_answers.specs.Tracks.{ArePositions, IsTextureOf};
 
 use crate::tracks::{BaseTexture, BaseTracks, base_tracks};
-use channel_refine::{BaseChannel, Path, RefinedChannel, refine_along};
+use channel_refine::{Path, RefinedChannel, refine_along};
 use far_fault::{FarFault, Track, fault_of_walk};
 use far_text::{MeshForm, RefinedMesh, RefinedTexture, Reply};
 use far_words::{By, RefineOptions};
-use level_walk::WalkFault;
 use ratio128::{Point3, Steps};
 use raw_mesh::RawMesh;
 use std::alloc::Global;
@@ -41,67 +40,6 @@ fn form_of(options: &RefineOptions) -> MeshForm
     MeshForm {
         decimals: options.decimals,
         tags: options.tags,
-    }
-}
-
-// The positions of a mesh at a depth.
-fn refine_positions<L: Ledger>(
-    alloc: Global,
-    mesh: &RawMesh,
-    base: BaseChannel,
-    options: &RefineOptions,
-    steps: &mut Steps<L>,
-) -> Result<RefinedChannel<Point3>, FarFault>
-    requires depth { options.now.depth ≤ 10 }
-    requires fine { IsSmallManifold options.now.depth mesh.now }
-    requires base { base ≡ positions_of mesh.now }
-    ensures refined { MatchResult result (λ refined. ArePositions (refine_of_code options.now) mesh.now refined)
-        (λ fault. IsPositionFault (refine_of_code options.now) mesh.now (fault_of fault)) }
-    ensures steps { StepsTaken result steps.old steps.new (position_steps (by_of_code options.now.by) options.now.depth mesh.now)
-        (later_faces options.now.depth mesh.now + position_steps (by_of_code options.now.by) options.now.depth mesh.now) }
-{
-    mesh.facts();
-    let path = path_of(options.by);
-    match refine_along(alloc, base, mesh.points(), path, options.depth, steps) {
-        Ok(refined) => Ok(refined),
-        Err(fault) => Err(fault_of_walk(fault, Track::Positions)),
-    }
-}
-
-// The texture of a mesh at a depth, where it has one.
-fn refine_texture<L: Ledger>(
-    alloc: Global,
-    mesh: &RawMesh,
-    texture: Option<BaseTexture>,
-    options: &RefineOptions,
-    steps: &mut Steps<L>,
-) -> Result<Option<RefinedTexture>, FarFault>
-    requires depth { options.now.depth ≤ 10 }
-    requires fine { IsSmallManifold options.now.depth mesh.now }
-    requires base { IsBaseTexture (uv_of_code options.now.uv) mesh.now texture }
-    ensures texture { MatchResult result (λ texture. IsTextureOf (refine_of_code options.now) mesh.now texture)
-        (λ fault. IsTextureFault (refine_of_code options.now) mesh.now (fault_of fault)) }
-    ensures steps { StepsTaken result steps.old steps.new (where_textured mesh.now (texture_steps (refine_of_code options.now) mesh.now))
-        (where_textured mesh.now (later_faces options.now.depth mesh.now + texture_steps (refine_of_code options.now) mesh.now)) }
-{
-    let Some(BaseTexture { base, values }) = texture else {
-        return Ok(None);
-    };
-    mesh.facts();
-    match refine_along(
-        alloc,
-        base,
-        &values,
-        path_of(options.by),
-        options.depth,
-        steps,
-    ) {
-        Ok(RefinedChannel { level, values }) => Ok(Some(RefinedTexture {
-            level,
-            values,
-            common: mesh.texture_scale(),
-        })),
-        Err(fault) => Err(fault_of_walk(fault, Track::Texture)),
     }
 }
 
@@ -139,13 +77,48 @@ pub fn refine<L: Ledger>(
         options.depth,
         steps,
     )?;
-    let positions = refine_positions(alloc, mesh, positions, options, steps)?;
-    let texture = refine_texture(alloc, mesh, texture, options, steps)?;
+    mesh.facts();
+    let path = path_of(options.by);
+    let points = mesh.points();
+    let positions = match refine_along(alloc, positions, points, path, options.depth, steps) {
+        Ok(refined) => refined,
+        Err(fault) => return Err(fault_of_walk(fault, Track::Positions)),
+    };
+    let Some(BaseTexture { base, values }) = texture else {
+        return Ok(reply_of(mesh, options, positions, None));
+    };
+    match refine_along(alloc, base, &values, path, options.depth, steps) {
+        Ok(RefinedChannel { level, values }) => {
+            let common = mesh.texture_scale();
+            let texture = RefinedTexture {
+                level,
+                values,
+                common,
+            };
+            Ok(reply_of(mesh, options, positions, Some(texture)))
+        }
+        Err(fault) => Err(fault_of_walk(fault, Track::Texture)),
+    }
+}
+
+// The reply with the positions of a mesh at a depth, and its texture there, where it has one.
+fn reply_of(
+    mesh: &RawMesh,
+    options: &RefineOptions,
+    positions: RefinedChannel<Point3>,
+    texture: Option<RefinedTexture>,
+) -> Reply
+    requires range { IsReadInRange (Refine (refine_of_code options.now)) }
+    requires fine { IsSmallManifold options.now.depth mesh.now }
+    requires positions { ArePositions (refine_of_code options.now) mesh.now positions }
+    requires texture { IsTextureOf (refine_of_code options.now) mesh.now texture }
+    ensures { IsReplyTo (Refine (refine_of_code options.now)) mesh.now result }
+{
     let refined = RefinedMesh {
         level: positions.level,
         values: positions.values,
         common: mesh.scale(),
         texture,
     };
-    Ok(Reply::Refined(refined, form_of(options)))
+    Reply::Refined(refined, form_of(options))
 }
