@@ -15,9 +15,9 @@ pub(crate) fn has_digits_alone(bytes: &[u8]) -> bool
     true
 }
 
-/// The number that one or more digits say, or `most` where it is more; `None` where there is no
-/// digit, or another byte.
-pub(crate) fn digits_up_to(bytes: &[u8], most: u128) -> Option<u128>
+/// The number that one or more decimal digits say, or `most` where it is more. There may be any number of digits, and zeros
+/// before them. It returns `None` where there is no digit, or another byte.
+pub fn digits_up_to(bytes: &[u8], most: u128) -> Option<u128>
     requires { most < 2 ^ 124 }
     ensures { IsNumberUpTo most result bytes.now }
 {

@@ -10,6 +10,7 @@ mod numeral;
 mod sign;
 mod terms;
 
+pub use digits::digits_up_to;
 pub use index::read_index;
 pub use line::{Words, line_end, words_of};
 pub use numeral::{Numeral, NumeralFault, read_numeral};
