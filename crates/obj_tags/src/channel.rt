@@ -8,7 +8,7 @@ ghost use Rattle.obj_tags.specs.Walk.{words_left};
 
 use crate::ObjCause;
 use crate::fault::LineFault;
-use crate::number::{numeral, over};
+use crate::number::{numeral, numerator_over};
 use crate::words::next_word;
 use obj_text::Words;
 use ratio128::{Point2, Point3};
@@ -35,7 +35,7 @@ fn number_of(word: &[u8], common: u128) -> Result<Option<i128>, ObjCause>
     ensures { ReadUnless result (numeral_fault word.now) (λ n. IsShortNumber n (number_over common word.now)) }
 {
     let number = numeral(word)?;
-    Ok(over(number, common))
+    Ok(numerator_over(number, common))
 }
 
 // The next numeral of a line over a common denominator, `None` where it has more than 37 digits there.

@@ -35,7 +35,7 @@ pub enum ObjCause {
     SharpnessRange,
     /// A move names no control point. Moves are no OBJ text: `read_obj` never answers this.
     MoveIndex,
-    /// A move has more decimals than the scale; `read_obj` never answers this.
+    /// The common denominator is no multiple of a moved coordinate's own, in lowest terms; `read_obj` never answers this.
     TooFine,
     /// A line of moves is too long; `read_obj` never answers this.
     LongLine,

@@ -18,5 +18,6 @@ mod tag_values;
 mod words;
 
 pub use fault::{ObjCause, ObjFault, ReadFault};
+pub use number::{numeral, numerator_over};
 pub use raw_mesh::{Boundary, CornerTag, Crease, RawMesh};
 pub use read::read_obj;

@@ -13,8 +13,9 @@ use obj_text::{Numeral, NumeralFault, read_index, read_numeral};
 use ratio128::limits::NUMERAL_BOUND;
 use sharpness_rules::Sharpness;
 
-/// A numeral, or the cause that its word is refused for.
-pub(crate) fn numeral(word: &[u8]) -> Result<Numeral, ObjCause>
+/// The numeral that a word is, in lowest terms. It refuses a word that is no numeral by `BadNumeral`, and a numeral that is out of
+/// range by `NumberRange`.
+pub fn numeral(word: &[u8]) -> Result<Numeral, ObjCause>
     ensures { ReadUnless result (numeral_fault word.now) (λ n. IsNumeralOf n word.now) }
 {
     match read_numeral(word) {
@@ -24,9 +25,9 @@ pub(crate) fn numeral(word: &[u8]) -> Result<Numeral, ObjCause>
     }
 }
 
-/// The numeral as a whole number over a common denominator, which is at most 10^37; `None` where it has
-/// more than 37 digits.
-pub(crate) fn over(number: Numeral, common: u128) -> Option<i128>
+/// The numerator of a numeral over a common denominator, which is at most 10^37: its own numerator times the whole quotient of the
+/// two denominators. It returns `None` where that has more than 37 digits.
+pub fn numerator_over(number: Numeral, common: u128) -> Option<i128>
     requires positive { 0 < number.den }
     requires short { unsigned_abs number.num < 10 ^ 37 }
     requires common { common ≤ 10 ^ 37 }

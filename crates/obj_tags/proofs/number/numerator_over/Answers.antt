@@ -1,7 +1,7 @@
 use Rattle.std.proofs.Common.{◌≡◌, ◌≤◌, ◌*◌, ◌/◌, ◌^◌, pos, unsigned_abs, arith, rules}
 use Rattle.std.proofs.lemmas.Int.{unsigned_abs-mul}
 use Rattle.obj_tags.specs.Channel.{over_common}
-use Rattle.obj_tags.proofs.number.over.Goals as goal
+use Rattle.obj_tags.proofs.number.numerator_over.Goals as goal
 
 pub returns-in-Some : goal.returns-in-Some
 returns-in-Some c =
