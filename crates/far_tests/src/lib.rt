@@ -18,6 +18,8 @@ mod expect;
 #[cfg(test)]
 mod faults;
 #[cfg(test)]
+mod frame_lines;
+#[cfg(test)]
 mod hostile;
 #[cfg(test)]
 mod inputs;
