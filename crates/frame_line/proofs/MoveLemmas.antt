@@ -1,6 +1,6 @@
 -- What is wrong with a line that begins with `move`.
 use Rattle.std.proofs.Common.{◌≡◌, ℕ, true, List, [], ◌∷◌, refl}
-use Rattle.subdiv_model.specs.Frames.{is_move_line, move_cause, words_cause}
+use Rattle.far_model.specs.Frames.{is_move_line, move_cause, words_cause}
 
 -- such a line is judged as a move
 pub cause-of-move : (count common : ℕ) (words : List (List ℕ)) → is_move_line words ≡ true

@@ -1,7 +1,7 @@
 -- What a frame line asks for, and what is read of a move.
 use Rattle.std.specs.Prelude.{ℕ, ◌≡◌, ◌<◌, ◌∷◌, [], true, false, not, nat_le, List, drop, Option, Some, None, if◌then◌else◌}
 use Rattle.subdiv_model.specs.Digits.{number_of_digits}
-use Rattle.subdiv_model.specs.Frames.{is_move_line, is_go_line, moved_index, moved_point, coordinate_fault, frame_cause}
+use Rattle.far_model.specs.Frames.{is_move_line, is_go_line, moved_index, moved_point, coordinate_fault, frame_cause}
 use Rattle.subdiv_model.specs.Numeral.{are_digits}
 use Rattle.subdiv_model.specs.ObjFault as fault
 use Rattle.subdiv_model.specs.ObjLine.{line_words}

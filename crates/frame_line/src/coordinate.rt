@@ -1,5 +1,5 @@
 ghost use Rattle.std.specs.Prelude.{◌≡◌, ◌^◌, ◌≤◌};
-ghost use Rattle.subdiv_model.specs.Frames.{coordinate_fault};
+ghost use Rattle.far_model.specs.Frames.{coordinate_fault};
 ghost use Rattle.subdiv_model.specs.ObjWord.{number_over};
 ghost use Rattle.subdiv_model.specs.Short.{IsShort};
 ghost use Rattle.obj_tags.specs.Kept.{ReadUnless};

@@ -1,5 +1,5 @@
 ghost use Rattle.std.specs.Prelude.{◌≡◌, ◌^◌, ◌≤◌, bytes_eq, Some, MatchResult};
-ghost use Rattle.subdiv_model.specs.Frames.{words_cause, frame_cause};
+ghost use Rattle.far_model.specs.Frames.{words_cause, frame_cause};
 ghost use Rattle.obj_tags.specs.Kept.{ReadUnless};
 ghost use Rattle.obj_tags.specs.Walk.{words_left};
 ghost use Rattle.obj_tags.specs.View.{cause_of};

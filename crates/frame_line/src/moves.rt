@@ -1,6 +1,6 @@
 ghost use Rattle.std.specs.Prelude.{◌≡◌, ◌^◌, ◌<◌, ◌≤◌, ℕ, List, length, drop, true, MatchOption};
 ghost use Rattle.subdiv_model.specs.Digits.{number_of_digits};
-ghost use Rattle.subdiv_model.specs.Frames.{is_move_line, move_cause};
+ghost use Rattle.far_model.specs.Frames.{is_move_line, move_cause};
 ghost use Rattle.obj_tags.specs.Kept.{ReadUnless};
 ghost use Rattle.obj_tags.specs.Walk.{words_left};
 ghost use Rattle.frame_line.specs.FrameLine.{Asks, AreFirst, index_cause, point_cause, IsPointOf};

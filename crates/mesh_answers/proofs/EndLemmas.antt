@@ -2,10 +2,10 @@
 use Rattle.std.proofs.Common.{◌≡◌, ℕ, ◌+◌, ◌≤◌, true, false, cond, List, [], map, Result, Ok, Err, OnOk, arith, refl, ap, sym, subst}
 use Rattle.subdiv_model.specs.ObjMesh.{ObjMesh}
 use Rattle.subdiv_model.specs.Cut.{channel_values}
-use Rattle.subdiv_model.specs.Command.{Refine, RefineOptions}
+use Rattle.far_model.specs.Command.{Refine, RefineOptions}
 use Rattle.subdiv_model.specs.Fault.{Track, Positions, Texture}
 use Rattle.subdiv_model.specs.Channel.{Channel, Asked, channel_faults}
-use Rattle.subdiv_model.specs.Answer.{asked_of, positions_of, texture_of}
+use Rattle.far_model.specs.Answer.{asked_of, positions_of, texture_of}
 use Rattle.raw_mesh.specs.View.{point_of, texture_of as value_of}
 use Rattle.ratio128.specs.StepsTaken.{StepsTaken}
 use Rattle.ratio128.specs.declared.point.Point2.{Point2}

@@ -1,8 +1,6 @@
 -- What a command owes at each of its ends.
-use Rattle.std.proofs.Common.{◌≡◌, ℕ, ◌+◌, ◌≤◌, Result, Ok, Err, IsErr, IsErrAnd, OnOk, sym, subst}
-use Rattle.far_model.specs.Command.{ReadCommand, MakeCommand}
 use Rattle.std.proofs.Common.{◌≡◌, ℕ, ◌+◌, ◌≤◌, Result, Ok, Err, IsErr, IsErrAnd, sym, subst}
-use Rattle.subdiv_model.specs.Command.{ReadCommand, MakeCommand}
+use Rattle.far_model.specs.Command.{ReadCommand, MakeCommand}
 use Rattle.subdiv_model.specs.ObjMesh.{ObjMesh}
 use Rattle.ratio128.specs.StepsTaken.{StepsTaken}
 use Rattle.far_text.specs.declared.reply.Reply.{Reply}

@@ -1,11 +1,8 @@
 //! A mesh refined to a depth, with its texture.
 
-ghost use Rattle.std.specs.Prelude.{◌≡◌, ◌+◌, ◌≤◌, MatchResult};
-ghost use Rattle.far_model.specs.Command.{Refine, IsReadInRange};
-ghost use Rattle.far_model.specs.Answer.{asked_of, positions_of};
 ghost use Rattle.std.specs.Prelude.{◌≡◌};
-ghost use Rattle.subdiv_model.specs.Command.{Refine, IsReadInRange};
-ghost use Rattle.subdiv_model.specs.Answer.{asked_of};
+ghost use Rattle.far_model.specs.Command.{Refine, IsReadInRange};
+ghost use Rattle.far_model.specs.Answer.{asked_of};
 ghost use Rattle.channel_refine.specs.View.{asked_of_path};
 ghost use Rattle.far_words.specs.View.{by_of_code, refine_of_code};
 ghost use Rattle.mesh_answers.specs.Levels.{IsSmallManifold};

@@ -27,7 +27,7 @@ pub data ObjCause : Type 0 where
   SharpnessRange : ObjCause
   -- a moved point is past the points
   MoveIndex : ObjCause
-  -- a moved coordinate has more decimals than the scale
+  -- the denominator of a moved coordinate in lowest terms does not divide the common denominator
   TooFine : ObjCause
   -- a line has too many bytes
   LongLine : ObjCause

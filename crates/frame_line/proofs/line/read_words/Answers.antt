@@ -1,5 +1,5 @@
 use Rattle.std.proofs.Common.{◌≡◌, ◌∷◌, true, drop, ap, sym, ◌∙◌}
-use Rattle.subdiv_model.specs.Frames.{is_move_line}
+use Rattle.far_model.specs.Frames.{is_move_line}
 use Rattle.obj_tags.specs.Walk.{words_left}
 use Rattle.frame_line.proofs.MoveLemmas.{cause-of-move}
 use Rattle.frame_line.proofs.line.read_words.Goals as goal

@@ -1,9 +1,3 @@
-use Rattle.std.proofs.Common.{arith}
-use Rattle.far_model.specs.Command.{Refine}
-use Rattle.far_words.specs.View.{refine_of_code}
-use Rattle.mesh_answers.proofs.RefineLemmas.{positions-found, refined-reply, texture-found}
-use Rattle.mesh_answers.proofs.ReplyLemmas.{refuses, replies}
-use Rattle.mesh_answers.proofs.StepLemmas.{all-fit, all-taken, positions-fit}
 use Rattle.std.proofs.Common.{subst}
 use Rattle.far_words.specs.View.{refine_of_code, uv_of_code}
 use Rattle.mesh_answers.specs.Tracks.{IsBaseTexture}
