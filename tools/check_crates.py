@@ -11,7 +11,8 @@ Of each crate it looks whether
 - each public function and method is named, in a table or in the text, and each clause of it that has a name.
 
 The laws of a crate are looked for in the tables of docs/proofs.md too, under each heading that ends with the name of the
-crate. The public functions of subdiv_model are examples by the hundred: each file of them is to be named in docs/proofs.md.
+crate. The public functions of subdiv_model and far_model are examples by the hundred: each file of them is to be named in
+docs/proofs.md.
 
 It prints a line for each thing that is wrong and ends with status 1, or one line that all was found and ends with 0.
 """
@@ -24,7 +25,7 @@ import textwrap
 
 ROOT = pathlib.Path(__file__).resolve().parent.parent
 LAWS = "docs/proofs.md"
-CRATE_OF_EXAMPLES = "subdiv_model"
+CRATES_OF_EXAMPLES = "subdiv_model", "far_model"
 
 # A function: the type or trait that it belongs to, if any; its name; the kinds (requires or ensures) of each clause that has a
 # name; and whether a caller outside of the crate can reach it.
@@ -305,7 +306,7 @@ def check_blocks(name, crate, text):
 
 
 def check_contracts(name, crate, text, laws):
-    if name == CRATE_OF_EXAMPLES:
+    if name in CRATES_OF_EXAMPLES:
         yield from check_examples_named(crate, laws)
         return
     told = FENCE.sub("", text) + laws_of(laws, name)

@@ -10,7 +10,7 @@ must-fail, a case, or a lemma); an option (`by=level`, `far refine depth=1`), by
     tools/check_names.py --top ../copy
 
 Each fault is a line: `docs/x.md:12: `name` is not defined`, with ` in `FILE`` where the document says "`name` of `FILE`" and
-it stands elsewhere; or `name of FILE is named in no document`, for a definition of crates/subdiv_model/specs that no page
+it stands elsewhere; or `name of FILE is named in no document`, for a definition of crates/*_model/specs that no page
 of docs/ names, and for a law, a `pub fn` of a crate or a module of laws, that neither docs/ nor the README of its crate
 names. It ends with status 1 where there is a fault, and else with 0 and the counts.
 """
@@ -42,7 +42,7 @@ REFUSED = {"V", "nan"}
 DOCUMENTS = r"(?:README|CONTRIBUTING)\.md|docs/.*\.md|crates/\w+/README\.md|cases/README\.md"
 DEFINITIONS = r"crates/(\w+)/(?:specs|proofs)/.*\.antt"
 CODE = r"crates/(\w+)/src/.*\.rt"
-MODEL = r"crates/subdiv_model/specs/\w+\.antt"
+MODEL = r"crates/(?:subdiv_model|far_model)/specs/\w+\.antt"
 LAWS = r"crates/(?:\w+_laws|theorems)/src/.*\.rt|crates/\w+/src/laws\.rt"
 
 # Code in backquotes; what is a name in it.

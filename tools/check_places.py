@@ -22,9 +22,9 @@ import sys
 from pathlib import Path
 from typing import Dict, Iterator, List, NamedTuple, Optional, Set, Tuple
 
-COMMAND_TABLE = "crates/subdiv_model/specs/Words.antt"
-COMMANDS = "crates/subdiv_model/specs/Command.antt"
-ANSWERS = "crates/subdiv_model/specs/Answer.antt"
+COMMAND_TABLE = "crates/far_model/specs/Words.antt"
+COMMANDS = "crates/far_model/specs/Command.antt"
+ANSWERS = "crates/far_model/specs/Answer.antt"
 TYPE_OF_REPLIES = "crates/far_text/src/reply.rt"
 REPLIES = "crates/mesh_answers/src/*.rt"
 STEPS = "crates/mesh_answers/specs/StepCounts.antt"
@@ -91,7 +91,7 @@ DEFINITION_PLACES = [
     Place(ANSWERS, "an arm of `made_faults`", r"^made_faults \(?<variant>\b", (MAKE,)),
     Place(ANSWERS, "an arm of `made_text`", r"^made_text \(?<variant>\b", (MAKE,)),
     Place(ANSWERS, "an arm of `rule_of`", r"^rule_of \(?<variant>\b", (STREAM,)),
-    Place("crates/subdiv_model/src/answers.rt", "an example of its answer", r'\banswer \(codes "<name>" ∷'),
+    Place("crates/far_model/src/answers.rt", "an example of its answer", r'\banswer \(codes "<name>" ∷'),
 ]
 
 WORDS_PLACES = [
@@ -300,7 +300,7 @@ def command(top: Path, name: str, otherwise: str) -> Subject:
 def kind_of_crate(top: Path, name: str) -> str:
     if (top / "crates" / name / "src" / "main.rt").is_file():
         return PROGRAM
-    if name.endswith("_laws") or name in ("subdiv_model", "theorems"):
+    if name.endswith("_laws") or name.endswith("_model") or name == "theorems":
         return LAWS
     return TESTS if name.endswith("_tests") else CODE
 

@@ -2,8 +2,8 @@
 """A plain, slow reference of the program: of `far refine`, and through `tools/level_reference.py` of `far levels` and
 `tools/table_reference.py` of `far stencils` and `far gen`.
 
-It is written from the definitions of `subdiv_model` (Answer, Text and NumberText, and those that the other references
-name), with `fractions.Fraction` for every value, and shares nothing with the program. It takes the
+It is written from the definitions of `far_model` (Answer) and `subdiv_model` (Text and NumberText, and those that the other
+references name), with `fractions.Fraction` for every value, and shares nothing with the program. It takes the
 program's words, standard input and standard output, and ends with the program's status, so that the runner of the
 cases can be tried on it:
 

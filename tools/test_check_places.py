@@ -34,36 +34,36 @@ class Plant(NamedTuple):
 
 PLANTS = [
     Plant(
-        "crates/subdiv_model/specs/Words.antt",
+        "crates/far_model/specs/Words.antt",
         '    ∷ record { name = codes "levels"; options = required_option (codes "depth") 0 10 ∷ [] }\n',
         "",
-        "command levels: missing in crates/subdiv_model/specs/Words.antt: a row of `command_table`",
+        "command levels: missing in crates/far_model/specs/Words.antt: a row of `command_table`",
         ("--command", "levels"),
     ),
     Plant(
-        "crates/subdiv_model/specs/Command.antt",
+        "crates/far_model/specs/Command.antt",
         "  Gen : ",
         "  Other : ",
-        "command gen: missing in crates/subdiv_model/specs/Command.antt: a constructor of `MakeCommand`",
+        "command gen: missing in crates/far_model/specs/Command.antt: a constructor of `MakeCommand`",
         ("--command", "gen", "--kind", "make"),
     ),
     Plant(
-        "crates/subdiv_model/specs/Command.antt",
+        "crates/far_model/specs/Command.antt",
         "IsReadInRange (Stencils ",
         "IsReadInRange (Other ",
-        "command stencils: missing in crates/subdiv_model/specs/Command.antt: its range, an arm of `IsReadInRange`",
+        "command stencils: missing in crates/far_model/specs/Command.antt: its range, an arm of `IsReadInRange`",
     ),
     Plant(
-        "crates/subdiv_model/specs/Answer.antt",
+        "crates/far_model/specs/Answer.antt",
         "made_faults (Gen ",
         "made_faults (Other ",
-        "command gen: missing in crates/subdiv_model/specs/Answer.antt: an arm of `made_faults`",
+        "command gen: missing in crates/far_model/specs/Answer.antt: an arm of `made_faults`",
     ),
     Plant(
-        "crates/subdiv_model/src/answers.rt",
+        "crates/far_model/src/answers.rt",
         'answer (codes "gen" ',
         'answer (codes "other" ',
-        "command gen: missing in crates/subdiv_model/src/answers.rt: an example of its answer",
+        "command gen: missing in crates/far_model/src/answers.rt: an example of its answer",
     ),
     Plant(
         "crates/far_words/src/table.rt",

@@ -1,6 +1,6 @@
 """A plain, slow reference of texture: the seams of a mesh, its channel points, and the mesh that the seams cut.
 
-It is written from the definitions of `subdiv_model` (Cut and Answer), and shares nothing with the program.
+It is written from the definitions of `subdiv_model` (Cut) and `far_model` (Answer), and shares nothing with the program.
 `tools/reference.py` refines texture through it.
 """
 

@@ -11,7 +11,7 @@ use Rattle.stencil_apply.specs.Means.{unit_numbers, numerator_of}
 use Rattle.stencil_apply.proofs.MeanLemmas.{all-first, all-rest}
 
 -- all numerators of a control
-abbrev amount : List Share → ℕ → ℕ
+abbrev pub amount : List Share → ℕ → ℕ
 amount [] k = 0
 amount (share ∷ shares) k = (if nat_eq k share.0 then share.1 else 0) + amount shares k
 
@@ -81,7 +81,7 @@ none-after v k (share ∷ shares) after h =
     grind (arith, nat_tests)
 
 -- a control stands in the row once
-amount-once : (k : ℕ) (shares : List Share) → IsStrictlyIncreasing (map (λ share. share.0) shares) → amount shares k ≡ numerator_of shares k
+pub amount-once : (k : ℕ) (shares : List Share) → IsStrictlyIncreasing (map (λ share. share.0) shares) → amount shares k ≡ numerator_of shares k
 amount-once k [] up = refl
 amount-once k (share ∷ shares) up =
     let after = after-ascending share.0 shares up in
