@@ -37,3 +37,6 @@ pub mod Examples
 pub mod ExampleTexts
 pub mod ExampleControls
 pub mod Short
+pub mod Feature
+pub mod Sparse
+pub mod ExampleSparse

@@ -10,6 +10,7 @@ pub mod masks;
 pub mod meshes;
 pub mod numerals;
 pub mod obj;
+pub mod sparse;
 pub mod texts;
 pub mod texture;
 pub mod values;

@@ -1,0 +1,30 @@
+-- Sparse levels of small meshes, for the examples.
+use Rattle.std.specs.Prelude.{ℕ, List, [], ◌∷◌, length, map}
+use Rattle.std.specs.List.{range_with_len}
+use Rattle.subdiv_model.specs.Polygons.{Polygon}
+use Rattle.subdiv_model.specs.Sharpness.{Infinite}
+use Rattle.subdiv_model.specs.Level.{Level}
+use Rattle.subdiv_model.specs.Examples.{tagged_level}
+use Rattle.subdiv_model.specs.Feature.{is_feature, is_selectable}
+use Rattle.subdiv_model.specs.Sparse.{Meeting, meeting_of, present, present_points}
+
+-- the features of a level to a depth, and all faces
+abbrev pub features : Level → ℕ → Meeting
+features base depth = map (meeting_of is_feature base) (range_with_len 0 depth)
+
+abbrev pub all_faces : Level → ℕ → Meeting
+all_faces base depth = map (meeting_of is_selectable base) (range_with_len 0 depth)
+
+-- how many points and faces are present at a depth, where features are selected
+abbrev pub counts_at : Level → ℕ → ℕ × ℕ
+counts_at base depth = (length (present_points base (features base depth) depth), length (present base (features base depth) depth))
+
+-- a strip of quads between two rows of points, with a sharp boundary; and with sharp corners too
+abbrev pub quads : List Polygon
+quads = (0 ∷ 1 ∷ 5 ∷ 4 ∷ []) ∷ (1 ∷ 2 ∷ 6 ∷ 5 ∷ []) ∷ (2 ∷ 3 ∷ 7 ∷ 6 ∷ []) ∷ []
+
+abbrev pub strip : Level
+strip = tagged_level 8 quads [] []
+
+abbrev pub cornered_strip : Level
+cornered_strip = tagged_level 8 quads [] ((0, Infinite) ∷ (3, Infinite) ∷ (4, Infinite) ∷ (7, Infinite) ∷ [])

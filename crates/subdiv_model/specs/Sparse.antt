@@ -1,0 +1,72 @@
+-- Sparse levels: the faces of the uniform levels that are present where some faces are selected to be refined.
+-- Source: OpenSubdiv's Vtr layer for sparse refinement; which faces are present is this profile's.
+use Rattle.std.specs.Prelude.{ℕ, zero, suc, Bool, not, ◌&&◌, nat_eq, List, [], get_or, length, map, replicate}
+use Rattle.std.specs.List.{filter, flat_map, list_any, list_all, range_with_len, enumerate_from}
+use Rattle.subdiv_model.specs.Lists.{places, each_once_by}
+use Rattle.subdiv_model.specs.Polygons.{Polygon, polygon_at, is_among, has_corner}
+use Rattle.subdiv_model.specs.Level.{Level, is_hole, faces_at}
+use Rattle.subdiv_model.specs.Child.{refined_level}
+use Rattle.subdiv_model.specs.Feature.{FaceFacts, facts_of}
+
+-- A predicate on the facts of faces, as data: for each level the numbers of the faces that meet it, ascending.
+abbrev pub Meeting : Type 0
+Meeting = List (List ℕ)
+
+abbrev pub meets : Meeting → ℕ → ℕ → Bool
+meets meeting depth face = is_among (get_or meeting depth []) face
+
+-- the vertices of all corners, face by face; the child faces of a level are numbered as its corners are
+abbrev pub corners_of : List Polygon → List ℕ
+corners_of polygons = flat_map (λ polygon. polygon) polygons
+
+-- the face of each corner
+abbrev pub parents_of : List Polygon → List ℕ
+parents_of polygons = flat_map (λ face. replicate (length face.1) face.0) (enumerate_from 0 polygons)
+
+-- the child faces of some faces
+abbrev pub children_of : List Polygon → List ℕ → List ℕ
+children_of polygons faces = places (is_among faces) (parents_of polygons)
+
+-- a vertex lies on one of some faces
+abbrev pub is_on : List Polygon → List ℕ → ℕ → Bool
+is_on polygons faces v = list_any (λ face. has_corner v (polygon_at polygons face)) faces
+
+-- those that meet the predicate and are no holes
+abbrev pub chosen : Level → Meeting → ℕ → List ℕ → List ℕ
+chosen level meeting depth faces = filter (λ face. meets meeting depth face && not (is_hole level face)) faces
+
+-- the selected faces at a depth: of all faces of level 0, and then of the children of selected faces
+abbrev pub selected : Level → Meeting → ℕ → List ℕ
+selected base meeting zero = chosen base meeting zero (range_with_len 0 (length base.polygons))
+selected base meeting (suc depth) =
+    chosen (refined_level base (suc depth)) meeting (suc depth) (children_of (refined_level base depth).polygons (selected base meeting depth))
+
+-- the present faces at a depth, ascending: all of level 0, and then the child faces at vertices of selected faces
+abbrev pub present : Level → Meeting → ℕ → List ℕ
+present base meeting zero = range_with_len 0 (length base.polygons)
+present base meeting (suc depth) =
+    let polygons = (refined_level base depth).polygons in
+    places (is_on polygons (selected base meeting depth)) (corners_of polygons)
+
+-- the polygons of the present faces
+abbrev pub present_polygons : Level → Meeting → ℕ → List Polygon
+present_polygons base meeting depth = map (polygon_at (refined_level base depth).polygons) (present base meeting depth)
+
+-- the present points of level 0 are all its points; later ones are the corners of present faces, by first appearance
+abbrev pub present_points : Level → Meeting → ℕ → List ℕ
+present_points base meeting zero = range_with_len 0 base.point_count
+present_points base meeting (suc depth) = each_once_by nat_eq (corners_of (present_polygons base meeting (suc depth)))
+
+-- a face is inner where its parent is selected; those of level 0 are
+abbrev pub inner : Level → Meeting → ℕ → List ℕ
+inner base meeting zero = range_with_len 0 (length base.polygons)
+inner base meeting (suc depth) = children_of (refined_level base depth).polygons (selected base meeting depth)
+
+-- all faces at a point are present
+abbrev pub is_whole : Level → Meeting → ℕ → ℕ → Bool
+is_whole base meeting depth v = list_all (is_among (present base meeting depth)) (faces_at (refined_level base depth) v)
+
+-- the predicate has at a depth the faces whose facts pass this test
+abbrev pub meeting_of : (FaceFacts → Bool) → Level → ℕ → List ℕ
+meeting_of test base depth =
+    let level = refined_level base depth in filter (λ face. test (facts_of level depth face)) (range_with_len 0 (length level.polygons))
