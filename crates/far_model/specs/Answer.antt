@@ -6,7 +6,7 @@ use Rattle.subdiv_model.specs.Lists.{first_of}
 use Rattle.subdiv_model.specs.MeshFault.{MeshFault, first_mesh_fault}
 use Rattle.subdiv_model.specs.ObjFault.{ObjFault}
 use Rattle.subdiv_model.specs.ObjMesh.{ObjMesh}
-use Rattle.subdiv_model.specs.ReadObj.{read_obj_fault, read_obj_mesh, lines_fault, mesh_of_lines}
+use Rattle.subdiv_model.specs.ReadObj.{obj_lines, read_obj_fault, read_obj_mesh, lines_fault, mesh_of_lines}
 use Rattle.subdiv_model.specs.Level.{Level}
 use Rattle.subdiv_model.specs.Base.{base_level}
 use Rattle.subdiv_model.specs.Child.{refined_level}
@@ -17,11 +17,12 @@ use Rattle.subdiv_model.specs.Support.{entries_after}
 use Rattle.subdiv_model.specs.Cut.{SeamMode, SmoothSeams, CornerSeams, BoundarySeams, cut_level, channel_values}
 use Rattle.subdiv_model.specs.Channel.{Channel, Asked, Sharpnesses, Values, Tables, greatest_amount, greatest_denominator, channel_faults}
 use Rattle.subdiv_model.specs.Generator.{generated_mesh}
-use Rattle.far_model.specs.Command.{Command, Reads, Makes, Streams, ReadCommand, Refine, Stencils, Levels, MakeCommand, Gen, StreamCommand, RefineOptions, FramesOptions, Uv, SmoothUv, CornersUv, BoundariesUv, LinearUv, By, ByTable, ByLevel, read_words}
+use Rattle.far_model.specs.Command.{Command, Reads, Makes, Streams, ReadCommand, Refine, Stencils, Levels, MakeCommand, Gen, StreamCommand, Frames, RefineOptions, FramesOptions, Uv, SmoothUv, CornersUv, BoundariesUv, LinearUv, By, ByTable, ByLevel, read_words}
 use Rattle.subdiv_model.specs.Limits.{count_faults, level_count_faults}
 use Rattle.subdiv_model.specs.Fault.{Fault, Usage, Long, Obj, Mesh, Positions, Texture}
 use Rattle.far_model.specs.Refusal.{Answer, refused, answer_unless}
 use Rattle.far_model.specs.Stream.{LineRule, answer_of_lines}
+use Rattle.far_model.specs.Frames.{mesh_lines, frames_rule}
 use Rattle.subdiv_model.specs.NumberText.{number_text}
 use Rattle.subdiv_model.specs.Text.{line_text, point_words, mesh_text, textured_mesh_text, tags_text}
 use Rattle.subdiv_model.specs.LevelText.{levels_text}
@@ -174,9 +175,13 @@ frames_refusal options lines = (answer_of_read (Stencils options.depth) (lines_f
 abbrev pub frames_mesh : FramesOptions → List (List (List ℕ)) → ObjMesh
 frames_mesh options lines = mesh_of_lines lines options.scale
 
+-- the lines of the mesh in the bytes of an input: those before the first line `frames`
+abbrev pub frames_lines : List ℕ → List (List (List ℕ))
+frames_lines bytes = mesh_lines (obj_lines bytes)
+
 -- what each line of an input adds under a command that answers while it reads
 abbrev pub rule_of : StreamCommand → LineRule
-rule_of = elim [ ]
+rule_of (Frames options) = frames_rule options.depth (frames_refusal options) (frames_mesh options)
 
 abbrev pub answer_of_command : Command → List ℕ → Answer
 answer_of_command (Reads command) bytes = answer_of_bytes command bytes
@@ -191,9 +196,14 @@ answer_of_words (Err word) bytes = refused (Usage word)
 abbrev pub answer : List (List ℕ) → List ℕ → Answer
 answer words bytes = answer_of_words (read_words words) bytes
 
+-- the mesh of lines is accepted where neither the lines nor its faces have a fault
+abbrev pub IsAcceptedOfLines : FramesOptions → List (List (List ℕ)) → ObjMesh → Type 0
+IsAcceptedOfLines options lines mesh =
+    (lines_fault lines options.scale ≡ None) × (frames_mesh options lines ≡ mesh) × (first_mesh_fault (length mesh.points) mesh.faces ≡ None)
+
 -- the mesh of a command is accepted: the one that it makes is, and one that is read where neither its text nor its faces have a fault
 abbrev pub IsAcceptedMesh : Command → List ℕ → ObjMesh → Type 0
 IsAcceptedMesh (Reads command) bytes mesh =
     (read_obj_fault bytes 0 ≡ None) × (read_obj_mesh bytes 0 ≡ mesh) × (first_mesh_fault (length mesh.points) mesh.faces ≡ None)
 IsAcceptedMesh (Makes command) bytes mesh = made_mesh command ≡ mesh
-IsAcceptedMesh (Streams command) bytes mesh = ⊥
+IsAcceptedMesh (Streams (Frames options)) bytes mesh = IsAcceptedOfLines options (frames_lines bytes) mesh

@@ -48,8 +48,9 @@ pub data ReadCommand : Type 0 where
 pub data MakeCommand : Type 0 where
   Gen : GenOptions → MakeCommand
 
--- the commands that answer while they read: there is none
+-- the commands that answer while they read
 pub data StreamCommand : Type 0 where
+  Frames : FramesOptions → StreamCommand
 
 pub data Command : Type 0 where
   Reads : ReadCommand → Command
@@ -86,11 +87,15 @@ gen_of options = record {
   depth = required_number options (codes "depth");
 }
 
+abbrev pub frames_of : List (List ℕ) → FramesOptions
+frames_of options = record { depth = required_number options (codes "depth"); scale = required_number options (codes "scale") }
+
 -- the command of this name with these options, in a command line that is one
 abbrev pub command_named : List ℕ → List (List ℕ) → Command
 command_named name options =
     if bytes_eq name (codes "refine") then Reads (Refine (refine_of options))
     else if bytes_eq name (codes "stencils") then Reads (Stencils (required_number options (codes "depth")))
+    else if bytes_eq name (codes "frames") then Streams (Frames (frames_of options))
     else if bytes_eq name (codes "levels") then Reads (Levels (required_number options (codes "depth")))
     else Makes (Gen (gen_of options))
 
@@ -109,8 +114,8 @@ read_words_by table words = read_or (usage_of table words) words
 abbrev pub read_words : List (List ℕ) → Result Command ℕ
 read_words words = read_words_by command_table words
 
--- the numbers of a command are those that the table of words allows: a depth of at most 10, at most 18 decimals, and a size
--- from 1 to 256
+-- the numbers of a command are those that the table of words allows: a depth of at most 10, at most 18 decimals, a size from 1
+-- to 256, and a scale of at most 18
 abbrev pub IsReadInRange : ReadCommand → Type 0
 IsReadInRange (Refine options) = (options.depth ≤ 10) × IfSome options.decimals (λ digits. digits ≤ 18)
 IsReadInRange (Stencils depth) = depth ≤ 10
@@ -119,7 +124,10 @@ IsReadInRange (Levels depth) = depth ≤ 10
 abbrev pub IsMakeInRange : MakeCommand → Type 0
 IsMakeInRange (Gen options) = (1 ≤ options.size) × (options.size ≤ 256) × (options.depth ≤ 10)
 
+abbrev pub IsStreamInRange : StreamCommand → Type 0
+IsStreamInRange (Frames options) = (options.depth ≤ 10) × (options.scale ≤ 18)
+
 abbrev pub IsInRange : Command → Type 0
 IsInRange (Reads command) = IsReadInRange command
 IsInRange (Makes command) = IsMakeInRange command
-IsInRange (Streams command) = ⊥
+IsInRange (Streams command) = IsStreamInRange command

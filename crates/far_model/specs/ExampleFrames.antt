@@ -1,17 +1,13 @@
 -- A square and its moves, for the examples.
-use Rattle.std.specs.Prelude.{ℕ, List, ◌++◌, Option, codes}
+use Rattle.std.specs.Prelude.{ℕ, List, [], ◌∷◌, ◌++◌, Option, codes}
 use Rattle.subdiv_model.specs.Fault.{Fault}
-use Rattle.far_model.specs.Command.{FramesOptions}
+use Rattle.subdiv_model.specs.NumberText.{number_text}
 use Rattle.far_model.specs.Refusal.{Answer}
-use Rattle.far_model.specs.Stream.{answer_of_lines}
-use Rattle.far_model.specs.Frames.{frames_rule}
-use Rattle.far_model.specs.Answer.{byte_limit, frames_refusal, frames_mesh}
+use Rattle.far_model.specs.Answer.{answer}
 
 -- what bytes come to at depth 1, with a scale
 abbrev pub framed : ℕ → List ℕ → Answer
-framed scale bytes =
-    let options : FramesOptions = record { depth = 1; scale = scale } in
-    answer_of_lines (frames_rule 1 (frames_refusal options) (frames_mesh options)) byte_limit bytes
+framed scale bytes = answer (codes "frames" ∷ codes "depth=1" ∷ (codes "scale=" ++ number_text scale) ∷ []) bytes
 
 abbrev pub square_lines : List ℕ
 square_lines = codes "v 0 0 0\nv 4 0 0\nv 4 4 0\nv 0 4 0\nf 1 2 3 4\n"

@@ -47,6 +47,7 @@ abbrev pub command_table : List CommandRule
 command_table =
     record { name = codes "refine"; options = required_option (codes "depth") 0 10 ∷ number_option (codes "decimals") 0 18 ∷ name_option (codes "uv") texture_names ∷ name_option (codes "by") path_names ∷ name_option (codes "tags") tags_names ∷ [] }
     ∷ record { name = codes "stencils"; options = required_option (codes "depth") 0 10 ∷ [] }
+    ∷ record { name = codes "frames"; options = required_option (codes "depth") 0 10 ∷ number_option (codes "scale") 0 18 ∷ [] }
     ∷ record { name = codes "levels"; options = required_option (codes "depth") 0 10 ∷ [] }
     ∷ record { name = codes "gen"; options = required_option (codes "seed") 0 4294967295 ∷ required_option (codes "size") 1 256 ∷ required_option (codes "depth") 0 10 ∷ [] }
     ∷ []
@@ -118,7 +119,7 @@ usage_of table (command ∷ options) = usage_of_rule (rule_named table command) 
 abbrev pub value_of : List (List ℕ) → List ℕ → Option (List ℕ)
 value_of options name = option_map option_value (find (λ option. bytes_eq name (option_name option)) options)
 
--- the number of an option, where it is there, and 0 where one is missing
+-- the number of an option, where it is there, and 0 where it is missing
 abbrev pub number_of : List (List ℕ) → List ℕ → Option ℕ
 number_of options name = option_map number_of_digits (value_of options name)
 

@@ -52,6 +52,7 @@ pub fn levels_tables_and_sheets()
     ensures levels { answer (codes "levels" ∷ codes "depth=0" ∷ []) square_text ≡ record { text = codes "level 0 points 4 edges 4 faces 1 euler 1 boundary 4 holes 0 sharp 0 extraordinary 0\n"; refusal = None } }
     ensures stencils { (answer (codes "stencils" ∷ codes "depth=0" ∷ []) (codes "v 1 2 3\n")).text ≡ codes "table controls 1 rows 1 entries 1\ns 1 0 1\n" }
     ensures sheet { answer (codes "gen" ∷ codes "seed=0" ∷ codes "size=1" ∷ codes "depth=1" ∷ []) (codes "x") ≡ record { text = sheet_summary_text; refusal = None } }
+    ensures moved { answer (codes "frames" ∷ codes "depth=0" ∷ []) (square_text ++ codes "frames\nmove 0 1 1 1\ngo\n") ≡ record { text = codes "frame 1\np 0 1 1 1\n"; refusal = None } }
 {}
 
 /// The first refusal that applies.
