@@ -10,8 +10,8 @@ use Rattle.std.proofs.lemmas.List.Sorted.{IsPermutation-sym, IsPermutation-map, 
 use Rattle.std.proofs.lemmas.Slice.Eq.{bytes_eq-Decides}
 use Rattle.std.proofs.lemmas.Map.Keys.{IsDistinct-IsPermutation}
 use Rattle.std.proofs.lemmas.Map.Views.{Contains-from_lookup, lookup-from_Contains}
-use Rattle.far_model.specs.Words.{OptionRule, CommandRule, option_name, option_value, is_option_of, has_option, has_required, first_bad_option, value_of, usage_of_options, usage_of_rule, rule_named, usage_of}
-use Rattle.far_model.specs.Command.{command_named, read_words_by, read_or}
+use Rattle.far_model.specs.Words.{OptionRule, CommandRule, option_name, option_value, is_option_of, has_option, has_required, first_bad_option, value_of, usage_of_options, usage_of_rule, required_number, rule_named, usage_of}
+use Rattle.far_model.specs.Command.{Command, Reads, Makes, Streams, Refine, Stencils, Levels, Gen, Frames, RefineOptions, FramesOptions, GenOptions, command_named, frames_of, gen_of, refine_of, read_words_by, read_or}
 use Rattle.far_words.proofs.GoodOptionLemmas.{names_of, IsGood, good-or-early, none-bad-of-good}
 
 -- an option as its name and its value
@@ -118,11 +118,35 @@ pub usage-order : (found : Option CommandRule) (options others : List (List ℕ)
 usage-order None options others p h = absurd (cc)
 usage-order (Some rule) options others p h = understood-order rule.options options others p h
 
+-- a command of a name, by what its options say
+abbrev command-by : (name : List ℕ) (refine : RefineOptions) (depth : ℕ) (frames : FramesOptions) (gen : GenOptions) → Command
+command-by name refine depth frames gen =
+    if bytes_eq name (codes "refine") then Reads (Refine refine)
+    else if bytes_eq name (codes "stencils") then Reads (Stencils depth)
+    else if bytes_eq name (codes "frames") then Streams (Frames frames)
+    else if bytes_eq name (codes "levels") then Reads (Levels depth)
+    else Makes (Gen gen)
+
 -- a command is filled in by the values of its options
-command-same : (name : List ℕ) (options others : List (List ℕ)) → ((n : List ℕ) → value_of others n ≡ value_of options n)
-    → command_named name others ≡ command_named name options
-command-same name options others same =
-    cc (same (codes "depth"), same (codes "decimals"), same (codes "uv"), same (codes "by"), same (codes "tags"), same (codes "seed"), same (codes "size"))
+module _ (options others : List (List ℕ)) (same : (n : List ℕ) → value_of others n ≡ value_of options n) where
+  depth-same : required_number others (codes "depth") ≡ required_number options (codes "depth")
+  depth-same = cc (same (codes "depth"))
+
+  refine-same : refine_of others ≡ refine_of options
+  refine-same = cc (same (codes "depth"), same (codes "decimals"), same (codes "uv"), same (codes "by"), same (codes "tags"))
+
+  frames-same : frames_of others ≡ frames_of options
+  frames-same = cc (same (codes "depth"), same (codes "scale"))
+
+  gen-same : gen_of others ≡ gen_of options
+  gen-same = cc (same (codes "seed"), same (codes "size"), same (codes "depth"))
+
+  command-same : (name : List ℕ) → command_named name others ≡ command_named name options
+  command-same name =
+      ap (λ refine. command-by name refine (required_number others (codes "depth")) (frames_of others) (gen_of others)) refine-same
+      ∙ ap (λ depth. command-by name (refine_of options) depth (frames_of others) (gen_of others)) depth-same
+      ∙ ap (λ frames. command-by name (refine_of options) (required_number options (codes "depth")) frames (gen_of others)) frames-same
+      ∙ ap (command-by name (refine_of options) (required_number options (codes "depth")) (frames_of options)) gen-same
 
 value-in-order : (found : Option CommandRule) (options others : List (List ℕ)) → IsPermutation options others
     → usage_of_rule found options ≡ None
@@ -134,5 +158,5 @@ pub reading-order : (table : List CommandRule) (command : List ℕ) (options oth
     → usage_of table (command ∷ options) ≡ None → read_words_by table (command ∷ others) ≡ read_words_by table (command ∷ options)
 reading-order table command options others p h =
     ap (λ usage. read_or usage (command ∷ others)) (usage-order (rule_named table command) options others p h)
-    ∙ ap Ok (command-same command options others (value-in-order (rule_named table command) options others p h))
+    ∙ ap Ok (command-same options others (value-in-order (rule_named table command) options others p h) command)
     ∙ sym (ap (λ usage. read_or usage (command ∷ options)) h)

@@ -60,6 +60,7 @@ small-numbers rule options small h =
       decimals = numbers-of-good rule.options options all.0 good (codes "decimals") refl;
       seed = numbers-of-good rule.options options all.0 good (codes "seed") refl;
       size = numbers-of-good rule.options options all.0 good (codes "size") refl;
+      scale = numbers-of-good rule.options options all.0 good (codes "scale") refl;
     }
 
 pub few-rules : (rule : CommandRule) → is_u32_rule rule ≡ true → length rule.options < 4294967295

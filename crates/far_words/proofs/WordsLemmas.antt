@@ -1,6 +1,6 @@
 -- The commands that words say.
 use Rattle.std.proofs.Common.{◌≡◌, ℕ, ◌≤◌, Bool, true, false, cond, ◌&&◌, ◌||◌, nat_le, List, [], ◌∷◌, Option, Some, None, Result, Ok, Err, IfOk, codes, arith, refl, ap, sym, subst}
-use Rattle.std.specs.Prelude.{bytes_eq, is_some, IfSome, option_map}
+use Rattle.std.specs.Prelude.{bytes_eq, is_some, IfSome, option_map, unwrap_or}
 use Rattle.std.proofs.lemmas.Bool.Decides.{nat_tests}
 use Rattle.std.proofs.lemmas.Slice.Eq.{bytes_eq-Decides}
 use Rattle.far_model.specs.Words.{CommandRule, command_table, required_option, number_option, name_option, texture_names, path_names, tags_names, is_number_word, usage_of, usage_of_rule, value_of, number_of, required_number}
@@ -58,6 +58,9 @@ gen_rule = record {
   options = required_option (codes "seed") 0 4294967295 ∷ required_option (codes "size") 1 256 ∷ required_option (codes "depth") 0 10 ∷ [];
 }
 
+abbrev frames_rule : CommandRule
+frames_rule = record { name = codes "frames"; options = required_option (codes "depth") 0 10 ∷ number_option (codes "scale") 0 18 ∷ [] }
+
 -- a value that is a number between two others
 within_bounds : (digits : Bool) (least greatest n : ℕ) → ((digits && nat_le least n && nat_le n greatest) || false) ≡ true → (least ≤ n) × (n ≤ greatest)
 within_bounds true least greatest n allowed = (grind (arith, nat_tests), grind (arith, nat_tests))
@@ -113,28 +116,46 @@ gen_numbers options none =
     let depth_within = number_within options (codes "depth") depth.0 0 10 depth.1 (allowed-of-rule (Some gen_rule) options gen_rule (codes "depth") depth.0 refl none depth.1) in
     (size_within.0, size_within.1, depth_within.1)
 
+-- an option that may be missing says 0 where it is
+frames_scale : (options : List (List ℕ)) → usage_of_rule (Some frames_rule) options ≡ None → required_number options (codes "scale") ≤ 18
+frames_scale options none = go (value_of options (codes "scale")) refl
+  where
+    go : (found : Option (List ℕ)) → value_of options (codes "scale") ≡ found → unwrap_or (option_map number_of_digits found) 0 ≤ 18
+    go None is = omega arith
+    go (Some value) is =
+        (within_bounds (is_number_word value) 0 18 (number_of_digits value)
+        (allowed-of-rule (Some frames_rule) options frames_rule (codes "scale") value refl none is)).1
+
+frames_depth : (options : List (List ℕ)) → usage_of_rule (Some frames_rule) options ≡ None → required_number options (codes "depth") ≤ 10
+frames_depth options none =
+    let found = some_value (value_of options (codes "depth")) (required-of-rule (Some frames_rule) options frames_rule refl none) in
+    let allowed = allowed-of-rule (Some frames_rule) options frames_rule (codes "depth") found.0 refl none found.1 in
+    (number_within options (codes "depth") found.0 0 10 found.1 allowed).1
+
 -- words that are a command say one within the bounds of its options
 pub says-in-range : (words : List (List ℕ)) → usage_of command_table words ≡ None → IsInRange (command_of words)
 says-in-range [] none = absurd (cc)
 says-in-range (name ∷ options) none =
-    by_test (bytes_eq name (codes "refine")) (bytes_eq name (codes "stencils")) (bytes_eq name (codes "levels")) (bytes_eq name (codes "gen"))
-    refl refl refl refl none
+    by_test (bytes_eq name (codes "refine")) (bytes_eq name (codes "stencils")) (bytes_eq name (codes "frames")) (bytes_eq name (codes "levels"))
+    (bytes_eq name (codes "gen")) refl refl refl refl refl none
   where
     -- the command is that of this name
     named : (known : List ℕ) → bytes_eq name known ≡ true → IsInRange (command_of (known ∷ options)) → IsInRange (command_of (name ∷ options))
     named known is built = subst IsInRange (sym (ap (λ n. command_of (n ∷ options)) ((bytes_eq-Decides name known).0 is))) built
 
-    by_test : (refined tabled counted made : Bool) → bytes_eq name (codes "refine") ≡ refined → bytes_eq name (codes "stencils") ≡ tabled →
-        bytes_eq name (codes "levels") ≡ counted → bytes_eq name (codes "gen") ≡ made →
+    by_test : (refined tabled moved counted made : Bool) → bytes_eq name (codes "refine") ≡ refined → bytes_eq name (codes "stencils") ≡ tabled →
+        bytes_eq name (codes "frames") ≡ moved → bytes_eq name (codes "levels") ≡ counted → bytes_eq name (codes "gen") ≡ made →
         usage_of_rule
-        (cond refined (Some refine_rule) (cond tabled (Some (depth_rule (codes "stencils"))) (cond counted (Some (depth_rule (codes "levels"))) (cond made (Some gen_rule) None))))
+        (cond refined (Some refine_rule) (cond tabled (Some (depth_rule (codes "stencils"))) (cond moved (Some frames_rule)
+        (cond counted (Some (depth_rule (codes "levels"))) (cond made (Some gen_rule) None)))))
         options ≡ None →
         IsInRange (command_of (name ∷ options))
-    by_test true tabled counted made is e f g none = named (codes "refine") is (refine_depth options none, refine_decimals options none)
-    by_test false true counted made e is f g none = named (codes "stencils") is (depth_alone (codes "stencils") options none)
-    by_test false false true made e f is g none = named (codes "levels") is (depth_alone (codes "levels") options none)
-    by_test false false false true e f g is none = named (codes "gen") is (gen_numbers options none)
-    by_test false false false false e f g h none = absurd (cc)
+    by_test true tabled moved counted made is e f g h none = named (codes "refine") is (refine_depth options none, refine_decimals options none)
+    by_test false true moved counted made e is f g h none = named (codes "stencils") is (depth_alone (codes "stencils") options none)
+    by_test false false true counted made e f is g h none = named (codes "frames") is (frames_depth options none, frames_scale options none)
+    by_test false false false true made e f g is h none = named (codes "levels") is (depth_alone (codes "levels") options none)
+    by_test false false false false true e f g h is none = named (codes "gen") is (gen_numbers options none)
+    by_test false false false false false e f g h i none = absurd (cc)
 
 -- a command that was read is within the bounds of its options
 pub read-in-range : (words : List (List ℕ)) (r : Result Command ℕ) → result_of_code r ≡ read_words_by command_table words →

@@ -26,10 +26,11 @@ pub record AreNumbersU32 (options : List (List ℕ)) : Type 0 where
   pub decimals : u32_of_option options (codes "decimals") ≡ number_of options (codes "decimals")
   pub seed : u32_of_option options (codes "seed") ≡ number_of options (codes "seed")
   pub size : u32_of_option options (codes "size") ≡ number_of options (codes "size")
+  pub scale : u32_of_option options (codes "scale") ≡ number_of options (codes "scale")
 
 -- the options whose values become numbers of a command
 abbrev pub number_names : List (List ℕ)
-number_names = codes "depth" ∷ codes "decimals" ∷ codes "seed" ∷ codes "size" ∷ []
+number_names = codes "depth" ∷ codes "decimals" ∷ codes "seed" ∷ codes "size" ∷ codes "scale" ∷ []
 
 abbrev pub is_u32_kind : ValueKind → Bool
 is_u32_kind (Between least greatest) = fits_u32 greatest

@@ -13,12 +13,15 @@ use Rattle.far_words.specs.declared.command.By.{By}
 use Rattle.far_words.specs.declared.command.By.TheVariants.{Table, Level}
 use Rattle.far_words.specs.declared.command.RefineOptions.{RefineOptions}
 use Rattle.far_words.specs.declared.command.GenOptions.{GenOptions}
+use Rattle.far_words.specs.declared.command.FramesOptions.{FramesOptions}
 use Rattle.far_words.specs.declared.command.ReadCommand.{ReadCommand}
 use Rattle.far_words.specs.declared.command.ReadCommand.TheVariants.{Refine, Stencils, Levels}
 use Rattle.far_words.specs.declared.command.MakeCommand.{MakeCommand}
 use Rattle.far_words.specs.declared.command.MakeCommand.TheVariants.{Gen}
+use Rattle.far_words.specs.declared.command.StreamCommand.{StreamCommand}
+use Rattle.far_words.specs.declared.command.StreamCommand.TheVariants.{Frames}
 use Rattle.far_words.specs.declared.command.Command.{Command}
-use Rattle.far_words.specs.declared.command.Command.TheVariants.{Read, Make}
+use Rattle.far_words.specs.declared.command.Command.TheVariants.{Read, Make, Stream}
 
 abbrev pub kind_of_code : ValueKind → words.ValueKind
 kind_of_code (Between least greatest) = words.Between least greatest
@@ -55,6 +58,9 @@ refine_of_code options = record {
 abbrev pub gen_of_code : GenOptions → model.GenOptions
 gen_of_code options = record { seed = options.seed; size = options.size; depth = options.depth }
 
+abbrev pub frames_of_code : FramesOptions → model.FramesOptions
+frames_of_code options = record { depth = options.depth; scale = options.scale }
+
 abbrev pub read_of_code : ReadCommand → model.ReadCommand
 read_of_code (Refine options) = model.Refine (refine_of_code options)
 read_of_code (Stencils depth) = model.Stencils depth
@@ -63,9 +69,13 @@ read_of_code (Levels depth) = model.Levels depth
 abbrev pub make_of_code : MakeCommand → model.MakeCommand
 make_of_code (Gen options) = model.Gen (gen_of_code options)
 
+abbrev pub stream_of_code : StreamCommand → model.StreamCommand
+stream_of_code (Frames options) = model.Frames (frames_of_code options)
+
 abbrev pub command_of_code : Command → model.Command
 command_of_code (Read command) = model.Reads (read_of_code command)
 command_of_code (Make command) = model.Makes (make_of_code command)
+command_of_code (Stream command) = model.Streams (stream_of_code command)
 
 -- what reading says: a command, or the place of the first bad word
 abbrev pub result_of_code : Result Command ℕ → Result model.Command ℕ

@@ -1,8 +1,8 @@
 //! Commands as values.
 
 ghost use Rattle.std.specs.Prelude.{◌↔◌, IsTrue};
-ghost use Rattle.far_model.specs.Command.{IsInRange, IsMakeInRange, IsReadInRange};
-ghost use Rattle.far_words.specs.View.{command_of_code, make_of_code, read_of_code};
+ghost use Rattle.far_model.specs.Command.{IsInRange, IsMakeInRange, IsReadInRange, IsStreamInRange};
+ghost use Rattle.far_words.specs.View.{command_of_code, make_of_code, read_of_code, stream_of_code};
 
 /// How the texture is refined, and what stays sharp where seams cut it.
 #[derive(Clone, Copy, Debug, PartialEq, Eq)]
@@ -49,6 +49,15 @@ pub struct GenOptions {
     pub depth: u32,
 }
 
+/// How the points of a mesh are moved: its depth, and a power of ten that divides the common denominator of its positions.
+#[derive(Clone, Copy, Debug, PartialEq, Eq)]
+pub struct FramesOptions {
+    /// At most 10.
+    pub depth: u32,
+    /// The exponent of the power of ten, at most 18.
+    pub scale: u32,
+}
+
 /// A command that reads a mesh and then answers. Each depth is at most 10.
 #[derive(Clone, Copy, Debug, PartialEq, Eq)]
 pub enum ReadCommand {
@@ -67,11 +76,19 @@ pub enum MakeCommand {
     Gen(GenOptions),
 }
 
+/// A command that answers while it reads, line by line.
+#[derive(Clone, Copy, Debug, PartialEq, Eq)]
+pub enum StreamCommand {
+    /// Moves points of a mesh, and writes the points at a depth that change.
+    Frames(FramesOptions),
+}
+
 /// A command with its options filled in.
 #[derive(Clone, Copy, Debug, PartialEq, Eq)]
 pub enum Command {
     Read(ReadCommand),
     Make(MakeCommand),
+    Stream(StreamCommand),
 }
 
 impl ReadCommand {
@@ -102,6 +119,17 @@ impl MakeCommand {
     }
 }
 
+impl StreamCommand {
+    /// Whether the numbers of the command are those that its options allow.
+    pub fn is_in_range(&self) -> bool
+        ensures { IsTrue result ↔ IsStreamInRange (stream_of_code self.now) }
+    {
+        match *self {
+            StreamCommand::Frames(options) => options.depth <= 10 && options.scale <= 18,
+        }
+    }
+}
+
 impl Command {
     /// Whether the numbers of the command are those that its options allow, as they are of a command that was read.
     pub fn is_in_range(&self) -> bool
@@ -110,6 +138,7 @@ impl Command {
         match self {
             Command::Read(command) => command.is_in_range(),
             Command::Make(command) => command.is_in_range(),
+            Command::Stream(command) => command.is_in_range(),
         }
     }
 }

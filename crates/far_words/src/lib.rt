@@ -8,6 +8,9 @@ mod options;
 mod read;
 mod table;
 
-pub use command::{By, Command, GenOptions, MakeCommand, ReadCommand, RefineOptions, Uv};
+pub use command::{
+    By, Command, FramesOptions, GenOptions, MakeCommand, ReadCommand, RefineOptions, StreamCommand,
+    Uv,
+};
 pub use read::{read_words, read_words_by};
 pub use table::{CommandRule, OptionRule, ValueKind, command_table};

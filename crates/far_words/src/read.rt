@@ -6,10 +6,13 @@ ghost use Rattle.far_model.specs.Words.{usage_of_rule};
 ghost use Rattle.far_model.specs.Words as words;
 ghost use Rattle.far_model.specs.Command.{IsInRange, read_or};
 ghost use Rattle.far_model.specs.Command as model;
-ghost use Rattle.far_words.specs.View.{table_of_code, rule_of_code, uv_of_code, by_of_code, refine_of_code, gen_of_code, command_of_code, result_of_code};
+ghost use Rattle.far_words.specs.View.{table_of_code, rule_of_code, uv_of_code, by_of_code, refine_of_code, gen_of_code, frames_of_code, command_of_code, result_of_code};
 ghost use Rattle.far_words.specs.Table.{AreNumbersU32, is_u32_rule, is_u32_table, u32_of_option};
 
-use crate::command::{By, Command, GenOptions, MakeCommand, ReadCommand, RefineOptions, Uv};
+use crate::command::{
+    By, Command, FramesOptions, GenOptions, MakeCommand, ReadCommand, RefineOptions, StreamCommand,
+    Uv,
+};
 use crate::options::{first_bad_option, has_required, number_of, value_of};
 use crate::table::{CommandRule, command_table};
 
@@ -65,6 +68,16 @@ fn gen_of(options: &[String]) -> GenOptions
     }
 }
 
+fn frames_of(options: &[String]) -> FramesOptions
+    requires { AreNumbersU32 (map string_bytes options.now) }
+    ensures { frames_of_code result ≡ model.frames_of (map string_bytes options.now) }
+{
+    FramesOptions {
+        depth: required_number(options, "depth"),
+        scale: required_number(options, "scale"),
+    }
+}
+
 // The command of this name with these options.
 fn command_named(name: &str, options: &[String]) -> Command
     requires { AreNumbersU32 (map string_bytes options.now) }
@@ -75,6 +88,7 @@ fn command_named(name: &str, options: &[String]) -> Command
         "stencils" => Command::Read(ReadCommand::Stencils {
             depth: required_number(options, "depth"),
         }),
+        "frames" => Command::Stream(StreamCommand::Frames(frames_of(options))),
         "levels" => Command::Read(ReadCommand::Levels {
             depth: required_number(options, "depth"),
         }),

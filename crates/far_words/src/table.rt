@@ -65,6 +65,13 @@ const COMMANDS: &[CommandRule] = &[
         options: &[required_option!("depth", 0, 10)],
     },
     CommandRule {
+        name: "frames",
+        options: &[
+            required_option!("depth", 0, 10),
+            number_option!("scale", 0, 18),
+        ],
+    },
+    CommandRule {
         name: "levels",
         options: &[required_option!("depth", 0, 10)],
     },
