@@ -2,6 +2,7 @@
 use Rattle.std.proofs.Common.{◌≡◌, ℕ, ◌+◌, ◌-◌, ◌<◌, ◌≤◌, List, [], ◌∷◌, ◌++◌, length, take, drop, Option, Some, None, Result, Ok, Err, arith, refl, sym, ap, ◌∙◌, append_assoc, append-nil, length-append, length-drop}
 use Rattle.std.specs.List.{position, list_any}
 use Rattle.std.proofs.Math.Seq.{take-add}
+use Rattle.std.proofs.lemmas.Grind.{common_steps}
 use Rattle.std.proofs.lemmas.List.{take_all, drop-drop, drop_more}
 use Rattle.far_io.specs.Buffer.{part}
 use Rattle.far_io.specs.Bytes.{Took, TookOne}
@@ -59,6 +60,27 @@ text-end bytes pending from k n same found one =
 pub passed-between : (a : TextInput) → IsBetween a → a.before ≡ passed a
 passed-between a between =
     sym (append-nil a.before) ∙ ap (λ r. a.before ++ r) (sym (ap (λ r. r ++ a.end) between.line ∙ between.end))
+
+-- behind the first LF stands less than came with it, where no LF was pending
+fewer-than-came : (pending piece line after : List ℕ) → HasNoLf pending → pending ++ piece ≡ line ++ (10 ∷ after) → length after < length piece
+fewer-than-came [] piece line after plain is = omega (arith, ap length is, length-append line (10 ∷ after))
+fewer-than-came (x ∷ pending) piece [] after plain is = absurd (grind (arith, common_steps, plain, is))
+fewer-than-came (x ∷ pending) piece (y ∷ line) after plain is =
+    let less : HasNoLf pending = grind (arith, common_steps, plain) in
+    fewer-than-came pending piece line after less (ap (drop 1) is)
+
+-- where a line was found, no more is pending than came last
+found-few : (pending : List ℕ) (new : TextInput) (piece : List ℕ) (left : Option (List ℕ)) (found : NextText) → HasNoLf pending →
+    IsNextText pending new piece left (Ok found) → length new.pending ≤ length piece
+found-few pending new piece left Closed plain next = omega (arith, fewer-than-came pending piece new.line new.pending plain next.0.0)
+found-few pending new piece left Last plain next = omega (arith, ap length next.4)
+found-few pending new piece left End plain next = omega (arith, ap length next.2)
+
+pub kept-few : (pending : List ℕ) (new : TextInput) (piece : List ℕ) (r : Result (Option NextText) InputFault) → HasNoLf pending →
+    IsKept pending new piece r → (found : NextText) → r ≡ Ok (Some found) → length new.pending ≤ length piece
+kept-few pending new piece r plain kept found is =
+    let here : IsKept pending new piece (Ok (Some found)) = rw is at kept in
+    found-few pending new piece None found plain (here None)
 
 module _ (first pending : List ℕ) (c : TextInput) (bytes more : List ℕ) (left : Option (List ℕ)) (kept : pending ≡ first ++ bytes) where
   pending-later : (last : List ℕ) → IsPending pending c last → IsPending first c (bytes ++ last)

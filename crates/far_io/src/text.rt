@@ -1,6 +1,7 @@
-ghost use Rattle.std.specs.Prelude.{◌≡◌, ℕ, ◌<◌, ◌≤◌, List, [], ◌∷◌, ◌++◌, length, take, Option, OnOk, OnErr, IfOk, Ok, Err, true, false};
+ghost use Rattle.std.specs.Prelude.{◌≡◌, ℕ, ◌<◌, ◌≤◌, List, [], ◌∷◌, ◌++◌, length, take, Option, Some, OnOk, OnErr, IfOk, Ok, Err, true, false};
 ghost use Rattle.std.specs.List.{list_any, position};
 ghost use Rattle.far_io.specs.declared.source.InputFault.TheVariants.{Read, Memory};
+ghost use Rattle.far_io.specs.declared.text.NextText.{NextText};
 ghost use Rattle.far_io.specs.Bytes.{Rose, Took, TookOne, IsDry};
 ghost use Rattle.far_io.specs.Lines.{is_lf, HasNoLf, IsClosed};
 ghost use Rattle.far_io.specs.Text.{TextInput, passed, IsBetween, IsNextText, IsCountedText, ReadsText, ReadsMoreText, IsKept};
@@ -79,6 +80,13 @@ impl TextReader {
         &self.text[self.start..self.start + self.size]
     }
 
+    /// All bytes up to the end of the line that it stands at: those before it, the line, and its LF where it has one.
+    pub fn passed(&self) -> &[u8]
+        ensures { result.now ≡ passed self.now }
+    {
+        &self.text[..self.from]
+    }
+
     /// All bytes that came after the line and its LF.
     pub fn pending(&self) -> &[u8]
         ensures { result.now ≡ self.now.pending }
@@ -86,15 +94,24 @@ impl TextReader {
         &self.text[self.from..]
     }
 
+    /// How many bytes may still come.
+    pub fn allowed(&self) -> usize
+        ensures { result ≡ self.now.allowed }
+    {
+        self.allowed
+    }
+
     /// Moves on to the next line.
     ///
     /// A line whose LF is pending is returned without a read. One call of the source reads at most 4,096 bytes, and none
     /// more than are allowed; where none is allowed it reads one byte. `Long` is returned exactly where that byte comes,
     /// and drops it. `Read` is returned only where the source's count of faults rose. `Memory` is returned where memory
-    /// ran out, and drops what one call read. No other byte is dropped.
+    /// ran out, and drops what one call read. No other byte is dropped. On `Ok` at most 4,096 bytes are pending, where no
+    /// more were before.
     pub fn next<S: Source>(&mut self, source: &mut S) -> Result<NextText, InputFault>
         ensures reads { ReadsText S.Source self.old self.new source.old source.new result }
         ensures still { list_any is_lf self.old.pending ≡ true → source.new ≡ source.old }
+        ensures few { length self.old.pending ≤ 4096 → OnOk result (length self.new.pending ≤ 4096) }
     {
         if self.close() {
             return Ok(NextText::Closed);
@@ -106,7 +123,8 @@ impl TextReader {
     fn read_line<S: Source>(&mut self, source: &mut S) -> Result<NextText, InputFault>
         requires plain { HasNoLf self.old.pending }
         requires between { IsBetween self.old }
-        ensures { ReadsText S.Source self.old self.new source.old source.new result }
+        ensures reads { ReadsText S.Source self.old self.new source.old source.new result }
+        ensures few { OnOk result (length self.new.pending ≤ 4096) }
     {
         let mut piece = [0u8; 4096];
         loop {
@@ -126,7 +144,8 @@ impl TextReader {
         requires few { length piece.old ≤ 4096 }
         requires plain { HasNoLf self.old.pending }
         requires between { IsBetween self.old }
-        ensures { ReadsMoreText S.Source self.old self.new source.old source.new result }
+        ensures reads { ReadsMoreText S.Source self.old self.new source.old source.new result }
+        ensures few { (found : NextText) → result ≡ Ok (Some found) → length self.new.pending ≤ 4096 }
     {
         if self.allowed == 0 {
             return self.past_bound(source);
@@ -145,7 +164,8 @@ impl TextReader {
         requires few { length piece.old ≤ 4096 }
         requires plain { HasNoLf self.old.pending }
         requires between { IsBetween self.old }
-        ensures { ReadsMoreText S.Source self.old self.new source.old source.new result }
+        ensures reads { ReadsMoreText S.Source self.old self.new source.old source.new result }
+        ensures few { (found : NextText) → result ≡ Ok (Some found) → length self.new.pending ≤ 4096 }
     {
         let n = read_input(source, piece, self.allowed)?;
         self.allowed -= n;
@@ -160,7 +180,8 @@ impl TextReader {
         requires none { self.old.allowed ≡ 0 }
         requires plain { HasNoLf self.old.pending }
         requires between { IsBetween self.old }
-        ensures { ReadsMoreText S.Source self.old self.new source.old source.new result }
+        ensures reads { ReadsMoreText S.Source self.old self.new source.old source.new result }
+        ensures few { (found : NextText) → result ≡ Ok (Some found) → length self.new.pending ≤ 4096 }
     {
         if has_more_input(source)? {
             return Err(InputFault::Long);
@@ -231,6 +252,7 @@ impl TextReader {
     fn ended(&mut self) -> NextText
         requires { HasNoLf self.old.pending }
         ensures next { (left : Option (List ℕ)) → IsDry left → IsNextText self.old.pending self.new [] left (Ok result) }
+        ensures pending { self.new.pending ≡ [] }
         ensures before { self.new.before ≡ passed self.old }
         ensures allowed { self.new.allowed ≡ self.old.allowed }
     {
