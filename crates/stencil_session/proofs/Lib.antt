@@ -1,0 +1,9 @@
+pub mod CellLemmas
+pub mod PutLemmas
+pub mod ColumnLemmas
+pub mod AddLemmas
+pub mod ValueLemmas
+pub mod EntryLemmas
+pub mod MoveLemmas
+pub mod SessionLemmas
+pub mod LawLemmas

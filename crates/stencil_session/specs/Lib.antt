@@ -1,0 +1,4 @@
+pub mod Session
+pub mod Columns
+pub mod Kept
+pub mod Laws
