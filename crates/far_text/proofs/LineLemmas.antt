@@ -1,5 +1,5 @@
 -- A line is what is put first, its words and its end.
-use Rattle.std.proofs.Common.{◌≡◌, ℕ, ◌+◌, List, [], ◌∷◌, ◌++◌, codes, append_assoc, refl, ap, sym, ◌∙◌, zip, Option}
+use Rattle.std.proofs.Common.{◌≡◌, ℕ, ◌+◌, List, [], ◌∷◌, ◌++◌, codes, append_assoc, refl, ap, sym, ◌∙◌, zip, Option, None}
 use Rattle.std.specs.List.{flat_map}
 use Rattle.std.proofs.lemmas.List.Folds.{flat_map-map}
 use Rattle.subdiv_model.specs.Polygons.{Polygon}
@@ -8,6 +8,7 @@ use Rattle.subdiv_model.specs.Value.{Value}
 use Rattle.subdiv_model.specs.Refined.{Point}
 use Rattle.subdiv_model.specs.NumberText.{number_text, value_text_with}
 use Rattle.subdiv_model.specs.Text.{line_text, texture_line, face_line, corner_text, textured_face_line, hole_line, sharpness_text}
+use Rattle.far_text.specs.Frames.{frame_line, changed_line}
 use Rattle.far_text.specs.Lines.{coordinate_words, corner_word, textured_word, crease_tag, corner_tag}
 
 -- words, each after one space, and the end of the line
@@ -48,3 +49,12 @@ corner-by-words v s = ap (λ rest. codes "t corner 1/1/0" ++ rest) (ended-words 
 
 pub hole-by-words : (f : ℕ) → codes "t hole 1/0/0" ++ ((32 ∷ number_text f) ++ (10 ∷ [])) ≡ hole_line f
 hole-by-words f = ap (λ rest. codes "t hole 1/0/0" ++ rest) (ended-words (number_text f ∷ []))
+
+pub frame-by-words : (count : ℕ) → (codes "frame" ++ (32 ∷ number_text count)) ++ (10 ∷ []) ≡ frame_line count
+frame-by-words count = append_assoc (codes "frame") (32 ∷ number_text count) (10 ∷ []) ∙ ap (λ rest. codes "frame" ++ rest) (ended-words (number_text count ∷ []))
+
+pub changed-by-words : (number : ℕ) (p : Point) →
+    (codes "p" ++ (32 ∷ number_text number)) ++ line_text [] (coordinate_words None p) ≡ changed_line number p
+changed-by-words number p =
+    append_assoc (codes "p") (32 ∷ number_text number) (line_text [] (coordinate_words None p))
+    ∙ ap (λ rest. codes "p" ++ rest) (sym (append_assoc (32 ∷ number_text number) (flat_map (λ word. 32 ∷ word) (coordinate_words None p)) (10 ∷ [])))

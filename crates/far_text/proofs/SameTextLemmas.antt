@@ -7,10 +7,11 @@ use Rattle.ratio128.specs.declared.valued.Valued.{Valued}
 use Rattle.subdiv_model.specs.Level.{Level}
 use Rattle.subdiv_model.specs.Value.{Value, IsSameValue}
 use Rattle.subdiv_model.specs.Refined.{Point}
-use Rattle.subdiv_model.specs.NumberText.{value_text_with}
+use Rattle.subdiv_model.specs.NumberText.{number_text, value_text, value_text_with}
 use Rattle.subdiv_model.specs.Text.{face_line, line_text, point_line, shown, mesh_text}
 use Rattle.number_laws.proofs.TextLemmas.{fraction_text-same}
-use Rattle.far_text.specs.Points.{CanBeWritten, IsSamePoint, HasDenominators, points_of}
+use Rattle.far_text.specs.Frames.{changed_line, valued_changed_line}
+use Rattle.far_text.specs.Points.{CanBeWritten, IsSamePoint, HasDenominators, point_of, points_of}
 use Rattle.far_text.proofs.RoundingLemmas.{rounded_text-same}
 
 -- in lowest terms, and rounded
@@ -25,6 +26,20 @@ point-same decimals p q above below same =
     ap (λ t. words t (value_text_with decimals p.1) (value_text_with decimals p.2)) (value-same decimals p.0 q.0 above.x below.x same.x)
     ∙ ap (λ t. words (value_text_with decimals q.0) t (value_text_with decimals p.2)) (value-same decimals p.1 q.1 above.y below.y same.y)
     ∙ ap (λ t. words (value_text_with decimals q.0) (value_text_with decimals q.1) t) (value-same decimals p.2 q.2 above.z below.z same.z)
+
+-- the line of a changed point, where both denominators are at least 1
+pub changed-same : (number : ℕ) (p q : Point) → HasDenominators p → HasDenominators q → IsSamePoint p q → changed_line number p ≡ changed_line number q
+changed-same number p q above below same =
+    let words : List ℕ → List ℕ → List ℕ → List ℕ = λ x y z. line_text (codes "p") (number_text number ∷ x ∷ y ∷ z ∷ []) in
+    ap (λ t. words t (value_text p.1) (value_text p.2)) (value-same None p.0 q.0 above.x below.x same.x)
+    ∙ ap (λ t. words (value_text q.0) t (value_text p.2)) (value-same None p.1 q.1 above.y below.y same.y)
+    ∙ ap (λ t. words (value_text q.0) (value_text q.1) t) (value-same None p.2 q.2 above.z below.z same.z)
+
+-- that of a point that can be written, which is the definition's point in other terms
+pub valued-changed-same : (common number : ℕ) (p : Valued Point3) (q : Point) → CanBeWritten common p → HasDenominators q → IsSamePoint (point_of common p) q →
+    valued_changed_line common number p ≡ changed_line number q
+valued-changed-same common number p q written below same =
+    changed-same number (point_of common p) q (record { x = written.positive; y = written.positive; z = written.positive }) below same
 
 -- point by point
 pub points-same : (decimals : Option ℕ) (ps qs : List Point) → AllByRecursion HasDenominators ps → AllByRecursion HasDenominators qs → AllZip IsSamePoint ps qs →

@@ -7,3 +7,4 @@ pub mod Summary
 pub mod TableLines
 pub mod Mesh
 pub mod Reply
+pub mod Frames

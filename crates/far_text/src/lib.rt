@@ -7,6 +7,7 @@
 mod corner_tags;
 mod creases;
 mod faces;
+mod frames;
 mod holes;
 pub mod laws;
 mod levels;
@@ -21,6 +22,7 @@ mod texture;
 mod textured_faces;
 mod words;
 
+pub use frames::{put_changed, put_frame_count};
 pub use levels::put_levels;
 pub use mesh::{MeshForm, RefinedMesh, RefinedTexture, put_refined};
 pub use reply::{Reply, put_reply, write_reply};

@@ -1,6 +1,6 @@
 //! The lines of points.
 
-ghost use Rattle.std.specs.Prelude.{◌≡◌, ◌<◌, ◌≤◌, ◌^◌, ◌∷◌, unsigned_abs, false, IfSome};
+ghost use Rattle.std.specs.Prelude.{◌≡◌, ◌<◌, ◌≤◌, ◌^◌, [], ◌∷◌, unsigned_abs, false, IfSome};
 ghost use Rattle.std.specs.List.{All, flat_map};
 ghost use Rattle.subdiv_model.specs.NumberText.{value_text_with};
 ghost use Rattle.subdiv_model.specs.Text.{line_text};
@@ -32,10 +32,9 @@ pub(crate) fn put_coordinate<K: Sink>(
     }
 }
 
-// Puts a keyword, the coordinates of a point, which are all over one denominator, and the end of the line.
-fn put_point<K: Sink>(
+// Puts the coordinates of a point, which are all over one denominator, and the end of the line.
+pub(crate) fn put_coordinates<K: Sink>(
     out: &mut Out<'_, K>,
-    keyword: &[u8],
     point: &Point3,
     den: u128,
     decimals: Option<u32>,
@@ -46,9 +45,8 @@ fn put_point<K: Sink>(
     requires y { unsigned_abs point.now.y < 2 ^ 127 }
     requires z { unsigned_abs point.now.z < 2 ^ 127 }
     requires few { IfSome decimals (λ digits. digits ≤ 18) }
-    ensures { Puts K.Sink out.old out.new (line_text keyword.now (coordinate_words decimals (point_over den point.now))) result }
+    ensures { Puts K.Sink out.old out.new (line_text [] (coordinate_words decimals (point_over den point.now))) result }
 {
-    out.put_bytes(keyword)?;
     put_coordinate(out, &point.x, den, decimals)?;
     put_coordinate(out, &point.y, den, decimals)?;
     put_coordinate(out, &point.z, den, decimals)?;
@@ -67,7 +65,8 @@ pub(crate) fn put_valued<K: Sink>(
     requires decimals { IfSome decimals (λ digits. digits ≤ 18) }
     ensures { Puts K.Sink out.old out.new (line_text keyword.now (coordinate_words decimals (point_of common p.now))) result }
 {
-    put_point(out, keyword, &p.value, p.den * common, decimals)
+    out.put_bytes(keyword)?;
+    put_coordinates(out, &p.value, p.den * common, decimals)
 }
 
 // Puts a line for each point.
