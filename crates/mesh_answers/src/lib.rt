@@ -11,4 +11,4 @@ mod tracks;
 pub use counts::levels;
 pub use refined::refine;
 pub use sheet::generate;
-pub use table::stencils;
+pub use table::{compose, stencils};

@@ -41,8 +41,11 @@ fn compose_from<L: Ledger>(
     }
 }
 
-/// The level of a mesh at a depth of at most 10, and the table of its points.
-pub(crate) fn compose<L: Ledger>(
+/// Returns the level of a mesh at a depth, with the table of its points over its control points. The depth is at most 10.
+///
+/// The faults are those of [`stencils`], in the same order. The call takes at most one step for each face of the levels from 0 to
+/// the depth.
+pub fn compose<L: Ledger>(
     alloc: Global,
     mesh: &RawMesh,
     depth: u32,
