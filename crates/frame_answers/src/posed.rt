@@ -1,0 +1,125 @@
+//! A mesh whose points are moved.
+
+ghost use Rattle.std.specs.Prelude.{◌≡◌, ◌+◌, ◌-◌, ◌≤◌, [], MatchResult};
+ghost use Rattle.subdiv_model.specs.ObjMesh.{ObjMesh};
+ghost use Rattle.far_fault.specs.declared.fault.FarFault.TheVariants as answered;
+ghost use Rattle.ratio128.specs.StepsTaken.{StepsTaken};
+ghost use Rattle.frame_answers.specs.Posed.{IsPosedAfter};
+ghost use Rattle.frame_answers.specs.Answers.{IsStart, AnswersLine};
+ghost use Rattle.frame_answers.specs.Laws.{Lines};
+ghost use Rattle.frame_answers.specs.Kept.{IsTableWithin};
+ghost use Rattle.frame_answers.specs.StepCounts.{start_least};
+
+use crate::go::answer_go;
+use crate::moves::move_control;
+use far_fault::FarFault;
+use far_io::Sink;
+use frame_line::{FrameLine, read_frame_line};
+use mesh_answers::compose;
+use ratio128::Steps;
+use raw_mesh::RawMesh;
+use std::alloc::Global;
+use std::marker::Model;
+use std::sync::ledger::Ledger;
+use stencil_apply::StencilTable;
+use stencil_session::Session;
+
+/// A mesh whose points are moved, with its refined points.
+#[derive(Drop)]
+pub struct PosedMesh {
+    session: Session,
+    common: u128,
+    depth: u32,
+}
+
+impl Model for PosedMesh {
+    ghost use Rattle.frame_answers.specs.Posed.{Posed};
+    ghost use Rattle.frame_answers.specs.Kept.{CanStandOver};
+
+    ghost Value = { Posed };
+
+    ghost view = { λ p. record { session = p.session; common = p.common; depth = p.depth } };
+
+    ghost invariant = { λ p. CanStandOver p.common p.session.table };
+}
+
+impl PosedMesh {
+    /// The mesh as it is, refined to a depth of at most 10, with no point marked.
+    ///
+    /// The faults are those of [`stencils`](mesh_answers::stencils), in the same order. No later call takes memory. The call takes at
+    /// most one step for each face of the levels from 0 to the depth, and one for each entry of the table at the depth.
+    pub fn start<L: Ledger>(
+        alloc: Global,
+        mesh: &RawMesh,
+        depth: u32,
+        steps: &mut Steps<L>,
+    ) -> Result<PosedMesh, FarFault>
+        requires { depth ≤ 10 }
+        ensures { IsStart mesh.now depth result (λ posed. posed) steps.old steps.new }
+    {
+        let composed = compose(alloc, mesh, depth, steps)?;
+        // The prover proves a drop by name once for its type.
+        drop(composed.level);
+        PosedMesh::at_rest(alloc, mesh, composed.table, depth, steps)
+    }
+
+    // The mesh as it is, from its table.
+    fn at_rest<L: Ledger>(
+        alloc: Global,
+        mesh: &RawMesh,
+        table: StencilTable,
+        depth: u32,
+        steps: &mut Steps<L>,
+    ) -> Result<PosedMesh, FarFault>
+        requires { IsTableWithin mesh.now depth table }
+        ensures posed { MatchResult result (λ posed. (posed.depth ≡ depth) × IsPosedAfter mesh.now [] posed) (λ fault. fault ≡ answered.Memory) }
+        ensures steps { StepsTaken result steps.old steps.new (start_least depth mesh.now) (start_least depth mesh.now) }
+    {
+        mesh.facts();
+        let session = Session::start(alloc, table, mesh.points(), steps)?;
+        session.facts();
+        Ok(PosedMesh {
+            session,
+            common: mesh.scale(),
+            depth,
+        })
+    }
+
+    /// Answers a frame line, by its number, which counts from 1.
+    ///
+    /// A move puts a control point at its new place, and marks the points that depend on it. The word `go` writes how many points
+    /// are marked, and a line for each of them, ascending, and unmarks them. A line without words does nothing.
+    ///
+    /// The fault is one of these:
+    ///
+    /// - `Obj`, with the number of the line and the first cause of [`read_frame_line`](frame_line::read_frame_line);
+    /// - `Overflow` of a value of the positions at the depth, where the greatest denominator there times a numerator of the move is
+    ///   more than 2^126 - 1;
+    /// - `Write` where the sink fails. It then has a prefix of the text.
+    ///
+    /// After `Obj` and `Overflow` the sink is as it was. A move takes one step for each point that depends on the control point.
+    /// The call takes no memory.
+    pub fn answer_line<K: Sink, L: Ledger>(
+        &mut self,
+        number: u32,
+        line: &[u8],
+        sink: &mut K,
+        steps: &mut Steps<L>,
+    ) -> Result<(), FarFault>
+        ensures answers { (mesh : ObjMesh) (before : Lines) → IsPosedAfter mesh before self.old
+            → AnswersLine K.Sink mesh before number line.now self.old self.new sink.old sink.new result (steps.new - steps.old) }
+        ensures later { steps.old ≤ steps.new }
+    {
+        match read_frame_line(line, self.session.controls(), self.common) {
+            Ok(FrameLine::Empty) => Ok(()),
+            Ok(FrameLine::Move { index, point }) => {
+                move_control(&mut self.session, index, point, self.depth, steps)
+            }
+            Ok(FrameLine::Go) => answer_go(sink, &mut self.session, self.common),
+            Err(cause) => Err(FarFault::Obj {
+                line: number,
+                cause,
+            }),
+        }
+    }
+}
