@@ -24,7 +24,7 @@ unless-text None text h = refl
 unless-text (Some fault) text h = absurd (cc)
 
 -- a mesh is refused by a command, and has its text, as its faults say
-checked-refusal : (command : ReadCommand) (fault : Option MeshFault) (mesh : ObjMesh) →
+pub checked-refusal : (command : ReadCommand) (fault : Option MeshFault) (mesh : ObjMesh) →
     (answer_of_checked command fault mesh).refusal ≡ refusal_unless fault (first_of (count_faults mesh ++ command_faults command mesh))
 checked-refusal command (Some fault) mesh = refl
 checked-refusal command None mesh = unless-refusal (first_of (count_faults mesh ++ command_faults command mesh)) (command_text command mesh)

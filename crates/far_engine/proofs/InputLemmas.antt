@@ -21,7 +21,7 @@ use Rattle.far_engine.specs.Outcome.{IsAnswered}
 use Rattle.far_engine.proofs.AnswerLemmas.{found-answers, long-refusal, mesh-refusal, mesh-text, text-refusal}
 
 -- what was taken to the end is what there was
-all-taken : (old new : Option (List ℕ)) (taken bytes : List ℕ) → Took old new taken → IsDry new → old ≡ Some bytes → taken ≡ bytes
+pub all-taken : (old new : Option (List ℕ)) (taken bytes : List ℕ) → Took old new taken → IsDry new → old ≡ Some bytes → taken ≡ bytes
 all-taken (Some old) (Some new) taken bytes took dry had =
     let same : old ≡ bytes = cc in sym (append-nil taken) ∙ ap (λ rest. taken ++ rest) (sym dry) ∙ sym took ∙ same
 all-taken (Some old) None taken bytes took dry had = absurd took
@@ -101,7 +101,7 @@ module _ {S : Type 0} (source : Ghosts S) (command : ReadCommand) (s s' : S) whe
     same-bytes other e = all-taken (source.left s) (source.left s') bytes other took dry e
 
     -- and the text has a fault
-    pub text-fault : (fault : Fault) → IsTextFault bytes fault → IsRefused source command s s' fault
+    pub text-fault : (fault : Fault) → IsTextFault bytes 0 fault → IsRefused source command s s' fault
     text-fault (Obj fault) is =
         other-fault (Obj fault)
         (λ other e. subst (λ b. IsAnswered (Some (Obj fault)) (answer_of_bytes command b).refusal) (same-bytes other e) (text-refusal command bytes short fault is))
@@ -157,6 +157,11 @@ pub finds-reply : {S : Type 0} (source : Ghosts S) (command : ReadCommand) (s s'
 finds-reply source command s s' mesh r old new of is =
     finds-by source command s s' of.bytes of.took of.dry of.short of.later of.text.good r old new (subst (λ m. IsAnswerTo command m r old new) of.text.mesh_is is)
 
+-- a fault that is handed on is the same
+pub handed-on : {X E : Type 0} (P : Result X E → Type 0) (r : Result X E) (fault : E) → IsErr r → IsErrAnd r (λ g. g ≡ fault) → P (Err fault) → P r
+handed-on P (Ok x) fault err same is = absurd (cc)
+handed-on P (Err other) fault err same is = subst (λ f. P (Err f)) (sym same) is
+
 -- what was refused before is refused
 pub still-refused : {S : Type 0} (source : Ghosts S) (s s' : S) (r : Result ObjMesh FarFault) (fault : FarFault) → IsErr r → IsErrAnd r (λ g. g ≡ fault) →
     ((command : ReadCommand) → IsRefused source command s s' (fault_of fault)) →
@@ -166,9 +171,9 @@ still-refused source s s' (Err other) fault err same is = λ command. subst (λ 
 
 -- what comes of the text of a source that was read to its end
 pub mesh-of-text : {S : Type 0} (source : Ghosts S) (s s' : S) (bytes text : List ℕ) (r : Result ObjMesh FarFault) → text ≡ bytes → Took (source.left s) (source.left s') bytes → IsDry (source.left s') →
-    length bytes ≤ byte_limit → source.faults s ≤ source.faults s' → MatchResult r (λ mesh. IsMeshText text mesh) (λ fault. IsTextFault text (fault_of fault)) →
+    length bytes ≤ byte_limit → source.faults s ≤ source.faults s' → MatchResult r (λ mesh. IsMeshText text 0 mesh) (λ fault. IsTextFault text 0 (fault_of fault)) →
     MatchResult r (λ mesh. IsMeshOf source s s' mesh) (λ fault. (command : ReadCommand) → IsRefused source command s s' (fault_of fault))
 mesh-of-text source s s' bytes text (Ok mesh) same took dry short later is =
-    record { bytes = bytes; took = took; dry = dry; short = short; text = subst (λ t. IsMeshText t mesh) same is; later = later }
+    record { bytes = bytes; took = took; dry = dry; short = short; text = subst (λ t. IsMeshText t 0 mesh) same is; later = later }
 mesh-of-text source s s' bytes text (Err fault) same took dry short later is =
-    λ command. text-fault source command s s' bytes took dry short later (fault_of fault) (subst (λ t. IsTextFault t (fault_of fault)) same is)
+    λ command. text-fault source command s s' bytes took dry short later (fault_of fault) (subst (λ t. IsTextFault t 0 (fault_of fault)) same is)

@@ -1,20 +1,17 @@
 -- What a run answers where no count of faults rises.
-use Rattle.std.proofs.Common.{◌≡◌, ℕ, ◌+◌, ◌<◌, inl, inr, List, length, take, Option, Some, None, arith, length-append, length-take-le, refl, ap, sym, subst, ◌∙◌}
+use Rattle.std.proofs.Common.{◌≡◌, ℕ, ◌+◌, ◌<◌, ◌⊎◌, inl, inr, List, length, take, Option, Some, None, arith, length-append, length-take-le, refl, ap, sym, subst, ◌∙◌}
 use Rattle.std.proofs.lemmas.Bool.Decides.{nat_tests}
 use Rattle.far_io.specs.Bytes.{Rose, AddedPrefix}
 use Rattle.far_io.specs.Memory.{SureOutput, sure_faults}
 use Rattle.far_io.specs.declared.source.Source.{Ghosts as Source}
 use Rattle.far_io.specs.declared.sink.Sink.{Ghosts as Sink}
 use Rattle.far_model.specs.Words.{command_table, usage_of}
-use Rattle.far_model.specs.Command.{Command, Reads, Makes, Streams, StreamCommand, command_of, read_or}
+use Rattle.far_model.specs.Command.{Command, Reads, Makes, Streams, command_of, read_or}
 use Rattle.subdiv_model.specs.Fault.{Fault, Usage, Read, Long, Obj, Mesh, TooLarge, Overflow, Write, Memory}
 use Rattle.far_model.specs.Refusal.{Answer}
 use Rattle.far_model.specs.Answer.{answer, answer_of_command, answer_of_words}
 use Rattle.far_engine.specs.Laws.{IsAnsweredBy}
-use Rattle.far_engine.specs.Runs.{AnswersWhole, Ran, Runs, RunsCommand}
-
-no-stream : StreamCommand → ⊥
-no-stream = elim [ ]
+use Rattle.far_engine.specs.Runs.{AnswersLines, AnswersWhole, Ran, Runs, RunsCommand}
 
 module _ {S K : Type 0} (source : Source S) (sink : Sink K) (s s' : S) (k k' : K) where
   whole : (answer : Answer) (outcome : Option Fault) → AnswersWhole sink answer k k' outcome → (outcome ≡ Some Read → ⊥) → (outcome ≡ Some Write → ⊥) → (outcome ≡ Some Memory → k' ≡ k) →
@@ -30,17 +27,33 @@ module _ {S K : Type 0} (source : Source S) (sink : Sink K) (s s' : S) (k k' : K
   whole answer (Some (TooLarge counted)) is no_read no_write kept = inl (sym is.answered, λ e. absurd (cc))
   whole answer (Some (Overflow track level kind)) is no_read no_write kept = inl (sym is.answered, λ e. absurd (cc))
 
-  -- what a command does, of either kind that there is
+  -- so is an answer line by line
+  by-lines : (answer : Answer) (outcome : Option Fault) → AnswersLines sink answer k k' outcome → (outcome ≡ Some Read → ⊥) → (outcome ≡ Some Write → ⊥) → (outcome ≡ Some Memory → k' ≡ k) →
+      IsAnsweredBy sink answer k k' outcome
+  by-lines answer outcome is no_read no_write kept = by is.answered
+    where
+      by : (outcome ≡ answer.refusal) ⊎ ((outcome ≡ Some Read) ⊎ ((outcome ≡ Some Write) ⊎ (outcome ≡ Some Memory))) → IsAnsweredBy sink answer k k' outcome
+      by (inl e) = inl (e, λ none. is.text e)
+      by (inr (inl read)) = absurd (no_read read)
+      by (inr (inr (inl write))) = absurd (no_write write)
+      by (inr (inr (inr memory))) = inr (memory, kept memory)
+
+  -- what a command does, of whichever kind
   pub record HasAnswered (answer : Answer) (outcome : Option Fault) : Type 0 where
     pub ran : Ran source sink s s' k k' outcome
-    pub answers : AnswersWhole sink answer k k' outcome
-    pub kept : outcome ≡ Some Memory → k' ≡ k
+    pub answers : (outcome ≡ Some Read → ⊥) → (outcome ≡ Some Write → ⊥) → IsAnsweredBy sink answer k k' outcome
+    pub prefix : outcome ≡ Some Write → AddedPrefix (sink.held k) (sink.held k') answer.text
+
+  has-whole : (answer : Answer) (outcome : Option Fault) → Ran source sink s s' k k' outcome → AnswersWhole sink answer k k' outcome → (outcome ≡ Some Memory → k' ≡ k) → HasAnswered answer outcome
+  has-whole answer outcome ran is kept = record { ran = ran; answers = λ no_read no_write. whole answer outcome is no_read no_write kept; prefix = is.prefix }
 
   of-command : (command : Command) (bytes : List ℕ) (outcome : Option Fault) → RunsCommand source sink command s s' k k' outcome → source.left s ≡ Some bytes →
       HasAnswered (answer_of_command command bytes) outcome
-  of-command (Reads command) bytes outcome run had = record { ran = run.ran; answers = run.answer bytes had; kept = λ e. run.kept Memory e (λ f. cc) }
-  of-command (Makes command) bytes outcome run had = record { ran = run.ran; answers = run.answer; kept = λ e. run.kept Memory e (λ f. cc) }
-  of-command (Streams command) bytes outcome run had = absurd (no-stream command)
+  of-command (Reads command) bytes outcome run had = has-whole _ outcome run.ran (run.answer bytes had) (λ e. run.kept Memory e (λ f. cc))
+  of-command (Makes command) bytes outcome run had = has-whole _ outcome run.ran run.answer (λ e. run.kept Memory e (λ f. cc))
+  of-command (Streams command) bytes outcome run had =
+      let is = run.answer bytes had in
+      record { ran = run.ran; answers = λ no_read no_write. by-lines _ outcome is no_read no_write run.kept; prefix = is.prefix }
 
   module _ (words : List (List ℕ)) (bytes : List ℕ) (outcome : Option Fault) (run : Runs source sink words s s' k k' outcome) (had : source.left s ≡ Some bytes) where
     of-words : usage_of command_table words ≡ None → HasAnswered (answer words bytes) outcome
@@ -53,7 +66,7 @@ module _ {S K : Type 0} (source : Source S) (sink : Sink K) (s s' : S) (k k' : K
     refused-words word is = (run.usage word).1 is
 
     by-usage : (usage : Option ℕ) → usage_of command_table words ≡ usage → (outcome ≡ Some Read → ⊥) → (outcome ≡ Some Write → ⊥) → IsAnsweredBy sink (answer words bytes) k k' outcome
-    by-usage None is no_read no_write = let all = of-words is in whole (answer words bytes) outcome all.answers no_read no_write all.kept
+    by-usage None is no_read no_write = (of-words is).answers no_read no_write
     by-usage (Some word) is no_read no_write =
         let refused = refused-words word is in
         inl (refused ∙ sym (ap (λ place. (answer_of_words (read_or place words) bytes).refusal) is), λ none. absurd (some-none outcome word refused none))
@@ -64,7 +77,7 @@ module _ {S K : Type 0} (source : Source S) (sink : Sink K) (s s' : S) (k k' : K
     -- where a write fails, a prefix of the text was added
     cut-by : (usage : Option ℕ) → usage_of command_table words ≡ usage → outcome ≡ Some Write →
         Rose (sink.faults k) (sink.faults k') × AddedPrefix (sink.held k) (sink.held k') (answer words bytes).text × (sink.fixed k' ≡ sink.fixed k)
-    cut-by None is e = let all = of-words is in (all.ran.write e, all.answers.prefix e, all.ran.sink_fixed)
+    cut-by None is e = let all = of-words is in (all.ran.write e, all.prefix e, all.ran.sink_fixed)
     cut-by (Some word) is e = absurd (two outcome word (refused-words word is) e)
       where
         two : (o : Option Fault) (word : ℕ) → o ≡ Some (Usage word) → o ≡ Some Write → ⊥

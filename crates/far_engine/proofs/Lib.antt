@@ -3,3 +3,9 @@ pub mod ManifoldLemmas
 pub mod InputLemmas
 pub mod RunLemmas
 pub mod LawLemmas
+pub mod RefusalLemmas
+pub mod StreamLemmas
+pub mod StepLemmas
+pub mod MeshLemmas
+pub mod FrameLemmas
+pub mod PartLemmas

@@ -26,15 +26,15 @@ input_fault_of ReadFailed = model.Read
 input_fault_of TooLong = model.Long
 input_fault_of NoMemory = model.Memory
 
--- the text has no fault, and this is its mesh; or it has this one, or memory ran out
-pub record IsMeshText (bytes : List ℕ) (mesh : ObjMesh) : Type 0 where
-  pub good : read_obj_fault bytes 0 ≡ None
-  pub mesh_is : mesh ≡ read_obj_mesh bytes 0
+-- the text has no fault, and this is its mesh, read with a power of ten in its common denominator; or it has this one, or memory ran out
+pub record IsMeshText (bytes : List ℕ) (scale : ℕ) (mesh : ObjMesh) : Type 0 where
+  pub good : read_obj_fault bytes scale ≡ None
+  pub mesh_is : mesh ≡ read_obj_mesh bytes scale
 
-abbrev pub IsTextFault : List ℕ → Fault → Type 0
-IsTextFault bytes (Obj fault) = read_obj_fault bytes 0 ≡ Some fault
-IsTextFault bytes Memory = Unit {0}
-IsTextFault bytes other = ⊥
+abbrev pub IsTextFault : List ℕ → ℕ → Fault → Type 0
+IsTextFault bytes scale (Obj fault) = read_obj_fault bytes scale ≡ Some fault
+IsTextFault bytes scale Memory = Unit {0}
+IsTextFault bytes scale other = ⊥
 
 -- the source was read to its end, and its bytes are the text of this mesh
 pub record IsMeshOf {S : Type 0} (source : Ghosts S) (s s' : S) (mesh : ObjMesh) : Type 0 where
@@ -42,7 +42,7 @@ pub record IsMeshOf {S : Type 0} (source : Ghosts S) (s s' : S) (mesh : ObjMesh)
   pub took : Took (source.left s) (source.left s') bytes
   pub dry : IsDry (source.left s')
   pub short : length bytes ≤ byte_limit
-  pub text : IsMeshText bytes mesh
+  pub text : IsMeshText bytes 0 mesh
   pub later : source.faults s ≤ source.faults s'
 
 -- a command has no reply for this fault, which is neither one of the words nor one of writing

@@ -2,5 +2,8 @@ pub mod Outcome
 pub mod StepCounts
 pub mod Input
 pub mod Runs
+pub mod Stream
+pub mod MeshPart
+pub mod FrameLines
 pub mod Laws
 pub use Rattle.far_model.specs.Words

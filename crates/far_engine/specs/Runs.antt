@@ -59,10 +59,11 @@ pub record RunsMake {S K : Type 0} (source : Source S) (sink : Sink K) (command 
   pub not_long : outcome ≢ Some Long
   pub kept : (fault : Fault) → outcome ≡ Some fault → fault ≢ Write → k' ≡ k
 
--- The outcome of an answer line by line: the first refusal, or none, with the text before it.
+-- The outcome of an answer line by line: the first refusal, or none, with the text before it. After Write a prefix of the text was added.
 pub record AnswersLines {K : Type 0} (sink : Sink K) (answer : Answer) (k k' : K) (outcome : Option Fault) : Type 0 where
   pub answered : (outcome ≡ answer.refusal) ⊎ ((outcome ≡ Some Read) ⊎ ((outcome ≡ Some Write) ⊎ (outcome ≡ Some Memory)))
   pub text : outcome ≡ answer.refusal → Added (sink.held k) (sink.held k') answer.text
+  pub prefix : outcome ≡ Some Write → AddedPrefix (sink.held k) (sink.held k') answer.text
 
 -- A command that answers while it reads, by what each line adds.
 pub record RunsStream {S K : Type 0} (source : Source S) (sink : Sink K) (rule : LineRule) (s s' : S) (k k' : K) (outcome : Option Fault) : Type 0 where

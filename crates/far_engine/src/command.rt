@@ -9,11 +9,12 @@ ghost use Rattle.far_engine.specs.Input.{PutsFound};
 ghost use Rattle.far_engine.specs.Runs.{RunsCommand};
 ghost use Rattle.far_engine.specs.StepCounts.{TakesSteps};
 
+use crate::frames::run_frames;
 use crate::input::read_mesh;
 use far_fault::FarFault;
 use far_io::{Sink, Source, WriteFailed};
 use far_text::{Reply, write_reply};
-use far_words::{Command, MakeCommand, ReadCommand};
+use far_words::{Command, MakeCommand, ReadCommand, StreamCommand};
 use mesh_answers::{generate, levels, refine, stencils};
 use ratio128::Steps;
 use std::alloc::Global;
@@ -39,9 +40,10 @@ fn put_found<K: Sink>(found: Result<Reply, FarFault>, sink: &mut K) -> Result<()
     put_reply(&reply, sink)
 }
 
-/// Runs a command that is read already: reads the source to its end, and writes the answer into the sink.
+/// Runs a command that is read already: reads the source, and writes the answer into the sink.
 ///
-/// A command that makes its mesh does not call the source. The numbers of the command are those that its options allow, as
+/// A command that reads a mesh reads the source to its end before it writes. One that makes its mesh does not call the source.
+/// `frames` answers each line before it reads on. The numbers of the command are those that its options allow, as
 /// [`Command::is_in_range`] tests. [`run`](crate::run) tells what each command answers and refuses, and the steps that it
 /// takes; its fault `Usage` never comes here.
 pub fn run_command<S: Source, K: Sink, L: Ledger>(
@@ -75,6 +77,9 @@ pub fn run_command<S: Source, K: Sink, L: Ledger>(
         }
         Command::Make(MakeCommand::Gen(options)) => {
             put_found(generate(alloc, options, steps), sink)
+        }
+        Command::Stream(StreamCommand::Frames(options)) => {
+            run_frames(alloc, options, source, sink, steps)
         }
     }
 }

@@ -13,7 +13,7 @@ use ratio128::Steps;
 use std::alloc::Global;
 use std::sync::ledger::Ledger;
 
-/// Runs the command that the words say: reads the source to its end, and writes the answer into the sink.
+/// Runs the command that the words say: reads the source, and writes the answer into the sink.
 ///
 /// `words` are the words after the program's name, a command and its options, as `docs/formats.md` has them. Words are counted
 /// from 0; lines and levels of faults from 1.
@@ -26,11 +26,16 @@ use std::sync::ledger::Ledger;
 /// - `levels` writes a line with the counts of each level.
 /// - `gen` makes a sheet of quads from its seed, and never calls the source. It writes the counts of the sheet and of its last
 ///   level, and the last point there.
+/// - `frames` reads a mesh up to the line `frames`, or up to the end of the input, and then answers line by line. A line `move`
+///   moves a control point. A line `go` asks for the points of the last level that depend on those moved since the `go` before,
+///   and `frames` writes them. Each answer is flushed before the source is read again.
+///
+/// Every command but `gen` and `frames` reads the source to its end before it writes.
 ///
 /// # Errors
 ///
-/// Every fault but `Write` comes before anything is written. Of a source that tells its bytes the first of these comes that
-/// applies, unless `Read` or `Memory` comes first:
+/// Except under `frames`, every fault but `Write` comes before anything is written. Of a source that tells its bytes the first
+/// of these comes that applies, unless `Read` or `Memory` comes first:
 ///
 /// - `Usage` exactly where the words are no command; then neither source nor sink is called;
 /// - `Long` where more than 2^28 bytes came;
@@ -43,14 +48,25 @@ use std::sync::ledger::Ledger;
 /// - `TooLarge` where a table is composed that has more than 2^27 entries at a level: before the numerators of this level;
 /// - under `refine`, `Overflow` or `TooLarge` of the texture, in this order again.
 ///
+/// `frames` refuses its mesh as `stencils` does, at the line `frames` or at the end of the input. Behind that line it answers each
+/// line up to the first of these faults, whatever follows:
+///
+/// - `Obj` where a line is refused, with its number in the whole input and its cause; a line is too long as soon as 65,536 bytes
+///   of it came;
+/// - `Overflow` of the positions at the depth, where a moved coordinate is too great for the last level;
+/// - `Long` where a byte came after 2^28 others, none of which is refused.
+///
+/// After `Read` the sink holds what it held and the answers to all lines that were closed. `Memory` comes before any answer.
+///
 /// `Read` and `Write` come only where the count of faults of the source or the sink rose, and `Memory` may come at any time after
 /// good words. After `Write` the sink holds what it held and a prefix of the answer.
 ///
 /// # Steps
 ///
-/// A run takes at most one step for each face of the levels that it makes. `gen`, and `refine` by a table, take one more for each
-/// entry of the last table; `refine` level by level takes one more for each mask term. A texture channel takes as many again.
-/// Where `refine` or `gen` answers, it took one step for each of these entries or mask terms.
+/// A run takes at most one step for each face of the levels that it makes. `gen`, `frames`, and `refine` by a table, take one more
+/// for each entry of the last table; `refine` level by level takes one more for each mask term. A texture channel takes as many
+/// again. A line `move` takes one step for each point that depends on its control point.
+/// Where `refine`, `gen` or `frames` answers, it took one step for each of these entries or mask terms.
 pub fn run<S: Source, K: Sink, L: Ledger>(
     alloc: Global,
     words: &Vec<String>,

@@ -13,11 +13,11 @@ use obj_tags::{ObjFault, ReadFault, read_obj};
 use raw_mesh::RawMesh;
 use std::alloc::Global;
 
-// How many bytes an input may have.
-const LIMIT: usize = 1 << 28;
+/// How many bytes an input may have.
+pub(crate) const LIMIT: usize = 1 << 28;
 
-// The fault of a source that could not be read to its end.
-fn fault_of_input(fault: InputFault) -> FarFault
+/// The fault of a source that could not be read to its end.
+pub(crate) fn fault_of_input(fault: InputFault) -> FarFault
     ensures { fault_of result ≡ input_fault_of fault }
 {
     match fault {
@@ -41,12 +41,13 @@ fn bytes_of<S: Source>(alloc: Global, source: &mut S) -> Result<Vec<u8>, FarFaul
     }
 }
 
-// The mesh of an OBJ text.
-fn mesh_of(alloc: Global, bytes: &[u8]) -> Result<RawMesh, FarFault>
-    requires { length bytes.now ≤ 2 ^ 28 }
-    ensures { MatchResult result (λ mesh. IsMeshText bytes.now mesh) (λ fault. IsTextFault bytes.now (fault_of fault)) }
+/// The mesh of an OBJ text, whose positions stand over a multiple of ten to `scale`, which is at most 18.
+pub(crate) fn mesh_of(alloc: Global, bytes: &[u8], scale: u32) -> Result<RawMesh, FarFault>
+    requires short { length bytes.now ≤ 2 ^ 28 }
+    requires scale { scale ≤ 18 }
+    ensures { MatchResult result (λ mesh. IsMeshText bytes.now scale mesh) (λ fault. IsTextFault bytes.now scale (fault_of fault)) }
 {
-    match read_obj(alloc, bytes, 0) {
+    match read_obj(alloc, bytes, scale) {
         Ok(mesh) => Ok(mesh),
         Err(ReadFault::Obj(ObjFault { line, cause })) => Err(FarFault::Obj { line, cause }),
         Err(ReadFault::Memory) => Err(FarFault::Memory),
@@ -59,5 +60,5 @@ pub(crate) fn read_mesh<S: Source>(alloc: Global, source: &mut S) -> Result<RawM
         (λ fault. (command : model_command) → IsRefused S.Source command source.old source.new (fault_of fault)) }
 {
     let bytes = bytes_of(alloc, source)?;
-    mesh_of(alloc, &bytes)
+    mesh_of(alloc, &bytes, 0)
 }

@@ -4,8 +4,11 @@
 
 mod command;
 mod engine;
+mod frame_lines;
+mod frames;
 mod input;
 pub mod laws;
+mod mesh_part;
 
 pub use command::run_command;
 pub use engine::{program, run};

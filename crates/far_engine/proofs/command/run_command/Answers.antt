@@ -1,6 +1,6 @@
 use Rattle.std.proofs.Common.{rules, ap, ◌∙◌}
-use Rattle.far_model.specs.Command.{Makes, Reads}
-use Rattle.far_words.specs.View.{command_of_code, read_of_code}
+use Rattle.far_model.specs.Command.{Frames, Makes, Reads, Streams}
+use Rattle.far_words.specs.View.{command_of_code, frames_of_code, read_of_code}
 use Rattle.far_engine.proofs.RunLemmas.{fault-steps, make-steps, runs-as, runs-fault, runs-make, runs-mesh, steps-as, steps-mesh}
 use Rattle.far_engine.proofs.command.run_command.Goals as goal
 
@@ -36,12 +36,20 @@ pub returns-in-Read-clause-steps : goal.returns-in-Read-clause-steps
 returns-in-Read-clause-steps g c =
     steps-mesh g.S.Source g.K.Sink _ _ (ap command_of_code c.in-Read.is ∙ ap (λ k. Reads (read_of_code k)) c.in-Levels.is) _ _ _ c.in_ok-mesh-in-Read.ensures _ _ _ c.levels.ensures _ _ _ c.put_found-in-Levels.ensures
 
-pub returns-clause-run : goal.returns-clause-run
-returns-clause-run g c =
+pub returns-in-Make-Gen-clause-run : goal.returns-in-Make-Gen-clause-run
+returns-in-Make-Gen-clause-run g c =
     runs-as g.S.Source g.K.Sink _ _ (ap command_of_code c.in-Make-Gen.is ∙ ap Makes (search rules)) _ _ _ _ _
     (runs-make g.S.Source g.K.Sink _ c.args.source.now _ _ _ _ _ _ c.generate.ensures c.put_found-in-Make-Gen.ensures)
 
-pub returns-clause-steps : goal.returns-clause-steps
-returns-clause-steps g c =
+pub returns-in-Make-Gen-clause-steps : goal.returns-in-Make-Gen-clause-steps
+returns-in-Make-Gen-clause-steps g c =
     steps-as g.S.Source g.K.Sink _ _ (ap command_of_code c.in-Make-Gen.is ∙ ap Makes (search rules)) _ _ _ _ _
     (make-steps g.S.Source g.K.Sink _ c.args.source.now _ _ _ _ _ _ c.generate.ensures c.put_found-in-Make-Gen.ensures)
+
+pub returns-clause-run : goal.returns-clause-run
+returns-clause-run g c =
+    runs-as g.S.Source g.K.Sink _ (Streams (Frames (frames_of_code _))) (ap command_of_code c.in-Stream-Frames.is ∙ ap Streams (search rules)) _ _ _ _ _ c.run_frames.ensures.run
+
+pub returns-clause-steps : goal.returns-clause-steps
+returns-clause-steps g c =
+    steps-as g.S.Source g.K.Sink _ _ (ap command_of_code c.in-Stream-Frames.is ∙ ap Streams (search rules)) _ _ _ _ _ c.run_frames.ensures.taken

@@ -1,0 +1,87 @@
+//! The command `frames`: a mesh is read, and each line behind it is answered.
+
+ghost use Rattle.std.specs.Prelude.{◌≡◌, ◌≤◌, IfSome};
+ghost use Rattle.far_fault.specs.View.{outcome_of};
+ghost use Rattle.far_words.specs.View.{frames_of_code};
+ghost use Rattle.far_engine.specs.FrameLines.{CanCount, MayStream, Origin, RunsFrames, begun};
+ghost use Rattle.far_engine.specs.MeshPart.{IsPart};
+ghost use Rattle.frame_answers.specs.Answers.{IsStart};
+
+use crate::frame_lines::FrameLines;
+use crate::mesh_part::{MeshPart, read_part};
+use far_fault::FarFault;
+use far_io::{Sink, Source};
+use far_words::FramesOptions;
+use frame_answers::PosedMesh;
+use ratio128::Steps;
+use raw_mesh::RawMesh;
+use std::alloc::Global;
+use std::sync::ledger::Ledger;
+
+// The mesh as it is, refined to a depth; the mesh that was read is dropped.
+fn start<L: Ledger>(
+    alloc: Global,
+    mesh: RawMesh,
+    depth: u32,
+    steps: &mut Steps<L>,
+) -> Result<PosedMesh, FarFault>
+    requires { depth ≤ 10 }
+    ensures { IsStart mesh depth result (λ posed. posed) steps.old steps.new }
+{
+    PosedMesh::start(alloc, &mesh, depth, steps)
+}
+
+// Answers the frame lines, where there are any.
+fn answer_lines<S: Source, K: Sink, L: Ledger>(
+    posed: &mut PosedMesh,
+    lines: Option<FrameLines>,
+    source: &mut S,
+    sink: &mut K,
+    steps: &mut Steps<L>,
+) -> Result<(), FarFault>
+    requires { IfSome lines CanCount }
+    ensures { (from : Origin S.Source K.Sink) → MayStream from source.old sink.old lines posed.old steps.old
+        → RunsFrames from source.new sink.new (outcome_of result) steps.new }
+{
+    match lines {
+        Some(mut lines) => lines.answer_all(posed, source, sink, steps),
+        None => Ok(()),
+    }
+}
+
+// Answers a mesh that was read, and the frame lines behind it.
+fn answer_part<S: Source, K: Sink, L: Ledger>(
+    alloc: Global,
+    part: MeshPart,
+    options: &FramesOptions,
+    source: &mut S,
+    sink: &mut K,
+    steps: &mut Steps<L>,
+) -> Result<(), FarFault>
+    requires depth { options.now.depth ≤ 10 }
+    requires counted { IfSome part.lines CanCount }
+    ensures { let asked = frames_of_code options.now in (s : S) → IsPart S.Source asked s source.old part
+        → RunsFrames (begun S.Source K.Sink asked s sink.old steps.old) source.new sink.new (outcome_of result) steps.new }
+{
+    let MeshPart { mesh, lines } = part;
+    let mut posed = start(alloc, mesh, options.depth, steps)?;
+    answer_lines(&mut posed, lines, source, sink, steps)
+}
+
+/// Runs `frames`: reads a mesh up to the line `frames`, and answers each line behind it before it reads on.
+///
+/// It takes no memory once the mesh is refined.
+pub(crate) fn run_frames<S: Source, K: Sink, L: Ledger>(
+    alloc: Global,
+    options: &FramesOptions,
+    source: &mut S,
+    sink: &mut K,
+    steps: &mut Steps<L>,
+) -> Result<(), FarFault>
+    requires depth { options.now.depth ≤ 10 }
+    requires scale { options.now.scale ≤ 18 }
+    ensures { RunsFrames (begun S.Source K.Sink (frames_of_code options.now) source.old sink.old steps.old) source.new sink.new (outcome_of result) steps.new }
+{
+    let part = read_part(alloc, options, source)?;
+    answer_part(alloc, part, options, source, sink, steps)
+}
