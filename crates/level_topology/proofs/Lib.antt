@@ -14,3 +14,4 @@ pub mod FanEdgeLemmas
 pub mod ListPlaceLemmas
 pub mod TurnLemmas
 pub mod PointRowLemmas
+pub mod FactLemmas

@@ -3,7 +3,9 @@ use Rattle.std.specs.Prelude.{ℕ, ◌≡◌, ◌≤◌, nat_eq, List, [], ◌�
 use Rattle.std.specs.Vec.{vec_capacity}
 use Rattle.std.specs.Option.{option_to_list}
 use Rattle.level_topology.specs.declared.faces.EdgeFaces.{EdgeFaces}
+use Rattle.level_topology.specs.declared.facts.FaceFacts.{FaceFacts}
 use Rattle.level_topology.specs.declared.tables.LevelTables.{LevelTables}
+use Rattle.subdiv_model.specs.Feature as feature
 use Rattle.sharpness_rules.specs.View.{method_of}
 use Rattle.level_topology.specs.Rows.{Rows}
 
@@ -13,6 +15,16 @@ faces_of_pair pair = if nat_eq pair.0 pair.1 then pair.0 ∷ [] else pair.0 ∷ 
 
 abbrev pub listed : EdgeFaces → List ℕ
 listed faces = faces.first ∷ option_to_list faces.second
+
+abbrev pub facts_of_code : FaceFacts → feature.FaceFacts
+facts_of_code facts = record {
+  level = facts.level;
+  number = facts.number;
+  size = facts.size;
+  hole = facts.hole;
+  irregular = facts.irregular;
+  sharp = facts.sharp;
+}
 
 abbrev pub rows_of : LevelTables → Rows
 rows_of t = record {
