@@ -1,0 +1,15 @@
+pub mod ListLemmas
+pub mod AscendingLemmas
+pub mod RenamedLemmas
+pub mod PartLemmas
+pub mod LevelLemmas
+pub mod TermLemmas
+pub mod MaskLemmas
+pub mod JoinLemmas
+pub mod PlaceLemmas
+pub mod NameLemmas
+pub mod ChildLemmas
+pub mod NextLemmas
+pub mod SelfLemmas
+pub mod FanLemmas
+pub mod ValueLemmas

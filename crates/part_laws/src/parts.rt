@@ -1,0 +1,51 @@
+//! Laws of polygons that are a part of others: which faces and edges they have at a point, and along an edge.
+
+ghost use Rattle.std.specs.Prelude.{◌≡◌, ℕ, List, map, IsTrue, ◌↔◌};
+ghost use Rattle.subdiv_model.specs.Polygons.{Polygon};
+ghost use Rattle.subdiv_model.specs.Edges.{edge_number, edges_of_point, faces_of_point, faces_of_edge, has_end, is_boundary};
+ghost use Rattle.subdiv_model.specs.Manifold.{IsPath, HasOneFan};
+ghost use Rattle.subdiv_model.specs.Mask.{other_end};
+ghost use Rattle.part_laws.specs.Parts.{IsWholeAt, IsWholeAlong, renamed, face_in};
+ghost use Rattle.part_laws.specs.Children.{edge_at};
+ghost use Rattle.part_laws.specs.Laws.{Part, PartFaces, WholePoint, WholeEdge, name_of, edge_in};
+
+/// Where a part has all faces at a point, they are the faces of the whole at its name, in the same order.
+pub fn faces_at_whole_points_are_the_same()
+    ensures { (part : Part) (at : WholePoint part)
+        → map (face_in part.faces) (faces_of_point part.polygons at.point) ≡ faces_of_point part.whole (name_of at) }
+{}
+
+/// The edges there are the same too, in the same order of first appearance, each in the same direction; and so are their
+/// other ends.
+pub fn edges_at_whole_points_are_the_same()
+    ensures edges { (part : Part) (at : WholePoint part)
+        → map (renamed part.name) (edges_of_point part.polygons at.point) ≡ edges_of_point part.whole (name_of at) }
+    ensures ends { (part : Part) (at : WholePoint part)
+        → map part.name (map (other_end at.point) (edges_of_point part.polygons at.point))
+        ≡ map (other_end (name_of at)) (edges_of_point part.whole (name_of at)) }
+{}
+
+/// Where a part has all faces along an edge, they are those of the whole along it. The edge is a boundary edge of both or of
+/// neither, and is listed in the same direction.
+pub fn faces_along_whole_edges_are_the_same()
+    ensures faces { (part : Part) (along : WholeEdge part)
+        → map (face_in part.faces) (faces_of_edge part.polygons along.edge) ≡ faces_of_edge part.whole (edge_in along) }
+    ensures boundary { (part : Part) (along : WholeEdge part)
+        → is_boundary part.polygons along.edge ≡ is_boundary part.whole (edge_in along) }
+    ensures direction { (part : Part) (along : WholeEdge part) → edge_at part.whole (edge_number part.whole (edge_in along))
+        ≡ renamed part.name (edge_at part.polygons (edge_number part.polygons along.edge)) }
+{}
+
+/// Where a part has all faces at a point, it has one fan there exactly where the whole has. Faces of the part are a path about the
+/// point exactly where they are in the whole.
+pub fn fans_at_whole_points_are_the_same()
+    ensures fan { (part : Part) (at : WholePoint part) → HasOneFan part.polygons at.point ↔ HasOneFan part.whole (name_of at) }
+    ensures path { (part : Part) (at : WholePoint part) (some : PartFaces part)
+        → IsPath part.polygons at.point some.faces ↔ IsPath part.whole (name_of at) (map (face_in part.faces) some.faces) }
+{}
+
+/// Polygons that have all faces at an end of an edge have all faces along it.
+pub fn edges_at_whole_points_are_whole()
+    ensures { (faces : List ℕ) (whole : List Polygon) (v : ℕ) (edge : ℕ × ℕ) → IsTrue (has_end v edge)
+        → IsWholeAt faces whole v → IsWholeAlong faces whole edge }
+{}

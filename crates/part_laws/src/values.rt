@@ -1,0 +1,28 @@
+//! Laws of what masks make of the points of a part: values, denominators and supports of the next level.
+
+ghost use Rattle.std.specs.Prelude.{◌≡◌, ℕ};
+ghost use Rattle.part_laws.specs.Masks.{mask_in};
+ghost use Rattle.part_laws.specs.Values.{NextStep, mask_here, mask_there};
+ghost use Rattle.part_laws.specs.Values.{KnownValues, value_here, value_there, KnownDenominators, denominator_here, denominator_there};
+ghost use Rattle.part_laws.specs.Values.{KnownSupports, support_here, support_there};
+
+/// The mask of a point of the next level is that of its name, where the part has all faces that it depends on.
+pub fn masks_of_next_points_are_the_same()
+    ensures { (step : NextStep) → mask_there step ≡ mask_in step.part.name step.part.faces (mask_here step) }
+{}
+
+/// Where the corners of a part have the values of their names, so have such points of the next level.
+pub fn values_of_next_points_are_the_same()
+    ensures { (step : NextStep) (known : KnownValues step) → value_here step known ≡ value_there step known }
+{}
+
+/// Where the corners have the common denominators of their names, so have such points of the next level.
+pub fn denominators_of_next_points_are_the_same()
+    ensures { (step : NextStep) (known : KnownDenominators step) → denominator_here step known ≡ denominator_there step known }
+{}
+
+/// Where the corners depend on the controls of their names, so do such points of the next level.
+pub fn supports_of_next_points_are_the_same()
+    ensures { (controls : ℕ) (step : NextStep) (known : KnownSupports step)
+        → support_here controls step known ≡ support_there controls step known }
+{}
