@@ -2,3 +2,4 @@ pub mod Faces
 pub mod Squares
 pub mod Wheel
 pub mod Values
+pub mod Larger

@@ -1,5 +1,5 @@
-//! Tests of levels, of sharpness, of masks, of uniform refinement, of one step of values, and of a walk over a part of a level,
-//! on meshes from tables.
+//! Tests of levels, of the facts of faces and the rules that select them, of sharpness, of masks, of uniform refinement, of one
+//! step of values, and of a walk over a part of a level, on meshes from tables.
 #![tactic(auto)]
 
 #[cfg(test)]
@@ -13,6 +13,8 @@ mod edge_rows;
 #[cfg(test)]
 mod expect;
 #[cfg(test)]
+mod face_facts;
+#[cfg(test)]
 mod fans;
 #[cfg(test)]
 mod levels;
@@ -24,6 +26,8 @@ mod meshes;
 mod parts_walked;
 #[cfg(test)]
 mod refined;
+#[cfg(test)]
+mod select_rules;
 #[cfg(test)]
 mod sharpness;
 #[cfg(test)]
