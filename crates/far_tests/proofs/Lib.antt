@@ -1,3 +1,0 @@
-mod ControlLemmas
-mod RowLemmas
-mod StepLemmas

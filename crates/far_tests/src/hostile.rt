@@ -4,7 +4,7 @@ ghost use Rattle.std.specs.Prelude.{◌≡◌, ◌<◌};
 
 use crate::engine::{run_alone, words_of};
 use crate::expect::{expect_answer, expect_same};
-use crate::inputs::{CUBE, CUBE_REFINED, GEN, REFINE, SQUARE, TWO_CHARTS};
+use crate::inputs::{CUBE, CUBE_REFINED, GEN, MOVED_SQUARE, REFINE, SQUARE, TWO_CHARTS};
 use far_engine::{FarFault, run};
 use far_io::{MemSink, MemSource};
 use ratio128::{Memory, Steps};
@@ -128,7 +128,7 @@ pub fn run_read_in_pieces(
 }
 
 // The answer of a run whose writes take so many bytes, and what is written.
-fn run_written_in_pieces(
+pub fn run_written_in_pieces(
     alloc: Global,
     text: &str,
     mesh: &str,
@@ -191,6 +191,7 @@ const WRITES: &[Writes] = &[
     ("refine depth=3", SQUARE, 5, 439),
     ("stencils depth=1", SQUARE, 16, 12),
     ("levels depth=1", CUBE, 16, 12),
+    ("frames depth=1", MOVED_SQUARE, 16, 6),
     (GEN, "", 16, 6),
     (REFINE, TWO_CHARTS, 64, 10),
 ];

@@ -31,6 +31,13 @@ pub const CUBE_REFINED: &str =
 
 pub const SQUARE: &str = "v 0 0 0\nv 4 0 0\nv 4 4 0\nv 0 4 0\nf 1 2 3 4\n";
 
+// The square, and a move of one of its points.
+pub const MOVED_SQUARE: &str =
+    "v 0 0 0\nv 4 0 0\nv 4 4 0\nv 0 4 0\nf 1 2 3 4\nframes\nmove 2 8 8 0\ngo\n";
+
+pub const MOVED_SQUARE_ANSWER: &str =
+    "frame 6\np 1 4 1 0\np 2 13/2 13/2 0\np 3 1 4 0\np 4 3 3 0\np 6 6 4 0\np 7 4 6 0\n";
+
 // The table of the square after one step.
 pub const SQUARE_TABLE: &str = "\
     table controls 4 rows 9 entries 24\n\
@@ -58,11 +65,6 @@ pub const TWO_CHARTS_IN_DECIMALS: &str =
 pub const GREAT_CHART: &str =
     "v 0 0 0\nv 1 0 0\nv 1 1 0\nv 0 1 0\nv 2 0 0\nv 2 1 0\nvt 0 0\nvt 1 0\nvt 1 1\nvt 0 1\nvt 1e36 0\nvt 5 0\n\
     vt 5 1\nvt 4 1\nf 1/1 2/2 3/3 4/4\nf 2/5 5/6 6/7 3/8\n";
-
-// The same quads with one chart, whose second half is wider.
-pub const ONE_CHART: &str =
-    "v 0 0 0\nv 1 0 0\nv 1 1 0\nv 0 1 0\nv 2 0 0\nv 2 1 0\nvt 0 0\nvt 1 0\nvt 1 1\nvt 0 1\nvt 4 0\nvt 4 1\n\
-    f 1/1 2/2 3/3 4/4\nf 2/2 5/5 6/6 3/3\n";
 
 pub const REFINE: &str = "refine depth=1";
 

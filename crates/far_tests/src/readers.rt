@@ -127,30 +127,49 @@ fn reads_lines_of_a_bounded_length(rt: HostRuntime) -> Result<(), Fail> {
     Ok(())
 }
 
-// An input, and the answers of the calls up to the first that is no line, with what is pending then.
-type Texts = (Input, &'static str, &'static str);
+// An input, and the answers of the calls up to the first that is no line; what is passed and pending then, and how many
+// bytes may still come.
+type Texts = (Input, &'static str, &'static str, &'static str, usize);
 
 const TEXTS: &[Texts] = &[
     (
         ("", "a\nbcdefgh\n\ni", 99, 1, 99),
         "Closed a, Closed bcdefgh, Closed , Last i, End ",
+        "a\nbcdefgh\n\ni",
         "",
+        87,
     ),
     (
         ("", "a\nbcdefgh\n\ni", 99, 7, 99),
         "Closed a, Closed bcdefgh, Closed , Last i, End ",
+        "a\nbcdefgh\n\ni",
         "",
+        87,
     ),
-    (("", "a\nbc", 4, 7, 99), "Closed a, Last bc, End ", ""),
-    (("", "a\nbc", 3, 1, 99), "Closed a, Long ", "b"),
-    (("", "a\nbc", 3, 7, 99), "Closed a, Long ", "b"),
-    (("", "", 0, 1, 99), "End ", ""),
+    (
+        ("", "a\nbc", 4, 7, 99),
+        "Closed a, Last bc, End ",
+        "a\nbc",
+        "",
+        0,
+    ),
+    (("", "a\nbc", 3, 1, 99), "Closed a, Long ", "a\n", "b", 0),
+    (("", "a\nbc", 3, 7, 99), "Closed a, Long ", "a\n", "b", 0),
+    (("", "", 0, 1, 99), "End ", "", "", 0),
     (
         ("", "a\nb\nc", 99, 7, 1),
         "Closed a, Closed b, Failed ",
+        "a\nb\n",
         "c",
+        94,
     ),
-    (("", "a\nb\nc", 99, 1, 3), "Closed a, Failed ", "b"),
+    (
+        ("", "a\nb\nc", 99, 1, 3),
+        "Closed a, Failed ",
+        "a\n",
+        "b",
+        96,
+    ),
 ];
 
 fn texts() -> &'static [Texts] {
@@ -185,15 +204,16 @@ fn answers_of_text(
 }
 
 fn expect_text(rt: &(impl Abort + AllocGlobal), row: &Texts) -> Result<(), Fail> {
-    let &((_, text, allowed, size, call), want, pending) = row;
+    let &((_, text, allowed, size, call), want, passed, pending, left) = row;
     assert!(rt; 0 < size);
     let mut source = pieces_of(rt.alloc(), text, size, call)?;
     let mut reader = TextReader::new(rt.alloc(), allowed);
     let answers = answers_of_text(rt.alloc(), &mut reader, &mut source)?;
     expect_same(rt, &answers.as_slice(), &want.as_bytes(), row);
+    expect_same(rt, &reader.before(), &passed.as_bytes(), row);
+    expect_same(rt, &reader.passed(), &passed.as_bytes(), row);
     expect_same(rt, &reader.pending(), &pending.as_bytes(), row);
-    let kept = text.len().min(reader.before().len());
-    expect_same(rt, &reader.before(), &&text.as_bytes()[..kept], row);
+    expect_same(rt, &reader.allowed(), &left, row);
     Ok(())
 }
 

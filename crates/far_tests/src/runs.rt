@@ -3,8 +3,9 @@
 use crate::engine::run_alone;
 use crate::expect::expect_answer;
 use crate::inputs::{
-    CUBE, CUBE_LEVEL, CUBE_REFINED, GEN, GREAT_CHART, GREATER_CUBE, LEVELS, REFINE, SHEET, SQUARE,
-    SQUARE_TABLE, TRIANGLES, TWO_CHARTS, TWO_CHARTS_IN_DECIMALS,
+    CUBE, CUBE_LEVEL, CUBE_REFINED, GEN, GREAT_CHART, GREATER_CUBE, LEVELS, MOVED_SQUARE,
+    MOVED_SQUARE_ANSWER, REFINE, SHEET, SQUARE, SQUARE_TABLE, TRIANGLES, TWO_CHARTS,
+    TWO_CHARTS_IN_DECIMALS,
 };
 use far_engine::{FarFault, OverflowKind, Track};
 use level_topology::Counted;
@@ -91,6 +92,31 @@ const RUNS: &[Run] = &[
     ),
     (LEVELS, CUBE, "", Ok(()), CUBE_LEVEL),
     ("stencils depth=1", SQUARE, "", Ok(()), SQUARE_TABLE),
+    (
+        "frames depth=1",
+        MOVED_SQUARE,
+        "",
+        Ok(()),
+        MOVED_SQUARE_ANSWER,
+    ),
+    (
+        "frames depth=1 scale=1",
+        MOVED_SQUARE,
+        "move 0 0.5 0 0\n",
+        Ok(()),
+        MOVED_SQUARE_ANSWER,
+    ),
+    (
+        "frames depth=2",
+        SQUARE,
+        "frames\nmove 0 2e36 0 0\n",
+        Err(FarFault::Overflow {
+            track: Track::Positions,
+            level: 2,
+            kind: OverflowKind::Value,
+        }),
+        "",
+    ),
     (GEN, "f 1", "", Ok(()), SHEET),
 ];
 

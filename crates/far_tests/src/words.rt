@@ -2,7 +2,10 @@
 
 use crate::engine::words_of;
 use crate::expect::expect_same;
-use far_words::{By, Command, GenOptions, MakeCommand, ReadCommand, RefineOptions, Uv, read_words};
+use far_words::{
+    By, Command, FramesOptions, GenOptions, MakeCommand, ReadCommand, RefineOptions, StreamCommand,
+    Uv, read_words,
+};
 use std::process::Abort;
 use std::test::Fail;
 
@@ -23,6 +26,13 @@ macro_rules! refine {
 macro_rules! sheet {
     ($seed:literal, $size:literal, $depth:literal) => {
         Ok(Command::Make(MakeCommand::Gen(GenOptions { seed: $seed, size: $size, depth: $depth })))
+    };
+}
+
+// Moves of a mesh at a depth, with a scale.
+macro_rules! moves {
+    ($depth:literal, $scale:literal) => {
+        Ok(Command::Stream(StreamCommand::Frames(FramesOptions { depth: $depth, scale: $scale })))
     };
 }
 
@@ -56,6 +66,8 @@ const WORDS: &[Words] = &[
         "levels depth=10",
         Ok(Command::Read(ReadCommand::Levels { depth: 10 })),
     ),
+    ("frames depth=10", moves!(10, 0)),
+    ("frames scale=18 depth=0", moves!(0, 18)),
     ("gen seed=0 size=1 depth=0", sheet!(0, 1, 0)),
     (
         "gen size=256 depth=10 seed=4294967295",
@@ -65,6 +77,8 @@ const WORDS: &[Words] = &[
     ("Refine depth=1", Err(0)),
     ("levels", Err(1)),
     ("refine depth=01", Err(1)),
+    ("frames scale=0", Err(2)),
+    ("frames depth=0 scale=19", Err(2)),
     ("gen seed=4294967296", Err(1)),
     ("stencils depth=0 depth=2", Err(2)),
     ("gen seed=1 depth=1", Err(3)),
