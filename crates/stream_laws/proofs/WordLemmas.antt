@@ -81,7 +81,7 @@ lines-of-text (line ∷ lines) rest closed =
     ∙ ap (λ more. line ∷ more) (lines-of-text lines rest parts.1)
 
 -- bytes that begin with a closed line, as a mesh reads them
-first-words : (line : List ℕ) (lines : List (List ℕ)) (rest : List ℕ) → are_lines (line ∷ lines) ≡ true
+pub first-words : (line : List ℕ) (lines : List (List ℕ)) (rest : List ℕ) → are_lines (line ∷ lines) ≡ true
     → obj_lines (text_of_lines (line ∷ lines) ++ rest) ≡ words_of_lines (line ∷ lines) ++ map line_words (lines_of rest)
 first-words line lines rest closed =
     let parts = and_parts (not (has_lf line)) (are_lines lines) closed in
