@@ -362,9 +362,9 @@ def levels_text(obj, depth):
 
 
 def answer(words, source):
-    """The text for the words that follow `levels`, or a Refusal."""
+    """The one text for the words that follow `levels`, or a Refusal."""
     _, options = understood([b"levels", *words])
-    return levels_text(read_mesh(source), int(options[b"depth"]))
+    return [levels_text(read_mesh(source), int(options[b"depth"]))]
 
 
 if __name__ == "__main__":

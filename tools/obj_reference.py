@@ -230,11 +230,10 @@ def common_with(common, values):
     return common
 
 
-def late_line(channel):
+def late_line(channel, common):
     """The line of a channel's late fault, None where it has none. A channel has its lines in order, each with its
-    number and its values. The fault stands at the line that takes the common denominator past 10^37, or else at the
-    first with a number that is too long over it."""
-    common = 1
+    number and its values, and a common denominator to begin with. The fault stands at the line that takes the common
+    denominator past 10^37, or else at the first with a number that is too long over it."""
     for line, values in channel:
         common = common_with(common, values)
         if common > GREATEST_COMMON:
@@ -245,14 +244,16 @@ def late_line(channel):
     return None
 
 
-def over_common(channel):
-    """The values of a channel as whole numbers, and the common denominator that they stand over."""
-    common = common_with(1, [value for _, values in channel for value in values])
+def over_common(channel, common):
+    """The values of a channel as whole numbers, and the common denominator that they stand over, a multiple of the one
+    to begin with."""
+    common = common_with(common, [value for _, values in channel for value in values])
     return [tuple(int(value * common) for value in values) for _, values in channel], common
 
 
-def read_obj(data):
-    """The mesh of a text, or the Fault of its least bad line."""
+def read_obj(data, scale=0):
+    """The mesh of a text, or the Fault of its least bad line. The common denominator of the points is a multiple of ten
+    to the scale."""
     text = data[len(MARK) :] if data.startswith(MARK) else data
     lines = [words_of(line) for line in text.split(b"\n")]
     whole = Counter(words[0] for words in lines if words)
@@ -277,11 +278,12 @@ def read_obj(data):
         except Fault as fault:
             raise Fault(fault.cause, number) from None
         before[words[0]] += 1
-    late = [late_line(channel) for channel in channels.values()]
+    starts = {b"v": 10**scale, b"vt": 1}
+    late = [late_line(channel, starts[name]) for name, channel in channels.items()]
     if any(late):
         raise Fault("number out of range", min(filter(None, late)))
-    mesh.points, mesh.common = over_common(channels[b"v"])
-    mesh.texture, mesh.texture_common = over_common(channels[b"vt"])
+    mesh.points, mesh.common = over_common(channels[b"v"], starts[b"v"])
+    mesh.texture, mesh.texture_common = over_common(channels[b"vt"], starts[b"vt"])
     mesh.has_texture = bool(textured) and all(None not in numbers for numbers in textured)
     mesh.texture_corners = textured if mesh.has_texture else []
     return mesh

@@ -1,6 +1,6 @@
 #!/usr/bin/env python3
-"""A plain, slow reference of the program: of `far refine`, and through `tools/level_reference.py` of `far levels` and
-`tools/table_reference.py` of `far stencils` and `far gen`.
+"""A plain, slow reference of the program: of `far refine`, and through `tools/level_reference.py` of `far levels`,
+`tools/table_reference.py` of `far stencils` and `far gen`, and `tools/frames_reference.py` of `far frames`.
 
 It is written from the definitions of `far_model` (Answer) and `subdiv_model` (Text and NumberText, and those that the other
 references name), with `fractions.Fraction` for every value, and shares nothing with the program. It takes the
@@ -15,6 +15,7 @@ cases can be tried on it:
 import sys
 from math import inf
 
+from frames_reference import frame_texts
 from level_reference import accepted, levels_text, sharp_edges
 from mask_reference import positions_of, refined
 from run_reference import read_mesh, run, understood
@@ -114,12 +115,22 @@ TEXTS_OF_OPTIONS = {
 }
 
 
+# The texts of each command that answers while it reads, of its input and the options.
+TEXTS_OF_INPUT = {
+    b"frames": lambda source, options: frame_texts(source, depth_of(options), int(options.get(b"scale", 0))),
+}
+
+
 def answer(words, source):
-    """The text that the program writes for these words (a list of bytes) and this input, or a Refusal."""
+    """The texts that the program writes for these words (a list of bytes) and this input, one after another, each as soon
+    as its lines are there, or a Refusal, which may come after texts."""
     command, options = understood(words)
-    if command in TEXTS_OF_OPTIONS:
-        return TEXTS_OF_OPTIONS[command](options)
-    return TEXTS_OF_MESH[command](read_mesh(source), options)
+    if command in TEXTS_OF_INPUT:
+        yield from TEXTS_OF_INPUT[command](source, options)
+    elif command in TEXTS_OF_OPTIONS:
+        yield TEXTS_OF_OPTIONS[command](options)
+    else:
+        yield TEXTS_OF_MESH[command](read_mesh(source), options)
 
 
 if __name__ == "__main__":

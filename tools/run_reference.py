@@ -32,6 +32,7 @@ OPTIONS = {
         b"tags": [b"no", b"yes"],
     },
     b"stencils": DEPTH,
+    b"frames": {**DEPTH, b"scale": Numbers(0, 18)},
     b"levels": DEPTH,
     b"gen": {b"seed": Numbers(0, 2**32 - 1), b"size": Numbers(1, 256), **DEPTH},
 }
@@ -77,26 +78,40 @@ def are_text(words):
     return True
 
 
+def refuse_length():
+    raise Refusal(TOO_LONG, f"far: input is longer than {GREATEST_INPUT} bytes")
+
+
+def refuse_line(line, cause):
+    raise Refusal(BAD_LINE, f"far: line {line}: {cause}") from None
+
+
+def mesh_of(data, scale=0):
+    """The mesh of a text, before it is judged as a mesh, or the Refusal of its bad line."""
+    try:
+        return read_obj(data, scale)
+    except Fault as fault:
+        refuse_line(fault.line, fault.cause)
+
+
 def read_mesh(source):
     """The mesh of an input, before it is judged as a mesh, or the Refusal of what is too long or has a bad line."""
     data = source.read(GREATEST_INPUT + 1)
     if len(data) > GREATEST_INPUT:
-        raise Refusal(TOO_LONG, f"far: input is longer than {GREATEST_INPUT} bytes")
-    try:
-        return read_obj(data)
-    except Fault as fault:
-        raise Refusal(BAD_LINE, f"far: line {fault.line}: {fault.cause}") from None
+        refuse_length()
+    return mesh_of(data)
 
 
 def run(answer):
-    """Answers the words of the command line and standard input, and gives the exit status."""
+    """Answers the words of the command line and standard input, text after text, and gives the exit status."""
     words = [os.fsencode(word) for word in sys.argv[1:]]
     try:
         if not are_text(words):
             refuse_word(0)
-        text = answer(words, sys.stdin.buffer)
+        for text in answer(words, sys.stdin.buffer):
+            sys.stdout.write(text)
+            sys.stdout.flush()
     except Refusal as refusal:
         sys.stderr.write(refusal.line + "\n")
         return refusal.status
-    sys.stdout.write(text)
     return 0
