@@ -4,11 +4,11 @@
 Texts are made of lines that are good, bad or nearly bad, and of the cube, the unfolded cube with its texture and the
 refined cube with a few changes; they are refined to depth 1 at most. Meshes are those of `tools/random_meshes.py`, many
 with texture; they are refined, by tables and level by level, or have their levels counted or their tables written, to
-depth 3 at most. Sheets are made by the program itself.
+depth 3 at most. Sheets are made by the program itself. Inputs with moves are those of `tools/random_frames.py`.
 The options are random too. The same seed makes the same words and texts. A text on which the two differ is printed, and
 the exit status is then 1.
 
-    tools/compare_random.py --seed 1 --count 3000 --meshes 1500 --sheets 300
+    tools/compare_random.py --seed 1 --count 3000 --meshes 1500 --sheets 300 --frames 1200
 """
 
 import argparse
@@ -20,6 +20,7 @@ from collections import Counter
 from pathlib import Path
 
 import reference
+from random_frames import Frames
 from random_meshes import Meshes
 from run_reference import Refusal
 
@@ -31,6 +32,8 @@ GREATEST_DEPTH = 3
 MOST_FACES = 800
 MOST_TABLE_FACES = 400
 SEEDS = ["0", "1", "7", str(2**31 - 1), str(2**31), str(2**32 - 1)]
+SCALES = ["0", "1", "2", "3", "6", "17", "18"]
+BAD_SCALES = ["scale=19", "scale=00", "scale=", "scale", "decimals=1", "depth=1", "Scale=1", "scale=-1"]
 BAD_SHEETS = ["size=0", "size=257", "seed=-1", f"seed={2**32}", "seed=00", "depth=11", "by=table", "size"]
 OPTIONS = {
     "decimals": ["0", "1", "2", "3", "6", "17", "18"],
@@ -84,11 +87,13 @@ TAGS = {
 
 def expected(words, data):
     """The status and what is written on standard output and standard error, by the reference."""
+    texts, end = [], (0, "")
     try:
-        text = reference.answer([word.encode() for word in words], io.BytesIO(data))
+        for text in reference.answer([word.encode() for word in words], io.BytesIO(data)):
+            texts.append(text)
     except Refusal as refusal:
-        return refusal.status, b"", f"{refusal.line}\n".encode()
-    return 0, text.encode(), b""
+        end = refusal.status, f"{refusal.line}\n"
+    return end[0], "".join(texts).encode(), end[1].encode()
 
 
 _, REFINED_CUBE, _ = expected(REFINE, CUBE)
@@ -234,6 +239,21 @@ class Words:
             return ["stencils", f"depth={self.depth_for(corners, MOST_TABLE_FACES)}"]
         return ["refine", *self.options(self.depth_for(corners, MOST_FACES))]
 
+    def for_frames(self, data):
+        """The words by which the control points of a mesh are moved, mostly as finely as the moves have decimals; now and
+        then without a scale, or with a bad word."""
+        mesh, _, moves = data.partition(b"\nframes")
+        corners = sum(len(line.split()) - 1 for line in mesh.split(b"\n") if line.startswith(b"f"))
+        finest = max((len(word.partition(b".")[2]) for word in moves.split()), default=0)
+        scale = str(min(finest, 18)) if self.random.random() < 0.8 else self.random.choice(SCALES)
+        options = [f"depth={self.depth_for(corners, MOST_TABLE_FACES)}", f"scale={scale}"]
+        self.random.shuffle(options)
+        if self.random.random() < 0.03:
+            options[self.random.randrange(2)] = self.random.choice(BAD_SCALES)
+        if scale == "0" and self.random.random() < 0.5:
+            options = [option for option in options if option != "scale=0"]
+        return ["frames", *options]
+
     def for_sheet(self):
         """The words by which a small sheet is made, or one with too many faces; now and then a bad one, or one too few."""
         seed = self.random.choice(SEEDS) if self.random.random() < 0.4 else str(self.random.randrange(2**32))
@@ -268,13 +288,17 @@ def main():
     parser.add_argument("--count", type=int, default=1000, help="how many texts are refined")
     parser.add_argument("--meshes", type=int, default=1000, help="how many meshes are refined, counted or have their tables written")
     parser.add_argument("--sheets", type=int, default=200, help="how many sheets are made")
+    parser.add_argument("--frames", type=int, default=400, help="how many inputs with moves are answered")
     arguments = parser.parse_args()
     texts, meshes, words = Texts(arguments.seed), Meshes(arguments.seed), Words(arguments.seed)
+    frames = Frames(arguments.seed)
     mesh_texts = (meshes.text() for _ in range(arguments.meshes))
     lines = agree(arguments.program, "texts", ((words.for_text(), texts.text()) for _ in range(arguments.count)))
     surfaces = agree(arguments.program, "meshes", ((words.for_mesh(data), data) for data in mesh_texts))
     sheets = agree(arguments.program, "sheets", ((words.for_sheet(), b"") for _ in range(arguments.sheets)))
-    return 0 if lines and surfaces and sheets else 1
+    inputs = (frames.text() for _ in range(arguments.frames))
+    moves = agree(arguments.program, "inputs with moves", ((words.for_frames(data), data) for data in inputs))
+    return 0 if lines and surfaces and sheets and moves else 1
 
 
 if __name__ == "__main__":
