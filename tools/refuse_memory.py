@@ -2,8 +2,8 @@
 """Refuses the built program each of its allocations in turn: one alone, and then it and all that come after it.
 
 Each of these runs must end with status 11, the line `far: out of memory` and nothing on standard output, or as the run
-does to which nothing is refused. What ends otherwise is printed, and the exit status is then 1. It is 2 where nothing
-could be tried.
+does to which nothing is refused. That goes for `frames` too, which takes its memory before it answers a line. What ends
+otherwise is printed, and the exit status is then 1. It is 2 where nothing could be tried.
 
 It preloads a malloc of its own, `tools/refuse_memory.c`, and so needs a C compiler, and Linux with the GNU C library.
 `rt try --fail-alloc N` refuses one allocation too, of a build for that run alone, in half a minute each.
@@ -24,6 +24,13 @@ TOP = Path(__file__).resolve().parent.parent
 OUT_OF_MEMORY = 11, b"", b"far: out of memory\n"
 LATER = 2**62
 
+MOVES = b"""frames
+move 0 -1 -1 2
+go
+move 7 1/2 0.5 -1
+go
+"""
+
 TAGS = """t crease 3/2/0 0 1 3 3/2 7/2
 t corner 1/1/0 6 10
 t hole 1/0/0 2
@@ -36,7 +43,7 @@ def example(name):
 
 
 def runs():
-    """Words and standard input: each command, both paths, texture, tags, and inputs that are refused."""
+    """Words and standard input: each command, both paths, texture, tags, moves, and inputs that are refused."""
     cube, unfolded = example("cube.obj"), example("unfolded_cube.obj")
     tagged = cube + TAGS.encode()
     yield "refine depth=1", cube
@@ -46,11 +53,13 @@ def runs():
     yield "refine depth=1", unfolded
     yield "refine depth=1 by=level uv=corners", unfolded
     yield "stencils depth=1", cube
+    yield "frames depth=1 scale=1", cube + MOVES
     yield "levels depth=1", cube
     yield "gen seed=7 size=2 depth=1", b""
     yield "refine depth=1 tags=maybe", cube
     yield "refine depth=1", cube + b"v 1 2\n"
     yield "levels depth=1", cube + b"f 1 2 3\n"
+    yield "frames depth=1", cube + MOVES
     yield "refine depth=10", cube
 
 

@@ -29,6 +29,7 @@ NOT_PROVED = re.compile(rb"\./far: this run is not proved[^\n]*\n")
 COMMANDS_OF_THE_LAUNCHER = "bash cat cmp date dirname find flock ln mkdir mktemp mv readlink rm sleep touch"
 CLOSED_INPUT, FULL_OUTPUT = 'exec "$@" <&-', 'exec "$@" > /dev/full'
 SECONDS = 1200
+MOVES = b"frames\nmove 0 2 2 2\ngo\n"
 
 
 def content(path):
@@ -43,10 +44,12 @@ def runs():
     yield ["refine", "depth=3", "by=level"], dog
     yield ["levels", "depth=1"], dog
     yield ["stencils", "depth=1"], cube
+    yield ["frames", "depth=1"], cube + MOVES
     yield ["gen", "seed=7", "size=4", "depth=2"], b""
     yield ["refine", "depth=3"], b""
     yield ["refine", "depth=1"], b"v 0 0 0\nv 0 0 nan\n"
     yield ["refine", "depth=1"], b"\xff\x00\n"
+    yield ["frames", "depth=1", "scale=18"], cube + MOVES + b"move 8 0 0 0\n"
     yield ["levels", "depth=1"], content("cases/levels/bowtie/stdin")
     yield ["refine", "depth=x"], cube
     yield ["refine", "depth=1 tags=yes"], cube
