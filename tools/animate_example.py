@@ -1,18 +1,19 @@
 #!/usr/bin/env python3
-"""Moves a mesh over a thousand frames by one table of `far stencils`, and compares some frames with `far refine`.
+"""Moves a mesh frame by frame through `far frames`, and compares each frame with the table of `far stencils`.
 
-The table is made once, since it says nothing of where the points are. Frame t of n bends the mesh: with s = t / n each
-point is lifted by 4 s (1 - s) x^2 / r, where r is four times the greatest amount of an x. All of that is exact in
-fractions; only the evaluation of the frames is in floats, with the weights of tools/tables.py, by numpy and scipy where
-they are there and in plain Python otherwise.
+A bump runs over the mesh from its least x to its greatest, and lifts control points by at most six decimals. In each frame
+those that it lifts or lets down are moved, and `go` is answered by the points that change, while the input of the program
+stays open. All of that is exact.
+
+The table is made once, since it says nothing of where the points are, and gives the points of each frame too. Where numpy
+and scipy are there it does so in floats, and each coordinate must be within the bound of `Table.bound`; elsewhere it does
+so in fractions, which must be the program's.
 
     tools/animate_example.py
-    tools/animate_example.py --mesh examples/cube.obj --depth 3 --frames 100 --plain
+    tools/animate_example.py --mesh examples/cube.obj --depth 3 --frames 20 --plain
 
-Of ten frames, in even steps from the first to the last, an OBJ text is written and refined by the program. Each coordinate
-that the table gives in fractions must be the program's, and each in floats must be within the bound of `Table.bound`. It
-prints how many frames were evaluated in a second, and ends with status 0, or with 1 on any difference; the first one of
-each frame is printed.
+It prints how many frames were answered and evaluated in a second, and ends with status 0, or with 1 on any difference;
+the first one of each frame is printed.
 """
 
 import argparse
@@ -25,27 +26,49 @@ from pathlib import Path
 from tables import point_line, read_points, read_table
 
 TOP = Path(__file__).resolve().parent.parent
+DECIMALS = 6
 
 
-class Bend:
-    """The frames of a mesh, of which the first is the mesh as it is."""
+class Bump:
+    """The frames of a mesh over which a bump runs, a quarter as wide as the mesh to either side and half of that high."""
 
     def __init__(self, points, frames):
         self.points, self.frames = points, frames
-        reach = 4 * max((abs(x) for x, _, _ in points), default=0) or 1
-        self.lifts = [x * x / Fraction(reach) for x, _, _ in points]
+        xs = [x for x, _, _ in points] or [0]
+        self.least, self.length = min(xs), max(xs) - min(xs)
+        self.width = self.length / Fraction(4) or Fraction(1)
 
     def frame(self, number):
-        """The points of a frame, in fractions."""
-        part = Fraction(number, self.frames)
-        height = 4 * part * (1 - part)
-        return [(x, y, z + height * lift) for (x, y, z), lift in zip(self.points, self.lifts)]
+        """The control points of a frame, in fractions."""
+        crest = self.least + self.length * Fraction(number, max(self.frames - 1, 1))
+        away = [(x - crest) / self.width for x, _, _ in self.points]
+        lifts = [round(self.width / 2 * max(1 - distance * distance, 0) ** 2, DECIMALS) for distance in away]
+        return [(x, y, z + lift) for (x, y, z), lift in zip(self.points, lifts)]
 
 
-def refined(program, depth, text):
-    """The points that the program writes for an OBJ text, in fractions."""
-    run = subprocess.run([program, "refine", f"depth={depth}"], input=text, stdout=subprocess.PIPE, text=True, check=True)
-    return read_points(run.stdout)
+class Program:
+    """The program, which has read a mesh and waits for moves."""
+
+    def __init__(self, program, depth, text):
+        words = [program, "frames", f"depth={depth}", f"scale={DECIMALS}"]
+        self.run = subprocess.Popen(words, stdin=subprocess.PIPE, stdout=subprocess.PIPE, text=True)
+        self.run.stdin.write(f"{text}\nframes\n")
+
+    def changed(self, moves):
+        """The points that change where some control points are moved, by their numbers. The input stays open."""
+        lines = [f"move {number} {' '.join(map(str, point))}\n" for number, point in moves.items()]
+        self.run.stdin.write("".join(lines) + "go\n")
+        self.run.stdin.flush()
+        header = self.run.stdout.readline().split()
+        if header[:1] != ["frame"]:
+            sys.exit(f"the program ended with status {self.run.wait()}")
+        words = (self.run.stdout.readline().split() for _ in range(int(header[1])))
+        return {int(number): tuple(map(Fraction, axes)) for _, number, *axes in words}
+
+    def status(self):
+        """The status with which the program ends, once its input has ended."""
+        self.run.stdin.close()
+        return self.run.wait()
 
 
 def table_of(program, depth, text):
@@ -53,72 +76,62 @@ def table_of(program, depth, text):
     return read_table(run.stdout)
 
 
-def text_of(points, text):
-    """An OBJ text with other points: the `v` lines of the points, and then all other lines of the text."""
-    others = [line for line in text.splitlines() if line.split()[:1] != ["v"]]
-    return "\n".join([*map(point_line, points), *others]) + "\n"
-
-
 def evaluator(table, is_plain):
-    """How a frame is evaluated, and in what: a function from points in fractions to what the frame needs, and one from
-    that to points in floats."""
+    """How the points of the level come from the control points, how far they are off where no coordinate is greater in
+    amount than so much, and by what means."""
     if not is_plain:
         try:
             import numpy
 
             matrix = table.to_scipy()
-            return lambda points: numpy.array(points, dtype=float), lambda frame: matrix @ frame, "numpy and scipy"
+            return lambda points: (matrix @ numpy.array(points, dtype=float)).tolist(), table.bound, "numpy and scipy"
         except ImportError:
-            print("numpy or scipy is missing: the frames are evaluated in plain Python")
-    return lambda points: [tuple(map(float, point)) for point in points], table.floats, "plain Python"
+            print("numpy or scipy is missing: the table is evaluated in fractions")
+    return table.exact, lambda greatest: 0, "fractions"
 
 
-def played(bend, prepare, evaluate, kept):
-    """The frames that are kept, in floats, and how many seconds the evaluation of all frames took."""
-    found, seconds = {}, 0.0
-    for number in range(bend.frames):
-        frame = prepare(bend.frame(number))
+def differences(points, evaluated, bound):
+    """A line for each point that the table has at another place, or too far away."""
+    if len(points) != len(evaluated):
+        yield f"the program has {len(points)} points, and the table {len(evaluated)}"
+    for number, place in enumerate(evaluated):
+        if any(abs(Fraction(axis) - value) > bound for axis, value in zip(place, points.get(number, place))):
+            yield f"point {number}: the program has {point_line(points[number])}, and the table {' '.join(map(str, place))}"
+
+
+class Play:
+    """The frames of a mesh: its control points and its points as they are now, and how many seconds the program and the
+    table took."""
+
+    def __init__(self, program, table, is_plain):
+        self.program, self.table = program, table
+        self.evaluate, self.bound, self.means = evaluator(table, is_plain)
+        self.controls, self.points, self.asked, self.evaluated = [None] * table.controls, {}, 0.0, 0.0
+
+    def differences(self, controls):
+        """A line for each difference in the next frame, which has these control points."""
+        moves = {number: new for number, (old, new) in enumerate(zip(self.controls, controls)) if old != new}
         start = time.perf_counter()
-        points = evaluate(frame)
-        seconds += time.perf_counter() - start
-        if number in kept:
-            found[number] = points
-    return found, seconds
-
-
-def differences(table, points, floats, expected):
-    """A line for each point of a frame that is not the program's, in fractions or within the bound."""
-    bound = table.bound(max(abs(axis) for point in points for axis in point))
-    exact = table.exact(points)
-    if not len(exact) == len(floats) == len(expected):
-        yield f"{len(exact)} points in fractions, {len(floats)} in floats, and {len(expected)} of the program"
-    for number, (fractions, rounded, point) in enumerate(zip(exact, floats, expected)):
-        if fractions != point:
-            yield f"point {number}: {point_line(fractions)}, and the program has {point_line(point)}"
-        if any(abs(Fraction(float(axis)) - value) > bound for axis, value in zip(rounded, point)):
-            yield f"point {number}: {list(map(float, rounded))} is not within {float(bound)} of {point_line(point)}"
-
-
-def compare(options, table, bend, found, text):
-    """Compares the frames that were kept with the program: prints the first difference of each, and gives how many there are."""
-    count = 0
-    for number, floats in found.items():
-        points = bend.frame(number)
-        expected = refined(options.program, options.depth, text_of(points, text))
-        wrong = list(differences(table, points, floats, expected))
-        count += len(wrong)
-        if wrong:
-            print(f"frame {number}: {wrong[0]}")
-    return count
+        changed = self.program.changed(moves)
+        asked = time.perf_counter()
+        evaluated = self.evaluate(controls)
+        self.evaluated += time.perf_counter() - asked
+        self.asked += asked - start
+        self.controls = controls
+        self.points.update(changed)
+        depend = [number for number, row in enumerate(self.table.rows) if any(control in moves for control, _ in row.entries)]
+        if list(changed) != depend:
+            yield f"the program changes {len(changed)} points, and {len(depend)} depend on a move"
+        greatest = max((abs(axis) for point in controls for axis in point), default=0)
+        yield from differences(self.points, evaluated, self.bound(greatest))
 
 
 def parsed():
-    parser = argparse.ArgumentParser(description="Moves a mesh by one table, and compares frames with `far refine`.")
+    parser = argparse.ArgumentParser(description="Moves a mesh through `far frames`, and compares each frame with its table.")
     parser.add_argument("--mesh", default=str(TOP / "examples/dog.obj"), help="an OBJ text (examples/dog.obj)")
-    parser.add_argument("--depth", type=int, default=2, help="the level that is evaluated (2)")
-    parser.add_argument("--frames", type=int, default=1000, help="how many frames are evaluated (1000)")
-    parser.add_argument("--checked", type=int, default=10, help="how many of them are compared with the program (10)")
-    parser.add_argument("--plain", action="store_true", help="evaluate in plain Python, also where scipy is there")
+    parser.add_argument("--depth", type=int, default=2, help="the level that is moved (2)")
+    parser.add_argument("--frames", type=int, default=100, help="how many frames there are (100)")
+    parser.add_argument("--plain", action="store_true", help="evaluate the table in fractions, also where scipy is there")
     parser.add_argument("--program", default=str(TOP / "far"), help="the program (./far)")
     return parser.parse_args()
 
@@ -126,17 +139,19 @@ def parsed():
 def main():
     options = parsed()
     text = Path(options.mesh).read_text(encoding="utf-8")
-    table, bend = table_of(options.program, options.depth, text), Bend(read_points(text), options.frames)
+    table, bump = table_of(options.program, options.depth, text), Bump(read_points(text), options.frames)
     entries = sum(len(row.entries) for row in table.rows)
     print(f"{table.controls} control points, {len(table.rows)} rows and {entries} entries at depth {options.depth}", flush=True)
-    prepare, evaluate, means = evaluator(table, options.plain)
-    checked = min(options.checked, options.frames)
-    kept = {number * (options.frames - 1) // max(checked - 1, 1) for number in range(checked)}
-    found, seconds = played(bend, prepare, evaluate, kept)
-    print(f"{options.frames} frames in {means}: {options.frames / max(seconds, 1e-9):.0f} frames a second", flush=True)
-    count = compare(options, table, bend, found, text)
-    print(f"{len(found)} frames compared with the program, {len(table.rows)} points each: {count} differences")
-    return 1 if count else 0
+    play, count = Play(Program(options.program, options.depth, text), table, options.plain), 0
+    for number in range(options.frames):
+        wrong = list(play.differences(bump.frame(number)))
+        count += len(wrong)
+        if wrong:
+            print(f"frame {number}: {wrong[0]}")
+    speeds = [options.frames / max(seconds, 1e-9) for seconds in (play.asked, play.evaluated)]
+    print(f"{speeds[0]:.0f} frames a second from the program, {speeds[1]:.0f} from the table in {play.means}")
+    print(f"{options.frames} frames compared with the table, {len(table.rows)} points each: {count} differences")
+    return 1 if play.program.status() or count else 0
 
 
 if __name__ == "__main__":
