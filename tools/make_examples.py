@@ -1,7 +1,7 @@
 #!/usr/bin/env python3
-"""Writes the larger meshes of examples/: the dog, the arm in two poses, and the torus of 1,024 quads. All are closed,
-and are written with whole numbers, or with decimals that are exact. Run it again after a change: the files come out the
-same, byte for byte.
+"""Writes the larger meshes of examples/: the dog, the arm in two poses, and the torus of 1,024 quads; and moves of the dog.
+All meshes are closed, and all is written with whole numbers, or with decimals that are exact. Run it again after a change:
+the files come out the same, byte for byte.
 
     tools/make_examples.py
 """
@@ -11,8 +11,14 @@ from decimal import Decimal
 from fractions import Fraction
 from itertools import product
 from pathlib import Path
+from typing import NamedTuple
 
 EXAMPLES = Path(__file__).resolve().parent.parent / "examples"
+
+
+def decimals(point):
+    """Fractions as decimals, which are exact where the denominators have no factors but 2 and 5."""
+    return tuple(Decimal(Fraction(value).numerator) / Fraction(value).denominator for value in point)
 
 
 def write_mesh(name, points, faces, *comments):
@@ -66,6 +72,65 @@ def dog():
     return surface({cube for block in BLOCKS.values() for cube in product(*block)})
 
 
+# The dog's moves: in each frame some parts are turned, one way or the other, and all others are as in the mesh.
+
+
+class Part(NamedTuple):
+    """The points in a box, which turn in the plane of two axes about a place there."""
+
+    least: tuple
+    greatest: tuple
+    axes: tuple
+    still: tuple
+
+    def holds(self, point):
+        return all(low <= value <= high for low, value, high in zip(self.least, point, self.greatest))
+
+    def turned(self, point, way):
+        """Where a point is then. The cosine of the angle is 4/5, and its sine 3/5."""
+        (a, b), place, cosine, sine = self.axes, list(point), Fraction(4, 5), Fraction(3 * way, 5)
+        along, up = point[a] - self.still[0], point[b] - self.still[1]
+        place[a], place[b] = self.still[0] + cosine * along - sine * up, self.still[1] + sine * along + cosine * up
+        return place
+
+
+TAIL = Part((0, 0, 7), (2, 4, 9), (1, 2), (2, 6))
+RIGHT_EAR, LEFT_EAR = Part((8, 0, 11), (9, 1, 12), (1, 2), (0, 10)), Part((8, 3, 11), (9, 4, 12), (1, 2), (4, 10))
+HEAD = Part((7, 0, 7), (13, 4, 12), (0, 1), (8, 2))
+FORE_LEG = Part((7, 0, 0), (9, 1, 2), (0, 2), (8, 3))
+FRAMES = {
+    "the tail to the right": [(TAIL, 1)],
+    "the tail to the left": [(TAIL, -1)],
+    "the tail back, and the head to the right": [(HEAD, -1)],
+    "the ears apart": [(RIGHT_EAR, 1), (LEFT_EAR, -1), (HEAD, -1)],
+    "the ears back": [(HEAD, -1)],
+    "a fore leg up": [(FORE_LEG, 1), (HEAD, -1)],
+    "the fore leg back": [(HEAD, -1)],
+    "the head back": [],
+}
+
+
+def posed(point, turns):
+    """Where a point of the dog is in a frame."""
+    place = point
+    for part, way in turns:
+        if part.holds(point):
+            place = part.turned(place, way)
+    return decimals(place)
+
+
+def write_moves(name, points, frames, comment):
+    lines, now = [f"# {comment}", "frames"], points
+    for words, turns in frames.items():
+        before, now = now, [posed(point, turns) for point in points]
+        lines.append(f"# {words}")
+        pairs = enumerate(zip(before, now))
+        lines += [f"move {number} {' '.join(map(str, new))}" for number, (old, new) in pairs if old != new]
+        lines.append("go")
+    (EXAMPLES / name).write_text("".join(line + "\n" for line in lines))
+    print(f"{name}: {len(frames)} frames")
+
+
 # The arm: a row of unit cubes along x with a hand at its end, and the same faces with the arm bent up at the elbow.
 
 ARM = {(x, 0, 0) for x in range(7)} | {(5, 0, 1), (5, 1, 0), (5, -1, 0)}
@@ -80,8 +145,7 @@ def bent(point):
     if x < ELBOW[0]:
         return point
     (cosine, sine), (along, up) = (HALF_TURN if x == ELBOW[0] else TURN), (x - ELBOW[0], z - ELBOW[1])
-    turned = ELBOW[0] + cosine * along - sine * up, y, ELBOW[1] + sine * along + cosine * up
-    return tuple(Decimal(Fraction(value).numerator) / Fraction(value).denominator for value in turned)
+    return decimals((ELBOW[0] + cosine * along - sine * up, y, ELBOW[1] + sine * along + cosine * up))
 
 
 # The torus: 32 rings of 32 points, rounded to whole numbers.
@@ -112,6 +176,7 @@ def torus(rings=32, sides=32, great=3000, small=1200):
 
 if __name__ == "__main__":
     write_mesh("dog.obj", *dog())
+    write_moves("dog_moves.txt", dog()[0], FRAMES, "Moves of dog.obj for far frames, with up to two decimals.")
     arm, faces = surface(ARM)
     write_mesh("arm_straight.obj", arm, faces, "An arm, stretched out. arm_bent.obj has the same faces.")
     write_mesh("arm_bent.obj", [bent(point) for point in arm], faces, "The arm of arm_straight.obj, bent at the elbow.")

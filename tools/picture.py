@@ -137,9 +137,15 @@ def seen_sides(mesh, points, distance):
         yield Side(length_of(towards), number, normal if is_front else [-value for value in normal], is_front)
 
 
-def colour_of(side):
-    """A colour from shade to gleam by the cosine between the normal and the light."""
-    shade, colour, gleam = FRONT if side.is_front else BACK
+def shown_sides(mesh, points, distance):
+    """The sides that are drawn: where nothing is seen through, those of the faces that look to the eye."""
+    every = seen_sides(mesh, points, distance)
+    return [side for side in every if side.is_front] if is_closed(mesh.faces) and not mesh.holes else list(every)
+
+
+def colour_of(side, colours=None):
+    """A colour from shade to gleam, by the cosine between the normal and the light."""
+    shade, colour, gleam = colours or (FRONT if side.is_front else BACK)
     cosine = dot(side.normal, LIGHT) / ((length_of(side.normal) or 1.0) * length_of(LIGHT))
     low, high, part = (shade, colour, cosine + 0.35) if cosine < 0.65 else (colour, gleam, (cosine - 0.65) / 0.35)
     part = min(1.0, max(0.0, part))
@@ -195,10 +201,7 @@ def surface(mesh, frame, options):
     """The lines of a mesh: its faces, the farthest first, each with the marks that come after it."""
     points = [frame.to_eye(point) for point in mesh.points]
     places = [frame.to_page(point) for point in points]
-    shown = list(seen_sides(mesh, points, options.distance))
-    if is_closed(mesh.faces) and not mesh.holes:
-        shown = [side for side in shown if side.is_front]
-    shown.sort(key=lambda side: side.away, reverse=True)
+    shown = sorted(shown_sides(mesh, points, options.distance), key=lambda side: side.away, reverse=True)
     after = marks_in_order(mesh, [side.number for side in shown], options)
     for side, marks in zip(shown, after):
         corners = [places[vertex] for vertex in mesh.faces[side.number]]
