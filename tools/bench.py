@@ -11,6 +11,10 @@ The status is checked, the first line of `levels`, and how many faces are writte
 the exit status is then 1. The machine may be busy, so only large differences mean something; peaks below some 20 MB are
 those of Python.
 
+A second table tells of sessions of `frames`, with a row for what each frame moves: how many points and bytes a frame
+writes; the greatest peak memory; the least of the mean times of a frame in some sessions, and the nanoseconds for each
+point; the time of a frame that moves all points by this one; the time at the smaller size, and the exponent: 0.0 is flat.
+
     tools/bench.py --runs 5 --only wheel
     tools/bench.py --only "refine depth=3"
     tools/bench.py --quick --program PROGRAM   # small meshes, to try a program that is slow
@@ -28,10 +32,12 @@ from multiprocessing import Pool
 from pathlib import Path
 from typing import Callable, NamedTuple, Optional, Tuple
 
+import bench_frames
 import bench_meshes as meshes
 
 TOP = Path(__file__).resolve().parent.parent
 QUICK = 64
+QUICK_FRAMES = 10
 MILLION = 10**6
 
 
@@ -100,7 +106,12 @@ COMMANDS = [
     ]
     for words in lines
 ]
-CASES = CHECKS + COMMANDS + [Case("one quad", meshes.sheet, "levels depth=10", (1,))]
+MOVES = [Case("cube, by its moves", meshes.moved_cube, "frames depth=1", with_quarter(MILLION))]
+CASES = CHECKS + COMMANDS + MOVES + [Case("one quad", meshes.sheet, "levels depth=10", (1,))]
+SESSIONS = [
+    Case("character", meshes.character, "frames depth=3", with_quarter(20000)),
+    Case("torus", meshes.torus, "frames depth=3", (142**2, 71**2)),
+]
 TEXTURED = meshes.textured_sheet, meshes.textured_character
 
 
@@ -150,7 +161,8 @@ def faces_told(words, path):
     with open(path, "rb") as text:
         if words.startswith("refine"):
             return sum(line.startswith(b"f ") for line in text)
-        return None if words.startswith("stencils") else int(re.findall(rb" faces (\d+)", text.read())[-1])
+        has_none = words.startswith(("stencils", "frames"))
+        return None if has_none else int(re.findall(rb" faces (\d+)", text.read())[-1])
 
 
 def faults_of(case, made, sink, status):
@@ -159,7 +171,7 @@ def faults_of(case, made, sink, status):
         first_line = text.readline(1000).decode("utf-8", "replace").rstrip("\n")
     if status != made.status:
         return [f"status {status}, and not {made.status}: {first_line}"]
-    if case.words.startswith("levels") and first_line != made.first_line:
+    if case.words.startswith(("levels", "frames")) and first_line != made.first_line:
         return [f"first line '{first_line}', and not '{made.first_line}'"]
     faces = faces_told(case.words, sink) if depth_of(case.words) else None
     return [] if faces in (None, made.faces) else [f"{faces} faces, and not {made.faces}"]
@@ -168,7 +180,7 @@ def faults_of(case, made, sink, status):
 def entries_of(program, case, words, path):
     """How many entries the table has by which a run goes; nothing where there is none, or a second one of texture."""
     command = words.split()[0]
-    if command == "levels" or "by=level" in words or case.maker in TEXTURED:
+    if command in ("levels", "frames") or "by=level" in words or case.maker in TEXTURED:
         return None
     asked = words if command == "gen" else f"stencils depth={depth_of(words)}"
     outputs = {"stdout": subprocess.PIPE, "stderr": subprocess.DEVNULL}
@@ -205,12 +217,16 @@ def exponent(large, small):
     """That with which the time grows with the faces between two sizes; nothing where they are the same."""
     if large.faces == small.faces:
         return ""
-    return f"{math.log(large.seconds / small.seconds) / math.log(large.faces / small.faces):.2f}"
+    return f"{round(math.log(large.seconds / small.seconds) / math.log(large.faces / small.faces), 2) + 0:.2f}"
 
 
 def each(seconds, count):
     """The nanoseconds for each of so many; nothing where there are none."""
     return f"{seconds * 1e9 / count:,.0f}" if count else ""
+
+
+def short(value):
+    return f"{value:,.0f}" if value >= 100 else f"{value:.3g}"
 
 
 def row(program, case, options):
@@ -229,6 +245,50 @@ def row(program, case, options):
     return not faults
 
 
+def seen_in_sessions(program, case, size, options):
+    """What was seen at one size of each kind of frames, in the session where it took least; the greatest peak; and what is
+    wrong."""
+    parts = QUICK_FRAMES if options.quick else 1
+    with tempfile.TemporaryDirectory() as folder:
+        made = make(Path(folder), case, size)
+        sessions = [bench_frames.seen_of(program, case.words, made, parts) for _ in range(options.runs)]
+    seen, peaks, faults = zip(*sessions)
+    least = {kind: min((one[kind] for one in seen), key=lambda one: one.seconds) for kind in bench_frames.KINDS}
+    return least, max(peaks), [fault for one in faults for fault in one]
+
+
+def cells_of_sessions(case, large, small, peak):
+    """The cells of the rows of a mesh, one for each kind of frames, from what was seen at two sizes."""
+    for kind in bench_frames.KINDS:
+        one, quarter, is_frame = large[kind], small[kind], kind is not bench_frames.START
+        cells = [case.mesh, f"`{case.words}`", kind.name]
+        cells += [f"{one.points:,.0f}", f"{one.written / 1000:,.1f}"] if is_frame else ["", ""]
+        cells += ["" if is_frame else f"{peak:.0f}", short(one.seconds * 1000), each(one.seconds, one.points)]
+        cells += [short(large[bench_frames.ALL].seconds / one.seconds) if is_frame else ""]
+        yield cells + [short(quarter.seconds * 1000), exponent(one, quarter)]
+
+
+def print_sessions(program, case, options):
+    """Prints the rows of the sessions on a mesh, and tells whether nothing was wrong."""
+    sizes = [size // QUICK for size in case.sizes] if options.quick else case.sizes
+    try:
+        (large, peak, faults), (small, _, others) = (seen_in_sessions(program, case, size, options) for size in sizes)
+    except bench_frames.SessionEnded as ended:
+        print(f"wrong: {case.mesh} `{case.words}`: {ended}")
+        return False
+    for cells in cells_of_sessions(case, large, small, peak):
+        print(f"| {' | '.join(cells)} |", flush=True)
+    for fault in faults + others:
+        print(f"wrong: {fault}")
+    return not faults + others
+
+
+def print_header(*titles):
+    """Prints the head of a table, and before it an empty line, which ends the table before."""
+    print(f"\n| {' | '.join(titles)} |")
+    print("|" + "---|" * len(titles))
+
+
 def main():
     parser = argparse.ArgumentParser(description="Times the commands of the program on large meshes.")
     parser.add_argument("--program", type=Path, default=TOP / "crates/far_cli/out/far_cli", help="the program to run")
@@ -236,10 +296,16 @@ def main():
     parser.add_argument("--only", default="", metavar="TEXT", help="only the rows whose mesh and words have this text")
     parser.add_argument("--quick", action="store_true", help=f"make the meshes {QUICK} times smaller")
     options = parser.parse_args()
-    print("| Mesh | Words | Faces | s | MB | Written, MB | ns a face | ns an entry | ns a byte | Exponent |")
-    print("|" + "---|" * 10)
     program = options.program.resolve()
-    good = [row(program, case, options) for case in CASES if options.only in f"{case.mesh} {case.words}"]
+    cases, sessions = ([case for case in part if options.only in f"{case.mesh} {case.words}"] for part in (CASES, SESSIONS))
+    good = []
+    if cases:
+        print_header("Mesh", "Words", "Faces", "s", "MB", "Written, MB", "ns a face", "ns an entry", "ns a byte", "Exponent")
+        good += [row(program, case, options) for case in cases]
+    if sessions:
+        columns = "Points", "Written, KB", "MB", "ms", "ns a point", "Quotient", "ms at a quarter", "Exponent"
+        print_header("Mesh", "Words", "Moved", *columns)
+        good += [print_sessions(program, case, options) for case in sessions]
     return 0 if good and all(good) else 1
 
 

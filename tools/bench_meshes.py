@@ -8,7 +8,7 @@ from itertools import chain, product
 from typing import Iterable, NamedTuple
 
 from colliding_edges import colliding_pairs
-from make_examples import BLOCKS, surface
+from make_examples import BLOCKS, EXAMPLES, surface
 
 GREATEST_SIZE = 2**16
 GOOD, BAD_MESH, TOO_LARGE = 0, 6, 7
@@ -17,8 +17,8 @@ CHART = 16
 
 
 class Mesh(NamedTuple):
-    """The lines of a text; how many faces it has, or corners where it is one face; how many corners; and how `levels
-    depth=0` ends on it."""
+    """The lines of a text; how many faces it has, or corners where it is one face, or moves; how many corners, or moves;
+    and how `levels depth=0` ends on it, or how `frames depth=1` does."""
 
     lines: Iterable[str]
     faces: int
@@ -206,6 +206,16 @@ def textured_sheet(size):
     side = math.isqrt(size)
     faces = textured_lines(sheet_faces(side), chart_corners(side))
     return taken_sheet(side, chain(point_lines(sheet_points(side)), chart_values(side), faces))
+
+
+# Moves
+
+
+def moved_cube(size):
+    """The cube with so many moves, of each point in turn, and a line `go`."""
+    moves = (f"move {k % 8} {k % 7 - 3} {k % 5 - 2} {k % 3 - 1}" for k in range(size))
+    lines = chain([(EXAMPLES / "cube.obj").read_text() + "frames"], moves, ["go"])
+    return Mesh(lines, size, size, GOOD, "frame 26")
 
 
 # The character: the dog of unit cubes, each cut into as many along each edge, rounded off, and written as exporters do
