@@ -145,7 +145,7 @@ def imported(text, crates):
 def members(text):
     """Each type of a Rust source with what it declares: its calls, fields and variants."""
     for kind, head, body in RT_TYPE.findall(text):
-        head = re.sub(r"<[^<>]*>", "", re.sub(r"<[^<>]*>", "", head))
+        head = re.sub(r"<[^<>]*>", "", re.sub(r"<[^<>]*>", "", head.replace("->", "")))
         names = {name for groups in RT_MEMBER.findall(body) for name in groups if name}
         of = head.split(" for ")[-1].split(":")[0].split()
         for name in of[:1] + (head.split()[:1] if kind == "impl" else []):

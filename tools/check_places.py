@@ -125,7 +125,8 @@ ANSWER_PLACES = [
     Place(STEPS, "an arm of `made_least`", r"^made_least \(?<variant>\b", (MAKE,)),
     Place(STEPS, "an arm of `made_limit`", r"^made_limit \(?<variant>\b", (MAKE,)),
     Place(REPLIES, "the call that finds the reply", FINDS_REPLY, (READ, MAKE)),
-    Place("crates/far_engine/specs/StepCounts.antt", "an arm of `stream_steps`", r"^stream_steps \(?<variant>\b", (STREAM,)),
+    Place("crates/far_engine/specs/StepCounts.antt", "an arm of `stream_least`", r"^stream_least \(?<variant>\b", (STREAM,)),
+    Place("crates/far_engine/specs/StepCounts.antt", "an arm of `stream_limit`", r"^stream_limit \(?<variant>\b", (STREAM,)),
     Place("crates/far_engine/src/command.rt", "an arm of `run_command`", r"\b<Kind>Command::<variant>\b[^=;]*=>"),
     Place(
         "crates/far_engine/proofs/command/run_command/Answers.antt",
@@ -135,8 +136,8 @@ ANSWER_PLACES = [
     Place(
         "crates/far_engine/proofs/ManifoldLemmas.antt",
         "a case of `accepted-manifolds`",
-        r"^accepted-manifolds \(Makes \(?<variant>\b",
-        (MAKE,),
+        r"^accepted-manifolds \(<Kind>s \(?<variant>\b",
+        (MAKE, STREAM),
     ),
     Place("crates/far_engine/src/engine.rt", "what it answers, in the comment of `run`", r"^/// - `<name>` "),
 ]
@@ -155,7 +156,12 @@ REFERENCE_PLACES = [
         r'^TEXTS_OF_OPTIONS = \{\n(?:    .*\n)*?    b"<name>": ',
         (MAKE,),
     ),
-    Place("tools/reference.py", "its text", r'\bb"<name>"', (STREAM,)),
+    Place(
+        "tools/reference.py",
+        "its texts, an entry of `TEXTS_OF_INPUT`",
+        r'^TEXTS_OF_INPUT = \{\n(?:    .*\n)*?    b"<name>": ',
+        (STREAM,),
+    ),
     Place("tools/compare_random.py", "random words of it, in `Words`", r'\breturn \["<name>"[,\]]'),
     Place("tools/test_launcher.py", "a run of it, in `runs`", r'\byield \["<name>"[,\]]'),
     Place("tools/refuse_memory.py", "a run of it, in `runs`", r'\byield "<name>[ "]'),
@@ -165,7 +171,7 @@ DOCUMENT_PLACES = [
     Place("docs/formats.md", "how many commands there are, <commands>", r"(?i:\bhas <commands> commands\b)"),
     Place("docs/formats.md", "an example of its words", r"^far <name>\b"),
     Place("docs/formats.md", "a part that says what it writes", r"^## Output of `<name>`$"),
-    Place("docs/help.txt", "how many of its kind there are, <of_kind>", r"(?i:^<of_kind> commands? <kind>s?\b)", (READ, MAKE)),
+    Place("docs/help.txt", "how many of its kind there are, <of_kind>", r"(?i:^<of_kind> commands? <kind>s?\b)"),
     Place("docs/help.txt", "its options and an example", r"^  \./far <name>\b"),
     Place("docs/rules/answers.md", "a row of the table of options", r"^\|[^|\n]*`<name>`[^|\n]*\|"),
     Place("docs/rules/answers.md", "its name, beside its kind", r"^- `<Kind>Command` .*`<name>`"),

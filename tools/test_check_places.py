@@ -127,6 +127,12 @@ PLANTS = [
         "command gen: missing in tools/reference.py: its text, an entry of `TEXTS_OF_OPTIONS`",
     ),
     Plant(
+        "tools/reference.py",
+        'b"frames": ',
+        'b"other": ',
+        "command frames: missing in tools/reference.py: its texts, an entry of `TEXTS_OF_INPUT`",
+    ),
+    Plant(
         "tools/compare_random.py",
         'return ["stencils", ',
         'return ["other", ',
@@ -134,9 +140,9 @@ PLANTS = [
     ),
     Plant(
         "docs/formats.md",
+        "has five commands",
         "has four commands",
-        "has three commands",
-        "command gen: missing in docs/formats.md: how many commands there are, four",
+        "command gen: missing in docs/formats.md: how many commands there are, five",
         ("--command", "gen"),
     ),
     Plant(
