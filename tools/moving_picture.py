@@ -20,7 +20,7 @@ from fractions import Fraction
 from math import ceil, sqrt
 from typing import NamedTuple
 
-from picture import CAGE, EDGE, LETTERS, TEXT, colour_of, frame_of, length_of, read_text, shown_sides
+from picture import CAGE, EDGE, LETTERS, TEXT, colour_of, frame_of, length_of, read_text, shown_sides, write_lines
 from picture_mesh import Mesh, edge_of, read_mesh, sides
 
 CHANGED = ((178, 92, 38), (255, 200, 140), (255, 234, 208))  # in the shade, in the light, and turned straight to it
@@ -266,13 +266,7 @@ def main():
     moves, answers = read_moves(read_text(options.moves)), read_answers(read_text(options.frames))
     if not answers or len(moves) != len(answers):
         sys.exit(f"there are {len(moves)} lines `go` and {len(answers)} answers, and not as many of both, or none")
-    lines = picture(list(poses(cage, moves)), list(poses(level, answers)), options)
-    text = "".join(line + "\n" for line in lines)
-    if options.output:
-        with open(options.output, "w", encoding="utf-8") as file:
-            file.write(text)
-    else:
-        sys.stdout.write(text)
+    write_lines(picture(list(poses(cage, moves)), list(poses(level, answers)), options), options.output)
 
 
 if __name__ == "__main__":

@@ -294,6 +294,16 @@ def read_text(name):
         return file.read()
 
 
+def write_lines(lines, name):
+    """Writes the lines to the file of this name, and to standard output where there is no name."""
+    text = "".join(line + "\n" for line in lines)
+    if name:
+        with open(name, "w", encoding="utf-8") as file:
+            file.write(text)
+    else:
+        sys.stdout.write(text)
+
+
 def main():
     options = arguments()
     meshes = [read_mesh(read_text(name)) for name in options.meshes]
@@ -303,12 +313,7 @@ def main():
     captions = [f"{len(mesh.points)} {word}, {len(mesh.faces)} faces" for mesh in meshes]
     for number, caption in enumerate((options.caption or [])[: len(meshes)]):
         captions[number] = caption
-    text = "".join(line + "\n" for line in picture(meshes, captions, options))
-    if options.output:
-        with open(options.output, "w", encoding="utf-8") as file:
-            file.write(text)
-    else:
-        sys.stdout.write(text)
+    write_lines(picture(meshes, captions, options), options.output)
 
 
 if __name__ == "__main__":
