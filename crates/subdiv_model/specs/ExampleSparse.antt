@@ -1,19 +1,18 @@
 -- Sparse levels of small meshes, for the examples.
-use Rattle.std.specs.Prelude.{ℕ, List, [], ◌∷◌, length, map}
-use Rattle.std.specs.List.{range_with_len}
+use Rattle.std.specs.Prelude.{ℕ, ℤ, pos, List, [], ◌∷◌, length}
 use Rattle.subdiv_model.specs.Polygons.{Polygon}
 use Rattle.subdiv_model.specs.Sharpness.{Infinite}
 use Rattle.subdiv_model.specs.Level.{Level}
 use Rattle.subdiv_model.specs.Examples.{tagged_level}
 use Rattle.subdiv_model.specs.Feature.{is_feature, is_selectable}
-use Rattle.subdiv_model.specs.Sparse.{Meeting, meeting_of, present, present_points}
+use Rattle.subdiv_model.specs.Sparse.{Meeting, meeting_to, present, present_points}
 
 -- the features of a level to a depth, and all faces
 abbrev pub features : Level → ℕ → Meeting
-features base depth = map (meeting_of is_feature base) (range_with_len 0 depth)
+features base depth = meeting_to is_feature base depth
 
 abbrev pub all_faces : Level → ℕ → Meeting
-all_faces base depth = map (meeting_of is_selectable base) (range_with_len 0 depth)
+all_faces base depth = meeting_to is_selectable base depth
 
 -- how many points and faces are present at a depth, where features are selected
 abbrev pub counts_at : Level → ℕ → ℕ × ℕ
@@ -28,3 +27,10 @@ strip = tagged_level 8 quads [] []
 
 abbrev pub cornered_strip : Level
 cornered_strip = tagged_level 8 quads [] ((0, Infinite) ∷ (3, Infinite) ∷ (4, Infinite) ∷ (7, Infinite) ∷ [])
+
+-- a square whose corners are sharp, and its points
+abbrev pub sharp_square : Level
+sharp_square = tagged_level 4 ((0 ∷ 1 ∷ 2 ∷ 3 ∷ []) ∷ []) [] ((0, Infinite) ∷ (1, Infinite) ∷ (2, Infinite) ∷ (3, Infinite) ∷ [])
+
+abbrev pub square_controls : List (ℤ × ℤ × ℤ)
+square_controls = (pos 0, pos 0, pos 0) ∷ (pos 4, pos 0, pos 0) ∷ (pos 4, pos 4, pos 0) ∷ (pos 0, pos 4, pos 0) ∷ []

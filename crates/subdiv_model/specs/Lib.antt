@@ -39,4 +39,6 @@ pub mod ExampleControls
 pub mod Short
 pub mod Feature
 pub mod Sparse
+pub mod SparseFaults
+pub mod SparseText
 pub mod ExampleSparse

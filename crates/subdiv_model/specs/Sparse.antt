@@ -70,3 +70,7 @@ is_whole base meeting depth v = list_all (is_among (present base meeting depth))
 abbrev pub meeting_of : (FaceFacts → Bool) → Level → ℕ → List ℕ
 meeting_of test base depth =
     let level = refined_level base depth in filter (λ face. test (facts_of level depth face)) (range_with_len 0 (length level.polygons))
+
+-- the predicate of a test for so many levels
+abbrev pub meeting_to : (FaceFacts → Bool) → Level → ℕ → Meeting
+meeting_to test base depth = map (meeting_of test base) (range_with_len 0 depth)

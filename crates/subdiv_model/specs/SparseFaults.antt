@@ -1,0 +1,48 @@
+-- Where the numbers of sparse levels pass their bounds, and which sparse levels have too many faces.
+-- Source: this profile.
+use Rattle.std.specs.Prelude.{ℕ, suc, nat_lt, List, ◌++◌, length, map, max, get_or, []}
+use Rattle.std.specs.List.{filter, flat_map, sum_by, range_with_len}
+use Rattle.subdiv_model.specs.Polygons.{is_among}
+use Rattle.subdiv_model.specs.Level.{Level}
+use Rattle.subdiv_model.specs.Support.{refined_supports}
+use Rattle.subdiv_model.specs.Channel.{Channel, TrackLevels, Asked, channel_level, denominators_after, fault_where, level_faults}
+use Rattle.subdiv_model.specs.Limits.{face_limit}
+use Rattle.subdiv_model.specs.Fault.{Fault, Track, TooLarge, LevelFaces}
+use Rattle.subdiv_model.specs.Sparse.{Meeting, present, present_points}
+
+-- the points of a level that have a point in the next one
+abbrev pub points_with_child : Level → Meeting → ℕ → ℕ → List ℕ
+points_with_child base meeting count k = filter (is_among (present_points base meeting (suc k))) (range_with_len 0 count)
+
+-- the common denominators of the present points, and the entries of their table
+abbrev pub present_denominators : Channel → Meeting → ℕ → List ℕ
+present_denominators channel meeting k = map (λ p. get_or (denominators_after channel k) p 1) (present_points channel.base meeting k)
+
+abbrev pub present_entries : Channel → Meeting → ℕ → ℕ
+present_entries channel meeting k =
+    sum_by (λ p. length (get_or (refined_supports channel.base channel.scheme k) p [])) (present_points channel.base meeting k)
+
+-- the sparse levels of a channel: of each level the present points
+abbrev pub sparse_levels : Channel → Meeting → TrackLevels
+sparse_levels channel meeting = record {
+  scheme = channel.scheme;
+  most = max channel.greatest channel.common;
+  level = channel_level channel;
+  asked = λ k. points_with_child channel.base meeting (channel_level channel k).point_count k;
+  denominators = present_denominators channel meeting;
+  entries = present_entries channel meeting;
+}
+
+-- how many faces of a level are present
+abbrev pub present_faces : Level → Meeting → ℕ → ℕ
+present_faces base meeting k = length (present base meeting k)
+
+-- the faults of the level after k + 1 steps: too many faces are present, or numbers pass their bounds
+abbrev pub sparse_level_faults : Asked → Channel → Meeting → Track → ℕ → List Fault
+sparse_level_faults asked channel meeting track k =
+    fault_where (nat_lt face_limit (present_faces channel.base meeting (suc k))) (TooLarge (LevelFaces (suc k) (present_faces channel.base meeting (suc k))))
+    ++ level_faults asked (sparse_levels channel meeting) track k
+
+-- the faults of so many sparse levels, level by level
+abbrev pub sparse_faults : Asked → Channel → Meeting → Track → ℕ → List Fault
+sparse_faults asked channel meeting track depth = flat_map (sparse_level_faults asked channel meeting track) (range_with_len 0 depth)

@@ -1,0 +1,95 @@
+-- Texts of sparse levels: of each level a line with its counts, its points, and a line for each present face.
+-- Source: this profile.
+use Rattle.std.specs.Prelude.{ℕ, ◌+◌, pos, not, nat_eq, List, [], ◌∷◌, ◌++◌, length, map, get_or, Option, codes, if◌then◌else◌}
+use Rattle.std.specs.List.{flat_map, position_or_len, range_with_len}
+use Rattle.subdiv_model.specs.Lists.{each_once_by}
+use Rattle.subdiv_model.specs.Polygons.{Polygon, polygon_at, is_among}
+use Rattle.subdiv_model.specs.Level.{Level, is_hole}
+use Rattle.subdiv_model.specs.Child.{refined_level}
+use Rattle.subdiv_model.specs.Sparse.{Meeting, corners_of, inner, present, present_polygons, selected}
+use Rattle.subdiv_model.specs.NumberText.{number_text}
+use Rattle.subdiv_model.specs.Value.{whole_value}
+use Rattle.subdiv_model.specs.Refined.{Point}
+use Rattle.subdiv_model.specs.Text.{line_text, point_line}
+
+-- what a present face is
+pub data FaceKind : Type 0 where
+  -- a hole
+  HoleFace : FaceKind
+  -- its parent is not selected
+  OuterFace : FaceKind
+  -- it is selected
+  SelectedFace : FaceKind
+  -- it is refined no further
+  LeafFace : FaceKind
+
+-- the first kind that a face of a level is of; no predicate has faces of the last level
+abbrev pub kind_of_face : Level → Meeting → ℕ → ℕ → FaceKind
+kind_of_face base meeting depth face =
+    if is_hole (refined_level base depth) face then HoleFace
+    else if not (is_among (inner base meeting depth) face) then OuterFace
+    else if is_among (selected base meeting depth) face then SelectedFace
+    else LeafFace
+
+-- a present face as it is written: its kind, its number in the uniform level, and its corners among the points that are written,
+-- counted from 0
+pub record WrittenFace : Type 0 where
+  pub kind : FaceKind
+  pub number : ℕ
+  pub corners : Polygon
+
+-- how many points a sparse level has, and its faces
+pub record WrittenLevel : Type 0 where
+  pub point_count : ℕ
+  pub faces : List WrittenFace
+
+-- the points that are written of a level: the corners of its present faces, by first appearance
+abbrev pub written_points : Level → Meeting → ℕ → List ℕ
+written_points base meeting depth = each_once_by nat_eq (corners_of (present_polygons base meeting depth))
+
+abbrev pub written_face : Level → Meeting → ℕ → ℕ → WrittenFace
+written_face base meeting depth face = record {
+  kind = kind_of_face base meeting depth face;
+  number = face;
+  corners = map (λ v. position_or_len (nat_eq v) (written_points base meeting depth)) (polygon_at (refined_level base depth).polygons face);
+}
+
+abbrev pub written_level : Level → Meeting → ℕ → WrittenLevel
+written_level base meeting depth = record {
+  point_count = length (written_points base meeting depth);
+  faces = map (written_face base meeting depth) (present base meeting depth);
+}
+
+abbrev pub kind_text : FaceKind → List ℕ
+kind_text HoleFace = codes "h"
+kind_text OuterFace = codes "r"
+kind_text SelectedFace = codes "s"
+kind_text LeafFace = codes "l"
+
+-- corners are written from 1
+abbrev pub sparse_face_line : WrittenFace → List ℕ
+sparse_face_line face =
+    line_text (codes "f") (kind_text face.kind ∷ number_text face.number ∷ map (λ corner. number_text (corner + 1)) face.corners)
+
+abbrev pub sparse_level_line : ℕ → WrittenLevel → List ℕ
+sparse_level_line depth level =
+    line_text (codes "level")
+    (number_text depth
+    ∷ codes "points" ∷ number_text level.point_count
+    ∷ codes "faces" ∷ number_text (length level.faces)
+    ∷ [])
+
+-- the points of a level with these numbers
+abbrev pub points_with : List Point → List ℕ → List Point
+points_with points numbers = map (λ v. get_or points v (whole_value (pos 0), whole_value (pos 0), whole_value (pos 0))) numbers
+
+-- the counts of a level, its points, in lowest terms or rounded to the decimals that are given, and its faces
+abbrev pub sparse_level_text : Option ℕ → ℕ → WrittenLevel → List Point → List ℕ
+sparse_level_text decimals depth level points =
+    sparse_level_line depth level ++ (flat_map (point_line decimals) points ++ flat_map sparse_face_line level.faces)
+
+-- the levels from 0 to the depth, with the points of each uniform level
+abbrev pub sparse_text : Option ℕ → (ℕ → List Point) → Level → Meeting → ℕ → List ℕ
+sparse_text decimals points base meeting depth =
+    flat_map (λ j. sparse_level_text decimals j (written_level base meeting j) (points_with (points j) (written_points base meeting j)))
+    (range_with_len 0 (depth + 1))
