@@ -135,4 +135,12 @@ impl SlotEdges {
     {
         self.faces[e as usize]
     }
+
+    /// The ends and the faces of all edges, in the order of their numbers. An edge of one face has that face's number twice.
+    pub fn into_parts(self) -> (Vec<(u32, u32)>, Vec<(u32, u32)>)
+        ensures ends { result.0.items ≡ self.ends }
+        ensures faces { result.1.items ≡ self.faces }
+    {
+        (self.ends, self.faces)
+    }
 }

@@ -198,7 +198,7 @@ module _ (points : ℕ) (polygons : List Polygon) (simple : list_all is_simple p
       at k place h (inr s) = inr (at-face g k b a place (owner g k b a back s) (swap _ _ h))
 
   -- the point of an edge has one fan
-  edge-fan : (f a b : ℕ) → has_side (a, b) (polygon_at polygons f) ≡ true → HasOneFan (child_polygons points polygons) (edge_point points polygons (a, b))
+  pub edge-fan : (f a b : ℕ) → has_side (a, b) (polygon_at polygons f) ≡ true → HasOneFan (child_polygons points polygons) (edge_point points polygons (a, b))
   edge-fan f a b side = go (list_any (same_side (b, a)) (all_sides polygons)) refl
     where
       go : (p : Bool) → list_any (same_side (b, a)) (all_sides polygons) ≡ p → HasOneFan (child_polygons points polygons) (edge_point points polygons (a, b))
