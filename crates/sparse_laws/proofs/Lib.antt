@@ -1,0 +1,15 @@
+pub mod NameLemmas
+pub mod OnceLemmas
+pub mod FactLemmas
+pub mod InnerLemmas
+pub mod SelectedLemmas
+pub mod BaseLemmas
+pub mod BoundaryLemmas
+pub mod WrittenLemmas
+pub mod NumberLemmas
+pub mod CornerLemmas
+pub mod PresentLemmas
+pub mod CompleteLemmas
+pub mod NextPartLemmas
+pub mod NextSparseLemmas
+pub mod OverflowLemmas

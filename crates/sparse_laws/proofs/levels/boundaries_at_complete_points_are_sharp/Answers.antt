@@ -1,0 +1,5 @@
+use Rattle.sparse_laws.proofs.BoundaryLemmas.{sharp-at-complete}
+use Rattle.sparse_laws.proofs.levels.boundaries_at_complete_points_are_sharp.Goals as goal
+
+pub returns : goal.returns
+returns c = sharp-at-complete

@@ -1,0 +1,5 @@
+pub mod SparseLevels
+pub mod NextSparse
+pub mod Selected
+pub mod Written
+pub mod Laws

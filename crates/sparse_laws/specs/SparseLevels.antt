@@ -1,0 +1,50 @@
+-- A sparse level as it is kept, and when it is that of the definitions.
+-- Source: this profile.
+use Rattle.std.specs.Prelude.{ℕ, ◌≡◌, Bool, true, false, List, length, map, get_or, replicate, IsTrue}
+use Rattle.std.specs.List.{range_with_len}
+use Rattle.subdiv_model.specs.Polygons.{is_among, is_over, polygon_at, has_corner}
+use Rattle.subdiv_model.specs.Level.{Level}
+use Rattle.subdiv_model.specs.Child.{refined_level}
+use Rattle.subdiv_model.specs.Sparse.{Meeting, inner, present, present_points, is_whole}
+use Rattle.part_laws.specs.LevelParts.{IsLevelPart}
+
+-- some faces of a level, and which faces of the uniform level they are
+pub record SparseLevel : Type 0 where
+  pub level : Level
+  -- a mark for each point, where all its faces are here
+  pub complete : List Bool
+  -- for each face its number in the uniform level
+  pub numbers : List ℕ
+  -- for each face whether its parent is selected
+  pub inner : List Bool
+  -- after how many steps
+  pub depth : ℕ
+
+-- the number in the uniform level of a point, by a list of these numbers
+abbrev pub name_in : List ℕ → ℕ → ℕ
+name_in points p = get_or points p 0
+
+-- each corner of an inner face is complete
+abbrev pub AreInnerComplete : SparseLevel → Type 0
+AreInnerComplete s = (f p : ℕ) → get_or s.inner f false ≡ true → IsTrue (has_corner p (polygon_at s.level.polygons f)) → get_or s.complete p false ≡ true
+
+-- The faces are the present ones, and the points the present points. Polygons, holes and sharpness are those of the uniform level.
+-- Faces are inner, and points complete, as the definitions have it. Each corner is one of the points.
+pub record IsSparse (base : Level) (meeting : Meeting) (s : SparseLevel) : Type 0 where
+  pub numbers : s.numbers ≡ present base meeting s.depth
+  pub points : s.level.point_count ≡ length (present_points base meeting s.depth)
+  pub part : IsLevelPart (name_in (present_points base meeting s.depth)) s.numbers s.level (refined_level base s.depth)
+  pub inner : s.inner ≡ map (is_among (inner base meeting s.depth)) s.numbers
+  pub complete : s.complete ≡ map (is_whole base meeting s.depth) (present_points base meeting s.depth)
+  pub inside : AreInnerComplete s
+  pub over : IsTrue (is_over s.level.point_count s.level.polygons)
+
+-- level 0, whole
+abbrev pub whole_base : Level → SparseLevel
+whole_base base = record {
+  level = base;
+  complete = replicate base.point_count true;
+  numbers = range_with_len 0 (length base.polygons);
+  inner = replicate (length base.polygons) true;
+  depth = 0;
+}
