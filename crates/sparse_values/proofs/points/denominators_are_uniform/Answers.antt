@@ -1,0 +1,5 @@
+use Rattle.sparse_values.proofs.UniformLemmas.{same-denominators}
+use Rattle.sparse_values.proofs.points.denominators_are_uniform.Goals as goal
+
+pub returns : goal.returns
+returns c = same-denominators

@@ -1,0 +1,5 @@
+use Rattle.sparse_values.proofs.UniformLemmas.{same-masks}
+use Rattle.sparse_values.proofs.points.masks_are_uniform.Goals as goal
+
+pub returns : goal.returns
+returns c = same-masks

@@ -1,0 +1,5 @@
+use Rattle.sparse_values.proofs.UniformLemmas.{same-supports}
+use Rattle.sparse_values.proofs.points.supports_are_uniform.Goals as goal
+
+pub returns : goal.returns
+returns c = same-supports

@@ -1,0 +1,8 @@
+use Rattle.sparse_values.proofs.UniformLemmas.{weighs-here, weighs-there}
+use Rattle.sparse_values.proofs.points.transitions_are_uniform.Goals as goal
+
+pub returns-clause-here : goal.returns-clause-here
+returns-clause-here c = weighs-here
+
+pub returns-clause-there : goal.returns-clause-there
+returns-clause-there c = weighs-there
