@@ -10,7 +10,8 @@ use Rattle.subdiv_model.specs.Polygons.{Polygon, polygon_at}
 use Rattle.subdiv_model.specs.Manifold.{is_simple}
 use Rattle.subdiv_model.specs.Sharpness.{Method}
 use Rattle.mesh_laws.proofs.ClosedLemmas.{all-at}
-use Rattle.level_builder.specs.Builder.{Built, has_new_sides, with_polygon}
+use Rattle.point_fans.specs.Built.{Built}
+use Rattle.level_builder.specs.Builder.{has_new_sides, with_polygon}
 use Rattle.mesh_check.specs.Base.{smooth_built}
 use Rattle.mesh_check.proofs.BaseFaceLemmas.{sides-new, faces-more, faces-all}
 use Rattle.face_varying.specs.Built.{AreFit, cut_face, cut_by}

@@ -15,7 +15,7 @@ use Rattle.mesh_laws.proofs.ClosedLemmas.{all-at}
 use Rattle.mesh_laws.proofs.EdgeLemmas.{all-named}
 use Rattle.level_topology.specs.Packed.{gaps, Ascend}
 use Rattle.level_topology.specs.Topology.{face_edges_of, side_at}
-use Rattle.level_builder.specs.Builder.{Built}
+use Rattle.point_fans.specs.Built.{Built}
 use Rattle.level_topology.proofs.LawLemmas.{edge-exists, edges-as-many}
 use Rattle.level_topology.proofs.PlaceLemmas.{side-there}
 use Rattle.face_varying.specs.Built.{cut_face, cut_by, side_sharpness, first_sides, face_sides, sides_at, sides_before, with_side, with_sides}

@@ -14,7 +14,8 @@ use Rattle.subdiv_model.specs.Cut.{SeamMode, channel_points, channel_vertex, sta
 use Rattle.mesh_laws.proofs.Laws.{all-simple}
 use Rattle.raw_mesh.specs.Laws.{IsWithin}
 use Rattle.level_topology.specs.Topology.{Topology, IsTopology, IsSmallEnough}
-use Rattle.level_builder.specs.Builder.{Built, AreFans, built_of, only_points}
+use Rattle.point_fans.specs.Built.{Built, AreFans, built_of}
+use Rattle.level_builder.specs.Builder.{only_points}
 use Rattle.mesh_check.specs.Base.{smooth_built}
 use Rattle.texture_laws.specs.CutMesh.{cut_faces, cut_point_count}
 use Rattle.face_varying.specs.Corners.{apart_marks, corner_numbers}

@@ -22,7 +22,7 @@ use Rattle.mesh_laws.proofs.Laws.{all-simple}
 use Rattle.mesh_laws.proofs.WalkLemmas.{manifold-decides, one_fan-test}
 use Rattle.raw_mesh.specs.Laws.{IsWithin}
 use Rattle.level_topology.specs.Topology.{IsSmallEnough}
-use Rattle.level_builder.specs.Builder.{Built, AreFans}
+use Rattle.point_fans.specs.Built.{Built, AreFans}
 use Rattle.texture_laws.specs.CutMesh.{cut_faces, cut_point_count, point_of, vertex_of}
 use Rattle.texture_laws.proofs.ChannelLemmas.{cut-at, cut-count, cut-corners, cut-over, cut-whole, channel-used, channel-vertex}
 use Rattle.texture_laws.proofs.CutFanLemmas.{cut-manifold}

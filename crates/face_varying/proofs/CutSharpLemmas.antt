@@ -16,7 +16,7 @@ use Rattle.subdiv_model.specs.Cut.{channel_points, cut_edge_sharpness}
 use Rattle.mesh_laws.proofs.SideLemmas.{same_edge-refl, same_edge-sym}
 use Rattle.mesh_laws.proofs.EdgeLemmas.{any-first_named, all-named, position-within, position-alike}
 use Rattle.level_topology.specs.Topology.{edge_at, face_edges_of, side_at}
-use Rattle.level_builder.specs.Builder.{Built, built_of}
+use Rattle.point_fans.specs.Built.{Built, built_of}
 use Rattle.level_topology.proofs.NumberingLemmas.{faces-alike}
 use Rattle.level_topology.proofs.LawLemmas.{edge-exists, edge-joins, either-number}
 use Rattle.texture_laws.specs.CutMesh.{cut_faces, vertex_of, vertices_of}

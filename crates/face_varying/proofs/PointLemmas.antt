@@ -4,7 +4,8 @@ use Rattle.std.specs.List.{range_with_len}
 use Rattle.std.proofs.lemmas.List.{drop_more, length-replicate, set-append_right}
 use Rattle.std.proofs.lemmas.List.FromFn.{map-range_with_len_more, length-map-range_with_len}
 use Rattle.subdiv_model.specs.Sharpness.{Sharpness}
-use Rattle.level_builder.specs.Builder.{Built, with_sharp_vertex, with_complete, built_of}
+use Rattle.point_fans.specs.Built.{Built, built_of}
+use Rattle.level_builder.specs.Builder.{with_sharp_vertex, with_complete}
 use Rattle.level_topology.proofs.ListPlaceLemmas.{replicate-push}
 use Rattle.face_varying.specs.Built.{with_points}
 

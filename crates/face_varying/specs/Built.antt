@@ -7,7 +7,8 @@ use Rattle.subdiv_model.specs.Manifold.{is_simple}
 use Rattle.subdiv_model.specs.Sharpness.{Sharpness, Smooth, Infinite, is_sharp}
 use Rattle.subdiv_model.specs.Level.{Level}
 use Rattle.level_topology.specs.Topology.{face_edges_of, side_at}
-use Rattle.level_builder.specs.Builder.{Built, with_sharp_edge}
+use Rattle.point_fans.specs.Built.{Built}
+use Rattle.level_builder.specs.Builder.{with_sharp_edge}
 use Rattle.face_varying.specs.CornerPlaces.{start_of}
 
 -- the numbers at the corners of a face, among those at all corners

@@ -5,7 +5,7 @@ use Rattle.std.proofs.lemmas.Bool.Decides.{nat_tests}
 use Rattle.std.proofs.lemmas.Bool.{and_parts, and_from, not-true}
 use Rattle.std.proofs.lemmas.List.{map-append, length-replicate, length-set}
 use Rattle.std.proofs.lemmas.List.Elements.{All-append}
-use Rattle.std.proofs.lemmas.List.Sums.{sum_by-append, sum_by-cons, list_all-from_AllPass}
+use Rattle.std.proofs.lemmas.List.Sums.{sum_by-append, list_all-from_AllPass}
 use Rattle.std.proofs.lemmas.List.Folds.{list_all-append}
 use Rattle.std.proofs.lemmas.Grind.{flat_map-append}
 use Rattle.subdiv_model.specs.Polygons.{Polygon, same_side, same_edge, sides_of, has_distinct_sides}
@@ -15,7 +15,6 @@ use Rattle.subdiv_model.specs.Sharpness.{Sharpness, Smooth, Method, is_proper_sh
 use Rattle.sharpness_rules.specs.View.{sharpness_of}
 use Rattle.sharpness_rules.specs.declared.sharpness.Sharpness.TheVariants as declared
 use Rattle.number_laws.proofs.CountLemmas.{count-append, count-none}
-use Rattle.level_laws.proofs.FaceLemmas.{sides_of-length}
 use Rattle.mesh_laws.proofs.SideLemmas.{distinct-count, distinct-from_count, polygon-side-count, polygon-edge-count}
 use Rattle.mesh_laws.proofs.EdgeLemmas.{all-named}
 use Rattle.mesh_laws.proofs.ClosedLemmas.{any-all}
@@ -23,8 +22,9 @@ use Rattle.mesh_laws.proofs.ChildClosedLemmas.{same-pair}
 use Rattle.level_topology.specs.Topology.{face_edges_of}
 use Rattle.level_topology.specs.Numbering.{Numbered, numbered, IsNumbering, number_in, named_with, with_side, with_sides}
 use Rattle.level_builder.specs.NumberedEdges.{numbers_in, named_with_all}
-use Rattle.level_builder.specs.Builder.{Built, IsBuilt, built_of, only_points, with_polygon, with_sharp_vertex, has_new_sides}
-use Rattle.level_builder.proofs.EdgeNumberLemmas.{first_named-all, named-length, numbers-final, face-numbers-stay}
+use Rattle.point_fans.specs.Built.{Built, IsBuilt, built_of}
+use Rattle.level_builder.specs.Builder.{only_points, with_polygon, with_sharp_vertex, has_new_sides}
+use Rattle.level_builder.proofs.EdgeNumberLemmas.{first_named-all, numbers-final, face-numbers-stay}
 use Rattle.level_topology.proofs.NumberingLemmas.{numbering-sides, numbering-face}
 use Rattle.level_builder.proofs.NumberedSideLemmas.{sides-ends}
 
@@ -135,14 +135,6 @@ module _ (b : Built) (n m : Numbered) (numbers : List (List ℕ)) (corners : Pol
       one : length corners ≤ 2 ^ 16 → All (λ polygon. length polygon ≤ 2 ^ 16) (corners ∷ [])
       one h zero d k = h
       one h (suc i) d k = absurd (omega arith)
-
--- there are no more edges than corners
-pub edges-few : (polygons : List Polygon) (n : Numbered) → IsNumbering polygons [] n → length n.ends ≤ sum_by length polygons
-edges-few polygons n is = omega (arith, ap length is.ends, ap length (ap first_named (append-nil (all_sides polygons))), ap length (first_named-all [] (all_sides polygons)), named-length [] (all_sides polygons), sides-count polygons)
-  where
-    sides-count : (some : List Polygon) → length (all_sides some) ≡ sum_by length some
-    sides-count [] = refl
-    sides-count (polygon ∷ some) = omega (arith, sides-count some, length-append (sides_of polygon) (all_sides some), sides_of-length polygon, sum_by-cons length polygon some)
 
 pub numbers-length : (edges sides : List (ℕ × ℕ)) → length (numbers_in edges sides) ≡ length sides
 numbers-length edges [] = refl
@@ -257,4 +249,23 @@ built-none points limit method few = record {
   };
   sharpness = refl;
   face_edges = refl;
+}
+
+-- the same edges in tables of their own
+pub built-apart : (points : ℕ) (some : List Polygon) (holes : List Bool) (n : Numbered) (vertices : List Sharpness) (method : Method) (complete : List Bool) (numbers : List (List ℕ)) → IsBuilt (built_of points some holes n.sharpness vertices method complete) n numbers
+    → (ends faces : List (ℕ × ℕ)) (sharpness : List Sharpness) (limit : ℕ) → ends ≡ n.ends → faces ≡ n.faces → sharpness ≡ n.sharpness
+    → IsBuilt (built_of points some holes sharpness vertices method complete) (numbered ends faces sharpness limit) numbers
+built-apart points some holes n vertices method complete numbers is ends faces sharpness limit e f s = record {
+  over = is.over;
+  holes = is.holes;
+  vertices = is.vertices;
+  marks = is.marks;
+  edge_proper = subst (λ xs. list_all is_proper_sharpness xs ≡ true) (sym s) is.edge_proper;
+  vertex_proper = is.vertex_proper;
+  simple = is.simple;
+  sides_once = is.sides_once;
+  small = record { points = is.small.points; faces = is.small.faces; corners = is.small.corners; sizes = is.small.sizes };
+  numbering = numbering-alike some n (numbered ends faces sharpness limit) e f s is.numbering;
+  sharpness = refl;
+  face_edges = is.face_edges;
 }

@@ -1,8 +1,3 @@
 pub mod EdgeNumberLemmas
 pub mod NumberedSideLemmas
 pub mod BuilderLemmas
-pub mod ChainLemmas
-pub mod AcrossLemmas
-pub mod TurnLemmas
-pub mod PointPlaceLemmas
-pub mod FinishLemmas

@@ -1,4 +1,2 @@
 pub mod NumberedEdges
 pub mod Builder
-pub mod Chains
-pub mod PointPlaces

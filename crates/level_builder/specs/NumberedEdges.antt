@@ -1,5 +1,5 @@
 -- The edges that a builder has so far: the keys that tell them, their numbers and their faces.
-use Rattle.std.specs.Prelude.{ℕ, ◌≡◌, ◌+◌, ◌^◌, ◌<◌, ◌≤◌, nat_eq, nat_le, List, [], ◌∷◌, length, map, if◌then◌else◌}
+use Rattle.std.specs.Prelude.{ℕ, ◌≡◌, ◌+◌, ◌^◌, ◌<◌, ◌≤◌, nat_le, List, [], ◌∷◌, length, map, if◌then◌else◌}
 use Rattle.level_topology.specs.Numbering.{number_in, named_with}
 
 -- the same two ends, the lower first
@@ -15,10 +15,6 @@ named_with_all edges (s ∷ sides) = named_with_all (named_with edges s) sides
 abbrev pub numbers_in : List (ℕ × ℕ) → List (ℕ × ℕ) → List ℕ
 numbers_in edges [] = []
 numbers_in edges (s ∷ sides) = number_in edges s ∷ numbers_in (named_with edges s) sides
-
--- of two faces the one that is not this one
-abbrev pub other_of : ℕ × ℕ → ℕ → ℕ
-other_of pair f = if nat_eq pair.0 f then pair.1 else pair.0
 
 -- what the tables of edges owe each other: the keys are the edges with the lower end first, and there is room for all
 -- that may come

@@ -9,11 +9,13 @@ ghost use Rattle.subdiv_model.specs.Manifold.{is_simple};
 ghost use Rattle.subdiv_model.specs.Sharpness.{Smooth};
 ghost use Rattle.sharpness_rules.specs.View.{sharpness_of, method_of};
 ghost use Rattle.level_topology.specs.Packed.{paired};
+ghost use Rattle.point_fans.specs.Parts.{AreLevelParts, built_in};
+ghost use Rattle.point_fans.specs.Built.{AreFans};
 ghost use Rattle.level_builder.specs.Builder.{only_points, with_polygon, with_sharp_edge, with_sharp_vertex, with_complete, has_new_sides};
 
 use crate::edges::NumberedEdges;
-use crate::places::filled;
-use level_topology::PackedLists;
+use level_topology::{Level, PackedLists};
+use point_fans::{FaceParts, NumberedFaces};
 use ratio128::{Memory, Steps};
 use sharpness_rules::{Method, Sharpness};
 use std::alloc::Global;
@@ -24,21 +26,21 @@ use std::sync::ledger::Ledger;
 /// call that fails for want of memory it is as it was before.
 #[derive(Drop)]
 pub struct LevelBuilder {
-    pub(crate) alloc: Global,
-    pub(crate) faces: PackedLists<u32>,
-    pub(crate) holes: Vec<bool>,
-    pub(crate) edges: NumberedEdges,
+    alloc: Global,
+    faces: PackedLists<u32>,
+    holes: Vec<bool>,
+    edges: NumberedEdges,
     // The numbers of the edges of the face that comes.
     numbers: Vec<u32>,
-    pub(crate) vertex_sharpness: Vec<Sharpness>,
-    pub(crate) complete: Vec<bool>,
-    pub(crate) method: Method,
+    vertex_sharpness: Vec<Sharpness>,
+    complete: Vec<bool>,
+    method: Method,
 }
 
 impl Model for LevelBuilder {
     ghost use Rattle.std.specs.Prelude.{length, map};
     ghost use Rattle.sharpness_rules.specs.View.{sharpness_of, method_of};
-    ghost use Rattle.level_builder.specs.Builder.{Built, IsBuilt, built_of};
+    ghost use Rattle.point_fans.specs.Built.{Built, IsBuilt, built_of};
 
     ghost Value = { Built };
 
@@ -96,8 +98,8 @@ fn point_marks(alloc: Global, points: u32) -> Result<(Vec<Sharpness>, Vec<bool>)
     ensures smooth { IfOk result (λ marks. map sharpness_of marks.0.items ≡ replicate points Smooth) }
     ensures none { IfOk result (λ marks. marks.1.items ≡ replicate points false) }
 {
-    let vertex_sharpness = filled(alloc, Sharpness::Smooth, points as usize)?;
-    Ok((vertex_sharpness, filled(alloc, false, points as usize)?))
+    let vertex_sharpness = vec![in alloc; Sharpness::Smooth; points as usize]?;
+    Ok((vertex_sharpness, vec![in alloc; false; points as usize]?))
 }
 
 impl LevelBuilder {
@@ -197,5 +199,33 @@ impl LevelBuilder {
         ensures { self.new ≡ with_complete v self.old }
     {
         self.complete[v as usize] = true;
+    }
+
+    // The faces with their numbered edges, as plain tables.
+    fn into_faces(self) -> NumberedFaces
+        ensures { result ≡ self }
+    {
+        let (edge_ends, edge_faces, edge_sharpness) = self.edges.into_parts();
+        let parts = FaceParts {
+            faces: self.faces,
+            holes: self.holes,
+            edge_ends,
+            edge_faces,
+            edge_sharpness,
+            vertex_sharpness: self.vertex_sharpness,
+            complete: self.complete,
+            method: self.method,
+        };
+        NumberedFaces::of(self.alloc, parts)
+    }
+
+    /// The level of what was added: its faces in their order, its edges numbered as they first appear over faces and
+    /// corners, and at each point its faces and edges, in fan order where it is marked complete and ascending elsewhere.
+    pub fn finish(self) -> Result<Level, Memory>
+        requires fans { AreFans self }
+        ensures level { IfOk result (λ level. level.level ≡ self.level) }
+        ensures complete { IfOk result (λ level. level.complete ≡ self.complete) }
+    {
+        self.into_faces().finish()
     }
 }

@@ -46,9 +46,9 @@ impl BuildHasher for KeyedHashing {
 #[derive(Drop)]
 pub(crate) struct NumberedEdges {
     keys: IndexSet<(u32, u32), KeyedHashing>,
-    pub(crate) ends: Vec<(u32, u32)>,
-    pub(crate) faces: Vec<(u32, u32)>,
-    pub(crate) sharpness: Vec<Sharpness>,
+    ends: Vec<(u32, u32)>,
+    faces: Vec<(u32, u32)>,
+    sharpness: Vec<Sharpness>,
     limit: u32,
 }
 
@@ -165,29 +165,6 @@ impl NumberedEdges {
         e
     }
 
-    // The ends of all edges.
-    pub(crate) fn all_ends(&self) -> &[(u32, u32)]
-        ensures { result.now ≡ self.now.ends }
-    {
-        &self.ends
-    }
-
-    // The first and the last face of an edge.
-    pub(crate) fn faces_of(&self, e: u32) -> (u32, u32)
-        requires { e < length self.now.ends }
-        ensures { result ≡ get_or self.now.faces e (0, 0) }
-    {
-        self.faces[e as usize]
-    }
-
-    // The ends of an edge, in the direction in which a face names it first.
-    pub(crate) fn ends_of(&self, e: u32) -> (u32, u32)
-        requires { e < length self.now.ends }
-        ensures { result ≡ get_or self.now.ends e (0, 0) }
-    {
-        self.ends[e as usize]
-    }
-
     // The number of an edge that is there.
     pub(crate) fn find(&self, a: u32, b: u32) -> usize
         requires { list_any (same_edge (a, b)) self.now.ends ≡ true }
@@ -222,19 +199,12 @@ impl NumberedEdges {
         }
     }
 
-    // The sharpness of all edges.
-    pub(crate) fn all_sharpness(&self) -> &[Sharpness]
-        ensures values { map sharpness_of result.now ≡ self.now.sharpness }
-        ensures few { length result.now < 2 ^ 32 }
-    {
-        &self.sharpness
-    }
-
-    // The ends and the faces of all edges.
-    pub(crate) fn into_parts(self) -> (Vec<(u32, u32)>, Vec<(u32, u32)>)
+    // The ends, the faces and the sharpness of all edges.
+    pub(crate) fn into_parts(self) -> (Vec<(u32, u32)>, Vec<(u32, u32)>, Vec<Sharpness>)
         ensures ends { result.0.items ≡ self.ends }
         ensures faces { result.1.items ≡ self.faces }
+        ensures sharpness { map sharpness_of result.2.items ≡ self.sharpness }
     {
-        (self.ends, self.faces)
+        (self.ends, self.faces, self.sharpness)
     }
 }

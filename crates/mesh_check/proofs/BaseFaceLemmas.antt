@@ -20,7 +20,8 @@ use Rattle.mesh_laws.proofs.FaultLemmas.{fault-decides}
 use Rattle.mesh_laws.proofs.WalkLemmas.{range-at}
 use Rattle.level_topology.specs.Numbering.{named_with}
 use Rattle.level_builder.specs.NumberedEdges.{named_with_all}
-use Rattle.level_builder.specs.Builder.{Built, has_new_sides, with_polygon, built_of}
+use Rattle.point_fans.specs.Built.{Built, built_of}
+use Rattle.level_builder.specs.Builder.{has_new_sides, with_polygon}
 use Rattle.level_builder.proofs.EdgeNumberLemmas.{first_named-all}
 use Rattle.mesh_check.specs.Base.{IsFit, smooth_built}
 use Rattle.mesh_check.proofs.PlaceLemmas.{drop-here}

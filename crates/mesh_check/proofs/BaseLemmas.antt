@@ -17,7 +17,7 @@ use Rattle.subdiv_model.specs.Manifold.{has_one_fan}
 use Rattle.mesh_laws.proofs.ChildClosedLemmas.{numbered-length}
 use Rattle.raw_mesh.specs.View.{corner_tag_of}
 use Rattle.raw_mesh.specs.declared.tags.CornerTag.{CornerTag}
-use Rattle.level_builder.specs.Builder.{Built, built_of, AreFans}
+use Rattle.point_fans.specs.Built.{Built, built_of, AreFans}
 use Rattle.mesh_check.specs.Base.{IsFit, smooth_built, with_edge_tags, with_vertex_tags, infinite, tagged_built, all_complete}
 use Rattle.mesh_check.proofs.BaseFaceLemmas.{fit-fans}
 use Rattle.mesh_check.proofs.BaseEdgeLemmas.{boundary-named}

@@ -10,7 +10,8 @@ use Rattle.subdiv_model.specs.Sharpness.{Sharpness, Infinite, Method}
 use Rattle.number_laws.proofs.CountLemmas.{count-cons, count-some, one_if}
 use Rattle.mesh_laws.proofs.SideLemmas.{same_edge-sym}
 use Rattle.mesh_laws.proofs.EdgeLemmas.{first_named-once}
-use Rattle.level_builder.specs.Builder.{Built, built_of, with_sharp_edge, with_sharp_vertex}
+use Rattle.point_fans.specs.Built.{Built, built_of}
+use Rattle.level_builder.specs.Builder.{with_sharp_edge, with_sharp_vertex}
 use Rattle.mesh_check.proofs.RestLemmas.{others, at-first}
 use Rattle.mesh_check.specs.Base.{with_edge_tag, with_edge_tags, with_vertex_tags, infinite}
 

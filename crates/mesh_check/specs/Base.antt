@@ -9,7 +9,8 @@ use Rattle.subdiv_model.specs.Base.{base_edge_sharpness, base_vertex_sharpness}
 use Rattle.subdiv_model.specs.MeshFault.{first_mesh_fault}
 use Rattle.subdiv_model.specs.ObjMesh.{ObjMesh}
 use Rattle.raw_mesh.specs.Laws.{IsWithin}
-use Rattle.level_builder.specs.Builder.{Built, with_sharp_edge, with_sharp_vertex}
+use Rattle.point_fans.specs.Built.{Built}
+use Rattle.level_builder.specs.Builder.{with_sharp_edge, with_sharp_vertex}
 use Rattle.mesh_check.specs.Keys.{IsWord, Rises, edge_key}
 
 -- a manifold whose counts are within their limits

@@ -1,7 +1,7 @@
 use Rattle.std.proofs.Common.{arith, ap, ◌∙◌, length}
 use Rattle.std.proofs.lemmas.Result.{IfOk-weaker}
 use Rattle.subdiv_model.specs.Level.{Level}
-use Rattle.level_builder.specs.Builder.{Built}
+use Rattle.point_fans.specs.Built.{Built}
 use Rattle.face_varying.specs.View.{mode_of}
 use Rattle.face_varying.proofs.CutBuiltLemmas.{parts-of, few-points, few-numbers, parts-fit, parts-numbers, parts-holes, parts-apart, parts-kept, parts-vertices, alone-itself, with-sides, sides-points, sides-sharp, sides-marks, with-all, all-fans}
 use Rattle.face_varying.proofs.build.cut_level.Goals as goal

@@ -1,6 +1,7 @@
 use Rattle.std.proofs.Common.{arith, sym, subst, ◌≡◌, ◌+◌, ◌<◌, ◌^◌, length, get_or, true}
 use Rattle.std.specs.List.{sum_by}
-use Rattle.level_builder.specs.Builder.{Built, has_new_sides}
+use Rattle.point_fans.specs.Built.{Built}
+use Rattle.level_builder.specs.Builder.{has_new_sides}
 use Rattle.face_varying.proofs.BuiltFaceLemmas.{face-simple, face-size, face-inside, face-short, face-few, face-new, cut-faces-more, all-faces}
 use Rattle.face_varying.proofs.build_faces.add_faces.Goals as goal
 

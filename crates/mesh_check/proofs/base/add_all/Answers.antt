@@ -1,6 +1,6 @@
 use Rattle.std.proofs.Common.{arith, ap, sym, ◌∙◌, length}
 use Rattle.std.proofs.lemmas.List.{length-replicate}
-use Rattle.level_builder.specs.Builder.{Built}
+use Rattle.point_fans.specs.Built.{Built}
 use Rattle.mesh_check.specs.Base.{all_complete, tagged_built}
 use Rattle.mesh_check.proofs.CountLemmas.{point-count}
 use Rattle.mesh_check.proofs.BaseLemmas.{own-marks, base-marks}

@@ -3,7 +3,7 @@ use Rattle.std.specs.List.{list_all}
 use Rattle.std.proofs.lemmas.Bool.{and_parts}
 use Rattle.raw_mesh.specs.declared.tags.CornerTag.{CornerTag}
 use Rattle.raw_mesh.specs.View.{corner_tag_of}
-use Rattle.level_builder.specs.Builder.{Built}
+use Rattle.point_fans.specs.Built.{Built}
 use Rattle.mesh_check.specs.Base.{with_vertex_tags}
 use Rattle.mesh_check.proofs.RestLemmas.{at-item, at-none, others}
 use Rattle.mesh_check.proofs.base.add_corner_tags.Goals as goal

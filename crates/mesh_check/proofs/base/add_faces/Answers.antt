@@ -1,6 +1,7 @@
 use Rattle.std.proofs.Common.{arith, ◌≤◌, subst, sym, ◌+◌, ◌<◌, ◌^◌, ◌≡◌, length, get_or, true}
 use Rattle.std.specs.List.{sum_by}
-use Rattle.level_builder.specs.Builder.{Built, has_new_sides}
+use Rattle.point_fans.specs.Built.{Built}
+use Rattle.level_builder.specs.Builder.{has_new_sides}
 use Rattle.mesh_check.proofs.BaseFaceLemmas.{face-simple, face-size, face-inside, face-short, sound-sides, sides-new, faces-more, faces-all}
 use Rattle.mesh_check.proofs.base.add_faces.Goals as goal
 

@@ -3,7 +3,7 @@ use Rattle.std.specs.List.{list_all, list_any}
 use Rattle.subdiv_model.specs.Polygons.{same_edge}
 use Rattle.subdiv_model.specs.Edges.{edges_of}
 use Rattle.raw_mesh.specs.declared.tags.CornerTag.{CornerTag}
-use Rattle.level_builder.specs.Builder.{Built}
+use Rattle.point_fans.specs.Built.{Built}
 use Rattle.mesh_check.proofs.BaseEdgeLemmas.{boundary-edges}
 use Rattle.mesh_check.proofs.BaseLemmas.{after-creases, after-boundary, after-tags, after-corners, tags-inside}
 use Rattle.mesh_check.proofs.base.add_tags.Goals as goal

@@ -1,6 +1,6 @@
 use Rattle.std.proofs.Common.{ap, ◌∙◌}
 use Rattle.std.proofs.lemmas.Result.{IfOk-weaker}
-use Rattle.level_builder.specs.Builder.{Built}
+use Rattle.point_fans.specs.Built.{Built}
 use Rattle.mesh_check.proofs.BaseLemmas.{base-fans, base-level}
 use Rattle.mesh_check.proofs.base.base_level.Goals as goal
 

@@ -1,5 +1,5 @@
 use Rattle.std.proofs.Common.{arith, ap, ◌∙◌}
-use Rattle.level_builder.specs.Builder.{Built}
+use Rattle.point_fans.specs.Built.{Built}
 use Rattle.mesh_check.proofs.BaseMarkLemmas.{marks-more}
 use Rattle.mesh_check.proofs.base.mark_points.Goals as goal
 

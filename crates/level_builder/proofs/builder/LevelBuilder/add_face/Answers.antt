@@ -5,8 +5,10 @@ use Rattle.level_laws.proofs.FaceLemmas.{sides_of-length}
 use Rattle.sharpness_rules.specs.View.{sharpness_of, method_of}
 use Rattle.level_topology.specs.Packed.{Paired}
 use Rattle.level_builder.specs.NumberedEdges.{numbers_in}
-use Rattle.level_builder.specs.Builder.{Built, has_new_sides}
-use Rattle.level_builder.proofs.BuilderLemmas.{edges-few, numbers-length, built-added, built-same}
+use Rattle.point_fans.specs.Built.{Built}
+use Rattle.point_fans.proofs.PointPlaceLemmas.{edges-few}
+use Rattle.level_builder.specs.Builder.{has_new_sides}
+use Rattle.level_builder.proofs.BuilderLemmas.{numbers-length, built-added, built-same}
 use Rattle.level_builder.proofs.builder.LevelBuilder.add_face.Goals as goal
 
 pub make_room-requires-clause-few_edges : goal.make_room-requires-clause-few_edges

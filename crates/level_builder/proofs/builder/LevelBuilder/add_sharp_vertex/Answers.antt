@@ -3,7 +3,7 @@ use Rattle.std.proofs.lemmas.List.{map-set}
 use Rattle.subdiv_model.specs.Sharpness.{Sharpness}
 use Rattle.sharpness_rules.specs.View.{sharpness_of, method_of}
 use Rattle.sharpness_rules.proofs.ViewLemmas.{sharpness_of-proper}
-use Rattle.level_builder.specs.Builder.{built_of}
+use Rattle.point_fans.specs.Built.{built_of}
 use Rattle.level_builder.proofs.BuilderLemmas.{built-vertex}
 use Rattle.level_builder.proofs.builder.LevelBuilder.add_sharp_vertex.Goals as goal
 

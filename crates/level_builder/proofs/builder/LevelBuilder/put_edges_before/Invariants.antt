@@ -1,7 +1,0 @@
-use Rattle.std.proofs.Common.{◌≡◌, take, map}
-use Rattle.level_topology.specs.Topology.{edge_before}
-use Rattle.level_builder.proofs.builder.LevelBuilder.put_edges_before.Given as goal
-
--- those so far are put
-abbrev pub invariant-loop-i : goal.invariant-loop-i
-invariant-loop-i l = l.edges.items ≡ map (edge_before l.self.level.polygons l.v) (take l.i l.faces)

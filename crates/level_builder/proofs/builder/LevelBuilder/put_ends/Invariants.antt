@@ -1,7 +1,0 @@
-use Rattle.std.proofs.Common.{◌≡◌, take, map}
-use Rattle.level_topology.specs.Topology.{end_of}
-use Rattle.level_builder.proofs.builder.LevelBuilder.put_ends.Given as goal
-
--- those so far are put
-abbrev pub invariant-loop-i : goal.invariant-loop-i
-invariant-loop-i l = l.ends.items ≡ map (end_of l.self.level.polygons l.v) (take l.i l.edges)

@@ -1,6 +1,0 @@
-use Rattle.std.proofs.Common.{rules}
-use Rattle.level_builder.proofs.fan.note_corner.Goals as goal
-
--- asked for by name, so that a body that breaks it is refused at once
-pub returns : goal.returns
-returns c = search rules

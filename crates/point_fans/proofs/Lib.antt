@@ -1,0 +1,5 @@
+pub mod ChainLemmas
+pub mod AcrossLemmas
+pub mod TurnLemmas
+pub mod PointPlaceLemmas
+pub mod FinishLemmas
