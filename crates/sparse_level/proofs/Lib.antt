@@ -1,0 +1,11 @@
+pub mod ListLemmas
+pub mod PlaceLemmas
+pub mod OnceLemmas
+pub mod PointLemmas
+pub mod MarkLemmas
+pub mod CompleteLemmas
+pub mod NumberLemmas
+pub mod SelectLemmas
+pub mod BaseLemmas
+pub mod NextPointLemmas
+pub mod PartOfPlacesLemmas

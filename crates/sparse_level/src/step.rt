@@ -1,0 +1,99 @@
+//! The next sparse level, with its tables from the level before.
+
+ghost use Rattle.std.specs.Prelude.{◌≡◌, ◌<◌, false, length, get_or};
+ghost use Rattle.sparse_level.specs.View.{next_of, sparse_child, IsSparseTopology};
+
+use crate::sparse::SparseLevel;
+use level_topology::Child;
+use std::marker::Model;
+
+/// The next sparse level as a child of the level before, and which faces of that level are selected.
+#[derive(Drop)]
+pub struct SparseStep {
+    child: Child,
+    selected: Vec<bool>,
+    numbers: Vec<u64>,
+    inner: Vec<bool>,
+    depth: u32,
+}
+
+impl Model for SparseStep {
+    ghost use Rattle.sparse_level.specs.View.{SparseChild, sparse_child, next_of, IsSparseTopology};
+
+    ghost Value = { SparseChild };
+
+    ghost view = { λ s. sparse_child s.child s.selected.items s.numbers.items s.inner.items s.depth };
+
+    ghost invariant = { λ s. IsSparseTopology (next_of (sparse_child s.child s.selected.items s.numbers.items s.inner.items s.depth)) };
+}
+
+impl SparseStep {
+    /// A step, of its parts: the marks of the faces of the level before, and of each new face its number and its mark. It takes no
+    /// memory.
+    pub fn of(
+        child: Child,
+        selected: Vec<bool>,
+        numbers: Vec<u64>,
+        inner: Vec<bool>,
+        depth: u32,
+    ) -> SparseStep
+        requires { IsSparseTopology (next_of (sparse_child child selected.items numbers.items inner.items depth)) }
+        ensures { result ≡ sparse_child child selected.items numbers.items inner.items depth }
+    {
+        SparseStep {
+            child,
+            selected,
+            numbers,
+            inner,
+            depth,
+        }
+    }
+
+    /// The new level as a child of the level before.
+    pub fn child(&self) -> &Child
+        ensures { result.now ≡ self.now.child }
+    {
+        &self.child
+    }
+
+    /// Whether a face of the level before is selected.
+    pub fn is_selected(&self, f: u32) -> bool
+        requires { f < length self.now.selected }
+        ensures { result ≡ get_or self.now.selected f false }
+    {
+        self.selected[f as usize]
+    }
+
+    /// The marks of the faces of the level before.
+    pub fn selected(&self) -> &[bool]
+        ensures { result.now ≡ self.now.selected }
+    {
+        &self.selected
+    }
+
+    /// The new level, and the marks of the faces of the level before.
+    pub fn into_parts(self) -> (SparseLevel, Vec<bool>)
+        ensures level { result.0 ≡ next_of self }
+        ensures selected { result.1.items ≡ self.selected }
+    {
+        let level = SparseLevel::with_parts(
+            self.child.into_level(),
+            self.numbers,
+            self.inner,
+            self.depth,
+        );
+        (level, self.selected)
+    }
+
+    // The new level alone.
+    pub(crate) fn into_sparse(self) -> SparseLevel
+        ensures { result ≡ next_of self }
+    {
+        SparseLevel::with_parts(
+            self.child.into_level(),
+            self.numbers,
+            self.inner,
+            self.depth,
+        )
+    }
+}
