@@ -1,0 +1,4 @@
+pub mod PutLemmas
+pub mod NameLemmas
+pub mod SharpLemmas
+pub mod LevelLemmas

@@ -1,0 +1,6 @@
+use Rattle.std.proofs.Common.{rules}
+use Rattle.part_level.proofs.faces.is_child_hole.Goals as goal
+
+-- asked for by name, so that a body that breaks it is refused at once
+pub returns : goal.returns
+returns c = search rules
