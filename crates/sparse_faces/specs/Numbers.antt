@@ -1,0 +1,32 @@
+-- Points numbered by first appearance.
+use Rattle.std.specs.Prelude.{ℕ, nat_eq, List, [], ◌∷◌, length, map}
+use Rattle.std.specs.List.{position_or_len}
+use Rattle.subdiv_model.specs.Lists.{each_once_by}
+use Rattle.subdiv_model.specs.Polygons.{Polygon}
+use Rattle.subdiv_model.specs.Level.{Level}
+use Rattle.sparse_laws.specs.Written.{used_points}
+use Rattle.sparse_level.specs.Places.{with_point}
+
+-- each point by its place among these
+abbrev pub places_among : List ℕ → List ℕ → List ℕ
+places_among points list = map (λ v. position_or_len (nat_eq v) points) list
+
+-- the number of each point of a list, where the points of the list are numbered by first appearance
+abbrev pub numbers_of : List ℕ → List ℕ
+numbers_of list = places_among (each_once_by nat_eq list) list
+
+-- the number of each point: its place among those before, or how many these are
+abbrev pub numbers_after : List ℕ → List ℕ → List ℕ
+numbers_after met [] = []
+numbers_after met (v ∷ list) = position_or_len (nat_eq v) met ∷ numbers_after (with_point met v) list
+
+-- the corners of faces by the numbers of points, and how many points there are
+pub record NumberedFaces : Type 0 where
+  pub points : ℕ
+  pub faces : List Polygon
+
+abbrev pub numbered : ℕ → List Polygon → NumberedFaces
+numbered points faces = record { points = points; faces = faces }
+
+abbrev pub numbered_faces : Level → NumberedFaces
+numbered_faces level = numbered (length (used_points level)) (map (places_among (used_points level)) level.polygons)

@@ -1,0 +1,105 @@
+//! The faces of a sparse level as they are written.
+
+ghost use Rattle.std.specs.Prelude.{◌≡◌, ◌<◌, length, IfOk};
+ghost use Rattle.sparse_laws.specs.Written.{written_here};
+ghost use Rattle.sparse_level.specs.View.{level_of};
+ghost use Rattle.sparse_level.specs.Places.{marked};
+ghost use Rattle.sparse_faces.specs.View.{kind_of, face_at};
+
+use crate::corners::NumberedCorners;
+use crate::kind::{FaceKind, put_kinds};
+use ratio128::Memory;
+use sparse_level::SparseLevel;
+use std::alloc::Global;
+use std::marker::Model;
+
+/// The faces of a sparse level as they are written, and how many points their corners are.
+///
+/// It takes 13 bytes a face and 4 bytes a corner.
+#[derive(Drop)]
+pub struct SparseFaces {
+    kinds: Vec<FaceKind>,
+    numbers: Vec<u64>,
+    corners: NumberedCorners,
+}
+
+impl Model for SparseFaces {
+    ghost use Rattle.subdiv_model.specs.SparseText.{WrittenLevel};
+    ghost use Rattle.sparse_faces.specs.View.{written_of, IsWritten};
+
+    ghost Value = { WrittenLevel };
+
+    ghost view = { λ s. written_of s.kinds.items s.numbers.items s.corners };
+
+    ghost invariant = { λ s. IsWritten s.kinds.items s.numbers.items s.corners };
+}
+
+// The numbers of all faces in the uniform level.
+fn put_numbers(alloc: Global, sparse: &SparseLevel) -> Result<Vec<u64>, Memory>
+    ensures { IfOk result (λ numbers. numbers.items ≡ sparse.now.numbers) }
+{
+    sparse.facts();
+    let faces = sparse.level().faces();
+    let mut numbers = Vec::with_capacity(alloc, faces as usize)?;
+    for f in 0..faces {
+        numbers.push_reserved(sparse.number(f));
+    }
+    Ok(numbers)
+}
+
+impl SparseFaces {
+    /// What is written of a sparse level whose selected faces are marked. A face without a mark is not selected, so there
+    /// may be fewer marks than faces.
+    ///
+    /// It answers `Memory` where memory runs out.
+    pub fn of(alloc: Global, sparse: &SparseLevel, selected: &[bool]) -> Result<SparseFaces, Memory>
+        ensures { IfOk result (λ faces. faces ≡ written_here (level_of sparse.now) (marked selected.now)) }
+    {
+        sparse.facts();
+        let level = sparse.level();
+        level.facts();
+        Ok(SparseFaces {
+            kinds: put_kinds(alloc, sparse, selected)?,
+            numbers: put_numbers(alloc, sparse)?,
+            corners: NumberedCorners::of(alloc, level)?,
+        })
+    }
+
+    /// How many points the corners are.
+    pub fn points(&self) -> u32
+        ensures { result ≡ self.now.point_count }
+    {
+        self.corners.points()
+    }
+
+    /// How many faces there are.
+    pub fn len(&self) -> u32
+        ensures { result ≡ length self.now.faces }
+    {
+        self.kinds.len() as u32
+    }
+
+    /// The kind of a face.
+    pub fn kind(&self, f: u32) -> FaceKind
+        requires { f < length self.now.faces }
+        ensures { kind_of result ≡ (face_at self.now f).kind }
+    {
+        self.kinds[f as usize]
+    }
+
+    /// The number of a face in the uniform level, counted from 0.
+    pub fn number(&self, f: u32) -> u64
+        requires { f < length self.now.faces }
+        ensures { result ≡ (face_at self.now f).number }
+    {
+        self.numbers[f as usize]
+    }
+
+    /// The corners of a face, each by the number of its point, counted from 0.
+    pub fn corners(&self, f: u32) -> &[u32]
+        requires { f < length self.now.faces }
+        ensures { result.now ≡ (face_at self.now f).corners }
+    {
+        self.corners.list(f)
+    }
+}

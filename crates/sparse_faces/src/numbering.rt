@@ -1,0 +1,48 @@
+//! Points numbered by first appearance.
+
+ghost use Rattle.std.specs.Prelude.{ℕ, ◌≡◌, ◌<◌, ◌≤◌, ◌^◌, nat_eq, List, length, IfOk, OnOk};
+ghost use Rattle.std.specs.List.{All, position_or_len};
+ghost use Rattle.subdiv_model.specs.Lists.{each_once_by};
+ghost use Rattle.level_topology.specs.ChildTables.{IsInverse};
+ghost use Rattle.sparse_level.specs.Places.{with_point};
+ghost use Rattle.sparse_faces.specs.Numbers.{numbers_of};
+
+use ratio128::Memory;
+use std::alloc::Global;
+
+// What stands in the table where a point has no number yet.
+const UNNUMBERED: u32 = u32::MAX;
+
+// The number that the table has of a point, or else the next one, which it has from then on.
+fn number_of(table: &mut Vec<u32>, point: u32, next: u32) -> u32
+    requires within { point < length table.old.items }
+    requires few { next ≤ 2 ^ 30 }
+    ensures number { (met : List ℕ) → IsInverse met table.old.items → next ≡ length met → result ≡ position_or_len (nat_eq point) met }
+    ensures table { (met : List ℕ) → IsInverse met table.old.items → next ≡ length met → IsInverse (with_point met point) table.new.items }
+    ensures size { length table.new.items ≡ length table.old.items }
+{
+    let number = table[point as usize];
+    if number != UNNUMBERED {
+        return number;
+    }
+    table[point as usize] = next;
+    next
+}
+
+// Puts the number of each point in its place, and answers how many numbers there are. The points are numbered by first
+// appearance, through a table with a place for each of `count` points.
+pub(crate) fn number_points(alloc: Global, count: u32, points: &mut Vec<u32>) -> Result<u32, Memory>
+    requires within { All (λ point. point < count) points.old.items }
+    requires few { length points.old.items ≤ 2 ^ 30 }
+    ensures numbers { OnOk result (points.new.items ≡ numbers_of points.old.items) }
+    ensures count { IfOk result (λ n. n ≡ length (each_once_by nat_eq points.old.items)) }
+{
+    let mut table = vec![in alloc; UNNUMBERED; count as usize]?;
+    let mut next = 0;
+    for i in 0..points.len() {
+        let number = number_of(&mut table, points[i], next);
+        points[i] = number;
+        next += u32::from(number == next);
+    }
+    Ok(next)
+}
