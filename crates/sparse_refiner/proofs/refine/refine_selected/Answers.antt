@@ -1,0 +1,24 @@
+use Rattle.std.proofs.Common.{◌∙◌, arith}
+use Rattle.sparse_refiner.proofs.StepLemmas.{handed-on, marks-inner, refusal-is, answer-is, next-answer, steps-are}
+use Rattle.sparse_refiner.proofs.refine.refine_selected.Goals as goal
+
+pub find_places-requires : goal.find_places-requires
+find_places-requires g c = marks-inner (g.T.FaceTest.meets c.args.chosen.now.1) c.args.sparse.now c.in_ok-selected.selected.items c.in_ok-selected.ensures
+
+pub returns-in_err-present-clause-refined : goal.returns-in_err-present-clause-refined
+returns-in_err-present-clause-refined g c =
+    handed-on _ _ _ c.in_err-present.field-0.0 c.from_residual-in_err-present.ensures.0 c.from_residual-in_err-present.ensures.1
+    (refusal-is (g.T.FaceTest.meets c.args.chosen.now.1) c.args.sparse.now c.in_ok-selected.selected.items c.in_ok-selected.ensures c.in_err-present.field-0.0 c.in_err-present.ensures)
+
+pub returns-clause-refined : goal.returns-clause-refined
+returns-clause-refined g c =
+    answer-is (g.T.FaceTest.meets c.args.chosen.now.1) c.args.sparse.now c.in_ok-present.present.selected.items (c.in_ok-present.ensures.0 ∙ c.in_ok-selected.ensures) c.refine_present.result c.refine_present.ensures.made c.refine_present.ensures.selected
+
+pub returns-clause-sparse : goal.returns-clause-sparse
+returns-clause-sparse g c = λ of.
+    next-answer of c.refine_present.result
+    (answer-is (g.T.FaceTest.meets c.args.chosen.now.1) c.args.sparse.now c.in_ok-present.present.selected.items (c.in_ok-present.ensures.0 ∙ c.in_ok-selected.ensures) c.refine_present.result c.refine_present.ensures.made c.refine_present.ensures.selected)
+
+pub returns-clause-steps : goal.returns-clause-steps
+returns-clause-steps g c =
+    omega (arith, c.refine_present.ensures.steps, steps-are (g.T.FaceTest.meets c.args.chosen.now.1) c.args.sparse.now c.in_ok-selected.selected.items c.in_ok-selected.ensures c.in_ok-present.present c.in_ok-present.ensures.0 c.in_ok-present.ensures.1)
