@@ -11,7 +11,8 @@ use Rattle.subdiv_model.specs.Edges.{all_sides, edges_of}
 use Rattle.subdiv_model.specs.Manifold.{has_one_fan}
 use Rattle.subdiv_model.specs.Sharpness.{Sharpness}
 use Rattle.mesh_laws.proofs.EdgeLemmas.{any-first_named}
-use Rattle.level_builder.specs.Builder.{Built, AreFans, with_polygon, with_sharp_edge, with_sharp_vertex, with_complete, has_new_sides}
+use Rattle.point_fans.specs.Built.{Built, AreFans}
+use Rattle.level_builder.specs.Builder.{with_polygon, with_sharp_edge, with_sharp_vertex, with_complete, has_new_sides}
 use Rattle.level_tests.specs.Faces.{corners_of, IsUnmarked}
 
 -- a face that has the side, and the sides of all faces

@@ -12,7 +12,8 @@ use Rattle.std.proofs.Math.Seq.{get_or-append_seam}
 use Rattle.subdiv_model.specs.Polygons.{same_side, sides_of, has_side, has_corner, is_among, is_distinct, has_distinct_sides, polygon_at}
 use Rattle.subdiv_model.specs.Edges.{all_sides}
 use Rattle.subdiv_model.specs.Manifold.{IsSuccessor, IsPath, HasOneFan, is_simple, has_one_fan}
-use Rattle.level_builder.specs.Builder.{Built, AreFans, has_new_sides}
+use Rattle.point_fans.specs.Built.{Built, AreFans}
+use Rattle.level_builder.specs.Builder.{has_new_sides}
 use Rattle.mesh_laws.proofs.WalkLemmas.{one_fan-test}
 use Rattle.level_tests.specs.Wheel.{triangle, open_wheel, last_triangle, wheel}
 

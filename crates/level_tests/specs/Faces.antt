@@ -2,7 +2,7 @@
 use Rattle.std.specs.Prelude.{ℕ, ◌≡◌, false, List, map, replicate}
 use Rattle.std.specs.Borrow.{Bor}
 use Rattle.subdiv_model.specs.Polygons.{Polygon}
-use Rattle.level_builder.specs.Builder.{Built}
+use Rattle.point_fans.specs.Built.{Built}
 
 -- the corners of each face
 abbrev pub corners_of : List (Bor (List ℕ)) → List Polygon

@@ -4,7 +4,8 @@ ghost use Rattle.std.specs.Prelude.{◌≡◌, ◌≤◌, ◌<◌, ℕ, nat_lt, 
 ghost use Rattle.std.specs.List.{All, list_all};
 ghost use Rattle.subdiv_model.specs.Polygons.{Polygon};
 ghost use Rattle.subdiv_model.specs.Manifold.{is_simple};
-ghost use Rattle.level_builder.specs.Builder.{AreFans, has_new_sides};
+ghost use Rattle.point_fans.specs.Built.{AreFans};
+ghost use Rattle.level_builder.specs.Builder.{has_new_sides};
 ghost use Rattle.level_tests.specs.Faces.{corners_of, IsUnmarked};
 
 use crate::fans::{has_edge, has_new_sides, has_one_fan, is_simple};

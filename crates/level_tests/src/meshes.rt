@@ -1,7 +1,7 @@
 // Meshes of tables, and their levels by a builder.
 
 ghost use Rattle.std.specs.Prelude.{◌≡◌, ◌<◌, [], IfOk, OnOk};
-ghost use Rattle.level_builder.specs.Builder.{AreFans};
+ghost use Rattle.point_fans.specs.Built.{AreFans};
 ghost use Rattle.level_tests.specs.Faces.{IsUnmarked};
 
 use crate::checked::fill;

@@ -54,7 +54,7 @@ impl<L: Ledger> NextLevel<L> for Quarter {
 
     ghost next_of = { λ child. child.topology };
 
-    ghost IsReady = { λ _ level. IsSquareOrQuarter level };
+    ghost IsReady = { λ _ level _. IsSquareOrQuarter level };
 
     ghost Makes = { λ _ level child next old new. (level ≡ square) × (child ≡ quarter_child) × (next ≡ child.topology) };
 

@@ -2,7 +2,8 @@
 
 ghost use Rattle.std.specs.Prelude.{◌≡◌, ◌+◌, ◌<◌, ◌≤◌, ◌^◌, [], OnOk};
 ghost use Rattle.subdiv_model.specs.Sharpness.{Normal};
-ghost use Rattle.level_builder.specs.Builder.{AreFans, only_points};
+ghost use Rattle.point_fans.specs.Built.{AreFans};
+ghost use Rattle.level_builder.specs.Builder.{only_points};
 ghost use Rattle.level_tests.specs.Wheel.{open_wheel};
 
 use crate::expect::expect_same;

@@ -1,5 +1,5 @@
 -- A walk of one level more.
-use Rattle.std.proofs.Common.{◌≡◌, ℕ, ◌+◌, ◌<◌, Result, Ok, Err, IfOk, IsErr, IsErrAnd, MatchResult, add-one, refl, sym, subst}
+use Rattle.std.proofs.Common.{◌≡◌, ℕ, suc, ◌+◌, ◌-◌, ◌<◌, Result, Ok, Err, IfOk, IsErr, IsErrAnd, MatchResult, arith, add-one, refl, sym, subst}
 use Rattle.level_topology.specs.Topology.{Topology}
 use Rattle.level_topology.specs.Child.{ChildTopology}
 use Rattle.level_walk.specs.declared.fault.Cause.{Cause}
@@ -10,6 +10,10 @@ use Rattle.level_walk.specs.Walk.{Place, IsAfter, IsWalked, IsStopped}
 -- one round more
 pub after-next : {X : Type 0} (Leads : X → X → Type 0) (start : X) (k : ℕ) (before x : X) → IsAfter Leads start k before → Leads before x → IsAfter Leads start (k + 1) x
 after-next Leads start k before x after leads = rw add-one (before, (after, leads))
+
+-- before a round one level more is left than after it
+pub one-left : (P : ℕ → Type 0) (depth k : ℕ) → k < depth → P (depth - k) → P (suc (depth - (k + 1)))
+one-left P depth k within p = let same : depth - k ≡ suc (depth - (k + 1)) = omega (arith, within) in subst P same p
 
 -- a fault that `?` hands on
 pub handed-on : {X F : Type 0} (r : Result X F) (fault : F) (P : X → Type 0) (Q : F → Type 0) → IsErr r → IsErrAnd r (λ f. f ≡ fault) → Q fault → MatchResult r P Q

@@ -41,7 +41,7 @@ pub fn walk<S: NextLevel<L>, C: Carrier<L>, V: Visitor<S::Level, C::Carried>, L:
     depth: u32,
     steps: &mut Steps<L>,
 ) -> Result<Reached<S::Level, C::Carried>, WalkFault>
-    requires ready { S.IsReady step.now start.level }
+    requires ready { S.IsReady step.now start.level depth }
     requires fits { C.Fits carrier.now (S.level_of start.level) start.carried }
     ensures { IsWalk S.level_of (S.Makes step.now) (S.Refuses step.now) (C.Follows carrier.now) (C.Fails carrier.now) V.Takes (at start visitor.old steps.old) depth result visitor.new steps.new }
 {

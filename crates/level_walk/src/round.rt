@@ -1,6 +1,6 @@
 //! One level more.
 
-ghost use Rattle.std.specs.Prelude.{◌≡◌, Ok, Err, IfOk, MatchResult};
+ghost use Rattle.std.specs.Prelude.{◌≡◌, ℕ, suc, Ok, Err, IfOk, MatchResult};
 ghost use Rattle.level_walk.specs.Round.{IsNext, IsCause};
 
 use crate::carrier::Carrier;
@@ -30,12 +30,12 @@ fn next<S: NextLevel<L>, C: Carrier<L>, L: Ledger>(
     from: &Reached<S::Level, C::Carried>,
     steps: &mut Steps<L>,
 ) -> Result<Reached<S::Level, C::Carried>, Cause>
-    requires ready { S.IsReady step.now from.now.level }
+    requires ready { (left : ℕ) × S.IsReady step.now from.now.level (suc left) }
     requires fits { C.Fits carrier.now (S.level_of from.now.level) from.now.carried }
     ensures made { MatchResult result
         (λ next. IsNext S.level_of (S.Makes step.now) (C.Follows carrier.now) from.now next steps.old steps.new)
         (λ cause. IsCause S.level_of (S.Makes step.now) (S.Refuses step.now) (C.Follows carrier.now) (C.Fails carrier.now) from.now cause steps.old steps.new) }
-    ensures ready { IfOk result (λ next. S.IsReady step.now next.level) }
+    ensures ready { (left : ℕ) → S.IsReady step.now from.now.level (suc left) → IfOk result (λ next. S.IsReady step.now next.level left) }
     ensures fits { IfOk result (λ next. C.Fits carrier.now (S.level_of next.level) next.carried) }
 {
     let next = step.next_level(alloc, &from.level, steps)?;
@@ -74,12 +74,12 @@ pub(crate) fn round<S: NextLevel<L>, C: Carrier<L>, V: Visitor<S::Level, C::Carr
     from: Reached<S::Level, C::Carried>,
     steps: &mut Steps<L>,
 ) -> Result<Reached<S::Level, C::Carried>, Cause>
-    requires ready { S.IsReady step.now from.level }
+    requires ready { (left : ℕ) × S.IsReady step.now from.level (suc left) }
     requires fits { C.Fits carrier.now (S.level_of from.level) from.carried }
     ensures made { MatchResult result
         (λ next. IsNext S.level_of (S.Makes step.now) (C.Follows carrier.now) from next steps.old steps.new × V.Takes visitor.old from.level from.carried visitor.new)
         (λ cause. IsCause S.level_of (S.Makes step.now) (S.Refuses step.now) (C.Follows carrier.now) (C.Fails carrier.now) from cause steps.old steps.new) }
-    ensures ready { IfOk result (λ next. S.IsReady step.now next.level) }
+    ensures ready { (left : ℕ) → S.IsReady step.now from.level (suc left) → IfOk result (λ next. S.IsReady step.now next.level left) }
     ensures fits { IfOk result (λ next. C.Fits carrier.now (S.level_of next.level) next.carried) }
 {
     let next = next(alloc, step, carrier, &from, steps)?;

@@ -1,6 +1,6 @@
 //! How the next level is made.
 
-ghost use Rattle.std.specs.Prelude.{◌≡◌, ℕ, IfOk, MatchResult};
+ghost use Rattle.std.specs.Prelude.{◌≡◌, ℕ, suc, IfOk, MatchResult};
 ghost use Rattle.subdiv_model.specs.Mask.{CatmullClark};
 ghost use Rattle.child_masks.specs.Masks.{CanRefine};
 
@@ -31,8 +31,8 @@ pub trait NextLevel<L: Ledger> {
     /// The next level as what is walked.
     ghost next_of: { Self.Next → Self.Level };
 
-    /// A level of which the next one can be made.
-    ghost IsReady: { Self → Self.Level → Type 0 };
+    /// A level after which so many can be made.
+    ghost IsReady: { Self → Self.Level → ℕ → Type 0 };
 
     /// A level, its child, the next level, and the steps taken before and after.
     ghost Makes: { Self → Self.Level → ChildTopology → Self.Level → ℕ → ℕ → Type 0 };
@@ -47,13 +47,13 @@ pub trait NextLevel<L: Ledger> {
         level: &Self::Level,
         steps: &mut Steps<L>,
     ) -> Result<Self::Next, Cause>
-        requires { IsReady self.now level.now }
+        requires { (left : ℕ) × IsReady self.now level.now (suc left) }
         ensures made { MatchResult result
             (λ next. Makes self.now level.now (child_of next) (next_of next) steps.old steps.new)
             (λ cause. Refuses self.now level.now cause steps.old steps.new) }
         ensures child { IfOk result (λ next. CanRefine (level_of level.now) (child_of next) CatmullClark) }
         ensures level { IfOk result (λ next. level_of (next_of next) ≡ (child_of next).topology) }
-        ensures ready { IfOk result (λ next. IsReady self.now (next_of next)) };
+        ensures ready { (left : ℕ) → IsReady self.now level.now (suc left) → IfOk result (λ next. IsReady self.now (next_of next) left) };
 
     /// The level in what is walked.
     fn level(walked: &Self::Level) -> &Level

@@ -48,7 +48,7 @@ impl<L: Ledger> NextLevel<L> for Uniform {
 
     ghost next_of = { λ child. child.topology };
 
-    ghost IsReady = { λ _ level. IsWhole level };
+    ghost IsReady = { λ _ level _. IsWhole level };
 
     ghost Makes = { λ _ level child next old new. IsMade level child next old new };
 

@@ -1,5 +1,5 @@
 use Rattle.std.proofs.Common.{◌≡◌, ◌∙◌, ap, sym, true, rules}
-use Rattle.level_builder.specs.Builder.{Built}
+use Rattle.point_fans.specs.Built.{Built}
 use Rattle.level_tests.proofs.FaceLemmas.{edge-found, unmarked-edge}
 use Rattle.level_tests.proofs.checked.add_sharp_edges.Goals as goal
 

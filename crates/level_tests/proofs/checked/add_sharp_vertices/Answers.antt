@@ -1,5 +1,5 @@
 use Rattle.std.proofs.Common.{◌∙◌, ap, rules}
-use Rattle.level_builder.specs.Builder.{Built}
+use Rattle.point_fans.specs.Built.{Built}
 use Rattle.level_tests.proofs.FaceLemmas.{unmarked-vertex}
 use Rattle.level_tests.proofs.checked.add_sharp_vertices.Goals as goal
 

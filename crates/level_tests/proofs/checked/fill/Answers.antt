@@ -1,7 +1,7 @@
 use Rattle.std.proofs.Common.{◌≡◌, ◌<◌, ◌∙◌, ℕ, List, true, ap, sym, subst, rules}
 use Rattle.subdiv_model.specs.Polygons.{Polygon}
 use Rattle.subdiv_model.specs.Manifold.{has_one_fan}
-use Rattle.level_builder.specs.Builder.{Built}
+use Rattle.point_fans.specs.Built.{Built}
 use Rattle.level_tests.specs.Faces.{corners_of, IsUnmarked}
 use Rattle.level_tests.proofs.FaceLemmas.{unmarked-fans, marked-fans}
 use Rattle.level_tests.proofs.checked.fill.Goals as goal

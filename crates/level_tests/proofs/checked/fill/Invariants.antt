@@ -1,5 +1,5 @@
 use Rattle.std.proofs.Common.{◌≡◌}
-use Rattle.level_builder.specs.Builder.{AreFans}
+use Rattle.point_fans.specs.Built.{AreFans}
 use Rattle.level_tests.specs.Faces.{corners_of}
 use Rattle.level_tests.proofs.checked.fill.Given as goal
 

@@ -1,7 +1,8 @@
 use Rattle.std.proofs.Common.{◌≡◌, ◌∷◌, [], ◌++◌, ◌∙◌, List, length, arith, ap, subst, sym, true}
 use Rattle.std.specs.List.{sum_by}
 use Rattle.subdiv_model.specs.Polygons.{Polygon}
-use Rattle.level_builder.specs.Builder.{Built, has_new_sides}
+use Rattle.point_fans.specs.Built.{Built}
+use Rattle.level_builder.specs.Builder.{has_new_sides}
 use Rattle.level_tests.specs.Wheel.{triangle}
 use Rattle.level_tests.proofs.WheelLemmas.{triangle-new, open-length, open-corners, open-more}
 use Rattle.level_tests.proofs.wheel.add_triangles.Goals as goal

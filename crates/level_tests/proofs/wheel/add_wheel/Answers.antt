@@ -1,7 +1,8 @@
 use Rattle.std.proofs.Common.{◌≡◌, ◌+◌, ◌∷◌, [], ◌++◌, ◌∙◌, List, Bool, length, replicate, slice_set, arith, ap, subst, sym, true, false}
 use Rattle.std.specs.List.{sum_by}
 use Rattle.subdiv_model.specs.Polygons.{Polygon}
-use Rattle.level_builder.specs.Builder.{Built, has_new_sides}
+use Rattle.point_fans.specs.Built.{Built}
+use Rattle.level_builder.specs.Builder.{has_new_sides}
 use Rattle.level_tests.specs.Wheel.{last_triangle, wheel}
 use Rattle.level_tests.proofs.WheelLemmas.{last-new, open-length, open-corners, wheel-fans}
 use Rattle.level_tests.proofs.wheel.add_wheel.Goals as goal

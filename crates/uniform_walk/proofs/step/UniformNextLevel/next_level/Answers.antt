@@ -16,10 +16,10 @@ pub returns-clause-child : goal.returns-clause-child
 returns-clause-child g c =
     where-ok c.made.result (IsRefined c.args.level.now) (λ _. Unit {0}) _
     (as-step c.refine.result c.made.result (IsRefined c.args.level.now) (IsRefusal c.args.level.now) _ _ c.made.ensures c.refine.ensures.refined (λ child refined. refined) (λ fault refusal. tt))
-    (λ child refined. can-refine c.args.level.now child refined CatmullClark c.facts.ensures c.requires.complete c.requires.boundary)
+    (λ child refined. can-refine c.args.level.now child refined CatmullClark c.facts.ensures c.requires.1.complete c.requires.1.boundary)
 
 pub returns-clause-ready : goal.returns-clause-ready
-returns-clause-ready g c =
+returns-clause-ready g c = λ left whole.
     where-ok c.made.result (IsRefined c.args.level.now) (λ _. Unit {0}) _
     (as-step c.refine.result c.made.result (IsRefined c.args.level.now) (IsRefusal c.args.level.now) _ _ c.made.ensures c.refine.ensures.refined (λ child refined. refined) (λ fault refusal. tt))
-    (λ child refined. whole-next c.args.level.now child refined c.facts.ensures c.requires)
+    (λ child refined. whole-next c.args.level.now child refined c.facts.ensures whole)
