@@ -1,0 +1,142 @@
+-- The first fault of sparse levels is that of the first level that has one.
+use Rattle.std.proofs.Common.{◌≡◌, ℕ, suc, ◌+◌, ◌^◌, ◌<◌, ◌≤◌, Bool, true, false, nat_lt, List, [], ◌++◌, length, Some, arith, refl, ap, sym, ◌∙◌, subst}
+use Rattle.std.specs.List.{list_any}
+use Rattle.std.proofs.lemmas.Bool.{lt-ltb, le-ltb}
+use Rattle.subdiv_model.specs.Lists.{first_of}
+use Rattle.subdiv_model.specs.Level.{Level}
+use Rattle.subdiv_model.specs.Child.{refined_level}
+use Rattle.subdiv_model.specs.Feature.{FaceFacts}
+use Rattle.subdiv_model.specs.Sparse.{Meeting}
+use Rattle.subdiv_model.specs.Limits.{face_limit}
+use Rattle.subdiv_model.specs.SparseFaults.{points_with_child, present_faces, sparse_levels, sparse_level_faults, sparse_faults}
+use Rattle.subdiv_model.specs.Fault.{Fault, Track, TooLarge, LevelFaces, Overflow, ChaikinOverflow}
+use Rattle.subdiv_model.specs.Channel.{Channel, Sharpnesses, fault_where, chaikin_overflows_at, asked_faults, level_faults}
+use Rattle.level_walk.specs.declared.fault.Cause.{Cause}
+use Rattle.level_walk.specs.declared.fault.Cause.TheVariants as cause
+use Rattle.level_walk.specs.declared.fault.OverflowKind.TheVariants as kind
+use Rattle.uniform_walk.proofs.FaultLemmas.{flat-none, first-from-0}
+use Rattle.sparse_laws.proofs.OverflowLemmas.{faces-counted, overflows-here, overflows-there}
+use Rattle.sparse_level.specs.View.{SparseTopology, SparseChild}
+use Rattle.sparse_refiner.specs.Refined.{IsRefined, SparseOf, places_for}
+use Rattle.sparse_walk.specs.Step.{IsSparseCause}
+use Rattle.sparse_walk.specs.Faults.{IsFaultAt}
+use Rattle.sparse_walk.proofs.MaskLemmas.{kept, by}
+
+-- halves overflow at a point of the level that has a present child
+abbrev has_overflow : Level → Meeting → ℕ → Bool
+has_overflow base meeting k = list_any (chaikin_overflows_at (refined_level base k)) (points_with_child base meeting (refined_level base k).point_count k)
+
+-- in the level after this one few enough faces are present, and no halves overflow
+pub record IsFine (base : Level) (meeting : Meeting) (k : ℕ) : Type 0 where
+  pub few : present_faces base meeting (suc k) ≤ 2 ^ 22
+  pub fine : has_overflow base meeting k ≡ false
+
+abbrev pub AreFine : Level → Meeting → ℕ → Type 0
+AreFine base meeting depth = (k : ℕ) → k < depth → IsFine base meeting k
+
+-- why the level after this one is not made
+abbrev pub HasCause : Level → Meeting → ℕ → Cause → Type 0
+HasCause base meeting k (cause.TooManyFaces count) = (count ≡ present_faces base meeting (suc k)) × (2 ^ 22 < count)
+HasCause base meeting k (cause.Overflow kind.Chaikin) = (present_faces base meeting (suc k) ≤ 2 ^ 22) × (has_overflow base meeting k ≡ true)
+HasCause base meeting k (cause.Overflow kind.Transition) = ⊥
+HasCause base meeting k (cause.Overflow kind.Denominator) = ⊥
+HasCause base meeting k (cause.Overflow kind.Value) = ⊥
+HasCause base meeting k cause.TooManyEntries = ⊥
+HasCause base meeting k cause.Memory = Unit {0}
+
+-- Two faults, one before the other.
+
+neither : (a b : Bool) (x y : Fault) → a ≡ false → b ≡ false → fault_where a x ++ (fault_where b y ++ []) ≡ []
+neither true b x y e f = absurd (cc)
+neither false true x y e f = absurd (cc)
+neither false false x y e f = refl
+
+the-first : (a : Bool) (x : Fault) (others : List Fault) → a ≡ true → first_of (fault_where a x ++ others) ≡ Some x
+the-first true x others e = refl
+the-first false x others e = absurd (cc)
+
+the-second : (a b : Bool) (x y : Fault) (others : List Fault) → a ≡ false → b ≡ true → first_of (fault_where a x ++ (fault_where b y ++ others)) ≡ Some y
+the-second true b x y others e f = absurd (cc)
+the-second false true x y others e f = refl
+the-second false false x y others e f = absurd (cc)
+
+module _ (channel : Channel) (meeting : Meeting) (track : Track) where
+  none-there : (k : ℕ) → IsFine channel.base meeting k → sparse_level_faults Sharpnesses channel meeting track k ≡ []
+  none-there k is =
+      neither (nat_lt face_limit (present_faces channel.base meeting (suc k))) (has_overflow channel.base meeting k) (TooLarge (LevelFaces (suc k) (present_faces channel.base meeting (suc k)))) (Overflow track (suc k) ChaikinOverflow)
+      (le-ltb face_limit (present_faces channel.base meeting (suc k)) is.few) is.fine
+
+  -- levels that are made have no fault
+  pub sparse-none : (depth : ℕ) → AreFine channel.base meeting depth → sparse_faults Sharpnesses channel meeting track depth ≡ []
+  sparse-none depth are = flat-none (sparse_level_faults Sharpnesses channel meeting track) 0 depth (λ k h. none-there k (are k (omega (arith, h))))
+
+  -- and the first fault of the next level is the first of all
+  sparse-first : (k depth : ℕ) (fault : Fault) → k < depth → AreFine channel.base meeting k → first_of (sparse_level_faults Sharpnesses channel meeting track k) ≡ Some fault
+      → first_of (sparse_faults Sharpnesses channel meeting track depth) ≡ Some fault
+  sparse-first k depth fault within are here =
+      first-from-0 (sparse_level_faults Sharpnesses channel meeting track) depth k fault within (λ j h. none-there j (are j h)) here
+
+  large-first : (k depth count : ℕ) → k < depth → AreFine channel.base meeting k → HasCause channel.base meeting k (cause.TooManyFaces count)
+      → first_of (sparse_faults Sharpnesses channel meeting track depth) ≡ Some (TooLarge (LevelFaces (suc k) count))
+  large-first k depth count within are is =
+      let present = present_faces channel.base meeting (suc k) in
+      sparse-first k depth (TooLarge (LevelFaces (suc k) present)) within are
+      (the-first (nat_lt face_limit present) (TooLarge (LevelFaces (suc k) present)) (level_faults Sharpnesses (sparse_levels channel meeting) track k)
+      (lt-ltb face_limit present (subst (λ n. 2 ^ 22 < n) is.0 is.1)))
+      ∙ ap (λ n. Some (TooLarge (LevelFaces (suc k) n))) (sym is.0)
+
+  chaikin-first : (k depth : ℕ) → k < depth → AreFine channel.base meeting k → HasCause channel.base meeting k (cause.Overflow kind.Chaikin)
+      → first_of (sparse_faults Sharpnesses channel meeting track depth) ≡ Some (Overflow track (suc k) ChaikinOverflow)
+  chaikin-first k depth within are is =
+      let present = present_faces channel.base meeting (suc k) in
+      sparse-first k depth (Overflow track (suc k) ChaikinOverflow) within are
+      (the-second (nat_lt face_limit present) (has_overflow channel.base meeting k) (TooLarge (LevelFaces (suc k) present)) (Overflow track (suc k) ChaikinOverflow)
+      (asked_faults Sharpnesses (sparse_levels channel meeting) track k) (le-ltb face_limit present is.0) is.1)
+
+module _ (base : Level) (meeting : Meeting) (k depth : ℕ) (within : k < depth) (are : AreFine base meeting k) where
+  named : suc k ≡ k + 1
+  named = omega arith
+
+  -- the next level is the first that is not reached
+  pub refused-first : (cause : Cause) → HasCause base meeting k cause → IsFaultAt Sharpnesses base meeting depth (k + 1) cause
+  refused-first (cause.TooManyFaces count) is = λ channel same track.
+      large-first channel meeting track k depth count within (subst (λ b. AreFine b meeting k) (sym same) are)
+      (subst (λ b. HasCause b meeting k (cause.TooManyFaces count)) (sym same) is)
+      ∙ ap (λ n. Some (TooLarge (LevelFaces n count))) named
+  refused-first (cause.Overflow kind.Chaikin) is = λ channel same track.
+      chaikin-first channel meeting track k depth within (subst (λ b. AreFine b meeting k) (sym same) are)
+      (subst (λ b. HasCause b meeting k (cause.Overflow kind.Chaikin)) (sym same) is)
+      ∙ ap (λ n. Some (Overflow track n ChaikinOverflow)) named
+  refused-first (cause.Overflow kind.Transition) is = absurd is
+  refused-first (cause.Overflow kind.Denominator) is = absurd is
+  refused-first (cause.Overflow kind.Value) is = absurd is
+  refused-first cause.TooManyEntries is = absurd is
+  refused-first cause.Memory is = tt
+
+-- What a step says of its level is so in the definitions.
+
+module _ (test : FaceFacts → Bool) (t : SparseTopology) (of : SparseOf test t) where
+  counted : length (places_for test t) ≡ present_faces of.base of.meeting (suc t.depth)
+  counted = faces-counted (kept test t of) (by test t of)
+
+  pub fine-here : (step : SparseChild) → IsRefined test t step → IsFine of.base of.meeting t.depth
+  fine-here step refined = record {
+    few = subst (λ n. n ≤ 2 ^ 22) counted refined.few;
+    fine = go (has_overflow of.base of.meeting t.depth) refl;
+  }
+    where
+      go : (b : Bool) → has_overflow of.base of.meeting t.depth ≡ b → has_overflow of.base of.meeting t.depth ≡ false
+      go false e = e
+      go true e =
+          let found = overflows-there (kept test t of) (by test t of) e in
+          let fine = refined.fine found.0 found.1.exists found.1.on in
+          absurd (cc (fine, found.1.overflows))
+
+  pub cause-here : (cause : Cause) → IsSparseCause test t cause → HasCause of.base of.meeting t.depth cause
+  cause-here (cause.TooManyFaces count) is = (is.0 ∙ counted, is.1)
+  cause-here (cause.Overflow kind.Chaikin) is = (subst (λ n. n ≤ 2 ^ 22) counted is.few, overflows-here (kept test t of) (by test t of) is.v is.overflows)
+  cause-here (cause.Overflow kind.Transition) is = is
+  cause-here (cause.Overflow kind.Denominator) is = is
+  cause-here (cause.Overflow kind.Value) is = is
+  cause-here cause.TooManyEntries is = is
+  cause-here cause.Memory is = tt

@@ -1,0 +1,9 @@
+pub mod OriginLemmas
+pub mod OnLemmas
+pub mod MaskLemmas
+pub mod StepLemmas
+pub mod FaultLemmas
+pub mod ReachedLemmas
+pub mod KeptLemmas
+pub mod SeriesLemmas
+pub mod StartLemmas

@@ -1,0 +1,120 @@
+-- What is known after so many steps over sparse levels, whatever is carried along and whoever takes what is left.
+use Rattle.std.proofs.Common.{◌≡◌, ℕ, zero, suc, ◌+◌, ◌<◌, ◌≤◌, Bool, true, false, nat_lt, List, [], ◌∷◌, length, map, arith, refl, ap, sym, ◌∙◌, subst}
+use Rattle.std.specs.List.{filter, range_with_len}
+use Rattle.std.proofs.lemmas.Bool.Decides.{nat_tests}
+use Rattle.std.proofs.lemmas.List.FromFn.{length-map-range_with_len}
+use Rattle.std.proofs.Math.ListN.{get_or-eq_default}
+use Rattle.subdiv_model.specs.Lists.{places_from}
+use Rattle.subdiv_model.specs.Level.{Level}
+use Rattle.subdiv_model.specs.Feature.{FaceFacts}
+use Rattle.subdiv_model.specs.Sparse.{Meeting, meeting_of, meeting_to}
+use Rattle.subdiv_model.specs.SparseFaults.{present_faces}
+use Rattle.subdiv_model.specs.SparseText.{written_level}
+use Rattle.subdiv_model.specs.Channel.{Sharpnesses}
+use Rattle.level_topology.specs.Topology.{Topology}
+use Rattle.level_topology.specs.Child.{ChildTopology}
+use Rattle.level_walk.specs.declared.fault.Cause.{Cause}
+use Rattle.level_walk.specs.Walk.{Place, IsWalked}
+use Rattle.sparse_laws.specs.Selected.{is_selected_in}
+use Rattle.sparse_laws.specs.Written.{written_here}
+use Rattle.sparse_laws.proofs.OverflowLemmas.{faces-counted}
+use Rattle.sparse_laws.proofs.WrittenLemmas.{written-refined, written-last}
+use Rattle.sparse_level.specs.View.{SparseTopology, SparseChild, level_of, next_of}
+use Rattle.sparse_level.specs.Places.{marked}
+use Rattle.sparse_refiner.specs.Refined.{IsRefined, SparseOf, places_for}
+use Rattle.sparse_walk.specs.View.{Walked}
+use Rattle.sparse_walk.specs.Step.{StandsFor, IsMade, IsSparseCause}
+use Rattle.sparse_walk.specs.Faults.{IsFaultAt}
+use Rattle.sparse_walk.proofs.MaskLemmas.{kept, by}
+use Rattle.sparse_walk.proofs.StepLemmas.{agrees-to, sparse-by, stands-next}
+use Rattle.sparse_walk.proofs.FaultLemmas.{AreFine, HasCause, IsFine, refused-first, fine-here, cause-here}
+
+plus-one : (k : ℕ) → k + 1 ≡ suc k
+plus-one k = omega arith
+
+-- the numbers that are marked are those that pass the test
+marked-from : (test : ℕ → Bool) (a n : ℕ) → places_from a (λ mark. mark) (map test (range_with_len a n)) ≡ filter test (range_with_len a n)
+marked-from test a zero = refl
+marked-from test a (suc n) = go (test a) refl (marked-from test (a + 1) n)
+  where
+    go : (b : Bool) → test a ≡ b → places_from (a + 1) (λ mark. mark) (map test (range_with_len (a + 1) n)) ≡ filter test (range_with_len (a + 1) n)
+        → places_from a (λ mark. mark) (map test (range_with_len a (suc n))) ≡ filter test (range_with_len a (suc n))
+    go true e rest = rw e (ap (λ (ns : List ℕ). a ∷ ns) rest)
+    go false e rest = rw e rest
+
+-- what is written of a level, when it is known which of its faces are selected
+here-written : (test : FaceFacts → Bool) (t : SparseTopology) (of : SparseOf test t) (step : SparseChild) → IsRefined test t step
+    → written_here (level_of t) (marked step.selected) ≡ written_level of.base of.meeting t.depth
+here-written test t of step refined =
+    ap (λ marks. written_here (level_of t) (marked marks)) refined.selected
+    ∙ ap (written_here (level_of t)) (marked-from (is_selected_in test (level_of t)) 0 (length t.topology.level.polygons))
+    ∙ written-refined (kept test t of) (by test t of)
+
+-- what is walked, as a level
+abbrev pub topology_of : Walked → Topology
+topology_of walked = walked.sparse.topology
+
+module _ (test : FaceFacts → Bool) (base : Level) (depth : ℕ) where
+  abbrev meeting : Meeting
+  meeting = meeting_to test base depth
+
+  -- the level after so many steps, none of which was refused
+  pub record IsReached (k : ℕ) (t : SparseTopology) : Type 0 where
+    pub deep : t.depth ≡ k
+    pub stands : StandsFor test base t
+    pub fine : AreFine base meeting k
+
+  pub reached-none : (t : SparseTopology) → t.depth ≡ 0 → StandsFor test base t → IsReached 0 t
+  reached-none t deep stands = record { deep = deep; stands = stands; fine = λ k h. absurd (omega (arith, h)) }
+
+  module _ (k : ℕ) (t : SparseTopology) (is : IsReached k t) (within : k < depth) where
+    -- by the predicate to the depth the level is one of the definitions
+    abbrev pub sparse-in : SparseOf test t
+    sparse-in = sparse-by test base t is.stands meeting (λ j h. agrees-to test base depth j (omega (arith, h, is.deep, within)))
+
+    -- so many faces are present in the next level
+    pub next-counted : length (places_for test t) ≡ present_faces base meeting (suc k)
+    next-counted = faces-counted (kept test t sparse-in) (by test t sparse-in) ∙ ap (λ n. present_faces base meeting (suc n)) is.deep
+
+    -- what is written of the level, once the next one is made
+    pub level-written : (step : SparseChild) → IsRefined test t step → written_here (level_of t) (marked step.selected) ≡ written_level base meeting k
+    level-written step refined = here-written test t sparse-in step refined ∙ ap (written_level base meeting) is.deep
+
+    -- one level more
+    pub reached-next : (step : SparseChild) → IsRefined test t step → IsReached (k + 1) (next_of step)
+    reached-next step refined = record {
+      deep = refined.next.depth ∙ ap suc is.deep ∙ sym (plus-one k);
+      stands = stands-next test base t is.stands step refined;
+      fine = λ j h. go j h (nat_lt j k) refl;
+    }
+      where
+        go : (j : ℕ) → j < k + 1 → (b : Bool) → nat_lt j k ≡ b → IsFine base meeting j
+        go j h true e = is.fine j (grind (arith, nat_tests))
+        go j h false e =
+            let same : k ≡ j = grind (arith, nat_tests) in
+            subst (IsFine base meeting) same (subst (IsFine base meeting) is.deep (fine-here test t sparse-in step refined))
+
+    -- where the step refuses the next level, that has the first fault of all
+    pub fault-here : (cause : Cause) → IsSparseCause test t cause → IsFaultAt Sharpnesses base meeting depth (k + 1) cause
+    fault-here cause refused =
+        refused-first base meeting k depth within is.fine cause (subst (λ n. HasCause base meeting n cause) is.deep (cause-here test t sparse-in cause refused))
+
+  -- what is written of the last level, of which no face is selected
+  pub last-written : (t : SparseTopology) → IsReached depth t → written_here (level_of t) [] ≡ written_level base meeting depth
+  last-written t is =
+      written-last (record { base = base; meeting = meeting; sparse = level_of t; over = is.stands.over; is = is.stands.is meeting (λ j h. agrees-to test base depth j (omega (arith, h, is.deep))) })
+      (get_or-eq_default meeting [] (omega (arith, is.deep, length-map-range_with_len (meeting_of test base) 0 depth)))
+      ∙ ap (written_level base meeting) is.deep
+
+  -- a step of the walk
+  pub made-next : (k : ℕ) (from : Walked) (child : ChildTopology) (next : Walked) (old new : ℕ) → k < depth → IsReached k from.sparse → IsMade test from child next old new → IsReached (k + 1) next.sparse
+  made-next k from child next old new within is made =
+      subst (λ (w : Walked). IsReached (k + 1) w.sparse) (sym made.next_is) (reached-next k from.sparse is within made.step made.refined)
+
+  -- the level after so many rounds
+  pub walked-reached : {C V : Type 0} (Follows : Topology → ChildTopology → C → C → ℕ → ℕ → Type 0) (Takes : V → Walked → C → V → Type 0) (start : Place Walked C V) → IsReached 0 start.reached.level.sparse
+      → (k : ℕ) (end : Place Walked C V) → k ≤ depth → IsWalked topology_of (IsMade test) Follows Takes start k end → IsReached k end.reached.level.sparse
+  walked-reached {C = C} {V = V} Follows Takes start at zero end within is = subst (λ (p : Place Walked C V). IsReached 0 p.reached.level.sparse) (sym is) at
+  walked-reached {C = C} {V = V} Follows Takes start at (suc k) end within (before, (walked, leads)) =
+      subst (λ n. IsReached n end.reached.level.sparse) (plus-one k)
+      (made-next k before.reached.level leads.made.child end.reached.level before.steps leads.made.between (omega (arith, within)) (walked-reached Follows Takes start at k before (omega (arith, within)) walked) leads.made.made)

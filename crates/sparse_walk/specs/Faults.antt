@@ -1,0 +1,37 @@
+-- Why sparse levels do not come to a depth: their first fault.
+-- Source: this profile.
+use Rattle.std.specs.Prelude.{ℕ, ◌≡◌, Bool, [], Some}
+use Rattle.subdiv_model.specs.Lists.{first_of}
+use Rattle.subdiv_model.specs.Level.{Level}
+use Rattle.subdiv_model.specs.Feature.{FaceFacts}
+use Rattle.subdiv_model.specs.Sparse.{Meeting, meeting_to}
+use Rattle.subdiv_model.specs.SparseFaults.{sparse_faults}
+use Rattle.subdiv_model.specs.Fault as model
+use Rattle.subdiv_model.specs.Fault.{Fault, Track}
+use Rattle.subdiv_model.specs.Channel.{Channel, Asked, Sharpnesses}
+use Rattle.level_walk.specs.View.{kind_of}
+use Rattle.level_walk.specs.declared.fault.Cause.{Cause}
+use Rattle.level_walk.specs.declared.fault.Cause.TheVariants.{TooManyFaces, Overflow, TooManyEntries, Memory}
+use Rattle.level_walk.specs.declared.fault.WalkFault.{WalkFault}
+
+-- the first fault of the sparse levels to a depth, of those that are asked for, is this one, for each channel of the base and whatever
+-- the track is called
+abbrev pub IsFirstFault : Asked → Level → Meeting → ℕ → (Track → Fault) → Type 0
+IsFirstFault asked base meeting depth fault =
+    (channel : Channel) → channel.base ≡ base → (track : Track) → first_of (sparse_faults asked channel meeting track depth) ≡ Some (fault track)
+
+-- the level with this number is the first that is not reached, and this is why; memory may run out at any level
+abbrev pub IsFaultAt : Asked → Level → Meeting → ℕ → ℕ → Cause → Type 0
+IsFaultAt asked base meeting depth level (TooManyFaces count) = IsFirstFault asked base meeting depth (λ track. model.TooLarge (model.LevelFaces level count))
+IsFaultAt asked base meeting depth level (Overflow kind) = IsFirstFault asked base meeting depth (λ track. model.Overflow track level (kind_of kind))
+IsFaultAt asked base meeting depth level TooManyEntries = IsFirstFault asked base meeting depth (λ track. model.TooLarge (model.Entries level))
+IsFaultAt asked base meeting depth level Memory = Unit {0}
+
+-- why the sparse levels by a test do not come to a depth
+abbrev pub IsSparseFault : Asked → Level → (FaceFacts → Bool) → ℕ → WalkFault → Type 0
+IsSparseFault asked base test depth fault = IsFaultAt asked base (meeting_to test base depth) depth fault.level fault.cause
+
+-- they come to it
+abbrev pub HasNoSparseFault : Level → (FaceFacts → Bool) → ℕ → Type 0
+HasNoSparseFault base test depth =
+    (channel : Channel) → channel.base ≡ base → (track : Track) → sparse_faults Sharpnesses channel (meeting_to test base depth) track depth ≡ []

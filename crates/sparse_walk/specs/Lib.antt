@@ -1,0 +1,6 @@
+pub mod View
+pub mod Base
+pub mod Step
+pub mod Kept
+pub mod Levels
+pub mod Faults

@@ -1,0 +1,68 @@
+//! What is written of all sparse levels to a depth.
+
+ghost use Rattle.std.specs.Prelude.{◌≡◌, ◌≤◌, map, IfOk, MatchResult, OnOk};
+ghost use Rattle.subdiv_model.specs.Channel.{Sharpnesses};
+ghost use Rattle.feature_select.specs.Rule.{AnswersTest};
+ghost use Rattle.sparse_walk.specs.Base.{IsSparseBase};
+ghost use Rattle.sparse_walk.specs.Levels.{faces_of, written_to, AreSparseSteps};
+ghost use Rattle.sparse_walk.specs.Faults.{IsSparseFault, HasNoSparseFault};
+
+use crate::kept::{Keeping, KeptLevel};
+use crate::step::Sparse;
+use crate::walked::WalkedSparse;
+use feature_select::{FaceTest, SelectRule};
+use level_topology::{FaceFacts, Level};
+use level_walk::{Nothing, Reached, WalkFault, walk};
+use ratio128::{Memory, Steps};
+use sparse_faces::SparseFaces;
+use std::alloc::Global;
+use std::sync::ledger::Ledger;
+
+// What is written of each level, without what was carried there.
+fn faces_alone(alloc: Global, levels: Vec<KeptLevel<()>>) -> Result<Vec<SparseFaces>, Memory>
+    ensures { IfOk result (λ faces. faces.items ≡ map faces_of levels.items) }
+{
+    let mut faces = Vec::with_capacity(alloc, levels.len())?;
+    for level in levels {
+        faces.push(level.faces)?;
+    }
+    Ok(faces)
+}
+
+/// The sparse levels of a level to a depth, as they are written: level 0 whole, and each further one of the children around the faces
+/// that the rule selects. It is one step for each face that is present in the levels after the first.
+///
+/// A fault is that of the first level that is not reached, from 1: `TooManyFaces` with the number of its present faces where there are
+/// more than 2^22, `Overflow` of the kind `Chaikin` where the halves of edges overflow, and `Memory` where memory runs out.
+pub fn sparse_levels<T: FaceTest, F: Fn(&FaceFacts) -> bool, L: Ledger>(
+    alloc: Global,
+    base: Level,
+    rule: &SelectRule<T, F>,
+    depth: u32,
+    steps: &mut Steps<L>,
+) -> Result<Vec<SparseFaces>, WalkFault>
+    requires base { IsSparseBase base }
+    requires depth { depth ≤ 10 }
+    requires answers { AnswersTest F.Fn rule.now.0 (T.meets rule.now.1) }
+    ensures written { MatchResult result
+        (λ levels. levels.items ≡ written_to base.level (T.meets rule.now.1) depth)
+        (λ fault. IsSparseFault Sharpnesses base.level (T.meets rule.now.1) depth fault) }
+    ensures fine { OnOk result (HasNoSparseFault base.level (T.meets rule.now.1) depth) }
+    ensures steps { AreSparseSteps base.level (T.meets rule.now.1) depth steps.old steps.new }
+{
+    base.facts();
+    let mut keeping = Keeping::with_room(alloc, depth)?;
+    let level = WalkedSparse::base(alloc, base)?;
+    let start = Reached { level, carried: () };
+    let end = walk(
+        alloc,
+        &Sparse { rule },
+        &Nothing,
+        &mut keeping,
+        start,
+        depth,
+        steps,
+    )?;
+    let levels = keeping.into_levels(end.level, end.carried)?;
+    Ok(faces_alone(alloc, levels)?)
+}

@@ -1,0 +1,72 @@
+//! What is walked.
+
+ghost use Rattle.std.specs.Prelude.{◌≡◌, ℕ, ◌<◌, true, false, [], get_or, IfOk};
+ghost use Rattle.sparse_level.specs.View.{base_of};
+ghost use Rattle.sparse_walk.specs.View.{walked, walked_after};
+
+use level_topology::Level;
+use ratio128::Memory;
+use sparse_level::{SparseLevel, SparseStep};
+use std::alloc::Global;
+use std::marker::Model;
+
+/// A sparse level, and which faces of the level before are selected: a mark for each of them. Before level 0 there is none.
+#[derive(Drop)]
+pub struct WalkedSparse {
+    sparse: SparseLevel,
+    before: Vec<bool>,
+}
+
+impl Model for WalkedSparse {
+    ghost use Rattle.sparse_walk.specs.View.{Walked, walked};
+
+    ghost Value = { Walked };
+
+    ghost view = { λ w. walked w.sparse w.before.items };
+}
+
+impl WalkedSparse {
+    /// Level 0, which is the whole level. Each vertex of the level is complete.
+    ///
+    /// It answers `Memory` where memory runs out, and the level is dropped then.
+    pub fn base(alloc: Global, level: Level) -> Result<WalkedSparse, Memory>
+        requires { (v : ℕ) → v < level.level.point_count → get_or level.complete v false ≡ true }
+        ensures { IfOk result (λ start. start ≡ walked (base_of level) []) }
+    {
+        let sparse = SparseLevel::base(alloc, level)?;
+        Ok(WalkedSparse {
+            sparse,
+            before: Vec::new(alloc),
+        })
+    }
+
+    /// The level that a step made.
+    pub fn after(step: SparseStep) -> WalkedSparse
+        ensures { result ≡ walked_after step }
+    {
+        let (sparse, before) = step.into_parts();
+        WalkedSparse { sparse, before }
+    }
+
+    /// The level.
+    pub fn sparse(&self) -> &SparseLevel
+        ensures { result.now ≡ self.now.sparse }
+    {
+        &self.sparse
+    }
+
+    /// The marks of the faces of the level before.
+    pub fn before(&self) -> &[bool]
+        ensures { result.now ≡ self.now.before }
+    {
+        &self.before
+    }
+
+    /// The level, and the marks of the faces of the level before.
+    pub fn into_parts(self) -> (SparseLevel, Vec<bool>)
+        ensures sparse { result.0 ≡ self.sparse }
+        ensures before { result.1.items ≡ self.before }
+    {
+        (self.sparse, self.before)
+    }
+}
