@@ -19,12 +19,12 @@ IsFirstHeld (test ∷ tests) zero = test.0 ≡ true
 IsFirstHeld (test ∷ tests) (suc at) = (test.0 ≡ false) × IsFirstHeld tests at
 
 -- where no test holds there is no fault, and else the first is that of the first test that does
-none-held : (tests : List (Bool × Fault)) → AllByRecursion (λ test. test.0 ≡ false) tests → held_faults tests ≡ []
+pub none-held : (tests : List (Bool × Fault)) → AllByRecursion (λ test. test.0 ≡ false) tests → held_faults tests ≡ []
 none-held [] all = refl
 none-held ((b, fault) ∷ []) all = rw all.0 refl
 none-held ((b, fault) ∷ next ∷ tests) all = rw all.0 (none-held (next ∷ tests) all.1)
 
-first-held : (tests : List (Bool × Fault)) (at : ℕ) (none : Bool × Fault) → IsFirstHeld tests at → first_of (held_faults tests) ≡ Some (get_or tests at none).1
+pub first-held : (tests : List (Bool × Fault)) (at : ℕ) (none : Bool × Fault) → IsFirstHeld tests at → first_of (held_faults tests) ≡ Some (get_or tests at none).1
 first-held [] at none is = absurd is
 first-held ((b, fault) ∷ []) zero none is = rw is refl
 first-held ((b, fault) ∷ []) (suc at) none is = absurd is.1

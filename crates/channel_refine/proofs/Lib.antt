@@ -1,16 +1,16 @@
 pub mod FaultLemmas
 pub mod ValueLemmas
-mod TableLemmas
+pub mod TableLemmas
 mod UniformLemmas
 pub mod DenominatorLemmas
 pub mod FirstLemmas
 pub mod ChannelLemmas
-mod IdentityLemmas
+pub mod IdentityLemmas
 mod ComposedLemmas
 mod ResultLemmas
 mod WalkedLemmas
 mod WalkedTableLemmas
-mod ControlLemmas
+pub mod ControlLemmas
 mod SumLemmas
 pub mod EvaluatedLemmas
 pub mod NumeratorLemmas

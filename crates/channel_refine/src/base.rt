@@ -53,22 +53,29 @@ impl BaseChannel {
         let _ = &self.level;
     }
 
-    // The scheme.
-    pub(crate) fn scheme(&self) -> Scheme
+    /// The scheme.
+    pub fn scheme(&self) -> Scheme
         ensures { scheme_of result ≡ self.now.scheme }
     {
         self.scheme
     }
 
-    // The greater of the greatest control number and the denominator.
-    pub(crate) fn most(&self) -> u128
+    /// The greater of the greatest control number and the denominator.
+    pub fn most(&self) -> u128
         ensures { result ≡ max self.now.greatest self.now.common }
     {
         self.greatest.max(self.common)
     }
 
-    // Level 0 without the rest.
-    pub(crate) fn into_level(self) -> Level
+    /// Level 0.
+    pub fn level(&self) -> &Level
+        ensures { result.now.level ≡ self.now.base }
+    {
+        &self.level
+    }
+
+    /// Level 0 without the rest.
+    pub fn into_level(self) -> Level
         ensures base { IsBase result }
         ensures level { result.level ≡ self.base }
     {
