@@ -1,0 +1,13 @@
+mod ListLemmas
+mod OriginLemmas
+mod TableLemmas
+mod OrderLemmas
+mod FaultLemmas
+mod NextLemmas
+mod LevelLemmas
+mod WalkedLemmas
+mod ValuedLemmas
+mod MarkLemmas
+mod RowLemmas
+mod StartLemmas
+mod ListedLemmas

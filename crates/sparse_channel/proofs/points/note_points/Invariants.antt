@@ -1,0 +1,12 @@
+use Rattle.std.proofs.Common.{◌≡◌, length, take}
+use Rattle.sparse_level.specs.Places.{with_points}
+use Rattle.sparse_channel.specs.Marks.{AreMarked}
+use Rattle.sparse_channel.proofs.points.note_points.Given as goal
+
+-- those so far are there
+abbrev pub invariant-loop-n : goal.invariant-loop-n
+invariant-loop-n l = record {
+  points : l.points.items ≡ with_points l.fn.points.items (take l.n-index l.corners);
+  marks : AreMarked l.points.items l.met.items;
+  size : length l.met.items ≡ length l.fn.met.items;
+}

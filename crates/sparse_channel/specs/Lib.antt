@@ -1,0 +1,5 @@
+pub mod Refined
+pub mod View
+pub mod Composed
+pub mod Marks
+pub mod Start

@@ -1,0 +1,82 @@
+-- The sparse levels of a channel to a depth, with the values of the points that are written.
+-- Source: this profile.
+use Rattle.std.specs.Prelude.{ℕ, ◌≡◌, ◌+◌, ◌*◌, ◌<◌, ◌≤◌, pos, Bool, List, [], length, get_or, max, Some}
+use Rattle.std.specs.List.{All, sum_by, range_with_len}
+use Rattle.subdiv_model.specs.Lists.{first_of}
+use Rattle.subdiv_model.specs.Value.{whole_value}
+use Rattle.subdiv_model.specs.Level.{Level}
+use Rattle.subdiv_model.specs.Refined.{refined_values, control_values}
+use Rattle.subdiv_model.specs.Feature.{FaceFacts}
+use Rattle.subdiv_model.specs.Fault as model
+use Rattle.subdiv_model.specs.Fault.{Fault, Track}
+use Rattle.subdiv_model.specs.Channel.{Channel, Tables, number_bound, denominators_after}
+use Rattle.subdiv_model.specs.Sparse.{Meeting, meeting_to}
+use Rattle.subdiv_model.specs.SparseFaults.{present_entries, present_faces, sparse_faults}
+use Rattle.subdiv_model.specs.SparseText.{WrittenLevel, written_level, written_points}
+use Rattle.sparse_values.specs.Uniform.{items_at}
+use Rattle.primvar_refine.specs.Rows.{Row, row_at, dens_of, StandFor, AreWithin}
+use Rattle.channel_refine.specs.Refined.{column_of}
+use Rattle.level_walk.specs.View.{kind_of}
+use Rattle.level_walk.specs.declared.fault.Cause.{Cause}
+use Rattle.level_walk.specs.declared.fault.Cause.TheVariants.{TooManyFaces, Overflow, TooManyEntries, Memory}
+use Rattle.level_walk.specs.declared.fault.WalkFault.{WalkFault}
+
+-- what is written of a level, and the values of its written points, as rows
+pub record SparseRows : Type 0 where
+  pub written : WrittenLevel
+  pub rows : List Row
+
+-- the predicate of a test to a depth
+abbrev pub meeting_of : (FaceFacts → Bool) → Channel → ℕ → Meeting
+meeting_of test channel depth = meeting_to test channel.base depth
+
+-- The level is written as in the definitions. In each column its rows are the uniform values at the written points, over the uniform
+-- common denominators.
+pub record IsSparseLevel (channel : Channel) (meeting : Meeting) (controls : List Row) (k : ℕ) (level : SparseRows) : Type 0 where
+  pub written : level.written ≡ written_level channel.base meeting k
+  pub dens : dens_of level.rows ≡ items_at (written_points channel.base meeting k) 1 (denominators_after channel k)
+  pub values : (column : ℕ) → StandFor level.rows column
+      (items_at (written_points channel.base meeting k) (whole_value (pos 0)) (refined_values channel.base channel.scheme (control_values (column_of column controls)) k))
+  pub within : AreWithin channel.greatest level.rows
+  pub short : All (λ row. row.den * max channel.greatest channel.common ≤ number_bound) level.rows
+  pub positive : All (λ row. 0 < row.den) level.rows
+  pub alike : All (λ row. length row.numbers ≡ length (row_at controls 0).numbers) level.rows
+
+-- no level to the depth has a fault, and these are the levels from 0 on
+pub record AreSparseLevels (channel : Channel) (meeting : Meeting) (controls : List Row) (depth : ℕ) (levels : List SparseRows) : Type 0 where
+  pub fine : (track : Track) → sparse_faults Tables channel meeting track depth ≡ []
+  pub count : length levels ≡ depth + 1
+  pub each : (k : ℕ) → k ≤ depth → IsSparseLevel channel meeting controls k (get_or levels k (record { written = record { point_count = 0; faces = [] }; rows = [] }))
+
+-- the first fault of the sparse levels to a depth is this one, whatever the track is called
+abbrev pub IsFirstSparse : Channel → Meeting → ℕ → (Track → Fault) → Type 0
+IsFirstSparse channel meeting depth fault = (track : Track) → first_of (sparse_faults Tables channel meeting track depth) ≡ Some (fault track)
+
+-- the level with this number is the first that is not reached, and this is why; memory may run out at any level
+abbrev pub IsSparseCause : Channel → Meeting → ℕ → ℕ → Cause → Type 0
+IsSparseCause channel meeting depth level (TooManyFaces count) = IsFirstSparse channel meeting depth (λ track. model.TooLarge (model.LevelFaces level count))
+IsSparseCause channel meeting depth level (Overflow kind) = IsFirstSparse channel meeting depth (λ track. model.Overflow track level (kind_of kind))
+IsSparseCause channel meeting depth level TooManyEntries = IsFirstSparse channel meeting depth (λ track. model.TooLarge (model.Entries level))
+IsSparseCause channel meeting depth level Memory = Unit {0}
+
+abbrev pub IsSparseFault : Channel → Meeting → ℕ → WalkFault → Type 0
+IsSparseFault channel meeting depth fault = IsSparseCause channel meeting depth fault.level fault.cause
+
+-- for the predicate of a test
+abbrev pub AreSparseTo : (FaceFacts → Bool) → Channel → List Row → ℕ → List SparseRows → Type 0
+AreSparseTo test channel controls depth levels = AreSparseLevels channel (meeting_of test channel depth) controls depth levels
+
+abbrev pub IsSparseFaultTo : (FaceFacts → Bool) → Channel → ℕ → WalkFault → Type 0
+IsSparseFaultTo test channel depth fault = IsSparseFault channel (meeting_of test channel depth) depth fault
+
+-- how many faces are present at the levels from 1 to a depth, and how many entries the tables of the present points from level 0 have
+abbrev pub present_to : Level → Meeting → ℕ → ℕ
+present_to base meeting depth = sum_by (present_faces base meeting) (range_with_len 1 depth)
+
+abbrev pub entries_to : Channel → Meeting → ℕ → ℕ
+entries_to channel meeting depth = sum_by (present_entries channel meeting) (range_with_len 0 (depth + 1))
+
+-- at most one step is taken for each of these faces, and one for each of these entries
+pub record AreSparseSteps (test : FaceFacts → Bool) (channel : Channel) (depth old new : ℕ) : Type 0 where
+  pub most : new ≤ old + present_to channel.base (meeting_of test channel depth) depth + entries_to channel (meeting_of test channel depth) depth
+  pub later : old ≤ new

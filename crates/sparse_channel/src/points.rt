@@ -1,0 +1,54 @@
+//! The points that are corners of faces, by first appearance.
+
+ghost use Rattle.std.specs.Prelude.{◌≡◌, ◌<◌, length, IfOk, OnOk};
+ghost use Rattle.std.specs.List.{All};
+ghost use Rattle.sparse_laws.specs.Written.{used_points as points_used};
+ghost use Rattle.sparse_level.specs.Places.{with_point, with_points};
+ghost use Rattle.sparse_channel.specs.Marks.{AreMarked};
+
+use level_topology::Level;
+use ratio128::Memory;
+use std::alloc::Global;
+
+// A point more, unless it has a mark.
+fn note_point(n: u32, met: &mut Vec<bool>, points: &mut Vec<u32>) -> Result<(), Memory>
+    requires marks { AreMarked points.old.items met.old.items }
+    requires inside { n < length met.old.items }
+    ensures points { OnOk result (points.new.items ≡ with_point points.old.items n) }
+    ensures marks { OnOk result (AreMarked points.new.items met.new.items) }
+    ensures size { OnOk result (length met.new.items ≡ length met.old.items) }
+{
+    if met[n as usize] {
+        return Ok(());
+    }
+    points.push(n)?;
+    met[n as usize] = true;
+    Ok(())
+}
+
+// Some points more, each unless it has a mark.
+fn note_points(corners: &[u32], met: &mut Vec<bool>, points: &mut Vec<u32>) -> Result<(), Memory>
+    requires marks { AreMarked points.old.items met.old.items }
+    requires inside { All (λ n. n < length met.old.items) corners.now }
+    ensures points { OnOk result (points.new.items ≡ with_points points.old.items corners.now) }
+    ensures marks { OnOk result (AreMarked points.new.items met.new.items) }
+    ensures size { OnOk result (length met.new.items ≡ length met.old.items) }
+{
+    for n in corners {
+        note_point(*n, met, points)?;
+    }
+    Ok(())
+}
+
+// The corners of the faces of a level, each once.
+pub(crate) fn used_points(alloc: Global, level: &Level) -> Result<Vec<u32>, Memory>
+    ensures { IfOk result (λ points. points.items ≡ points_used level.now.level) }
+{
+    level.facts();
+    let mut met = vec![in alloc; false; level.points() as usize]?;
+    let mut points = Vec::new(alloc);
+    for f in 0..level.faces() {
+        note_points(level.face_vertices(f), &mut met, &mut points)?;
+    }
+    Ok(points)
+}
