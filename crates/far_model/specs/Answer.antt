@@ -16,8 +16,12 @@ use Rattle.subdiv_model.specs.Refined.{Point, refined_points, refined_texture}
 use Rattle.subdiv_model.specs.Support.{entries_after}
 use Rattle.subdiv_model.specs.Cut.{SeamMode, SmoothSeams, CornerSeams, BoundarySeams, cut_level, channel_values}
 use Rattle.subdiv_model.specs.Channel.{Channel, Asked, Sharpnesses, Values, Tables, greatest_amount, greatest_denominator, channel_faults}
+use Rattle.subdiv_model.specs.Feature.{FaceFacts, is_feature, is_selectable}
+use Rattle.subdiv_model.specs.Sparse.{Meeting, meeting_to}
+use Rattle.subdiv_model.specs.SparseFaults.{sparse_faults}
+use Rattle.subdiv_model.specs.SparseText.{sparse_text}
 use Rattle.subdiv_model.specs.Generator.{generated_mesh}
-use Rattle.far_model.specs.Command.{Command, Reads, Makes, Streams, ReadCommand, Refine, Stencils, Levels, MakeCommand, Gen, StreamCommand, Frames, RefineOptions, FramesOptions, Uv, SmoothUv, CornersUv, BoundariesUv, LinearUv, By, ByTable, ByLevel, read_words}
+use Rattle.far_model.specs.Command.{Command, Reads, Makes, Streams, ReadCommand, Refine, Sparse, Stencils, Levels, MakeCommand, Gen, StreamCommand, Frames, RefineOptions, SparseOptions, FramesOptions, Select, FeatureFaces, AllFaces, Uv, SmoothUv, CornersUv, BoundariesUv, LinearUv, By, ByTable, ByLevel, read_words}
 use Rattle.subdiv_model.specs.Limits.{count_faults, level_count_faults}
 use Rattle.subdiv_model.specs.Fault.{Fault, Usage, Long, Obj, Mesh, Positions, Texture}
 use Rattle.far_model.specs.Refusal.{Answer, refused, answer_unless}
@@ -77,6 +81,18 @@ refine_faults options mesh =
     channel_faults (asked_of options.by) (positions_of mesh) Positions options.depth
     ++ (if mesh.has_texture then channel_faults (asked_of options.by) (texture_of mesh options.uv) Texture options.depth else [])
 
+-- the test of the faces that are refined further, and the predicate of these faces to a depth
+abbrev pub test_of : Select → FaceFacts → Bool
+test_of FeatureFaces = is_feature
+test_of AllFaces = is_selectable
+
+abbrev pub meeting_for : SparseOptions → ObjMesh → Meeting
+meeting_for options mesh = meeting_to (test_of options.select) (base_level mesh) options.depth
+
+-- the faults of the sparse levels
+abbrev pub sparse_mesh_faults : SparseOptions → ObjMesh → List Fault
+sparse_mesh_faults options mesh = sparse_faults Tables (positions_of mesh) (meeting_for options mesh) Positions options.depth
+
 -- the faults of a table of the positions
 abbrev pub table_faults : ℕ → ObjMesh → List Fault
 table_faults depth mesh = level_count_faults mesh.faces depth ++ channel_faults Tables (positions_of mesh) Positions depth
@@ -84,6 +100,7 @@ table_faults depth mesh = level_count_faults mesh.faces depth ++ channel_faults 
 -- the faults that a command has with a mesh that is accepted, in their order
 abbrev pub command_faults : ReadCommand → ObjMesh → List Fault
 command_faults (Refine options) mesh = level_count_faults mesh.faces options.depth ++ refine_faults options mesh
+command_faults (Sparse options) mesh = sparse_mesh_faults options mesh
 command_faults (Stencils depth) mesh = table_faults depth mesh
 command_faults (Levels depth) mesh = level_count_faults mesh.faces depth ++ channel_faults Sharpnesses (positions_of mesh) Positions depth
 
@@ -141,6 +158,7 @@ generated_text mesh depth =
 -- what a command writes of an accepted mesh without faults
 abbrev pub command_text : ReadCommand → ObjMesh → List ℕ
 command_text (Refine options) mesh = refined_mesh_text options mesh ++ written_tags options.tags (refined_level (base_level mesh) options.depth)
+command_text (Sparse options) mesh = sparse_text options.decimals (points_after mesh) (base_level mesh) (meeting_for options mesh) options.depth
 command_text (Stencils depth) mesh = table_text (base_level mesh) CatmullClark depth
 command_text (Levels depth) mesh = levels_text (base_level mesh) depth
 

@@ -25,6 +25,18 @@ pub record RefineOptions : Type 0 where
   -- with the tags of the last level
   pub tags : Bool
 
+-- which faces are refined further: those that are features, or all but holes
+pub data Select : Type 0 where
+  FeatureFaces : Select
+  AllFaces : Select
+
+-- what `sparse` is asked for
+pub record SparseOptions : Type 0 where
+  pub depth : ℕ
+  pub select : Select
+  -- rounded to so many decimals, or else in lowest terms
+  pub decimals : Option ℕ
+
 -- what `gen` is asked for: the sheet, and the depth
 pub record GenOptions : Type 0 where
   pub seed : ℕ
@@ -39,6 +51,7 @@ pub record FramesOptions : Type 0 where
 -- the commands that read a mesh and then answer
 pub data ReadCommand : Type 0 where
   Refine : RefineOptions → ReadCommand
+  Sparse : SparseOptions → ReadCommand
   -- the depth
   Stencils : ℕ → ReadCommand
   -- the depth
@@ -80,6 +93,16 @@ refine_of options = record {
   tags = tags_of (unwrap_or (value_of options (codes "tags")) (codes "no"));
 }
 
+abbrev pub select_of : List ℕ → Select
+select_of value = if bytes_eq value (codes "all") then AllFaces else FeatureFaces
+
+abbrev pub sparse_of : List (List ℕ) → SparseOptions
+sparse_of options = record {
+  depth = required_number options (codes "depth");
+  select = select_of (unwrap_or (value_of options (codes "select")) (codes "feature"));
+  decimals = number_of options (codes "decimals");
+}
+
 abbrev pub gen_of : List (List ℕ) → GenOptions
 gen_of options = record {
   seed = required_number options (codes "seed");
@@ -94,6 +117,7 @@ frames_of options = record { depth = required_number options (codes "depth"); sc
 abbrev pub command_named : List ℕ → List (List ℕ) → Command
 command_named name options =
     if bytes_eq name (codes "refine") then Reads (Refine (refine_of options))
+    else if bytes_eq name (codes "sparse") then Reads (Sparse (sparse_of options))
     else if bytes_eq name (codes "stencils") then Reads (Stencils (required_number options (codes "depth")))
     else if bytes_eq name (codes "frames") then Streams (Frames (frames_of options))
     else if bytes_eq name (codes "levels") then Reads (Levels (required_number options (codes "depth")))
@@ -118,6 +142,7 @@ read_words words = read_words_by command_table words
 -- to 256, and a scale of at most 18
 abbrev pub IsReadInRange : ReadCommand → Type 0
 IsReadInRange (Refine options) = (options.depth ≤ 10) × IfSome options.decimals (λ digits. digits ≤ 18)
+IsReadInRange (Sparse options) = (options.depth ≤ 10) × IfSome options.decimals (λ digits. digits ≤ 18)
 IsReadInRange (Stencils depth) = depth ≤ 10
 IsReadInRange (Levels depth) = depth ≤ 10
 

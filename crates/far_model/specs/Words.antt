@@ -42,10 +42,18 @@ path_names = codes "table" ∷ codes "level" ∷ []
 abbrev pub tags_names : List (List ℕ)
 tags_names = codes "no" ∷ codes "yes" ∷ []
 
+-- the names that say which faces are refined further, and that sparse levels have no texture
+abbrev pub select_names : List (List ℕ)
+select_names = codes "feature" ∷ codes "all" ∷ []
+
+abbrev pub sparse_texture_names : List (List ℕ)
+sparse_texture_names = codes "none" ∷ []
+
 -- the commands and their options
 abbrev pub command_table : List CommandRule
 command_table =
     record { name = codes "refine"; options = required_option (codes "depth") 0 10 ∷ number_option (codes "decimals") 0 18 ∷ name_option (codes "uv") texture_names ∷ name_option (codes "by") path_names ∷ name_option (codes "tags") tags_names ∷ [] }
+    ∷ record { name = codes "sparse"; options = required_option (codes "depth") 0 10 ∷ name_option (codes "select") select_names ∷ number_option (codes "decimals") 0 18 ∷ name_option (codes "uv") sparse_texture_names ∷ [] }
     ∷ record { name = codes "stencils"; options = required_option (codes "depth") 0 10 ∷ [] }
     ∷ record { name = codes "frames"; options = required_option (codes "depth") 0 10 ∷ number_option (codes "scale") 0 18 ∷ [] }
     ∷ record { name = codes "levels"; options = required_option (codes "depth") 0 10 ∷ [] }

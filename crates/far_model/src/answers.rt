@@ -55,6 +55,15 @@ pub fn levels_tables_and_sheets()
     ensures moved { answer (codes "frames" ∷ codes "depth=0" ∷ []) (square_text ++ codes "frames\nmove 0 1 1 1\ngo\n") ≡ record { text = codes "frame 1\np 0 1 1 1\n"; refusal = None } }
 {}
 
+/// Sparse levels of the square: with sharp corners nothing is a feature, and with all faces selected each level is whole.
+pub fn sparse_levels()
+    ensures none { answer (codes "sparse" ∷ codes "depth=1" ∷ []) (square_text ++ codes "t interpolateboundary 1/0/0 1\n")
+        ≡ record { text = codes "level 0 points 4 faces 1\nv 0 0 0\nv 4 0 0\nv 4 4 0\nv 0 4 0\nf l 0 1 2 3 4\nlevel 1 points 0 faces 0\n"; refusal = None } }
+    ensures all { (answer (codes "sparse" ∷ codes "depth=1" ∷ codes "select=all" ∷ codes "uv=none" ∷ []) square_text).text
+        ≡ codes "level 0 points 4 faces 1\nv 0 0 0\nv 4 0 0\nv 4 4 0\nv 0 4 0\nf s 0 1 2 3 4\nlevel 1 points 9 faces 4\nv 1/2 1/2 0\nv 2 0 0\nv 2 2 0\nv 0 2 0\nv 7/2 1/2 0\nv 4 2 0\nv 7/2 7/2 0\nv 2 4 0\nv 1/2 7/2 0\nf l 0 1 2 3 4\nf l 1 5 6 3 2\nf l 2 7 8 3 6\nf l 3 9 4 3 8\n" }
+    ensures words { (answer (codes "sparse" ∷ codes "depth=1" ∷ codes "uv=smooth" ∷ []) square_text).refusal ≡ Some (Usage 2) }
+{}
+
 /// The first refusal that applies.
 pub fn refusals_in_their_order()
     ensures words { answer (codes "refine" ∷ []) (codes "x") ≡ record { text = []; refusal = Some (Usage 1) } }
