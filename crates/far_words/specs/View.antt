@@ -12,10 +12,13 @@ use Rattle.far_words.specs.declared.command.Uv.TheVariants.{Smooth, Corners, Bou
 use Rattle.far_words.specs.declared.command.By.{By}
 use Rattle.far_words.specs.declared.command.By.TheVariants.{Table, Level}
 use Rattle.far_words.specs.declared.command.RefineOptions.{RefineOptions}
+use Rattle.far_words.specs.declared.command.Select.{Select}
+use Rattle.far_words.specs.declared.command.Select.TheVariants.{Feature, All}
+use Rattle.far_words.specs.declared.command.SparseOptions.{SparseOptions}
 use Rattle.far_words.specs.declared.command.GenOptions.{GenOptions}
 use Rattle.far_words.specs.declared.command.FramesOptions.{FramesOptions}
 use Rattle.far_words.specs.declared.command.ReadCommand.{ReadCommand}
-use Rattle.far_words.specs.declared.command.ReadCommand.TheVariants.{Refine, Stencils, Levels}
+use Rattle.far_words.specs.declared.command.ReadCommand.TheVariants.{Refine, Sparse, Stencils, Levels}
 use Rattle.far_words.specs.declared.command.MakeCommand.{MakeCommand}
 use Rattle.far_words.specs.declared.command.MakeCommand.TheVariants.{Gen}
 use Rattle.far_words.specs.declared.command.StreamCommand.{StreamCommand}
@@ -55,6 +58,13 @@ refine_of_code options = record {
   tags = options.tags;
 }
 
+abbrev pub select_of_code : Select → model.Select
+select_of_code Feature = model.FeatureFaces
+select_of_code All = model.AllFaces
+
+abbrev pub sparse_of_code : SparseOptions → model.SparseOptions
+sparse_of_code options = record { depth = options.depth; select = select_of_code options.select; decimals = options.decimals }
+
 abbrev pub gen_of_code : GenOptions → model.GenOptions
 gen_of_code options = record { seed = options.seed; size = options.size; depth = options.depth }
 
@@ -63,6 +73,7 @@ frames_of_code options = record { depth = options.depth; scale = options.scale }
 
 abbrev pub read_of_code : ReadCommand → model.ReadCommand
 read_of_code (Refine options) = model.Refine (refine_of_code options)
+read_of_code (Sparse options) = model.Sparse (sparse_of_code options)
 read_of_code (Stencils depth) = model.Stencils depth
 read_of_code (Levels depth) = model.Levels depth
 

@@ -39,6 +39,25 @@ pub struct RefineOptions {
     pub tags: bool,
 }
 
+/// Which faces are refined further.
+#[derive(Clone, Copy, Debug, PartialEq, Eq)]
+pub enum Select {
+    /// Those that are features: no quads, or with a corner that is not regular, and no holes.
+    Feature,
+    /// All but holes.
+    All,
+}
+
+/// What `sparse` is asked for.
+#[derive(Clone, Copy, Debug, PartialEq, Eq)]
+pub struct SparseOptions {
+    /// At most 10.
+    pub depth: u32,
+    pub select: Select,
+    /// How many decimals numbers are rounded to, at most 18, or `None` for fractions in lowest terms.
+    pub decimals: Option<u32>,
+}
+
 /// What `gen` is asked for: a sheet of `size` by `size` quads, and its depth.
 #[derive(Clone, Copy, Debug, PartialEq, Eq)]
 pub struct GenOptions {
@@ -63,6 +82,8 @@ pub struct FramesOptions {
 pub enum ReadCommand {
     /// Refines a mesh, and writes it.
     Refine(RefineOptions),
+    /// Refines the faces of a mesh that are selected, and writes each sparse level to a depth.
+    Sparse(SparseOptions),
     /// Writes the table of a mesh at a depth.
     Stencils { depth: u32 },
     /// Writes the counts of each level of a mesh to a depth.
@@ -98,6 +119,9 @@ impl ReadCommand {
     {
         match *self {
             ReadCommand::Refine(options) => {
+                options.depth <= 10 && options.decimals.unwrap_or(0) <= 18
+            }
+            ReadCommand::Sparse(options) => {
                 options.depth <= 10 && options.decimals.unwrap_or(0) <= 18
             }
             ReadCommand::Stencils { depth } => depth <= 10,

@@ -6,12 +6,12 @@ ghost use Rattle.far_model.specs.Words.{usage_of_rule};
 ghost use Rattle.far_model.specs.Words as words;
 ghost use Rattle.far_model.specs.Command.{IsInRange, read_or};
 ghost use Rattle.far_model.specs.Command as model;
-ghost use Rattle.far_words.specs.View.{table_of_code, rule_of_code, uv_of_code, by_of_code, refine_of_code, gen_of_code, frames_of_code, command_of_code, result_of_code};
+ghost use Rattle.far_words.specs.View.{table_of_code, rule_of_code, uv_of_code, by_of_code, select_of_code, refine_of_code, sparse_of_code, gen_of_code, frames_of_code, command_of_code, result_of_code};
 ghost use Rattle.far_words.specs.Table.{AreNumbersU32, is_u32_rule, is_u32_table, u32_of_option};
 
 use crate::command::{
-    By, Command, FramesOptions, GenOptions, MakeCommand, ReadCommand, RefineOptions, StreamCommand,
-    Uv,
+    By, Command, FramesOptions, GenOptions, MakeCommand, ReadCommand, RefineOptions, Select,
+    SparseOptions, StreamCommand, Uv,
 };
 use crate::options::{first_bad_option, has_required, number_of, value_of};
 use crate::table::{CommandRule, command_table};
@@ -57,6 +57,26 @@ fn refine_of(options: &[String]) -> RefineOptions
     }
 }
 
+fn select_named(name: &str) -> Select
+    ensures { select_of_code result ≡ model.select_of name.now }
+{
+    match name {
+        "all" => Select::All,
+        _ => Select::Feature,
+    }
+}
+
+fn sparse_of(options: &[String]) -> SparseOptions
+    requires { AreNumbersU32 (map string_bytes options.now) }
+    ensures { sparse_of_code result ≡ model.sparse_of (map string_bytes options.now) }
+{
+    SparseOptions {
+        depth: required_number(options, "depth"),
+        select: select_named(value_of(options, "select").unwrap_or("feature")),
+        decimals: number_of(options, "decimals"),
+    }
+}
+
 fn gen_of(options: &[String]) -> GenOptions
     requires { AreNumbersU32 (map string_bytes options.now) }
     ensures { gen_of_code result ≡ model.gen_of (map string_bytes options.now) }
@@ -85,6 +105,7 @@ fn command_named(name: &str, options: &[String]) -> Command
 {
     match name {
         "refine" => Command::Read(ReadCommand::Refine(refine_of(options))),
+        "sparse" => Command::Read(ReadCommand::Sparse(sparse_of(options))),
         "stencils" => Command::Read(ReadCommand::Stencils {
             depth: required_number(options, "depth"),
         }),

@@ -61,6 +61,15 @@ const COMMANDS: &[CommandRule] = &[
         ],
     },
     CommandRule {
+        name: "sparse",
+        options: &[
+            required_option!("depth", 0, 10),
+            name_option!("select", &["feature", "all"]),
+            number_option!("decimals", 0, 18),
+            name_option!("uv", &["none"]),
+        ],
+    },
+    CommandRule {
         name: "stencils",
         options: &[required_option!("depth", 0, 10)],
     },
