@@ -5,6 +5,7 @@ mod NumberedLemmas
 mod RoundingLemmas
 mod TableLineLemmas
 pub mod LevelsLemmas
+pub mod SparseLemmas
 pub mod SameTextLemmas
 pub mod SameTextureLemmas
 pub mod SameTableLemmas

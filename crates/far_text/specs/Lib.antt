@@ -4,6 +4,7 @@ pub mod Lines
 pub mod TableText
 pub mod Levels
 pub mod Summary
+pub mod SparseLines
 pub mod TableLines
 pub mod Mesh
 pub mod Reply

@@ -18,7 +18,7 @@ fn put_corner<K: Sink>(out: &mut Out<'_, K>, corner: u32) -> Result<(), WriteFai
 }
 
 // Puts the corners of a face.
-fn put_corners<K: Sink>(out: &mut Out<'_, K>, corners: &[u32]) -> Result<(), WriteFailed>
+pub(crate) fn put_corners<K: Sink>(out: &mut Out<'_, K>, corners: &[u32]) -> Result<(), WriteFailed>
     requires fine { out.old.failed ≡ false }
     ensures { Puts K.Sink out.old out.new (flat_map corner_word corners.now) result }
 {

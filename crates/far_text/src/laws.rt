@@ -1,14 +1,18 @@
-//! The lines of levels are those of their counts.
+//! The lines of levels are those of their counts, and of what is written of sparse levels.
 //!
 //! Each public function here takes nothing, does nothing and returns nothing: its clauses are the laws.
 
-ghost use Rattle.std.specs.Prelude.{◌≡◌, ℕ, ◌+◌, map};
+ghost use Rattle.std.specs.Prelude.{◌≡◌, ℕ, ◌+◌, map, Option, List};
 ghost use Rattle.std.specs.List.{range_with_len};
 ghost use Rattle.subdiv_model.specs.Level.{Level};
 ghost use Rattle.subdiv_model.specs.Child.{refined_level};
 ghost use Rattle.subdiv_model.specs.LevelText.{level_line, levels_text};
+ghost use Rattle.subdiv_model.specs.Refined.{Point};
+ghost use Rattle.subdiv_model.specs.Sparse.{Meeting};
+ghost use Rattle.subdiv_model.specs.SparseText.{points_with, sparse_text, written_level, written_points};
 ghost use Rattle.level_counts.specs.Counts.{counts_of};
 ghost use Rattle.far_text.specs.Levels.{counts_line, levels_lines};
+ghost use Rattle.far_text.specs.SparseLines.{pointed, sparse_lines};
 
 /// The line of a level is that of its counts.
 pub fn line_of_a_level()
@@ -18,4 +22,11 @@ pub fn line_of_a_level()
 /// The lines of the levels to a depth are those of their counts.
 pub fn lines_of_the_levels()
     ensures { (base : Level) (depth : ℕ) → levels_text base depth ≡ levels_lines 0 (map (λ k. counts_of (refined_level base k)) (range_with_len 0 (depth + 1))) }
+{}
+
+/// The lines of the sparse levels to a depth are those of what is written of each, with its points.
+pub fn lines_of_sparse_levels()
+    ensures { (decimals : Option ℕ) (points : ℕ → List Point) (base : Level) (meeting : Meeting) (depth : ℕ)
+        → sparse_text decimals points base meeting depth ≡ sparse_lines decimals 0
+        (map (λ j. pointed (written_level base meeting j) (points_with (points j) (written_points base meeting j))) (range_with_len 0 (depth + 1))) }
 {}

@@ -1,7 +1,7 @@
 //! The texts that the program writes, put through an [`obj_out::Out`].
 //!
-//! A [`Reply`] is a refined mesh, a table of stencils, the counts of levels or the summary of a sheet. Each has its text in
-//! lines, of numbers and fractions in digits. No call takes memory.
+//! A [`Reply`] is a refined mesh, a table of stencils, the counts of levels, the summary of a sheet or the sparse levels of a mesh. Each has
+//! its text in lines, of numbers and fractions in digits. No call takes memory.
 #![tactic(auto)]
 
 mod corner_tags;
@@ -15,6 +15,7 @@ mod mesh;
 mod points;
 mod reply;
 mod sharpness;
+mod sparse;
 mod summary;
 mod table;
 mod tags;
@@ -26,5 +27,6 @@ pub use frames::{put_changed, put_frame_count};
 pub use levels::put_levels;
 pub use mesh::{MeshForm, RefinedMesh, RefinedTexture, put_refined};
 pub use reply::{Reply, put_reply, write_reply};
+pub use sparse::{SparseMesh, put_sparse};
 pub use summary::{Summary, put_summary};
 pub use table::put_table;

@@ -7,6 +7,7 @@ ghost use Rattle.far_text.specs.Reply.{CanPut, reply_text};
 
 use crate::levels::put_levels;
 use crate::mesh::{MeshForm, RefinedMesh, put_refined};
+use crate::sparse::{SparseMesh, put_sparse};
 use crate::summary::{Summary, put_summary};
 use crate::table::put_table;
 use far_io::{Sink, WriteFailed};
@@ -25,6 +26,8 @@ pub enum Reply {
     Counts(Vec<LevelCounts>),
     /// The summary of a sheet that the program makes.
     Sheet(Summary),
+    /// The sparse levels of a mesh.
+    Sparse(SparseMesh),
 }
 
 /// Puts the text of a reply. It takes no memory.
@@ -38,6 +41,7 @@ pub fn put_reply<K: Sink>(out: &mut Out<'_, K>, reply: &Reply) -> Result<(), Wri
         Reply::Table(table) => put_table(out, table),
         Reply::Counts(counts) => put_levels(out, counts),
         Reply::Sheet(summary) => put_summary(out, summary),
+        Reply::Sparse(mesh) => put_sparse(out, mesh),
     }
 }
 

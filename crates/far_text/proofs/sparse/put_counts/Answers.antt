@@ -1,0 +1,32 @@
+use Rattle.std.proofs.Common.{codes, ap}
+use Rattle.obj_out.proofs.PutsLemmas.{puts-after, puts-cut, puts-same}
+use Rattle.far_text.specs.TableLines.{count_words}
+use Rattle.far_text.proofs.SparseLemmas.{sparse-level-by-words}
+use Rattle.far_text.proofs.sparse.put_counts.Goals as goal
+
+pub returns-in_err-put_count : goal.returns-in_err-put_count
+returns-in_err-put_count g c =
+    puts-same (sparse-level-by-words c.args.number c.args.level.now)
+    (puts-cut _ c.from_residual.ensures.0 c.in_err-put_count.ensures)
+
+pub returns-in_err-put_count-2 : goal.returns-in_err-put_count-2
+returns-in_err-put_count-2 g c =
+    let points = ap (count_words (codes " points")) c.points.ensures in
+    puts-same (sparse-level-by-words c.args.number c.args.level.now)
+    (puts-after c.in_ok-put_count.ensures (puts-cut _ c.from_residual-in_err-put_count-2.ensures.0 (puts-same points c.in_err-put_count-2.ensures)))
+
+pub returns-in_err-put_count-3 : goal.returns-in_err-put_count-3
+returns-in_err-put_count-3 g c =
+    let points = ap (count_words (codes " points")) c.points.ensures in
+    let faces = ap (count_words (codes " faces")) c.len.ensures in
+    puts-same (sparse-level-by-words c.args.number c.args.level.now)
+    (puts-after c.in_ok-put_count.ensures (puts-after (puts-same points c.in_ok-put_count-2.ensures)
+    (puts-cut _ c.from_residual-in_err-put_count-3.ensures.0 (puts-same faces c.in_err-put_count-3.ensures))))
+
+pub returns : goal.returns
+returns g c =
+    let points = ap (count_words (codes " points")) c.points.ensures in
+    let faces = ap (count_words (codes " faces")) c.len.ensures in
+    puts-same (sparse-level-by-words c.args.number c.args.level.now)
+    (puts-after c.in_ok-put_count.ensures (puts-after (puts-same points c.in_ok-put_count-2.ensures)
+    (puts-after (puts-same faces c.in_ok-put_count-3.ensures) c.put_byte.ensures)))

@@ -1,0 +1,106 @@
+//! The lines of sparse levels: of each a line with its counts, a line for each point, and a line for each present face.
+
+ghost use Rattle.std.specs.Prelude.{◌≡◌, ◌∷◌, ◌++◌, ◌<◌, ◌≤◌, false, length, codes, IfSome};
+ghost use Rattle.std.specs.List.{All, flat_map};
+ghost use Rattle.subdiv_model.specs.SparseText.{kind_text, sparse_face_line, sparse_level_line, sparse_level_text};
+ghost use Rattle.sparse_faces.specs.View.{kind_of, face_at};
+ghost use Rattle.obj_out.specs.Puts.{Puts};
+ghost use Rattle.far_text.specs.Points.{CanBeWritten, points_of};
+ghost use Rattle.far_text.specs.SparseLines.{CanSparseBePut, sparse_mesh_text};
+
+use crate::faces::put_corners;
+use crate::points::put_points;
+use crate::words::put_count;
+use far_io::{Sink, WriteFailed};
+use obj_out::Out;
+use ratio128::Point3;
+use sparse_faces::{FaceKind, SparseFaces, SparseValues};
+
+/// The sparse levels of a mesh, from level 0 on, with their points.
+///
+/// The points are numerators over their own denominators, all over `common`. They are written in `decimals` decimals, at most 18, or
+/// in lowest terms.
+#[derive(Drop)]
+pub struct SparseMesh {
+    pub levels: Vec<SparseValues<Point3>>,
+    pub common: u128,
+    pub decimals: Option<u32>,
+}
+
+// Puts how the line of a face of this kind begins.
+fn put_kind<K: Sink>(out: &mut Out<'_, K>, kind: FaceKind) -> Result<(), WriteFailed>
+    ensures { Puts K.Sink out.old out.new (codes "f" ++ (32 ∷ kind_text (kind_of kind))) result }
+{
+    match kind {
+        FaceKind::Hole => out.put_bytes(b"f h"),
+        FaceKind::Outer => out.put_bytes(b"f r"),
+        FaceKind::Selected => out.put_bytes(b"f s"),
+        FaceKind::Leaf => out.put_bytes(b"f l"),
+    }
+}
+
+// Puts the line of a face: its kind, its number in the uniform level, and its corners.
+fn put_face<K: Sink>(out: &mut Out<'_, K>, level: &SparseFaces, f: u32) -> Result<(), WriteFailed>
+    requires { f < length level.now.faces }
+    ensures { Puts K.Sink out.old out.new (sparse_face_line (face_at level.now f)) result }
+{
+    put_kind(out, level.kind(f))?;
+    out.put_number_after(b' ', level.number(f))?;
+    put_corners(out, level.corners(f))?;
+    out.put_byte(b'\n')
+}
+
+// Puts a line for each face.
+fn put_faces<K: Sink>(out: &mut Out<'_, K>, level: &SparseFaces) -> Result<(), WriteFailed>
+    requires fine { out.old.failed ≡ false }
+    ensures { Puts K.Sink out.old out.new (flat_map sparse_face_line level.now.faces) result }
+{
+    for f in 0..level.len() {
+        put_face(out, level, f)?;
+    }
+    Ok(())
+}
+
+// Puts the line with the counts of the level with this number.
+fn put_counts<K: Sink>(
+    out: &mut Out<'_, K>,
+    number: u64,
+    level: &SparseFaces,
+) -> Result<(), WriteFailed>
+    ensures { Puts K.Sink out.old out.new (sparse_level_line number level.now) result }
+{
+    put_count(out, b"level", number)?;
+    put_count(out, b" points", level.points() as u64)?;
+    put_count(out, b" faces", level.len() as u64)?;
+    out.put_byte(b'\n')
+}
+
+// Puts the lines of the level with this number: its counts, its points and its faces.
+fn put_sparse_level<K: Sink>(
+    out: &mut Out<'_, K>,
+    number: u64,
+    level: &SparseValues<Point3>,
+    common: u128,
+    decimals: Option<u32>,
+) -> Result<(), WriteFailed>
+    requires fine { out.old.failed ≡ false }
+    requires written { All (CanBeWritten common) level.now.values.items }
+    requires decimals { IfSome decimals (λ digits. digits ≤ 18) }
+    ensures { Puts K.Sink out.old out.new (sparse_level_text decimals number level.now.faces (points_of common level.now.values.items)) result }
+{
+    put_counts(out, number, &level.faces)?;
+    put_points(out, &level.values, common, decimals)?;
+    put_faces(out, &level.faces)
+}
+
+/// Puts the lines of sparse levels, from level 0 on.
+pub fn put_sparse<K: Sink>(out: &mut Out<'_, K>, mesh: &SparseMesh) -> Result<(), WriteFailed>
+    requires fine { out.old.failed ≡ false }
+    requires written { CanSparseBePut mesh.now }
+    ensures { Puts K.Sink out.old out.new (sparse_mesh_text mesh.now) result }
+{
+    for k in 0..mesh.levels.len() {
+        put_sparse_level(out, k as u64, &mesh.levels[k], mesh.common, mesh.decimals)?;
+    }
+    Ok(())
+}
