@@ -11,4 +11,6 @@ pub mod RefineLemmas
 pub mod StepLemmas
 pub mod EndLemmas
 pub mod TableLemmas
+pub mod WrittenLemmas
+pub mod SparseLemmas
 pub mod SummaryLemmas

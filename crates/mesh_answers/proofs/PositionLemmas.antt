@@ -64,7 +64,7 @@ module _ (mesh : ObjMesh) (level : Topology) (points : List Point3) (greatest co
       max-le first second
 
 -- a coordinate of the refined points
-abbrev points-column : ObjMesh → ℕ → (ℤ × ℤ × ℤ → ℤ) → List Value
+abbrev pub points-column : ObjMesh → ℕ → (ℤ × ℤ × ℤ → ℤ) → List Value
 points-column mesh depth coordinate = refined_values (base_level mesh) CatmullClark (control_values (map coordinate mesh.points)) depth
 
 -- The refined points, by the record of the refined channel.

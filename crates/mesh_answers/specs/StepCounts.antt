@@ -2,7 +2,7 @@
 -- Source: this profile.
 use Rattle.std.specs.Prelude.{ℕ, ◌+◌, length, if◌then◌else◌}
 use Rattle.std.specs.List.{sum_by, range_with_len}
-use Rattle.far_model.specs.Command.{ReadCommand, Refine, Stencils, Levels, MakeCommand, Gen, RefineOptions, By, ByTable, ByLevel}
+use Rattle.far_model.specs.Command.{ReadCommand, Refine, Sparse, Stencils, Levels, MakeCommand, Gen, RefineOptions, SparseOptions, By, ByTable, ByLevel}
 use Rattle.subdiv_model.specs.ObjMesh.{ObjMesh}
 use Rattle.subdiv_model.specs.Level.{Level}
 use Rattle.subdiv_model.specs.Base.{base_level}
@@ -10,7 +10,8 @@ use Rattle.subdiv_model.specs.Child.{refined_level, faces_after}
 use Rattle.subdiv_model.specs.Cut.{cut_level}
 use Rattle.subdiv_model.specs.Mask.{Scheme, CatmullClark, mask_terms}
 use Rattle.subdiv_model.specs.Support.{entries_after}
-use Rattle.far_model.specs.Answer.{made_mesh, seams_of, scheme_of}
+use Rattle.subdiv_model.specs.SparseFaults.{present_entries, present_faces}
+use Rattle.far_model.specs.Answer.{made_mesh, meeting_for, positions_of, seams_of, scheme_of}
 
 -- how many faces the levels of a mesh from 1 to a depth have, and those from 0
 abbrev pub later_faces : ℕ → ObjMesh → ℕ
@@ -42,16 +43,29 @@ refine_limit options mesh =
     level_faces_to options.depth mesh + position_steps options.by options.depth mesh
     + where_textured mesh (level_faces_to options.depth mesh + texture_steps options mesh)
 
+-- how many faces of the sparse levels of a mesh from 1 to a depth are present, and of those from 0; all faces of level 0 are
+abbrev pub later_present : SparseOptions → ObjMesh → ℕ
+later_present options mesh = sum_by (present_faces (base_level mesh) (meeting_for options mesh)) (range_with_len 1 options.depth)
+
+abbrev pub present_faces_to : SparseOptions → ObjMesh → ℕ
+present_faces_to options mesh = length mesh.faces + later_present options mesh
+
+-- how many entries the tables of the present points of these levels have
+abbrev pub present_entries_to : SparseOptions → ObjMesh → ℕ
+present_entries_to options mesh = sum_by (present_entries (positions_of mesh) (meeting_for options mesh)) (range_with_len 0 (options.depth + 1))
+
 -- how many steps a command takes at least with a mesh that it answers
 abbrev pub least_steps : ReadCommand → ObjMesh → ℕ
 least_steps (Refine options) mesh = refine_least options mesh
+least_steps (Sparse options) mesh = 0
 least_steps (Stencils depth) mesh = 0
 least_steps (Levels depth) mesh = 0
 
 -- how many it may take: one for each face of the levels that it makes, of the positions and of the texture, and what the
--- values take
+-- values take; of sparse levels one for each present face, and one for each entry of a present point
 abbrev pub step_limit : ReadCommand → ObjMesh → ℕ
 step_limit (Refine options) mesh = refine_limit options mesh
+step_limit (Sparse options) mesh = present_faces_to options mesh + present_entries_to options mesh
 step_limit (Stencils depth) mesh = level_faces_to depth mesh
 step_limit (Levels depth) mesh = level_faces_to depth mesh
 

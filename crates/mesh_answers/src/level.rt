@@ -1,4 +1,4 @@
-//! Level 0 of a mesh, where no level up to a depth has too many faces.
+//! Level 0 of a mesh, and level 0 where no level up to a depth has too many faces.
 
 ghost use Rattle.std.specs.Prelude.{◌≡◌, ◌+◌, ◌≤◌, ◌<◌, ◌^◌, List, ◌++◌, length, MatchResult};
 ghost use Rattle.std.specs.List.{sum_by};
@@ -41,8 +41,8 @@ fn level_fault(first: u64, depth: u32) -> Option<Counted>
     None
 }
 
-// Level 0 of a mesh, or the fault for which the mesh has none.
-fn level_0<L: Ledger>(
+/// Level 0 of a mesh, or the fault for which the mesh has none.
+pub(crate) fn level_0<L: Ledger>(
     alloc: Global,
     mesh: &RawMesh,
     steps: &mut Steps<L>,

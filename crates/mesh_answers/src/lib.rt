@@ -5,10 +5,12 @@ mod counts;
 mod level;
 mod refined;
 mod sheet;
+mod sparse_levels;
 mod table;
 mod tracks;
 
 pub use counts::levels;
 pub use refined::refine;
 pub use sheet::generate;
+pub use sparse_levels::sparse;
 pub use table::{compose, stencils};
