@@ -15,7 +15,7 @@ use far_fault::FarFault;
 use far_io::{Sink, Source, WriteFailed};
 use far_text::{Reply, write_reply};
 use far_words::{Command, MakeCommand, ReadCommand, StreamCommand};
-use mesh_answers::{generate, levels, refine, stencils};
+use mesh_answers::{generate, levels, refine, sparse, stencils};
 use ratio128::Steps;
 use std::alloc::Global;
 use std::sync::ledger::Ledger;
@@ -63,6 +63,10 @@ pub fn run_command<S: Source, K: Sink, L: Ledger>(
             match command {
                 ReadCommand::Refine(options) => put_found(
                     refine(alloc, &mesh, options, steps),
+                    sink,
+                ),
+                ReadCommand::Sparse(options) => put_found(
+                    sparse(alloc, &mesh, options, steps),
                     sink,
                 ),
                 ReadCommand::Stencils { depth } => put_found(

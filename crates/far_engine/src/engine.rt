@@ -22,6 +22,9 @@ use std::sync::ledger::Ledger;
 ///   decimals that are asked for. `tags=yes` adds the tags that give this level again. Where the mesh has a texture channel,
 ///   `refine` writes the points of its texture too, refined over the cut mesh as `uv` says. `by=table` composes the table of the
 ///   last level and applies it once; `by=level` goes level by level, and has no limit on entries.
+/// - `sparse` writes the sparse levels from level 0 to the depth. Only selected faces are refined further: the features, or all
+///   faces but holes. Of each level it writes a line of counts, the points of the present faces, and a line for each such face with
+///   its kind, its number in the whole level and its corners.
 /// - `stencils` writes the table of the last level: the control points that each point depends on, and how much of each.
 /// - `levels` writes a line with the counts of each level.
 /// - `gen` makes a sheet of quads from its seed, and never calls the source. It writes the counts of the sheet and of its last
@@ -41,12 +44,16 @@ use std::sync::ledger::Ledger;
 /// - `Long` where more than 2^28 bytes came;
 /// - `Obj` where a line is refused, with the least such line and its cause;
 /// - `Mesh` where the mesh is no manifold, with its first fault;
-/// - `TooLarge` where a count of the mesh passes its limit, or a level up to the depth would have more than 2^22 faces;
+/// - `TooLarge` where a count of the mesh passes its limit, or, but under `sparse`, a level up to the depth would have more than
+///   2^22 faces;
 /// - `Overflow` of the positions, with the least level at which a number passes its bound, and the first such number there: the
 ///   denominator of the half of an edge under `chaikin`, that of the weight between two rules, the common denominator of a
 ///   point, or the greatest numerator over it. `levels` looks at halves alone;
 /// - `TooLarge` where a table is composed that has more than 2^27 entries at a level: before the numerators of this level;
 /// - under `refine`, `Overflow` or `TooLarge` of the texture, in this order again.
+///
+/// `sparse` looks at its present faces and points alone. At each level it refuses more than 2^22 present faces (`TooLarge`) before
+/// all else.
 ///
 /// `frames` refuses its mesh as `stencils` does, at the line `frames` or at the end of the input. Behind that line it answers each
 /// line up to the first of these faults, whatever follows:
@@ -63,8 +70,9 @@ use std::sync::ledger::Ledger;
 ///
 /// # Steps
 ///
-/// A run takes at most one step for each face of the levels that it makes. `gen`, `frames`, and `refine` by a table, take one more
-/// for each entry of the last table; `refine` level by level takes one more for each mask term. A texture channel takes as many
+/// A run takes at most one step for each face of the levels that it makes; those of a sparse level are its present faces. `gen`,
+/// `frames`, and `refine` by a table, take one more for each entry of the last table; `refine` level by level takes one more for each
+/// mask term. `sparse` takes at most one more for each entry of the present points of its levels. A texture channel takes as many
 /// again. A line `move` takes one step for each point that depends on its control point.
 /// Where `refine`, `gen` or `frames` answers, it took one step for each of these entries or mask terms.
 pub fn run<S: Source, K: Sink, L: Ledger>(

@@ -20,6 +20,14 @@ pub returns-in-Refine-clause-steps : goal.returns-in-Refine-clause-steps
 returns-in-Refine-clause-steps g c =
     steps-mesh g.S.Source g.K.Sink _ _ (ap command_of_code c.in-Read.is ∙ ap (λ k. Reads (read_of_code k)) c.in-Refine.is) _ _ _ c.in_ok-mesh-in-Read.ensures _ _ _ c.refine.ensures _ _ _ c.put_found.ensures
 
+pub returns-in-Sparse-clause-run : goal.returns-in-Sparse-clause-run
+returns-in-Sparse-clause-run g c =
+    runs-mesh g.S.Source g.K.Sink _ _ (ap command_of_code c.in-Read.is ∙ ap (λ k. Reads (read_of_code k)) c.in-Sparse.is) _ _ _ c.in_ok-mesh-in-Read.ensures _ _ _ c.sparse.ensures _ _ _ c.put_found-in-Sparse.ensures
+
+pub returns-in-Sparse-clause-steps : goal.returns-in-Sparse-clause-steps
+returns-in-Sparse-clause-steps g c =
+    steps-mesh g.S.Source g.K.Sink _ _ (ap command_of_code c.in-Read.is ∙ ap (λ k. Reads (read_of_code k)) c.in-Sparse.is) _ _ _ c.in_ok-mesh-in-Read.ensures _ _ _ c.sparse.ensures _ _ _ c.put_found-in-Sparse.ensures
+
 pub returns-in-Stencils-clause-run : goal.returns-in-Stencils-clause-run
 returns-in-Stencils-clause-run g c =
     runs-mesh g.S.Source g.K.Sink _ _ (ap command_of_code c.in-Read.is ∙ ap (λ k. Reads (read_of_code k)) c.in-Stencils.is) _ _ _ c.in_ok-mesh-in-Read.ensures _ _ _ c.stencils.ensures _ _ _ c.put_found-in-Stencils.ensures
