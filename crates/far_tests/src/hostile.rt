@@ -190,6 +190,7 @@ type Writes = (&'static str, &'static str, u32, u32);
 const WRITES: &[Writes] = &[
     ("refine depth=3", SQUARE, 5, 439),
     ("stencils depth=1", SQUARE, 16, 12),
+    ("sparse depth=1", SQUARE, 16, 16),
     ("levels depth=1", CUBE, 16, 12),
     ("frames depth=1", MOVED_SQUARE, 16, 6),
     (GEN, "", 16, 6),

@@ -51,6 +51,16 @@ pub const SQUARE_TABLE: &str = "\
     s 2 2 1 3 1\n\
     s 2 0 1 3 1\n";
 
+// The sparse levels of the square with sharp corners: nothing is a feature.
+pub const SQUARE_LEVELS: &str = "\
+    level 0 points 4 faces 1\n\
+    v 0 0 0\n\
+    v 4 0 0\n\
+    v 4 4 0\n\
+    v 0 4 0\n\
+    f l 0 1 2 3 4\n\
+    level 1 points 0 faces 0\n";
+
 // Two quads side by side whose texture is in two charts.
 pub const TWO_CHARTS: &str =
     "v 0 0 0\nv 1 0 0\nv 1 1 0\nv 0 1 0\nv 2 0 0\nv 2 1 0\nvt 0 0\nvt 1 0\nvt 1 1\nvt 0 1\nvt 4 0\nvt 5 0\nvt 5 1\n\

@@ -4,7 +4,7 @@ use crate::engine::run_alone;
 use crate::expect::expect_answer;
 use crate::inputs::{
     CUBE, CUBE_LEVEL, CUBE_REFINED, GEN, GREAT_CHART, GREATER_CUBE, LEVELS, MOVED_SQUARE,
-    MOVED_SQUARE_ANSWER, REFINE, SHEET, SQUARE, SQUARE_TABLE, TRIANGLES, TWO_CHARTS,
+    MOVED_SQUARE_ANSWER, REFINE, SHEET, SQUARE, SQUARE_LEVELS, SQUARE_TABLE, TRIANGLES, TWO_CHARTS,
     TWO_CHARTS_IN_DECIMALS,
 };
 use far_engine::{FarFault, OverflowKind, Track};
@@ -92,6 +92,13 @@ const RUNS: &[Run] = &[
     ),
     (LEVELS, CUBE, "", Ok(()), CUBE_LEVEL),
     ("stencils depth=1", SQUARE, "", Ok(()), SQUARE_TABLE),
+    (
+        "sparse depth=1",
+        SQUARE,
+        "t interpolateboundary 1/0/0 1\n",
+        Ok(()),
+        SQUARE_LEVELS,
+    ),
     (
         "frames depth=1",
         MOVED_SQUARE,

@@ -3,8 +3,8 @@
 use crate::engine::words_of;
 use crate::expect::expect_same;
 use far_words::{
-    By, Command, FramesOptions, GenOptions, MakeCommand, ReadCommand, RefineOptions, StreamCommand,
-    Uv, read_words,
+    By, Command, FramesOptions, GenOptions, MakeCommand, ReadCommand, RefineOptions, Select,
+    SparseOptions, StreamCommand, Uv, read_words,
 };
 use std::process::Abort;
 use std::test::Fail;
@@ -18,6 +18,17 @@ macro_rules! refine {
             uv: Uv::$uv,
             by: By::$by,
             tags: $tags,
+        })))
+    };
+}
+
+// Refining selected faces with these options.
+macro_rules! sparse {
+    ($depth:literal, $select:ident, $decimals:expr) => {
+        Ok(Command::Read(ReadCommand::Sparse(SparseOptions {
+            depth: $depth,
+            select: Select::$select,
+            decimals: $decimals,
         })))
     };
 }
@@ -57,6 +68,11 @@ const WORDS: &[Words] = &[
     (
         "refine uv=linear by=level depth=5",
         refine!(5, None, Linear, Level, false),
+    ),
+    ("sparse depth=10", sparse!(10, Feature, None)),
+    (
+        "sparse uv=none decimals=18 select=all depth=0",
+        sparse!(0, All, Some(18)),
     ),
     (
         "stencils depth=3",

@@ -1,4 +1,4 @@
-//! Tests of calls below the program: numbers, words, meshes, cut meshes, marks, tables and channels.
+//! Tests of calls below the program: numbers, words, meshes, cut meshes, marks, tables, channels and sparse levels.
 #![tactic(auto)]
 
 #[cfg(test)]
@@ -29,6 +29,8 @@ mod numerals;
 mod parts;
 #[cfg(test)]
 mod sessions;
+#[cfg(test)]
+mod sparse;
 #[cfg(test)]
 mod tables;
 #[cfg(test)]
