@@ -2,14 +2,14 @@
 """Times the commands of the built program on large meshes, those among them that are made to take long.
 
 Each mesh is made as a text in a temporary folder, mostly at two sizes. A row tells of the larger one: the faces of the
-last level, or of the mesh where it is refused; the least time of some runs (whole processes, reading and writing
-included) and the greatest peak memory; how much is written; the nanoseconds for each face, each entry of the table,
-where one is composed of the positions alone, and each byte that is read or written; and the exponent with which the
-time grows with the faces from the smaller size to it: 1.0 is linear.
+last level, or of the mesh where it is refused, and under `sparse` the present faces of all levels; the least time of some
+runs (whole processes, reading and writing included) and the greatest peak memory; how much is written; the nanoseconds
+for each face, each entry of the table, where one is composed of the positions alone, and each byte that is read or
+written; and the exponent with which the time grows with the faces from the smaller size to it: 1.0 is linear.
 
-The status is checked, the first line of `levels`, and how many faces are written or counted; what is wrong is told, and
-the exit status is then 1. The machine may be busy, so only large differences mean something; peaks below some 20 MB are
-those of Python.
+The status is checked, the first line of `levels`, how many faces are written or counted, and the lines `level` of
+`sparse`, all of them for the cube and the sheets, and else that of level 0. What is wrong is told, and the exit status is
+then 1. The machine may be busy, so only large differences mean something; peaks below some 20 MB are those of Python.
 
 A second table tells of sessions of `frames`, with a row for what each frame moves: how many points and bytes a frame
 writes; the greatest peak memory; the least of the mean times of a frame in some sessions, and the nanoseconds for each
@@ -106,13 +106,26 @@ COMMANDS = [
     ]
     for words in lines
 ]
+FEATURES = [
+    Case(mesh, maker, "sparse depth=10", sizes)
+    for mesh, maker, sizes in [
+        ("cube", meshes.cube, (6,)),
+        ("sheet", meshes.sheet, with_quarter(64**2)),
+        ("large sheet", meshes.sheet, with_quarter(512**2)),
+        ("semi-sharp character", meshes.semi_sharp_character, with_quarter(20000)),
+        ("creased character", meshes.creased_character, with_quarter(20000)),
+        ("character, by its bumps", meshes.bumpy_character, (216, 54)),
+    ]
+]
 MOVES = [Case("cube, by its moves", meshes.moved_cube, "frames depth=1", with_quarter(MILLION))]
-CASES = CHECKS + COMMANDS + MOVES + [Case("one quad", meshes.sheet, "levels depth=10", (1,))]
+CASES = CHECKS + COMMANDS + FEATURES + MOVES + [Case("one quad", meshes.sheet, "levels depth=10", (1,))]
 SESSIONS = [
     Case("character", meshes.character, "frames depth=3", with_quarter(20000)),
     Case("torus", meshes.torus, "frames depth=3", (142**2, 71**2)),
 ]
 TEXTURED = meshes.textured_sheet, meshes.textured_character
+# How many points and faces are present of the levels after level 0; the last stands for all later ones too.
+PRESENT = {meshes.cube: [(26, 24), (98, 96), (296, 216)], meshes.sheet: [(64, 36)]}
 
 
 # Meshes
@@ -156,6 +169,32 @@ def run_once(program, words, source, sink):
     return seconds, use.ru_maxrss / 1024, process.returncode
 
 
+def is_sparse(case):
+    return case.words.startswith("sparse")
+
+
+def level_lines(path):
+    """The lines `level` of a text."""
+    with open(path, "rb") as text:
+        return [line.decode().rstrip("\n") for line in text if line.startswith(b"level ")]
+
+
+def wanted_levels(case, made):
+    """The lines `level` that the text of sparse levels is to have, from level 0 as far as they are known."""
+    first, depth = re.search(r" points (\d+) .* faces (\d+) ", made.first_line).groups(), depth_of(case.words)
+    later = PRESENT.get(case.maker, [])
+    counts = [first, *(later + later[-1:] * depth)[:depth]]
+    return [f"level {number} points {points} faces {faces}" for number, (points, faces) in enumerate(counts)]
+
+
+def sparse_faults(case, made, sink):
+    """What is wrong with a text of sparse levels."""
+    lines, levels = level_lines(sink), depth_of(case.words) + 1
+    faults = [] if len(lines) == levels else [f"{len(lines)} levels, and not {levels}"]
+    pairs = zip(lines, wanted_levels(case, made))
+    return faults + [f"line '{line}', and not '{wanted}'" for line, wanted in pairs if line != wanted]
+
+
 def faces_told(words, path):
     """How many faces the text that was written has or counts; nothing of a table."""
     with open(path, "rb") as text:
@@ -173,6 +212,8 @@ def faults_of(case, made, sink, status):
         return [f"status {status}, and not {made.status}: {first_line}"]
     if case.words.startswith(("levels", "frames")) and first_line != made.first_line:
         return [f"first line '{first_line}', and not '{made.first_line}'"]
+    if is_sparse(case):
+        return sparse_faults(case, made, sink)
     faces = faces_told(case.words, sink) if depth_of(case.words) else None
     return [] if faces in (None, made.faces) else [f"{faces} faces, and not {made.faces}"]
 
@@ -180,13 +221,18 @@ def faults_of(case, made, sink, status):
 def entries_of(program, case, words, path):
     """How many entries the table has by which a run goes; nothing where there is none, or a second one of texture."""
     command = words.split()[0]
-    if command in ("levels", "frames") or "by=level" in words or case.maker in TEXTURED:
+    if command in ("levels", "frames", "sparse") or "by=level" in words or case.maker in TEXTURED:
         return None
     asked = words if command == "gen" else f"stencils depth={depth_of(words)}"
     outputs = {"stdout": subprocess.PIPE, "stderr": subprocess.DEVNULL}
     with open(path, "rb") as source, subprocess.Popen([program, *asked.split()], stdin=source, **outputs) as run:
         told = re.search(rb" entries (\d+)", run.stdout.read(200))
     return int(told[1]) if told else None
+
+
+def faces_of(case, made, sink):
+    """How many faces the time of a run is told of."""
+    return sum(int(line.split()[-1]) for line in level_lines(sink)) if is_sparse(case) else made.faces
 
 
 def bytes_of(case, made, sink):
@@ -206,8 +252,8 @@ def measured(program, case, size, runs):
         status = next((one for one in statuses if one != made.status), made.status)
         faults = faults_of(case, made, sink, status)
         entries = entries_of(program, case, words, made.path)
-        written, moved = sink.stat().st_size, bytes_of(case, made, sink)
-    return Measured(made.faces, min(seconds), max(peaks), written, entries, moved, faults)
+        faces, written, moved = faces_of(case, made, sink), sink.stat().st_size, bytes_of(case, made, sink)
+    return Measured(faces, min(seconds), max(peaks), written, entries, moved, faults)
 
 
 # Rows
@@ -215,7 +261,7 @@ def measured(program, case, size, runs):
 
 def exponent(large, small):
     """That with which the time grows with the faces between two sizes; nothing where they are the same."""
-    if large.faces == small.faces:
+    if large.faces == small.faces or not small.faces:
         return ""
     return f"{round(math.log(large.seconds / small.seconds) / math.log(large.faces / small.faces), 2) + 0:.2f}"
 

@@ -4,11 +4,12 @@ Each is given how many faces it is to have, or corners where it has one face, an
 module have no random part, and the texts come out the same each time."""
 
 import math
+from functools import partial
 from itertools import chain, product
 from typing import Iterable, NamedTuple
 
 from colliding_edges import colliding_pairs
-from make_examples import BLOCKS, EXAMPLES, surface
+from make_examples import BLOCKS, CUBE_FACES, EXAMPLES, moved, surface
 
 GREATEST_SIZE = 2**16
 GOOD, BAD_MESH, TOO_LARGE = 0, 6, 7
@@ -221,11 +222,19 @@ def moved_cube(size):
 # The character: the dog of unit cubes, each cut into as many along each edge, rounded off, and written as exporters do
 
 
+def dog_cubes():
+    return {cube for block in BLOCKS.values() for cube in product(*block)}
+
+
+def cut_cubes(cuts):
+    """The cubes of the dog, each cut into smaller ones."""
+    parts = list(product(range(cuts), repeat=3))
+    return {tuple(cuts * a + b for a, b in zip(cube, part)) for cube in dog_cubes() for part in parts}
+
+
 def cut_dog(cuts):
     """The points and the outer quads of the dog."""
-    cubes = {cube for block in BLOCKS.values() for cube in product(*block)}
-    parts = list(product(range(cuts), repeat=3))
-    return surface({tuple(cuts * a + b for a, b in zip(cube, part)) for cube in cubes for part in parts})
+    return surface(cut_cubes(cuts))
 
 
 def rounded_off(points, faces, rounds=4):
@@ -286,3 +295,66 @@ def character(size, with_texture=False):
 
 def textured_character(size):
     return character(size, with_texture=True)
+
+
+# The character with features: bumps on the dog, and creases about its body and its hind legs
+
+
+def outer_faces():
+    """The outer faces of the dog, each the cube and the direction that it looks in, far from the one before."""
+    cubes = dog_cubes()
+    faces = sorted((cube, way) for cube in cubes for way in CUBE_FACES if moved(cube, way) not in cubes)
+    return [faces[place] for place in scattered(len(faces))]
+
+
+def bump(cube, way, cuts):
+    """The small cubes of a bump on the middle of a face. It gives eight points another number of edges than four."""
+    size = cuts // 4
+    starts = {-1: -size, 0: (cuts - size) // 2, 1: cuts}
+    firsts = (cuts * a + starts[step] for a, step in zip(cube, way))
+    return set(product(*(range(first, first + size) for first in firsts)))
+
+
+def ring_lines(points, faces, cuts, sharpness):
+    """A crease for each edge about the middle of the body and about the hind legs."""
+    edges = {(min(pair), max(pair)) for face in faces for pair in zip(face, face[1:] + face[:1])}
+    body = {number for number, (x, _, _) in enumerate(points) if x == 5 * cuts}
+    legs = {number for number, (x, _, z) in enumerate(points) if z == cuts and x < 6 * cuts}
+    named = [edge for edge in sorted(edges) if body.issuperset(edge) or legs.issuperset(edge)]
+    return [f"t crease 2/1/0 {a} {b} {sharpness}" for a, b in named]
+
+
+def featured_lines(points, faces, cuts):
+    places = ([round(1000 * axis / cuts) for axis in point] for point in rounded_off(points, faces))
+    return chain(point_lines(places), face_lines(faces))
+
+
+def featured(cuts, bumps, sharpness):
+    """The dog with so many bumps, and creases of this sharpness."""
+    cubes = cut_cubes(cuts).union(*(bump(*face, cuts) for face in outer_faces()[:bumps]))
+    points, faces = surface(cubes)
+    creases, count = ring_lines(points, faces, cuts, sharpness), len(faces)
+    lines = chain(featured_lines(points, faces, cuts), creases)
+    sharp, extraordinary = len(creases), 86 + 8 * bumps
+    return taken(lines, 4 * count, count + 2, 2 * count, count, euler=2, sharp=sharp, extraordinary=extraordinary)
+
+
+def featured_character(size, sharpness):
+    """The character with 302 points of another number of edges than four, and about 200 creased edges where it has 20,000
+    faces."""
+    return featured(max(round(math.sqrt(size / 340)), 4), 27, sharpness)
+
+
+semi_sharp_character = partial(featured_character, sharpness="3")
+creased_character = partial(featured_character, sharpness="10")
+
+
+def bumpy_character(bumps):
+    """The character of about 20,000 faces with so many bumps."""
+    return featured(8, bumps, "3")
+
+
+def cube(size):
+    """The cube, whatever its size is to be."""
+    text = (EXAMPLES / "cube.obj").read_text().splitlines()
+    return taken(text, 24, 8, 12, 6, euler=2, extraordinary=8)

@@ -43,7 +43,7 @@ DOCUMENTS = r"(?:README|CONTRIBUTING)\.md|docs/.*\.md|crates/\w+/README\.md|case
 DEFINITIONS = r"crates/(\w+)/(?:specs|proofs)/.*\.antt"
 CODE = r"crates/(\w+)/src/.*\.rt"
 MODEL = r"crates/(?:subdiv_model|far_model)/specs/\w+\.antt"
-LAWS = r"crates/(?:\w+_laws|theorems)/src/.*\.rt|crates/\w+/src/laws\.rt"
+LAWS = r"crates/(?:\w+_laws|sparse_values|theorems)/src/.*\.rt|crates/\w+/src/laws\.rt"
 
 # Code in backquotes; what is a name in it.
 SPAN = re.compile(r"`([^`]+)`")

@@ -306,7 +306,7 @@ def command(top: Path, name: str, otherwise: str) -> Subject:
 def kind_of_crate(top: Path, name: str) -> str:
     if (top / "crates" / name / "src" / "main.rt").is_file():
         return PROGRAM
-    if name.endswith("_laws") or name.endswith("_model") or name == "theorems":
+    if name.endswith("_laws") or name.endswith("_model") or name in ("sparse_values", "theorems"):
         return LAWS
     return TESTS if name.endswith("_tests") else CODE
 

@@ -4,11 +4,13 @@
 Texts are made of lines that are good, bad or nearly bad, and of the cube, the unfolded cube with its texture and the
 refined cube with a few changes; they are refined to depth 1 at most. Meshes are those of `tools/random_meshes.py`, many
 with texture; they are refined, by tables and level by level, or have their levels counted or their tables written, to
-depth 3 at most. Sheets are made by the program itself. Inputs with moves are those of `tools/random_frames.py`.
+depth 3 at most. Each of them has its sparse levels written too, to depth 4 at most. Sheets are made by the program
+itself. Inputs with moves are those of `tools/random_frames.py`. Other meshes, which have no fault, have the points of
+their sparse levels compared with those that the program itself writes of whole levels, by `tools/sparse_points.py`.
 The options are random too. The same seed makes the same words and texts. A text on which the two differ is printed, and
 the exit status is then 1.
 
-    tools/compare_random.py --seed 1 --count 3000 --meshes 1500 --sheets 300 --frames 1200
+    tools/compare_random.py --seed 1 --count 3000 --meshes 1500 --sheets 300 --frames 1200 --points 1000
 """
 
 import argparse
@@ -17,23 +19,28 @@ import random
 import subprocess
 import sys
 from collections import Counter
+from itertools import islice
 from pathlib import Path
 
 import reference
 from random_frames import Frames
 from random_meshes import Meshes
 from run_reference import Refusal
+from sparse_points import points_agree
 
 TOP = Path(__file__).resolve().parent.parent
 REFINE = ["refine", "depth=1"]
 GREATEST_DEPTH = 3
-# How many faces the last level of a mesh that is refined has at most, and of one whose table is written, so that the
-# reference does not take long.
+GREATEST_SPARSE_DEPTH = 4
+# How many faces the last level of a mesh that is refined has at most, of one whose table is written, and of one whose
+# sparse levels are, so that the reference does not take long.
 MOST_FACES = 800
 MOST_TABLE_FACES = 400
+MOST_SPARSE_FACES = 1600
 SEEDS = ["0", "1", "7", str(2**31 - 1), str(2**31), str(2**32 - 1)]
 SCALES = ["0", "1", "2", "3", "6", "17", "18"]
 BAD_SCALES = ["scale=19", "scale=00", "scale=", "scale", "decimals=1", "depth=1", "Scale=1", "scale=-1"]
+BAD_SPARSE = ["select=", "select=features", "select", "uv=smooth", "uv=", "decimals=19", "depth=1", "by=level", "tags=no"]
 BAD_SHEETS = ["size=0", "size=257", "seed=-1", f"seed={2**32}", "seed=00", "depth=11", "by=table", "size"]
 OPTIONS = {
     "decimals": ["0", "1", "2", "3", "6", "17", "18"],
@@ -42,6 +49,7 @@ OPTIONS = {
     "tags": ["yes", "yes", "no"],
 }
 BAD_OPTIONS = ["depth=1", "depth=01", "depth=11", "decimals=19", "decimals=-1", "uv=", "by=tables", "tags", "=1", "x=1"]
+SPARSE_OPTIONS = {"select": ["feature", "all", "all"], "decimals": ["0", "3", "18"], "uv": ["none"]}
 # How likely an option is there.
 CHANCES = {"decimals": 0.4, "uv": 0.7, "by": 0.4, "tags": 0.4}
 CUBE = (TOP / "examples" / "cube.obj").read_bytes()
@@ -96,7 +104,17 @@ def expected(words, data):
     return end[0], "".join(texts).encode(), end[1].encode()
 
 
+def is_taken(data):
+    """Whether a text has no fault, and neither its mesh nor a count of it has one."""
+    return expected(["sparse", "depth=0"], data)[0] == 0
+
+
 _, REFINED_CUBE, _ = expected(REFINE, CUBE)
+
+
+def corners_of(data):
+    """How many corners the faces of a text have, roughly where its lines are bad."""
+    return sum(len(line.split()) - 1 for line in data.split(b"\n") if line.startswith(b"f"))
 
 
 class Texts:
@@ -223,9 +241,9 @@ class Words:
     def for_text(self):
         return ["refine", *self.options(self.random.choice([0, 1, 1, 1]))]
 
-    def depth_for(self, corners, most_faces):
+    def depth_for(self, corners, most_faces, greatest=GREATEST_DEPTH):
         """A depth at which a mesh of so many corners has at most so many faces, and now and then 0 or 1."""
-        depths = [depth for depth in range(1, GREATEST_DEPTH + 1) if corners * 4 ** (depth - 1) <= most_faces]
+        depths = [depth for depth in range(1, greatest + 1) if corners * 4 ** (depth - 1) <= most_faces]
         return self.random.choice([0, 1] + depths * 2)
 
     def for_mesh(self, data):
@@ -234,16 +252,26 @@ class Words:
         kind = self.random.random() + (0.3 if b"\nvt" in data else 0)
         if kind < 0.25:
             return ["levels", f"depth={self.random.randint(0, GREATEST_DEPTH)}"]
-        corners = sum(len(line.split()) - 1 for line in data.split(b"\n") if line.startswith(b"f"))
+        corners = corners_of(data)
         if kind < 0.45:
             return ["stencils", f"depth={self.depth_for(corners, MOST_TABLE_FACES)}"]
         return ["refine", *self.options(self.depth_for(corners, MOST_FACES))]
+
+    def for_sparse(self, data):
+        """The words by which the sparse levels of a mesh are written, not too far for its corners; now and then with a bad
+        word."""
+        options = [f"depth={self.depth_for(corners_of(data), MOST_SPARSE_FACES, GREATEST_SPARSE_DEPTH)}"]
+        for name, values in SPARSE_OPTIONS.items():
+            options += [f"{name}={self.random.choice(values)}"] if self.random.random() < 0.4 else []
+        options += [self.random.choice(BAD_SPARSE)] if self.random.random() < 0.03 else []
+        self.random.shuffle(options)
+        return ["sparse", *options]
 
     def for_frames(self, data):
         """The words by which the control points of a mesh are moved, mostly as finely as the moves have decimals; now and
         then without a scale, or with a bad word."""
         mesh, _, moves = data.partition(b"\nframes")
-        corners = sum(len(line.split()) - 1 for line in mesh.split(b"\n") if line.startswith(b"f"))
+        corners = corners_of(mesh)
         finest = max((len(word.partition(b".")[2]) for word in moves.split()), default=0)
         scale = str(min(finest, 18)) if self.random.random() < 0.8 else self.random.choice(SCALES)
         options = [f"depth={self.depth_for(corners, MOST_TABLE_FACES)}", f"scale={scale}"]
@@ -286,19 +314,22 @@ def main():
     parser.add_argument("--program", default=TOP / "crates" / "far_cli" / "out" / "far_cli", help="the program to run")
     parser.add_argument("--seed", type=int, default=1, help="the seed of the texts")
     parser.add_argument("--count", type=int, default=1000, help="how many texts are refined")
-    parser.add_argument("--meshes", type=int, default=1000, help="how many meshes are refined, counted or have their tables written")
+    parser.add_argument("--meshes", type=int, default=1000, help="how many meshes are refined, counted or tabled, and sparse")
     parser.add_argument("--sheets", type=int, default=200, help="how many sheets are made")
     parser.add_argument("--frames", type=int, default=400, help="how many inputs with moves are answered")
+    parser.add_argument("--points", type=int, default=100, help="how many meshes have their points compared by two commands")
     arguments = parser.parse_args()
     texts, meshes, words = Texts(arguments.seed), Meshes(arguments.seed), Words(arguments.seed)
-    frames = Frames(arguments.seed)
-    mesh_texts = (meshes.text() for _ in range(arguments.meshes))
+    frames, others = Frames(arguments.seed), Meshes(f"points of {arguments.seed}")
+    mesh_texts = [meshes.text() for _ in range(arguments.meshes)]
     lines = agree(arguments.program, "texts", ((words.for_text(), texts.text()) for _ in range(arguments.count)))
     surfaces = agree(arguments.program, "meshes", ((words.for_mesh(data), data) for data in mesh_texts))
+    sparse = agree(arguments.program, "sparse levels", ((words.for_sparse(data), data) for data in mesh_texts))
     sheets = agree(arguments.program, "sheets", ((words.for_sheet(), b"") for _ in range(arguments.sheets)))
     inputs = (frames.text() for _ in range(arguments.frames))
     moves = agree(arguments.program, "inputs with moves", ((words.for_frames(data), data) for data in inputs))
-    return 0 if lines and surfaces and sheets and moves else 1
+    points = points_agree(arguments.program, islice(filter(is_taken, iter(others.text, None)), arguments.points))
+    return 0 if lines and surfaces and sparse and sheets and moves and points else 1
 
 
 if __name__ == "__main__":

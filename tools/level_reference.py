@@ -300,13 +300,18 @@ def overflow(track, number, kind):
     return Refusal(OVERFLOW, f"far: {track} level {number}: {kind} overflow")
 
 
+def next_level(level):
+    """The next level, whatever the denominators of its sharpnesses are."""
+    points = level.points + len(level.mesh.faces) + len(level.mesh.edges)
+    faces, holes, sharpness = Faces(child_faces(level)), child_holes(level), child_sharpness(level)
+    return Level(points, faces, holes, sharpness, child_vertex_sharpness(level), level.method)
+
+
 def child_level(level, track, number):
     """The next level, which has this number, or the Refusal of a denominator that is too great for it."""
     if level.method == b"chaikin" and any(map(has_fine_halves, semi_sharp_at(level).values())):
         raise overflow(track, number, "chaikin")
-    points = level.points + len(level.mesh.faces) + len(level.mesh.edges)
-    faces, holes, sharpness = Faces(child_faces(level)), child_holes(level), child_sharpness(level)
-    return Level(points, faces, holes, sharpness, child_vertex_sharpness(level), level.method)
+    return next_level(level)
 
 
 # Texts

@@ -127,22 +127,31 @@ def blend(weight, parent, child):
     return mask_of(terms, y * multiple)
 
 
-def vertex_mask(channel, level, vertex, number):
-    """The mask of a vertex for the next level, which has this number, or the Refusal of a weight that is too fine. The
-    linear scheme takes each vertex as a corner."""
-    edges = level.mesh.edges_of_point[vertex]
-    ends = [a + b - vertex for a, b in edges]
-    faces = [level.points + face for face in level.mesh.of_point[vertex]]
-    sharpness, ring = level.vertex_sharpness.get(vertex, 0), [level.edge_sharpness(edge) for edge in edges]
+def transition(channel, level, vertex):
+    """The rules of a vertex in the level and in the next, and the values that have ended there. The linear scheme takes
+    each vertex as a corner."""
+    sharpness = level.vertex_sharpness.get(vertex, 0)
+    ring = [level.edge_sharpness(edge) for edge in level.mesh.edges_of_point[vertex]]
     semi_sharp = [value for value in ring if 0 < value < inf]
     ring_child = [half_sharpness(level.method, value, semi_sharp) for value in ring]
     rules = (CORNER, CORNER) if channel.is_linear else (rule(sharpness, ring), rule(uniform_child(sharpness), ring_child))
+    return rules, ended(sharpness, ring, ring_child)
+
+
+def has_fine_weight(channel, level, vertex):
+    """Whether the weight between the two rules of a vertex is too fine."""
+    rules, values = transition(channel, level, vertex)
+    return rules[0] != rules[1] and is_too_fine(len(values) * common_denominator(values))
+
+
+def vertex_mask(channel, level, vertex):
+    """The mask of a vertex for the next level."""
+    ends = [a + b - vertex for a, b in level.mesh.edges_of_point[vertex]]
+    faces = [level.points + face for face in level.mesh.of_point[vertex]]
+    rules, values = transition(channel, level, vertex)
     parent, child = (rule_mask(named, vertex, ends, faces) for named in rules)
     if rules[0] == rules[1]:
         return parent
-    values = ended(sharpness, ring, ring_child)
-    if is_too_fine(len(values) * common_denominator(values)):
-        raise overflow(channel.track, number, "transition")
     weight = sum(values) / Fraction(len(values))
     return blend(weight, parent, child) if weight < 1 else parent
 
@@ -165,10 +174,16 @@ def masked(mask, points):
     return Point(value, denominator, set().union(*(source.controls for source in sources)))
 
 
-def child_points(channel, level, points, number, masked):
-    """The points of the next level, which has this number: of vertices, then of faces, then of edges."""
+def check_weights(channel, level, vertices, number):
+    """Refuses the next level, which has this number, where the weight of one of these vertices is too fine."""
+    if any(has_fine_weight(channel, level, vertex) for vertex in vertices):
+        raise overflow(channel.track, number, "transition")
+
+
+def child_points(channel, level, points, masked):
+    """The points of the next level: of vertices, then of faces, then of edges."""
     sources = points + [masked(face_mask(face), points) for face in level.mesh.faces]
-    vertices = [masked(vertex_mask(channel, level, vertex, number), sources) for vertex in range(level.points)]
+    vertices = [masked(vertex_mask(channel, level, vertex), sources) for vertex in range(level.points)]
     edges = [masked(edge_mask(channel, level, edge), sources) for edge in level.mesh.edges]
     return vertices + sources[level.points :] + edges
 
@@ -189,7 +204,8 @@ def stepped(channel, points, depth, by_table, masked=masked):
     level = channel.base
     for number in range(1, depth + 1):
         child = child_level(level, channel.track, number)
-        points = child_points(channel, level, points, number, masked)
+        check_weights(channel, level, range(level.points), number)
+        points = child_points(channel, level, points, masked)
         check_numbers(channel, points, number, by_table)
         level = child
     return level, points
@@ -200,9 +216,13 @@ def positions_of(obj, base):
     return Channel(POSITIONS, base, obj.points, obj.common)
 
 
+def base_points(channel):
+    """The points of level 0."""
+    values = [tuple(Fraction(number, channel.common) for number in control) for control in channel.controls]
+    return [Point(value, 1, {control}) for control, value in enumerate(values)]
+
+
 def refined(channel, depth, by_table):
     """The level of a channel after so many steps, and its values, or a Refusal."""
-    values = [tuple(Fraction(number, channel.common) for number in control) for control in channel.controls]
-    points = [Point(value, 1, {control}) for control, value in enumerate(values)]
-    level, points = stepped(channel, points, depth, by_table)
+    level, points = stepped(channel, base_points(channel), depth, by_table)
     return level, [point.value for point in points]

@@ -1,9 +1,10 @@
 #!/usr/bin/env python3
 """A plain, slow reference of the program: of `far refine`, and through `tools/level_reference.py` of `far levels`,
-`tools/table_reference.py` of `far stencils` and `far gen`, and `tools/frames_reference.py` of `far frames`.
+`tools/sparse_reference.py` of `far sparse`, `tools/table_reference.py` of `far stencils` and `far gen`, and
+`tools/frames_reference.py` of `far frames`.
 
-It is written from the definitions of `far_model` (Answer) and `subdiv_model` (Text and NumberText, and those that the other
-references name), with `fractions.Fraction` for every value, and shares nothing with the program. It takes the
+It is written from the definitions of `far_model` (Answer) and `subdiv_model` (Text, and those that the other references
+name), with `fractions.Fraction` for every value, and shares nothing with the program. It takes the
 program's words, standard input and standard output, and ends with the program's status, so that the runner of the
 cases can be tried on it:
 
@@ -19,45 +20,13 @@ from frames_reference import frame_texts
 from level_reference import accepted, levels_text, sharp_edges
 from mask_reference import positions_of, refined
 from run_reference import read_mesh, run, understood
+from sparse_reference import sparse_text
 from table_reference import sheet_text, table_text
+from text_reference import corner_texts, line, point_lines, textured_corner_texts
 from texture_reference import texture_of
 
 
-# Numbers
-
-
-def decimal_text(value, digits):
-    """A value rounded to so many decimals, half to even; one that is rounded to 0 has no sign."""
-    units = round(value * 10**digits)
-    text = str(abs(units)).rjust(digits + 1, "0")
-    whole, decimals = text[: len(text) - digits], text[len(text) - digits :]
-    return ("-" if units < 0 else "") + whole + ("." + decimals if digits else "")
-
-
-def number_text(value, digits):
-    """A value in lowest terms, or with decimals where a number of them is given."""
-    return str(value) if digits is None else decimal_text(value, digits)
-
-
 # Lines
-
-
-def line(*words):
-    return " ".join(map(str, words)) + "\n"
-
-
-def point_lines(keyword, points, digits):
-    return [line(keyword, *(number_text(axis, digits) for axis in point)) for point in points]
-
-
-def corner_texts(face):
-    """The corners of a face, from 1."""
-    return [str(corner + 1) for corner in face]
-
-
-def textured_corner_texts(faces):
-    """The corners of a face and its texture points, each with the other."""
-    return ["/".join(corners) for corners in zip(*map(corner_texts, faces))]
 
 
 def face_lines(level, faces, with_holes):
@@ -82,12 +51,24 @@ def tag_lines(level):
 # Answers
 
 
+def depth_of(options):
+    return int(options[b"depth"])
+
+
+def decimals_of(options):
+    return int(options[b"decimals"]) if b"decimals" in options else None
+
+
+def rule_of(options):
+    """The name of the rule that selects faces."""
+    return options.get(b"select", b"feature")
+
+
 def refined_text(obj, options):
     """The text of a mesh that was read, refined as the options say, or its Refusal. The texture follows the positions,
     level by level; how it is refined makes no difference where there is none."""
-    depth, by_table, with_tags = int(options[b"depth"]), options.get(b"by") != b"level", options.get(b"tags") == b"yes"
-    decimals = int(options[b"decimals"]) if b"decimals" in options else None
-    base = accepted(obj, depth)
+    depth, by_table, with_tags = depth_of(options), options.get(b"by") != b"level", options.get(b"tags") == b"yes"
+    decimals, base = decimals_of(options), accepted(obj, depth)
     level, points = refined(positions_of(obj, base), depth, by_table)
     lines, faces = point_lines("v", points, decimals), map(corner_texts, level.mesh.faces)
     if obj.has_texture:
@@ -98,15 +79,12 @@ def refined_text(obj, options):
     return "".join(lines + (tag_lines(level) if with_tags else []))
 
 
-def depth_of(options):
-    return int(options[b"depth"])
-
-
 # The text of each command that reads a mesh, of the mesh and the options.
 TEXTS_OF_MESH = {
     b"refine": refined_text,
     b"stencils": lambda obj, options: table_text(obj, depth_of(options)),
     b"levels": lambda obj, options: levels_text(obj, depth_of(options)),
+    b"sparse": lambda obj, options: sparse_text(obj, depth_of(options), rule_of(options), decimals_of(options)),
 }
 
 # The text of each command that makes its mesh, of the options.

@@ -55,6 +55,8 @@ def runs():
     yield "stencils depth=1", cube
     yield "frames depth=1 scale=1", cube + MOVES
     yield "levels depth=1", cube
+    yield "sparse depth=2", tagged
+    yield "sparse depth=1 select=all", unfolded
     yield "gen seed=7 size=2 depth=1", b""
     yield "refine depth=1 tags=maybe", cube
     yield "refine depth=1", cube + b"v 1 2\n"

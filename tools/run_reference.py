@@ -34,6 +34,7 @@ OPTIONS = {
     b"stencils": DEPTH,
     b"frames": {**DEPTH, b"scale": Numbers(0, 18)},
     b"levels": DEPTH,
+    b"sparse": {**DEPTH, b"select": [b"feature", b"all"], b"decimals": Numbers(0, 18), b"uv": [b"none"]},
     b"gen": {b"seed": Numbers(0, 2**32 - 1), b"size": Numbers(1, 256), **DEPTH},
 }
 REQUIRED = {b"seed", b"size", b"depth"}
