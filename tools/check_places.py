@@ -284,10 +284,12 @@ def call_and_reply(top: Path, name: str, variant: str) -> Tuple[str, str]:
     it has the name of the command, and the variant is the one that no call makes, or else has that name too."""
     for path in sorted(top.glob(REPLIES)):
         text = read(path)
-        contract = re.search(filled(FINDS_REPLY, {"variant": variant}), text)
-        reply = contract and re.search(r"\bReply::(\w+)", text[contract.end() :])
-        if contract and reply:
-            return re.findall(r"\bfn (\w+)", text[: contract.start()])[-1], reply[1]
+        # A file may have private calls before the public one, one of which makes the reply.
+        contracts = list(re.finditer(filled(FINDS_REPLY, {"variant": variant}), text))
+        after = text[contracts[0].end() :] if contracts else ""
+        replies = re.findall(r"\bReply::(\w+)", after) or re.findall(r"\bReply::(\w+)", text)
+        if contracts and replies:
+            return re.findall(r"\bfn (\w+)", text[: contracts[-1].start()])[-1], replies[0]
     return re.sub("-", "_", name), unmade_reply(top) or variant
 
 

@@ -140,9 +140,9 @@ PLANTS = [
     ),
     Plant(
         "docs/formats.md",
+        "has six commands",
         "has five commands",
-        "has four commands",
-        "command gen: missing in docs/formats.md: how many commands there are, five",
+        "command gen: missing in docs/formats.md: how many commands there are, six",
         ("--command", "gen"),
     ),
     Plant(
