@@ -29,6 +29,13 @@ triangle_points = (pos 0, pos 0, pos 0) ∷ (pos 12, pos 0, pos 0) ∷ (pos 0, p
 abbrev pub triangle_points_in_hundredths : List (ℤ × ℤ × ℤ)
 triangle_points_in_hundredths = (pos 0, pos 50, negsuc 149) ∷ (pos 100, pos 0, pos 0) ∷ (pos 0, pos 1, pos 0) ∷ []
 
+-- the points of the sheet of three by three quads, at the squares of their places in a row
+abbrev pub curved_row : ℤ → List (ℤ × ℤ × ℤ)
+curved_row y = (pos 0, y, pos 0) ∷ (pos 1, y, pos 1) ∷ (pos 2, y, pos 4) ∷ (pos 3, y, pos 9) ∷ []
+
+abbrev pub curved_sheet_points : List (ℤ × ℤ × ℤ)
+curved_sheet_points = curved_row (pos 0) ++ (curved_row (pos 1) ++ (curved_row (pos 2) ++ curved_row (pos 3)))
+
 -- control numbers up to 10^37 on the fine cube, under the method chaikin
 abbrev pub fine_channel : Channel
 fine_channel = record {

@@ -19,11 +19,24 @@ pub data Counted : Type 0 where
   Entries : ℕ → Counted
   -- the rows of limit points, which have too many entries
   LimitEntries : Counted
+  -- the rows of a patch, which have too many entries
+  PatchEntries : Counted
 
 -- the values that overflow
 pub data Track : Type 0 where
   Positions : Track
   Texture : Track
+  -- the rows of limit points
+  LimitRows : Track
+  -- the rows of a patch
+  Patch : Track
+
+-- why a point has no limit point, with its number
+pub data LimitCause : Type 0 where
+  -- one infinitely sharp edge ends there
+  Dart : ℕ → LimitCause
+  -- the point is semi-sharp, or an edge there is
+  SemiSharp : ℕ → LimitCause
 
 -- what passes its bound
 pub data OverflowKind : Type 0 where
@@ -36,6 +49,13 @@ pub data OverflowKind : Type 0 where
   -- a numerator over the greatest common denominator
   ValueOverflow : OverflowKind
 
+-- why a place on a level has no answer
+pub data PlaceFault : Type 0 where
+  -- the level has so many faces, and none of the number that is asked for
+  NoFace : ℕ → PlaceFault
+  -- the face has no patch
+  NotRegular : ℕ → PlaceFault
+
 pub data Fault : Type 0 where
   -- the words are no command; the place of the first bad one, from 0, or the number of words
   Usage : ℕ → Fault
@@ -46,6 +66,8 @@ pub data Fault : Type 0 where
   TooLarge : Counted → Fault
   -- the track, the level and the kind
   Overflow : Track → ℕ → OverflowKind → Fault
+  Limit : LimitCause → Fault
+  Place : PlaceFault → Fault
   Write : Fault
   Memory : Fault
 
@@ -82,10 +104,21 @@ counted_text (Valence v count) = codes "vertex " ++ (number_text v ++ (codes " h
 counted_text (LevelFaces level count) = codes "level " ++ (number_text level ++ (codes " has " ++ (number_text count ++ codes " faces")))
 counted_text (Entries level) = codes "level " ++ (number_text level ++ codes " has too many entries")
 counted_text LimitEntries = codes "the limit rows have too many entries"
+counted_text PatchEntries = codes "the patch rows have too many entries"
 
 abbrev pub track_text : Track → List ℕ
 track_text Positions = codes "positions"
 track_text Texture = codes "texture"
+track_text LimitRows = codes "limit"
+track_text Patch = codes "patch"
+
+abbrev pub place_fault_text : PlaceFault → List ℕ
+place_fault_text (NoFace count) = codes "there are " ++ (number_text count ++ codes " faces")
+place_fault_text (NotRegular face) = codes "face " ++ (number_text face ++ codes " is not a regular inner face")
+
+abbrev pub limit_cause_text : LimitCause → List ℕ
+limit_cause_text (Dart v) = codes "vertex " ++ (number_text v ++ codes " is a dart")
+limit_cause_text (SemiSharp v) = codes "vertex " ++ (number_text v ++ codes " is semi-sharp")
 
 abbrev pub kind_text : OverflowKind → List ℕ
 kind_text ChaikinOverflow = codes "chaikin"
@@ -103,6 +136,8 @@ fault_text (Mesh fault) = mesh_fault_text fault
 fault_text (TooLarge counted) = counted_text counted
 fault_text (Overflow track level kind) =
     track_text track ++ (codes " level " ++ (number_text level ++ (codes ": " ++ (kind_text kind ++ codes " overflow"))))
+fault_text (Limit cause) = limit_cause_text cause
+fault_text (Place fault) = place_fault_text fault
 fault_text Write = codes "writing failed"
 fault_text Memory = codes "out of memory"
 
@@ -118,6 +153,8 @@ fault_status (Obj fault) = 5
 fault_status (Mesh fault) = 6
 fault_status (TooLarge counted) = 7
 fault_status (Overflow track level kind) = 8
+fault_status (Limit cause) = 9
+fault_status (Place fault) = 13
 fault_status Write = 10
 fault_status Memory = 11
 

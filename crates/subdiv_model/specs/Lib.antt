@@ -41,4 +41,7 @@ pub mod Feature
 pub mod Sparse
 pub mod SparseFaults
 pub mod SparseText
+pub mod Limit
+pub mod ExampleLimits
+pub mod Patch
 pub mod ExampleSparse

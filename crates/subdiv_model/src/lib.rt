@@ -6,10 +6,12 @@
 #![tactic(auto)]
 
 pub mod levels;
+pub mod limits;
 pub mod masks;
 pub mod meshes;
 pub mod numerals;
 pub mod obj;
+pub mod patches;
 pub mod sparse;
 pub mod texts;
 pub mod texture;
