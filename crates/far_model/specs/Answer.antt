@@ -1,6 +1,6 @@
 -- What the program answers and writes, for all words and all bytes of its input.
 -- Source: this profile.
-use Rattle.std.specs.Prelude.{ℕ, ◌≡◌, ◌^◌, ℤ, Bool, nat_lt, List, [], ◌∷◌, ◌++◌, length, Option, Some, None, Result, Ok, Err, codes, if◌then◌else◌}
+use Rattle.std.specs.Prelude.{ℕ, ◌≡◌, ◌^◌, ℤ, Bool, false, nat_lt, List, [], ◌∷◌, ◌++◌, length, Option, Some, None, Result, Ok, Err, codes, if◌then◌else◌}
 use Rattle.std.specs.List.{flat_map}
 use Rattle.subdiv_model.specs.Lists.{first_of}
 use Rattle.subdiv_model.specs.MeshFault.{MeshFault, first_mesh_fault}
@@ -20,8 +20,9 @@ use Rattle.subdiv_model.specs.Feature.{FaceFacts, is_feature, is_selectable}
 use Rattle.subdiv_model.specs.Sparse.{Meeting, meeting_to}
 use Rattle.subdiv_model.specs.SparseFaults.{sparse_faults}
 use Rattle.subdiv_model.specs.SparseText.{sparse_text}
+use Rattle.subdiv_model.specs.Limit.{limit_faults, limit_points}
 use Rattle.subdiv_model.specs.Generator.{generated_mesh}
-use Rattle.far_model.specs.Command.{Command, Reads, Makes, Streams, ReadCommand, Refine, Sparse, Stencils, Levels, MakeCommand, Gen, StreamCommand, Frames, RefineOptions, SparseOptions, FramesOptions, Select, FeatureFaces, AllFaces, Uv, SmoothUv, CornersUv, BoundariesUv, LinearUv, By, ByTable, ByLevel, read_words}
+use Rattle.far_model.specs.Command.{Command, Reads, Makes, Streams, ReadCommand, Refine, Sparse, Stencils, Limit, Levels, MakeCommand, Gen, StreamCommand, Frames, RefineOptions, SparseOptions, LimitOptions, FramesOptions, Select, FeatureFaces, AllFaces, Uv, SmoothUv, CornersUv, BoundariesUv, LinearUv, By, ByTable, ByLevel, read_words}
 use Rattle.subdiv_model.specs.Limits.{count_faults, level_count_faults}
 use Rattle.subdiv_model.specs.Fault.{Fault, Usage, Long, Obj, Mesh, Positions, Texture}
 use Rattle.far_model.specs.Refusal.{Answer, refused, answer_unless}
@@ -97,11 +98,16 @@ sparse_mesh_faults options mesh = sparse_faults Tables (positions_of mesh) (meet
 abbrev pub table_faults : ℕ → ObjMesh → List Fault
 table_faults depth mesh = level_count_faults mesh.faces depth ++ channel_faults Tables (positions_of mesh) Positions depth
 
+-- the faults of a table of the positions, and of the rows of their limit points
+abbrev pub limit_mesh_faults : LimitOptions → ObjMesh → List Fault
+limit_mesh_faults options mesh = table_faults options.depth mesh ++ limit_faults (positions_of mesh) options.depth
+
 -- the faults that a command has with a mesh that is accepted, in their order
 abbrev pub command_faults : ReadCommand → ObjMesh → List Fault
 command_faults (Refine options) mesh = level_count_faults mesh.faces options.depth ++ refine_faults options mesh
 command_faults (Sparse options) mesh = sparse_mesh_faults options mesh
 command_faults (Stencils depth) mesh = table_faults depth mesh
+command_faults (Limit options) mesh = limit_mesh_faults options mesh
 command_faults (Levels depth) mesh = level_count_faults mesh.faces depth ++ channel_faults Sharpnesses (positions_of mesh) Positions depth
 
 -- the mesh that a command makes, and the faults that it has with it
@@ -124,6 +130,14 @@ refined_mesh_text options mesh =
     then textured_mesh_text options.decimals options.tags (refined_level (base_level mesh) options.depth) (points_after mesh options.depth)
     (refined_level (cut_level (seams_of options.uv) mesh) options.depth) (texture_after mesh options.uv options.depth)
     else mesh_text options.decimals options.tags (refined_level (base_level mesh) options.depth) (points_after mesh options.depth)
+
+-- the limit points at a depth, and the faces there
+abbrev pub limit_points_after : ObjMesh → ℕ → List Point
+limit_points_after mesh depth = limit_points (base_level mesh) mesh.common mesh.points depth
+
+abbrev pub limit_mesh_text : LimitOptions → ObjMesh → List ℕ
+limit_mesh_text options mesh =
+    mesh_text options.decimals false (refined_level (base_level mesh) options.depth) (limit_points_after mesh options.depth)
 
 -- the tags of a level, where they are asked for
 abbrev pub written_tags : Bool → Level → List ℕ
@@ -160,6 +174,7 @@ abbrev pub command_text : ReadCommand → ObjMesh → List ℕ
 command_text (Refine options) mesh = refined_mesh_text options mesh ++ written_tags options.tags (refined_level (base_level mesh) options.depth)
 command_text (Sparse options) mesh = sparse_text options.decimals (points_after mesh) (base_level mesh) (meeting_for options mesh) options.depth
 command_text (Stencils depth) mesh = table_text (base_level mesh) CatmullClark depth
+command_text (Limit options) mesh = limit_mesh_text options mesh
 command_text (Levels depth) mesh = levels_text (base_level mesh) depth
 
 abbrev pub made_text : MakeCommand → List ℕ

@@ -37,6 +37,12 @@ pub record SparseOptions : Type 0 where
   -- rounded to so many decimals, or else in lowest terms
   pub decimals : Option ℕ
 
+-- what `limit` is asked for
+pub record LimitOptions : Type 0 where
+  pub depth : ℕ
+  -- rounded to so many decimals, or else in lowest terms
+  pub decimals : Option ℕ
+
 -- what `gen` is asked for: the sheet, and the depth
 pub record GenOptions : Type 0 where
   pub seed : ℕ
@@ -54,6 +60,7 @@ pub data ReadCommand : Type 0 where
   Sparse : SparseOptions → ReadCommand
   -- the depth
   Stencils : ℕ → ReadCommand
+  Limit : LimitOptions → ReadCommand
   -- the depth
   Levels : ℕ → ReadCommand
 
@@ -103,6 +110,9 @@ sparse_of options = record {
   decimals = number_of options (codes "decimals");
 }
 
+abbrev pub limit_of : List (List ℕ) → LimitOptions
+limit_of options = record { depth = required_number options (codes "depth"); decimals = number_of options (codes "decimals") }
+
 abbrev pub gen_of : List (List ℕ) → GenOptions
 gen_of options = record {
   seed = required_number options (codes "seed");
@@ -119,6 +129,7 @@ command_named name options =
     if bytes_eq name (codes "refine") then Reads (Refine (refine_of options))
     else if bytes_eq name (codes "sparse") then Reads (Sparse (sparse_of options))
     else if bytes_eq name (codes "stencils") then Reads (Stencils (required_number options (codes "depth")))
+    else if bytes_eq name (codes "limit") then Reads (Limit (limit_of options))
     else if bytes_eq name (codes "frames") then Streams (Frames (frames_of options))
     else if bytes_eq name (codes "levels") then Reads (Levels (required_number options (codes "depth")))
     else Makes (Gen (gen_of options))
@@ -138,12 +149,13 @@ read_words_by table words = read_or (usage_of table words) words
 abbrev pub read_words : List (List ℕ) → Result Command ℕ
 read_words words = read_words_by command_table words
 
--- the numbers of a command are those that the table of words allows: a depth of at most 10, at most 18 decimals, a size from 1
--- to 256, and a scale of at most 18
+-- the numbers of a command are those that the table of words allows: a depth of at most 10 (of limit points, at least 1), at most 18
+-- decimals, a size from 1 to 256, and a scale of at most 18
 abbrev pub IsReadInRange : ReadCommand → Type 0
 IsReadInRange (Refine options) = (options.depth ≤ 10) × IfSome options.decimals (λ digits. digits ≤ 18)
 IsReadInRange (Sparse options) = (options.depth ≤ 10) × IfSome options.decimals (λ digits. digits ≤ 18)
 IsReadInRange (Stencils depth) = depth ≤ 10
+IsReadInRange (Limit options) = (1 ≤ options.depth) × (options.depth ≤ 10) × IfSome options.decimals (λ digits. digits ≤ 18)
 IsReadInRange (Levels depth) = depth ≤ 10
 
 abbrev pub IsMakeInRange : MakeCommand → Type 0

@@ -55,6 +55,7 @@ command_table =
     record { name = codes "refine"; options = required_option (codes "depth") 0 10 ∷ number_option (codes "decimals") 0 18 ∷ name_option (codes "uv") texture_names ∷ name_option (codes "by") path_names ∷ name_option (codes "tags") tags_names ∷ [] }
     ∷ record { name = codes "sparse"; options = required_option (codes "depth") 0 10 ∷ name_option (codes "select") select_names ∷ number_option (codes "decimals") 0 18 ∷ name_option (codes "uv") sparse_texture_names ∷ [] }
     ∷ record { name = codes "stencils"; options = required_option (codes "depth") 0 10 ∷ [] }
+    ∷ record { name = codes "limit"; options = required_option (codes "depth") 1 10 ∷ number_option (codes "decimals") 0 18 ∷ [] }
     ∷ record { name = codes "frames"; options = required_option (codes "depth") 0 10 ∷ number_option (codes "scale") 0 18 ∷ [] }
     ∷ record { name = codes "levels"; options = required_option (codes "depth") 0 10 ∷ [] }
     ∷ record { name = codes "gen"; options = required_option (codes "seed") 0 4294967295 ∷ required_option (codes "size") 1 256 ∷ required_option (codes "depth") 0 10 ∷ [] }

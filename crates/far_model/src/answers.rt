@@ -11,7 +11,7 @@ ghost use Rattle.far_model.specs.Examples.{first_texture};
 ghost use Rattle.subdiv_model.specs.ExampleTexts.{corner_cube_refined_text, cube_text, hidden_square_refined_text, refined_square_points_text, refined_square_text, seamed_text, sharp_square_refined_text, sheet_summary_text, square_text, tagged_cube_text};
 ghost use Rattle.far_model.specs.Command.{MakeCommand, ReadCommand};
 ghost use Rattle.subdiv_model.specs.Examples.{cube};
-ghost use Rattle.subdiv_model.specs.Fault.{ChaikinOverflow, Entries, Fault, FaceSize, LevelFaces, Long, Memory, Mesh, Obj, Overflow, Positions, Read, Texture, TooLarge, TransitionOverflow, Usage, Valence, ValueOverflow, Write, fault_line, fault_status, outcome_status};
+ghost use Rattle.subdiv_model.specs.Fault.{ChaikinOverflow, Dart, Entries, Fault, FaceSize, LevelFaces, Limit, Long, Memory, Mesh, Obj, Overflow, Positions, Read, SemiSharp, Texture, TooLarge, TransitionOverflow, Usage, Valence, ValueOverflow, Write, fault_line, fault_status, outcome_status};
 ghost use Rattle.subdiv_model.specs.Generator.{draws_from, generated_mesh, sheet_faces};
 ghost use Rattle.subdiv_model.specs.MeshFault.{NonManifoldEdge, RepeatedVertex, SplitVertex};
 ghost use Rattle.subdiv_model.specs.ObjFault.{BadTag, UnknownKeyword};
@@ -62,6 +62,17 @@ pub fn sparse_levels()
     ensures all { (answer (codes "sparse" ∷ codes "depth=1" ∷ codes "select=all" ∷ codes "uv=none" ∷ []) square_text).text
         ≡ codes "level 0 points 4 faces 1\nv 0 0 0\nv 4 0 0\nv 4 4 0\nv 0 4 0\nf s 0 1 2 3 4\nlevel 1 points 9 faces 4\nv 1/2 1/2 0\nv 2 0 0\nv 2 2 0\nv 0 2 0\nv 7/2 1/2 0\nv 4 2 0\nv 7/2 7/2 0\nv 2 4 0\nv 1/2 7/2 0\nf l 0 1 2 3 4\nf l 1 5 6 3 2\nf l 2 7 8 3 6\nf l 3 9 4 3 8\n" }
     ensures words { (answer (codes "sparse" ∷ codes "depth=1" ∷ codes "uv=smooth" ∷ []) square_text).refusal ≡ Some (Usage 2) }
+{}
+
+/// Limit points of the square, and points that have none.
+pub fn limit_points_of_meshes()
+    ensures square { answer (codes "limit" ∷ codes "depth=1" ∷ codes "decimals=2" ∷ []) square_text
+        ≡ record { text = codes "v 0.67 0.67 0.00\nv 3.33 0.67 0.00\nv 3.33 3.33 0.00\nv 0.67 3.33 0.00\nv 2.00 2.00 0.00\nv 2.00 0.17 0.00\nv 3.83 2.00 0.00\nv 2.00 3.83 0.00\nv 0.17 2.00 0.00\nf 1 6 5 9\nf 2 7 5 6\nf 3 8 5 7\nf 4 9 5 8\n"; refusal = None } }
+    ensures dart { answer (codes "limit" ∷ codes "depth=1" ∷ []) (cube_text ++ codes "t crease 2/1/0 0 1 10\n") ≡ record { text = []; refusal = Some (Limit (Dart 0)) } }
+    ensures semi { (answer (codes "limit" ∷ codes "depth=1" ∷ []) (cube_text ++ codes "t crease 2/1/0 0 1 5\n")).refusal ≡ Some (Limit (SemiSharp 0)) }
+    ensures depth { (answer (codes "limit" ∷ codes "depth=0" ∷ []) square_text).refusal ≡ Some (Usage 1) }
+    ensures line { fault_line (Limit (SemiSharp 0)) ≡ codes "far: vertex 0 is semi-sharp\n" }
+    ensures status { fault_status (Limit (Dart 0)) ≡ 9 }
 {}
 
 /// The first refusal that applies.
