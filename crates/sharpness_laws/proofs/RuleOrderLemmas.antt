@@ -17,7 +17,7 @@ use Rattle.sharpness_laws.proofs.OrderLemmas.{count-any_order, half_children-any
 use Rattle.sharpness_laws.proofs.MaskOrderLemmas.{same_weights-refl, same-terms, points-permuted, terms-permuted, same-if, same-transition}
 
 -- what is read at the places of what passes, is read of what passes
-reads-from : {X : Type 0} (end : X → ℕ) (test : X → Bool) (read : ℕ → ℕ) (place : ℕ) (xs : List X)
+pub reads-from : {X : Type 0} (end : X → ℕ) (test : X → Bool) (read : ℕ → ℕ) (place : ℕ) (xs : List X)
     → ((i : ℕ) → read (place + i) ≡ get_or (map end xs) i 0) → map read (places_from place test xs) ≡ map end (filter test xs)
 reads-from end test read place [] h = refl
 reads-from end test read place (x ∷ xs) h =
@@ -31,7 +31,7 @@ reads-from end test read place (x ∷ xs) h =
     either true e f = cc
     either false e f = f
 
-places_from-map : {X Y : Type 0} (f : X → Y) (test : Y → Bool) (place : ℕ) (xs : List X)
+pub places_from-map : {X Y : Type 0} (f : X → Y) (test : Y → Bool) (place : ℕ) (xs : List X)
     → places_from place test (map f xs) ≡ places_from place (λ x. test (f x)) xs
 places_from-map f test place [] = refl
 places_from-map f test place (x ∷ xs) = ap (λ l. if test (f x) then place ∷ l else l) (places_from-map f test (place + 1) xs)
