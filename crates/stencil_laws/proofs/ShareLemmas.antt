@@ -46,7 +46,7 @@ module _ (value : SourcePoint → Value) (den : SourcePoint → ℕ) (each : (s 
       let both = factors-positive mask.denominator (lcm_of_all dens) h in
       terms-positive mask.denominator (lcm_of_all dens) mask.terms both.0 both.1 (all-divide_lcm dens)
 
-  masks-positive : (masks : List Mask) (p : ℕ) → 0 < get_or (map (mask_denominator den) masks) p 1 → 0 < (point_value (map (mask_value value) masks) p).den
+  pub masks-positive : (masks : List Mask) (p : ℕ) → 0 < get_or (map (mask_denominator den) masks) p 1 → 0 < (point_value (map (mask_value value) masks) p).den
   masks-positive [] p h = omega arith
   masks-positive (mask ∷ masks) zero h = mask-positive mask h
   masks-positive (mask ∷ masks) (suc p) h = masks-positive masks p h
@@ -56,7 +56,7 @@ module _ (level : Level) (xs : List Value) (dens : List ℕ) (each : (p : ℕ) �
   corner-positive (OfPoint v) h = each v h
   corner-positive (OfFace f) h = omega arith
 
-  source-positive : (s : SourcePoint) → 0 < source_denominator level dens s → 0 < (source_value level xs s).den
+  pub source-positive : (s : SourcePoint) → 0 < source_denominator level dens s → 0 < (source_value level xs s).den
   source-positive (OfPoint v) h = each v h
   source-positive (OfFace f) h = mask-positive (corner_value xs) (corner_denominator dens) corner-positive (face_mask level f) h
 
