@@ -28,10 +28,10 @@ all-map (d ∷ ds) below =
     grind (arith, nat_tests, rest)
 
 -- what the bytes of a number's digits say
-record IsText (n : ℕ) (bytes : List ℕ) : Type 0 where
-  digits : list_all is_digit bytes ≡ true
-  some : 0 < length bytes
-  says : number_of_digits bytes ≡ n
+pub record IsText (n : ℕ) (bytes : List ℕ) : Type 0 where
+  pub digits : list_all is_digit bytes ≡ true
+  pub some : 0 < length bytes
+  pub says : number_of_digits bytes ≡ n
 
 text-zero : IsText 0 (48 ∷ [])
 text-zero = record { digits = refl; some = omega arith; says = refl }
@@ -43,13 +43,13 @@ text-some n some = record {
   says = number-map 0 (digits_of 10 n) ∙ number_digits_of 10 n (lit≤ tt);
 }
 
-text-of : (n : ℕ) → IsText n (number_text n)
+pub text-of : (n : ℕ) → IsText n (number_text n)
 text-of zero = text-zero
 text-of (suc n) =
     let some : suc n ≢ 0 = λ none. omega arith in
     subst (IsText (suc n)) (sym (number_text-digits (suc n) some)) (text-some (suc n) some)
 
-text-digits : (n : ℕ) (bytes : List ℕ) → IsText n bytes → are_digits bytes ≡ true
+pub text-digits : (n : ℕ) (bytes : List ℕ) → IsText n bytes → are_digits bytes ≡ true
 text-digits n bytes is =
     let some = le-leb 1 (length bytes) (omega (arith, is.some)) in rw (some, is.digits) refl
 
@@ -74,7 +74,7 @@ no-point (b ∷ bytes) are =
     let parts = and_parts (is_digit b) (list_all is_digit bytes) are in
     position-cons is_point b bytes (digit-other b parts.0).2 ∙ omega (arith, no-point bytes parts.1)
 
-unsigned : (bytes rest : List ℕ) → 0 < length bytes → list_all is_digit bytes ≡ true
+pub unsigned : (bytes rest : List ℕ) → 0 < length bytes → list_all is_digit bytes ≡ true
     → (without_sign (bytes ++ rest) ≡ bytes ++ rest) × (has_minus (bytes ++ rest) ≡ false)
 unsigned [] rest some are = absurd (omega arith)
 unsigned (b ∷ bytes) rest some are =
@@ -86,7 +86,7 @@ record HasParts (word digits exponent : List ℕ) (negative : Bool) : Type 0 whe
   sign : has_minus word ≡ negative
   rest : without_sign word ≡ digits ++ (101 ∷ (45 ∷ exponent))
 
-abbrev is_below : ℤ → Bool
+abbrev pub is_below : ℤ → Bool
 is_below (pos n) = false
 is_below (negsuc n) = true
 
@@ -97,7 +97,7 @@ parts-of (pos n) d =
     record { sign = none.1; rest = none.0 }
 parts-of (negsuc n) d = record { sign = refl; rest = refl }
 
-signed-back : (m : ℤ) → signed (is_below m) (unsigned_abs m) ≡ m
+pub signed-back : (m : ℤ) → signed (is_below m) (unsigned_abs m) ≡ m
 signed-back (pos n) = refl
 signed-back (negsuc n) = refl
 

@@ -64,10 +64,10 @@ both-digits : (whole fraction : List ℕ) → number_of_digits (whole ++ fractio
 both-digits whole fraction = fold-append (λ n b. n * 10 + (b - 48)) 0 whole fraction ∙ digits-from (number_of_digits whole) fraction
 
 -- where a byte of this kind is nowhere, and where it stands first
-abbrev lacks : (ℕ → Bool) → List ℕ → Bool
+abbrev pub lacks : (ℕ → Bool) → List ℕ → Bool
 lacks p bytes = list_all (λ b. not (p b)) bytes
 
-nowhere : (p : ℕ → Bool) (bytes : List ℕ) → lacks p bytes ≡ true → position_or_len p bytes ≡ length bytes
+pub nowhere : (p : ℕ → Bool) (bytes : List ℕ) → lacks p bytes ≡ true → position_or_len p bytes ≡ length bytes
 nowhere p [] none = refl
 nowhere p (b ∷ bytes) none = step (p b) refl (nowhere p bytes) none
   where
@@ -76,7 +76,7 @@ nowhere p (b ∷ bytes) none = step (p b) refl (nowhere p bytes) none
     step true e rest q = absurd (true≢false (sym q))
     step false e rest q = rw (sym e) (omega (arith, rest q))
 
-at-seam : (p : ℕ → Bool) (xs : List ℕ) (y : ℕ) (ys : List ℕ) → lacks p xs ≡ true → p y ≡ true → position_or_len p (xs ++ y ∷ ys) ≡ length xs
+pub at-seam : (p : ℕ → Bool) (xs : List ℕ) (y : ℕ) (ys : List ℕ) → lacks p xs ≡ true → p y ≡ true → position_or_len p (xs ++ y ∷ ys) ≡ length xs
 at-seam p [] y ys none is = rw is refl
 at-seam p (x ∷ xs) y ys none is = step (p x) refl (λ h. at-seam p xs y ys h is) none
   where
@@ -85,37 +85,37 @@ at-seam p (x ∷ xs) y ys none is = step (p x) refl (λ h. at-seam p xs y ys h i
     step true e rest q = absurd (true≢false (sym q))
     step false e rest q = rw (sym e) (omega (arith, rest q))
 
-drop-seam : (xs : List ℕ) (y : ℕ) (ys : List ℕ) → drop (length xs + 1) (xs ++ y ∷ ys) ≡ ys
+pub drop-seam : (xs : List ℕ) (y : ℕ) (ys : List ℕ) → drop (length xs + 1) (xs ++ y ∷ ys) ≡ ys
 drop-seam [] y ys = refl
 drop-seam (x ∷ xs) y ys =
     let more : length (x ∷ xs) + 1 ≡ suc (length xs + 1) = omega arith in ap (λ n. drop n (x ∷ (xs ++ y ∷ ys))) more ∙ drop-seam xs y ys
 
 -- digits are bytes of no other kind
-digits-lack : (p : ℕ → Bool) → ((b : ℕ) → is_digit b ≡ true → not (p b) ≡ true) → (bytes : List ℕ) → list_all is_digit bytes ≡ true → lacks p bytes ≡ true
+pub digits-lack : (p : ℕ → Bool) → ((b : ℕ) → is_digit b ≡ true → not (p b) ≡ true) → (bytes : List ℕ) → list_all is_digit bytes ≡ true → lacks p bytes ≡ true
 digits-lack p other [] are = refl
 digits-lack p other (b ∷ bytes) are =
     let parts = and_parts (is_digit b) (list_all is_digit bytes) are in
     and_from _ _ (other b parts.0) (digits-lack p other bytes parts.1)
 
-no-mark : (b : ℕ) → is_digit b ≡ true → not (is_exponent_mark b) ≡ true
+pub no-mark : (b : ℕ) → is_digit b ≡ true → not (is_exponent_mark b) ≡ true
 no-mark b is = grind (arith, nat_tests)
 
-no-slash : (b : ℕ) → is_digit b ≡ true → not (is_slash b) ≡ true
+pub no-slash : (b : ℕ) → is_digit b ≡ true → not (is_slash b) ≡ true
 no-slash b is = grind (arith, nat_tests)
 
-no-point : (b : ℕ) → is_digit b ≡ true → not (is_point b) ≡ true
+pub no-point : (b : ℕ) → is_digit b ≡ true → not (is_point b) ≡ true
 no-point b is = grind (arith, nat_tests)
 
 both-lack : (p : ℕ → Bool) (xs ys : List ℕ) (y : ℕ) → lacks p xs ≡ true → not (p y) ≡ true → lacks p ys ≡ true → lacks p (xs ++ y ∷ ys) ≡ true
 both-lack p xs ys y first mid last = list_all-append (λ b. not (p b)) xs (y ∷ ys) ∙ and_from _ _ first (and_from _ _ mid last)
 
 -- with no exponent and no slash
-record HasNoExponent (word bytes : List ℕ) : Type 0 where
-  part : decimal_part word ≡ bytes
-  above : tens_above word ≡ 0
-  below : tens_below word ≡ length (fraction_digits word)
+pub record HasNoExponent (word bytes : List ℕ) : Type 0 where
+  pub part : decimal_part word ≡ bytes
+  pub above : tens_above word ≡ 0
+  pub below : tens_below word ≡ length (fraction_digits word)
 
-no-exponent : (word bytes : List ℕ) → without_sign word ≡ bytes → lacks is_exponent_mark bytes ≡ true → HasNoExponent word bytes
+pub no-exponent : (word bytes : List ℕ) → without_sign word ≡ bytes → lacks is_exponent_mark bytes ≡ true → HasNoExponent word bytes
 no-exponent word bytes e none =
     let at : position_or_len is_exponent_mark (without_sign word) ≡ length (without_sign word) =
     nowhere is_exponent_mark (without_sign word) (ap (lacks is_exponent_mark) e ∙ none) in
@@ -132,7 +132,7 @@ no-exponent word bytes e none =
     none-above : (exponent : List ℕ) → exponent ≡ [] → (if exponent_has_minus exponent then 0 else exponent_amount exponent) ≡ 0
     none-above exponent e = rw e refl
 
-no-fraction : (word bytes : List ℕ) → without_sign word ≡ bytes → lacks is_slash bytes ≡ true → is_fraction word ≡ false
+pub no-fraction : (word bytes : List ℕ) → without_sign word ≡ bytes → lacks is_slash bytes ≡ true → is_fraction word ≡ false
 no-fraction word bytes e none =
     let at : position_or_len is_slash (without_sign word) ≡ length (without_sign word) =
     nowhere is_slash (without_sign word) (ap (lacks is_slash) e ∙ none) in
