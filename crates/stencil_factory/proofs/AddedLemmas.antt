@@ -99,7 +99,7 @@ module _ (most : ℕ) (all xs ys : List Share) (split : all ≡ xs ++ ys) (sums 
   here : CanAddAll most (xs ++ ys) sums
   here = subst (λ l. CanAddAll most l sums) split can
 
-  can-first : CanAddAll most xs sums
+  pub can-first : CanAddAll most xs sums
   can-first = record {
     inside = all-first (λ share. share.0 < length sums) xs ys here.inside;
     each = all-first (λ share. 0 < share.1) xs ys here.each;
@@ -116,10 +116,10 @@ module _ (most : ℕ) (all xs ys : List Share) (split : all ≡ xs ++ ys) (sums 
   }
 
   module _ (new : List ℕ) (added : new ≡ added_shares 1 xs sums) where
-    can-next : CanAddAll most ys new
+    pub can-next : CanAddAll most ys new
     can-next = subst (CanAddAll most ys) (sym added) can-rest
 
-    same-next : added_shares 1 ys new ≡ added_shares 1 all sums
+    pub same-next : added_shares 1 ys new ≡ added_shares 1 all sums
     same-next = ap (added_shares 1 ys) added ∙ sym (added-append xs ys sums) ∙ ap (λ l. added_shares 1 l sums) (sym split)
 
 -- the first corner of some, and the others

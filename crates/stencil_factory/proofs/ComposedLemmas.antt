@@ -1,26 +1,20 @@
--- The rows of child points, one after another.
+-- The rows of masks, one after another.
 use Rattle.std.proofs.Common.{◌≡◌, ℕ, zero, suc, ◌+◌, ◌^◌, ◌<◌, ◌≤◌, ℤ, pos, ◌*ℤ◌, List, [], ◌∷◌, ◌++◌, length, map, get_or, take, arith, refl, ap, sym, ◌∙◌, subst}
-use Rattle.std.specs.List.{sum_by, take-map, zip}
+use Rattle.std.specs.List.{All, sum_by, take-map}
 use Rattle.std.proofs.Math.IntN.{*ℤ_comm}
-use Rattle.std.proofs.lemmas.List.{length-map, map-append, take_more, take_all, get_or_read}
+use Rattle.std.proofs.lemmas.List.{length-map, get_or-map, map-append, take_more, take_all}
 use Rattle.std.proofs.lemmas.List.Sums.{sum_by-cons, sum_by-append, sum_by-take-le}
 use Rattle.subdiv_model.specs.Level.{Level}
 use Rattle.subdiv_model.specs.Value.{Value, IsSameValue, whole_value}
-use Rattle.subdiv_model.specs.Mask.{Scheme, Mask}
+use Rattle.subdiv_model.specs.Mask.{Mask}
 use Rattle.subdiv_model.specs.Refined.{mask_value, source_value, mask_denominator, source_denominator}
 use Rattle.subdiv_model.specs.Support.{mask_support, source_support}
 use Rattle.mask_laws.proofs.SumLemmas.{IsOver}
-use Rattle.level_topology.specs.Topology.{Topology}
-use Rattle.level_topology.specs.Child.{PointOrigin, FromVertex}
-use Rattle.child_masks.specs.Masks.{mask_from, masks_from, HasNoTransition}
-use Rattle.child_masks.specs.Survey.{IsSurvey}
-use Rattle.child_masks.specs.declared.survey.Survey.{Survey}
+use Rattle.subdiv_model.specs.Channel.{number_bound}
 use Rattle.stencil_apply.specs.Table.{Share, Row, Table, total_of, entries_of}
 use Rattle.stencil_factory.specs.Rows.{support_of, supports_of, dens_of, share_sum, row_values, AreSameValues}
-use Rattle.stencil_factory.specs.Composed.{entries_from, IsComposed}
+use Rattle.stencil_factory.specs.MaskRows.{no_mask, mask_at, mask_entries, AreRowDenominators, AreMaskRows}
 use Rattle.stencil_factory.specs.Composing.{IsComposedRow, AreComposedRows}
-use Rattle.stencil_factory.proofs.PairLemmas.{zip-parts}
-use Rattle.stencil_factory.proofs.SurveyLemmas.{found-count}
 
 -- a row has an entry
 pub row-some : (level : Level) (table : Table) (mask : Mask) (row : Row) → IsComposedRow level table mask row → 1 ≤ length row.shares
@@ -30,16 +24,29 @@ row-some level table mask row is = some row.shares (omega (arith, is.is.positive
     some [] h = absurd (omega (arith, h))
     some (share ∷ shares) h = omega arith
 
--- the row of a point, as it is read for the builder
-pub row-read : (parent : Topology) (table : Table) (scheme : Scheme) (origins : List PointOrigin) (survey : Survey) (p den : ℕ) (made : List Share) (indices numerators : List ℕ) → IsSurvey parent scheme origins (dens_of table) survey → p < length origins
-    → IsComposedRow parent.level table (mask_from parent.level scheme (get_or origins p (FromVertex 0))) (record { den = get_or survey.dens.items p 0; shares = made })
-    → den ≡ get_or survey.dens.items p den → indices ≡ map (λ share. share.0) made → numerators ≡ map (λ share. share.1) made
-    → IsComposedRow parent.level table (mask_from parent.level scheme (get_or origins p (FromVertex 0))) (record { den = den; shares = zip indices numerators })
-row-read parent table scheme origins survey p den made indices numerators found inside is e firsts_are seconds_are =
-    let below : p < length survey.dens.items = omega (arith, inside, found-count parent scheme origins (dens_of table) survey found) in
-    let mask = mask_from parent.level scheme (get_or origins p (FromVertex 0)) in
-    subst (λ (shares : List Share). IsComposedRow parent.level table mask (record { den = den; shares = shares })) (sym (zip-parts made indices numerators firsts_are seconds_are))
-    (subst (λ (n : ℕ). IsComposedRow parent.level table mask (record { den = n; shares = made })) (sym (get_or_read survey.dens.items p den below e 0)) is)
+-- what was found of a row
+module _ (level : Level) (table : Table) (masks : List Mask) (dens : List ℕ) (found : AreRowDenominators level table masks dens) where
+  found-count : length dens ≡ length masks
+  found-count = ap length found.each ∙ length-map masks (mask_denominator (source_denominator level (dens_of table)))
+
+  module _ (p : ℕ) (inside : p < length masks) where
+    pub found-inside : p < length dens
+    found-inside = subst (λ n. p < n) (sym found-count) inside
+
+    -- its denominator is that of its mask, above 0 and within its bound
+    module _ (den : ℕ) (read : den ≡ get_or dens p den) where
+      pub read-den : den ≡ mask_denominator (source_denominator level (dens_of table)) (mask_at masks p)
+      read-den = read ∙ ap (λ l. get_or l p den) found.each ∙ get_or-map (mask_denominator (source_denominator level (dens_of table))) masks p no_mask den inside
+
+      pub read-positive : 0 < den
+      read-positive = subst (λ n. 0 < n) (sym read) (found.positive p den found-inside)
+
+      pub read-short : den ≤ number_bound
+      read-short = subst (λ n. n ≤ number_bound) (sym read) (found.short p den found-inside)
+
+      -- and within each other bound of all
+      pub read-fits : (most : ℕ) → All (λ d. d ≤ most) dens → den ≤ most
+      read-fits most fits = subst (λ n. n ≤ most) (sym read) (fits p den found-inside)
 
 module _ (level : Level) (table : Table) where
   abbrev support : Mask → List ℕ
@@ -107,57 +114,46 @@ module _ (level : Level) (table : Table) where
       turned x n c e = *ℤ_comm x.num (pos c) ∙ e ∙ *ℤ_comm (pos x.den) n
   rows-values numbers values same (m ∷ masks) (r ∷ rows) are (suc p) inside = rows-values numbers values same masks rows are.1 p (omega (arith, inside))
 
-  module _ (scheme : Scheme) (origins : List PointOrigin) where
-    -- one point more
-    masks-more : (p : ℕ) → p < length origins
-        → masks_from level scheme (take (p + 1) origins) ≡ masks_from level scheme (take p origins) ++ mask_from level scheme (get_or origins p (FromVertex 0)) ∷ []
-    masks-more p inside = ap (map (mask_from level scheme)) (take_more origins p (FromVertex 0) inside) ∙ map-append (mask_from level scheme) (take p origins) (get_or origins p (FromVertex 0) ∷ [])
+  module _ (masks : List Mask) where
+    -- the entries of some of the rows are no more than all
+    pub entries-less : (n : ℕ) → mask_entries level table (take n masks) ≤ mask_entries level table masks
+    entries-less n = subst (λ lists. sum_by length lists ≤ mask_entries level table masks) (take-map support n masks) (sum_by-take-le length (map support masks) n)
 
-    -- the entries of some of the points are no more than all
-    pub entries-less : (n : ℕ) → entries_from level scheme (take n origins) table ≤ entries_from level scheme origins table
-    entries-less n =
-        let all = map support (masks_from level scheme origins) in
-        let some : take n all ≡ map support (masks_from level scheme (take n origins)) = take-map support n (masks_from level scheme origins) ∙ ap (map support) (take-map (mask_from level scheme) n origins) in
-        subst (λ lists. sum_by length lists ≤ sum_by length all) some (sum_by-take-le length all n)
-
-    -- and one point more is its support more
-    pub entries-more : (p : ℕ) → p < length origins
-        → entries_from level scheme (take (p + 1) origins) table ≡ entries_from level scheme (take p origins) table + length (support (mask_from level scheme (get_or origins p (FromVertex 0))))
+    -- and one row more is its support more
+    pub entries-more : (p : ℕ) → p < length masks → mask_entries level table (take (p + 1) masks) ≡ mask_entries level table (take p masks) + length (support (mask_at masks p))
     entries-more p inside =
-        let own = mask_from level scheme (get_or origins p (FromVertex 0)) in
-        let more = ap (λ masks. sum_by length (map support masks)) (masks-more p inside) in
-        let apart = ap (sum_by length) (map-append support (masks_from level scheme (take p origins)) (own ∷ [])) in
-        omega (arith, more, apart, sum_by-append length (map support (masks_from level scheme (take p origins))) (support own ∷ []), sum_by-cons length (support own) [])
+        let own = mask_at masks p in
+        let more = ap (λ list. sum_by length (map support list)) (take_more masks p no_mask inside) in
+        let apart = ap (sum_by length) (map-append support (take p masks) (own ∷ [])) in
+        omega (arith, more, apart, sum_by-append length (map support (take p masks)) (support own ∷ []), sum_by-cons length (support own) [])
 
-    module _ (p : ℕ) (rows : List Row) (row : Row) (inside : p < length origins) (are : AreComposedRows level table (masks_from level scheme (take p origins)) rows)
-        (is : IsComposedRow level table (mask_from level scheme (get_or origins p (FromVertex 0))) row) where
-      pub next-rows : AreComposedRows level table (masks_from level scheme (take (p + 1) origins)) (rows ++ row ∷ [])
-      next-rows = subst (λ masks. AreComposedRows level table masks (rows ++ row ∷ [])) (sym (masks-more p inside)) (rows-more (masks_from level scheme (take p origins)) rows _ row are is)
+    module _ (p : ℕ) (rows : List Row) (row : Row) (inside : p < length masks) (are : AreComposedRows level table (take p masks) rows)
+        (is : IsComposedRow level table (mask_at masks p) row) where
+      pub next-rows : AreComposedRows level table (take (p + 1) masks) (rows ++ row ∷ [])
+      next-rows = subst (λ list. AreComposedRows level table list (rows ++ row ∷ [])) (sym (take_more masks p no_mask inside)) (rows-more (take p masks) rows _ row are is)
 
       -- there is room for it
-      pub next-entries : entries_from level scheme origins table ≤ 2 ^ 27 → entries_of rows + length row.shares ≤ 2 ^ 27
+      pub next-entries : mask_entries level table masks ≤ 2 ^ 27 → entries_of rows + length row.shares ≤ 2 ^ 27
       next-entries few =
-          omega (arith, few, entries-less (p + 1), rows-entries (masks_from level scheme (take (p + 1) origins)) (rows ++ row ∷ []) next-rows, sum_by-append (λ (r : Row). length r.shares) rows (row ∷ []))
+          omega (arith, few, entries-less (p + 1), rows-entries (take (p + 1) masks) (rows ++ row ∷ []) next-rows, sum_by-append (λ (r : Row). length r.shares) rows (row ∷ []))
 
-      pub next-count : entries_from level scheme origins table ≤ 2 ^ 27 → length rows < 2 ^ 27
-      next-count few =
-          omega (arith, next-entries few, row-some level table _ row is, rows-few (masks_from level scheme (take p origins)) rows are)
+      pub next-count : mask_entries level table masks ≤ 2 ^ 27 → length rows < 2 ^ 27
+      next-count few = omega (arith, next-entries few, row-some level table _ row is, rows-few (take p masks) rows are)
 
-    -- rows for all points
-    pub are-composed : (p : ℕ) (composed : Table) → length origins ≤ p → composed.controls ≡ table.controls
-        → AreComposedRows level table (masks_from level scheme (take p origins)) composed.rows → HasNoTransition level scheme origins → IsComposed level scheme origins table composed
-    are-composed p composed past controls some fine = record {
+    -- rows for all masks
+    pub are-rows : (p : ℕ) (composed : Table) → length masks ≤ p → composed.controls ≡ table.controls
+        → AreComposedRows level table (take p masks) composed.rows → AreMaskRows level masks table composed
+    are-rows p composed past controls some = record {
       controls = controls;
-      dens = rows-dens (masks_from level scheme origins) composed.rows are;
-      supports = rows-supports (masks_from level scheme origins) composed.rows are;
+      dens = rows-dens masks composed.rows are;
+      supports = rows-supports masks composed.rows are;
       values = λ numbers values same. record {
         count =
-            length-map (masks_from level scheme origins) (mask_value (source_value level values)) ∙ sym (rows-count (masks_from level scheme origins) composed.rows are)
+            length-map masks (mask_value (source_value level values)) ∙ sym (rows-count masks composed.rows are)
             ∙ sym (length-map composed.rows (value_of numbers));
-        same = rows-values numbers values same (masks_from level scheme origins) composed.rows are;
+        same = rows-values numbers values same masks composed.rows are;
       };
-      fine = fine;
     }
       where
-        are : AreComposedRows level table (masks_from level scheme origins) composed.rows
-        are = subst (λ os. AreComposedRows level table (masks_from level scheme os) composed.rows) (take_all p origins past) some
+        are : AreComposedRows level table masks composed.rows
+        are = subst (λ list. AreComposedRows level table list composed.rows) (take_all p masks past) some

@@ -17,3 +17,6 @@ pub mod ComposedLemmas
 pub mod MarkLemmas
 pub mod MetLemmas
 pub mod NameLemmas
+pub mod JoinLemmas
+pub mod PointLemmas
+pub mod FoundLemmas

@@ -81,12 +81,12 @@ among-terms level v (t ∷ terms) places =
     ∙ or_assoc (is_among places.met v) (names_point level v t.source) rest
 
 -- a mask of the code names what the defined one does
-names-same : (level : Level) (mask defined : Mask) (v : ℕ) → IsMask mask defined → is_joined defined ≡ true → is_named level mask v ≡ is_named level defined v
+pub names-same : (level : Level) (mask defined : Mask) (v : ℕ) → IsMask mask defined → is_joined defined ≡ true → is_named level mask v ≡ is_named level defined v
 names-same level mask defined v is joined =
     list_any-IsPermutation (λ (t : model.Term). names_point level v t.source) mask.terms defined.terms (same_weights-permuted mask defined is.joined joined is.same)
 
 -- from no place on
-none-before : (places : Places) (v : ℕ) → places.met ≡ [] → is_among places.met v ≡ false
+pub none-before : (places : Places) (v : ℕ) → places.met ≡ [] → is_among places.met v ≡ false
 none-before places v none = ap (λ l. is_among l v) none
 
 pub terms-named : (level : Level) (scheme : Scheme) (origin : PointOrigin) (mask : Mask) → IsMask mask (mask_from level scheme origin) → is_joined (mask_from level scheme origin) ≡ true

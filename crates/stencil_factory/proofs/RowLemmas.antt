@@ -31,7 +31,7 @@ values-over table numbers = each table.rows
     each (row ∷ rows) = ap (λ (rest : List Value). record { num = share_sum numbers row.shares; den = row.den } ∷ rest) (each rows)
 
 -- zeros all stand at 0
-zero-at : (n v : ℕ) → ◌≡◌ {A = ℕ} (get_or (replicate n 0) v 0) 0
+pub zero-at : (n v : ℕ) → ◌≡◌ {A = ℕ} (get_or (replicate n 0) v 0) 0
 zero-at zero v = refl
 zero-at (suc n) zero = refl
 zero-at (suc n) (suc v) = zero-at n v

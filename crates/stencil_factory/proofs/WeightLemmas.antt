@@ -29,7 +29,7 @@ use Rattle.stencil_factory.proofs.ScratchLemmas.{length-added_shares, place-le-s
 use Rattle.stencil_factory.proofs.FlatLemmas.{weigh_by, source_number, IsPart, source-inside, source-each, source-weight, source-value, source-over, source-named, source-can}
 
 -- what holds of two lists holds of both together
-all-join : {X : Type 0} (P : X → Type 0) (xs ys : List X) → AllByRecursion P xs → AllByRecursion P ys → AllByRecursion P (xs ++ ys)
+pub all-join : {X : Type 0} (P : X → Type 0) (xs ys : List X) → AllByRecursion P xs → AllByRecursion P ys → AllByRecursion P (xs ++ ys)
 all-join P [] ys h k = k
 all-join P (x ∷ xs) ys h k = (h.0, all-join P xs ys h.1 k)
 

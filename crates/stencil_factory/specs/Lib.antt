@@ -8,3 +8,5 @@ pub mod Composing
 pub mod Marks
 pub mod Met
 pub mod Named
+pub mod MaskRows
+pub mod Joined

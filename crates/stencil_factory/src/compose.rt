@@ -1,30 +1,22 @@
-//! One step of a table.
+//! The rows of a table, composed from those of the points of a level.
 
-ghost use Rattle.std.specs.Prelude.{◌≡◌, ◌+◌, ◌*◌, ◌<◌, ◌≤◌, List, length, get_or, max, replicate, IfOk, OnOk};
+ghost use Rattle.std.specs.Prelude.{◌≡◌, ◌+◌, ◌*◌, ◌^◌, ◌<◌, ◌≤◌, List, length, max, replicate, take, IfOk, OnOk};
 ghost use Rattle.std.specs.List.{All, fold};
 ghost use Rattle.number_width.specs.Numbers.{width_for, most_of};
-ghost use Rattle.subdiv_model.specs.Level as model_level;
-ghost use Rattle.subdiv_model.specs.Mask as model;
-ghost use Rattle.subdiv_model.specs.Channel.{entry_bound};
-ghost use Rattle.level_topology.specs.Child.{PointOrigin, FromVertex};
-ghost use Rattle.mask_rules.specs.View.{scheme_of};
-ghost use Rattle.child_masks.specs.Masks.{CanRefine, mask_from};
-ghost use Rattle.child_masks.specs.Survey.{IsSurvey, IsSurveyFault};
-ghost use Rattle.stencil_apply.specs.Table.{Table, row_at, total_of};
-ghost use Rattle.stencil_apply.specs.Built.{no_rows};
+ghost use Rattle.subdiv_model.specs.Refined.{mask_denominator, source_denominator};
+ghost use Rattle.subdiv_model.specs.Channel.{number_bound, entry_bound};
+ghost use Rattle.stencil_apply.specs.Table.{IsRow, entries_of, row_at, total_of};
+ghost use Rattle.stencil_apply.specs.Built.{no_rows, with_row};
 ghost use Rattle.stencil_factory.specs.Rows.{dens_of};
 ghost use Rattle.stencil_factory.specs.Scratch.{added_shares, shares_from, sum_of};
-ghost use Rattle.stencil_factory.specs.Composing.{added_rows, CanAddRows, IsComposedRow};
-ghost use Rattle.stencil_factory.specs.Composed.{entries_from, IsComposed, IsTableComposition, IsTableFault};
+ghost use Rattle.stencil_factory.specs.Composing.{added_rows, CanAddRows, IsComposedRow, AreComposedRows};
+ghost use Rattle.stencil_factory.specs.MaskRows.{mask_at, mask_entries, AreRowDenominators, AreMaskRows, IsRowComposition};
 
 use crate::count::count_entries;
 use crate::entries::Entries;
-use crate::fault::TableFault;
+use crate::row_fault::RowFault;
+use crate::rows::RowMasks;
 use crate::scratch::Scratch;
-use crate::weigh::weigh_point;
-use child_masks::{Survey, SurveyFault, survey_over};
-use level_topology::{Child, Level};
-use mask_rules::{MadeMask, Scheme};
 use number_width::{Natural, NumberSlice, Width, width_of};
 use ratio128::Memory;
 use std::alloc::Global;
@@ -32,37 +24,26 @@ use stencil_apply::{StencilTable, TableBuilder};
 
 // Where rows are composed: the mask of a row, the weights of a level's points, and from them the entries of control points.
 #[derive(Drop)]
-struct Room<T: Natural> {
-    mask: MadeMask,
+struct Room<T: Natural, M> {
+    mask: M,
     points: Scratch<T>,
     weights: Entries<T>,
     controls: Scratch<T>,
     entries: Entries<T>,
 }
 
-impl<T: Natural> Room<T> {
+impl<T: Natural, M: Drop> Room<T, M> {
     // Room for a level of so many points over so many control points.
-    fn new(alloc: Global, points: u32, controls: u32) -> Result<Room<T>, Memory>
-        ensures { IfOk result (λ room. (room.points ≡ replicate points 0) × (room.controls ≡ replicate controls 0)) }
+    fn new(alloc: Global, mask: M, points: u32, controls: u32) -> Result<Room<T, M>, Memory>
+        ensures { IfOk result (λ room. (room.mask ≡ mask) × (room.points ≡ replicate points 0) × (room.controls ≡ replicate controls 0)) }
     {
         Ok(Room {
-            mask: MadeMask::new(),
+            mask,
             points: Scratch::new(alloc, points)?,
             weights: Entries::new(alloc),
             controls: Scratch::new(alloc, controls)?,
             entries: Entries::new(alloc),
         })
-    }
-}
-
-// The fault of a step whose survey has one.
-fn table_fault(fault: SurveyFault) -> TableFault
-    ensures { (level : model_level.Level) (scheme : model.Scheme) (origins : List PointOrigin) (table : Table) → IsSurveyFault level scheme origins (dens_of table) fault → IsTableFault level scheme origins table result }
-{
-    match fault {
-        SurveyFault::Transition(point) => TableFault::Transition { point },
-        SurveyFault::Denominator(point) => TableFault::Denominator { point },
-        SurveyFault::Memory => TableFault::Memory,
     }
 }
 
@@ -123,125 +104,154 @@ fn sum_rows<T: Natural>(
     Ok(())
 }
 
-// Puts the entries of the row of a child point in their place.
-fn compose_row<T: Natural>(
+// Puts the entries of a row in their place.
+fn compose_row<T: Natural, R: RowMasks>(
     table: &StencilTable,
-    parent: &Level,
-    child: &Child,
-    p: u32,
-    scheme: Scheme,
-    survey: &Survey,
-    room: &mut Room<T>,
+    rows: &R,
+    row: u32,
+    den: u128,
+    room: &mut Room<T, R::Room>,
 ) -> Result<(), Memory>
-    requires child { CanRefine parent.now child.now (scheme_of scheme) }
-    requires each { length table.now.rows ≡ parent.now.level.point_count }
-    requires known { p < length child.now.origins }
-    requires survey { IsSurvey parent.now (scheme_of scheme) child.now.origins (dens_of table.now) survey.now }
-    requires fits { get_or survey.now.dens.items p 0 ≤ T.most }
-    requires points { room.old.points ≡ replicate parent.now.level.point_count 0 }
+    requires ready { R.IsReady rows.now }
+    requires found { R.IsFound rows.now (dens_of table.now) }
+    requires each { length table.now.rows ≡ (R.level rows.now).point_count }
+    requires known { row < length (R.masks rows.now) }
+    requires den { den ≡ mask_denominator (source_denominator (R.level rows.now) (dens_of table.now)) (mask_at (R.masks rows.now) row) }
+    requires positive { 0 < den }
+    requires short { den ≤ number_bound }
+    requires fits { den ≤ T.most }
+    requires clear { R.IsClear rows.now room.old.mask }
+    requires points { room.old.points ≡ replicate (R.level rows.now).point_count 0 }
     requires controls { room.old.controls ≡ replicate table.now.controls 0 }
-    ensures points { OnOk result (room.new.points ≡ replicate parent.now.level.point_count 0) }
+    ensures clear { OnOk result (R.IsClear rows.now room.new.mask) }
+    ensures points { OnOk result (room.new.points ≡ replicate (R.level rows.now).point_count 0) }
     ensures controls { OnOk result (room.new.controls ≡ replicate table.now.controls 0) }
-    ensures row { OnOk result (IsComposedRow parent.now.level table.now (mask_from parent.now.level (scheme_of scheme) (get_or child.now.origins p (FromVertex 0)))
-        (record { den = get_or survey.now.dens.items p 0; shares = room.new.entries })) }
+    ensures row { OnOk result (IsComposedRow (R.level rows.now) table.now (mask_at (R.masks rows.now) row) (record { den = den; shares = room.new.entries })) }
 {
-    parent.facts();
-    child.facts();
     table.facts();
     let dens = table.denominators();
-    weigh_point(
-        parent,
-        child,
-        p,
-        scheme,
-        survey,
-        &mut room.mask,
-        dens,
-        &mut room.points,
-        &mut room.weights,
-    )?;
+    rows.weigh(row, den, dens, &mut room.mask, &mut room.points)?;
+    room.points.take_unsorted(&mut room.weights)?;
     sum_rows(table, &room.weights, &mut room.controls, &mut room.entries)
 }
 
-// Puts the rows of all child points.
-fn put_rows<T: Natural>(
-    table: &StencilTable,
-    parent: &Level,
-    child: &Child,
-    scheme: Scheme,
-    survey: &Survey,
-    room: &mut Room<T>,
+// Puts a row of entries over a denominator after the others.
+fn put_entries<T: Natural>(
+    den: u128,
+    entries: &Entries<T>,
     builder: &mut TableBuilder,
 ) -> Result<(), Memory>
-    requires child { CanRefine parent.now child.now (scheme_of scheme) }
-    requires each { length table.now.rows ≡ parent.now.level.point_count }
-    requires survey { IsSurvey parent.now (scheme_of scheme) child.now.origins (dens_of table.now) survey.now }
-    requires few { entries_from parent.now.level (scheme_of scheme) child.now.origins table.now ≤ entry_bound }
-    requires fits { All (λ den. den ≤ T.most) survey.now.dens.items }
-    requires points { room.old.points ≡ replicate parent.now.level.point_count 0 }
+    requires row { IsRow builder.old.table.controls (record { den = den; shares = entries.now }) }
+    requires rows { length builder.old.table.rows < 2 ^ 27 }
+    requires entries { entries_of builder.old.table.rows + length entries.now ≤ 2 ^ 27 }
+    ensures { OnOk result (builder.new.table ≡ with_row (record { den = den; shares = entries.now }) builder.old.table) }
+{
+    builder.add_parts(den, entries.indices(), entries.numerators())
+}
+
+// Puts the row of a mask after those of the masks before it.
+fn put_row<T: Natural, R: RowMasks>(
+    table: &StencilTable,
+    rows: &R,
+    row: u32,
+    den: u128,
+    room: &mut Room<T, R::Room>,
+    builder: &mut TableBuilder,
+) -> Result<(), Memory>
+    requires ready { R.IsReady rows.now }
+    requires found { R.IsFound rows.now (dens_of table.now) }
+    requires each { length table.now.rows ≡ (R.level rows.now).point_count }
+    requires known { row < length (R.masks rows.now) }
+    requires den { den ≡ mask_denominator (source_denominator (R.level rows.now) (dens_of table.now)) (mask_at (R.masks rows.now) row) }
+    requires positive { 0 < den }
+    requires short { den ≤ number_bound }
+    requires fits { den ≤ T.most }
+    requires few { mask_entries (R.level rows.now) table.now (R.masks rows.now) ≤ entry_bound }
+    requires clear { R.IsClear rows.now room.old.mask }
+    requires points { room.old.points ≡ replicate (R.level rows.now).point_count 0 }
+    requires controls { room.old.controls ≡ replicate table.now.controls 0 }
+    requires same { builder.old.table.controls ≡ table.now.controls }
+    requires done { AreComposedRows (R.level rows.now) table.now (take row (R.masks rows.now)) builder.old.table.rows }
+    ensures clear { OnOk result (R.IsClear rows.now room.new.mask) }
+    ensures points { OnOk result (room.new.points ≡ replicate (R.level rows.now).point_count 0) }
+    ensures controls { OnOk result (room.new.controls ≡ replicate table.now.controls 0) }
+    ensures same { OnOk result (builder.new.table.controls ≡ table.now.controls) }
+    ensures done { OnOk result (AreComposedRows (R.level rows.now) table.now (take (row + 1) (R.masks rows.now)) builder.new.table.rows) }
+{
+    compose_row(table, rows, row, den, room)?;
+    put_entries(den, &room.entries, builder)
+}
+
+// Puts all rows.
+fn put_rows<T: Natural, R: RowMasks>(
+    table: &StencilTable,
+    rows: &R,
+    dens: &[u128],
+    room: &mut Room<T, R::Room>,
+    builder: &mut TableBuilder,
+) -> Result<(), Memory>
+    requires ready { R.IsReady rows.now }
+    requires found { R.IsFound rows.now (dens_of table.now) }
+    requires each { length table.now.rows ≡ (R.level rows.now).point_count }
+    requires dens { AreRowDenominators (R.level rows.now) table.now (R.masks rows.now) dens.now }
+    requires few { mask_entries (R.level rows.now) table.now (R.masks rows.now) ≤ entry_bound }
+    requires fits { All (λ den. den ≤ T.most) dens.now }
+    requires clear { R.IsClear rows.now room.old.mask }
+    requires points { room.old.points ≡ replicate (R.level rows.now).point_count 0 }
     requires controls { room.old.controls ≡ replicate table.now.controls 0 }
     requires none { builder.old.table ≡ no_rows table.now.controls }
-    ensures { OnOk result (IsComposed parent.now.level (scheme_of scheme) child.now.origins table.now builder.new.table) }
+    ensures { OnOk result (AreMaskRows (R.level rows.now) (R.masks rows.now) table.now builder.new.table) }
 {
-    parent.facts();
-    child.facts();
-    table.facts();
-    for p in 0..child.level().points() {
-        compose_row(table, parent, child, p, scheme, survey, room)?;
-        let den = survey.dens[p as usize];
-        builder.add_parts(den, room.entries.indices(), room.entries.numerators())?;
+    for row in 0..rows.count() {
+        let den = dens[row as usize];
+        put_row(table, rows, row, den, room, builder)?;
     }
     Ok(())
 }
 
-// Puts the rows of all child points, composed in numbers of one type.
-fn put_rows_as<T: Natural>(
+// Puts all rows, composed in numbers of one type.
+fn put_rows_as<T: Natural, R: RowMasks>(
     alloc: Global,
     table: &StencilTable,
-    parent: &Level,
-    child: &Child,
-    scheme: Scheme,
-    survey: &Survey,
+    rows: &R,
+    dens: &[u128],
     builder: &mut TableBuilder,
 ) -> Result<(), Memory>
-    requires child { CanRefine parent.now child.now (scheme_of scheme) }
-    requires each { length table.now.rows ≡ parent.now.level.point_count }
-    requires survey { IsSurvey parent.now (scheme_of scheme) child.now.origins (dens_of table.now) survey.now }
-    requires few { entries_from parent.now.level (scheme_of scheme) child.now.origins table.now ≤ entry_bound }
-    requires fits { All (λ den. den ≤ T.most) survey.now.dens.items }
+    requires ready { R.IsReady rows.now }
+    requires found { R.IsFound rows.now (dens_of table.now) }
+    requires each { length table.now.rows ≡ (R.level rows.now).point_count }
+    requires dens { AreRowDenominators (R.level rows.now) table.now (R.masks rows.now) dens.now }
+    requires few { mask_entries (R.level rows.now) table.now (R.masks rows.now) ≤ entry_bound }
+    requires fits { All (λ den. den ≤ T.most) dens.now }
     requires none { builder.old.table ≡ no_rows table.now.controls }
-    ensures { OnOk result (IsComposed parent.now.level (scheme_of scheme) child.now.origins table.now builder.new.table) }
+    ensures { OnOk result (AreMaskRows (R.level rows.now) (R.masks rows.now) table.now builder.new.table) }
 {
-    parent.facts();
-    table.facts();
-    let mut room = Room::<T>::new(alloc, parent.points(), table.controls())?;
-    put_rows(table, parent, child, scheme, survey, &mut room, builder)
+    let made = rows.room(alloc)?;
+    let mut room = Room::<T, R::Room>::new(alloc, made, table.rows(), table.controls())?;
+    put_rows(table, rows, dens, &mut room, builder)
 }
 
-// Puts the rows of all child points, composed in a width that has their denominators.
-fn put_rows_in(
+// Puts all rows, composed in a width that has their denominators.
+fn put_rows_in<R: RowMasks>(
     alloc: Global,
     table: &StencilTable,
-    parent: &Level,
-    child: &Child,
-    scheme: Scheme,
-    survey: &Survey,
+    rows: &R,
+    dens: &[u128],
     width: Width,
     builder: &mut TableBuilder,
 ) -> Result<(), Memory>
-    requires child { CanRefine parent.now child.now (scheme_of scheme) }
-    requires each { length table.now.rows ≡ parent.now.level.point_count }
-    requires survey { IsSurvey parent.now (scheme_of scheme) child.now.origins (dens_of table.now) survey.now }
-    requires few { entries_from parent.now.level (scheme_of scheme) child.now.origins table.now ≤ entry_bound }
-    requires fits { All (λ den. den ≤ most_of width) survey.now.dens.items }
+    requires ready { R.IsReady rows.now }
+    requires found { R.IsFound rows.now (dens_of table.now) }
+    requires each { length table.now.rows ≡ (R.level rows.now).point_count }
+    requires dens { AreRowDenominators (R.level rows.now) table.now (R.masks rows.now) dens.now }
+    requires few { mask_entries (R.level rows.now) table.now (R.masks rows.now) ≤ entry_bound }
+    requires fits { All (λ den. den ≤ most_of width) dens.now }
     requires none { builder.old.table ≡ no_rows table.now.controls }
-    ensures { OnOk result (IsComposed parent.now.level (scheme_of scheme) child.now.origins table.now builder.new.table) }
+    ensures { OnOk result (AreMaskRows (R.level rows.now) (R.masks rows.now) table.now builder.new.table) }
 {
     match width {
-        Width::Narrow => {
-            put_rows_as::<u64>(alloc, table, parent, child, scheme, survey, builder)
-        }
-        Width::Wide => put_rows_as::<u128>(alloc, table, parent, child, scheme, survey, builder),
+        Width::Narrow => put_rows_as::<u64, R>(alloc, table, rows, dens, builder),
+        Width::Wide => put_rows_as::<u128, R>(alloc, table, rows, dens, builder),
     }
 }
 
@@ -256,92 +266,56 @@ fn greatest_denominator(dens: &[u128]) -> u128
     greatest
 }
 
-// The narrowest width that has the denominators of all child points.
-fn width_of_rows(survey: &Survey) -> Width
-    ensures { result ≡ width_for (fold max 1 survey.now.dens.items) }
+// The narrowest width that has all these denominators.
+fn width_of_rows(dens: &[u128]) -> Width
+    ensures { result ≡ width_for (fold max 1 dens.now) }
 {
-    width_of(greatest_denominator(&survey.dens))
+    width_of(greatest_denominator(dens))
 }
 
-// The rows of all child points, which have so many entries in all.
-fn compose_rows(
+// All rows, which have so many entries together.
+fn compose_rows<R: RowMasks>(
     alloc: Global,
     table: &StencilTable,
-    parent: &Level,
-    child: &Child,
-    scheme: Scheme,
-    survey: &Survey,
+    rows: &R,
+    dens: &[u128],
     entries: u64,
 ) -> Result<StencilTable, Memory>
-    requires child { CanRefine parent.now child.now (scheme_of scheme) }
-    requires each { length table.now.rows ≡ parent.now.level.point_count }
-    requires survey { IsSurvey parent.now (scheme_of scheme) child.now.origins (dens_of table.now) survey.now }
-    requires counted { entries ≡ entries_from parent.now.level (scheme_of scheme) child.now.origins table.now }
+    requires ready { R.IsReady rows.now }
+    requires found { R.IsFound rows.now (dens_of table.now) }
+    requires each { length table.now.rows ≡ (R.level rows.now).point_count }
+    requires dens { AreRowDenominators (R.level rows.now) table.now (R.masks rows.now) dens.now }
+    requires counted { entries ≡ mask_entries (R.level rows.now) table.now (R.masks rows.now) }
     requires few { entries ≤ entry_bound }
-    ensures { IfOk result (λ composed. IsComposed parent.now.level (scheme_of scheme) child.now.origins table.now composed) }
+    ensures { IfOk result (λ composed. AreMaskRows (R.level rows.now) (R.masks rows.now) table.now composed) }
 {
     table.facts();
-    let width = width_of_rows(survey);
+    let width = width_of_rows(dens);
     // Each row has an entry, so that there are no more rows.
-    let rows = child.level().points().min(entries as u32);
-    let mut builder = TableBuilder::with_room(alloc, table.controls(), rows, entries, width)?;
-    put_rows_in(
-        alloc,
-        table,
-        parent,
-        child,
-        scheme,
-        survey,
-        width,
-        &mut builder,
-    )?;
+    let most = rows.count().min(entries as u32);
+    let mut builder = TableBuilder::with_room(alloc, table.controls(), most, entries, width)?;
+    put_rows_in(alloc, table, rows, dens, width, &mut builder)?;
     Ok(builder.finish())
 }
 
-// The table of a step in which a survey found no fault.
-fn compose_found(
+/// The table of rows whose common denominators were found.
+pub(crate) fn compose_found<R: RowMasks>(
     alloc: Global,
     table: &StencilTable,
-    parent: &Level,
-    child: &Child,
-    scheme: Scheme,
-    survey: &Survey,
-) -> Result<StencilTable, TableFault>
-    requires child { CanRefine parent.now child.now (scheme_of scheme) }
-    requires each { length table.now.rows ≡ parent.now.level.point_count }
-    requires survey { IsSurvey parent.now (scheme_of scheme) child.now.origins (dens_of table.now) survey.now }
-    ensures { IsTableComposition parent.now.level (scheme_of scheme) child.now.origins table.now result }
+    rows: &R,
+    dens: &[u128],
+) -> Result<StencilTable, RowFault>
+    requires ready { R.IsReady rows.now }
+    requires found { R.IsFound rows.now (dens_of table.now) }
+    requires each { length table.now.rows ≡ (R.level rows.now).point_count }
+    requires dens { AreRowDenominators (R.level rows.now) table.now (R.masks rows.now) dens.now }
+    ensures { IsRowComposition (R.level rows.now) (R.masks rows.now) table.now result }
 {
-    match count_entries(alloc, table, parent, child, scheme, survey)? {
+    match count_entries(alloc, table, rows)? {
         Some(entries) => {
-            let composed = compose_rows(alloc, table, parent, child, scheme, survey, entries)?;
+            let composed = compose_rows(alloc, table, rows, dens, entries)?;
             Ok(composed)
         }
-        None => Err(TableFault::TooManyEntries),
-    }
-}
-
-/// The table of the points of a child of a level, from that of the level's points, both over the same control points: each row
-/// has the control points that its point depends on, ascending, over the common denominator of the point.
-///
-/// There is a row for each point of the level. The faults are looked for in the order of the variants of [`TableFault`], each
-/// over the whole level. The entries are counted before any is composed, and all memory of the table is taken before that.
-pub fn compose_level(
-    alloc: Global,
-    table: &StencilTable,
-    parent: &Level,
-    child: &Child,
-    scheme: Scheme,
-) -> Result<StencilTable, TableFault>
-    requires child { CanRefine parent.now child.now (scheme_of scheme) }
-    requires each { length table.now.rows ≡ parent.now.level.point_count }
-    ensures { IsTableComposition parent.now.level (scheme_of scheme) child.now.origins table.now result }
-{
-    parent.facts();
-    child.facts();
-    table.facts();
-    match survey_over(alloc, parent, child, table.denominators(), scheme) {
-        Ok(survey) => compose_found(alloc, table, parent, child, scheme, &survey),
-        Err(fault) => Err(table_fault(fault)),
+        None => Err(RowFault::TooManyEntries),
     }
 }

@@ -1,22 +1,15 @@
 //! How many entries the rows of a step have, without their numerators.
 
-ghost use Rattle.std.specs.Prelude.{◌≡◌, ◌+◌, ◌<◌, ◌≤◌, [], nat_eq, length, get_or, replicate, set, IfOk, OnOk, MatchOption};
+ghost use Rattle.std.specs.Prelude.{◌≡◌, ◌+◌, ◌^◌, ◌<◌, ◌≤◌, [], nat_eq, length, replicate, set, IfOk, OnOk, MatchOption};
 ghost use Rattle.std.specs.List.{All, count_by};
 ghost use Rattle.subdiv_model.specs.Channel.{entry_bound};
 ghost use Rattle.subdiv_model.specs.Support.{mask_support, source_support};
-ghost use Rattle.level_topology.specs.Child.{FromVertex};
-ghost use Rattle.mask_rules.specs.View.{scheme_of};
-ghost use Rattle.child_masks.specs.Masks.{CanRefine, mask_from};
-ghost use Rattle.child_masks.specs.MaskOf.{AreKeptFor};
 ghost use Rattle.stencil_factory.specs.Rows.{supports_of};
 ghost use Rattle.stencil_factory.specs.Marks.{marked_all, marked_rows, AreMarks};
-ghost use Rattle.stencil_factory.specs.Composed.{entries_from};
+ghost use Rattle.stencil_factory.specs.MaskRows.{mask_at, mask_entries};
 
 use crate::met::Met;
-use crate::name::name_point;
-use child_masks::Survey;
-use level_topology::{Child, Level};
-use mask_rules::{MadeMask, Scheme};
+use crate::rows::RowMasks;
 use ratio128::Memory;
 use ratio128::limits::ENTRY_BOUND;
 use std::alloc::Global;
@@ -25,19 +18,19 @@ use stencil_apply::StencilTable;
 // Where rows are counted: the mask of a row, the points of a level that it names, and a mark for each control point, that of
 // the last row that met it.
 #[derive(Drop)]
-struct Marks {
-    mask: MadeMask,
+struct Marks<M> {
+    mask: M,
     points: Met,
     marks: Vec<u32>,
 }
 
-impl Marks {
+impl<M: Drop> Marks<M> {
     // Marks of 0 for so many control points, and so many points that are not met.
-    fn new(alloc: Global, points: u32, controls: u32) -> Result<Marks, Memory>
-        ensures { IfOk result (λ room. (room.points ≡ record { count = points; mark = 1; met = [] }) × (room.marks.items ≡ replicate controls 0)) }
+    fn new(alloc: Global, mask: M, points: u32, controls: u32) -> Result<Marks<M>, Memory>
+        ensures { IfOk result (λ room. (room.mask ≡ mask) × (room.points ≡ record { count = points; mark = 1; met = [] }) × (room.marks.items ≡ replicate controls 0)) }
     {
         Ok(Marks {
-            mask: MadeMask::new(),
+            mask,
             points: Met::new(alloc, points)?,
             marks: vec![in alloc; 0; controls as usize]?,
         })
@@ -87,68 +80,52 @@ fn mark_rows(table: &StencilTable, points: &[u32], marks: &mut Vec<u32>, mark: u
     fresh
 }
 
-// How many entries the row of a child point has.
-fn count_row(
+// How many entries a row has.
+fn count_row<R: RowMasks>(
     table: &StencilTable,
-    parent: &Level,
-    child: &Child,
-    p: u32,
-    scheme: Scheme,
-    survey: &Survey,
-    room: &mut Marks,
+    rows: &R,
+    row: u32,
+    room: &mut Marks<R::Room>,
 ) -> Result<u64, Memory>
-    requires child { CanRefine parent.now child.now (scheme_of scheme) }
-    requires masks { AreKeptFor parent.now (scheme_of scheme) child.now.origins survey.now.masks }
-    requires each { length table.now.rows ≡ parent.now.level.point_count }
-    requires known { p < length child.now.origins }
-    requires points { room.old.points.count ≡ parent.now.level.point_count }
-    requires round { room.old.points.mark ≡ p + 1 }
-    requires marks { AreMarks table.now.controls p room.old.marks.items }
-    ensures points { OnOk result (room.new.points.count ≡ parent.now.level.point_count) }
-    ensures round { OnOk result (room.new.points.mark ≡ p + 2) }
-    ensures marks { OnOk result (AreMarks table.now.controls (p + 1) room.new.marks.items) }
-    ensures count { IfOk result (λ count. count ≡ length (mask_support table.now.controls (source_support table.now.controls parent.now.level (supports_of table.now))
-        (mask_from parent.now.level (scheme_of scheme) (get_or child.now.origins p (FromVertex 0))))) }
+    requires ready { R.IsReady rows.now }
+    requires each { length table.now.rows ≡ (R.level rows.now).point_count }
+    requires known { row < length (R.masks rows.now) }
+    requires few { row < 2 ^ 30 }
+    requires clear { R.IsClear rows.now room.old.mask }
+    requires points { room.old.points.count ≡ (R.level rows.now).point_count }
+    requires round { room.old.points.mark ≡ row + 1 }
+    requires marks { AreMarks table.now.controls row room.old.marks.items }
+    ensures clear { OnOk result (R.IsClear rows.now room.new.mask) }
+    ensures points { OnOk result (room.new.points.count ≡ (R.level rows.now).point_count) }
+    ensures round { OnOk result (room.new.points.mark ≡ row + 2) }
+    ensures marks { OnOk result (AreMarks table.now.controls (row + 1) room.new.marks.items) }
+    ensures count { IfOk result (λ count. count ≡ length (mask_support table.now.controls
+        (source_support table.now.controls (R.level rows.now) (supports_of table.now)) (mask_at (R.masks rows.now) row))) }
 {
-    parent.facts();
-    child.facts();
     table.facts();
-    name_point(
-        parent,
-        child,
-        p,
-        scheme,
-        survey,
-        &mut room.mask,
-        &mut room.points,
-    )?;
+    rows.name(row, &mut room.mask, &mut room.points)?;
     let points = room.points.places();
-    Ok(mark_rows(table, points, &mut room.marks, p + 1))
+    Ok(mark_rows(table, points, &mut room.marks, row + 1))
 }
 
-/// How many entries the rows of all child points have, where they are at most 2^27.
-pub(crate) fn count_entries(
+/// How many entries all rows have, where they are at most 2^27.
+pub(crate) fn count_entries<R: RowMasks>(
     alloc: Global,
     table: &StencilTable,
-    parent: &Level,
-    child: &Child,
-    scheme: Scheme,
-    survey: &Survey,
+    rows: &R,
 ) -> Result<Option<u64>, Memory>
-    requires child { CanRefine parent.now child.now (scheme_of scheme) }
-    requires masks { AreKeptFor parent.now (scheme_of scheme) child.now.origins survey.now.masks }
-    requires each { length table.now.rows ≡ parent.now.level.point_count }
+    requires ready { R.IsReady rows.now }
+    requires each { length table.now.rows ≡ (R.level rows.now).point_count }
     ensures { IfOk result (λ count. MatchOption count
-        (entry_bound < entries_from parent.now.level (scheme_of scheme) child.now.origins table.now)
-        (λ entries. (entries ≡ entries_from parent.now.level (scheme_of scheme) child.now.origins table.now) × (entries ≤ entry_bound))) }
+        (entry_bound < mask_entries (R.level rows.now) table.now (R.masks rows.now))
+        (λ entries. (entries ≡ mask_entries (R.level rows.now) table.now (R.masks rows.now)) × (entries ≤ entry_bound))) }
 {
-    parent.facts();
-    child.facts();
     table.facts();
-    let mut room = Marks::new(alloc, parent.points(), table.controls())?;
+    let made = rows.room(alloc)?;
+    let mut room = Marks::new(alloc, made, table.rows(), table.controls())?;
     let mut count = 0;
-    for p in 0..child.level().points() {
-        count += count_row(table, parent, child, p, scheme, survey, &mut room)?;
+    for row in 0..rows.count() {
+        count += count_row(table, rows, row, &mut room)?;
         if count > ENTRY_BOUND {
             return Ok(None);
         }

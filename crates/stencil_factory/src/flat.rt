@@ -1,11 +1,11 @@
 //! The terms of a mask, added as amounts at points of the level: the new points of faces are taken apart into their corners.
 
-ghost use Rattle.std.specs.Prelude.{◌≡◌, ◌*◌, ◌/◌, ◌<◌, ◌≤◌, length, OnOk};
+ghost use Rattle.std.specs.Prelude.{◌≡◌, ◌*◌, ◌/◌, ◌<◌, ◌≤◌, [], ◌∷◌, length, get_or, OnOk};
 ghost use Rattle.std.specs.List.{All, AllByRecursion};
 ghost use Rattle.subdiv_model.specs.Channel.{number_bound};
 ghost use Rattle.mask_rules.specs.View.{source_of, terms_of};
 ghost use Rattle.child_masks.specs.Found.{ArePointDenominators};
-ghost use Rattle.stencil_factory.specs.Scratch.{added_shares};
+ghost use Rattle.stencil_factory.specs.Scratch.{added_at, added_shares};
 ghost use Rattle.stencil_factory.specs.Flat.{corner_shares, source_shares, flat_shares, CanAddAll, CanWeigh, CanWeighTerm};
 
 use crate::scratch::Scratch;
@@ -46,6 +46,23 @@ pub(crate) fn add_corners<T: Natural>(
         rest = others;
     }
     Ok(())
+}
+
+/// Adds a weight of a point over a multiple of its denominator.
+pub(crate) fn add_point<T: Natural>(
+    scratch: &mut Scratch<T>,
+    point: u32,
+    weight: u128,
+    multiple: u128,
+    dens: &[u128],
+) -> Result<(), Memory>
+    requires known { point < length dens.now }
+    requires positive { All (λ den. 0 < den) dens.now }
+    requires can { CanAddAll T.most ((point, weight * (multiple / get_or dens.now point 1)) ∷ []) scratch.old }
+    ensures { OnOk result (scratch.new ≡ added_at point (weight * (multiple / get_or dens.now point 1)) scratch.old) }
+{
+    let amount = weight_over(weight, multiple, dens[point as usize]);
+    scratch.add(point, T::of(amount))
 }
 
 // Adds a term over a multiple of its source's denominator.

@@ -9,10 +9,8 @@ ghost use Rattle.mask_rules.specs.View.{scheme_of};
 ghost use Rattle.child_masks.specs.Masks.{CanRefine, mask_from};
 ghost use Rattle.child_masks.specs.Survey.{IsSurvey};
 ghost use Rattle.child_masks.specs.Found.{ArePointDenominators};
-ghost use Rattle.stencil_factory.specs.Weights.{AreWeights};
 ghost use Rattle.stencil_factory.specs.Flat.{IsWeighed};
 
-use crate::entries::Entries;
 use crate::flat::{add_corners, add_terms};
 use crate::scratch::Scratch;
 use child_masks::{PointMask, Survey};
@@ -43,13 +41,15 @@ fn weigh_face<T: Natural>(
     add_corners(scratch, parent.face_vertices(f), 1, multiple, dens)
 }
 
-// Adds the weights of a child point.
-fn weigh_mask<T: Natural>(
+/// Adds the weights of the points of a level in a child point to zeros, one for each of these points, by the common denominator of
+/// the child point and those of the points.
+pub(crate) fn weigh_mask<T: Natural>(
     parent: &Level,
     child: &Child,
     p: u32,
     scheme: Scheme,
     survey: &Survey,
+    den: u128,
     made: &mut MadeMask,
     dens: &[u128],
     scratch: &mut Scratch<T>,
@@ -58,13 +58,14 @@ fn weigh_mask<T: Natural>(
     requires known { p < length child.now.origins }
     requires dens { ArePointDenominators parent.now.level dens.now }
     requires survey { IsSurvey parent.now (scheme_of scheme) child.now.origins dens.now survey.now }
-    requires fits { get_or survey.now.dens.items p 0 ≤ T.most }
+    requires den { den ≡ mask_denominator (source_denominator parent.now.level dens.now) (mask_from parent.now.level (scheme_of scheme) (get_or child.now.origins p (FromVertex 0))) }
+    requires short { den ≤ number_bound }
+    requires fits { den ≤ T.most }
     requires clear { scratch.old ≡ replicate parent.now.level.point_count 0 }
     ensures { OnOk result (IsWeighed parent.now.level dens.now (mask_from parent.now.level (scheme_of scheme) (get_or child.now.origins p (FromVertex 0))) scratch.new) }
 {
     parent.facts();
     child.facts();
-    let den = survey.dens[p as usize];
     match survey.mask(parent, child, p, scheme, made) {
         PointMask::Corners(f) => weigh_face(parent, f, den, dens, scratch),
         PointMask::Terms(mask) => {
@@ -79,30 +80,4 @@ fn weigh_mask<T: Natural>(
             )
         }
     }
-}
-
-/// Puts the weights of the points of a level in a child point in the place of the entries, by what the survey found over the
-/// denominators of the points. The scratch has a place for each of these points, and the denominator is within the width.
-pub(crate) fn weigh_point<T: Natural>(
-    parent: &Level,
-    child: &Child,
-    p: u32,
-    scheme: Scheme,
-    survey: &Survey,
-    made: &mut MadeMask,
-    dens: &[u128],
-    scratch: &mut Scratch<T>,
-    weights: &mut Entries<T>,
-) -> Result<(), Memory>
-    requires child { CanRefine parent.now child.now (scheme_of scheme) }
-    requires known { p < length child.now.origins }
-    requires dens { ArePointDenominators parent.now.level dens.now }
-    requires survey { IsSurvey parent.now (scheme_of scheme) child.now.origins dens.now survey.now }
-    requires fits { get_or survey.now.dens.items p 0 ≤ T.most }
-    requires clear { scratch.old ≡ replicate parent.now.level.point_count 0 }
-    ensures clear { OnOk result (scratch.new ≡ replicate parent.now.level.point_count 0) }
-    ensures weights { OnOk result (AreWeights parent.now.level dens.now (mask_from parent.now.level (scheme_of scheme) (get_or child.now.origins p (FromVertex 0))) weights.new) }
-{
-    weigh_mask(parent, child, p, scheme, survey, made, dens, scratch)?;
-    scratch.take_unsorted(weights)
 }

@@ -1,36 +1,21 @@
-use Rattle.std.proofs.Common.{arith, refl, sym, subst}
+use Rattle.std.proofs.Common.{ap, sym, ◌∙◌, subst}
+use Rattle.subdiv_model.specs.Refined.{mask_denominator, source_denominator}
 use Rattle.level_topology.specs.Child.{FromFace}
 use Rattle.mask_rules.specs.View.{scheme_of, terms_of}
-use Rattle.child_masks.specs.Masks.{origin_at}
+use Rattle.child_masks.specs.Masks.{mask_from, origin_at}
 use Rattle.child_masks.specs.View.{seen_terms}
 use Rattle.child_masks.specs.Found.{AreFaceDenominators}
 use Rattle.child_masks.proofs.OriginLemmas.{origin-within}
 use Rattle.child_masks.proofs.MaskLemmas.{joined-from}
 use Rattle.stencil_factory.specs.Flat.{IsWeighed}
-use Rattle.stencil_factory.proofs.SurveyLemmas.{found-inside, found-read, found-faces, den-fits}
+use Rattle.stencil_factory.proofs.SurveyLemmas.{found-faces}
 use Rattle.stencil_factory.proofs.KnownLemmas.{part-weigh, part-can, part-weighed, ok-weaker}
 use Rattle.stencil_factory.proofs.OriginLemmas.{of-point}
 use Rattle.stencil_factory.proofs.weigh.weigh_mask.Goals as goal
 
-pub index-den-requires : goal.index-den-requires
-index-den-requires g c =
-    let inside = found-inside c.args.parent.now (scheme_of c.args.scheme) c.args.child.now.origins c.args.dens.now c.args.survey.now c.requires.survey c.args.p c.requires.known in
-    omega (arith, inside, c.args.survey.now.dens.ok.0)
-
 pub weigh_face-requires-clause-den : goal.weigh_face-requires-clause-den
 weigh_face-requires-clause-den g c =
-    (found-read c.args.parent.now (scheme_of c.args.scheme) c.args.child.now.origins c.args.dens.now c.args.survey.now c.requires.survey
-    c.args.p c.index-den.result.now (FromFace c.in-Corners.f) c.requires.known (sym c.in-Corners.ensures.0) c.index-den.ensures).0
-
-pub weigh_face-requires-clause-short : goal.weigh_face-requires-clause-short
-weigh_face-requires-clause-short g c =
-    (found-read c.args.parent.now (scheme_of c.args.scheme) c.args.child.now.origins c.args.dens.now c.args.survey.now c.requires.survey
-    c.args.p c.index-den.result.now (FromFace c.in-Corners.f) c.requires.known (sym c.in-Corners.ensures.0) c.index-den.ensures).1
-
-pub weigh_face-requires-clause-fits : goal.weigh_face-requires-clause-fits
-weigh_face-requires-clause-fits g c =
-    let inside = found-inside c.args.parent.now (scheme_of c.args.scheme) c.args.child.now.origins c.args.dens.now c.args.survey.now c.requires.survey c.args.p c.requires.known in
-    den-fits _ _ _ _ inside c.index-den.ensures c.requires.fits
+    c.requires.den ∙ ap (λ o. mask_denominator (source_denominator c.args.parent.now.level c.args.dens.now) (mask_from c.args.parent.now.level (scheme_of c.args.scheme) o)) c.in-Corners.ensures.0
 
 pub add_terms-requires-clause-weigh : goal.add_terms-requires-clause-weigh
 add_terms-requires-clause-weigh g c =
@@ -41,9 +26,8 @@ add_terms-requires-clause-weigh g c =
     let dens = c.args.dens.now in
     let within = origin-within parent c.args.child.now scheme c.facts-2.ensures c.requires.child c.args.p c.requires.known in
     let faces = subst (AreFaceDenominators parent.level dens) (sym c.deref.ensures.value) (found-faces parent scheme origins dens c.args.survey.now c.requires.survey) in
-    let own = found-read parent scheme origins dens c.args.survey.now c.requires.survey c.args.p c.index-den.result.now origin c.requires.known refl c.index-den.ensures in
     part-weigh parent c.facts.ensures scheme origin within dens c.deref.result.now c.requires.dens faces
-    (seen_terms c.mask.new.made c.in-Terms.mask) c.in-Terms.ensures.1 (joined-from parent.level scheme origin) c.index-den.result.now own.0 own.1
+    (seen_terms c.mask.new.made c.in-Terms.mask) c.in-Terms.ensures.1 (joined-from parent.level scheme origin) c.args.den c.requires.den c.requires.short
     (terms_of c.terms.result.now) c.terms.ensures c.denominator.result c.quotient-multiple.result c.denominator.ensures c.quotient-multiple.ensures
     c.args.scratch.now c.requires.clear
 
@@ -56,11 +40,10 @@ add_terms-requires-clause-can g c =
     let dens = c.args.dens.now in
     let within = origin-within parent c.args.child.now scheme c.facts-2.ensures c.requires.child c.args.p c.requires.known in
     let faces = subst (AreFaceDenominators parent.level dens) (sym c.deref.ensures.value) (found-faces parent scheme origins dens c.args.survey.now c.requires.survey) in
-    let own = found-read parent scheme origins dens c.args.survey.now c.requires.survey c.args.p c.index-den.result.now origin c.requires.known refl c.index-den.ensures in
     part-can parent c.facts.ensures scheme origin within dens c.deref.result.now c.requires.dens faces
-    (seen_terms c.mask.new.made c.in-Terms.mask) c.in-Terms.ensures.1 (joined-from parent.level scheme origin) c.index-den.result.now own.0 own.1
+    (seen_terms c.mask.new.made c.in-Terms.mask) c.in-Terms.ensures.1 (joined-from parent.level scheme origin) c.args.den c.requires.den c.requires.short
     (terms_of c.terms.result.now) c.terms.ensures c.denominator.result c.quotient-multiple.result c.denominator.ensures c.quotient-multiple.ensures
-    c.args.scratch.now c.requires.clear g.T.Natural.most (den-fits _ _ _ _ (found-inside parent scheme origins dens c.args.survey.now c.requires.survey c.args.p c.requires.known) c.index-den.ensures c.requires.fits)
+    c.args.scratch.now c.requires.clear g.T.Natural.most c.requires.fits
 
 pub returns-in-Corners : goal.returns-in-Corners
 returns-in-Corners g c =
@@ -76,10 +59,9 @@ returns-in-Terms g c =
     let dens = c.args.dens.now in
     let within = origin-within parent c.args.child.now scheme c.facts-2.ensures c.requires.child c.args.p c.requires.known in
     let faces = subst (AreFaceDenominators parent.level dens) (sym c.deref.ensures.value) (found-faces parent scheme origins dens c.args.survey.now c.requires.survey) in
-    let own = found-read parent scheme origins dens c.args.survey.now c.requires.survey c.args.p c.index-den.result.now origin c.requires.known refl c.index-den.ensures in
     ok-weaker c.add_terms.result _ _
     (part-weighed parent c.facts.ensures scheme origin within dens c.deref.result.now c.requires.dens faces
-    (seen_terms c.mask.new.made c.in-Terms.mask) c.in-Terms.ensures.1 (joined-from parent.level scheme origin) c.index-den.result.now own.0 own.1
+    (seen_terms c.mask.new.made c.in-Terms.mask) c.in-Terms.ensures.1 (joined-from parent.level scheme origin) c.args.den c.requires.den c.requires.short
     (terms_of c.terms.result.now) c.terms.ensures c.denominator.result c.quotient-multiple.result c.denominator.ensures c.quotient-multiple.ensures
     c.args.scratch.now c.requires.clear c.add_terms.new.scratch)
     c.add_terms.ensures

@@ -1,0 +1,24 @@
+-- Weights of points, as they are told and joined by point.
+use Rattle.std.specs.Prelude.{ℕ, ◌≡◌, ◌*◌, ◌/◌, ◌<◌, true, List, map, get_or}
+use Rattle.std.specs.List.{All}
+use Rattle.subdiv_model.specs.Mask.{OfPoint, Term, Mask, weigh}
+use Rattle.sharpness_laws.specs.SameWeights.{is_joined}
+use Rattle.mask_rules.specs.Masks.{IsMask}
+use Rattle.stencil_apply.specs.Table.{Share}
+
+-- points and their weights, as terms
+abbrev pub terms_of_shares : List Share → List Term
+terms_of_shares shares = map (λ share. weigh share.1 (OfPoint share.0)) shares
+
+abbrev pub mask_of_shares : ℕ → List Share → Mask
+mask_of_shares denominator shares = record { terms = terms_of_shares shares; denominator = denominator }
+
+-- the weights times m, over the denominators of their points
+abbrev pub amounts_of : List ℕ → ℕ → List Share → List Share
+amounts_of dens m shares = map (λ share. (share.0, share.1 * (m / get_or dens share.0 1))) shares
+
+-- the points of a mask, each once, with its weight above 0 over the denominator
+pub record AreJoined (count : ℕ) (mask : Mask) (denominator : ℕ) (shares : List Share) : Type 0 where
+  pub same : IsMask (mask_of_shares denominator shares) mask
+  pub joined : is_joined mask ≡ true
+  pub inside : All (λ share. share.0 < count) shares

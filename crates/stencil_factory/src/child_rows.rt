@@ -1,0 +1,83 @@
+//! The masks of the points of a child as rows.
+
+use crate::met::Met;
+use crate::name::name_point;
+use crate::rows::RowMasks;
+use crate::scratch::Scratch;
+use crate::weigh::weigh_mask;
+use child_masks::Survey;
+use level_topology::{Child, Level};
+use mask_rules::{MadeMask, Scheme};
+use number_width::Natural;
+use ratio128::Memory;
+use std::alloc::Global;
+
+/// The points of a child of a level, and what a survey found of their masks.
+#[derive(Drop)]
+pub(crate) struct ChildRows<'a> {
+    pub(crate) parent: &'a Level,
+    pub(crate) child: &'a Child,
+    pub(crate) scheme: Scheme,
+    pub(crate) survey: &'a Survey,
+}
+
+impl RowMasks for ChildRows<'_> {
+    type Room = MadeMask;
+
+    ghost use Rattle.mask_rules.specs.View.{scheme_of};
+    ghost use Rattle.child_masks.specs.Masks.{CanRefine, masks_from};
+    ghost use Rattle.child_masks.specs.MaskOf.{AreKeptFor};
+    ghost use Rattle.child_masks.specs.Survey.{IsSurvey};
+
+    ghost level = { λ r. r.parent.now.level };
+
+    ghost masks = { λ r. masks_from r.parent.now.level (scheme_of r.scheme) r.child.now.origins };
+
+    ghost IsReady = { λ r. CanRefine r.parent.now r.child.now (scheme_of r.scheme) × AreKeptFor r.parent.now (scheme_of r.scheme) r.child.now.origins r.survey.now.masks };
+
+    ghost IsFound = { λ r dens. IsSurvey r.parent.now (scheme_of r.scheme) r.child.now.origins dens r.survey.now };
+
+    ghost IsClear = { λ r room. Unit {0} };
+
+    fn room(&self, alloc: Global) -> Result<MadeMask, Memory> {
+        Ok(MadeMask::new())
+    }
+
+    fn count(&self) -> u32 {
+        self.child.facts();
+        self.child.level().points()
+    }
+
+    fn name(&self, row: u32, room: &mut MadeMask, met: &mut Met) -> Result<(), Memory> {
+        name_point(
+            self.parent,
+            self.child,
+            row,
+            self.scheme,
+            self.survey,
+            room,
+            met,
+        )
+    }
+
+    fn weigh<T: Natural>(
+        &self,
+        row: u32,
+        den: u128,
+        dens: &[u128],
+        room: &mut MadeMask,
+        scratch: &mut Scratch<T>,
+    ) -> Result<(), Memory> {
+        weigh_mask(
+            self.parent,
+            self.child,
+            row,
+            self.scheme,
+            self.survey,
+            den,
+            room,
+            dens,
+            scratch,
+        )
+    }
+}
