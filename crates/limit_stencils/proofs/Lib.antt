@@ -1,0 +1,7 @@
+mod LastingLemmas
+mod OrderLemmas
+mod RoundLemmas
+mod WeightLemmas
+mod PutLemmas
+mod CauseLemmas
+mod QuadLemmas

@@ -1,0 +1,2 @@
+pub mod AtVertex
+pub mod Limits
