@@ -1,0 +1,55 @@
+-- What the laws of limit points speak of: limit masks with values, and where a further level has the same.
+-- Source: this profile.
+use Rattle.std.specs.Prelude.{◌≡◌, ℕ, ◌<◌, ℤ, List, Ok, IsTrue}
+use Rattle.std.specs.List.{All}
+use Rattle.subdiv_model.specs.Level.{Level}
+use Rattle.subdiv_model.specs.Child.{refined_level}
+use Rattle.subdiv_model.specs.Mask.{CatmullClark, Mask}
+use Rattle.subdiv_model.specs.Value.{Value, IsSameValue}
+use Rattle.subdiv_model.specs.Refined.{mask_value, point_value, source_value, control_values, refined_values}
+use Rattle.subdiv_model.specs.Limit.{has_quads, limit_of, limit_values}
+use Rattle.mask_laws.specs.Laws.{IsManifoldWithSharpBoundary}
+
+-- the value of a mask over the points and faces of a level
+abbrev pub value_in : Level → List Value → Mask → Value
+value_in level values mask = mask_value (source_value level values) mask
+
+-- Point v has this limit mask in a manifold of quads with a sharp boundary. The values of the points are over denominators above 0.
+pub record LimitPoint : Type 0 where
+  pub level : Level
+  pub well : IsManifoldWithSharpBoundary level
+  pub quads : IsTrue (has_quads level)
+  pub values : List Value
+  pub above_zero : All (λ x. 0 < x.den) values
+  pub v : ℕ
+  pub inside : v < level.point_count
+  pub mask : Mask
+  pub is : limit_of level v ≡ Ok mask
+
+-- Point v has this limit mask in the level after k steps from a manifold with a sharp boundary, where that level has quads alone. The
+-- values are those that control numbers are refined to.
+pub record RefinedLimitPoint : Type 0 where
+  pub base : Level
+  pub well : IsManifoldWithSharpBoundary base
+  pub controls : List ℤ
+  pub k : ℕ
+  pub quads : IsTrue (has_quads (refined_level base k))
+  pub v : ℕ
+  pub inside : v < (refined_level base k).point_count
+  pub mask : Mask
+  pub is : limit_of (refined_level base k) v ≡ Ok mask
+
+-- the values that controls are refined to in so many steps
+abbrev pub values_after : Level → List ℤ → ℕ → List Value
+values_after base controls k = refined_values base CatmullClark (control_values controls) k
+
+-- the limit of a point after so many steps
+abbrev pub limit_after : Level → List ℤ → ℕ → ℕ → Value
+limit_after base controls k v = point_value (limit_values (refined_level base k) (values_after base controls k)) v
+
+-- Point v has a limit mask in this level too, and it gives the value x. Both are over denominators above 0.
+pub record HasLimit (level : Level) (values : List Value) (v : ℕ) (x : Value) : Type 0 where
+  pub mask : Mask
+  pub is : limit_of level v ≡ Ok mask
+  pub same : IsSameValue x (value_in level values mask)
+  pub above_zero : (0 < x.den) × (0 < (value_in level values mask).den)
