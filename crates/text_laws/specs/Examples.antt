@@ -1,0 +1,34 @@
+-- Two quads side by side, with a point, a crease, a corner tag, a hole and a method that are not those of plain levels.
+-- Source: this profile.
+use Rattle.std.specs.Prelude.{ℕ, pos, negsuc, true, false, List, [], ◌∷◌, ◌++◌, None}
+use Rattle.subdiv_model.specs.Sharpness.{Smooth, Semi, Infinite, Chaikin}
+use Rattle.subdiv_model.specs.Level.{Level}
+use Rattle.subdiv_model.specs.Value.{Value}
+use Rattle.subdiv_model.specs.Refined.{Point}
+use Rattle.subdiv_model.specs.Text.{mesh_text, tags_text}
+
+-- the quads share the edge from 1 to 2, and the second of them is a hole
+abbrev pub marked_quads : Level
+marked_quads = record {
+  point_count = 6;
+  polygons = (0 ∷ 1 ∷ 2 ∷ 3 ∷ []) ∷ (1 ∷ 4 ∷ 5 ∷ 2 ∷ []) ∷ [];
+  holes = false ∷ true ∷ [];
+  edge_sharpness = Infinite ∷ Semi 3 2 ∷ Infinite ∷ Infinite ∷ Infinite ∷ Infinite ∷ Infinite ∷ [];
+  vertex_sharpness = Smooth ∷ Smooth ∷ Smooth ∷ Smooth ∷ Infinite ∷ Smooth ∷ [];
+  method = Chaikin;
+}
+
+-- halves, and thirds below 0
+abbrev pub half : ℕ → Value
+half n = record { num = pos n; den = 2 }
+
+abbrev pub third_below : ℕ → Value
+third_below n = record { num = negsuc n; den = 3 }
+
+abbrev pub marked_points : List Point
+marked_points =
+    (half 0, half 0, half 0) ∷ (half 2, half 0, third_below 0) ∷ (half 2, half 1, half 0) ∷ (half 0, half 1, half 0)
+    ∷ (half 3, half 0, third_below 5) ∷ (half 4, half 1, half 0) ∷ []
+
+abbrev pub marked_text : List ℕ
+marked_text = mesh_text None true marked_quads marked_points ++ tags_text marked_quads

@@ -1,0 +1,5 @@
+pub mod Laws
+pub mod MeshLines
+pub mod ReadMesh
+pub mod Readable
+pub mod Examples
