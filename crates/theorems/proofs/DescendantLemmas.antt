@@ -15,9 +15,9 @@ use Rattle.mesh_laws.proofs.PointLemmas.{boundary-alike}
 use Rattle.level_laws.proofs.HalfLemmas.{point_of}
 use Rattle.mask_laws.proofs.BoundaryLemmas.{IsSharpAtBoundary, boundary-named, sharp-levels}
 use Rattle.theorems.specs.Descendants.{half_from, two_halves, boundary_descendants}
-use Rattle.theorems.proofs.HalfEdgeLemmas.{end-kept, end-cases, half-boundary}
-use Rattle.theorems.proofs.CreaseLemmas.{first-end, second-end}
-use Rattle.theorems.proofs.PlaceLemmas.{kept-pass}
+use Rattle.limit_laws.proofs.HalfEdgeLemmas.{end-kept, end-cases, half-boundary}
+use Rattle.limit_laws.proofs.CreaseLemmas.{first-end, second-end}
+use Rattle.limit_laws.proofs.PlaceLemmas.{kept-pass}
 
 -- two tests that imply each other
 both-ways : (b c : Bool) → (b ≡ true → c ≡ true) → (c ≡ true → b ≡ true) → b ≡ c

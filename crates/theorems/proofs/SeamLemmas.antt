@@ -26,9 +26,9 @@ use Rattle.texture_laws.proofs.ChannelLemmas.{cut-over}
 use Rattle.texture_laws.proofs.CutFanLemmas.{cut-manifold}
 use Rattle.texture_laws.proofs.CutLevelLemmas.{cut-boundary, cut-vertex-sharp}
 use Rattle.theorems.specs.Descendants.{boundary_descendants}
-use Rattle.theorems.proofs.HalfEdgeLemmas.{end-kept, edge-of-one}
-use Rattle.theorems.proofs.CreaseLemmas.{end-inside}
-use Rattle.theorems.proofs.NumberLemmas.{IsNumber, same-number}
+use Rattle.limit_laws.proofs.HalfEdgeLemmas.{end-kept, edge-of-one}
+use Rattle.limit_laws.proofs.CreaseLemmas.{end-inside}
+use Rattle.limit_laws.proofs.NumberLemmas.{IsNumber, same-number}
 use Rattle.theorems.proofs.StraightLemmas.{IsStraight, straight-child}
 use Rattle.theorems.proofs.DescendantLemmas.{descendants-alone, descendants-exact}
 

@@ -18,11 +18,11 @@ use Rattle.mesh_laws.proofs.PointLemmas.{boundary-alike}
 use Rattle.level_laws.proofs.HalfLemmas.{point_of, is_edge}
 use Rattle.level_laws.proofs.NewPointLemmas.{old-uniform}
 use Rattle.mask_laws.proofs.BoundaryLemmas.{IsSharpAtBoundary, is-infinite, sharp-at, sharp-child}
-use Rattle.theorems.proofs.HalfEdgeLemmas.{edge-of-one}
-use Rattle.theorems.proofs.CreaseLemmas.{IsCrease, first-end, second-end, end-inside, new-crease, old-crease}
-use Rattle.theorems.proofs.RuleLemmas.{kept-vertex, middle-edge, crease-vertex}
-use Rattle.theorems.proofs.NumberLemmas.{IsNumber, corner-number, middle-number, crease-number}
-use Rattle.theorems.proofs.ChildValueLemmas.{listed, listed-same, value-old, value-new, next_number, number-old, number-listed, number-new}
+use Rattle.limit_laws.proofs.HalfEdgeLemmas.{edge-of-one}
+use Rattle.limit_laws.proofs.CreaseLemmas.{IsCrease, first-end, second-end, end-inside, new-crease, old-crease}
+use Rattle.limit_laws.proofs.RuleLemmas.{kept-vertex, middle-edge, crease-vertex}
+use Rattle.limit_laws.proofs.NumberLemmas.{IsNumber, corner-number, middle-number, crease-number}
+use Rattle.limit_laws.proofs.ChildValueLemmas.{listed, listed-same, value-old, value-new, next_number, number-old, number-listed, number-new}
 
 -- the point is a crease, and the middle of its two neighbours on the boundary
 pub record IsBetween (level : Level) (number : ℕ → ℤ) (p : ℕ) : Type 0 where
