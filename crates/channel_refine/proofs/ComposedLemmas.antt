@@ -1,5 +1,5 @@
 -- The tables of a channel from level 0 on, each made from the one before it.
-use Rattle.std.proofs.Common.{◌≡◌, ℕ, suc, ◌+◌, ◌*◌, ◌<◌, ◌≤◌, false, nat_lt, max, ℤ, List, [], ◌∷◌, length, map, arith, refl, ap, sym, ◌∙◌, subst}
+use Rattle.std.proofs.Common.{◌≡◌, ℕ, suc, ◌+◌, ◌*◌, ◌<◌, ◌≤◌, true, false, nat_lt, max, ℤ, List, [], ◌∷◌, length, map, replicate, arith, IsTrue, refl, ap, sym, ◌∙◌, subst}
 use Rattle.std.specs.List.{sum_by}
 use Rattle.std.proofs.lemmas.Bool.{le-ltb}
 use Rattle.std.proofs.lemmas.List.{length-map}
@@ -10,6 +10,8 @@ use Rattle.subdiv_model.specs.Mask.{child_masks}
 use Rattle.subdiv_model.specs.Refined.{mask_value, source_value, child_values, refined_values, control_values}
 use Rattle.subdiv_model.specs.Support.{mask_support, source_support, child_supports, refined_supports, entries_after}
 use Rattle.subdiv_model.specs.Channel.{Channel, Tables, number_bound, entry_bound, denominators_after, whole_levels}
+use Rattle.mask_laws.specs.SharpBoundary.{has_sharp_boundary}
+use Rattle.mask_laws.proofs.BoundaryLemmas.{sharp-levels}
 use Rattle.level_topology.specs.Topology.{Topology, IsTopology}
 use Rattle.level_topology.specs.Child.{ChildTopology}
 use Rattle.uniform_refiner.specs.Refined.{IsRefined}
@@ -25,7 +27,7 @@ use Rattle.channel_refine.specs.Composed.{IsComposedTo}
 use Rattle.channel_refine.specs.Step.{IsCarried}
 use Rattle.channel_refine.proofs.FaultLemmas.{HasNoFault, has_entry_fault, no-faults}
 use Rattle.channel_refine.proofs.FirstLemmas as first
-use Rattle.channel_refine.proofs.DenominatorLemmas.{IsSound}
+use Rattle.channel_refine.proofs.DenominatorLemmas.{IsSound, sharp-base}
 use Rattle.channel_refine.proofs.ChannelLemmas.{none-more, sound-base}
 use Rattle.channel_refine.proofs.IdentityLemmas.{identity-dens, identity-supports, identity-greatest, identity-values, entries-by-support}
 use Rattle.channel_refine.proofs.TableLemmas.{dens-short}
@@ -35,6 +37,7 @@ use Rattle.channel_refine.proofs.UniformLemmas.{AreNextNumbers, next-numbers}
 pub record IsReached (channel : Channel) (k : ℕ) (t : Topology) (table : Table) : Type 0 where
   pub base : IsSound channel.base
   pub level : series.IsReached channel.base k t
+  pub complete : t.complete ≡ replicate t.level.point_count true
   pub none : (j : ℕ) → j < k → HasNoFault Tables (whole_levels channel) j
   pub controls : table.controls ≡ channel.base.point_count
   pub dens : dens_of table ≡ denominators_after channel k
@@ -55,6 +58,7 @@ reached-none channel base table is level here short same =
     subst (IsReached channel 0 base) (sym (same ∙ ap identity_table count)) (record {
       base = sound-base base channel.base is level here;
       level = record { level = here; made = λ j h. absurd (omega (arith, h)) };
+      complete = level.complete;
       none = λ j h. absurd (omega (arith, h));
       controls = refl;
       dens = identity-dens 0 channel.base.point_count;
@@ -74,6 +78,8 @@ module _ (channel : Channel) (k : ℕ) (t : Topology) (table : Table) (is : IsRe
     fine = λ track. no-faults Tables tt (whole_levels channel) track k is.none;
     few = λ j h. (is.level.made j h).few;
     level_is = is.level.level;
+    complete = is.complete;
+    boundary = subst (λ level. IsTrue (has_sharp_boundary level)) (sym is.level.level) (sharp-levels channel.base k (sharp-base channel.base is.base)).sharp;
     controls = is.controls;
     dens = is.dens;
     supports = is.supports;
@@ -126,10 +132,16 @@ module _ (channel : Channel) (k : ℕ) (t : Topology) (table : Table) (is : IsRe
           subst (λ masks. AreSameValues (map (mask_value (source_value t.level before)) masks) (row_values next_table some)) (masks-are t child refined channel.scheme)
           (step.composed.values some before (is.values some count))
 
+      next-complete : next.complete ≡ replicate next.level.point_count true
+      next-complete =
+          subst (λ (t : Topology). t.complete ≡ replicate t.level.point_count true) (sym same)
+          (refined.uniform.complete ∙ ap (λ (level : Level). replicate level.point_count true) (sym refined.uniform.level))
+
       pub reached-next : IsReached channel (k + 1) next next_table
       reached-next = record {
         base = is.base;
         level = series.reached-next channel.base k t next child is.level refined same;
+        complete = next-complete;
         none = none-more (HasNoFault Tables (whole_levels channel)) k is.none (first.none-here Tables tt channel k is.none t.level is.level.level (dens_of table) is.dens (dens_of next_table) numbers few-entries);
         controls = step.composed.controls ∙ is.controls;
         dens =
