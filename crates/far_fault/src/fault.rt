@@ -1,9 +1,9 @@
 //! The faults of a run.
 
 ghost use Rattle.std.specs.Prelude.{◌≡◌, ◌++◌, codes, Some};
-ghost use Rattle.subdiv_model.specs.Fault.{fault_text, fault_status, kind_text, track_text};
+ghost use Rattle.subdiv_model.specs.Fault.{fault_text, fault_status, kind_text, limit_cause_text, track_text};
 ghost use Rattle.level_walk.specs.View.{kind_of};
-ghost use Rattle.far_fault.specs.View.{fault_of, track_of};
+ghost use Rattle.far_fault.specs.View.{fault_of, limit_cause_of, track_of};
 
 use level_topology::Counted;
 use level_walk::OverflowKind;
@@ -20,6 +20,17 @@ pub enum Track {
     Positions,
     /// The texture values.
     Texture,
+    /// The rows of limit points.
+    LimitRows,
+}
+
+/// Why a point of a level has no limit point. The field is the point, counted from 0.
+#[derive(Clone, Copy, Debug, PartialEq, Eq)]
+pub enum LimitCause {
+    /// One infinitely sharp edge ends at the point.
+    Dart(u32),
+    /// The point or an edge at it is semi-sharp.
+    SemiSharp(u32),
 }
 
 /// The fault of a run. Each fault has a status and a line on standard error.
@@ -51,6 +62,8 @@ pub enum FarFault {
         level: u32,
         kind: OverflowKind,
     },
+    /// A point has no limit point. The field names the least such point.
+    Limit(LimitCause),
     /// A write or a flush failed.
     Write,
     /// Memory ran out.
@@ -67,7 +80,7 @@ impl From<Memory> for FarFault {
     }
 }
 
-/// Returns the exit status of a fault: 2 to 8, 10 or 11, as `docs/formats.md` lists it.
+/// Returns the exit status of a fault, from 2 to 11, as `docs/formats.md` lists it.
 pub fn status(fault: &FarFault) -> u8
     ensures { result ≡ fault_status (fault_of fault.now) }
 {
@@ -79,6 +92,7 @@ pub fn status(fault: &FarFault) -> u8
         FarFault::Mesh(_) => 6,
         FarFault::TooLarge(_) => 7,
         FarFault::Overflow { .. } => 8,
+        FarFault::Limit(_) => 9,
         FarFault::Write => 10,
         FarFault::Memory => 11,
     }
@@ -91,6 +105,7 @@ fn track_words(track: Track) -> &'static str
     match track {
         Track::Positions => "positions level ",
         Track::Texture => "texture level ",
+        Track::LimitRows => "limit level ",
     }
 }
 
@@ -103,6 +118,16 @@ fn kind_words(kind: OverflowKind) -> &'static str
         OverflowKind::Transition => ": transition overflow",
         OverflowKind::Denominator => ": denominator overflow",
         OverflowKind::Value => ": value overflow",
+    }
+}
+
+// Returns the words of a point that has no limit point.
+fn limit_pieces(cause: LimitCause) -> Pieces
+    ensures { result ≡ limit_cause_text (limit_cause_of cause) }
+{
+    match cause {
+        LimitCause::Dart(v) => Pieces::about("vertex ", v as u64, " is a dart"),
+        LimitCause::SemiSharp(v) => Pieces::about("vertex ", v as u64, " is semi-sharp"),
     }
 }
 
@@ -121,6 +146,7 @@ impl FarFault {
             FarFault::Overflow { track, level, kind } => {
                 Pieces::about(track_words(track), level as u64, kind_words(kind))
             }
+            FarFault::Limit(cause) => limit_pieces(cause),
             FarFault::Write => Pieces::plain("writing failed"),
             FarFault::Memory => Pieces::plain(Memory.text()),
         }
