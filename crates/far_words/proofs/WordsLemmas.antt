@@ -61,6 +61,9 @@ gen_rule = record {
 abbrev sparse_rule : CommandRule
 sparse_rule = record { name = codes "sparse"; options = required_option (codes "depth") 0 10 ∷ name_option (codes "select") select_names ∷ number_option (codes "decimals") 0 18 ∷ name_option (codes "uv") sparse_texture_names ∷ [] }
 
+abbrev limit_rule : CommandRule
+limit_rule = record { name = codes "limit"; options = required_option (codes "depth") 1 10 ∷ number_option (codes "decimals") 0 18 ∷ [] }
+
 abbrev frames_rule : CommandRule
 frames_rule = record { name = codes "frames"; options = required_option (codes "depth") 0 10 ∷ number_option (codes "scale") 0 18 ∷ [] }
 
@@ -117,6 +120,22 @@ sparse_decimals options none = go (value_of options (codes "decimals")) refl
         (within_bounds (is_number_word value) 0 18 (number_of_digits value)
         (allowed-of-rule (Some sparse_rule) options sparse_rule (codes "decimals") value refl none is)).1
 
+limit_depth : (options : List (List ℕ)) → usage_of_rule (Some limit_rule) options ≡ None
+    → (1 ≤ required_number options (codes "depth")) × (required_number options (codes "depth") ≤ 10)
+limit_depth options none =
+    let found = some_value (value_of options (codes "depth")) (required-of-rule (Some limit_rule) options limit_rule refl none) in
+    let allowed = allowed-of-rule (Some limit_rule) options limit_rule (codes "depth") found.0 refl none found.1 in
+    number_within options (codes "depth") found.0 1 10 found.1 allowed
+
+limit_decimals : (options : List (List ℕ)) → usage_of_rule (Some limit_rule) options ≡ None → IfSome (number_of options (codes "decimals")) (λ digits. digits ≤ 18)
+limit_decimals options none = go (value_of options (codes "decimals")) refl
+  where
+    go : (found : Option (List ℕ)) → value_of options (codes "decimals") ≡ found → IfSome (option_map number_of_digits found) (λ digits. digits ≤ 18)
+    go None is = tt
+    go (Some value) is =
+        (within_bounds (is_number_word value) 0 18 (number_of_digits value)
+        (allowed-of-rule (Some limit_rule) options limit_rule (codes "decimals") value refl none is)).1
+
 depth_alone : (name : List ℕ) (options : List (List ℕ)) → usage_of_rule (Some (depth_rule name)) options ≡ None → required_number options (codes "depth") ≤ 10
 depth_alone name options none =
     let found = some_value (value_of options (codes "depth")) (required-of-rule (Some (depth_rule name)) options (depth_rule name) refl none) in
@@ -154,27 +173,31 @@ frames_depth options none =
 pub says-in-range : (words : List (List ℕ)) → usage_of command_table words ≡ None → IsInRange (command_of words)
 says-in-range [] none = absurd (cc)
 says-in-range (name ∷ options) none =
-    by_test (bytes_eq name (codes "refine")) (bytes_eq name (codes "sparse")) (bytes_eq name (codes "stencils")) (bytes_eq name (codes "frames"))
-    (bytes_eq name (codes "levels")) (bytes_eq name (codes "gen")) refl refl refl refl refl refl none
+    by_test (bytes_eq name (codes "refine")) (bytes_eq name (codes "sparse")) (bytes_eq name (codes "stencils")) (bytes_eq name (codes "limit"))
+    (bytes_eq name (codes "frames")) (bytes_eq name (codes "levels")) (bytes_eq name (codes "gen")) refl refl refl refl refl refl refl none
   where
     -- the command is that of this name
     named : (known : List ℕ) → bytes_eq name known ≡ true → IsInRange (command_of (known ∷ options)) → IsInRange (command_of (name ∷ options))
     named known is built = subst IsInRange (sym (ap (λ n. command_of (n ∷ options)) ((bytes_eq-Decides name known).0 is))) built
 
-    by_test : (refined thinned tabled moved counted made : Bool) → bytes_eq name (codes "refine") ≡ refined → bytes_eq name (codes "sparse") ≡ thinned →
-        bytes_eq name (codes "stencils") ≡ tabled → bytes_eq name (codes "frames") ≡ moved → bytes_eq name (codes "levels") ≡ counted → bytes_eq name (codes "gen") ≡ made →
+    by_test : (refined thinned tabled limited moved counted made : Bool) → bytes_eq name (codes "refine") ≡ refined → bytes_eq name (codes "sparse") ≡ thinned →
+        bytes_eq name (codes "stencils") ≡ tabled → bytes_eq name (codes "limit") ≡ limited → bytes_eq name (codes "frames") ≡ moved →
+        bytes_eq name (codes "levels") ≡ counted → bytes_eq name (codes "gen") ≡ made →
         usage_of_rule
-        (cond refined (Some refine_rule) (cond thinned (Some sparse_rule) (cond tabled (Some (depth_rule (codes "stencils"))) (cond moved (Some frames_rule)
-        (cond counted (Some (depth_rule (codes "levels"))) (cond made (Some gen_rule) None))))))
+        (cond refined (Some refine_rule) (cond thinned (Some sparse_rule) (cond tabled (Some (depth_rule (codes "stencils"))) (cond limited (Some limit_rule)
+        (cond moved (Some frames_rule) (cond counted (Some (depth_rule (codes "levels"))) (cond made (Some gen_rule) None)))))))
         options ≡ None →
         IsInRange (command_of (name ∷ options))
-    by_test true thinned tabled moved counted made is d e f g h none = named (codes "refine") is (refine_depth options none, refine_decimals options none)
-    by_test false true tabled moved counted made d is e f g h none = named (codes "sparse") is (sparse_depth options none, sparse_decimals options none)
-    by_test false false true moved counted made d e is f g h none = named (codes "stencils") is (depth_alone (codes "stencils") options none)
-    by_test false false false true counted made d e f is g h none = named (codes "frames") is (frames_depth options none, frames_scale options none)
-    by_test false false false false true made d e f g is h none = named (codes "levels") is (depth_alone (codes "levels") options none)
-    by_test false false false false false true d e f g h is none = named (codes "gen") is (gen_numbers options none)
-    by_test false false false false false false d e f g h i none = absurd (cc)
+    by_test true thinned tabled limited moved counted made is d e l f g h none = named (codes "refine") is (refine_depth options none, refine_decimals options none)
+    by_test false true tabled limited moved counted made d is e l f g h none = named (codes "sparse") is (sparse_depth options none, sparse_decimals options none)
+    by_test false false true limited moved counted made d e is l f g h none = named (codes "stencils") is (depth_alone (codes "stencils") options none)
+    by_test false false false true moved counted made d e l is f g h none =
+        let depth = limit_depth options none in
+        named (codes "limit") is (depth.0, depth.1, limit_decimals options none)
+    by_test false false false false true counted made d e l f is g h none = named (codes "frames") is (frames_depth options none, frames_scale options none)
+    by_test false false false false false true made d e l f g is h none = named (codes "levels") is (depth_alone (codes "levels") options none)
+    by_test false false false false false false true d e l f g h is none = named (codes "gen") is (gen_numbers options none)
+    by_test false false false false false false false d e l f g h i none = absurd (cc)
 
 -- a command that was read is within the bounds of its options
 pub read-in-range : (words : List (List ℕ)) (r : Result Command ℕ) → result_of_code r ≡ read_words_by command_table words →

@@ -15,10 +15,11 @@ use Rattle.far_words.specs.declared.command.RefineOptions.{RefineOptions}
 use Rattle.far_words.specs.declared.command.Select.{Select}
 use Rattle.far_words.specs.declared.command.Select.TheVariants.{Feature, All}
 use Rattle.far_words.specs.declared.command.SparseOptions.{SparseOptions}
+use Rattle.far_words.specs.declared.command.LimitOptions.{LimitOptions}
 use Rattle.far_words.specs.declared.command.GenOptions.{GenOptions}
 use Rattle.far_words.specs.declared.command.FramesOptions.{FramesOptions}
 use Rattle.far_words.specs.declared.command.ReadCommand.{ReadCommand}
-use Rattle.far_words.specs.declared.command.ReadCommand.TheVariants.{Refine, Sparse, Stencils, Levels}
+use Rattle.far_words.specs.declared.command.ReadCommand.TheVariants.{Refine, Sparse, Stencils, Limit, Levels}
 use Rattle.far_words.specs.declared.command.MakeCommand.{MakeCommand}
 use Rattle.far_words.specs.declared.command.MakeCommand.TheVariants.{Gen}
 use Rattle.far_words.specs.declared.command.StreamCommand.{StreamCommand}
@@ -65,6 +66,9 @@ select_of_code All = model.AllFaces
 abbrev pub sparse_of_code : SparseOptions → model.SparseOptions
 sparse_of_code options = record { depth = options.depth; select = select_of_code options.select; decimals = options.decimals }
 
+abbrev pub limit_of_code : LimitOptions → model.LimitOptions
+limit_of_code options = record { depth = options.depth; decimals = options.decimals }
+
 abbrev pub gen_of_code : GenOptions → model.GenOptions
 gen_of_code options = record { seed = options.seed; size = options.size; depth = options.depth }
 
@@ -75,6 +79,7 @@ abbrev pub read_of_code : ReadCommand → model.ReadCommand
 read_of_code (Refine options) = model.Refine (refine_of_code options)
 read_of_code (Sparse options) = model.Sparse (sparse_of_code options)
 read_of_code (Stencils depth) = model.Stencils depth
+read_of_code (Limit options) = model.Limit (limit_of_code options)
 read_of_code (Levels depth) = model.Levels depth
 
 abbrev pub make_of_code : MakeCommand → model.MakeCommand

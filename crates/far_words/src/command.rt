@@ -58,6 +58,15 @@ pub struct SparseOptions {
     pub decimals: Option<u32>,
 }
 
+/// What `limit` is asked for.
+#[derive(Clone, Copy, Debug, PartialEq, Eq)]
+pub struct LimitOptions {
+    /// From 1 to 10.
+    pub depth: u32,
+    /// How many decimals numbers are rounded to, at most 18, or `None` for fractions in lowest terms.
+    pub decimals: Option<u32>,
+}
+
 /// What `gen` is asked for: a sheet of `size` by `size` quads, and its depth.
 #[derive(Clone, Copy, Debug, PartialEq, Eq)]
 pub struct GenOptions {
@@ -86,6 +95,8 @@ pub enum ReadCommand {
     Sparse(SparseOptions),
     /// Writes the table of a mesh at a depth.
     Stencils { depth: u32 },
+    /// Writes the limit points of the points of a mesh at a depth, and its faces there.
+    Limit(LimitOptions),
     /// Writes the counts of each level of a mesh to a depth.
     Levels { depth: u32 },
 }
@@ -125,6 +136,9 @@ impl ReadCommand {
                 options.depth <= 10 && options.decimals.unwrap_or(0) <= 18
             }
             ReadCommand::Stencils { depth } => depth <= 10,
+            ReadCommand::Limit(options) => {
+                1 <= options.depth && options.depth <= 10 && options.decimals.unwrap_or(0) <= 18
+            }
             ReadCommand::Levels { depth } => depth <= 10,
         }
     }

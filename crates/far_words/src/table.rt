@@ -74,6 +74,13 @@ const COMMANDS: &[CommandRule] = &[
         options: &[required_option!("depth", 0, 10)],
     },
     CommandRule {
+        name: "limit",
+        options: &[
+            required_option!("depth", 1, 10),
+            number_option!("decimals", 0, 18),
+        ],
+    },
+    CommandRule {
         name: "frames",
         options: &[
             required_option!("depth", 0, 10),
