@@ -14,3 +14,5 @@ pub mod TableLemmas
 pub mod WrittenLemmas
 pub mod SparseLemmas
 pub mod SummaryLemmas
+pub mod LimitLemmas
+pub mod LimitPointLemmas

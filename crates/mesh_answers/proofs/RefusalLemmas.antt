@@ -1,9 +1,10 @@
 -- What a mesh is refused for, by its faults.
-use Rattle.std.proofs.Common.{◌≡◌, ℕ, List, ◌++◌, length, Some, None, Result, Ok, Err, IsErr, IsErrAnd, MatchResult, ap, sym, subst, ◌∙◌}
+use Rattle.std.proofs.Common.{◌≡◌, ℕ, List, ◌++◌, length, Option, Some, None, Result, Ok, Err, IsErr, IsErrAnd, MatchResult, ap, sym, subst, ◌∙◌}
+use Rattle.std.proofs.lemmas.List.{append_assoc}
 use Rattle.subdiv_model.specs.Lists.{first_of}
 use Rattle.subdiv_model.specs.Manifold.{IsManifold}
 use Rattle.subdiv_model.specs.ObjMesh.{ObjMesh}
-use Rattle.subdiv_model.specs.Fault.{Fault, Usage, Read, Long, Obj, Mesh, TooLarge, Overflow, Write, Memory}
+use Rattle.subdiv_model.specs.Fault.{Fault, Usage, Read, Long, Obj, Mesh, Place, TooLarge, Overflow, Limit, Write, Memory}
 use Rattle.subdiv_model.specs.MeshFault.{MeshFault, first_mesh_fault}
 use Rattle.subdiv_model.specs.Limits.{count_faults, level_count_faults}
 use Rattle.mesh_laws.proofs.FaultLemmas.{fault-decides}
@@ -41,6 +42,8 @@ found-here (Obj fault) xs ys found = first-here xs ys (Obj fault) found
 found-here (Mesh fault) xs ys found = first-here xs ys (Mesh fault) found
 found-here (TooLarge counted) xs ys found = first-here xs ys (TooLarge counted) found
 found-here (Overflow track level kind) xs ys found = first-here xs ys (Overflow track level kind) found
+found-here (Limit cause) xs ys found = first-here xs ys (Limit cause) found
+found-here (Place fault) xs ys found = found
 found-here (Usage word) xs ys found = found
 found-here Read xs ys found = found
 found-here Long xs ys found = found
@@ -54,6 +57,26 @@ module _ (depth : ℕ) (mesh : ObjMesh) (fine : IsSmallManifold depth mesh) (oth
 
   pub found-of-others : (fault : Fault) → IsFound fault (first_of others) → IsFound fault (refusal_by (level_count_faults mesh.faces depth ++ others) mesh)
   found-of-others fault found = subst (IsFound fault) (sym refusal-of-others) found
+
+module _ (faults others : List Fault) (mesh : ObjMesh) where
+  -- where nothing is found of some faults, the first of those behind them
+  pub refusal-behind : refusal_by faults mesh ≡ None → refusal_by (faults ++ others) mesh ≡ first_of others
+  refusal-behind none = go (first_mesh_fault (length mesh.points) mesh.faces) none
+    where
+      go : (wrong : Option MeshFault) → refusal_unless wrong (first_of (count_faults mesh ++ faults)) ≡ None
+          → refusal_unless wrong (first_of (count_faults mesh ++ (faults ++ others))) ≡ first_of others
+      go (Some fault) none = absurd (cc)
+      go None none = ap first_of (sym (append_assoc (count_faults mesh) faults others)) ∙ first-behind (count_faults mesh ++ faults) others none
+
+  -- and what is found of them is found where others stand behind them
+  pub found-before : (fault : Fault) → IsFound fault (refusal_by faults mesh) → IsFound fault (refusal_by (faults ++ others) mesh)
+  found-before fault found = go (first_mesh_fault (length mesh.points) mesh.faces) found
+    where
+      go : (wrong : Option MeshFault) → IsFound fault (refusal_unless wrong (first_of (count_faults mesh ++ faults)))
+          → IsFound fault (refusal_unless wrong (first_of (count_faults mesh ++ (faults ++ others))))
+      go (Some wrong) found = found
+      go None found =
+          subst (IsFound fault) (ap first_of (append_assoc (count_faults mesh) faults others)) (found-here fault (count_faults mesh ++ faults) others found)
 
 -- level 0 of a mesh that is small enough
 pub small-manifold : (depth : ℕ) (mesh : ObjMesh) (level : Topology) → IsLevelWithin depth mesh level → IsSmallManifold depth mesh

@@ -1,5 +1,5 @@
 -- What a command owes at each of its ends.
-use Rattle.std.proofs.Common.{◌≡◌, ℕ, ◌+◌, ◌≤◌, Result, Ok, Err, IsErr, IsErrAnd, sym, subst}
+use Rattle.std.proofs.Common.{◌≡◌, ℕ, ◌+◌, ◌≤◌, Result, Ok, Err, IsErr, IsErrAnd, IsOkAnd, IfOk, MatchResult, sym, subst}
 use Rattle.far_model.specs.Command.{ReadCommand, MakeCommand}
 use Rattle.subdiv_model.specs.ObjMesh.{ObjMesh}
 use Rattle.ratio128.specs.StepsTaken.{StepsTaken}
@@ -31,6 +31,14 @@ module _ (command : ReadCommand) (mesh : ObjMesh) (old new : ℕ) (later : old �
 
   pub replies : (reply : Reply) → IsReplyTo command mesh reply → old + least_steps command mesh ≤ new → IsAnswerTo command mesh (Ok reply) old new
   replies reply is least = record { reply = is; steps = record { least = least; most = most; later = later } }
+
+-- where what a reply is made of was found, it is the reply that was made of it
+pub replied : {X E : Type 0} (command : ReadCommand) (mesh : ObjMesh) (found : Result X E) (r : Result Reply E) (made : X → Reply) (P : X → Type 0)
+    → MatchResult found (λ x. IsOkAnd r (λ reply. reply ≡ made x)) (λ fault. r ≡ Err fault) → IfOk found P
+    → ((x : X) → P x → IsReplyTo command mesh (made x)) → IfOk r (IsReplyTo command mesh)
+replied command mesh (Ok x) (Ok reply) made P is p answers = subst (IsReplyTo command mesh) (sym is) (answers x p)
+replied command mesh (Ok x) (Err fault) made P is p answers = absurd is
+replied command mesh (Err fault) r made P same p answers = subst (λ r. IfOk r (IsReplyTo command mesh)) (sym same) tt
 
 module _ (command : MakeCommand) (old new : ℕ) (later : old ≤ new) (most : new ≤ old + made_limit command) where
   pub made-refuses : (r : Result Reply FarFault) (fault : FarFault) → IsErr r → IsErrAnd r (λ g. g ≡ fault) → IsFound (fault_of fault) (refusal_of_made command) →

@@ -55,7 +55,7 @@ some-points level (suc k) some =
 
 module _ (mesh : ObjMesh) (depth : ℕ) (composed : ComposedChannel) (is : IsComposedOf mesh depth composed) where
   -- a table has a row for each point of its level
-  rows-points : length composed.table.rows ≡ (refined_level (base_level mesh) depth).point_count
+  pub rows-points : length composed.table.rows ≡ (refined_level (base_level mesh) depth).point_count
   rows-points =
       let supports : TableRow → List ℕ = λ row. support_of row.shares in
       sym (length-map composed.table.rows supports) ∙ ap length is.composed.supports ∙ length-supports (base_level mesh) CatmullClark depth

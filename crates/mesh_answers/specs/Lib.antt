@@ -4,3 +4,4 @@ pub mod Replies
 pub mod Levels
 pub mod Tracks
 pub mod Tables
+pub mod Limits

@@ -3,6 +3,7 @@
 
 mod counts;
 mod level;
+mod limits;
 mod refined;
 mod sheet;
 mod sparse_levels;
@@ -10,6 +11,7 @@ mod table;
 mod tracks;
 
 pub use counts::levels;
+pub use limits::limit;
 pub use refined::refine;
 pub use sheet::generate;
 pub use sparse_levels::sparse;

@@ -1,6 +1,6 @@
 //! The positions and the texture of a mesh, before they are refined.
 
-ghost use Rattle.std.specs.Prelude.{◌≡◌, ◌+◌, true, length, map, Some, None, IfOk, MatchResult};
+ghost use Rattle.std.specs.Prelude.{◌≡◌, ◌+◌, true, length, map, max, Some, None, IfOk, MatchResult};
 ghost use Rattle.raw_mesh.specs.View.{point_of, texture_of as value_of};
 ghost use Rattle.subdiv_model.specs.MeshFault.{first_mesh_fault};
 ghost use Rattle.subdiv_model.specs.Channel.{greatest_amount};
@@ -91,6 +91,13 @@ fn greatest_of_values(values: &[Point2]) -> u128
         rest = others;
     }
     greatest
+}
+
+/// The greater of the greatest amount of the coordinates of a mesh and their common denominator.
+pub(crate) fn most_of(mesh: &RawMesh) -> u128
+    ensures { result ≡ max (positions_of mesh.now).greatest (positions_of mesh.now).common }
+{
+    greatest_of_points(mesh.points()).max(mesh.scale())
 }
 
 /// The channel of the positions of a mesh, from its level 0.

@@ -1,0 +1,194 @@
+//! The limit points of a mesh at a depth.
+
+ghost use Rattle.std.specs.Prelude.{◌≡◌, ◌*◌, ◌<◌, ◌≤◌, false, None, Err, IfOk, IsOkAnd, MatchResult};
+ghost use Rattle.subdiv_model.specs.Channel.{number_bound};
+ghost use Rattle.subdiv_model.specs.Fault.{LimitRows, Overflow, ValueOverflow};
+ghost use Rattle.stencil_apply.specs.Table.{IsTable, greatest_of};
+ghost use Rattle.far_model.specs.Command.{Limit, IsReadInRange};
+ghost use Rattle.far_fault.specs.View.{fault_of};
+ghost use Rattle.far_words.specs.View.{limit_of_code};
+ghost use Rattle.far_text.specs.declared.reply.Reply.TheVariants.{Refined};
+ghost use Rattle.ratio128.specs.StepsTaken.{StepsTaken};
+ghost use Rattle.mesh_answers.specs.Limits.{AreLimitRows, limit_fault_of, limit_refusal};
+ghost use Rattle.mesh_answers.specs.Refusals.{IsFound};
+ghost use Rattle.mesh_answers.specs.Replies.{IsAnswerTo, IsReplyTo};
+ghost use Rattle.mesh_answers.specs.StepCounts.{limit_steps};
+ghost use Rattle.mesh_answers.specs.Tables.{IsComposedOf};
+
+use crate::table::compose;
+use crate::tracks::most_of;
+use channel_refine::{ComposedChannel, evaluate};
+use far_fault::{FarFault, LimitCause, OverflowKind, Track};
+use far_text::{MeshForm, RefinedMesh, Reply};
+use far_words::LimitOptions;
+use level_topology::{Counted, Level};
+use limit_stencils::{QuadFault, limit_table_of_quads};
+use ratio128::{Memory, Point3, Steps, Valued};
+use raw_mesh::RawMesh;
+use std::alloc::Global;
+use std::sync::ledger::Ledger;
+use stencil_apply::{StencilTable, scale_fits};
+
+// The fault of a run for that of the table of limit points at a depth.
+fn limit_fault(fault: QuadFault, depth: u32) -> FarFault
+    ensures { fault_of result ≡ limit_fault_of depth fault }
+{
+    match fault {
+        QuadFault::Dart(v) => FarFault::Limit(LimitCause::Dart(v)),
+        QuadFault::SemiSharp(v) => FarFault::Limit(LimitCause::SemiSharp(v)),
+        QuadFault::Denominator(_) => FarFault::Overflow {
+            track: Track::LimitRows,
+            level: depth,
+            kind: OverflowKind::Denominator,
+        },
+        QuadFault::TooManyEntries => FarFault::TooLarge(Counted::LimitEntries),
+        QuadFault::Memory => FarFault::Memory,
+    }
+}
+
+// The table of limit points, where its greatest denominator times an amount is within the bound of numbers.
+fn fitting(table: StencilTable, most: u128, depth: u32) -> Result<StencilTable, FarFault>
+    ensures { MatchResult result
+        (λ limits. (limits ≡ table) × IsTable table × (greatest_of table * most ≤ number_bound))
+        (λ fault. (fault_of fault ≡ Overflow LimitRows depth ValueOverflow) × IsTable table × (number_bound < greatest_of table * most)) }
+{
+    table.facts();
+    if scale_fits(&table, most) {
+        return Ok(table);
+    }
+    // The prover proves a drop by name once for its type.
+    drop(table);
+    Err(FarFault::Overflow {
+        track: Track::LimitRows,
+        level: depth,
+        kind: OverflowKind::Value,
+    })
+}
+
+// The table of the limit points of a level, over the points of the mesh.
+fn limit_table(
+    alloc: Global,
+    mesh: &RawMesh,
+    composed: &ComposedChannel,
+    depth: u32,
+) -> Result<StencilTable, FarFault>
+    requires depth { 1 ≤ depth }
+    requires composed { IsComposedOf mesh.now depth composed.now }
+    ensures { MatchResult result
+        (λ table. AreLimitRows mesh.now depth (record { level = composed.now.level; table = table }))
+        (λ fault. IsFound (fault_of fault) (limit_refusal depth mesh.now)) }
+{
+    match limit_table_of_quads(alloc, &composed.level, &composed.table) {
+        Ok(table) => fitting(table, most_of(mesh), depth),
+        Err(fault) => Err(limit_fault(fault, depth)),
+    }
+}
+
+// A level with a table, where there is one.
+fn with_table(
+    level: Level,
+    table: Result<StencilTable, FarFault>,
+) -> Result<ComposedChannel, FarFault>
+    ensures { MatchResult table
+        (λ table. IsOkAnd result (λ limits. limits ≡ record { level = level; table = table }))
+        (λ fault. result ≡ Err fault) }
+{
+    table.map(|table| ComposedChannel { level, table })
+}
+
+// The level of a mesh at a depth with the table of its limit points, which takes the place of the table of its points.
+fn limit_level(
+    alloc: Global,
+    mesh: &RawMesh,
+    composed: ComposedChannel,
+    depth: u32,
+) -> Result<ComposedChannel, FarFault>
+    requires depth { 1 ≤ depth }
+    requires composed { IsComposedOf mesh.now depth composed }
+    ensures { MatchResult result (λ limits. AreLimitRows mesh.now depth limits) (λ fault. IsFound (fault_of fault) (limit_refusal depth mesh.now)) }
+{
+    let limits = limit_table(alloc, mesh, &composed, depth);
+    // The prover proves a drop by name once for its type.
+    drop(composed.table);
+    with_table(composed.level, limits)
+}
+
+// The reply with a level and its points, where they were found.
+fn with_points(
+    mesh: &RawMesh,
+    options: &LimitOptions,
+    level: Level,
+    values: Result<Vec<Valued<Point3>>, Memory>,
+) -> Result<Reply, Memory>
+    ensures { MatchResult values
+        (λ values. IsOkAnd result (λ reply. reply
+        ≡ Refined (record { level = level; values = values; common = mesh.now.common; texture = None }) (record { decimals = options.now.decimals; tags = false })))
+        (λ fault. result ≡ Err fault) }
+{
+    let common = mesh.scale();
+    let form = MeshForm {
+        decimals: options.decimals,
+        tags: false,
+    };
+    values.map(|values| {
+        let refined = RefinedMesh {
+            level,
+            values,
+            common,
+            texture: None,
+        };
+        Reply::Refined(refined, form)
+    })
+}
+
+// The reply with the limit points of a level. The function evaluates their table over the points of the mesh.
+fn limit_reply<L: Ledger>(
+    alloc: Global,
+    mesh: &RawMesh,
+    limits: ComposedChannel,
+    options: &LimitOptions,
+    steps: &mut Steps<L>,
+) -> Result<Reply, Memory>
+    requires range { IsReadInRange (Limit (limit_of_code options.now)) }
+    requires limits { AreLimitRows mesh.now options.now.depth limits }
+    ensures reply { IfOk result (λ reply. IsReplyTo (Limit (limit_of_code options.now)) mesh.now reply) }
+    ensures steps { StepsTaken result steps.old steps.new (limit_steps options.now.depth mesh.now) (limit_steps options.now.depth mesh.now) }
+{
+    mesh.facts();
+    let values = evaluate(alloc, &limits.table, mesh.points(), steps);
+    // The prover proves a drop by name once for its type.
+    drop(limits.table);
+    with_points(mesh, options, limits.level, values)
+}
+
+/// Returns the level of a mesh at a depth with the limit points of its points. The depth is from 1 to 10.
+///
+/// The reply writes coordinates as fractions, or rounded to at most 18 decimals. It writes no texture and no tags.
+///
+/// The fault is the first of these:
+///
+/// - `Mesh` where the mesh is no manifold, with its first fault;
+/// - `TooLarge` with the first count of the mesh that passes its limit;
+/// - `TooLarge` with the first level from 1 to the depth that would have more than 2^22 faces, and how many;
+/// - `Overflow` or `TooLarge` with the first level, counted from 1, at which something of the positions passes its bound;
+/// - `Limit` with the least point of the level that has no limit point, and why;
+/// - `Overflow` of `LimitRows` with the depth, where the common denominator of a limit point passes its bound (`Denominator`);
+/// - `TooLarge` where the table of the limit points has more than 2^27 entries;
+/// - `Overflow` of `LimitRows` with the depth, where a numerator can pass its bound (`Value`).
+///
+/// At a level the order is `Chaikin`, `Transition`, `Denominator`, a table of more than 2^27 entries (`TooLarge`), `Value`.
+/// `Memory` may come of any mesh. The call takes at most one step for each face of the levels from 0 to the depth. It takes one
+/// more for each entry of the table of the limit points.
+pub fn limit<L: Ledger>(
+    alloc: Global,
+    mesh: &RawMesh,
+    options: &LimitOptions,
+    steps: &mut Steps<L>,
+) -> Result<Reply, FarFault>
+    requires { IsReadInRange (Limit (limit_of_code options.now)) }
+    ensures { IsAnswerTo (Limit (limit_of_code options.now)) mesh.now result steps.old steps.new }
+{
+    let composed = compose(alloc, mesh, options.depth, steps)?;
+    let limits = limit_level(alloc, mesh, composed, options.depth)?;
+    Ok(limit_reply(alloc, mesh, limits, options, steps)?)
+}
