@@ -7,7 +7,7 @@ use Rattle.subdiv_model.specs.ObjMesh.{ObjMesh}
 use Rattle.subdiv_model.specs.ReadObj.{read_obj_fault, read_obj_mesh}
 use Rattle.subdiv_model.specs.MeshFault.{MeshFault, first_mesh_fault}
 use Rattle.far_model.specs.Command.{ReadCommand, MakeCommand}
-use Rattle.subdiv_model.specs.Fault.{Fault, Usage, Read, Long, Obj, Mesh, TooLarge, Overflow, Write, Memory}
+use Rattle.subdiv_model.specs.Fault.{Fault, Usage, Read, Long, Obj, Mesh, TooLarge, Overflow, Limit, Place, Write, Memory}
 use Rattle.far_model.specs.Refusal.{Answer, answer_unless, refused}
 use Rattle.subdiv_model.specs.Limits.{count_faults}
 use Rattle.far_model.specs.Answer.{answer_of_bytes, answer_of_checked, answer_of_made, answer_of_read, byte_limit, command_faults, command_text, made_faults, made_mesh, made_text}
@@ -82,7 +82,9 @@ found-answers (Obj fault) refusal found = found
 found-answers (Mesh fault) refusal found = found
 found-answers (TooLarge counted) refusal found = found
 found-answers (Overflow track level kind) refusal found = found
+found-answers (Limit cause) refusal found = found
 found-answers (Usage word) refusal found = absurd found
 found-answers Read refusal found = absurd found
 found-answers Long refusal found = absurd found
+found-answers (Place fault) refusal found = absurd found
 found-answers Write refusal found = absurd found

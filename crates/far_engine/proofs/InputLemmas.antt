@@ -7,7 +7,7 @@ use Rattle.far_io.specs.declared.source.InputFault.TheVariants.{Read as ReadFail
 use Rattle.far_model.specs.Command.{ReadCommand}
 use Rattle.subdiv_model.specs.ObjMesh.{ObjMesh}
 use Rattle.subdiv_model.specs.ReadObj.{read_obj_fault, read_obj_mesh}
-use Rattle.subdiv_model.specs.Fault.{Fault, Usage, Read, Long, Obj, Mesh, TooLarge, Overflow, Write, Memory}
+use Rattle.subdiv_model.specs.Fault.{Fault, Usage, Read, Long, Obj, Mesh, TooLarge, Overflow, Limit, Place, Write, Memory}
 use Rattle.far_model.specs.Answer.{answer_of_bytes, byte_limit}
 use Rattle.ratio128.specs.StepsTaken.{StepsTaken}
 use Rattle.far_text.specs.declared.reply.Reply.{Reply}
@@ -113,6 +113,8 @@ module _ {S : Type 0} (source : Ghosts S) (command : ReadCommand) (s s' : S) whe
     text-fault (Mesh fault) is = absurd is
     text-fault (TooLarge counted) is = absurd is
     text-fault (Overflow track level kind) is = absurd is
+    text-fault (Limit cause) is = absurd is
+    text-fault (Place fault) is = absurd is
     text-fault Write is = absurd is
 
     -- or it has none, and a command finds a reply to its mesh, or a fault of it

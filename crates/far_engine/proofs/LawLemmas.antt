@@ -7,7 +7,7 @@ use Rattle.far_io.specs.declared.source.Source.{Ghosts as Source}
 use Rattle.far_io.specs.declared.sink.Sink.{Ghosts as Sink}
 use Rattle.far_model.specs.Words.{command_table, usage_of}
 use Rattle.far_model.specs.Command.{Command, Reads, Makes, Streams, command_of, read_or}
-use Rattle.subdiv_model.specs.Fault.{Fault, Usage, Read, Long, Obj, Mesh, TooLarge, Overflow, Write, Memory}
+use Rattle.subdiv_model.specs.Fault.{Fault, Usage, Read, Long, Obj, Mesh, TooLarge, Overflow, Limit, Place, Write, Memory}
 use Rattle.far_model.specs.Refusal.{Answer}
 use Rattle.far_model.specs.Answer.{answer, answer_of_command, answer_of_words}
 use Rattle.far_engine.specs.Laws.{IsAnsweredBy}
@@ -26,6 +26,8 @@ module _ {S K : Type 0} (source : Source S) (sink : Sink K) (s s' : S) (k k' : K
   whole answer (Some (Mesh fault)) is no_read no_write kept = inl (sym is.answered, λ e. absurd (cc))
   whole answer (Some (TooLarge counted)) is no_read no_write kept = inl (sym is.answered, λ e. absurd (cc))
   whole answer (Some (Overflow track level kind)) is no_read no_write kept = inl (sym is.answered, λ e. absurd (cc))
+  whole answer (Some (Limit cause)) is no_read no_write kept = inl (sym is.answered, λ e. absurd (cc))
+  whole answer (Some (Place fault)) is no_read no_write kept = inl (sym is.answered, λ e. absurd (cc))
 
   -- so is an answer line by line
   by-lines : (answer : Answer) (outcome : Option Fault) → AnswersLines sink answer k k' outcome → (outcome ≡ Some Read → ⊥) → (outcome ≡ Some Write → ⊥) → (outcome ≡ Some Memory → k' ≡ k) →

@@ -4,7 +4,7 @@ use Rattle.far_io.specs.Text.{TextInput}
 use Rattle.far_io.specs.declared.source.Source.{Ghosts as Source}
 use Rattle.far_io.specs.declared.source.InputFault.{InputFault}
 use Rattle.far_io.specs.declared.sink.Sink.{Ghosts as Sink}
-use Rattle.subdiv_model.specs.Fault.{Fault, Usage, Read, Long, Obj, Mesh, TooLarge, Overflow, Write, Memory}
+use Rattle.subdiv_model.specs.Fault.{Fault, Usage, Read, Long, Obj, Mesh, TooLarge, Overflow, Limit, Place, Write, Memory}
 use Rattle.subdiv_model.specs.MeshFault.{first_mesh_fault}
 use Rattle.subdiv_model.specs.ObjMesh.{ObjMesh}
 use Rattle.subdiv_model.specs.ReadObj.{obj_lines, mesh_of_lines}
@@ -47,6 +47,8 @@ found-is P (Obj fault) refusal found is short = is found
 found-is P (Mesh fault) refusal found is short = is found
 found-is P (TooLarge counted) refusal found is short = is found
 found-is P (Overflow track level kind) refusal found is short = is found
+found-is P (Limit cause) refusal found is short = is found
+found-is P (Place fault) refusal found is short = absurd found
 found-is P (Usage word) refusal found is short = absurd found
 found-is P Read refusal found is short = absurd found
 found-is P Long refusal found is short = absurd found
@@ -64,6 +66,8 @@ text-fault-is P bytes options Long is refused short = absurd is
 text-fault-is P bytes options (Mesh fault) is refused short = absurd is
 text-fault-is P bytes options (TooLarge counted) is refused short = absurd is
 text-fault-is P bytes options (Overflow track level kind) is refused short = absurd is
+text-fault-is P bytes options (Limit cause) is refused short = absurd is
+text-fault-is P bytes options (Place fault) is refused short = absurd is
 text-fault-is P bytes options Write is refused short = absurd is
 
 -- each line has its LF

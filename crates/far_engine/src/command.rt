@@ -15,7 +15,7 @@ use far_fault::FarFault;
 use far_io::{Sink, Source, WriteFailed};
 use far_text::{Reply, write_reply};
 use far_words::{Command, MakeCommand, ReadCommand, StreamCommand};
-use mesh_answers::{generate, levels, refine, sparse, stencils};
+use mesh_answers::{generate, levels, limit, refine, sparse, stencils};
 use ratio128::Steps;
 use std::alloc::Global;
 use std::sync::ledger::Ledger;
@@ -73,6 +73,7 @@ pub fn run_command<S: Source, K: Sink, L: Ledger>(
                     stencils(alloc, &mesh, *depth, steps),
                     sink,
                 ),
+                ReadCommand::Limit(options) => put_found(limit(alloc, &mesh, options, steps), sink),
                 ReadCommand::Levels { depth } => put_found(
                     levels(alloc, &mesh, *depth, steps),
                     sink,

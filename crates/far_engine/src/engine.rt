@@ -26,6 +26,8 @@ use std::sync::ledger::Ledger;
 ///   faces but holes. Of each level it writes a line of counts, the points of the present faces, and a line for each such face with
 ///   its kind, its number in the whole level and its corners.
 /// - `stencils` writes the table of the last level: the control points that each point depends on, and how much of each.
+/// - `limit` writes the limit points of the points of the last level, and its faces. The depth is at least 1. Coordinates are written
+///   as `refine` writes them.
 /// - `levels` writes a line with the counts of each level.
 /// - `gen` makes a sheet of quads from its seed, and never calls the source. It writes the counts of the sheet and of its last
 ///   level, and the last point there.
@@ -50,7 +52,10 @@ use std::sync::ledger::Ledger;
 ///   denominator of the half of an edge under `chaikin`, that of the weight between two rules, the common denominator of a
 ///   point, or the greatest numerator over it. `levels` looks at halves alone;
 /// - `TooLarge` where a table is composed that has more than 2^27 entries at a level: before the numerators of this level;
-/// - under `refine`, `Overflow` or `TooLarge` of the texture, in this order again.
+/// - under `refine`, `Overflow` or `TooLarge` of the texture, in this order again;
+/// - under `limit`, `Limit` where a point of the last level has no limit point, with the least such point and why. Then `Overflow`
+///   of the rows of limit points at the depth, for a common denominator, `TooLarge` for more than 2^27 entries of these rows, and
+///   `Overflow` for the greatest numerator.
 ///
 /// `sparse` looks at its present faces and points alone. At each level it refuses more than 2^22 present faces (`TooLarge`) before
 /// all else.
@@ -72,9 +77,9 @@ use std::sync::ledger::Ledger;
 ///
 /// A run takes at most one step for each face of the levels that it makes; those of a sparse level are its present faces. `gen`,
 /// `frames`, and `refine` by a table, take one more for each entry of the last table; `refine` level by level takes one more for each
-/// mask term. `sparse` takes at most one more for each entry of the present points of its levels. A texture channel takes as many
+/// mask term. `limit` takes one more for each entry of the rows of limit points. `sparse` takes at most one more for each entry of the present points of its levels. A texture channel takes as many
 /// again. A line `move` takes one step for each point that depends on its control point.
-/// Where `refine`, `gen` or `frames` answers, it took one step for each of these entries or mask terms.
+/// Where `refine`, `limit`, `gen` or `frames` answers, it took one step for each of these entries or mask terms.
 pub fn run<S: Source, K: Sink, L: Ledger>(
     alloc: Global,
     words: &Vec<String>,

@@ -36,6 +36,14 @@ pub returns-in-Stencils-clause-steps : goal.returns-in-Stencils-clause-steps
 returns-in-Stencils-clause-steps g c =
     steps-mesh g.S.Source g.K.Sink _ _ (ap command_of_code c.in-Read.is ∙ ap (λ k. Reads (read_of_code k)) c.in-Stencils.is) _ _ _ c.in_ok-mesh-in-Read.ensures _ _ _ c.stencils.ensures _ _ _ c.put_found-in-Stencils.ensures
 
+pub returns-in-Limit-clause-run : goal.returns-in-Limit-clause-run
+returns-in-Limit-clause-run g c =
+    runs-mesh g.S.Source g.K.Sink _ _ (ap command_of_code c.in-Read.is ∙ ap (λ k. Reads (read_of_code k)) c.in-Limit.is) _ _ _ c.in_ok-mesh-in-Read.ensures _ _ _ c.limit.ensures _ _ _ c.put_found-in-Limit.ensures
+
+pub returns-in-Limit-clause-steps : goal.returns-in-Limit-clause-steps
+returns-in-Limit-clause-steps g c =
+    steps-mesh g.S.Source g.K.Sink _ _ (ap command_of_code c.in-Read.is ∙ ap (λ k. Reads (read_of_code k)) c.in-Limit.is) _ _ _ c.in_ok-mesh-in-Read.ensures _ _ _ c.limit.ensures _ _ _ c.put_found-in-Limit.ensures
+
 pub returns-in-Read-clause-run : goal.returns-in-Read-clause-run
 returns-in-Read-clause-run g c =
     runs-mesh g.S.Source g.K.Sink _ _ (ap command_of_code c.in-Read.is ∙ ap (λ k. Reads (read_of_code k)) c.in-Levels.is) _ _ _ c.in_ok-mesh-in-Read.ensures _ _ _ c.levels.ensures _ _ _ c.put_found-in-Levels.ensures
