@@ -4,3 +4,4 @@ mod QuarterLemmas
 mod WheelLemmas
 mod ValueLemmas
 mod StepLemmas
+mod LimitLemmas

@@ -1,5 +1,5 @@
 //! Tests of levels, of the facts of faces and the rules that select them, of sharpness, of masks, of uniform refinement, of one
-//! step of values, and of a walk over a part of a level, on meshes from tables.
+//! step of values, of limit points, and of a walk over a part of a level, on meshes from tables.
 #![tactic(auto)]
 
 #[cfg(test)]
@@ -18,6 +18,8 @@ mod face_facts;
 mod fans;
 #[cfg(test)]
 mod levels;
+#[cfg(test)]
+mod limits;
 #[cfg(test)]
 mod mask_tables;
 #[cfg(test)]

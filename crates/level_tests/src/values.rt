@@ -133,7 +133,7 @@ fn assert_good(rt: &impl Abort, points: &[Valued<Point3>])
 }
 
 // Asserts that each edge has two faces.
-fn assert_closed(rt: &impl Abort, level: &Level)
+pub fn assert_closed(rt: &impl Abort, level: &Level)
     ensures { (e : ℕ) → e < length (edges_of level.now.level.polygons) → length (faces_of_edge level.now.level.polygons (edge_at level.now.level.polygons e)) ≡ 2 }
 {
     for e in 0..level.edges() {
