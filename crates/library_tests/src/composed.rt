@@ -53,7 +53,7 @@ fn compose_by<L: Ledger>(
     compose_channel(alloc, base, depth, &mut steps)
 }
 
-fn compose_mesh(
+pub fn compose_mesh(
     rt: &impl Abort,
     alloc: Global,
     mesh: &RawMesh,

@@ -20,6 +20,8 @@ mod marks;
 #[cfg(test)]
 mod meshes;
 #[cfg(test)]
+mod moved;
+#[cfg(test)]
 mod number_lists;
 #[cfg(test)]
 mod numbers;
