@@ -141,16 +141,17 @@ pub fn run_within(
     Ok((given, sink))
 }
 
-// The answer of a run on a mesh and a line after it, and what is written.
+// The answer of a run on a mesh and a line after it, and what is written into so much room.
 pub fn run_alone(
     alloc: Global,
     text: &str,
     mesh: &str,
     line: &str,
+    room: usize,
 ) -> Result<(Result<(), FarFault>, SureSink), Fail> {
     let mut input = mesh.as_bytes().to_vec(alloc)?;
     input.extend_from_slice(line.as_bytes())?;
-    run_within(alloc, text, input, 4096)
+    run_within(alloc, text, input, room)
 }
 
 // Words; the call of the source, of the sink and of the sink for errors that fails, and none from 9 on; the room of the sink;

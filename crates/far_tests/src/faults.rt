@@ -2,7 +2,7 @@
 
 use crate::engine::failing_sink;
 use crate::expect::{expect_answer, expect_same};
-use far_engine::{FarFault, OverflowKind, Track, report, status};
+use far_engine::{FarFault, LimitCause, OverflowKind, Track, report, status};
 use far_io::{SureSink, WriteFailed};
 use level_topology::Counted;
 use mesh_check::MeshFault;
@@ -58,11 +58,11 @@ const FAULTS: &[Fault] = &[
     ),
     (
         FarFault::TooLarge(Counted::Valence {
-            vertex: 1,
+            vertex: 0,
             count: 65537,
         }),
         7,
-        "far: vertex 1 has 65537 edges\n",
+        "far: vertex 0 has 65537 edges\n",
     ),
     (
         FarFault::TooLarge(Counted::Entries { level: 2 }),
@@ -82,6 +82,25 @@ const FAULTS: &[Fault] = &[
         },
         8,
         "far: texture level 4294967295: value overflow\n",
+    ),
+    (
+        FarFault::Overflow {
+            track: Track::LimitRows,
+            level: 1,
+            kind: OverflowKind::Denominator,
+        },
+        8,
+        "far: limit level 1: denominator overflow\n",
+    ),
+    (
+        FarFault::Limit(LimitCause::Dart(0)),
+        9,
+        "far: vertex 0 is a dart\n",
+    ),
+    (
+        FarFault::Limit(LimitCause::SemiSharp(u32::MAX)),
+        9,
+        "far: vertex 4294967295 is semi-sharp\n",
     ),
     (FarFault::Write, 10, "far: writing failed\n"),
     (FarFault::Memory, 11, "far: out of memory\n"),

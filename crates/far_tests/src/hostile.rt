@@ -190,6 +190,7 @@ type Writes = (&'static str, &'static str, u32, u32);
 const WRITES: &[Writes] = &[
     ("refine depth=3", SQUARE, 5, 439),
     ("stencils depth=1", SQUARE, 16, 12),
+    ("limit depth=1", SQUARE, 16, 10),
     ("sparse depth=1", SQUARE, 16, 16),
     ("levels depth=1", CUBE, 16, 12),
     ("frames depth=1", MOVED_SQUARE, 16, 6),
@@ -233,7 +234,7 @@ fn expect_each_write(
 
 fn expect_writes(rt: &(impl Abort + AllocGlobal), row: &Writes) -> Result<(), Fail> {
     let &(text, mesh, ..) = row;
-    let (given, sink) = run_alone(rt.alloc(), text, mesh, "")?;
+    let (given, sink) = run_alone(rt.alloc(), text, mesh, "", 4096)?;
     expect_same(rt, &given, &Ok(()), row);
     expect_each_write(rt, row, sink.bytes())
 }

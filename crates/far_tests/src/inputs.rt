@@ -51,6 +51,22 @@ pub const SQUARE_TABLE: &str = "\
     s 2 2 1 3 1\n\
     s 2 0 1 3 1\n";
 
+// The limit points of the square after one step: points of a uniform cubic curve, and the point of the face.
+pub const SQUARE_LIMITS: &str = "\
+    v 2/3 2/3 0\n\
+    v 10/3 2/3 0\n\
+    v 10/3 10/3 0\n\
+    v 2/3 10/3 0\n\
+    v 2 2 0\n\
+    v 2 1/6 0\n\
+    v 23/6 2 0\n\
+    v 2 23/6 0\n\
+    v 1/6 2 0\n\
+    f 1 6 5 9\n\
+    f 2 7 5 6\n\
+    f 3 8 5 7\n\
+    f 4 9 5 8\n";
+
 // The sparse levels of the square with sharp corners: nothing is a feature.
 pub const SQUARE_LEVELS: &str = "\
     level 0 points 4 faces 1\n\

@@ -4,10 +4,10 @@ use crate::engine::run_alone;
 use crate::expect::expect_answer;
 use crate::inputs::{
     CUBE, CUBE_LEVEL, CUBE_REFINED, GEN, GREAT_CHART, GREATER_CUBE, LEVELS, MOVED_SQUARE,
-    MOVED_SQUARE_ANSWER, REFINE, SHEET, SQUARE, SQUARE_LEVELS, SQUARE_TABLE, TRIANGLES, TWO_CHARTS,
-    TWO_CHARTS_IN_DECIMALS,
+    MOVED_SQUARE_ANSWER, REFINE, SHEET, SQUARE, SQUARE_LEVELS, SQUARE_LIMITS, SQUARE_TABLE,
+    TRIANGLES, TWO_CHARTS, TWO_CHARTS_IN_DECIMALS,
 };
-use far_engine::{FarFault, OverflowKind, Track};
+use far_engine::{FarFault, LimitCause, OverflowKind, Track};
 use level_topology::Counted;
 use mesh_check::MeshFault;
 use obj_tags::ObjCause;
@@ -92,6 +92,14 @@ const RUNS: &[Run] = &[
     ),
     (LEVELS, CUBE, "", Ok(()), CUBE_LEVEL),
     ("stencils depth=1", SQUARE, "", Ok(()), SQUARE_TABLE),
+    ("limit depth=1", SQUARE, "", Ok(()), SQUARE_LIMITS),
+    (
+        "limit depth=2",
+        CUBE,
+        "t crease 2/1/0 0 1 5\n",
+        Err(FarFault::Limit(LimitCause::SemiSharp(0))),
+        "",
+    ),
     (
         "sparse depth=1",
         SQUARE,
@@ -131,7 +139,7 @@ fn runs() -> &'static [Run] {
     RUNS
 }
 
-// A run of these words on a mesh and a line after it has this answer, and this is written.
+// A run of these words on a mesh and a line after it has this answer, and this is written, where there is room for a byte more.
 pub fn expect_run(
     rt: &(impl Abort + AllocGlobal),
     given: (&str, &str, &str),
@@ -140,7 +148,8 @@ pub fn expect_run(
     row: &impl fmt::Debug,
 ) -> Result<(), Fail> {
     let (text, mesh, line) = given;
-    let (given, sink) = run_alone(rt.alloc(), text, mesh, line)?;
+    let room = written.len().saturating_add(1);
+    let (given, sink) = run_alone(rt.alloc(), text, mesh, line, room)?;
     let want = (&answer, written.as_bytes());
     expect_answer(rt, &given, sink.bytes(), want, row);
     Ok(())

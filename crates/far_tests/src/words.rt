@@ -3,8 +3,8 @@
 use crate::engine::words_of;
 use crate::expect::expect_same;
 use far_words::{
-    By, Command, FramesOptions, GenOptions, MakeCommand, ReadCommand, RefineOptions, Select,
-    SparseOptions, StreamCommand, Uv, read_words,
+    By, Command, FramesOptions, GenOptions, LimitOptions, MakeCommand, ReadCommand, RefineOptions,
+    Select, SparseOptions, StreamCommand, Uv, read_words,
 };
 use std::process::Abort;
 use std::test::Fail;
@@ -30,6 +30,13 @@ macro_rules! sparse {
             select: Select::$select,
             decimals: $decimals,
         })))
+    };
+}
+
+// Limit points with these options.
+macro_rules! limit {
+    ($depth:literal, $decimals:expr) => {
+        Ok(Command::Read(ReadCommand::Limit(LimitOptions { depth: $depth, decimals: $decimals })))
     };
 }
 
@@ -78,6 +85,8 @@ const WORDS: &[Words] = &[
         "stencils depth=3",
         Ok(Command::Read(ReadCommand::Stencils { depth: 3 })),
     ),
+    ("limit depth=1", limit!(1, None)),
+    ("limit decimals=18 depth=10", limit!(10, Some(18))),
     (
         "levels depth=10",
         Ok(Command::Read(ReadCommand::Levels { depth: 10 })),
@@ -92,6 +101,7 @@ const WORDS: &[Words] = &[
     ("", Err(0)),
     ("Refine depth=1", Err(0)),
     ("levels", Err(1)),
+    ("limit depth=0", Err(1)),
     ("refine depth=01", Err(1)),
     ("frames scale=0", Err(2)),
     ("frames depth=0 scale=19", Err(2)),
