@@ -4,13 +4,15 @@
 Texts are made of lines that are good, bad or nearly bad, and of the cube, the unfolded cube with its texture and the
 refined cube with a few changes; they are refined to depth 1 at most. Meshes are those of `tools/random_meshes.py`, many
 with texture; they are refined, by tables and level by level, or have their levels counted or their tables written, to
-depth 3 at most. Each of them has its sparse levels written too, to depth 4 at most. Sheets are made by the program
-itself. Inputs with moves are those of `tools/random_frames.py`. Other meshes, which have no fault, have the points of
-their sparse levels compared with those that the program itself writes of whole levels, by `tools/sparse_points.py`.
-The options are random too. The same seed makes the same words and texts. A text on which the two differ is printed, and
-the exit status is then 1.
+depth 3 at most. Each of them has its sparse levels written too, to depth 4 at most, and its limit points. Sheets are
+made by the program itself. Inputs with moves are those of `tools/random_frames.py`. Other meshes, which have no fault,
+have the points of their sparse levels compared with those that the program itself writes of whole levels, by
+`tools/sparse_points.py`. In other meshes nothing is semi-sharp. They have their limit points compared with the reference,
+and those of level 1 with those of level 3, by `tools/limit_points.py`. More meshes are refined from a text of the program
+and at once, by `tools/continued_refinement.py`. The options are random too. The same seed makes the same words and texts. A
+text on which the two differ is printed, and the exit status is then 1.
 
-    tools/compare_random.py --seed 1 --count 3000 --meshes 1500 --sheets 300 --frames 1200 --points 1000
+    tools/compare_random.py --seed 1 --count 3000 --meshes 1500 --frames 1200 --points 1000 --limits 1000 --continued 1000
 """
 
 import argparse
@@ -23,6 +25,8 @@ from itertools import islice
 from pathlib import Path
 
 import reference
+from continued_refinement import refinement_goes_on
+from limit_points import limits_stay
 from random_frames import Frames
 from random_meshes import Meshes
 from run_reference import Refusal
@@ -41,6 +45,7 @@ SEEDS = ["0", "1", "7", str(2**31 - 1), str(2**31), str(2**32 - 1)]
 SCALES = ["0", "1", "2", "3", "6", "17", "18"]
 BAD_SCALES = ["scale=19", "scale=00", "scale=", "scale", "decimals=1", "depth=1", "Scale=1", "scale=-1"]
 BAD_SPARSE = ["select=", "select=features", "select", "uv=smooth", "uv=", "decimals=19", "depth=1", "by=level", "tags=no"]
+BAD_LIMITS = ["depth=0", "depth=11", "depth=01", "decimals=19", "decimals=", "by=level", "tags=no", "uv=smooth", "depth=1"]
 BAD_SHEETS = ["size=0", "size=257", "seed=-1", f"seed={2**32}", "seed=00", "depth=11", "by=table", "size"]
 OPTIONS = {
     "decimals": ["0", "1", "2", "3", "6", "17", "18"],
@@ -107,6 +112,11 @@ def expected(words, data):
 def is_taken(data):
     """Whether a text has no fault, and neither its mesh nor a count of it has one."""
     return expected(["sparse", "depth=0"], data)[0] == 0
+
+
+def taken(text):
+    """The texts that a call gives, one after another, without those that are not taken."""
+    return filter(is_taken, iter(text, None))
 
 
 _, REFINED_CUBE, _ = expected(REFINE, CUBE)
@@ -267,6 +277,15 @@ class Words:
         self.random.shuffle(options)
         return ["sparse", *options]
 
+    def for_limit(self, data):
+        """The words by which the limit points of a mesh are written, not too far for its corners; now and then with a bad
+        word."""
+        options = [f"depth={max(self.depth_for(corners_of(data), MOST_TABLE_FACES), 1)}"]
+        options += [f"decimals={self.random.choice(OPTIONS['decimals'])}"] if self.random.random() < 0.4 else []
+        options += [self.random.choice(BAD_LIMITS)] if self.random.random() < 0.03 else []
+        self.random.shuffle(options)
+        return ["limit", *options]
+
     def for_frames(self, data):
         """The words by which the control points of a mesh are moved, mostly as finely as the moves have decimals; now and
         then without a scale, or with a bad word."""
@@ -314,22 +333,30 @@ def main():
     parser.add_argument("--program", default=TOP / "crates" / "far_cli" / "out" / "far_cli", help="the program to run")
     parser.add_argument("--seed", type=int, default=1, help="the seed of the texts")
     parser.add_argument("--count", type=int, default=1000, help="how many texts are refined")
-    parser.add_argument("--meshes", type=int, default=1000, help="how many meshes are refined, counted or tabled, and sparse")
+    parser.add_argument("--meshes", type=int, default=1000, help="how many meshes are refined, sparse and in the limit")
     parser.add_argument("--sheets", type=int, default=200, help="how many sheets are made")
     parser.add_argument("--frames", type=int, default=400, help="how many inputs with moves are answered")
     parser.add_argument("--points", type=int, default=100, help="how many meshes have their points compared by two commands")
+    parser.add_argument("--limits", type=int, default=100, help="how many meshes have their limit points compared twice")
+    parser.add_argument("--continued", type=int, default=100, help="how many meshes are refined from texts of the program")
     arguments = parser.parse_args()
-    texts, meshes, words = Texts(arguments.seed), Meshes(arguments.seed), Words(arguments.seed)
-    frames, others = Frames(arguments.seed), Meshes(f"points of {arguments.seed}")
+    seed = arguments.seed
+    texts, meshes, words, frames = Texts(seed), Meshes(seed), Words(seed), Frames(seed)
     mesh_texts = [meshes.text() for _ in range(arguments.meshes)]
+    others, bases = (taken(Meshes(f"{name} of {seed}").text) for name in ("points", "texts"))
+    lasting_texts = list(islice(taken(Meshes(f"limit points of {seed}").lasting_text), arguments.limits))
     lines = agree(arguments.program, "texts", ((words.for_text(), texts.text()) for _ in range(arguments.count)))
     surfaces = agree(arguments.program, "meshes", ((words.for_mesh(data), data) for data in mesh_texts))
     sparse = agree(arguments.program, "sparse levels", ((words.for_sparse(data), data) for data in mesh_texts))
+    limit_runs = ((words.for_limit(data), data) for data in mesh_texts + lasting_texts)
+    limits = agree(arguments.program, "limit points", limit_runs)
     sheets = agree(arguments.program, "sheets", ((words.for_sheet(), b"") for _ in range(arguments.sheets)))
     inputs = (frames.text() for _ in range(arguments.frames))
     moves = agree(arguments.program, "inputs with moves", ((words.for_frames(data), data) for data in inputs))
-    points = points_agree(arguments.program, islice(filter(is_taken, iter(others.text, None)), arguments.points))
-    return 0 if lines and surfaces and sparse and sheets and moves and points else 1
+    points = points_agree(arguments.program, islice(others, arguments.points))
+    stay = limits_stay(arguments.program, lasting_texts)
+    goes_on = refinement_goes_on(arguments.program, islice(bases, arguments.continued))
+    return 0 if all((lines, surfaces, sparse, limits, sheets, moves, points, stay, goes_on)) else 1
 
 
 if __name__ == "__main__":

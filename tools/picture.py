@@ -5,8 +5,8 @@ It reads the texts that `far` writes, whose coordinates may be fractions such as
 `vt`, `f` and `t` lines. The z axis points up. Faces are shaded by the side that they turn to the light, and drawn from
 the farthest to the nearest. Blue is the front of a face and sand its back; of a closed mesh without holes the faces
 that look away are left out. Orange lines are edges that a crease tag names, the wider the sharper; orange dots are
-sharp points; thick dark lines are edges of one face; and holes are not filled. Each mesh has its own scale, but for
-`--one-scale` and `--cage`. A cage is black, and dashed where it looks away.
+sharp points; green dots are points that `--dots` counts; thick dark lines are edges of one face; and holes are not
+filled. Each mesh has its own scale, but for `--one-scale` and `--cage`. A cage is black, and dashed where it looks away.
 
     tools/picture.py examples/cube.obj > cube.svg
     ./far refine depth=3 tags=yes < examples/creased_cube.obj | tools/picture.py --cage examples/creased_cube.obj -
@@ -27,7 +27,7 @@ from picture_mesh import boundary_edges, charts, edge_of, edges_of, is_closed, r
 LIGHT = (-0.35, 0.62, 0.70)  # to the right, up and towards the eye
 FRONT = ((92, 116, 150), (178, 205, 232), (250, 252, 254))  # in the shade, in the light, and turned straight to it
 BACK = ((140, 122, 96), (222, 205, 176), (252, 249, 243))
-EDGE, SHARP, BOUNDARY, SEAM, CAGE = "#41597a", "#e8590c", "#16263d", "#a61e8c", "#1b1f27"
+EDGE, SHARP, BOUNDARY, SEAM, CAGE, DOT = "#41597a", "#e8590c", "#16263d", "#a61e8c", "#1b1f27", "#2b8a3e"
 TEXT = "#5a6b80"
 MARGIN = 0.05
 LETTERS = 30  # how high the line of a caption is
@@ -180,6 +180,7 @@ def marks_in_order(mesh, order, options):
     sharp = [(point, line_of_sharpness(value)) for point, value in mesh.sharp_points.items() if value > 0]
     marks = [(edge, edge, colour, width) for edge, (colour, width) in marked_edges(mesh, options).items()]
     marks += [(point, (point, point), colour, width + 4) for point, (colour, width) in sharp]
+    marks += [(point, (point, point), DOT, 5.0) for point in range(options.dots)]
     after = [[] for _ in order]
     for place, *mark in marks:
         if place in last:
@@ -267,6 +268,7 @@ def arguments():
     parser.add_argument("-o", "--output", help="the file to write; standard output without it")
     parser.add_argument("--one-scale", action="store_true", help="draw all meshes at one scale about one centre")
     parser.add_argument("--cage", action="store_true", help="draw the first mesh as a wire over each other: one scale")
+    parser.add_argument("--dots", type=int, default=0, help="mark the first points of each mesh, so many of them, with dots")
     parser.add_argument("--seams", action="store_true", help="mark the edges at which the texture is cut")
     parser.add_argument("--texture", action="store_true", help="draw the charts of the texture, in their plane")
     parser.add_argument("--columns", type=int, help="how many meshes stand side by side (default all)")

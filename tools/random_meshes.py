@@ -200,6 +200,23 @@ class Meshes:
         sharpness = self.random.choices(SHARPNESSES, k=len(named) if self.happens(0.5) else 1)
         return f"t corner {len(named)}/{len(sharpness)}/0 {' '.join(map(str, named))} {' '.join(sharpness)}"
 
+    def ring(self, faces):
+        """A crease all round a face that is infinitely sharp, so that it ends nowhere."""
+        face = self.random.choice(faces)
+        chain = face + face[:1]
+        return f"t crease {len(chain)}/1/0 {' '.join(map(str, chain))} 10"
+
+    def lasting_tag(self, count, faces):
+        """A tag that makes nothing semi-sharp, and no dart."""
+        kind = self.random.choice(["ring", "ring", "ring", "corner", "mode", "hole"])
+        if kind == "ring":
+            return self.ring(faces)
+        if kind == "corner":
+            return f"t corner 1/1/0 {self.random.randrange(count)} 10"
+        if kind == "hole":
+            return f"t hole 1/0/0 {self.random.randrange(len(faces))}"
+        return f"t interpolateboundary 1/0/0 {self.random.randint(0, 2)}"
+
     def chaikin_tags(self, count, faces):
         """The method chaikin, and creases that it goes by."""
         return ["t creasemethod 0/0/1 chaikin"] + [self.spokes(count, faces) for _ in range(3)]
@@ -267,15 +284,29 @@ class Meshes:
     def plain_face_line(self, face):
         return "f " + " ".join(str(vertex + 1) for vertex in face)
 
-    def text(self):
-        count, faces = self.mesh()
+    def surface_lines(self, count, faces):
+        """The lines of points and faces, many with texture."""
         coordinate = self.coordinates()
         lines = [f"v {coordinate()} {coordinate()} {coordinate()}" for _ in range(count)]
         if faces and self.happens(0.45):
-            lines = self.textured_lines(lines, faces)
-        else:
-            lines += [self.plain_face_line(face) for face in faces]
-        tags = [self.tag(count, faces) for _ in range(self.random.choice([0, 1, 2, 4, 8]))]
-        for tag in tags + (self.chaikin_tags(count, faces) if self.happens(0.2) else []):
+            return self.textured_lines(lines, faces)
+        return lines + [self.plain_face_line(face) for face in faces]
+
+    def with_tags(self, lines, tags):
+        """The text of lines with tags somewhere among them."""
+        for tag in tags:
             lines.insert(self.random.randint(0, len(lines)), tag)
         return "".join(line + "\n" for line in lines).encode()
+
+    def text(self):
+        count, faces = self.mesh()
+        lines = self.surface_lines(count, faces)
+        tags = [self.tag(count, faces) for _ in range(self.random.choice([0, 1, 2, 4, 8]))]
+        return self.with_tags(lines, tags + (self.chaikin_tags(count, faces) if self.happens(0.2) else []))
+
+    def lasting_text(self):
+        """A mesh in which nothing is semi-sharp, and whose tags make no dart."""
+        count, faces = self.mesh()
+        lines = self.surface_lines(count, faces)
+        tags = [self.lasting_tag(count, faces) for _ in range(self.random.choice([0, 1, 2, 4]) if faces else 0)]
+        return self.with_tags(lines, tags)

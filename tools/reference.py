@@ -1,7 +1,7 @@
 #!/usr/bin/env python3
 """A plain, slow reference of the program: of `far refine`, and through `tools/level_reference.py` of `far levels`,
-`tools/sparse_reference.py` of `far sparse`, `tools/table_reference.py` of `far stencils` and `far gen`, and
-`tools/frames_reference.py` of `far frames`.
+`tools/sparse_reference.py` of `far sparse`, `tools/table_reference.py` of `far stencils` and `far gen`,
+`tools/limit_reference.py` of `far limit`, and `tools/frames_reference.py` of `far frames`.
 
 It is written from the definitions of `far_model` (Answer) and `subdiv_model` (Text, and those that the other references
 name), with `fractions.Fraction` for every value, and shares nothing with the program. It takes the
@@ -18,6 +18,7 @@ from math import inf
 
 from frames_reference import frame_texts
 from level_reference import accepted, levels_text, sharp_edges
+from limit_reference import limit_text
 from mask_reference import positions_of, refined
 from run_reference import read_mesh, run, understood
 from sparse_reference import sparse_text
@@ -83,6 +84,7 @@ def refined_text(obj, options):
 TEXTS_OF_MESH = {
     b"refine": refined_text,
     b"stencils": lambda obj, options: table_text(obj, depth_of(options)),
+    b"limit": lambda obj, options: limit_text(obj, depth_of(options), decimals_of(options)),
     b"levels": lambda obj, options: levels_text(obj, depth_of(options)),
     b"sparse": lambda obj, options: sparse_text(obj, depth_of(options), rule_of(options), decimals_of(options)),
 }

@@ -37,6 +37,8 @@ t hole 1/0/0 2
 t creasemethod 0/0/1 chaikin
 """
 
+RING = b"t crease 5/1/0 0 1 3 2 0 10\n"
+
 
 def example(name):
     return (TOP / "examples" / name).read_bytes()
@@ -57,6 +59,8 @@ def runs():
     yield "levels depth=1", cube
     yield "sparse depth=2", tagged
     yield "sparse depth=1 select=all", unfolded
+    yield "limit depth=2", cube + RING
+    yield "limit depth=1 decimals=2", tagged
     yield "gen seed=7 size=2 depth=1", b""
     yield "refine depth=1 tags=maybe", cube
     yield "refine depth=1", cube + b"v 1 2\n"

@@ -7,7 +7,7 @@ import sys
 from obj_reference import Fault, read_obj
 
 GREATEST_INPUT = 2**28
-NOT_UNDERSTOOD, TOO_LONG, BAD_LINE, BAD_MESH, TOO_LARGE, OVERFLOW = 2, 4, 5, 6, 7, 8
+NOT_UNDERSTOOD, TOO_LONG, BAD_LINE, BAD_MESH, TOO_LARGE, OVERFLOW, NO_LIMIT = 2, 4, 5, 6, 7, 8, 9
 
 
 class Numbers:
@@ -32,6 +32,7 @@ OPTIONS = {
         b"tags": [b"no", b"yes"],
     },
     b"stencils": DEPTH,
+    b"limit": {b"depth": Numbers(1, 10), b"decimals": Numbers(0, 18)},
     b"frames": {**DEPTH, b"scale": Numbers(0, 18)},
     b"levels": DEPTH,
     b"sparse": {**DEPTH, b"select": [b"feature", b"all"], b"decimals": Numbers(0, 18), b"uv": [b"none"]},

@@ -140,9 +140,9 @@ PLANTS = [
     ),
     Plant(
         "docs/formats.md",
+        "has seven commands",
         "has six commands",
-        "has five commands",
-        "command gen: missing in docs/formats.md: how many commands there are, six",
+        "command gen: missing in docs/formats.md: how many commands there are, seven",
         ("--command", "gen"),
     ),
     Plant(

@@ -45,6 +45,8 @@ def runs():
     yield ["levels", "depth=1"], dog
     yield ["stencils", "depth=1"], cube
     yield ["sparse", "depth=3"], content("examples/creased_cube.obj")
+    yield ["limit", "depth=2", "decimals=3"], unfolded
+    yield ["limit", "depth=1"], content("examples/creased_cube.obj")
     yield ["frames", "depth=1"], cube + MOVES
     yield ["gen", "seed=7", "size=4", "depth=2"], b""
     yield ["refine", "depth=3"], b""
