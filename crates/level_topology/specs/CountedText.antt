@@ -1,7 +1,7 @@
 -- What there is too much of, seen as that of the definitions.
 use Rattle.subdiv_model.specs.Fault as model
 use Rattle.level_topology.specs.declared.counted.Counted.{Counted}
-use Rattle.level_topology.specs.declared.counted.Counted.TheVariants.{Points, Faces, FaceSize, Valence, LevelFaces, Entries, LimitEntries}
+use Rattle.level_topology.specs.declared.counted.Counted.TheVariants.{Points, Faces, FaceSize, Valence, LevelFaces, Entries, LimitEntries, PatchEntries}
 
 abbrev pub counted_of : Counted → model.Counted
 counted_of (Points count) = model.Points count
@@ -11,3 +11,4 @@ counted_of (Valence vertex count) = model.Valence vertex count
 counted_of (LevelFaces level count) = model.LevelFaces level count
 counted_of (Entries level) = model.Entries level
 counted_of LimitEntries = model.LimitEntries
+counted_of PatchEntries = model.PatchEntries

@@ -24,6 +24,8 @@ pub enum Counted {
     Entries { level: u32 },
     /// The entries of the limit rows.
     LimitEntries,
+    /// The entries of the rows of a patch.
+    PatchEntries,
 }
 
 impl Counted {
@@ -47,6 +49,7 @@ impl Counted {
                 Pieces::about("level ", u64::from(level), " has too many entries")
             }
             Counted::LimitEntries => Pieces::plain("the limit rows have too many entries"),
+            Counted::PatchEntries => Pieces::plain("the patch rows have too many entries"),
         }
     }
 }
