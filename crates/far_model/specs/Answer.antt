@@ -21,8 +21,9 @@ use Rattle.subdiv_model.specs.Sparse.{Meeting, meeting_to}
 use Rattle.subdiv_model.specs.SparseFaults.{sparse_faults}
 use Rattle.subdiv_model.specs.SparseText.{sparse_text}
 use Rattle.subdiv_model.specs.Limit.{limit_faults, limit_points}
+use Rattle.subdiv_model.specs.Patch.{patch_faults, patch_text}
 use Rattle.subdiv_model.specs.Generator.{generated_mesh}
-use Rattle.far_model.specs.Command.{Command, Reads, Makes, Streams, ReadCommand, Refine, Sparse, Stencils, Limit, Levels, MakeCommand, Gen, StreamCommand, Frames, RefineOptions, SparseOptions, LimitOptions, FramesOptions, Select, FeatureFaces, AllFaces, Uv, SmoothUv, CornersUv, BoundariesUv, LinearUv, By, ByTable, ByLevel, read_words}
+use Rattle.far_model.specs.Command.{Command, Reads, Makes, Streams, ReadCommand, Refine, Sparse, Stencils, Limit, Levels, Patch, MakeCommand, Gen, StreamCommand, Frames, RefineOptions, SparseOptions, LimitOptions, PatchOptions, FramesOptions, Select, FeatureFaces, AllFaces, Uv, SmoothUv, CornersUv, BoundariesUv, LinearUv, By, ByTable, ByLevel, read_words}
 use Rattle.subdiv_model.specs.Limits.{count_faults, level_count_faults}
 use Rattle.subdiv_model.specs.Fault.{Fault, Usage, Long, Obj, Mesh, Positions, Texture}
 use Rattle.far_model.specs.Refusal.{Answer, refused, answer_unless}
@@ -102,6 +103,10 @@ table_faults depth mesh = level_count_faults mesh.faces depth ++ channel_faults 
 abbrev pub limit_mesh_faults : LimitOptions → ObjMesh → List Fault
 limit_mesh_faults options mesh = table_faults options.depth mesh ++ limit_faults (positions_of mesh) options.depth
 
+-- the faults of a table of the positions, and of the rows of a patch
+abbrev pub patch_mesh_faults : PatchOptions → ObjMesh → List Fault
+patch_mesh_faults options mesh = table_faults options.depth mesh ++ patch_faults (positions_of mesh) options.depth options.face options.grid
+
 -- the faults that a command has with a mesh that is accepted, in their order
 abbrev pub command_faults : ReadCommand → ObjMesh → List Fault
 command_faults (Refine options) mesh = level_count_faults mesh.faces options.depth ++ refine_faults options mesh
@@ -109,6 +114,7 @@ command_faults (Sparse options) mesh = sparse_mesh_faults options mesh
 command_faults (Stencils depth) mesh = table_faults depth mesh
 command_faults (Limit options) mesh = limit_mesh_faults options mesh
 command_faults (Levels depth) mesh = level_count_faults mesh.faces depth ++ channel_faults Sharpnesses (positions_of mesh) Positions depth
+command_faults (Patch options) mesh = patch_mesh_faults options mesh
 
 -- the mesh that a command makes, and the faults that it has with it
 abbrev pub made_mesh : MakeCommand → ObjMesh
@@ -138,6 +144,10 @@ limit_points_after mesh depth = limit_points (base_level mesh) mesh.common mesh.
 abbrev pub limit_mesh_text : LimitOptions → ObjMesh → List ℕ
 limit_mesh_text options mesh =
     mesh_text options.decimals false (refined_level (base_level mesh) options.depth) (limit_points_after mesh options.depth)
+
+-- the points of the patch of a face at a depth
+abbrev pub patch_mesh_text : PatchOptions → ObjMesh → List ℕ
+patch_mesh_text options mesh = patch_text (base_level mesh) options.face options.grid mesh.common mesh.points options.depth
 
 -- the tags of a level, where they are asked for
 abbrev pub written_tags : Bool → Level → List ℕ
@@ -176,6 +186,7 @@ command_text (Sparse options) mesh = sparse_text options.decimals (points_after 
 command_text (Stencils depth) mesh = table_text (base_level mesh) CatmullClark depth
 command_text (Limit options) mesh = limit_mesh_text options mesh
 command_text (Levels depth) mesh = levels_text (base_level mesh) depth
+command_text (Patch options) mesh = patch_mesh_text options mesh
 
 abbrev pub made_text : MakeCommand → List ℕ
 made_text (Gen options) = generated_text (generated_mesh options.seed options.size) options.depth

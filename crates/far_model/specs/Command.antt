@@ -1,6 +1,6 @@
 -- Commands as values: the words of a command line with its options filled in.
 -- Source: this profile.
-use Rattle.std.specs.Prelude.{ℕ, ◌≤◌, Bool, List, [], ◌∷◌, Option, Some, None, Result, Ok, Err, bytes_eq, codes, unwrap_or, IfSome, if◌then◌else◌}
+use Rattle.std.specs.Prelude.{ℕ, ◌<◌, ◌≤◌, ◌^◌, Bool, List, [], ◌∷◌, Option, Some, None, Result, Ok, Err, bytes_eq, codes, unwrap_or, IfSome, if◌then◌else◌}
 use Rattle.far_model.specs.Words.{CommandRule, command_table, usage_of, value_of, number_of, required_number}
 
 -- how the texture is cut and refined
@@ -43,6 +43,12 @@ pub record LimitOptions : Type 0 where
   -- rounded to so many decimals, or else in lowest terms
   pub decimals : Option ℕ
 
+-- what `patch` is asked for: the depth, a face of the level there, and how many steps its grid has along a side
+pub record PatchOptions : Type 0 where
+  pub depth : ℕ
+  pub face : ℕ
+  pub grid : ℕ
+
 -- what `gen` is asked for: the sheet, and the depth
 pub record GenOptions : Type 0 where
   pub seed : ℕ
@@ -63,6 +69,7 @@ pub data ReadCommand : Type 0 where
   Limit : LimitOptions → ReadCommand
   -- the depth
   Levels : ℕ → ReadCommand
+  Patch : PatchOptions → ReadCommand
 
 -- the commands that make their mesh, and read nothing
 pub data MakeCommand : Type 0 where
@@ -113,6 +120,13 @@ sparse_of options = record {
 abbrev pub limit_of : List (List ℕ) → LimitOptions
 limit_of options = record { depth = required_number options (codes "depth"); decimals = number_of options (codes "decimals") }
 
+abbrev pub patch_of : List (List ℕ) → PatchOptions
+patch_of options = record {
+  depth = required_number options (codes "depth");
+  face = required_number options (codes "face");
+  grid = required_number options (codes "grid");
+}
+
 abbrev pub gen_of : List (List ℕ) → GenOptions
 gen_of options = record {
   seed = required_number options (codes "seed");
@@ -132,6 +146,7 @@ command_named name options =
     else if bytes_eq name (codes "limit") then Reads (Limit (limit_of options))
     else if bytes_eq name (codes "frames") then Streams (Frames (frames_of options))
     else if bytes_eq name (codes "levels") then Reads (Levels (required_number options (codes "depth")))
+    else if bytes_eq name (codes "patch") then Reads (Patch (patch_of options))
     else Makes (Gen (gen_of options))
 
 abbrev pub command_of : List (List ℕ) → Command
@@ -150,13 +165,14 @@ abbrev pub read_words : List (List ℕ) → Result Command ℕ
 read_words words = read_words_by command_table words
 
 -- the numbers of a command are those that the table of words allows: a depth of at most 10 (of limit points, at least 1), at most 18
--- decimals, a size from 1 to 256, and a scale of at most 18
+-- decimals, a face below 2^22, a grid from 1 to 64, a size from 1 to 256, and a scale of at most 18
 abbrev pub IsReadInRange : ReadCommand → Type 0
 IsReadInRange (Refine options) = (options.depth ≤ 10) × IfSome options.decimals (λ digits. digits ≤ 18)
 IsReadInRange (Sparse options) = (options.depth ≤ 10) × IfSome options.decimals (λ digits. digits ≤ 18)
 IsReadInRange (Stencils depth) = depth ≤ 10
 IsReadInRange (Limit options) = (1 ≤ options.depth) × (options.depth ≤ 10) × IfSome options.decimals (λ digits. digits ≤ 18)
 IsReadInRange (Levels depth) = depth ≤ 10
+IsReadInRange (Patch options) = (options.depth ≤ 10) × (options.face < 2 ^ 22) × (1 ≤ options.grid) × (options.grid ≤ 64)
 
 abbrev pub IsMakeInRange : MakeCommand → Type 0
 IsMakeInRange (Gen options) = (1 ≤ options.size) × (options.size ≤ 256) × (options.depth ≤ 10)

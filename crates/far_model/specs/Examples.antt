@@ -32,3 +32,7 @@ echo_rule = record {
   unclosed = λ before bytes. if nat_lt 2 (length bytes) then Some (Obj (record { line = length before + 1; cause = LongLine })) else None;
   end = λ lines. answer_unless None (number_text (length lines));
 }
+
+-- a sheet of three by three quads, at the squares of their places in a row
+abbrev pub curved_sheet_text : List ℕ
+curved_sheet_text = codes "v 0 0 0\nv 1 0 1\nv 2 0 4\nv 3 0 9\nv 0 1 0\nv 1 1 1\nv 2 1 4\nv 3 1 9\nv 0 2 0\nv 1 2 1\nv 2 2 4\nv 3 2 9\nv 0 3 0\nv 1 3 1\nv 2 3 4\nv 3 3 9\nf 1 2 6 5\nf 2 3 7 6\nf 3 4 8 7\nf 5 6 10 9\nf 6 7 11 10\nf 7 8 12 11\nf 9 10 14 13\nf 10 11 15 14\nf 11 12 16 15\n"

@@ -7,11 +7,11 @@ ghost use Rattle.std.specs.Prelude.{◌≡◌, List, [], ◌∷◌, ◌++◌, ma
 ghost use Rattle.subdiv_model.specs.Limits.{count_faults, level_count_faults};
 ghost use Rattle.far_model.specs.Answer.{answer, answer_of_made, answer_of_mesh, made_mesh};
 ghost use Rattle.subdiv_model.specs.Base.{base_level};
-ghost use Rattle.far_model.specs.Examples.{first_texture};
+ghost use Rattle.far_model.specs.Examples.{curved_sheet_text, first_texture};
 ghost use Rattle.subdiv_model.specs.ExampleTexts.{corner_cube_refined_text, cube_text, hidden_square_refined_text, refined_square_points_text, refined_square_text, seamed_text, sharp_square_refined_text, sheet_summary_text, square_text, tagged_cube_text};
 ghost use Rattle.far_model.specs.Command.{MakeCommand, ReadCommand};
 ghost use Rattle.subdiv_model.specs.Examples.{cube};
-ghost use Rattle.subdiv_model.specs.Fault.{ChaikinOverflow, Dart, Entries, Fault, FaceSize, LevelFaces, Limit, Long, Memory, Mesh, Obj, Overflow, Positions, Read, SemiSharp, Texture, TooLarge, TransitionOverflow, Usage, Valence, ValueOverflow, Write, fault_line, fault_status, outcome_status};
+ghost use Rattle.subdiv_model.specs.Fault.{ChaikinOverflow, Dart, Entries, Fault, FaceSize, LevelFaces, Limit, Long, Memory, Mesh, NoFace, NotRegular, Obj, Overflow, Place, Positions, Read, SemiSharp, Texture, TooLarge, TransitionOverflow, Usage, Valence, ValueOverflow, Write, fault_line, fault_status, outcome_status};
 ghost use Rattle.subdiv_model.specs.Generator.{draws_from, generated_mesh, sheet_faces};
 ghost use Rattle.subdiv_model.specs.MeshFault.{NonManifoldEdge, RepeatedVertex, SplitVertex};
 ghost use Rattle.subdiv_model.specs.ObjFault.{BadTag, UnknownKeyword};
@@ -73,6 +73,17 @@ pub fn limit_points_of_meshes()
     ensures depth { (answer (codes "limit" ∷ codes "depth=0" ∷ []) square_text).refusal ≡ Some (Usage 1) }
     ensures line { fault_line (Limit (SemiSharp 0)) ≡ codes "far: vertex 0 is semi-sharp\n" }
     ensures status { fault_status (Limit (Dart 0)) ≡ 9 }
+{}
+
+/// The patch of the middle quad of a sheet, and quads that have none.
+pub fn patches_of_a_sheet()
+    ensures start { take 83 (answer (codes "patch" ∷ codes "depth=0" ∷ codes "face=4" ∷ codes "grid=2" ∷ []) curved_sheet_text).text
+        ≡ codes "patch face 4 grid 2\ns 0 0 1 1 4/3\ns 1 0 3/2 1 31/12\ns 2 0 2 1 13/3\ns 0 1 1 3/2 4/3\n" }
+    ensures whole { (answer (codes "patch" ∷ codes "grid=2" ∷ codes "face=4" ∷ codes "depth=0" ∷ []) curved_sheet_text).refusal ≡ None }
+    ensures rim { answer (codes "patch" ∷ codes "depth=0" ∷ codes "face=0" ∷ codes "grid=2" ∷ []) curved_sheet_text ≡ record { text = []; refusal = Some (Place (NotRegular 0)) } }
+    ensures past { (answer (codes "patch" ∷ codes "depth=0" ∷ codes "face=9" ∷ codes "grid=1" ∷ []) curved_sheet_text).refusal ≡ Some (Place (NoFace 9)) }
+    ensures grid { (answer (codes "patch" ∷ codes "depth=0" ∷ codes "face=4" ∷ codes "grid=65" ∷ []) curved_sheet_text).refusal ≡ Some (Usage 3) }
+    ensures missing { (answer (codes "patch" ∷ codes "depth=0" ∷ codes "grid=1" ∷ []) curved_sheet_text).refusal ≡ Some (Usage 3) }
 {}
 
 /// The first refusal that applies.
