@@ -6,20 +6,27 @@ use Rattle.level_topology.specs.CountedText.{counted_of}
 use Rattle.mesh_check.specs.View.{mesh_fault_of}
 use Rattle.level_walk.specs.View.{kind_of}
 use Rattle.far_fault.specs.declared.fault.Track.{Track}
-use Rattle.far_fault.specs.declared.fault.Track.TheVariants.{Positions, Texture, LimitRows}
+use Rattle.far_fault.specs.declared.fault.Track.TheVariants.{Positions, Texture, LimitRows, Patch}
 use Rattle.far_fault.specs.declared.fault.LimitCause.{LimitCause}
 use Rattle.far_fault.specs.declared.fault.LimitCause.TheVariants.{Dart, SemiSharp}
+use Rattle.far_fault.specs.declared.fault.PlaceFault.{PlaceFault}
+use Rattle.far_fault.specs.declared.fault.PlaceFault.TheVariants.{NoFace, NotRegular}
 use Rattle.far_fault.specs.declared.fault.FarFault.{FarFault}
-use Rattle.far_fault.specs.declared.fault.FarFault.TheVariants.{Usage, Read, Long, Obj, Mesh, TooLarge, Overflow, Limit, Write, Memory}
+use Rattle.far_fault.specs.declared.fault.FarFault.TheVariants.{Usage, Read, Long, Obj, Mesh, TooLarge, Overflow, Limit, Place, Write, Memory}
 
 abbrev pub track_of : Track → model.Track
 track_of Positions = model.Positions
 track_of Texture = model.Texture
 track_of LimitRows = model.LimitRows
+track_of Patch = model.Patch
 
 abbrev pub limit_cause_of : LimitCause → model.LimitCause
 limit_cause_of (Dart v) = model.Dart v
 limit_cause_of (SemiSharp v) = model.SemiSharp v
+
+abbrev pub place_fault_of : PlaceFault → model.PlaceFault
+place_fault_of (NoFace count) = model.NoFace count
+place_fault_of (NotRegular face) = model.NotRegular face
 
 abbrev pub fault_of : FarFault → model.Fault
 fault_of (Usage word) = model.Usage word
@@ -30,6 +37,7 @@ fault_of (Mesh fault) = model.Mesh (mesh_fault_of fault)
 fault_of (TooLarge counted) = model.TooLarge (counted_of counted)
 fault_of (Overflow track level kind) = model.Overflow (track_of track) level (kind_of kind)
 fault_of (Limit cause) = model.Limit (limit_cause_of cause)
+fault_of (Place fault) = model.Place (place_fault_of fault)
 fault_of Write = model.Write
 fault_of Memory = model.Memory
 

@@ -1,9 +1,9 @@
 //! The faults of a run.
 
 ghost use Rattle.std.specs.Prelude.{◌≡◌, ◌++◌, codes, Some};
-ghost use Rattle.subdiv_model.specs.Fault.{fault_text, fault_status, kind_text, limit_cause_text, track_text};
+ghost use Rattle.subdiv_model.specs.Fault.{fault_text, fault_status, kind_text, limit_cause_text, place_fault_text, track_text};
 ghost use Rattle.level_walk.specs.View.{kind_of};
-ghost use Rattle.far_fault.specs.View.{fault_of, limit_cause_of, track_of};
+ghost use Rattle.far_fault.specs.View.{fault_of, limit_cause_of, place_fault_of, track_of};
 
 use level_topology::Counted;
 use level_walk::OverflowKind;
@@ -22,6 +22,8 @@ pub enum Track {
     Texture,
     /// The rows of limit points.
     LimitRows,
+    /// The rows of a patch.
+    Patch,
 }
 
 /// Why a point of a level has no limit point. The field is the point, counted from 0.
@@ -31,6 +33,15 @@ pub enum LimitCause {
     Dart(u32),
     /// The point or an edge at it is semi-sharp.
     SemiSharp(u32),
+}
+
+/// Why a place on a level has no answer. Faces are counted from 0.
+#[derive(Clone, Copy, Debug, PartialEq, Eq)]
+pub enum PlaceFault {
+    /// The level has no face of the number that is asked for. `count` is how many it has.
+    NoFace { count: u32 },
+    /// The face is no quad, or one of its corners is at the boundary, sharp, or without four quads around it.
+    NotRegular { face: u32 },
 }
 
 /// The fault of a run. Each fault has a status and a line on standard error.
@@ -55,8 +66,8 @@ pub enum FarFault {
     /// The mesh is a manifold, and a count passes its limit. The field is the first such count. It counts levels from 1, and faces
     /// and vertices from 0.
     TooLarge(Counted),
-    /// A number passes its bound. `track` names the values, `level` is the first such level, counted from 1, and `kind` names the
-    /// number.
+    /// A number passes its bound. `track` names the values, `level` is the first such level, and `kind` names the number. The level
+    /// is at least 1, and 0 only where the rows of a patch lie on the mesh itself.
     Overflow {
         track: Track,
         level: u32,
@@ -64,6 +75,8 @@ pub enum FarFault {
     },
     /// A point has no limit point. The field names the least such point.
     Limit(LimitCause),
+    /// A place on the last level has no answer.
+    Place(PlaceFault),
     /// A write or a flush failed.
     Write,
     /// Memory ran out.
@@ -80,7 +93,7 @@ impl From<Memory> for FarFault {
     }
 }
 
-/// Returns the exit status of a fault, from 2 to 11, as `docs/formats.md` lists it.
+/// Returns the exit status of a fault, from 2 to 11 or 13, as `docs/formats.md` lists it.
 pub fn status(fault: &FarFault) -> u8
     ensures { result ≡ fault_status (fault_of fault.now) }
 {
@@ -93,6 +106,7 @@ pub fn status(fault: &FarFault) -> u8
         FarFault::TooLarge(_) => 7,
         FarFault::Overflow { .. } => 8,
         FarFault::Limit(_) => 9,
+        FarFault::Place(_) => 13,
         FarFault::Write => 10,
         FarFault::Memory => 11,
     }
@@ -106,6 +120,7 @@ fn track_words(track: Track) -> &'static str
         Track::Positions => "positions level ",
         Track::Texture => "texture level ",
         Track::LimitRows => "limit level ",
+        Track::Patch => "patch level ",
     }
 }
 
@@ -131,6 +146,18 @@ fn limit_pieces(cause: LimitCause) -> Pieces
     }
 }
 
+// Returns the words of a place that has no answer.
+fn place_pieces(fault: PlaceFault) -> Pieces
+    ensures { result ≡ place_fault_text (place_fault_of fault) }
+{
+    match fault {
+        PlaceFault::NoFace { count } => Pieces::about("there are ", count as u64, " faces"),
+        PlaceFault::NotRegular { face } => {
+            Pieces::about("face ", face as u64, " is not a regular inner face")
+        }
+    }
+}
+
 impl FarFault {
     /// Returns the words of the fault, without `far: ` and the end of line.
     pub fn pieces(&self) -> Pieces
@@ -147,6 +174,7 @@ impl FarFault {
                 Pieces::about(track_words(track), level as u64, kind_words(kind))
             }
             FarFault::Limit(cause) => limit_pieces(cause),
+            FarFault::Place(fault) => place_pieces(fault),
             FarFault::Write => Pieces::plain("writing failed"),
             FarFault::Memory => Pieces::plain(Memory.text()),
         }

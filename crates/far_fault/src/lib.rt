@@ -5,7 +5,7 @@ mod fault;
 mod line;
 mod walk;
 
-pub use fault::{FarFault, LimitCause, Track, status};
+pub use fault::{FarFault, LimitCause, PlaceFault, Track, status};
 pub use level_walk::OverflowKind;
 pub use line::report;
 pub use walk::fault_of_walk;
