@@ -27,8 +27,8 @@ fn multiple(m: u128, c: u128) -> u128
     lcm_within(m, c, NUMBER_BOUND).unwrap_or(0)
 }
 
-/// The least common multiple of two denominators.
-pub(crate) fn joined(m: u128, c: u128) -> u128
+/// The least common multiple of two common denominators, each of which is 0 where it passes 2^126 - 1. So is the answer. It takes no memory.
+pub fn common_multiple(m: u128, c: u128) -> u128
     ensures { (a b : ℕ) → 0 < a → 0 < b → m ≡ within_bound a → c ≡ within_bound b → result ≡ within_bound (lcm_of a b) }
 {
     if c == m || c == 1 {

@@ -9,7 +9,7 @@ ghost use Rattle.subdiv_model.specs.Channel.{number_bound};
 ghost use Rattle.child_masks.specs.Survey.{within_bound};
 ghost use Rattle.child_masks.specs.Found.{ArePointDenominators, AreFaceDenominators};
 
-use crate::common::{joined, scaled};
+use crate::common::{common_multiple, scaled};
 use level_topology::Level;
 use mask_rules::face_mask;
 use ratio128::Memory;
@@ -24,7 +24,7 @@ fn multiple_of_points(points: &[u32], dens: &[u128]) -> u128
 {
     let mut multiple = 1;
     for v in points {
-        multiple = joined(multiple, dens[*v as usize]);
+        multiple = common_multiple(multiple, dens[*v as usize]);
     }
     multiple
 }

@@ -13,6 +13,7 @@ mod survey;
 mod terms;
 mod transition;
 
+pub use common::common_multiple;
 pub use fault::SurveyFault;
 pub use kept::{KeptMask, KeptMasks};
 pub use masks::{PointMask, TermMask};

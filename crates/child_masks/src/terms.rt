@@ -8,7 +8,7 @@ ghost use Rattle.mask_rules.specs.View.{source_of, term_of, terms_of};
 ghost use Rattle.child_masks.specs.Survey.{within_bound};
 ghost use Rattle.child_masks.specs.Found.{IsAmong, IsFaceAmong, Tell, AreMarked};
 
-use crate::common::joined;
+use crate::common::common_multiple;
 use mask_rules::{At, Term};
 
 // The denominator of a source, from those of the points and of the new points of the faces.
@@ -30,7 +30,7 @@ pub(crate) fn multiple_of_terms(terms: &[Term], dens: &[u128], faces: &[u128]) -
 {
     let mut multiple = 1;
     for term in terms {
-        multiple = joined(multiple, denominator_at(term.at, dens, faces));
+        multiple = common_multiple(multiple, denominator_at(term.at, dens, faces));
     }
     multiple
 }

@@ -3,7 +3,7 @@ use Rattle.child_masks.proofs.terms.multiple_of_terms.Goals as goal
 
 pub loop-term-preserved : goal.loop-term-preserved
 loop-term-preserved c denominator tell =
-    multiple-more denominator _ _ tell c.args.terms.now _ _ _ _ _ c.requires c.loop-term-test.true (c.loop-term.invariant denominator tell) (c.denominator_at.ensures denominator tell) c.joined-multiple.ensures
+    multiple-more denominator _ _ tell c.args.terms.now _ _ _ _ _ c.requires c.loop-term-test.true (c.loop-term.invariant denominator tell) (c.denominator_at.ensures denominator tell) c.common_multiple-multiple.ensures
 
 pub returns : goal.returns
 returns c denominator tell =

@@ -1,7 +1,7 @@
 use Rattle.std.proofs.Common.{arith, sym, ◌∙◌}
 use Rattle.child_masks.proofs.WithinLemmas.{joined-same, joined-one, joined-first, joined-second, joined-absorbs, joined-taken_in, joined-exact}
-use Rattle.child_masks.proofs.common.joined.Goals.{then-c-m-via-then-c-m, then-c-m-via-else-c-m+then-c-eq1, then-m-eq0-via-then-m-eq0, then-m-eq0-via-else-m-eq0+then-c-eq0}
-use Rattle.child_masks.proofs.common.joined.Goals as goal
+use Rattle.child_masks.proofs.common.common_multiple.Goals.{then-c-m-via-then-c-m, then-c-m-via-else-c-m+then-c-eq1, then-m-eq0-via-then-m-eq0, then-m-eq0-via-else-m-eq0+then-c-eq0}
+use Rattle.child_masks.proofs.common.common_multiple.Goals as goal
 
 pub returns-then-c-m : goal.returns-then-c-m
 returns-then-c-m c a b first second h k = elim c.then-c-m.branch [
