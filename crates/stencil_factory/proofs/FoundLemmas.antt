@@ -1,25 +1,26 @@
 -- The denominators of rows, found one after another.
-use Rattle.std.proofs.Common.{◌≡◌, ℕ, ◌+◌, ◌<◌, ◌≤◌, zero, suc, List, [], ◌∷◌, ◌++◌, length, map, get_or, take, arith, refl, ap, sym, ◌∙◌, subst}
+use Rattle.std.proofs.Common.{◌≡◌, ℕ, ◌+◌, ◌<◌, ◌≤◌, zero, suc, Bool, true, false, nat_lt, List, [], ◌∷◌, ◌++◌, length, map, get_or, take, arith, lit<, refl, ap, sym, ◌∙◌, subst}
 use Rattle.std.specs.List.{All, fold, take-map}
 use Rattle.std.proofs.lemmas.Bool.Decides.{nat_tests}
 use Rattle.std.proofs.lemmas.List.{length-map, get_or-map, get_or-take, get_or_default, length-take-le, map-append, take_more, take_all}
-use Rattle.std.proofs.lemmas.List.Elements.{recursion_from_All, All-from_recursion}
+use Rattle.std.proofs.lemmas.List.Sums.{fold-append}
+use Rattle.std.proofs.lemmas.List.Elements.{filter-append, recursion_from_All, All-from_recursion}
 use Rattle.subdiv_model.specs.Level.{Level}
 use Rattle.subdiv_model.specs.Mask.{Mask}
 use Rattle.subdiv_model.specs.Multiples.{lcm_of, lcm_of_all}
 use Rattle.subdiv_model.specs.Refined.{mask_denominator, source_denominator}
 use Rattle.subdiv_model.specs.Channel.{number_bound}
-use Rattle.number_laws.proofs.MultipleLemmas.{lcm_of_all-positive, product-positive}
+use Rattle.number_laws.proofs.MultipleLemmas.{lcm_of_all-positive, fold-lcm-positive}
 use Rattle.child_masks.specs.Masks.{IsFirstDenominator}
 use Rattle.child_masks.specs.Survey.{within_bound}
 use Rattle.child_masks.proofs.DenLemmas.{dens-positive}
-use Rattle.child_masks.proofs.FoldLemmas.{ArePositive, joined-more, joined-all}
+use Rattle.child_masks.proofs.FoldLemmas.{ArePositive, joined-all}
 use Rattle.child_masks.proofs.WithinLemmas.{within-kept, within-some, within-zero}
 use Rattle.stencil_apply.specs.Table.{Share, Table}
 use Rattle.stencil_factory.specs.Rows.{support_of, dens_of}
 use Rattle.stencil_factory.specs.MaskRows.{no_mask, mask_at, mask_dens, AreRowDenominators}
-use Rattle.stencil_factory.specs.Joined.{AreJoined}
-use Rattle.stencil_factory.proofs.PointLemmas.{joined-den, joined-positive}
+use Rattle.stencil_factory.specs.Joined.{weighing}
+use Rattle.stencil_factory.proofs.WeighingLemmas.{weighing-some, weighing-none}
 use Rattle.stencil_factory.proofs.WeightLemmas.{all-join}
 
 -- The denominators of points.
@@ -31,33 +32,55 @@ module _ (dens : List ℕ) (positive : All (λ den. 0 < den) dens) where
   read-positive [] = tt
   read-positive (v ∷ points) = (dens-positive dens positive v, read-positive points)
 
-  common-positive : (points : List ℕ) → 0 < lcm_of_all (read points)
-  common-positive points = lcm_of_all-positive (read points) (read-positive points)
+  -- of the points that weigh something
+  abbrev kept : List Share → List ℕ
+  kept weights = read (support_of (weighing weights))
 
-  -- the least common multiple with a point more
-  pub points-more : (points : List ℕ) → All (λ v. v < length dens) points → All (λ den. den ≤ number_bound) dens → (i m r : ℕ) → i < length points
-      → m ≡ within_bound (fold lcm_of 1 (take i (read points)))
-      → ((a b : ℕ) → 0 < a → 0 < b → m ≡ within_bound a → get_or dens (get_or points i 0) 0 ≡ within_bound b → r ≡ within_bound (lcm_of a b))
-      → r ≡ within_bound (fold lcm_of 1 (take (i + 1) (read points)))
-  points-more points inside short i m r below h joined =
-      let own = get_or points i 0 in
-      let there : own < length dens = inside i 0 below in
-      let same : get_or dens own 0 ≡ get_or dens own 1 = get_or_default dens own 0 1 there in
-      let at : get_or (read points) i 1 ≡ get_or dens own 1 = get_or-map (λ v. get_or dens v 1) points i 0 1 below in
-      joined-more (read points) i m (get_or dens own 0) r (read-positive points) (subst (λ n. i < n) (sym (length-map points (λ v. get_or dens v 1))) below) h
-      (same ∙ sym (within-kept (get_or dens own 1) (short own 1 there)) ∙ ap within_bound (sym at)) joined
+  kept-more : (weights : List Share) (i : ℕ) → i < length weights → kept (take (i + 1) weights) ≡ kept (take i weights) ++ kept (get_or weights i (0, 0) ∷ [])
+  kept-more weights i below =
+      ap kept (take_more weights i (0, 0) below)
+      ∙ ap (λ l. read (support_of l)) (filter-append (λ (share : Share). nat_lt 0 share.1) (take i weights) (get_or weights i (0, 0) ∷ []))
+      ∙ ap read (map-append (λ (share : Share). share.0) (weighing (take i weights)) (weighing (get_or weights i (0, 0) ∷ [])))
+      ∙ map-append (λ v. get_or dens v 1) (support_of (weighing (take i weights))) (support_of (weighing (get_or weights i (0, 0) ∷ [])))
+
+  zero-weight : (n : ℕ) → false ≡ nat_lt 0 n → n ≡ 0
+  zero-weight n k = grind (arith, nat_tests, k)
+
+  some-weight : (n : ℕ) → true ≡ nat_lt 0 n → 0 < n
+  some-weight n k = grind (arith, nat_tests, k)
+
+  -- a weight after those before it
+  one-more : (own : Share) (before : List ℕ) → ArePositive before → (own.0 < length dens) → All (λ den. den ≤ number_bound) dens → (m r : ℕ) → m ≡ within_bound (fold lcm_of 1 before)
+      → (own.1 ≡ 0 → r ≡ m)
+      → (0 < own.1 → (a b : ℕ) → 0 < a → 0 < b → m ≡ within_bound a → get_or dens own.0 0 ≡ within_bound b → r ≡ within_bound (lcm_of a b))
+      → (b : Bool) → b ≡ nat_lt 0 own.1 → r ≡ within_bound (fold lcm_of (fold lcm_of 1 before) (kept (own ∷ [])))
+  one-more own before above there short m r h none some false k =
+      none (zero-weight own.1 k) ∙ h ∙ ap within_bound (sym (ap (λ l. fold lcm_of (fold lcm_of 1 before) (read (support_of l))) (weighing-none own [] (sym k))))
+  one-more own before above there short m r h none some true k =
+      let same : get_or dens own.0 0 ≡ get_or dens own.0 1 = get_or_default dens own.0 0 1 there in
+      some (some-weight own.1 k) (fold lcm_of 1 before) (get_or dens own.0 1) (fold-lcm-positive 1 before (lit< tt) above) (dens-positive dens positive own.0) h
+      (same ∙ sym (within-kept (get_or dens own.0 1) (short own.0 1 there)))
+      ∙ ap within_bound (sym (ap (λ l. fold lcm_of (fold lcm_of 1 before) (read (support_of l))) (weighing-some own [] (sym k))))
+
+  -- the least common multiple with a weight more
+  pub weights-more : (weights : List Share) → All (λ share. share.0 < length dens) weights → All (λ den. den ≤ number_bound) dens → (i m r : ℕ) → i < length weights
+      → m ≡ within_bound (fold lcm_of 1 (kept (take i weights)))
+      → ((get_or weights i (0, 0)).1 ≡ 0 → r ≡ m)
+      → (0 < (get_or weights i (0, 0)).1 → (a b : ℕ) → 0 < a → 0 < b → m ≡ within_bound a → get_or dens (get_or weights i (0, 0)).0 0 ≡ within_bound b → r ≡ within_bound (lcm_of a b))
+      → r ≡ within_bound (fold lcm_of 1 (kept (take (i + 1) weights)))
+  weights-more weights inside short i m r below h none some =
+      one-more (get_or weights i (0, 0)) (kept (take i weights)) (read-positive (support_of (weighing (take i weights)))) (inside i (0, 0) below) short m r h none some
+      (nat_lt 0 (get_or weights i (0, 0)).1) refl
+      ∙ ap within_bound (sym (ap (fold lcm_of 1) (kept-more weights i below) ∙ fold-append lcm_of 1 (kept (take i weights)) (kept (get_or weights i (0, 0) ∷ []))))
 
   -- and with all
-  pub points-all : (points : List ℕ) (i m : ℕ) → length points ≤ i → m ≡ within_bound (fold lcm_of 1 (take i (read points))) → m ≡ within_bound (lcm_of_all (read points))
-  points-all points i m past h = joined-all (read points) i m (read-positive points) (subst (λ n. n ≤ i) (sym (length-map points (λ v. get_or dens v 1))) past) h
+  pub weights-all : (weights : List Share) (i m : ℕ) → length weights ≤ i → m ≡ within_bound (fold lcm_of 1 (kept (take i weights))) → m ≡ within_bound (lcm_of_all (kept weights))
+  weights-all weights i m past h =
+      joined-all (kept weights) (length (kept weights)) m (read-positive (support_of (weighing weights))) (omega arith)
+      (h ∙ ap (λ l. within_bound (fold lcm_of 1 (kept l))) (take_all i weights past) ∙ ap (λ l. within_bound (fold lcm_of 1 l)) (sym (take_all (length (kept weights)) (kept weights) (omega arith))))
 
-  -- the common denominator of a mask of these points
-  module _ (level : Level) (mask : Mask) (q : ℕ) (shares : List Share) (are : AreJoined level.point_count mask q shares) (points : List ℕ) (points_are : points ≡ support_of shares) where
-    pub common-some : 0 < lcm_of_all (read points)
-    common-some = common-positive points
-
-    pub own-positive : 0 < mask_denominator (source_denominator level dens) mask
-    own-positive = subst (λ n. 0 < n) (joined-den level mask q shares are dens points points_are) (product-positive q (lcm_of_all (read points)) (joined-positive level mask q shares are) (common-positive points))
+  pub common-positive : (points : List ℕ) → 0 < lcm_of_all (read points)
+  common-positive points = lcm_of_all-positive (read points) (read-positive points)
 
 -- what is not 0 is within its bound
 within-short : (a : ℕ) → within_bound a ≤ number_bound

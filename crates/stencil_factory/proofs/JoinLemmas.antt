@@ -6,12 +6,14 @@ use Rattle.std.proofs.lemmas.Bool.Decides.{nat_tests}
 use Rattle.std.proofs.lemmas.List.{length-replicate}
 use Rattle.std.proofs.lemmas.List.Elements.{All-from_recursion, recursion_from_All}
 use Rattle.std.proofs.lemmas.List.Sums.{sum_by-cons}
+use Rattle.subdiv_model.specs.Polygons.{is_among}
 use Rattle.subdiv_model.specs.Mask.{SourcePoint, OfPoint, OfFace, Mask, weigh, weight_in, has_source, has_distinct_sources, total_weight, is_mean}
 use Rattle.subdiv_model.specs.Mask as model
 use Rattle.sharpness_laws.specs.SameWeights.{HaveSameWeights}
 use Rattle.sharpness_laws.proofs.JoinedWeightLemmas.{weight_in-cons}
 use Rattle.sharpness_laws.proofs.SameWeightLemmas.{same-total}
 use Rattle.stencil_apply.specs.Table.{Share, total_of}
+use Rattle.stencil_factory.specs.Rows.{support_of}
 use Rattle.stencil_factory.specs.Scratch.{added_at, added_shares, sum_of, shares_from}
 use Rattle.stencil_factory.specs.MaskRows.{IsPointAmong, AreWeightsOf}
 use Rattle.stencil_factory.specs.Joined.{terms_of_shares, mask_of_shares, AreJoined}
@@ -59,7 +61,7 @@ module _ (rest : List Share) (some : 1 ≤ length rest) (sums : List ℕ) (insid
     weights-fit most fits = omega (arith, fits, total, ap sum_of added, sum-added_at first.0 first.1 sums here.0)
 
 -- the weight of a point in what is added, by its place
-place-weight : (v : ℕ) (shares : List Share) (sums : List ℕ) → AllByRecursion (λ share. share.0 < length sums) shares
+pub place-weight : (v : ℕ) (shares : List Share) (sums : List ℕ) → AllByRecursion (λ share. share.0 < length sums) shares
     → get_or (added_shares 1 shares sums) v 0 ≡ get_or sums v 0 + weight_in (terms_of_shares shares) (OfPoint v)
 place-weight v [] sums h = omega arith
 place-weight v (share ∷ shares) sums h =
@@ -94,6 +96,12 @@ none-has v place (zero ∷ sums) h = none-has v (place + 1) sums (omega (arith, 
 none-has v place (suc n ∷ sums) h =
     ap (λ b. b || has_source (terms_of_shares (shares_from (place + 1) sums)) (OfPoint v)) (other-place v place h) ∙ none-has v (place + 1) sums (omega (arith, h))
 
+pub none-among : (v place : ℕ) (sums : List ℕ) → v < place → is_among (support_of (shares_from place sums)) v ≡ false
+none-among v place [] h = refl
+none-among v place (zero ∷ sums) h = none-among v (place + 1) sums (omega (arith, h))
+none-among v place (suc n ∷ sums) h =
+    ap (λ b. b || is_among (support_of (shares_from (place + 1) sums)) v) (other-place v place h) ∙ none-among v (place + 1) sums (omega (arith, h))
+
 none-weight : (v place : ℕ) (sums : List ℕ) → v < place → weight_in (terms_of_shares (shares_from place sums)) (OfPoint v) ≡ 0
 none-weight v place [] h = refl
 none-weight v place (zero ∷ sums) h = none-weight v (place + 1) sums (omega (arith, h))
@@ -103,7 +111,7 @@ none-weight v place (suc n ∷ sums) h =
     ∙ zero-plus (weight_in (terms_of_shares (shares_from (place + 1) sums)) (OfPoint v)) ∙ none-weight v (place + 1) sums (omega (arith, h))
 
 -- a share has the sum of its place
-sum-weight : (k place : ℕ) (sums : List ℕ) → weight_in (terms_of_shares (shares_from place sums)) (OfPoint (place + k)) ≡ get_or sums k 0
+pub sum-weight : (k place : ℕ) (sums : List ℕ) → weight_in (terms_of_shares (shares_from place sums)) (OfPoint (place + k)) ≡ get_or sums k 0
 sum-weight k place [] = refl
 sum-weight zero place (zero ∷ sums) = none-weight (place + 0) (place + 1) sums (omega arith)
 sum-weight zero place (suc n ∷ sums) =

@@ -18,5 +18,8 @@ pub mod MarkLemmas
 pub mod MetLemmas
 pub mod NameLemmas
 pub mod JoinLemmas
+pub mod WeighingLemmas
 pub mod PointLemmas
 pub mod FoundLemmas
+pub mod PutLemmas
+pub mod BoundLemmas

@@ -1,10 +1,10 @@
 -- Weights of points, as they are told and joined by point.
-use Rattle.std.specs.Prelude.{ℕ, ◌≡◌, ◌*◌, ◌/◌, ◌<◌, true, List, map, get_or}
-use Rattle.std.specs.List.{All}
+use Rattle.std.specs.Prelude.{ℕ, ◌≡◌, ◌*◌, ◌/◌, ◌<◌, nat_lt, true, List, length, map, get_or}
+use Rattle.std.specs.List.{All, filter}
 use Rattle.subdiv_model.specs.Mask.{OfPoint, Term, Mask, weigh}
 use Rattle.sharpness_laws.specs.SameWeights.{is_joined}
 use Rattle.mask_rules.specs.Masks.{IsMask}
-use Rattle.stencil_apply.specs.Table.{Share}
+use Rattle.stencil_apply.specs.Table.{Share, Table, row_at}
 
 -- points and their weights, as terms
 abbrev pub terms_of_shares : List Share → List Term
@@ -12,6 +12,14 @@ terms_of_shares shares = map (λ share. weigh share.1 (OfPoint share.0)) shares
 
 abbrev pub mask_of_shares : ℕ → List Share → Mask
 mask_of_shares denominator shares = record { terms = terms_of_shares shares; denominator = denominator }
+
+-- the weights above 0
+abbrev pub weighing : List Share → List Share
+weighing shares = filter (λ share. nat_lt 0 share.1) shares
+
+-- how many entries the row of a point has
+abbrev pub entries_at : Table → ℕ → ℕ
+entries_at table point = length (row_at table point).shares
 
 -- the weights times m, over the denominators of their points
 abbrev pub amounts_of : List ℕ → ℕ → List Share → List Share

@@ -53,6 +53,10 @@ pub record AreRowDenominators (level : Level) (table : Table) (masks : List Mask
 abbrev pub mask_entries : Level → Table → List Mask → ℕ
 mask_entries level table masks = sum_by length (mask_supports level table masks)
 
+-- the rows have at most so many entries, where that is within the bound of entries
+abbrev pub HasFewEntries : Level → Table → List Mask → ℕ → Type 0
+HasFewEntries level table masks entries = entries ≤ entry_bound → mask_entries level table masks ≤ entries
+
 -- Each row has the controls of its mask and the mask's common denominator, and makes the mask's value of all controls: of those
 -- values of the level that the rows of the table make of the same controls.
 pub record AreMaskRows (level : Level) (masks : List Mask) (table composed : Table) : Type 0 where

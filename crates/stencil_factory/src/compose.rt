@@ -19,6 +19,7 @@ use crate::rows::RowMasks;
 use crate::scratch::Scratch;
 use number_width::{Natural, NumberSlice, Width, width_of};
 use ratio128::Memory;
+use ratio128::limits::ENTRY_BOUND;
 use std::alloc::Global;
 use stencil_apply::{StencilTable, TableBuilder};
 
@@ -273,27 +274,27 @@ fn width_of_rows(dens: &[u128]) -> Width
     width_of(greatest_denominator(dens))
 }
 
-// All rows, which have so many entries together.
-fn compose_rows<R: RowMasks>(
+/// All rows, in a table that has room for so many entries at first.
+pub(crate) fn compose_rows<R: RowMasks>(
     alloc: Global,
     table: &StencilTable,
     rows: &R,
     dens: &[u128],
-    entries: u64,
+    room: u64,
 ) -> Result<StencilTable, Memory>
     requires ready { R.IsReady rows.now }
     requires found { R.IsFound rows.now (dens_of table.now) }
     requires each { length table.now.rows ≡ (R.level rows.now).point_count }
     requires dens { AreRowDenominators (R.level rows.now) table.now (R.masks rows.now) dens.now }
-    requires counted { entries ≡ mask_entries (R.level rows.now) table.now (R.masks rows.now) }
-    requires few { entries ≤ entry_bound }
+    requires few { mask_entries (R.level rows.now) table.now (R.masks rows.now) ≤ entry_bound }
+    requires room { room ≤ entry_bound }
     ensures { IfOk result (λ composed. AreMaskRows (R.level rows.now) (R.masks rows.now) table.now composed) }
 {
     table.facts();
     let width = width_of_rows(dens);
     // Each row has an entry, so that there are no more rows.
-    let most = rows.count().min(entries as u32);
-    let mut builder = TableBuilder::with_room(alloc, table.controls(), most, entries, width)?;
+    let most = rows.count().min(ENTRY_BOUND as u32);
+    let mut builder = TableBuilder::with_room(alloc, table.controls(), most, room, width)?;
     put_rows_in(alloc, table, rows, dens, width, &mut builder)?;
     Ok(builder.finish())
 }

@@ -10,7 +10,6 @@ mod count;
 mod entries;
 mod fault;
 mod flat;
-mod joined;
 mod mask_table;
 mod met;
 mod name;
@@ -21,6 +20,7 @@ mod rows;
 mod scratch;
 mod step;
 mod weigh;
+mod weights;
 
 pub use controls::identity;
 pub use fault::TableFault;

@@ -1,11 +1,8 @@
-use Rattle.std.proofs.Common.{rules, arith, sym, subst}
+use Rattle.std.proofs.Common.{rules, sym, subst}
 use Rattle.stencil_apply.specs.Table.{Table}
 use Rattle.stencil_factory.specs.MaskRows.{AreMaskRows}
 use Rattle.stencil_factory.proofs.WidthLemmas.{width-has-all}
 use Rattle.stencil_factory.proofs.compose.compose_rows.Goals as goal
-
-pub put_rows_in-requires-clause-few : goal.put_rows_in-requires-clause-few
-put_rows_in-requires-clause-few g c = omega (arith, c.requires.counted, c.requires.few)
 
 -- asked for by name, so that a body that breaks it is refused at once
 pub put_rows_in-requires-clause-fits : goal.put_rows_in-requires-clause-fits

@@ -1,0 +1,17 @@
+use Rattle.std.proofs.Common.{◌≡◌, ◌<◌, length}
+use Rattle.std.specs.List.{All}
+use Rattle.stencil_factory.specs.Scratch.{added_shares}
+use Rattle.stencil_factory.specs.Flat.{CanAddAll}
+use Rattle.stencil_factory.specs.Joined.{amounts_of, weighing}
+use Rattle.stencil_factory.proofs.weights.add_weights.Given as goal
+
+-- the weights from here on, added to what is there, are all weights added to what was there
+abbrev pub invariant-loop-rest : goal.invariant-loop-rest
+invariant-loop-rest g l = record {
+  all : added_shares 1 (amounts_of l.dens l.multiple (weighing l.rest)) l.scratch ≡ added_shares 1 (amounts_of l.dens l.multiple (weighing l.weights)) l.fn.scratch;
+  known : All (λ share. share.0 < length l.dens) l.rest;
+  can : CanAddAll g.T.Natural.most (amounts_of l.dens l.multiple (weighing l.rest)) l.scratch;
+}
+
+abbrev pub decreases-loop-rest : goal.decreases-loop-rest
+decreases-loop-rest g l = length l.rest

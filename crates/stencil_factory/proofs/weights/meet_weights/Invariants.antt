@@ -1,0 +1,16 @@
+use Rattle.std.proofs.Common.{◌≡◌, ◌<◌, length}
+use Rattle.std.specs.List.{All}
+use Rattle.stencil_factory.specs.Rows.{support_of}
+use Rattle.stencil_factory.specs.Met.{with_places}
+use Rattle.stencil_factory.specs.Joined.{weighing}
+use Rattle.stencil_factory.proofs.weights.meet_weights.Given as goal
+
+-- what is met, and what is met from here on, is all
+abbrev pub invariant-loop-rest : goal.invariant-loop-rest
+invariant-loop-rest l = record {
+  all : with_places (support_of (weighing l.rest)) l.met ≡ with_places (support_of (weighing l.weights)) l.fn.met;
+  inside : All (λ share. share.0 < l.met.count) l.rest;
+}
+
+abbrev pub decreases-loop-rest : goal.decreases-loop-rest
+decreases-loop-rest l = length l.rest
