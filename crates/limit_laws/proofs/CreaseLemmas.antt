@@ -28,7 +28,7 @@ pub record IsCrease (level : Level) (p a b : ℕ) : Type 0 where
   pub rest : (t : ℕ × ℕ) → has_end p t ≡ true → (same_edge t (p, a) || same_edge t (p, b)) ≡ false → edge_sharpness_of level t ≡ Smooth
 
 -- a smooth edge has smooth halves
-smooth-half : (method : Method) (ring : List Sharpness) → half_child method ring Smooth ≡ Smooth
+pub smooth-half : (method : Method) (ring : List Sharpness) → half_child method ring Smooth ≡ Smooth
 smooth-half Normal ring = refl
 smooth-half Chaikin ring = refl
 

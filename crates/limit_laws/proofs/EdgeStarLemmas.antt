@@ -36,19 +36,19 @@ once-from : (n : ℕ) → n ≤ 1 → 1 ≤ n → nat_eq n 1 ≡ true
 once-from n h k = grind (arith, nat_tests)
 
 -- the other end of an edge from v to p
-other-alike : (v p : ℕ) (a : ℕ × ℕ) → same_edge a (v, p) ≡ true → other_end v a ≡ p
+pub other-alike : (v p : ℕ) (a : ℕ × ℕ) → same_edge a (v, p) ≡ true → other_end v a ≡ p
 other-alike v p a h = grind (arith, nat_tests)
 
 -- two edges from one point
-from-one : (v p q : ℕ) → same_edge (v, p) (v, q) ≡ nat_eq p q
+pub from-one : (v p q : ℕ) → same_edge (v, p) (v, q) ≡ nat_eq p q
 from-one v p q = grind (arith, nat_tests)
 
 -- what ends at v still does so by another name
-end-alike : (v : ℕ) (s e : ℕ × ℕ) → has_end v s ≡ true → same_edge s e ≡ true → has_end v e ≡ true
+pub end-alike : (v : ℕ) (s e : ℕ × ℕ) → has_end v s ≡ true → same_edge s e ≡ true → has_end v e ≡ true
 end-alike v s e h k = grind (arith, nat_tests)
 
 -- an edge from v ends there
-ends-there : (v p : ℕ) (a : ℕ × ℕ) → (has_end v a && same_edge a (v, p)) ≡ same_edge (v, p) a
+pub ends-there : (v p : ℕ) (a : ℕ × ℕ) → (has_end v a && same_edge a (v, p)) ≡ same_edge (v, p) a
 ends-there v p a = grind (arith, nat_tests)
 
 implies : (b c : Bool) → (c ≡ true → b ≡ true) → (b && c) ≡ c

@@ -58,7 +58,7 @@ first-of-six : (a b c d e f : Bool) → (a && b && c && d && e && f) ≡ true �
 first-of-six a b c d e f h = grind (arith, nat_tests)
 
 module _ (level : Level) (well : IsManifoldWithSharpBoundary level) where
-  level-over : is_over level.point_count level.polygons ≡ true
+  pub level-over : is_over level.point_count level.polygons ≡ true
   level-over = first-of-six (is_over level.point_count level.polygons) _ _ _ _ _ well.formed
 
   sharp-manifold : IsSharpAtBoundary level
@@ -78,7 +78,7 @@ module _ (level : Level) (well : IsManifoldWithSharpBoundary level) where
   }
 
   -- values over denominators above 0 are refined to such
-  refined-positive : (values : List Value) (k : ℕ) → ArePositive values → ArePositive (refined_values level CatmullClark values k)
+  pub refined-positive : (values : List Value) (k : ℕ) → ArePositive values → ArePositive (refined_values level CatmullClark values k)
   refined-positive values zero each = each
   refined-positive values (suc k) each =
       children-positive (refined_level level k) (refined_values level CatmullClark values k)
@@ -116,7 +116,7 @@ limit-denominator level v mask ok = of_kind (limit-kind (vertex_sharpness_of lev
         let other = length-map (edges_at level v) (other_end v) in
         moved (smooth_limit_mask v (ends_at level v) (opposites_at level v)) (smooth-limit level v plain none) (product-positive n (n + 5) (omega (arith, some, one, other)) (omega arith))
 
-limit-positive : (level : Level) (values : List Value) (v : ℕ) (mask : Mask) → ArePositive values → limit_of level v ≡ Ok mask → 0 < (value_in level values mask).den
+pub limit-positive : (level : Level) (values : List Value) (v : ℕ) (mask : Mask) → ArePositive values → limit_of level v ≡ Ok mask → 0 < (value_in level values mask).den
 limit-positive level values v mask each is =
     mask-positive (source_value level values) mask (λ s. source-positive level values s each) (limit-denominator level v mask is)
 
@@ -172,7 +172,7 @@ all-steps point j =
     subst (λ n. HasLimit (refined_level point.level n) (refined_values point.level CatmullClark point.values n) point.v (value_in point.level point.values point.mask)) same
     (steps-limit point.level point.values 0 point.v point.mask point.well point.above_zero point.quads point.inside point.is j)
 
-controls-positive : (controls : List ℤ) → ArePositive (control_values controls)
+pub controls-positive : (controls : List ℤ) → ArePositive (control_values controls)
 controls-positive [] k d below = absurd (omega arith)
 controls-positive (c ∷ controls) zero d below = omega arith
 controls-positive (c ∷ controls) (suc k) d below = controls-positive controls k d (omega arith)

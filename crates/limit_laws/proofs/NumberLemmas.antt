@@ -31,7 +31,7 @@ same-number c x y n positive h k =
     ∙ ap (λ z. pos x.den *ℤ z) (sym k) ∙ pos-swap x.den c y.num ∙ ap (λ z. pos c *ℤ z) (*ℤ_comm (pos x.den) y.num))
 
 -- once a number is itself
-one-times : (x : ℤ) → pos 1 *ℤ x ≡ x
+pub one-times : (x : ℤ) → pos 1 *ℤ x ≡ x
 one-times x = *ℤ_comm (pos 1) x ∙ times-one x
 
 -- the value is the number n over m, in whatever terms, and its own denominator is above 0
@@ -42,7 +42,7 @@ pub record IsNumber (m : ℕ) (n : ℤ) (x : Value) : Type 0 where
 -- Masks, where each source is a whole number over m.
 
 -- the number of a point, for a source
-abbrev of_points : (ℕ → ℤ) → SourcePoint → ℤ
+abbrev pub of_points : (ℕ → ℤ) → SourcePoint → ℤ
 of_points number (OfPoint v) = number v
 of_points number (OfFace f) = pos 0
 
