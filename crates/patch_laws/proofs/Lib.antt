@@ -1,0 +1,13 @@
+pub mod SplineLemmas
+pub mod CombinationLemmas
+pub mod TensorLemmas
+pub mod HalvingLemmas
+pub mod PartnerLemmas
+pub mod StarLemmas
+pub mod WholeValueLemmas
+pub mod QuadEdgeLemmas
+pub mod NewPointLemmas
+pub mod VertexPointLemmas
+pub mod ChildGridValueLemmas
+pub mod HalvedPatchLemmas
+pub mod CornerLemmas
