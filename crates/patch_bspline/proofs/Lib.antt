@@ -1,0 +1,5 @@
+mod CornerLemmas
+mod MaskLemmas
+mod PutLemmas
+mod RegularLemmas
+mod SplineLemmas
