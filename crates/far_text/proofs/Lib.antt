@@ -4,6 +4,7 @@ mod PartsLemmas
 mod NumberedLemmas
 mod RoundingLemmas
 mod TableLineLemmas
+mod PatchLemmas
 pub mod LevelsLemmas
 pub mod SparseLemmas
 pub mod SameTextLemmas

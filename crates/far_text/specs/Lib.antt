@@ -5,6 +5,7 @@ pub mod TableText
 pub mod Levels
 pub mod Summary
 pub mod SparseLines
+pub mod PatchLines
 pub mod TableLines
 pub mod Mesh
 pub mod Reply

@@ -3,11 +3,12 @@ use Rattle.std.specs.Prelude.{ℕ, List, map}
 use Rattle.level_counts.specs.View.{seen_counts}
 use Rattle.far_text.specs.Levels.{levels_lines}
 use Rattle.far_text.specs.Mesh.{CanBePut, refined_text}
+use Rattle.far_text.specs.PatchLines.{CanPatchBePut, patch_lines}
 use Rattle.far_text.specs.SparseLines.{CanSparseBePut, sparse_mesh_text}
 use Rattle.far_text.specs.Summary.{CanSummaryBeWritten, summary_text}
 use Rattle.far_text.specs.TableText.{text_of_table}
 use Rattle.far_text.specs.declared.reply.Reply.{Reply}
-use Rattle.far_text.specs.declared.reply.Reply.TheVariants.{Refined, Table, Counts, Sheet, Sparse}
+use Rattle.far_text.specs.declared.reply.Reply.TheVariants.{Refined, Table, Counts, Sheet, Sparse, Patch}
 
 abbrev pub reply_text : Reply → List ℕ
 reply_text (Refined mesh form) = refined_text mesh form
@@ -15,6 +16,7 @@ reply_text (Table table) = text_of_table table
 reply_text (Counts counts) = levels_lines 0 (map seen_counts counts.items)
 reply_text (Sheet summary) = summary_text summary
 reply_text (Sparse mesh) = sparse_mesh_text mesh
+reply_text (Patch patch) = patch_lines patch
 
 -- all numbers of the reply can be written
 abbrev pub CanPut : Reply → Type 0
@@ -23,3 +25,4 @@ CanPut (Table table) = Unit {0}
 CanPut (Counts counts) = Unit {0}
 CanPut (Sheet summary) = CanSummaryBeWritten summary
 CanPut (Sparse mesh) = CanSparseBePut mesh
+CanPut (Patch patch) = CanPatchBePut patch

@@ -1,7 +1,7 @@
 //! The texts that the program writes, put through an [`obj_out::Out`].
 //!
-//! A [`Reply`] is a refined mesh, a table of stencils, the counts of levels, the summary of a sheet or the sparse levels of a mesh. Each has
-//! its text in lines, of numbers and fractions in digits. No call takes memory.
+//! A [`Reply`] is a refined mesh, a table of stencils, the counts of levels, the summary of a sheet, the sparse levels of a mesh or the
+//! points of a patch. Each has its text in lines, of numbers and fractions in digits. No call takes memory.
 #![tactic(auto)]
 
 mod corner_tags;
@@ -12,6 +12,7 @@ mod holes;
 pub mod laws;
 mod levels;
 mod mesh;
+mod patch;
 mod points;
 mod reply;
 mod sharpness;
@@ -26,6 +27,7 @@ mod words;
 pub use frames::{put_changed, put_frame_count};
 pub use levels::put_levels;
 pub use mesh::{MeshForm, RefinedMesh, RefinedTexture, put_refined};
+pub use patch::{PatchPoints, put_patch};
 pub use reply::{Reply, put_reply, write_reply};
 pub use sparse::{SparseMesh, put_sparse};
 pub use summary::{Summary, put_summary};

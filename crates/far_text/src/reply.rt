@@ -7,6 +7,7 @@ ghost use Rattle.far_text.specs.Reply.{CanPut, reply_text};
 
 use crate::levels::put_levels;
 use crate::mesh::{MeshForm, RefinedMesh, put_refined};
+use crate::patch::{PatchPoints, put_patch};
 use crate::sparse::{SparseMesh, put_sparse};
 use crate::summary::{Summary, put_summary};
 use crate::table::put_table;
@@ -28,6 +29,8 @@ pub enum Reply {
     Sheet(Summary),
     /// The sparse levels of a mesh.
     Sparse(SparseMesh),
+    /// The points of the patch of a face.
+    Patch(PatchPoints),
 }
 
 /// Puts the text of a reply. It takes no memory.
@@ -42,6 +45,7 @@ pub fn put_reply<K: Sink>(out: &mut Out<'_, K>, reply: &Reply) -> Result<(), Wri
         Reply::Counts(counts) => put_levels(out, counts),
         Reply::Sheet(summary) => put_summary(out, summary),
         Reply::Sparse(mesh) => put_sparse(out, mesh),
+        Reply::Patch(patch) => put_patch(out, patch),
     }
 }
 

@@ -1,0 +1,93 @@
+//! The lines of the patch of a face: a line with the face and the steps of its grid, and a line for each place with its point.
+
+ghost use Rattle.std.specs.Prelude.{◌≡◌, ◌<◌, ◌+◌, ◌*◌, ◌∷◌, ◌++◌, codes, false};
+ghost use Rattle.std.specs.List.{flat_map, zip};
+ghost use Rattle.subdiv_model.specs.NumberText.{number_text};
+ghost use Rattle.subdiv_model.specs.Patch.{patch_places, place_line};
+ghost use Rattle.obj_out.specs.Puts.{Puts};
+ghost use Rattle.far_text.specs.Points.{CanBeWritten, point_of, points_of};
+ghost use Rattle.far_text.specs.PatchLines.{CanPatchBePut, face_line, patch_lines};
+ghost use Rattle.far_text.specs.TableLines.{count_words};
+
+use crate::points::put_coordinates;
+use crate::words::put_count;
+use far_io::{Sink, WriteFailed};
+use obj_out::Out;
+use ratio128::{Point3, Valued};
+
+/// The points of the patch of a face on a grid of so many steps along each side, row by row: numerators over their own denominators,
+/// all over `common`.
+///
+/// The face is counted from 0. The point of the place (i, j) has the number j * (grid + 1) + i.
+#[derive(Drop)]
+pub struct PatchPoints {
+    pub face: u32,
+    pub grid: u32,
+    pub values: Vec<Valued<Point3>>,
+    pub common: u128,
+}
+
+// Puts the line of the face and of the steps of its grid.
+fn put_face<K: Sink>(out: &mut Out<'_, K>, face: u32, grid: u32) -> Result<(), WriteFailed>
+    ensures { Puts K.Sink out.old out.new (face_line face grid) result }
+{
+    put_count(out, b"patch face", face as u64)?;
+    put_count(out, b" grid", grid as u64)?;
+    out.put_byte(b'\n')
+}
+
+// Returns the place (i, j) of the point with this number, where each row has so many points.
+fn place_of(number: u64, side: u64) -> (u64, u64)
+    requires { 0 < side }
+    ensures within { result.0 < side }
+    ensures number { result.1 * side + result.0 ≡ number }
+{
+    (number % side, number / side)
+}
+
+// Puts how the line of a place begins.
+fn put_place<K: Sink>(out: &mut Out<'_, K>, place: (u64, u64)) -> Result<(), WriteFailed>
+    ensures { Puts K.Sink out.old out.new (count_words (codes "s") place.0 ++ (32 ∷ number_text place.1)) result }
+{
+    put_count(out, b"s", place.0)?;
+    out.put_number_after(b' ', place.1)
+}
+
+// Puts the line of a place with its point, in lowest terms.
+fn put_place_line<K: Sink>(
+    out: &mut Out<'_, K>,
+    place: (u64, u64),
+    point: &Valued<Point3>,
+    common: u128,
+) -> Result<(), WriteFailed>
+    requires { CanBeWritten common point.now }
+    ensures { Puts K.Sink out.old out.new (place_line (place, point_of common point.now)) result }
+{
+    put_place(out, place)?;
+    put_coordinates(out, &point.value, point.den * common, None)
+}
+
+// Puts a line for each place.
+fn put_places<K: Sink>(out: &mut Out<'_, K>, patch: &PatchPoints) -> Result<(), WriteFailed>
+    requires fine { out.old.failed ≡ false }
+    requires written { CanPatchBePut patch.now }
+    ensures { Puts K.Sink out.old out.new (flat_map place_line (zip (patch_places patch.now.grid) (points_of patch.now.common patch.now.values.items))) result }
+{
+    let side = patch.grid as u64 + 1;
+    for number in 0..patch.values.len() {
+        let place = place_of(number as u64, side);
+        put_place_line(out, place, &patch.values[number], patch.common)?;
+    }
+    Ok(())
+}
+
+/// Puts the text of a patch: a line with its face and the steps of its grid, and a line for each place with its point in lowest
+/// terms, row by row. It takes no memory.
+pub fn put_patch<K: Sink>(out: &mut Out<'_, K>, patch: &PatchPoints) -> Result<(), WriteFailed>
+    requires fine { out.old.failed ≡ false }
+    requires written { CanPatchBePut patch.now }
+    ensures { Puts K.Sink out.old out.new (patch_lines patch.now) result }
+{
+    put_face(out, patch.face, patch.grid)?;
+    put_places(out, patch)
+}
