@@ -11,7 +11,7 @@ use Rattle.std.proofs.lemmas.Slice.Eq.{bytes_eq-Decides}
 use Rattle.std.proofs.lemmas.Map.Keys.{IsDistinct-IsPermutation}
 use Rattle.std.proofs.lemmas.Map.Views.{Contains-from_lookup, lookup-from_Contains}
 use Rattle.far_model.specs.Words.{OptionRule, CommandRule, option_name, option_value, is_option_of, has_option, has_required, first_bad_option, value_of, usage_of_options, usage_of_rule, required_number, rule_named, usage_of}
-use Rattle.far_model.specs.Command.{Command, Reads, Makes, Streams, Refine, Sparse, Stencils, Limit, Levels, Gen, Frames, RefineOptions, SparseOptions, LimitOptions, FramesOptions, GenOptions, command_named, frames_of, gen_of, limit_of, refine_of, sparse_of, read_words_by, read_or}
+use Rattle.far_model.specs.Command.{Command, Reads, Makes, Streams, Refine, Sparse, Stencils, Limit, Levels, Patch, Gen, Frames, RefineOptions, SparseOptions, LimitOptions, PatchOptions, FramesOptions, GenOptions, command_named, frames_of, gen_of, limit_of, patch_of, refine_of, sparse_of, read_words_by, read_or}
 use Rattle.far_words.proofs.GoodOptionLemmas.{names_of, IsGood, good-or-early, none-bad-of-good}
 
 -- an option as its name and its value
@@ -119,14 +119,15 @@ usage-order None options others p h = absurd (cc)
 usage-order (Some rule) options others p h = understood-order rule.options options others p h
 
 -- a command of a name, by what its options say
-abbrev command-by : (name : List ℕ) (refine : RefineOptions) (sparse : SparseOptions) (depth : ℕ) (limit : LimitOptions) (frames : FramesOptions) (gen : GenOptions) → Command
-command-by name refine sparse depth limit frames gen =
+abbrev command-by : (name : List ℕ) (refine : RefineOptions) (sparse : SparseOptions) (depth : ℕ) (limit : LimitOptions) (frames : FramesOptions) (patch : PatchOptions) (gen : GenOptions) → Command
+command-by name refine sparse depth limit frames patch gen =
     if bytes_eq name (codes "refine") then Reads (Refine refine)
     else if bytes_eq name (codes "sparse") then Reads (Sparse sparse)
     else if bytes_eq name (codes "stencils") then Reads (Stencils depth)
     else if bytes_eq name (codes "limit") then Reads (Limit limit)
     else if bytes_eq name (codes "frames") then Streams (Frames frames)
     else if bytes_eq name (codes "levels") then Reads (Levels depth)
+    else if bytes_eq name (codes "patch") then Reads (Patch patch)
     else Makes (Gen gen)
 
 -- a command is filled in by the values of its options
@@ -143,6 +144,9 @@ module _ (options others : List (List ℕ)) (same : (n : List ℕ) → value_of 
   limit-same : limit_of others ≡ limit_of options
   limit-same = cc (same (codes "depth"), same (codes "decimals"))
 
+  patch-same : patch_of others ≡ patch_of options
+  patch-same = cc (same (codes "depth"), same (codes "face"), same (codes "grid"))
+
   frames-same : frames_of others ≡ frames_of options
   frames-same = cc (same (codes "depth"), same (codes "scale"))
 
@@ -151,12 +155,13 @@ module _ (options others : List (List ℕ)) (same : (n : List ℕ) → value_of 
 
   command-same : (name : List ℕ) → command_named name others ≡ command_named name options
   command-same name =
-      ap (λ refine. command-by name refine (sparse_of others) (required_number others (codes "depth")) (limit_of others) (frames_of others) (gen_of others)) refine-same
-      ∙ ap (λ sparse. command-by name (refine_of options) sparse (required_number others (codes "depth")) (limit_of others) (frames_of others) (gen_of others)) sparse-same
-      ∙ ap (λ depth. command-by name (refine_of options) (sparse_of options) depth (limit_of others) (frames_of others) (gen_of others)) depth-same
-      ∙ ap (λ limit. command-by name (refine_of options) (sparse_of options) (required_number options (codes "depth")) limit (frames_of others) (gen_of others)) limit-same
-      ∙ ap (λ frames. command-by name (refine_of options) (sparse_of options) (required_number options (codes "depth")) (limit_of options) frames (gen_of others)) frames-same
-      ∙ ap (command-by name (refine_of options) (sparse_of options) (required_number options (codes "depth")) (limit_of options) (frames_of options)) gen-same
+      ap (λ refine. command-by name refine (sparse_of others) (required_number others (codes "depth")) (limit_of others) (frames_of others) (patch_of others) (gen_of others)) refine-same
+      ∙ ap (λ sparse. command-by name (refine_of options) sparse (required_number others (codes "depth")) (limit_of others) (frames_of others) (patch_of others) (gen_of others)) sparse-same
+      ∙ ap (λ depth. command-by name (refine_of options) (sparse_of options) depth (limit_of others) (frames_of others) (patch_of others) (gen_of others)) depth-same
+      ∙ ap (λ limit. command-by name (refine_of options) (sparse_of options) (required_number options (codes "depth")) limit (frames_of others) (patch_of others) (gen_of others)) limit-same
+      ∙ ap (λ frames. command-by name (refine_of options) (sparse_of options) (required_number options (codes "depth")) (limit_of options) frames (patch_of others) (gen_of others)) frames-same
+      ∙ ap (λ patch. command-by name (refine_of options) (sparse_of options) (required_number options (codes "depth")) (limit_of options) (frames_of options) patch (gen_of others)) patch-same
+      ∙ ap (command-by name (refine_of options) (sparse_of options) (required_number options (codes "depth")) (limit_of options) (frames_of options) (patch_of options)) gen-same
 
 value-in-order : (found : Option CommandRule) (options others : List (List ℕ)) → IsPermutation options others
     → usage_of_rule found options ≡ None

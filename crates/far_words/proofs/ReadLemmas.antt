@@ -61,6 +61,8 @@ small-numbers rule options small h =
       seed = numbers-of-good rule.options options all.0 good (codes "seed") refl;
       size = numbers-of-good rule.options options all.0 good (codes "size") refl;
       scale = numbers-of-good rule.options options all.0 good (codes "scale") refl;
+      face = numbers-of-good rule.options options all.0 good (codes "face") refl;
+      grid = numbers-of-good rule.options options all.0 good (codes "grid") refl;
     }
 
 pub few-rules : (rule : CommandRule) → is_u32_rule rule ≡ true → length rule.options < 4294967295

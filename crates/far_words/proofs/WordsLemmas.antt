@@ -1,5 +1,5 @@
 -- The commands that words say.
-use Rattle.std.proofs.Common.{◌≡◌, ℕ, ◌≤◌, Bool, true, false, cond, ◌&&◌, ◌||◌, nat_le, List, [], ◌∷◌, Option, Some, None, Result, Ok, Err, IfOk, codes, arith, refl, ap, sym, subst}
+use Rattle.std.proofs.Common.{◌≡◌, ℕ, ◌<◌, ◌≤◌, ◌^◌, Bool, true, false, cond, ◌&&◌, ◌||◌, nat_le, List, [], ◌∷◌, Option, Some, None, Result, Ok, Err, IfOk, codes, arith, refl, ap, sym, subst}
 use Rattle.std.specs.Prelude.{bytes_eq, is_some, IfSome, option_map, unwrap_or}
 use Rattle.std.proofs.lemmas.Bool.Decides.{nat_tests}
 use Rattle.std.proofs.lemmas.Slice.Eq.{bytes_eq-Decides}
@@ -64,6 +64,12 @@ sparse_rule = record { name = codes "sparse"; options = required_option (codes "
 abbrev limit_rule : CommandRule
 limit_rule = record { name = codes "limit"; options = required_option (codes "depth") 1 10 ∷ number_option (codes "decimals") 0 18 ∷ [] }
 
+abbrev patch_rule : CommandRule
+patch_rule = record {
+  name = codes "patch";
+  options = required_option (codes "depth") 0 10 ∷ required_option (codes "face") 0 4194303 ∷ required_option (codes "grid") 1 64 ∷ [];
+}
+
 abbrev frames_rule : CommandRule
 frames_rule = record { name = codes "frames"; options = required_option (codes "depth") 0 10 ∷ number_option (codes "scale") 0 18 ∷ [] }
 
@@ -76,12 +82,12 @@ some_value : (found : Option (List ℕ)) → (is_some found && true) ≡ true �
 some_value (Some value) there = (value, refl)
 some_value None there = absurd (cc)
 
--- of three options that are all there, the last two
-last_two : (a b c : Bool) → (a && (b && (c && true))) ≡ true → ((b && true) ≡ true) × ((c && true) ≡ true)
-last_two true true true all = (refl, refl)
-last_two true true false all = absurd (cc)
-last_two true false c all = absurd (cc)
-last_two false b c all = absurd (cc)
+-- of three options that are all there, each
+each_of_three : (a b c : Bool) → (a && (b && (c && true))) ≡ true → ((a && true) ≡ true) × ((b && true) ≡ true) × ((c && true) ≡ true)
+each_of_three true true true all = (refl, refl, refl)
+each_of_three true true false all = absurd (cc)
+each_of_three true false c all = absurd (cc)
+each_of_three false b c all = absurd (cc)
 
 -- the number of an option whose value is one between two others
 number_within : (options : List (List ℕ)) (name value : List ℕ) (least greatest : ℕ) → value_of options name ≡ Some value →
@@ -145,13 +151,27 @@ depth_alone name options none =
 gen_numbers : (options : List (List ℕ)) → usage_of_rule (Some gen_rule) options ≡ None →
     (1 ≤ required_number options (codes "size")) × (required_number options (codes "size") ≤ 256) × (required_number options (codes "depth") ≤ 10)
 gen_numbers options none =
-    let there = last_two (is_some (value_of options (codes "seed"))) (is_some (value_of options (codes "size"))) (is_some (value_of options (codes "depth")))
+    let there = each_of_three (is_some (value_of options (codes "seed"))) (is_some (value_of options (codes "size"))) (is_some (value_of options (codes "depth")))
     (required-of-rule (Some gen_rule) options gen_rule refl none) in
-    let size = some_value (value_of options (codes "size")) there.0 in
-    let depth = some_value (value_of options (codes "depth")) there.1 in
+    let size = some_value (value_of options (codes "size")) there.1 in
+    let depth = some_value (value_of options (codes "depth")) there.2 in
     let size_within = number_within options (codes "size") size.0 1 256 size.1 (allowed-of-rule (Some gen_rule) options gen_rule (codes "size") size.0 refl none size.1) in
     let depth_within = number_within options (codes "depth") depth.0 0 10 depth.1 (allowed-of-rule (Some gen_rule) options gen_rule (codes "depth") depth.0 refl none depth.1) in
     (size_within.0, size_within.1, depth_within.1)
+
+patch_numbers : (options : List (List ℕ)) → usage_of_rule (Some patch_rule) options ≡ None →
+    (required_number options (codes "depth") ≤ 10) × (required_number options (codes "face") < 2 ^ 22)
+    × (1 ≤ required_number options (codes "grid")) × (required_number options (codes "grid") ≤ 64)
+patch_numbers options none =
+    let there = each_of_three (is_some (value_of options (codes "depth"))) (is_some (value_of options (codes "face"))) (is_some (value_of options (codes "grid")))
+    (required-of-rule (Some patch_rule) options patch_rule refl none) in
+    let depth = some_value (value_of options (codes "depth")) there.0 in
+    let face = some_value (value_of options (codes "face")) there.1 in
+    let grid = some_value (value_of options (codes "grid")) there.2 in
+    let depth_within = number_within options (codes "depth") depth.0 0 10 depth.1 (allowed-of-rule (Some patch_rule) options patch_rule (codes "depth") depth.0 refl none depth.1) in
+    let face_within = number_within options (codes "face") face.0 0 4194303 face.1 (allowed-of-rule (Some patch_rule) options patch_rule (codes "face") face.0 refl none face.1) in
+    let grid_within = number_within options (codes "grid") grid.0 1 64 grid.1 (allowed-of-rule (Some patch_rule) options patch_rule (codes "grid") grid.0 refl none grid.1) in
+    (depth_within.1, omega (arith, face_within.1), grid_within.0, grid_within.1)
 
 -- an option that may be missing says 0 where it is
 frames_scale : (options : List (List ℕ)) → usage_of_rule (Some frames_rule) options ≡ None → required_number options (codes "scale") ≤ 18
@@ -174,30 +194,32 @@ pub says-in-range : (words : List (List ℕ)) → usage_of command_table words �
 says-in-range [] none = absurd (cc)
 says-in-range (name ∷ options) none =
     by_test (bytes_eq name (codes "refine")) (bytes_eq name (codes "sparse")) (bytes_eq name (codes "stencils")) (bytes_eq name (codes "limit"))
-    (bytes_eq name (codes "frames")) (bytes_eq name (codes "levels")) (bytes_eq name (codes "gen")) refl refl refl refl refl refl refl none
+    (bytes_eq name (codes "frames")) (bytes_eq name (codes "levels")) (bytes_eq name (codes "patch")) (bytes_eq name (codes "gen"))
+    refl refl refl refl refl refl refl refl none
   where
     -- the command is that of this name
     named : (known : List ℕ) → bytes_eq name known ≡ true → IsInRange (command_of (known ∷ options)) → IsInRange (command_of (name ∷ options))
     named known is built = subst IsInRange (sym (ap (λ n. command_of (n ∷ options)) ((bytes_eq-Decides name known).0 is))) built
 
-    by_test : (refined thinned tabled limited moved counted made : Bool) → bytes_eq name (codes "refine") ≡ refined → bytes_eq name (codes "sparse") ≡ thinned →
+    by_test : (refined thinned tabled limited moved counted patched made : Bool) → bytes_eq name (codes "refine") ≡ refined → bytes_eq name (codes "sparse") ≡ thinned →
         bytes_eq name (codes "stencils") ≡ tabled → bytes_eq name (codes "limit") ≡ limited → bytes_eq name (codes "frames") ≡ moved →
-        bytes_eq name (codes "levels") ≡ counted → bytes_eq name (codes "gen") ≡ made →
+        bytes_eq name (codes "levels") ≡ counted → bytes_eq name (codes "patch") ≡ patched → bytes_eq name (codes "gen") ≡ made →
         usage_of_rule
         (cond refined (Some refine_rule) (cond thinned (Some sparse_rule) (cond tabled (Some (depth_rule (codes "stencils"))) (cond limited (Some limit_rule)
-        (cond moved (Some frames_rule) (cond counted (Some (depth_rule (codes "levels"))) (cond made (Some gen_rule) None)))))))
+        (cond moved (Some frames_rule) (cond counted (Some (depth_rule (codes "levels"))) (cond patched (Some patch_rule) (cond made (Some gen_rule) None))))))))
         options ≡ None →
         IsInRange (command_of (name ∷ options))
-    by_test true thinned tabled limited moved counted made is d e l f g h none = named (codes "refine") is (refine_depth options none, refine_decimals options none)
-    by_test false true tabled limited moved counted made d is e l f g h none = named (codes "sparse") is (sparse_depth options none, sparse_decimals options none)
-    by_test false false true limited moved counted made d e is l f g h none = named (codes "stencils") is (depth_alone (codes "stencils") options none)
-    by_test false false false true moved counted made d e l is f g h none =
+    by_test true thinned tabled limited moved counted patched made is d e l f g p h none = named (codes "refine") is (refine_depth options none, refine_decimals options none)
+    by_test false true tabled limited moved counted patched made d is e l f g p h none = named (codes "sparse") is (sparse_depth options none, sparse_decimals options none)
+    by_test false false true limited moved counted patched made d e is l f g p h none = named (codes "stencils") is (depth_alone (codes "stencils") options none)
+    by_test false false false true moved counted patched made d e l is f g p h none =
         let depth = limit_depth options none in
         named (codes "limit") is (depth.0, depth.1, limit_decimals options none)
-    by_test false false false false true counted made d e l f is g h none = named (codes "frames") is (frames_depth options none, frames_scale options none)
-    by_test false false false false false true made d e l f g is h none = named (codes "levels") is (depth_alone (codes "levels") options none)
-    by_test false false false false false false true d e l f g h is none = named (codes "gen") is (gen_numbers options none)
-    by_test false false false false false false false d e l f g h i none = absurd (cc)
+    by_test false false false false true counted patched made d e l f is g p h none = named (codes "frames") is (frames_depth options none, frames_scale options none)
+    by_test false false false false false true patched made d e l f g is p h none = named (codes "levels") is (depth_alone (codes "levels") options none)
+    by_test false false false false false false true made d e l f g p is h none = named (codes "patch") is (patch_numbers options none)
+    by_test false false false false false false false true d e l f g p h is none = named (codes "gen") is (gen_numbers options none)
+    by_test false false false false false false false false d e l f g p h i none = absurd (cc)
 
 -- a command that was read is within the bounds of its options
 pub read-in-range : (words : List (List ℕ)) (r : Result Command ℕ) → result_of_code r ≡ read_words_by command_table words →

@@ -16,10 +16,11 @@ use Rattle.far_words.specs.declared.command.Select.{Select}
 use Rattle.far_words.specs.declared.command.Select.TheVariants.{Feature, All}
 use Rattle.far_words.specs.declared.command.SparseOptions.{SparseOptions}
 use Rattle.far_words.specs.declared.command.LimitOptions.{LimitOptions}
+use Rattle.far_words.specs.declared.command.PatchOptions.{PatchOptions}
 use Rattle.far_words.specs.declared.command.GenOptions.{GenOptions}
 use Rattle.far_words.specs.declared.command.FramesOptions.{FramesOptions}
 use Rattle.far_words.specs.declared.command.ReadCommand.{ReadCommand}
-use Rattle.far_words.specs.declared.command.ReadCommand.TheVariants.{Refine, Sparse, Stencils, Limit, Levels}
+use Rattle.far_words.specs.declared.command.ReadCommand.TheVariants.{Refine, Sparse, Stencils, Limit, Levels, Patch}
 use Rattle.far_words.specs.declared.command.MakeCommand.{MakeCommand}
 use Rattle.far_words.specs.declared.command.MakeCommand.TheVariants.{Gen}
 use Rattle.far_words.specs.declared.command.StreamCommand.{StreamCommand}
@@ -69,6 +70,9 @@ sparse_of_code options = record { depth = options.depth; select = select_of_code
 abbrev pub limit_of_code : LimitOptions → model.LimitOptions
 limit_of_code options = record { depth = options.depth; decimals = options.decimals }
 
+abbrev pub patch_of_code : PatchOptions → model.PatchOptions
+patch_of_code options = record { depth = options.depth; face = options.face; grid = options.grid }
+
 abbrev pub gen_of_code : GenOptions → model.GenOptions
 gen_of_code options = record { seed = options.seed; size = options.size; depth = options.depth }
 
@@ -81,6 +85,7 @@ read_of_code (Sparse options) = model.Sparse (sparse_of_code options)
 read_of_code (Stencils depth) = model.Stencils depth
 read_of_code (Limit options) = model.Limit (limit_of_code options)
 read_of_code (Levels depth) = model.Levels depth
+read_of_code (Patch options) = model.Patch (patch_of_code options)
 
 abbrev pub make_of_code : MakeCommand → model.MakeCommand
 make_of_code (Gen options) = model.Gen (gen_of_code options)

@@ -67,6 +67,17 @@ pub struct LimitOptions {
     pub decimals: Option<u32>,
 }
 
+/// What `patch` is asked for: a depth, a face of the level there, and how many steps its grid has along each side.
+#[derive(Clone, Copy, Debug, PartialEq, Eq)]
+pub struct PatchOptions {
+    /// At most 10.
+    pub depth: u32,
+    /// The number of the face, counted from 0, below 2^22.
+    pub face: u32,
+    /// From 1 to 64.
+    pub grid: u32,
+}
+
 /// What `gen` is asked for: a sheet of `size` by `size` quads, and its depth.
 #[derive(Clone, Copy, Debug, PartialEq, Eq)]
 pub struct GenOptions {
@@ -99,6 +110,8 @@ pub enum ReadCommand {
     Limit(LimitOptions),
     /// Writes the counts of each level of a mesh to a depth.
     Levels { depth: u32 },
+    /// Writes the points of the patch of a face of a mesh at a depth.
+    Patch(PatchOptions),
 }
 
 /// A command that makes its mesh, and reads nothing.
@@ -140,6 +153,12 @@ impl ReadCommand {
                 1 <= options.depth && options.depth <= 10 && options.decimals.unwrap_or(0) <= 18
             }
             ReadCommand::Levels { depth } => depth <= 10,
+            ReadCommand::Patch(options) => {
+                options.depth <= 10
+                    && options.face <= 4194303
+                    && 1 <= options.grid
+                    && options.grid <= 64
+            }
         }
     }
 }

@@ -6,12 +6,12 @@ ghost use Rattle.far_model.specs.Words.{usage_of_rule};
 ghost use Rattle.far_model.specs.Words as words;
 ghost use Rattle.far_model.specs.Command.{IsInRange, read_or};
 ghost use Rattle.far_model.specs.Command as model;
-ghost use Rattle.far_words.specs.View.{table_of_code, rule_of_code, uv_of_code, by_of_code, select_of_code, refine_of_code, sparse_of_code, limit_of_code, gen_of_code, frames_of_code, command_of_code, result_of_code};
+ghost use Rattle.far_words.specs.View.{table_of_code, rule_of_code, uv_of_code, by_of_code, select_of_code, refine_of_code, sparse_of_code, limit_of_code, patch_of_code, gen_of_code, frames_of_code, command_of_code, result_of_code};
 ghost use Rattle.far_words.specs.Table.{AreNumbersU32, is_u32_rule, is_u32_table, u32_of_option};
 
 use crate::command::{
-    By, Command, FramesOptions, GenOptions, LimitOptions, MakeCommand, ReadCommand, RefineOptions,
-    Select, SparseOptions, StreamCommand, Uv,
+    By, Command, FramesOptions, GenOptions, LimitOptions, MakeCommand, PatchOptions, ReadCommand,
+    RefineOptions, Select, SparseOptions, StreamCommand, Uv,
 };
 use crate::options::{first_bad_option, has_required, number_of, value_of};
 use crate::table::{CommandRule, command_table};
@@ -87,6 +87,17 @@ fn limit_of(options: &[String]) -> LimitOptions
     }
 }
 
+fn patch_of(options: &[String]) -> PatchOptions
+    requires { AreNumbersU32 (map string_bytes options.now) }
+    ensures { patch_of_code result ≡ model.patch_of (map string_bytes options.now) }
+{
+    PatchOptions {
+        depth: required_number(options, "depth"),
+        face: required_number(options, "face"),
+        grid: required_number(options, "grid"),
+    }
+}
+
 fn gen_of(options: &[String]) -> GenOptions
     requires { AreNumbersU32 (map string_bytes options.now) }
     ensures { gen_of_code result ≡ model.gen_of (map string_bytes options.now) }
@@ -124,6 +135,7 @@ fn command_named(name: &str, options: &[String]) -> Command
         "levels" => Command::Read(ReadCommand::Levels {
             depth: required_number(options, "depth"),
         }),
+        "patch" => Command::Read(ReadCommand::Patch(patch_of(options))),
         _ => Command::Make(MakeCommand::Gen(gen_of(options))),
     }
 }

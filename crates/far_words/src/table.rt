@@ -92,6 +92,14 @@ const COMMANDS: &[CommandRule] = &[
         options: &[required_option!("depth", 0, 10)],
     },
     CommandRule {
+        name: "patch",
+        options: &[
+            required_option!("depth", 0, 10),
+            required_option!("face", 0, 4194303),
+            required_option!("grid", 1, 64),
+        ],
+    },
+    CommandRule {
         name: "gen",
         options: &[
             required_option!("seed", 0, 4_294_967_295),
