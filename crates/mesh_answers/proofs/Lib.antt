@@ -14,5 +14,9 @@ pub mod TableLemmas
 pub mod WrittenLemmas
 pub mod SparseLemmas
 pub mod SummaryLemmas
+pub mod MaskTableLemmas
+pub mod MaskPointLemmas
 pub mod LimitLemmas
 pub mod LimitPointLemmas
+pub mod PatchLemmas
+pub mod PatchPointLemmas

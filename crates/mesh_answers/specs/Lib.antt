@@ -4,4 +4,6 @@ pub mod Replies
 pub mod Levels
 pub mod Tracks
 pub mod Tables
+pub mod MaskTables
 pub mod Limits
+pub mod Patches

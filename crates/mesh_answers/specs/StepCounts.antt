@@ -2,7 +2,7 @@
 -- Source: this profile.
 use Rattle.std.specs.Prelude.{ℕ, ◌+◌, length, if◌then◌else◌}
 use Rattle.std.specs.List.{sum_by, range_with_len}
-use Rattle.far_model.specs.Command.{ReadCommand, Refine, Sparse, Stencils, Limit, Levels, MakeCommand, Gen, RefineOptions, SparseOptions, By, ByTable, ByLevel}
+use Rattle.far_model.specs.Command.{ReadCommand, Refine, Sparse, Stencils, Limit, Levels, Patch, MakeCommand, Gen, RefineOptions, SparseOptions, PatchOptions, By, ByTable, ByLevel}
 use Rattle.subdiv_model.specs.ObjMesh.{ObjMesh}
 use Rattle.subdiv_model.specs.Level.{Level}
 use Rattle.subdiv_model.specs.Base.{base_level}
@@ -11,6 +11,7 @@ use Rattle.subdiv_model.specs.Cut.{cut_level}
 use Rattle.subdiv_model.specs.Mask.{Scheme, CatmullClark, mask_terms}
 use Rattle.subdiv_model.specs.Support.{entries_after}
 use Rattle.subdiv_model.specs.Limit.{limit_entries_after}
+use Rattle.subdiv_model.specs.Patch.{patch_entries_after}
 use Rattle.subdiv_model.specs.SparseFaults.{present_entries, present_faces}
 use Rattle.far_model.specs.Answer.{made_mesh, meeting_for, positions_of, seams_of, scheme_of}
 
@@ -59,6 +60,10 @@ present_entries_to options mesh = sum_by (present_entries (positions_of mesh) (m
 abbrev pub limit_steps : ℕ → ObjMesh → ℕ
 limit_steps depth mesh = limit_entries_after (positions_of mesh) depth
 
+-- how many entries the rows of a patch have
+abbrev pub patch_steps : PatchOptions → ObjMesh → ℕ
+patch_steps options mesh = patch_entries_after (positions_of mesh) options.depth options.face options.grid
+
 -- how many steps a command takes at least with a mesh that it answers
 abbrev pub least_steps : ReadCommand → ObjMesh → ℕ
 least_steps (Refine options) mesh = refine_least options mesh
@@ -66,16 +71,18 @@ least_steps (Sparse options) mesh = 0
 least_steps (Stencils depth) mesh = 0
 least_steps (Limit options) mesh = limit_steps options.depth mesh
 least_steps (Levels depth) mesh = 0
+least_steps (Patch options) mesh = patch_steps options mesh
 
 -- how many it may take: one for each face of the levels that it makes, of the positions and of the texture, and what the
--- values take; of sparse levels one for each present face, and one for each entry of a present point; of limit points one for each
--- entry of their table beside the faces
+-- values take; of sparse levels one for each present face, and one for each entry of a present point; of limit points and of a
+-- patch one for each entry of their table beside the faces
 abbrev pub step_limit : ReadCommand → ObjMesh → ℕ
 step_limit (Refine options) mesh = refine_limit options mesh
 step_limit (Sparse options) mesh = present_faces_to options mesh + present_entries_to options mesh
 step_limit (Stencils depth) mesh = level_faces_to depth mesh
 step_limit (Limit options) mesh = level_faces_to options.depth mesh + limit_steps options.depth mesh
 step_limit (Levels depth) mesh = level_faces_to depth mesh
+step_limit (Patch options) mesh = level_faces_to options.depth mesh + patch_steps options mesh
 
 -- those of a command that makes its mesh
 abbrev pub made_least : MakeCommand → ℕ

@@ -4,7 +4,9 @@
 mod counts;
 mod level;
 mod limits;
+mod patches;
 mod refined;
+mod scales;
 mod sheet;
 mod sparse_levels;
 mod table;
@@ -12,6 +14,7 @@ mod tracks;
 
 pub use counts::levels;
 pub use limits::limit;
+pub use patches::patch;
 pub use refined::refine;
 pub use sheet::generate;
 pub use sparse_levels::sparse;

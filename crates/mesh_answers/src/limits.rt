@@ -1,9 +1,6 @@
 //! The limit points of a mesh at a depth.
 
-ghost use Rattle.std.specs.Prelude.{◌≡◌, ◌*◌, ◌<◌, ◌≤◌, false, None, Err, IfOk, IsOkAnd, MatchResult};
-ghost use Rattle.subdiv_model.specs.Channel.{number_bound};
-ghost use Rattle.subdiv_model.specs.Fault.{LimitRows, Overflow, ValueOverflow};
-ghost use Rattle.stencil_apply.specs.Table.{IsTable, greatest_of};
+ghost use Rattle.std.specs.Prelude.{◌≡◌, ◌≤◌, false, None, Err, IfOk, IsOkAnd, MatchResult};
 ghost use Rattle.far_model.specs.Command.{Limit, IsReadInRange};
 ghost use Rattle.far_fault.specs.View.{fault_of};
 ghost use Rattle.far_words.specs.View.{limit_of_code};
@@ -15,6 +12,7 @@ ghost use Rattle.mesh_answers.specs.Replies.{IsAnswerTo, IsReplyTo};
 ghost use Rattle.mesh_answers.specs.StepCounts.{limit_steps};
 ghost use Rattle.mesh_answers.specs.Tables.{IsComposedOf};
 
+use crate::scales::fitting;
 use crate::table::compose;
 use crate::tracks::most_of;
 use channel_refine::{ComposedChannel, evaluate};
@@ -27,7 +25,7 @@ use ratio128::{Memory, Point3, Steps, Valued};
 use raw_mesh::RawMesh;
 use std::alloc::Global;
 use std::sync::ledger::Ledger;
-use stencil_apply::{StencilTable, scale_fits};
+use stencil_apply::StencilTable;
 
 // The fault of a run for that of the table of limit points at a depth.
 fn limit_fault(fault: QuadFault, depth: u32) -> FarFault
@@ -46,25 +44,6 @@ fn limit_fault(fault: QuadFault, depth: u32) -> FarFault
     }
 }
 
-// The table of limit points, where its greatest denominator times an amount is within the bound of numbers.
-fn fitting(table: StencilTable, most: u128, depth: u32) -> Result<StencilTable, FarFault>
-    ensures { MatchResult result
-        (λ limits. (limits ≡ table) × IsTable table × (greatest_of table * most ≤ number_bound))
-        (λ fault. (fault_of fault ≡ Overflow LimitRows depth ValueOverflow) × IsTable table × (number_bound < greatest_of table * most)) }
-{
-    table.facts();
-    if scale_fits(&table, most) {
-        return Ok(table);
-    }
-    // The prover proves a drop by name once for its type.
-    drop(table);
-    Err(FarFault::Overflow {
-        track: Track::LimitRows,
-        level: depth,
-        kind: OverflowKind::Value,
-    })
-}
-
 // The table of the limit points of a level, over the points of the mesh.
 fn limit_table(
     alloc: Global,
@@ -79,7 +58,7 @@ fn limit_table(
         (λ fault. IsFound (fault_of fault) (limit_refusal depth mesh.now)) }
 {
     match limit_table_of_quads(alloc, &composed.level, &composed.table) {
-        Ok(table) => fitting(table, most_of(mesh), depth),
+        Ok(table) => fitting(table, most_of(mesh), Track::LimitRows, depth),
         Err(fault) => Err(limit_fault(fault, depth)),
     }
 }

@@ -1,13 +1,14 @@
 use Rattle.std.proofs.Common.{refl}
 use Rattle.far_model.specs.Command.{Limit}
 use Rattle.far_words.specs.View.{limit_of_code}
-use Rattle.mesh_answers.proofs.LimitPointLemmas.{limit-evaluate, limit-reply, limit-taken}
+use Rattle.mesh_answers.proofs.LimitPointLemmas.{limit-reply}
+use Rattle.mesh_answers.proofs.MaskPointLemmas.{masks-evaluate, masks-taken}
 use Rattle.mesh_answers.proofs.ReplyLemmas.{replied}
 use Rattle.mesh_answers.proofs.limits.limit_reply.Goals as goal
 
 pub evaluate-values-requires : goal.evaluate-values-requires
 evaluate-values-requires g c =
-    limit-evaluate c.args.mesh.now c.args.options.now.depth c.args.limits c.requires.limits c.points.result.now c.points.ensures
+    masks-evaluate c.args.mesh.now c.args.options.now.depth _ c.args.limits.table c.requires.limits.rows c.points.result.now c.points.ensures
 
 pub returns-clause-reply : goal.returns-clause-reply
 returns-clause-reply g c =
@@ -19,5 +20,5 @@ returns-clause-reply g c =
 
 pub returns-clause-steps : goal.returns-clause-steps
 returns-clause-steps g c =
-    limit-taken c.args.mesh.now c.args.options.now.depth c.args.limits c.requires.limits c.evaluate-values.result c.with_points.result _ c.args.steps.now c.evaluate-values.new.steps
-    c.with_points.ensures c.evaluate-values.ensures.taken c.evaluate-values.ensures.steps c.evaluate-values.ensures.later
+    masks-taken c.args.mesh.now c.args.options.now.depth _ c.args.limits.table c.requires.limits.rows c.evaluate-values.result c.with_points.result _ c.args.steps.now
+    c.evaluate-values.new.steps c.with_points.ensures c.evaluate-values.ensures.taken c.evaluate-values.ensures.steps c.evaluate-values.ensures.later

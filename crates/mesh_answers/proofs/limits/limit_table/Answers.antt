@@ -1,7 +1,8 @@
 use Rattle.std.proofs.Common.{sym, subst}
 use Rattle.mesh_answers.specs.Limits.{limit_refusal}
 use Rattle.mesh_answers.specs.Refusals.{IsFound}
-use Rattle.mesh_answers.proofs.LimitLemmas.{limit-failed, limits-tested, quads-there, rows-there}
+use Rattle.mesh_answers.proofs.LimitLemmas.{limit-failed, limits-tested, quads-there}
+use Rattle.mesh_answers.proofs.MaskTableLemmas.{rows-there}
 use Rattle.mesh_answers.proofs.limits.limit_table.Goals as goal
 
 pub limit_table_of_quads-requires-clause-quads : goal.limit_table_of_quads-requires-clause-quads

@@ -1,0 +1,165 @@
+//! The patch of a face of a mesh's level at a depth.
+
+ghost use Rattle.std.specs.Prelude.{◌≡◌, length, Err, IfOk, IsOkAnd, MatchResult};
+ghost use Rattle.far_model.specs.Command.{Patch, IsReadInRange};
+ghost use Rattle.far_fault.specs.View.{fault_of};
+ghost use Rattle.far_words.specs.View.{patch_of_code};
+ghost use Rattle.far_text.specs.declared.reply.Reply.TheVariants as variant;
+ghost use Rattle.ratio128.specs.StepsTaken.{StepsTaken};
+ghost use Rattle.mesh_answers.specs.Patches.{ArePatchRows, patch_fault_of, patch_refusal};
+ghost use Rattle.mesh_answers.specs.Refusals.{IsFound};
+ghost use Rattle.mesh_answers.specs.Replies.{IsAnswerTo, IsReplyTo};
+ghost use Rattle.mesh_answers.specs.StepCounts.{patch_steps};
+ghost use Rattle.mesh_answers.specs.Tables.{IsComposedOf};
+
+use crate::scales::fitting;
+use crate::table::compose;
+use crate::tracks::most_of;
+use channel_refine::{ComposedChannel, evaluate};
+use far_fault::{FarFault, OverflowKind, PlaceFault, Track};
+use far_text::{PatchPoints, Reply};
+use far_words::PatchOptions;
+use level_topology::Counted;
+use patch_bspline::{PatchFault, patch_table};
+use ratio128::{Memory, Point3, Steps, Valued};
+use raw_mesh::RawMesh;
+use std::alloc::Global;
+use std::sync::ledger::Ledger;
+use stencil_apply::StencilTable;
+
+// The fault of a run for that of the rows of a patch, on a level with so many faces.
+fn patch_fault(fault: PatchFault, count: u32, options: &PatchOptions) -> FarFault
+    ensures { fault_of result ≡ patch_fault_of count (patch_of_code options.now) fault }
+{
+    match fault {
+        PatchFault::NoFace => FarFault::Place(PlaceFault::NoFace { count }),
+        PatchFault::NotRegular => FarFault::Place(PlaceFault::NotRegular { face: options.face }),
+        PatchFault::Denominator(_) => FarFault::Overflow {
+            track: Track::Patch,
+            level: options.depth,
+            kind: OverflowKind::Denominator,
+        },
+        PatchFault::TooManyEntries => FarFault::TooLarge(Counted::PatchEntries),
+        PatchFault::Memory => FarFault::Memory,
+    }
+}
+
+// The rows of the patch of a face, over the points of the mesh.
+fn patch_rows(
+    alloc: Global,
+    mesh: &RawMesh,
+    composed: &ComposedChannel,
+    options: &PatchOptions,
+) -> Result<StencilTable, FarFault>
+    requires range { IsReadInRange (Patch (patch_of_code options.now)) }
+    requires composed { IsComposedOf mesh.now options.now.depth composed.now }
+    ensures { MatchResult result
+        (λ table. ArePatchRows (patch_of_code options.now) mesh.now table)
+        (λ fault. IsFound (fault_of fault) (patch_refusal (patch_of_code options.now) mesh.now)) }
+{
+    match patch_table(
+        alloc,
+        &composed.level,
+        &composed.table,
+        options.face,
+        options.grid,
+    ) {
+        Ok(table) => fitting(table, most_of(mesh), Track::Patch, options.depth),
+        Err(fault) => Err(patch_fault(fault, composed.level.faces(), options)),
+    }
+}
+
+// The rows of the patch, from the level and the table of its points, which the function leaves behind.
+fn rows_from(
+    alloc: Global,
+    mesh: &RawMesh,
+    composed: ComposedChannel,
+    options: &PatchOptions,
+) -> Result<StencilTable, FarFault>
+    requires range { IsReadInRange (Patch (patch_of_code options.now)) }
+    requires composed { IsComposedOf mesh.now options.now.depth composed }
+    ensures { MatchResult result
+        (λ table. ArePatchRows (patch_of_code options.now) mesh.now table)
+        (λ fault. IsFound (fault_of fault) (patch_refusal (patch_of_code options.now) mesh.now)) }
+{
+    let rows = patch_rows(alloc, mesh, &composed, options);
+    // The prover proves a drop by name once for its type.
+    drop(composed);
+    rows
+}
+
+// The reply with the points of a patch, where they were found.
+fn with_places(
+    mesh: &RawMesh,
+    options: &PatchOptions,
+    values: Result<Vec<Valued<Point3>>, Memory>,
+) -> Result<Reply, Memory>
+    ensures { MatchResult values
+        (λ values. IsOkAnd result (λ reply. reply
+        ≡ variant.Patch (record { face = options.now.face; grid = options.now.grid; values = values; common = mesh.now.common })))
+        (λ fault. result ≡ Err fault) }
+{
+    let common = mesh.scale();
+    let PatchOptions { face, grid, .. } = *options;
+    values.map(|values| {
+        Reply::Patch(PatchPoints {
+            face,
+            grid,
+            values,
+            common,
+        })
+    })
+}
+
+// The reply with the points of a patch. The function evaluates its rows over the points of the mesh.
+fn patch_reply<L: Ledger>(
+    alloc: Global,
+    mesh: &RawMesh,
+    rows: StencilTable,
+    options: &PatchOptions,
+    steps: &mut Steps<L>,
+) -> Result<Reply, Memory>
+    requires { ArePatchRows (patch_of_code options.now) mesh.now rows }
+    ensures reply { IfOk result (λ reply. IsReplyTo (Patch (patch_of_code options.now)) mesh.now reply) }
+    ensures steps { StepsTaken result steps.old steps.new (patch_steps (patch_of_code options.now) mesh.now) (patch_steps (patch_of_code options.now) mesh.now) }
+{
+    mesh.facts();
+    let values = evaluate(alloc, &rows, mesh.points(), steps);
+    // The prover proves a drop by name once for its type.
+    drop(rows);
+    with_places(mesh, options, values)
+}
+
+/// Returns the points of the patch of a face of a mesh's level at a depth: the points of the limit surface at the places of a grid along
+/// the sides of the face. The depth is at most 10. The face is below 2^22 and counted from 0, and the grid has from 1 to 64 steps along
+/// each side.
+///
+/// The reply writes coordinates as fractions.
+///
+/// The fault is the first of these:
+///
+/// - `Mesh` where the mesh is no manifold, with its first fault;
+/// - `TooLarge` with the first count of the mesh that passes its limit;
+/// - `TooLarge` with the first level from 1 to the depth that would have more than 2^22 faces, and how many;
+/// - `Overflow` or `TooLarge` with the first level, counted from 1, at which something of the positions passes its bound;
+/// - `Place` where the level has no such face, with how many it has (`NoFace`), or where the face has no patch (`NotRegular`);
+/// - `Overflow` of `Patch` with the depth, where the common denominator of a point of the patch passes its bound (`Denominator`);
+/// - `TooLarge` where the rows of the patch have more than 2^27 entries;
+/// - `Overflow` of `Patch` with the depth, where a numerator can pass its bound (`Value`).
+///
+/// At a level the order is `Chaikin`, `Transition`, `Denominator`, a table of more than 2^27 entries (`TooLarge`), `Value`.
+/// `Memory` may come of any mesh. The call takes at most one step for each face of the levels from 0 to the depth. It takes one
+/// more for each entry of the rows of the patch.
+pub fn patch<L: Ledger>(
+    alloc: Global,
+    mesh: &RawMesh,
+    options: &PatchOptions,
+    steps: &mut Steps<L>,
+) -> Result<Reply, FarFault>
+    requires { IsReadInRange (Patch (patch_of_code options.now)) }
+    ensures { IsAnswerTo (Patch (patch_of_code options.now)) mesh.now result steps.old steps.new }
+{
+    let composed = compose(alloc, mesh, options.depth, steps)?;
+    let rows = rows_from(alloc, mesh, composed, options)?;
+    Ok(patch_reply(alloc, mesh, rows, options, steps)?)
+}
