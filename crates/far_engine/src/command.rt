@@ -15,7 +15,7 @@ use far_fault::FarFault;
 use far_io::{Sink, Source, WriteFailed};
 use far_text::{Reply, write_reply};
 use far_words::{Command, MakeCommand, ReadCommand, StreamCommand};
-use mesh_answers::{generate, levels, limit, refine, sparse, stencils};
+use mesh_answers::{generate, levels, limit, patch, refine, sparse, stencils};
 use ratio128::Steps;
 use std::alloc::Global;
 use std::sync::ledger::Ledger;
@@ -78,6 +78,7 @@ pub fn run_command<S: Source, K: Sink, L: Ledger>(
                     levels(alloc, &mesh, *depth, steps),
                     sink,
                 ),
+                ReadCommand::Patch(options) => put_found(patch(alloc, &mesh, options, steps), sink),
             }
         }
         Command::Make(MakeCommand::Gen(options)) => {

@@ -29,6 +29,8 @@ use std::sync::ledger::Ledger;
 /// - `limit` writes the limit points of the points of the last level, and its faces. The depth is at least 1. Coordinates are written
 ///   as `refine` writes them.
 /// - `levels` writes a line with the counts of each level.
+/// - `patch` writes the limit surface over a face of the last level, a quad inside with four quads around each corner and nothing
+///   sharp there. Of the places of a grid along the sides it writes the points row by row, as fractions in lowest terms.
 /// - `gen` makes a sheet of quads from its seed, and never calls the source. It writes the counts of the sheet and of its last
 ///   level, and the last point there.
 /// - `frames` reads a mesh up to the line `frames`, or up to the end of the input, and then answers line by line. A line `move`
@@ -55,7 +57,10 @@ use std::sync::ledger::Ledger;
 /// - under `refine`, `Overflow` or `TooLarge` of the texture, in this order again;
 /// - under `limit`, `Limit` where a point of the last level has no limit point, with the least such point and why. Then `Overflow`
 ///   of the rows of limit points at the depth, for a common denominator, `TooLarge` for more than 2^27 entries of these rows, and
-///   `Overflow` for the greatest numerator.
+///   `Overflow` for the greatest numerator;
+/// - under `patch`, `Place` where the last level has no such face, or the face has no patch. Then `Overflow` of the rows of the patch
+///   at the depth, for a common denominator, `TooLarge` for more than 2^27 entries of these rows, and `Overflow` for the greatest
+///   numerator. The depth of such an `Overflow` may be 0.
 ///
 /// `sparse` looks at its present faces and points alone. At each level it refuses more than 2^22 present faces (`TooLarge`) before
 /// all else.
@@ -77,9 +82,10 @@ use std::sync::ledger::Ledger;
 ///
 /// A run takes at most one step for each face of the levels that it makes; those of a sparse level are its present faces. `gen`,
 /// `frames`, and `refine` by a table, take one more for each entry of the last table; `refine` level by level takes one more for each
-/// mask term. `limit` takes one more for each entry of the rows of limit points. `sparse` takes at most one more for each entry of the present points of its levels. A texture channel takes as many
-/// again. A line `move` takes one step for each point that depends on its control point.
-/// Where `refine`, `limit`, `gen` or `frames` answers, it took one step for each of these entries or mask terms.
+/// mask term. `limit` takes one more for each entry of the rows of limit points, and `patch` for each entry of the rows of its patch.
+/// `sparse` takes at most one more for each entry of the present points of its levels. A texture channel takes as many again. A line
+/// `move` takes one step for each point that depends on its control point.
+/// Where `refine`, `limit`, `patch`, `gen` or `frames` answers, it took one step for each of these entries or mask terms.
 pub fn run<S: Source, K: Sink, L: Ledger>(
     alloc: Global,
     words: &Vec<String>,

@@ -44,13 +44,21 @@ pub returns-in-Limit-clause-steps : goal.returns-in-Limit-clause-steps
 returns-in-Limit-clause-steps g c =
     steps-mesh g.S.Source g.K.Sink _ _ (ap command_of_code c.in-Read.is ∙ ap (λ k. Reads (read_of_code k)) c.in-Limit.is) _ _ _ c.in_ok-mesh-in-Read.ensures _ _ _ c.limit.ensures _ _ _ c.put_found-in-Limit.ensures
 
+pub returns-in-Levels-clause-run : goal.returns-in-Levels-clause-run
+returns-in-Levels-clause-run g c =
+    runs-mesh g.S.Source g.K.Sink _ _ (ap command_of_code c.in-Read.is ∙ ap (λ k. Reads (read_of_code k)) c.in-Levels.is) _ _ _ c.in_ok-mesh-in-Read.ensures _ _ _ c.levels.ensures _ _ _ c.put_found-in-Levels.ensures
+
+pub returns-in-Levels-clause-steps : goal.returns-in-Levels-clause-steps
+returns-in-Levels-clause-steps g c =
+    steps-mesh g.S.Source g.K.Sink _ _ (ap command_of_code c.in-Read.is ∙ ap (λ k. Reads (read_of_code k)) c.in-Levels.is) _ _ _ c.in_ok-mesh-in-Read.ensures _ _ _ c.levels.ensures _ _ _ c.put_found-in-Levels.ensures
+
 pub returns-in-Read-clause-run : goal.returns-in-Read-clause-run
 returns-in-Read-clause-run g c =
-    runs-mesh g.S.Source g.K.Sink _ _ (ap command_of_code c.in-Read.is ∙ ap (λ k. Reads (read_of_code k)) c.in-Levels.is) _ _ _ c.in_ok-mesh-in-Read.ensures _ _ _ c.levels.ensures _ _ _ c.put_found-in-Levels.ensures
+    runs-mesh g.S.Source g.K.Sink _ _ (ap command_of_code c.in-Read.is ∙ ap (λ k. Reads (read_of_code k)) c.in-Patch.is) _ _ _ c.in_ok-mesh-in-Read.ensures _ _ _ c.patch.ensures _ _ _ c.put_found-in-Patch.ensures
 
 pub returns-in-Read-clause-steps : goal.returns-in-Read-clause-steps
 returns-in-Read-clause-steps g c =
-    steps-mesh g.S.Source g.K.Sink _ _ (ap command_of_code c.in-Read.is ∙ ap (λ k. Reads (read_of_code k)) c.in-Levels.is) _ _ _ c.in_ok-mesh-in-Read.ensures _ _ _ c.levels.ensures _ _ _ c.put_found-in-Levels.ensures
+    steps-mesh g.S.Source g.K.Sink _ _ (ap command_of_code c.in-Read.is ∙ ap (λ k. Reads (read_of_code k)) c.in-Patch.is) _ _ _ c.in_ok-mesh-in-Read.ensures _ _ _ c.patch.ensures _ _ _ c.put_found-in-Patch.ensures
 
 pub returns-in-Make-Gen-clause-run : goal.returns-in-Make-Gen-clause-run
 returns-in-Make-Gen-clause-run g c =
