@@ -1,5 +1,5 @@
 //! Tests of levels, of the facts of faces and the rules that select them, of sharpness, of masks, of uniform refinement, of one
-//! step of values, of limit points, and of a walk over a part of a level, on meshes from tables.
+//! step of values, of limit points, of patches, and of a walk over a part of a level, on meshes from tables.
 #![tactic(auto)]
 
 #[cfg(test)]
@@ -26,6 +26,8 @@ mod mask_tables;
 mod meshes;
 #[cfg(test)]
 mod parts_walked;
+#[cfg(test)]
+mod patches;
 #[cfg(test)]
 mod refined;
 #[cfg(test)]
