@@ -2,7 +2,7 @@
 
 use crate::engine::failing_sink;
 use crate::expect::{expect_answer, expect_same};
-use far_engine::{FarFault, LimitCause, OverflowKind, Track, report, status};
+use far_engine::{FarFault, LimitCause, OverflowKind, PlaceFault, Track, report, status};
 use far_io::{SureSink, WriteFailed};
 use level_topology::Counted;
 use mesh_check::MeshFault;
@@ -75,6 +75,11 @@ const FAULTS: &[Fault] = &[
         "far: the limit rows have too many entries\n",
     ),
     (
+        FarFault::TooLarge(Counted::PatchEntries),
+        7,
+        "far: the patch rows have too many entries\n",
+    ),
+    (
         FarFault::Overflow {
             track: Track::Texture,
             level: u32::MAX,
@@ -93,6 +98,15 @@ const FAULTS: &[Fault] = &[
         "far: limit level 1: denominator overflow\n",
     ),
     (
+        FarFault::Overflow {
+            track: Track::Patch,
+            level: 0,
+            kind: OverflowKind::Value,
+        },
+        8,
+        "far: patch level 0: value overflow\n",
+    ),
+    (
         FarFault::Limit(LimitCause::Dart(0)),
         9,
         "far: vertex 0 is a dart\n",
@@ -104,6 +118,16 @@ const FAULTS: &[Fault] = &[
     ),
     (FarFault::Write, 10, "far: writing failed\n"),
     (FarFault::Memory, 11, "far: out of memory\n"),
+    (
+        FarFault::Place(PlaceFault::NoFace { count: u32::MAX }),
+        13,
+        "far: there are 4294967295 faces\n",
+    ),
+    (
+        FarFault::Place(PlaceFault::NotRegular { face: 0 }),
+        13,
+        "far: face 0 is not a regular inner face\n",
+    ),
 ];
 
 fn faults() -> &'static [Fault] {

@@ -4,7 +4,9 @@ ghost use Rattle.std.specs.Prelude.{◌≡◌, ◌<◌};
 
 use crate::engine::{run_alone, words_of};
 use crate::expect::{expect_answer, expect_same};
-use crate::inputs::{CUBE, CUBE_REFINED, GEN, MOVED_SQUARE, REFINE, SQUARE, TWO_CHARTS};
+use crate::inputs::{
+    CUBE, CUBE_REFINED, CURVED_SHEET, GEN, MOVED_SQUARE, REFINE, SQUARE, TWO_CHARTS,
+};
 use far_engine::{FarFault, run};
 use far_io::{MemSink, MemSource};
 use ratio128::{Memory, Steps};
@@ -191,6 +193,7 @@ const WRITES: &[Writes] = &[
     ("refine depth=3", SQUARE, 5, 439),
     ("stencils depth=1", SQUARE, 16, 12),
     ("limit depth=1", SQUARE, 16, 10),
+    ("patch depth=0 face=4 grid=1", CURVED_SHEET, 16, 6),
     ("sparse depth=1", SQUARE, 16, 16),
     ("levels depth=1", CUBE, 16, 12),
     ("frames depth=1", MOVED_SQUARE, 16, 6),

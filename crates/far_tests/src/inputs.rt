@@ -67,6 +67,25 @@ pub const SQUARE_LIMITS: &str = "\
     f 3 8 5 7\n\
     f 4 9 5 8\n";
 
+// Three by three quads, whose points are at the squares of their places in a row.
+pub const CURVED_SHEET: &str =
+    "v 0 0 0\nv 1 0 1\nv 2 0 4\nv 3 0 9\nv 0 1 0\nv 1 1 1\nv 2 1 4\nv 3 1 9\nv 0 2 0\nv 1 2 1\nv 2 2 4\nv 3 2 9\n\
+    v 0 3 0\nv 1 3 1\nv 2 3 4\nv 3 3 9\nf 1 2 6 5\nf 2 3 7 6\nf 3 4 8 7\nf 5 6 10 9\nf 6 7 11 10\nf 7 8 12 11\n\
+    f 9 10 14 13\nf 10 11 15 14\nf 11 12 16 15\n";
+
+// The patch of the quad in its middle. A uniform cubic curve through squares lies a third above them.
+pub const CURVED_PATCH: &str = "\
+    patch face 4 grid 2\n\
+    s 0 0 1 1 4/3\n\
+    s 1 0 3/2 1 31/12\n\
+    s 2 0 2 1 13/3\n\
+    s 0 1 1 3/2 4/3\n\
+    s 1 1 3/2 3/2 31/12\n\
+    s 2 1 2 3/2 13/3\n\
+    s 0 2 1 2 4/3\n\
+    s 1 2 3/2 2 31/12\n\
+    s 2 2 2 2 13/3\n";
+
 // The sparse levels of the square with sharp corners: nothing is a feature.
 pub const SQUARE_LEVELS: &str = "\
     level 0 points 4 faces 1\n\

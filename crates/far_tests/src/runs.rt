@@ -3,11 +3,11 @@
 use crate::engine::run_alone;
 use crate::expect::expect_answer;
 use crate::inputs::{
-    CUBE, CUBE_LEVEL, CUBE_REFINED, GEN, GREAT_CHART, GREATER_CUBE, LEVELS, MOVED_SQUARE,
-    MOVED_SQUARE_ANSWER, REFINE, SHEET, SQUARE, SQUARE_LEVELS, SQUARE_LIMITS, SQUARE_TABLE,
-    TRIANGLES, TWO_CHARTS, TWO_CHARTS_IN_DECIMALS,
+    CUBE, CUBE_LEVEL, CUBE_REFINED, CURVED_PATCH, CURVED_SHEET, GEN, GREAT_CHART, GREATER_CUBE,
+    LEVELS, MOVED_SQUARE, MOVED_SQUARE_ANSWER, REFINE, SHEET, SQUARE, SQUARE_LEVELS, SQUARE_LIMITS,
+    SQUARE_TABLE, TRIANGLES, TWO_CHARTS, TWO_CHARTS_IN_DECIMALS,
 };
-use far_engine::{FarFault, LimitCause, OverflowKind, Track};
+use far_engine::{FarFault, LimitCause, OverflowKind, PlaceFault, Track};
 use level_topology::Counted;
 use mesh_check::MeshFault;
 use obj_tags::ObjCause;
@@ -98,6 +98,27 @@ const RUNS: &[Run] = &[
         CUBE,
         "t crease 2/1/0 0 1 5\n",
         Err(FarFault::Limit(LimitCause::SemiSharp(0))),
+        "",
+    ),
+    (
+        "patch depth=0 face=4 grid=2",
+        CURVED_SHEET,
+        "",
+        Ok(()),
+        CURVED_PATCH,
+    ),
+    (
+        "patch depth=1 face=4 grid=1",
+        SQUARE,
+        "",
+        Err(FarFault::Place(PlaceFault::NoFace { count: 4 })),
+        "",
+    ),
+    (
+        "patch depth=1 face=3 grid=1",
+        SQUARE,
+        "",
+        Err(FarFault::Place(PlaceFault::NotRegular { face: 3 })),
         "",
     ),
     (

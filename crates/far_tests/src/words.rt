@@ -3,8 +3,8 @@
 use crate::engine::words_of;
 use crate::expect::expect_same;
 use far_words::{
-    By, Command, FramesOptions, GenOptions, LimitOptions, MakeCommand, ReadCommand, RefineOptions,
-    Select, SparseOptions, StreamCommand, Uv, read_words,
+    By, Command, FramesOptions, GenOptions, LimitOptions, MakeCommand, PatchOptions, ReadCommand,
+    RefineOptions, Select, SparseOptions, StreamCommand, Uv, read_words,
 };
 use std::process::Abort;
 use std::test::Fail;
@@ -37,6 +37,13 @@ macro_rules! sparse {
 macro_rules! limit {
     ($depth:literal, $decimals:expr) => {
         Ok(Command::Read(ReadCommand::Limit(LimitOptions { depth: $depth, decimals: $decimals })))
+    };
+}
+
+// The patch of a face at a depth, on a grid.
+macro_rules! patch {
+    ($depth:literal, $face:literal, $grid:literal) => {
+        Ok(Command::Read(ReadCommand::Patch(PatchOptions { depth: $depth, face: $face, grid: $grid })))
     };
 }
 
@@ -91,6 +98,11 @@ const WORDS: &[Words] = &[
         "levels depth=10",
         Ok(Command::Read(ReadCommand::Levels { depth: 10 })),
     ),
+    ("patch depth=0 face=0 grid=1", patch!(0, 0, 1)),
+    (
+        "patch grid=64 face=4194303 depth=10",
+        patch!(10, 4_194_303, 64),
+    ),
     ("frames depth=10", moves!(10, 0)),
     ("frames scale=18 depth=0", moves!(0, 18)),
     ("gen seed=0 size=1 depth=0", sheet!(0, 1, 0)),
@@ -102,6 +114,9 @@ const WORDS: &[Words] = &[
     ("Refine depth=1", Err(0)),
     ("levels", Err(1)),
     ("limit depth=0", Err(1)),
+    ("patch face=4194304 depth=0 grid=1", Err(1)),
+    ("patch depth=0 face=0 grid=65", Err(3)),
+    ("patch depth=0 grid=1", Err(3)),
     ("refine depth=01", Err(1)),
     ("frames scale=0", Err(2)),
     ("frames depth=0 scale=19", Err(2)),
