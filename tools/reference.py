@@ -1,7 +1,8 @@
 #!/usr/bin/env python3
 """A plain, slow reference of the program: of `far refine`, and through `tools/level_reference.py` of `far levels`,
 `tools/sparse_reference.py` of `far sparse`, `tools/table_reference.py` of `far stencils` and `far gen`,
-`tools/limit_reference.py` of `far limit`, and `tools/frames_reference.py` of `far frames`.
+`tools/limit_reference.py` of `far limit`, `tools/patch_reference.py` of `far patch`, and
+`tools/frames_reference.py` of `far frames`.
 
 It is written from the definitions of `far_model` (Answer) and `subdiv_model` (Text, and those that the other references
 name), with `fractions.Fraction` for every value, and shares nothing with the program. It takes the
@@ -20,6 +21,7 @@ from frames_reference import frame_texts
 from level_reference import accepted, levels_text, sharp_edges
 from limit_reference import limit_text
 from mask_reference import positions_of, refined
+from patch_reference import patch_text
 from run_reference import read_mesh, run, understood
 from sparse_reference import sparse_text
 from table_reference import sheet_text, table_text
@@ -86,6 +88,7 @@ TEXTS_OF_MESH = {
     b"stencils": lambda obj, options: table_text(obj, depth_of(options)),
     b"limit": lambda obj, options: limit_text(obj, depth_of(options), decimals_of(options)),
     b"levels": lambda obj, options: levels_text(obj, depth_of(options)),
+    b"patch": lambda obj, options: patch_text(obj, depth_of(options), int(options[b"face"]), int(options[b"grid"])),
     b"sparse": lambda obj, options: sparse_text(obj, depth_of(options), rule_of(options), decimals_of(options)),
 }
 
