@@ -93,14 +93,16 @@ PATHS = ["refine depth=3", "refine depth=3 by=level"]
 DECIMALS = ["refine depth=3 decimals=6"]
 OTHERS = ["levels depth=3", "stencils depth=3"]
 LIMITS = ["refine depth=2", "limit depth=2"]
+# Face 2 of level 2 stands inside a face of level 0, so that it has a patch where that is a quad.
+PATCHES = ["stencils depth=2", "patch depth=2 face=2 grid=64"]
 COMMANDS = [
     Case(mesh, maker, words, with_quarter(size))
     for mesh, maker, size, lines in [
         ("sheet", meshes.sheet, 64**2, PATHS),
         ("creased sheet", meshes.creased_sheet, 64**2, PATHS + ["refine depth=3 tags=yes"] + OTHERS),
-        ("torus", meshes.torus, 64**2, PATHS + DECIMALS + OTHERS + LIMITS),
+        ("torus", meshes.torus, 64**2, PATHS + DECIMALS + OTHERS + LIMITS + PATCHES),
         ("textured sheet", meshes.textured_sheet, 64**2, PATHS + DECIMALS + ["refine depth=3 uv=linear"]),
-        ("character", meshes.character, 20000, PATHS + DECIMALS + OTHERS + LIMITS),
+        ("character", meshes.character, 20000, PATHS + DECIMALS + OTHERS + LIMITS + PATCHES),
         ("textured character", meshes.textured_character, 20000, PATHS + DECIMALS),
         ("none", None, 128**2, ["gen seed=7 size={side} depth=3"]),
         ("large sheet", meshes.sheet, 141**2, ["levels depth=3"]),
@@ -201,7 +203,7 @@ def faces_told(words, path):
     with open(path, "rb") as text:
         if words.startswith(("refine", "limit")):
             return sum(line.startswith(b"f ") for line in text)
-        has_none = words.startswith(("stencils", "frames"))
+        has_none = words.startswith(("stencils", "patch", "frames"))
         return None if has_none else int(re.findall(rb" faces (\d+)", text.read())[-1])
 
 
@@ -222,7 +224,7 @@ def faults_of(case, made, sink, status):
 def entries_of(program, case, words, path):
     """How many entries the table has by which a run goes; nothing where there is none, or a second one of texture."""
     command = words.split()[0]
-    if command in ("levels", "limit", "frames", "sparse") or "by=level" in words or case.maker in TEXTURED:
+    if command in ("levels", "limit", "patch", "frames", "sparse") or "by=level" in words or case.maker in TEXTURED:
         return None
     asked = words if command == "gen" else f"stencils depth={depth_of(words)}"
     outputs = {"stdout": subprocess.PIPE, "stderr": subprocess.DEVNULL}
