@@ -2,17 +2,23 @@
 """Compares the built program with `tools/reference.py` on random OBJ texts.
 
 Texts are made of lines that are good, bad or nearly bad, and of the cube, the unfolded cube with its texture and the
-refined cube with a few changes; they are refined to depth 1 at most. Meshes are those of `tools/random_meshes.py`, many
-with texture; they are refined, by tables and level by level, or have their levels counted or their tables written, to
-depth 3 at most. Each of them has its sparse levels written too, to depth 4 at most, and its limit points. Sheets are
-made by the program itself. Inputs with moves are those of `tools/random_frames.py`. Other meshes, which have no fault,
-have the points of their sparse levels compared with those that the program itself writes of whole levels, by
-`tools/sparse_points.py`. In other meshes nothing is semi-sharp. They have their limit points compared with the reference,
-and those of level 1 with those of level 3, by `tools/limit_points.py`. More meshes are refined from a text of the program
-and at once, by `tools/continued_refinement.py`. The options are random too. The same seed makes the same words and texts. A
-text on which the two differ is printed, and the exit status is then 1.
+refined cube with a few changes; they are refined to depth 1 at most. Meshes are those of `tools/random_meshes.py`,
+many with texture; they are refined, by tables and level by level, or have their levels counted or their tables
+written, to depth 3 at most. Each of them has its sparse levels written too, to depth 4 at most, its limit points, and
+the patch of a face, mostly of one that has a patch. Sheets are made by the program itself. Inputs with moves are those
+of `tools/random_frames.py`. Other meshes, which have no fault, have the points of their sparse levels compared with
+those that the program itself writes of whole levels, by `tools/sparse_points.py`. In other meshes nothing is
+semi-sharp. They have their limit points compared with the reference, and those of level 1 with those of level 3, by
+`tools/limit_points.py`. Faces of other meshes have their patches compared with limit points and with the patches of
+their children, by `tools/patch_laws.py`. More meshes are refined from a text of the program and at once, by
+`tools/continued_refinement.py`. The options are random too. The same seed makes the same words and texts. A text on
+which the two differ is printed, and the exit status is then 1.
 
     tools/compare_random.py --seed 1 --count 3000 --meshes 1500 --frames 1200 --points 1000 --limits 1000 --continued 1000
+
+A run is one process. Four at a time compare a hundred thousand answers so, each run with a seed of its own:
+
+    seq 18 | xargs -P 4 -I SEED tools/compare_random.py --seed SEED
 """
 
 import argparse
@@ -21,12 +27,15 @@ import random
 import subprocess
 import sys
 from collections import Counter
+from functools import lru_cache
 from itertools import islice
 from pathlib import Path
 
 import reference
 from continued_refinement import refinement_goes_on
 from limit_points import limits_stay
+from patch_laws import drawn_faces, patches_agree
+from patch_reference import patched_levels
 from random_frames import Frames
 from random_meshes import Meshes
 from run_reference import Refusal
@@ -46,6 +55,7 @@ SCALES = ["0", "1", "2", "3", "6", "17", "18"]
 BAD_SCALES = ["scale=19", "scale=00", "scale=", "scale", "decimals=1", "depth=1", "Scale=1", "scale=-1"]
 BAD_SPARSE = ["select=", "select=features", "select", "uv=smooth", "uv=", "decimals=19", "depth=1", "by=level", "tags=no"]
 BAD_LIMITS = ["depth=0", "depth=11", "depth=01", "decimals=19", "decimals=", "by=level", "tags=no", "uv=smooth", "depth=1"]
+BAD_PATCHES = ["grid=0", "grid=65", "grid=01", "face=4194304", "face=-1", "face=", "depth=11", "decimals=2", "grid"]
 BAD_SHEETS = ["size=0", "size=257", "seed=-1", f"seed={2**32}", "seed=00", "depth=11", "by=table", "size"]
 OPTIONS = {
     "decimals": ["0", "1", "2", "3", "6", "17", "18"],
@@ -55,6 +65,9 @@ OPTIONS = {
 }
 BAD_OPTIONS = ["depth=1", "depth=01", "depth=11", "decimals=19", "decimals=-1", "uv=", "by=tables", "tags", "=1", "x=1"]
 SPARSE_OPTIONS = {"select": ["feature", "all", "all"], "decimals": ["0", "3", "18"], "uv": ["none"]}
+GRIDS = ["1", "1", "2", "2", "2", "3", "4", "5", "7", "8"]
+LARGE_GRIDS = ["16", "63", "64"]
+GREATEST_FACE = 2**22 - 1
 # How likely an option is there.
 CHANCES = {"decimals": 0.4, "uv": 0.7, "by": 0.4, "tags": 0.4}
 CUBE = (TOP / "examples" / "cube.obj").read_bytes()
@@ -117,6 +130,12 @@ def is_taken(data):
 def taken(text):
     """The texts that a call gives, one after another, without those that are not taken."""
     return filter(is_taken, iter(text, None))
+
+
+@lru_cache(maxsize=1)
+def patches_for(data):
+    """The levels of a text that have faces with a patch, and not too many faces, each with its number and those faces."""
+    return patched_levels(data, GREATEST_DEPTH, MOST_TABLE_FACES)
 
 
 _, REFINED_CUBE, _ = expected(REFINE, CUBE)
@@ -286,6 +305,25 @@ class Words:
         self.random.shuffle(options)
         return ["limit", *options]
 
+    def depth_and_face(self, data):
+        """A depth and a face there: mostly one that has a patch, and else any of the first or the last that is allowed."""
+        found = patches_for(data) if self.random.random() < 0.9 else []
+        if not found:
+            face = self.random.choice([0, self.random.randrange(64), GREATEST_FACE])
+            return self.depth_for(corners_of(data), MOST_TABLE_FACES), face
+        depth, _, faces = self.random.choice(found)
+        return depth, self.random.choice(faces)
+
+    def for_patch(self, data):
+        """The words by which the patch of a face is written, not too far for the corners of the mesh; now and then with a
+        bad word, or without one."""
+        depth, face = self.depth_and_face(data)
+        grid = self.random.choice(LARGE_GRIDS if self.random.random() < 0.02 else GRIDS)
+        options = [f"depth={depth}", f"face={face}", f"grid={grid}"]
+        options += [self.random.choice(BAD_PATCHES)] if self.random.random() < 0.03 else []
+        self.random.shuffle(options)
+        return ["patch", *options[: 2 if self.random.random() < 0.02 else 4]]
+
     def for_frames(self, data):
         """The words by which the control points of a mesh are moved, mostly as finely as the moves have decimals; now and
         then without a scale, or with a bad word."""
@@ -328,35 +366,62 @@ def agree(program, kind, runs):
     return True
 
 
-def main():
+def patch_texts(seed, mesh_texts):
+    """As many texts as these, so that most patches are written: each fifth is one of these, and the others are meshes with
+    faces that have a patch. In half of the others nothing is semi-sharp."""
+    fifth, meshes = len(mesh_texts) // 5, Meshes(f"meshes of patches of {seed}")
+    yield from mesh_texts[: len(mesh_texts) - 4 * fifth]
+    for text in (meshes.text, meshes.lasting_text):
+        yield from islice(filter(patches_for, iter(text, None)), 2 * fifth)
+
+
+def kinds_of_runs(arguments, lasting_texts):
+    """What is compared with the reference: of each kind its words and its texts."""
+    seed = arguments.seed
+    texts, meshes, words, frames = Texts(seed), Meshes(seed), Words(seed), Frames(seed)
+    mesh_texts = [meshes.text() for _ in range(arguments.meshes)]
+    inputs = (frames.text() for _ in range(arguments.frames))
+    yield "texts", ((words.for_text(), texts.text()) for _ in range(arguments.count))
+    yield "meshes", ((words.for_mesh(data), data) for data in mesh_texts)
+    yield "sparse levels", ((words.for_sparse(data), data) for data in mesh_texts)
+    yield "limit points", ((words.for_limit(data), data) for data in mesh_texts + lasting_texts)
+    yield "patches", ((words.for_patch(data), data) for data in patch_texts(seed, mesh_texts))
+    yield "sheets", ((words.for_sheet(), b"") for _ in range(arguments.sheets))
+    yield "inputs with moves", ((words.for_frames(data), data) for data in inputs)
+
+
+def compared_with_itself(arguments, lasting_texts):
+    """Whether the program agrees with itself, comparison by comparison."""
+    program, seed = arguments.program, arguments.seed
+    others, bases, sources = (taken(Meshes(f"{name} of {seed}").text) for name in ("points", "texts", "patches"))
+    yield points_agree(program, islice(others, arguments.points))
+    yield limits_stay(program, lasting_texts)
+    drawn = drawn_faces(random.Random(f"faces of {seed}"), sources)
+    yield patches_agree(program, islice(drawn, arguments.patches))
+    yield refinement_goes_on(program, islice(bases, arguments.continued))
+
+
+def arguments_of_run():
     parser = argparse.ArgumentParser(description="Compares the program with the reference on random texts.")
     parser.add_argument("--program", default=TOP / "crates" / "far_cli" / "out" / "far_cli", help="the program to run")
     parser.add_argument("--seed", type=int, default=1, help="the seed of the texts")
     parser.add_argument("--count", type=int, default=1000, help="how many texts are refined")
-    parser.add_argument("--meshes", type=int, default=1000, help="how many meshes are refined, sparse and in the limit")
+    parser.add_argument("--meshes", type=int, default=1000, help="how many meshes each command reads that reads meshes")
     parser.add_argument("--sheets", type=int, default=200, help="how many sheets are made")
     parser.add_argument("--frames", type=int, default=400, help="how many inputs with moves are answered")
     parser.add_argument("--points", type=int, default=100, help="how many meshes have their points compared by two commands")
     parser.add_argument("--limits", type=int, default=100, help="how many meshes have their limit points compared twice")
+    parser.add_argument("--patches", type=int, default=100, help="how many faces have their patches compared with others")
     parser.add_argument("--continued", type=int, default=100, help="how many meshes are refined from texts of the program")
-    arguments = parser.parse_args()
-    seed = arguments.seed
-    texts, meshes, words, frames = Texts(seed), Meshes(seed), Words(seed), Frames(seed)
-    mesh_texts = [meshes.text() for _ in range(arguments.meshes)]
-    others, bases = (taken(Meshes(f"{name} of {seed}").text) for name in ("points", "texts"))
-    lasting_texts = list(islice(taken(Meshes(f"limit points of {seed}").lasting_text), arguments.limits))
-    lines = agree(arguments.program, "texts", ((words.for_text(), texts.text()) for _ in range(arguments.count)))
-    surfaces = agree(arguments.program, "meshes", ((words.for_mesh(data), data) for data in mesh_texts))
-    sparse = agree(arguments.program, "sparse levels", ((words.for_sparse(data), data) for data in mesh_texts))
-    limit_runs = ((words.for_limit(data), data) for data in mesh_texts + lasting_texts)
-    limits = agree(arguments.program, "limit points", limit_runs)
-    sheets = agree(arguments.program, "sheets", ((words.for_sheet(), b"") for _ in range(arguments.sheets)))
-    inputs = (frames.text() for _ in range(arguments.frames))
-    moves = agree(arguments.program, "inputs with moves", ((words.for_frames(data), data) for data in inputs))
-    points = points_agree(arguments.program, islice(others, arguments.points))
-    stay = limits_stay(arguments.program, lasting_texts)
-    goes_on = refinement_goes_on(arguments.program, islice(bases, arguments.continued))
-    return 0 if all((lines, surfaces, sparse, limits, sheets, moves, points, stay, goes_on)) else 1
+    return parser.parse_args()
+
+
+def main():
+    arguments = arguments_of_run()
+    lasting_texts = list(islice(taken(Meshes(f"limit points of {arguments.seed}").lasting_text), arguments.limits))
+    agreed = [agree(arguments.program, kind, runs) for kind, runs in kinds_of_runs(arguments, lasting_texts)]
+    agreed += compared_with_itself(arguments, lasting_texts)
+    return 0 if all(agreed) else 1
 
 
 if __name__ == "__main__":

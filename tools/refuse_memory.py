@@ -61,6 +61,8 @@ def runs():
     yield "sparse depth=1 select=all", unfolded
     yield "limit depth=2", cube + RING
     yield "limit depth=1 decimals=2", tagged
+    yield "patch depth=2 face=2 grid=2", cube
+    yield "patch depth=1 face=0 grid=2", tagged
     yield "gen seed=7 size=2 depth=1", b""
     yield "refine depth=1 tags=maybe", cube
     yield "refine depth=1", cube + b"v 1 2\n"

@@ -140,9 +140,9 @@ PLANTS = [
     ),
     Plant(
         "docs/formats.md",
+        "has eight commands",
         "has seven commands",
-        "has six commands",
-        "command gen: missing in docs/formats.md: how many commands there are, seven",
+        "command gen: missing in docs/formats.md: how many commands there are, eight",
         ("--command", "gen"),
     ),
     Plant(

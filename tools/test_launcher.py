@@ -47,6 +47,8 @@ def runs():
     yield ["sparse", "depth=3"], content("examples/creased_cube.obj")
     yield ["limit", "depth=2", "decimals=3"], unfolded
     yield ["limit", "depth=1"], content("examples/creased_cube.obj")
+    yield ["patch", "depth=2", "face=2", "grid=3"], cube
+    yield ["patch", "depth=1", "face=2", "grid=3"], cube
     yield ["frames", "depth=1"], cube + MOVES
     yield ["gen", "seed=7", "size=4", "depth=2"], b""
     yield ["refine", "depth=3"], b""
