@@ -14,4 +14,5 @@ pub mod ControlLemmas
 mod SumLemmas
 pub mod EvaluatedLemmas
 pub mod NumeratorLemmas
+pub mod LevelTableLemmas
 pub mod PathLemmas

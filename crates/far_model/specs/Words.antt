@@ -2,7 +2,7 @@
 -- Source: this profile.
 use Rattle.std.specs.Prelude.{ℕ, ◌+◌, Bool, true, false, not, ◌&&◌, ◌||◌, nat_eq, nat_le, List, [], ◌∷◌, length, take, get_or, Option, Some, None, option_map, unwrap_or, bytes_eq, codes, if◌then◌else◌}
 use Rattle.std.specs.List.{list_all, list_any, find, before_first, after_first, range_with_len}
-use Rattle.subdiv_model.specs.Digits.{is_digit, number_of_digits}
+use Rattle.subdiv_model.specs.Digits.{is_number_word, number_of_digits}
 
 -- what the value of an option may be
 pub data ValueKind : Type 0 where
@@ -61,11 +61,6 @@ command_table =
     ∷ record { name = codes "patch"; options = required_option (codes "depth") 0 10 ∷ required_option (codes "face") 0 4194303 ∷ required_option (codes "grid") 1 64 ∷ [] }
     ∷ record { name = codes "gen"; options = required_option (codes "seed") 0 4294967295 ∷ required_option (codes "size") 1 256 ∷ required_option (codes "depth") 0 10 ∷ [] }
     ∷ []
-
--- decimal digits without a leading zero, but for `0` itself
-abbrev pub is_number_word : List ℕ → Bool
-is_number_word [] = false
-is_number_word (b ∷ rest) = list_all is_digit (b ∷ rest) && (not (nat_eq b 48) || nat_eq (length rest) 0)
 
 abbrev pub is_value : ValueKind → List ℕ → Bool
 is_value (Between least greatest) value =

@@ -9,5 +9,4 @@ pub mod LevelsLemmas
 pub mod SparseLemmas
 pub mod SameTextLemmas
 pub mod SameTextureLemmas
-pub mod SameTableLemmas
 pub mod SameSummaryLemmas

@@ -5,11 +5,10 @@ use Rattle.std.proofs.lemmas.Slice.Zip.{length-zip, get_or-zip}
 use Rattle.stencil_apply.specs.Table.{Share, Row}
 use Rattle.stencil_apply.proofs.RowLemmas.{zip-row}
 use Rattle.subdiv_model.specs.NumberText.{number_text}
-use Rattle.subdiv_model.specs.TableText.{table_line}
+use Rattle.subdiv_model.specs.TableText.{table_line, share_words, row_text}
 use Rattle.subdiv_model.specs.LevelText.{whole_text}
 use Rattle.level_counts.specs.Counts.{Counts}
 use Rattle.far_text.specs.declared.summary.Summary.{Summary}
-use Rattle.far_text.specs.TableText.{share_words, row_text}
 use Rattle.far_text.specs.TableLines.{share_text, count_words, kind_words, greatest_words}
 use Rattle.far_text.specs.Levels.{line_words, counts_line}
 use Rattle.far_text.specs.Summary.{sheet_line, depth_line}

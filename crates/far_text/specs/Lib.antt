@@ -1,7 +1,6 @@
 pub mod Points
 pub mod Texture
 pub mod Lines
-pub mod TableText
 pub mod Levels
 pub mod Summary
 pub mod SparseLines

@@ -6,7 +6,7 @@ use Rattle.far_text.specs.Mesh.{CanBePut, refined_text}
 use Rattle.far_text.specs.PatchLines.{CanPatchBePut, patch_lines}
 use Rattle.far_text.specs.SparseLines.{CanSparseBePut, sparse_mesh_text}
 use Rattle.far_text.specs.Summary.{CanSummaryBeWritten, summary_text}
-use Rattle.far_text.specs.TableText.{text_of_table}
+use Rattle.subdiv_model.specs.TableText.{text_of_table}
 use Rattle.far_text.specs.declared.reply.Reply.{Reply}
 use Rattle.far_text.specs.declared.reply.Reply.TheVariants.{Refined, Table, Counts, Sheet, Sparse, Patch}
 

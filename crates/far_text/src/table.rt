@@ -3,11 +3,10 @@
 ghost use Rattle.std.specs.Prelude.{◌≡◌, ◌<◌, ◌∷◌, false, length};
 ghost use Rattle.std.specs.List.{flat_map, zip};
 ghost use Rattle.subdiv_model.specs.NumberText.{number_text};
-ghost use Rattle.subdiv_model.specs.TableText.{table_line};
+ghost use Rattle.subdiv_model.specs.TableText.{table_line, row_text, text_of_table};
 ghost use Rattle.number_width.specs.Numbers.{numbers_in};
 ghost use Rattle.stencil_apply.specs.Table.{row_at, entries_of};
 ghost use Rattle.obj_out.specs.Puts.{Puts};
-ghost use Rattle.far_text.specs.TableText.{row_text, text_of_table};
 ghost use Rattle.far_text.specs.TableLines.{share_text};
 
 use crate::words::{put_count, put_wide_word};

@@ -5,8 +5,8 @@ use Rattle.std.specs.List.{fold, list_all}
 use Rattle.std.proofs.lemmas.Bool.{and_left, and_right, and_from, le-leb, lt-leb, leb-false}
 use Rattle.std.proofs.lemmas.List.{take_all}
 use Rattle.std.proofs.lemmas.List.Sums.{fold_more}
-use Rattle.subdiv_model.specs.Digits.{is_digit, number_of_digits}
-use Rattle.far_model.specs.Words.{Between, is_number_word, is_value}
+use Rattle.subdiv_model.specs.Digits.{is_digit, number_of_digits, is_number_word}
+use Rattle.far_model.specs.Words.{Between, is_value}
 use Rattle.far_words.specs.Table.{fits_u32, u32_of_digits, u32_of_word}
 
 number-grows : (a : ℕ) (digits : List ℕ) → a ≤ fold (λ n b. n * 10 + (b - 48)) a digits

@@ -5,8 +5,8 @@ use Rattle.std.specs.Option.{option_map, option_and_then}
 use Rattle.std.specs.List.{list_all, list_any}
 use Rattle.std.proofs.lemmas.Bool.{and_parts, and_from, or_cases, leb-true, le-leb, ltb-true}
 use Rattle.std.proofs.lemmas.Slice.Eq.{bytes_eq-Decides}
-use Rattle.subdiv_model.specs.Digits.{number_of_digits}
-use Rattle.far_model.specs.Words.{ValueKind, Between, OneOf, OptionRule, CommandRule, is_number_word, is_value, first_bad_option, number_of, rule_named, usage_of_rule, value_of}
+use Rattle.subdiv_model.specs.Digits.{number_of_digits, is_number_word}
+use Rattle.far_model.specs.Words.{ValueKind, Between, OneOf, OptionRule, CommandRule, is_value, first_bad_option, number_of, rule_named, usage_of_rule, value_of}
 use Rattle.far_model.specs.Command.{Command, read_or, read_words_by}
 use Rattle.far_words.proofs.GoodOptionLemmas.{IsGood, good-of-none}
 use Rattle.far_words.proofs.ValueLemmas.{allowed-value}

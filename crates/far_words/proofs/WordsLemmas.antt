@@ -3,8 +3,8 @@ use Rattle.std.proofs.Common.{◌≡◌, ℕ, ◌<◌, ◌≤◌, ◌^◌, Bool,
 use Rattle.std.specs.Prelude.{bytes_eq, is_some, IfSome, option_map, unwrap_or}
 use Rattle.std.proofs.lemmas.Bool.Decides.{nat_tests}
 use Rattle.std.proofs.lemmas.Slice.Eq.{bytes_eq-Decides}
-use Rattle.far_model.specs.Words.{CommandRule, command_table, required_option, number_option, name_option, texture_names, path_names, tags_names, select_names, sparse_texture_names, is_number_word, usage_of, usage_of_rule, value_of, number_of, required_number}
-use Rattle.subdiv_model.specs.Digits.{number_of_digits}
+use Rattle.far_model.specs.Words.{CommandRule, command_table, required_option, number_option, name_option, texture_names, path_names, tags_names, select_names, sparse_texture_names, usage_of, usage_of_rule, value_of, number_of, required_number}
+use Rattle.subdiv_model.specs.Digits.{number_of_digits, is_number_word}
 use Rattle.far_model.specs.Command as model
 use Rattle.far_model.specs.Command.{IsInRange, command_of, read_or, read_words_by}
 use Rattle.far_words.specs.declared.command.Command.{Command}

@@ -2,8 +2,8 @@
 use Rattle.std.specs.Prelude.{◌≡◌, ℕ, Bool, false, not, ◌||◌, ◌&&◌, nat_le, nat_lt, List, [], ◌∷◌, length, Option, Some, None, bytes_eq, codes, if◌then◌else◌}
 use Rattle.std.specs.Option.{option_and_then}
 use Rattle.std.specs.List.{list_all, list_any}
-use Rattle.subdiv_model.specs.Digits.{is_digit, number_of_digits}
-use Rattle.far_model.specs.Words.{ValueKind, Between, OneOf, OptionRule, CommandRule, is_number_word, value_of, number_of}
+use Rattle.subdiv_model.specs.Digits.{is_digit, number_of_digits, is_number_word}
+use Rattle.far_model.specs.Words.{ValueKind, Between, OneOf, OptionRule, CommandRule, value_of, number_of}
 
 abbrev pub fits_u32 : ℕ → Bool
 fits_u32 n = nat_le n 4294967295

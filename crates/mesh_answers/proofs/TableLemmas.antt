@@ -4,6 +4,7 @@ use Rattle.subdiv_model.specs.Lists.{first_of}
 use Rattle.subdiv_model.specs.Base.{base_level}
 use Rattle.subdiv_model.specs.ObjMesh.{ObjMesh}
 use Rattle.subdiv_model.specs.Mask.{CatmullClark}
+use Rattle.subdiv_model.specs.TableText.{text_of_table}
 use Rattle.far_model.specs.Command.{Stencils}
 use Rattle.subdiv_model.specs.Fault.{Positions}
 use Rattle.subdiv_model.specs.Channel.{Channel, Tables, channel_faults}
@@ -16,9 +17,9 @@ use Rattle.stencil_apply.specs.Table.{IsTable}
 use Rattle.channel_refine.specs.Composed.{IsComposedTo}
 use Rattle.channel_refine.specs.View.{composed_of}
 use Rattle.channel_refine.specs.declared.compose.ComposedChannel.{ComposedChannel}
+use Rattle.channel_refine.proofs.LevelTableLemmas.{level-table}
 use Rattle.channel_refine.proofs.NumeratorLemmas.{stencil-numerators}
 use Rattle.far_fault.specs.Walk.{walk_fault_of}
-use Rattle.far_text.proofs.SameTableLemmas.{table_text-same}
 use Rattle.far_text.specs.declared.reply.Reply.TheVariants.{Table}
 use Rattle.mesh_answers.specs.Levels.{IsSmallManifold}
 use Rattle.mesh_answers.specs.Refusals.{IsFound, refusal_by}
@@ -57,7 +58,7 @@ pub table-reply : (mesh : ObjMesh) (depth : â„•) (composed : ComposedChannel) â†
 unfolding written_text
 table-reply mesh depth composed is = record {
   good = is.good;
-  says = table_text-same composed.table (base_level mesh) CatmullClark depth is.composed.controls is.composed.dens is.composed.supports
-      (stencil-numerators (positions_of mesh) depth (composed_of composed) is.composed is.made) is.made;
+  says = ap text_of_table (level-table composed.table (base_level mesh) CatmullClark depth is.composed.controls is.composed.dens is.composed.supports
+      (stencil-numerators (positions_of mesh) depth (composed_of composed) is.composed is.made) is.made);
   put = tt;
 }

@@ -1,6 +1,6 @@
 -- Digits, the number that they say, and a minus before them.
 -- Source: this profile.
-use Rattle.std.specs.Prelude.{ℕ, ◌+◌, ◌-◌, ◌*◌, Bool, false, ◌&&◌, nat_eq, nat_le, List, [], ◌∷◌, length, if◌then◌else◌}
+use Rattle.std.specs.Prelude.{ℕ, ◌+◌, ◌-◌, ◌*◌, Bool, false, not, ◌&&◌, ◌||◌, nat_eq, nat_le, List, [], ◌∷◌, length, if◌then◌else◌}
 use Rattle.std.specs.List.{list_all, fold}
 
 abbrev pub is_digit : ℕ → Bool
@@ -13,6 +13,11 @@ number_of_digits digits = fold (λ n b. n * 10 + (b - 48)) 0 digits
 -- from 1 to `most` digits and nothing else
 abbrev pub is_digits : ℕ → List ℕ → Bool
 is_digits most word = nat_le 1 (length word) && nat_le (length word) most && list_all is_digit word
+
+-- decimal digits without a leading zero, but for `0` itself
+abbrev pub is_number_word : List ℕ → Bool
+is_number_word [] = false
+is_number_word (b ∷ rest) = list_all is_digit (b ∷ rest) && (not (nat_eq b 48) || nat_eq (length rest) 0)
 
 abbrev pub has_minus : List ℕ → Bool
 has_minus [] = false

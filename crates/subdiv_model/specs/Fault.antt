@@ -3,6 +3,7 @@
 use Rattle.std.specs.Prelude.{ℕ, List, ◌++◌, codes, Option, Some, None}
 use Rattle.subdiv_model.specs.ObjFault.{ObjCause, BadNumeral, NumberRange, UnknownKeyword, Continuation, ShortLine, BadCorner, IndexRange, BadTag, TagIndex, SharpnessRange, MoveIndex, TooFine, LongLine, ObjFault}
 use Rattle.subdiv_model.specs.MeshFault.{MeshFault, FaceTooSmall, RepeatedVertex, NonManifoldEdge, WindingClash, SplitVertex}
+use Rattle.subdiv_model.specs.TableFault.{TableCause, Form, Range, Sum, Count, TableFault}
 use Rattle.subdiv_model.specs.NumberText.{number_text}
 
 -- what there is too much of, with how much
@@ -68,6 +69,12 @@ pub data Fault : Type 0 where
   Overflow : Track → ℕ → OverflowKind → Fault
   Limit : LimitCause → Fault
   Place : PlaceFault → Fault
+  -- a stored table is refused
+  Table : TableFault → Fault
+  -- the first row, counted from 0, in which a stored table differs from the table of the mesh
+  Differs : ℕ → Fault
+  -- so many control points are given, and a stored table has another number of them
+  Controls : ℕ → Fault
   Write : Fault
   Memory : Fault
 
@@ -116,6 +123,15 @@ abbrev pub place_fault_text : PlaceFault → List ℕ
 place_fault_text (NoFace count) = codes "there are " ++ (number_text count ++ codes " faces")
 place_fault_text (NotRegular face) = codes "face " ++ (number_text face ++ codes " is not a regular inner face")
 
+abbrev pub table_cause_text : TableCause → List ℕ
+table_cause_text Form = codes "table form"
+table_cause_text Range = codes "table number out of range"
+table_cause_text Sum = codes "table row does not sum"
+table_cause_text Count = codes "table entry count"
+
+abbrev pub table_fault_text : TableFault → List ℕ
+table_fault_text fault = codes "line " ++ (number_text fault.line ++ (codes ": " ++ table_cause_text fault.cause))
+
 abbrev pub limit_cause_text : LimitCause → List ℕ
 limit_cause_text (Dart v) = codes "vertex " ++ (number_text v ++ codes " is a dart")
 limit_cause_text (SemiSharp v) = codes "vertex " ++ (number_text v ++ codes " is semi-sharp")
@@ -138,6 +154,9 @@ fault_text (Overflow track level kind) =
     track_text track ++ (codes " level " ++ (number_text level ++ (codes ": " ++ (kind_text kind ++ codes " overflow"))))
 fault_text (Limit cause) = limit_cause_text cause
 fault_text (Place fault) = place_fault_text fault
+fault_text (Table fault) = table_fault_text fault
+fault_text (Differs row) = codes "row " ++ (number_text row ++ codes " differs")
+fault_text (Controls count) = number_text count ++ codes " control points given"
 fault_text Write = codes "writing failed"
 fault_text Memory = codes "out of memory"
 
@@ -155,6 +174,9 @@ fault_status (TooLarge counted) = 7
 fault_status (Overflow track level kind) = 8
 fault_status (Limit cause) = 9
 fault_status (Place fault) = 13
+fault_status (Table fault) = 14
+fault_status (Differs row) = 15
+fault_status (Controls count) = 16
 fault_status Write = 10
 fault_status Memory = 11
 

@@ -13,6 +13,7 @@ pub mod numerals;
 pub mod obj;
 pub mod patches;
 pub mod sparse;
+pub mod tables;
 pub mod texts;
 pub mod texture;
 pub mod values;

@@ -1,7 +1,7 @@
 use Rattle.std.proofs.Common.{arith, []}
 use Rattle.obj_out.proofs.PutsLemmas.{puts-next, puts-stop, puts-same}
 use Rattle.stencil_apply.specs.Table.{Row}
-use Rattle.far_text.specs.TableText.{row_text}
+use Rattle.subdiv_model.specs.TableText.{row_text}
 use Rattle.far_text.proofs.TableLineLemmas.{all-rows}
 use Rattle.far_text.proofs.table.put_rows.Goals as goal
 

@@ -1,7 +1,7 @@
 use Rattle.std.proofs.Common.{take, Ok}
 use Rattle.std.specs.List.{flat_map}
 use Rattle.obj_out.specs.Puts.{Puts}
-use Rattle.far_text.specs.TableText.{row_text}
+use Rattle.subdiv_model.specs.TableText.{row_text}
 use Rattle.far_text.proofs.table.put_rows.Given as goal
 
 -- the lines so far

@@ -1,4 +1,4 @@
--- A table with the denominators, the controls and the shares of a level's points has the text of their table.
+-- A table with the denominators, the controls and the shares of a level's points is the level's table.
 use Rattle.std.proofs.Common.{◌≡◌, ℕ, suc, ◌+◌, ◌<◌, nat_eq, List, [], ◌∷◌, ◌++◌, length, map, get_or, codes, if◌then◌else◌, arith, refl, ap, sym, ◌∙◌, subst}
 use Rattle.std.specs.List.{All, AllByRecursion, AllPairs, flat_map, sum_by, enumerate_from}
 use Rattle.std.proofs.lemmas.Bool.Decides.{nat_tests}
@@ -9,13 +9,10 @@ use Rattle.std.proofs.lemmas.List.Kept.{AllPairs-from_increasing}
 use Rattle.subdiv_model.specs.Level.{Level}
 use Rattle.subdiv_model.specs.Mask.{Scheme}
 use Rattle.subdiv_model.specs.Refined.{refined_denominators}
-use Rattle.subdiv_model.specs.Support.{refined_supports, entries_after, stencil_numerator}
-use Rattle.subdiv_model.specs.NumberText.{number_text}
-use Rattle.subdiv_model.specs.Text.{line_text}
-use Rattle.subdiv_model.specs.TableText.{table_line, table_text}
+use Rattle.subdiv_model.specs.Support.{refined_supports, stencil_numerator}
+use Rattle.subdiv_model.specs.Table.{level_table}
 use Rattle.stencil_apply.specs.Table.{Share, Row, Table, IsRow, IsTable, row_at, entries_of}
 use Rattle.stencil_apply.specs.Means.{numerator_of}
-use Rattle.far_text.specs.TableText.{share_words, row_text, text_of_table}
 
 -- the first of ascending controls is below each other
 first-below : (share : Share) (shares : List Share) → AllPairs (λ x y. x < y) (map (λ (s : Share). s.0) (share ∷ shares)) → All (λ s. share.0 < s.0) shares
@@ -44,26 +41,26 @@ own-numerators (share ∷ shares) up =
     (here, later share shares shares (recursion_from_All (λ (s : Share). share.0 < s.0) shares (first-below share shares up)) (own-numerators shares (rest-up share shares up)))
 
 -- a control with its numerator
-abbrev words_by : (ℕ → ℕ) → ℕ → List (List ℕ)
-words_by numerator control = number_text control ∷ number_text (numerator control) ∷ []
+abbrev share_by : (ℕ → ℕ) → ℕ → Share
+share_by numerator control = (control, numerator control)
 
-words-same : (numerator : ℕ → ℕ) (controls : ℕ) (all rest : List Share) → ((control : ℕ) → control < controls → numerator_of all control ≡ numerator control) →
-    AllByRecursion (λ s. s.0 < controls) rest → AllByRecursion (λ s. numerator_of all s.0 ≡ s.1) rest → flat_map share_words rest ≡ flat_map (words_by numerator) (map (λ (s : Share). s.0) rest)
-words-same numerator controls all [] same inside own = refl
-words-same numerator controls all (share ∷ rest) same inside own =
-    ap (λ n. number_text share.0 ∷ number_text n ∷ flat_map share_words rest) (sym own.0 ∙ same share.0 inside.0)
-    ∙ ap (λ words. number_text share.0 ∷ number_text (numerator share.0) ∷ words) (words-same numerator controls all rest same inside.1 own.1)
+shares-same : (numerator : ℕ → ℕ) (controls : ℕ) (all rest : List Share) → ((control : ℕ) → control < controls → numerator_of all control ≡ numerator control) →
+    AllByRecursion (λ s. s.0 < controls) rest → AllByRecursion (λ s. numerator_of all s.0 ≡ s.1) rest → rest ≡ map (share_by numerator) (map (λ (s : Share). s.0) rest)
+shares-same numerator controls all [] same inside own = refl
+shares-same numerator controls all (share ∷ rest) same inside own =
+    ap (λ n. (share.0, n) ∷ rest) (sym own.0 ∙ same share.0 inside.0)
+    ∙ ap (λ shares. share_by numerator share.0 ∷ shares) (shares-same numerator controls all rest same inside.1 own.1)
 
--- the line of a row, from a denominator, numerators and its controls
-abbrev line_by : (ℕ → ℕ) → (ℕ → ℕ → ℕ) → ℕ × List ℕ → List ℕ
-line_by den numerator row = line_text (codes "s") (number_text (den row.0) ∷ flat_map (words_by (numerator row.0)) row.1)
+-- the row of a point, from a denominator, numerators and its controls
+abbrev row_by : (ℕ → ℕ) → (ℕ → ℕ → ℕ) → ℕ × List ℕ → Row
+row_by den numerator point = record { den = den point.0; shares = map (share_by (numerator point.0)) point.1 }
 
 row-same : (den : ℕ) (numerator : ℕ → ℕ) (controls : ℕ) (row : Row) → IsRow controls row → den ≡ row.den → ((control : ℕ) → control < controls → numerator_of row.shares control ≡ numerator control) →
-    row_text row ≡ line_text (codes "s") (number_text den ∷ flat_map (words_by numerator) (map (λ (s : Share). s.0) row.shares))
+    row ≡ record { den = den; shares = map (share_by numerator) (map (λ (s : Share). s.0) row.shares) }
 row-same den numerator controls row is over same =
-    ap (λ d. line_text (codes "s") (number_text d ∷ flat_map share_words row.shares)) (sym over)
-    ∙ ap (λ words. line_text (codes "s") (number_text den ∷ words))
-    (words-same numerator controls row.shares row.shares same (recursion_from_All (λ (s : Share). s.0 < controls) row.shares is.inside)
+    ap (λ d. record { den = d; shares = row.shares }) (sym over)
+    ∙ ap (λ shares. record { den = den; shares = shares })
+    (shares-same numerator controls row.shares row.shares same (recursion_from_All (λ (s : Share). s.0 < controls) row.shares is.inside)
     (own-numerators row.shares (AllPairs-from_increasing (map (λ (s : Share). s.0) row.shares) is.ascending)))
 
 -- what stands at a place that there is not
@@ -73,38 +70,27 @@ none = record { den = 1; shares = [] }
 rows-same : (den : ℕ → ℕ) (numerator : ℕ → ℕ → ℕ) (controls from : ℕ) (rows : List Row) → AllByRecursion (IsRow controls) rows →
     ((i : ℕ) → i < length rows → den (from + i) ≡ (get_or rows i none).den) →
     ((i control : ℕ) → i < length rows → control < controls → numerator_of (get_or rows i none).shares control ≡ numerator (from + i) control) →
-    flat_map row_text rows ≡ flat_map (line_by den numerator) (enumerate_from from (map (λ (row : Row). map (λ (s : Share). s.0) row.shares) rows))
+    rows ≡ map (row_by den numerator) (enumerate_from from (map (λ (row : Row). map (λ (s : Share). s.0) row.shares) rows))
 rows-same den numerator controls from [] are over same = refl
 rows-same den numerator controls from (row ∷ rows) are over same =
     let here : from ≡ from + 0 = omega arith in
     let further : (i : ℕ) → (from + 1) + i ≡ from + suc i = λ i. omega arith in
-    let first : row_text row ≡ line_by den numerator (from, map (λ (s : Share). s.0) row.shares) =
+    let first : row ≡ row_by den numerator (from, map (λ (s : Share). s.0) row.shares) =
     row-same (den from) (numerator from) controls row are.0 (ap den here ∙ over 0 (omega arith))
     (λ control h. same 0 control (omega arith) h ∙ ap (λ p. numerator p control) (sym here)) in
-    ap (λ line. line ++ flat_map row_text rows) first
-    ∙ ap (λ lines. line_by den numerator (from, map (λ (s : Share). s.0) row.shares) ++ lines)
+    ap (λ r. r ∷ rows) first
+    ∙ ap (λ rs. row_by den numerator (from, map (λ (s : Share). s.0) row.shares) ∷ rs)
     (rows-same den numerator controls (from + 1) rows are.1
     (λ i h. ap den (further i) ∙ over (suc i) (omega (arith, h)))
     (λ i control h inside. same (suc i) control (omega (arith, h)) inside ∙ ap (λ p. numerator p control) (sym (further i))))
 
-entries-by-supports : (rows : List Row) → entries_of rows ≡ sum_by length (map (λ (row : Row). map (λ (s : Share). s.0) row.shares) rows)
-entries-by-supports [] = refl
-entries-by-supports (row ∷ rows) =
-    sum_by-cons (λ (r : Row). length r.shares) row rows
-    ∙ ap (λ n. n + entries_of rows) (sym (length-map row.shares (λ (s : Share). s.0)))
-    ∙ ap (λ n. length (map (λ (s : Share). s.0) row.shares) + n) (entries-by-supports rows)
-    ∙ sym (sum_by-cons length (map (λ (s : Share). s.0) row.shares) (map (λ (r : Row). map (λ (s : Share). s.0) r.shares) rows))
-
--- the text of the table of the level after k steps
-pub table_text-same : (table : Table) (level : Level) (scheme : Scheme) (k : ℕ) → table.controls ≡ level.point_count →
+-- the table of the level after k steps
+pub level-table : (table : Table) (level : Level) (scheme : Scheme) (k : ℕ) → table.controls ≡ level.point_count →
     map (λ row. row.den) table.rows ≡ refined_denominators level scheme k →
     map (λ row. map (λ share. share.0) row.shares) table.rows ≡ refined_supports level scheme k →
     ((p control : ℕ) → p < length table.rows → control < level.point_count → numerator_of (row_at table p).shares control ≡ stencil_numerator level scheme k p control) →
-    IsTable table → text_of_table table ≡ table_text level scheme k
-table_text-same table level scheme k controls dens supports numerators is =
-    let many : length table.rows ≡ length (refined_supports level scheme k) =
-    sym (length-map table.rows (λ (row : Row). map (λ (s : Share). s.0) row.shares)) ∙ ap length supports in
-    let entries : entries_of table.rows ≡ entries_after level scheme k = entries-by-supports table.rows ∙ ap (sum_by length) supports in
+    IsTable table → table ≡ level_table level scheme k
+level-table table level scheme k controls dens supports numerators is =
     let den : ℕ → ℕ = λ p. get_or (refined_denominators level scheme k) p 1 in
     let from_zero : (i : ℕ) → 0 + i ≡ i = λ i. omega arith in
     let over : (i : ℕ) → i < length table.rows → den (0 + i) ≡ (get_or table.rows i none).den =
@@ -112,9 +98,7 @@ table_text-same table level scheme k controls dens supports numerators is =
     let same : (i control : ℕ) → i < length table.rows → control < level.point_count → numerator_of (get_or table.rows i none).shares control ≡ stencil_numerator level scheme k (0 + i) control =
     λ i control h inside. numerators i control h inside ∙ ap (λ p. stencil_numerator level scheme k p control) (sym (from_zero i)) in
     let rows : AllByRecursion (IsRow level.point_count) table.rows = recursion_from_All (IsRow level.point_count) table.rows (subst (λ (n : ℕ). All (IsRow n) table.rows) controls is.rows) in
-    let lines = rows-same den (stencil_numerator level scheme k) level.point_count 0 table.rows rows over same in
-    ap (λ n. table_line n (length table.rows) (entries_of table.rows) ++ flat_map row_text table.rows) controls
-    ∙ ap (λ n. table_line level.point_count n (entries_of table.rows) ++ flat_map row_text table.rows) many
-    ∙ ap (λ n. table_line level.point_count (length (refined_supports level scheme k)) n ++ flat_map row_text table.rows) entries
-    ∙ ap (λ text. table_line level.point_count (length (refined_supports level scheme k)) (entries_after level scheme k) ++ text)
-    (lines ∙ ap (λ list. flat_map (line_by den (stencil_numerator level scheme k)) (enumerate_from 0 list)) supports)
+    ap (λ n. record { controls = n; rows = table.rows }) controls
+    ∙ ap (λ rs. record { controls = level.point_count; rows = rs })
+    (rows-same den (stencil_numerator level scheme k) level.point_count 0 table.rows rows over same
+    ∙ ap (λ list. map (row_by den (stencil_numerator level scheme k)) (enumerate_from 0 list)) supports)
