@@ -23,7 +23,7 @@ use Rattle.subdiv_model.specs.SparseText.{sparse_text}
 use Rattle.subdiv_model.specs.Limit.{limit_faults, limit_points}
 use Rattle.subdiv_model.specs.Patch.{patch_faults, patch_text}
 use Rattle.subdiv_model.specs.Generator.{generated_mesh}
-use Rattle.far_model.specs.Command.{Command, Reads, Makes, Streams, ReadCommand, Refine, Sparse, Stencils, Limit, Levels, Patch, MakeCommand, Gen, StreamCommand, Frames, RefineOptions, SparseOptions, LimitOptions, PatchOptions, FramesOptions, Select, FeatureFaces, AllFaces, Uv, SmoothUv, CornersUv, BoundariesUv, LinearUv, By, ByTable, ByLevel, read_words}
+use Rattle.far_model.specs.Command.{Command, Reads, Stored, Makes, Streams, StoredCommand, Verify, Apply, ReadCommand, Refine, Sparse, Stencils, Limit, Levels, Patch, MakeCommand, Gen, StreamCommand, Frames, RefineOptions, SparseOptions, LimitOptions, PatchOptions, FramesOptions, Select, FeatureFaces, AllFaces, Uv, SmoothUv, CornersUv, BoundariesUv, LinearUv, By, ByTable, ByLevel, read_words}
 use Rattle.subdiv_model.specs.Limits.{count_faults, level_count_faults}
 use Rattle.subdiv_model.specs.Fault.{Fault, Usage, Long, Obj, Mesh, Positions, Texture}
 use Rattle.far_model.specs.Refusal.{Answer, refused, answer_unless}
@@ -32,16 +32,19 @@ use Rattle.far_model.specs.Frames.{mesh_lines, frames_rule}
 use Rattle.subdiv_model.specs.NumberText.{number_text}
 use Rattle.subdiv_model.specs.Text.{line_text, point_words, mesh_text, textured_mesh_text, tags_text}
 use Rattle.subdiv_model.specs.LevelText.{levels_text}
+use Rattle.subdiv_model.specs.Fault as faults
+use Rattle.subdiv_model.specs.Table.{Table, level_table}
+use Rattle.subdiv_model.specs.TableFault.{TableFault}
+use Rattle.subdiv_model.specs.ReadTable.{Reading, read_table}
 use Rattle.subdiv_model.specs.TableText.{table_text}
+pub use Rattle.far_model.specs.Stored.{point_numbers}
+use Rattle.far_model.specs.Stored.{mesh_part, answer_of_stored_table, control_fault, points_text}
 
 -- how many bytes an input has at most
 abbrev pub byte_limit : ℕ
 byte_limit = 2 ^ 28
 
--- the coordinates of all points, and the coordinates of all texture values
-abbrev pub point_numbers : List (ℤ × ℤ × ℤ) → List ℤ
-point_numbers points = flat_map (λ p. p.0 ∷ p.1 ∷ p.2 ∷ []) points
-
+-- the coordinates of all texture values
 abbrev pub texture_numbers : List (ℤ × ℤ) → List ℤ
 texture_numbers values = flat_map (λ p. p.0 ∷ p.1 ∷ []) values
 
@@ -203,17 +206,24 @@ abbrev pub answer_of_read : ReadCommand → Option ObjFault → ObjMesh → Answ
 answer_of_read command (Some fault) mesh = refused (Obj fault)
 answer_of_read command None mesh = answer_of_checked command (first_mesh_fault (length mesh.points) mesh.faces) mesh
 
+-- the answer to an input of at most 2^28 bytes; a longer one is refused
+abbrev pub unless_long : (List ℕ → Answer) → List ℕ → Answer
+unless_long answer bytes = if nat_lt byte_limit (length bytes) then refused Long else answer bytes
+
 abbrev pub answer_of_bytes : ReadCommand → List ℕ → Answer
-answer_of_bytes command bytes =
-    if nat_lt byte_limit (length bytes) then refused Long else answer_of_read command (read_obj_fault bytes 0) (read_obj_mesh bytes 0)
+answer_of_bytes command bytes = unless_long (λ text. answer_of_read command (read_obj_fault text 0) (read_obj_mesh text 0)) bytes
 
 -- a mesh that the program makes by itself is accepted unread
 abbrev pub answer_of_made : MakeCommand → Answer
 answer_of_made command = answer_unless (first_of (count_faults (made_mesh command) ++ made_faults command)) (made_text command)
 
--- what is refused of the lines of a mesh whose points are moved: what `stencils` refuses
+-- what is refused of the lines of a mesh whose table at a depth is composed, where a power of ten divides their common denominator
+abbrev pub composition_refusal : ℕ → ℕ → List (List (List ℕ)) → Option Fault
+composition_refusal depth scale lines = (answer_of_read (Stencils depth) (lines_fault lines scale) (mesh_of_lines lines scale)).refusal
+
+-- what is refused of the lines of a mesh whose points are moved
 abbrev pub frames_refusal : FramesOptions → List (List (List ℕ)) → Option Fault
-frames_refusal options lines = (answer_of_read (Stencils options.depth) (lines_fault lines options.scale) (mesh_of_lines lines options.scale)).refusal
+frames_refusal options lines = composition_refusal options.depth options.scale lines
 
 -- the mesh, by its lines
 abbrev pub frames_mesh : FramesOptions → List (List (List ℕ)) → ObjMesh
@@ -223,12 +233,38 @@ frames_mesh options lines = mesh_of_lines lines options.scale
 abbrev pub frames_lines : List ℕ → List (List (List ℕ))
 frames_lines bytes = mesh_lines (obj_lines bytes)
 
+-- the mesh before a stored table, and the table of its level at a depth
+abbrev pub mesh_before_table : List ℕ → ObjMesh
+mesh_before_table bytes = mesh_of_lines (mesh_part bytes) 0
+
+abbrev pub own_table : ℕ → ObjMesh → Table
+own_table depth mesh = level_table (base_level mesh) CatmullClark depth
+
+-- the stored table is that of the mesh before it
+abbrev pub answer_of_verify : ℕ → List ℕ → Answer
+answer_of_verify depth bytes = answer_of_stored_table (composition_refusal depth 0 (mesh_part bytes)) (own_table depth (mesh_before_table bytes)) bytes
+
+-- the stored table is evaluated over the points of the text behind it
+abbrev pub answer_of_apply : Result Reading TableFault → Answer
+answer_of_apply (Err fault) = refused (faults.Table fault)
+answer_of_apply (Ok reading) =
+    let mesh = read_obj_mesh reading.rest 0 in
+    answer_unless (control_fault reading.table (read_obj_fault reading.rest 0) mesh) (points_text reading.table mesh)
+
+abbrev pub answer_of_stored_text : StoredCommand → List ℕ → Answer
+answer_of_stored_text (Verify depth) bytes = answer_of_verify depth bytes
+answer_of_stored_text Apply bytes = answer_of_apply (read_table bytes)
+
+abbrev pub answer_of_stored : StoredCommand → List ℕ → Answer
+answer_of_stored command bytes = unless_long (answer_of_stored_text command) bytes
+
 -- what each line of an input adds under a command that answers while it reads
 abbrev pub rule_of : StreamCommand → LineRule
 rule_of (Frames options) = frames_rule options.depth (frames_refusal options) (frames_mesh options)
 
 abbrev pub answer_of_command : Command → List ℕ → Answer
 answer_of_command (Reads command) bytes = answer_of_bytes command bytes
+answer_of_command (Stored command) bytes = answer_of_stored command bytes
 answer_of_command (Makes command) bytes = answer_of_made command
 answer_of_command (Streams command) bytes = answer_of_lines (rule_of command) byte_limit bytes
 
@@ -245,9 +281,16 @@ abbrev pub IsAcceptedOfLines : FramesOptions → List (List (List ℕ)) → ObjM
 IsAcceptedOfLines options lines mesh =
     (lines_fault lines options.scale ≡ None) × (frames_mesh options lines ≡ mesh) × (first_mesh_fault (length mesh.points) mesh.faces ≡ None)
 
+-- the mesh of lines before a stored table is accepted so too; points over which a table is evaluated are not judged as a mesh
+abbrev pub IsAcceptedBeforeTable : StoredCommand → List ℕ → ObjMesh → Type 0
+IsAcceptedBeforeTable (Verify depth) bytes mesh =
+    (lines_fault (mesh_part bytes) 0 ≡ None) × (mesh_before_table bytes ≡ mesh) × (first_mesh_fault (length mesh.points) mesh.faces ≡ None)
+IsAcceptedBeforeTable Apply bytes mesh = ⊥
+
 -- the mesh of a command is accepted: the one that it makes is, and one that is read where neither its text nor its faces have a fault
 abbrev pub IsAcceptedMesh : Command → List ℕ → ObjMesh → Type 0
 IsAcceptedMesh (Reads command) bytes mesh =
     (read_obj_fault bytes 0 ≡ None) × (read_obj_mesh bytes 0 ≡ mesh) × (first_mesh_fault (length mesh.points) mesh.faces ≡ None)
+IsAcceptedMesh (Stored command) bytes mesh = IsAcceptedBeforeTable command bytes mesh
 IsAcceptedMesh (Makes command) bytes mesh = made_mesh command ≡ mesh
 IsAcceptedMesh (Streams (Frames options)) bytes mesh = IsAcceptedOfLines options (frames_lines bytes) mesh

@@ -79,8 +79,16 @@ pub data MakeCommand : Type 0 where
 pub data StreamCommand : Type 0 where
   Frames : FramesOptions → StreamCommand
 
+-- the commands that take a stored table and then answer: `verify` compares it with the table of a mesh, and `apply` evaluates it
+-- over the points of one
+pub data StoredCommand : Type 0 where
+  -- the depth
+  Verify : ℕ → StoredCommand
+  Apply : StoredCommand
+
 pub data Command : Type 0 where
   Reads : ReadCommand → Command
+  Stored : StoredCommand → Command
   Makes : MakeCommand → Command
   Streams : StreamCommand → Command
 
@@ -147,6 +155,8 @@ command_named name options =
     else if bytes_eq name (codes "frames") then Streams (Frames (frames_of options))
     else if bytes_eq name (codes "levels") then Reads (Levels (required_number options (codes "depth")))
     else if bytes_eq name (codes "patch") then Reads (Patch (patch_of options))
+    else if bytes_eq name (codes "verify") then Stored (Verify (required_number options (codes "depth")))
+    else if bytes_eq name (codes "apply") then Stored Apply
     else Makes (Gen (gen_of options))
 
 abbrev pub command_of : List (List ℕ) → Command
@@ -174,6 +184,10 @@ IsReadInRange (Limit options) = (1 ≤ options.depth) × (options.depth ≤ 10) 
 IsReadInRange (Levels depth) = depth ≤ 10
 IsReadInRange (Patch options) = (options.depth ≤ 10) × (options.face < 2 ^ 22) × (1 ≤ options.grid) × (options.grid ≤ 64)
 
+abbrev pub IsStoredInRange : StoredCommand → Type 0
+IsStoredInRange (Verify depth) = depth ≤ 10
+IsStoredInRange Apply = Unit {0}
+
 abbrev pub IsMakeInRange : MakeCommand → Type 0
 IsMakeInRange (Gen options) = (1 ≤ options.size) × (options.size ≤ 256) × (options.depth ≤ 10)
 
@@ -182,5 +196,6 @@ IsStreamInRange (Frames options) = (options.depth ≤ 10) × (options.scale ≤ 
 
 abbrev pub IsInRange : Command → Type 0
 IsInRange (Reads command) = IsReadInRange command
+IsInRange (Stored command) = IsStoredInRange command
 IsInRange (Makes command) = IsMakeInRange command
 IsInRange (Streams command) = IsStreamInRange command

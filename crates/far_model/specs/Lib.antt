@@ -3,6 +3,8 @@ pub mod Command
 pub mod Refusal
 pub mod Stream
 pub mod Frames
+pub mod Stored
 pub mod Answer
 pub mod Examples
+pub mod ExampleStored
 pub mod ExampleFrames

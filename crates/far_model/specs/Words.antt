@@ -59,6 +59,8 @@ command_table =
     ∷ record { name = codes "frames"; options = required_option (codes "depth") 0 10 ∷ number_option (codes "scale") 0 18 ∷ [] }
     ∷ record { name = codes "levels"; options = required_option (codes "depth") 0 10 ∷ [] }
     ∷ record { name = codes "patch"; options = required_option (codes "depth") 0 10 ∷ required_option (codes "face") 0 4194303 ∷ required_option (codes "grid") 1 64 ∷ [] }
+    ∷ record { name = codes "verify"; options = required_option (codes "depth") 0 10 ∷ [] }
+    ∷ record { name = codes "apply"; options = [] }
     ∷ record { name = codes "gen"; options = required_option (codes "seed") 0 4294967295 ∷ required_option (codes "size") 1 256 ∷ required_option (codes "depth") 0 10 ∷ [] }
     ∷ []
 

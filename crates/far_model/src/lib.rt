@@ -7,5 +7,6 @@
 
 pub mod answers;
 pub mod frames;
+pub mod stored;
 pub mod streams;
 pub mod words;
