@@ -11,7 +11,7 @@ use Rattle.std.proofs.lemmas.Slice.Eq.{bytes_eq-Decides}
 use Rattle.std.proofs.lemmas.Map.Keys.{IsDistinct-IsPermutation}
 use Rattle.std.proofs.lemmas.Map.Views.{Contains-from_lookup, lookup-from_Contains}
 use Rattle.far_model.specs.Words.{OptionRule, CommandRule, option_name, option_value, is_option_of, has_option, has_required, first_bad_option, value_of, usage_of_options, usage_of_rule, required_number, rule_named, usage_of}
-use Rattle.far_model.specs.Command.{Command, Reads, Makes, Streams, Refine, Sparse, Stencils, Limit, Levels, Patch, Gen, Frames, RefineOptions, SparseOptions, LimitOptions, PatchOptions, FramesOptions, GenOptions, command_named, frames_of, gen_of, limit_of, patch_of, refine_of, sparse_of, read_words_by, read_or}
+use Rattle.far_model.specs.Command.{Command, Reads, Stored, Makes, Streams, Refine, Sparse, Stencils, Limit, Levels, Patch, Verify, Apply, Gen, Frames, RefineOptions, SparseOptions, LimitOptions, PatchOptions, FramesOptions, GenOptions, command_named, frames_of, gen_of, limit_of, patch_of, refine_of, sparse_of, read_words_by, read_or}
 use Rattle.far_words.proofs.GoodOptionLemmas.{names_of, IsGood, good-or-early, none-bad-of-good}
 
 -- an option as its name and its value
@@ -128,6 +128,8 @@ command-by name refine sparse depth limit frames patch gen =
     else if bytes_eq name (codes "frames") then Streams (Frames frames)
     else if bytes_eq name (codes "levels") then Reads (Levels depth)
     else if bytes_eq name (codes "patch") then Reads (Patch patch)
+    else if bytes_eq name (codes "verify") then Stored (Verify depth)
+    else if bytes_eq name (codes "apply") then Stored Apply
     else Makes (Gen gen)
 
 -- a command is filled in by the values of its options

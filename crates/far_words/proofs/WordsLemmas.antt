@@ -73,6 +73,10 @@ patch_rule = record {
 abbrev frames_rule : CommandRule
 frames_rule = record { name = codes "frames"; options = required_option (codes "depth") 0 10 ∷ number_option (codes "scale") 0 18 ∷ [] }
 
+-- of a command without options
+abbrev apply_rule : CommandRule
+apply_rule = record { name = codes "apply"; options = [] }
+
 -- a value that is a number between two others
 within_bounds : (digits : Bool) (least greatest n : ℕ) → ((digits && nat_le least n && nat_le n greatest) || false) ≡ true → (least ≤ n) × (n ≤ greatest)
 within_bounds true least greatest n allowed = (grind (arith, nat_tests), grind (arith, nat_tests))
@@ -194,32 +198,46 @@ pub says-in-range : (words : List (List ℕ)) → usage_of command_table words �
 says-in-range [] none = absurd (cc)
 says-in-range (name ∷ options) none =
     by_test (bytes_eq name (codes "refine")) (bytes_eq name (codes "sparse")) (bytes_eq name (codes "stencils")) (bytes_eq name (codes "limit"))
-    (bytes_eq name (codes "frames")) (bytes_eq name (codes "levels")) (bytes_eq name (codes "patch")) (bytes_eq name (codes "gen"))
-    refl refl refl refl refl refl refl refl none
+    (bytes_eq name (codes "frames")) (bytes_eq name (codes "levels")) (bytes_eq name (codes "patch")) (bytes_eq name (codes "verify"))
+    (bytes_eq name (codes "apply")) (bytes_eq name (codes "gen"))
+    refl refl refl refl refl refl refl refl refl refl none
   where
     -- the command is that of this name
     named : (known : List ℕ) → bytes_eq name known ≡ true → IsInRange (command_of (known ∷ options)) → IsInRange (command_of (name ∷ options))
     named known is built = subst IsInRange (sym (ap (λ n. command_of (n ∷ options)) ((bytes_eq-Decides name known).0 is))) built
 
-    by_test : (refined thinned tabled limited moved counted patched made : Bool) → bytes_eq name (codes "refine") ≡ refined → bytes_eq name (codes "sparse") ≡ thinned →
-        bytes_eq name (codes "stencils") ≡ tabled → bytes_eq name (codes "limit") ≡ limited → bytes_eq name (codes "frames") ≡ moved →
-        bytes_eq name (codes "levels") ≡ counted → bytes_eq name (codes "patch") ≡ patched → bytes_eq name (codes "gen") ≡ made →
+    by_test : (refined thinned tabled limited moved counted patched verified applied made : Bool) →
+        bytes_eq name (codes "refine") ≡ refined → bytes_eq name (codes "sparse") ≡ thinned → bytes_eq name (codes "stencils") ≡ tabled → bytes_eq name (codes "limit") ≡ limited →
+        bytes_eq name (codes "frames") ≡ moved → bytes_eq name (codes "levels") ≡ counted → bytes_eq name (codes "patch") ≡ patched → bytes_eq name (codes "verify") ≡ verified →
+        bytes_eq name (codes "apply") ≡ applied → bytes_eq name (codes "gen") ≡ made →
         usage_of_rule
         (cond refined (Some refine_rule) (cond thinned (Some sparse_rule) (cond tabled (Some (depth_rule (codes "stencils"))) (cond limited (Some limit_rule)
-        (cond moved (Some frames_rule) (cond counted (Some (depth_rule (codes "levels"))) (cond patched (Some patch_rule) (cond made (Some gen_rule) None))))))))
+        (cond moved (Some frames_rule) (cond counted (Some (depth_rule (codes "levels"))) (cond patched (Some patch_rule) (cond verified (Some (depth_rule (codes "verify")))
+        (cond applied (Some apply_rule) (cond made (Some gen_rule) None))))))))))
         options ≡ None →
         IsInRange (command_of (name ∷ options))
-    by_test true thinned tabled limited moved counted patched made is d e l f g p h none = named (codes "refine") is (refine_depth options none, refine_decimals options none)
-    by_test false true tabled limited moved counted patched made d is e l f g p h none = named (codes "sparse") is (sparse_depth options none, sparse_decimals options none)
-    by_test false false true limited moved counted patched made d e is l f g p h none = named (codes "stencils") is (depth_alone (codes "stencils") options none)
-    by_test false false false true moved counted patched made d e l is f g p h none =
+    by_test true thinned tabled limited moved counted patched verified applied made is d e l f g p h i j none =
+        named (codes "refine") is (refine_depth options none, refine_decimals options none)
+    by_test false true tabled limited moved counted patched verified applied made d is e l f g p h i j none =
+        named (codes "sparse") is (sparse_depth options none, sparse_decimals options none)
+    by_test false false true limited moved counted patched verified applied made d e is l f g p h i j none =
+        named (codes "stencils") is (depth_alone (codes "stencils") options none)
+    by_test false false false true moved counted patched verified applied made d e l is f g p h i j none =
         let depth = limit_depth options none in
         named (codes "limit") is (depth.0, depth.1, limit_decimals options none)
-    by_test false false false false true counted patched made d e l f is g p h none = named (codes "frames") is (frames_depth options none, frames_scale options none)
-    by_test false false false false false true patched made d e l f g is p h none = named (codes "levels") is (depth_alone (codes "levels") options none)
-    by_test false false false false false false true made d e l f g p is h none = named (codes "patch") is (patch_numbers options none)
-    by_test false false false false false false false true d e l f g p h is none = named (codes "gen") is (gen_numbers options none)
-    by_test false false false false false false false false d e l f g p h i none = absurd (cc)
+    by_test false false false false true counted patched verified applied made d e l f is g p h i j none =
+        named (codes "frames") is (frames_depth options none, frames_scale options none)
+    by_test false false false false false true patched verified applied made d e l f g is p h i j none =
+        named (codes "levels") is (depth_alone (codes "levels") options none)
+    by_test false false false false false false true verified applied made d e l f g p is h i j none =
+        named (codes "patch") is (patch_numbers options none)
+    by_test false false false false false false false true applied made d e l f g p h is i j none =
+        named (codes "verify") is (depth_alone (codes "verify") options none)
+    by_test false false false false false false false false true made d e l f g p h i is j none =
+        named (codes "apply") is tt
+    by_test false false false false false false false false false true d e l f g p h i j is none =
+        named (codes "gen") is (gen_numbers options none)
+    by_test false false false false false false false false false false d e l f g p h i j k none = absurd (cc)
 
 -- a command that was read is within the bounds of its options
 pub read-in-range : (words : List (List ℕ)) (r : Result Command ℕ) → result_of_code r ≡ read_words_by command_table words →

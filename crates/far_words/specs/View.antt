@@ -21,12 +21,14 @@ use Rattle.far_words.specs.declared.command.GenOptions.{GenOptions}
 use Rattle.far_words.specs.declared.command.FramesOptions.{FramesOptions}
 use Rattle.far_words.specs.declared.command.ReadCommand.{ReadCommand}
 use Rattle.far_words.specs.declared.command.ReadCommand.TheVariants.{Refine, Sparse, Stencils, Limit, Levels, Patch}
+use Rattle.far_words.specs.declared.command.StoredCommand.{StoredCommand}
+use Rattle.far_words.specs.declared.command.StoredCommand.TheVariants.{Verify, Apply}
 use Rattle.far_words.specs.declared.command.MakeCommand.{MakeCommand}
 use Rattle.far_words.specs.declared.command.MakeCommand.TheVariants.{Gen}
 use Rattle.far_words.specs.declared.command.StreamCommand.{StreamCommand}
 use Rattle.far_words.specs.declared.command.StreamCommand.TheVariants.{Frames}
 use Rattle.far_words.specs.declared.command.Command.{Command}
-use Rattle.far_words.specs.declared.command.Command.TheVariants.{Read, Make, Stream}
+use Rattle.far_words.specs.declared.command.Command.TheVariants.{Read, Stored, Make, Stream}
 
 abbrev pub kind_of_code : ValueKind → words.ValueKind
 kind_of_code (Between least greatest) = words.Between least greatest
@@ -87,6 +89,10 @@ read_of_code (Limit options) = model.Limit (limit_of_code options)
 read_of_code (Levels depth) = model.Levels depth
 read_of_code (Patch options) = model.Patch (patch_of_code options)
 
+abbrev pub stored_of_code : StoredCommand → model.StoredCommand
+stored_of_code (Verify depth) = model.Verify depth
+stored_of_code Apply = model.Apply
+
 abbrev pub make_of_code : MakeCommand → model.MakeCommand
 make_of_code (Gen options) = model.Gen (gen_of_code options)
 
@@ -95,6 +101,7 @@ stream_of_code (Frames options) = model.Frames (frames_of_code options)
 
 abbrev pub command_of_code : Command → model.Command
 command_of_code (Read command) = model.Reads (read_of_code command)
+command_of_code (Stored command) = model.Stored (stored_of_code command)
 command_of_code (Make command) = model.Makes (make_of_code command)
 command_of_code (Stream command) = model.Streams (stream_of_code command)
 

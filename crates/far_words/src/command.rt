@@ -1,8 +1,8 @@
 //! Commands as values.
 
 ghost use Rattle.std.specs.Prelude.{◌↔◌, IsTrue};
-ghost use Rattle.far_model.specs.Command.{IsInRange, IsMakeInRange, IsReadInRange, IsStreamInRange};
-ghost use Rattle.far_words.specs.View.{command_of_code, make_of_code, read_of_code, stream_of_code};
+ghost use Rattle.far_model.specs.Command.{IsInRange, IsMakeInRange, IsReadInRange, IsStoredInRange, IsStreamInRange};
+ghost use Rattle.far_words.specs.View.{command_of_code, make_of_code, read_of_code, stored_of_code, stream_of_code};
 
 /// How the texture is refined, and what stays sharp where seams cut it.
 #[derive(Clone, Copy, Debug, PartialEq, Eq)]
@@ -114,6 +114,15 @@ pub enum ReadCommand {
     Patch(PatchOptions),
 }
 
+/// A command that takes a stored table and then answers.
+#[derive(Clone, Copy, Debug, PartialEq, Eq)]
+pub enum StoredCommand {
+    /// Compares the table with that of the mesh before it, at a depth of at most 10.
+    Verify { depth: u32 },
+    /// Evaluates the table over the points behind it.
+    Apply,
+}
+
 /// A command that makes its mesh, and reads nothing.
 #[derive(Clone, Copy, Debug, PartialEq, Eq)]
 pub enum MakeCommand {
@@ -132,6 +141,7 @@ pub enum StreamCommand {
 #[derive(Clone, Copy, Debug, PartialEq, Eq)]
 pub enum Command {
     Read(ReadCommand),
+    Stored(StoredCommand),
     Make(MakeCommand),
     Stream(StreamCommand),
 }
@@ -159,6 +169,18 @@ impl ReadCommand {
                     && 1 <= options.grid
                     && options.grid <= 64
             }
+        }
+    }
+}
+
+impl StoredCommand {
+    /// Whether the numbers of the command are those that its options allow.
+    pub fn is_in_range(&self) -> bool
+        ensures { IsTrue result ↔ IsStoredInRange (stored_of_code self.now) }
+    {
+        match *self {
+            StoredCommand::Verify { depth } => depth <= 10,
+            StoredCommand::Apply => true,
         }
     }
 }
@@ -194,6 +216,7 @@ impl Command {
     {
         match self {
             Command::Read(command) => command.is_in_range(),
+            Command::Stored(command) => command.is_in_range(),
             Command::Make(command) => command.is_in_range(),
             Command::Stream(command) => command.is_in_range(),
         }

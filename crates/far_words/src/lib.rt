@@ -10,7 +10,7 @@ mod table;
 
 pub use command::{
     By, Command, FramesOptions, GenOptions, LimitOptions, MakeCommand, PatchOptions, ReadCommand,
-    RefineOptions, Select, SparseOptions, StreamCommand, Uv,
+    RefineOptions, Select, SparseOptions, StoredCommand, StreamCommand, Uv,
 };
 pub use read::{read_words, read_words_by};
 pub use table::{CommandRule, OptionRule, ValueKind, command_table};

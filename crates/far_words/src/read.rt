@@ -11,7 +11,7 @@ ghost use Rattle.far_words.specs.Table.{AreNumbersU32, is_u32_rule, is_u32_table
 
 use crate::command::{
     By, Command, FramesOptions, GenOptions, LimitOptions, MakeCommand, PatchOptions, ReadCommand,
-    RefineOptions, Select, SparseOptions, StreamCommand, Uv,
+    RefineOptions, Select, SparseOptions, StoredCommand, StreamCommand, Uv,
 };
 use crate::options::{first_bad_option, has_required, number_of, value_of};
 use crate::table::{CommandRule, command_table};
@@ -136,6 +136,10 @@ fn command_named(name: &str, options: &[String]) -> Command
             depth: required_number(options, "depth"),
         }),
         "patch" => Command::Read(ReadCommand::Patch(patch_of(options))),
+        "verify" => Command::Stored(StoredCommand::Verify {
+            depth: required_number(options, "depth"),
+        }),
+        "apply" => Command::Stored(StoredCommand::Apply),
         _ => Command::Make(MakeCommand::Gen(gen_of(options))),
     }
 }

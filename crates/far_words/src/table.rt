@@ -100,6 +100,14 @@ const COMMANDS: &[CommandRule] = &[
         ],
     },
     CommandRule {
+        name: "verify",
+        options: &[required_option!("depth", 0, 10)],
+    },
+    CommandRule {
+        name: "apply",
+        options: &[],
+    },
+    CommandRule {
         name: "gen",
         options: &[
             required_option!("seed", 0, 4_294_967_295),
