@@ -5,6 +5,7 @@ use Rattle.obj_tags.specs.View.{cause_of}
 use Rattle.level_topology.specs.CountedText.{counted_of}
 use Rattle.mesh_check.specs.View.{mesh_fault_of}
 use Rattle.level_walk.specs.View.{kind_of}
+use Rattle.table_file.specs.View as table
 use Rattle.far_fault.specs.declared.fault.Track.{Track}
 use Rattle.far_fault.specs.declared.fault.Track.TheVariants.{Positions, Texture, LimitRows, Patch}
 use Rattle.far_fault.specs.declared.fault.LimitCause.{LimitCause}
@@ -12,7 +13,7 @@ use Rattle.far_fault.specs.declared.fault.LimitCause.TheVariants.{Dart, SemiShar
 use Rattle.far_fault.specs.declared.fault.PlaceFault.{PlaceFault}
 use Rattle.far_fault.specs.declared.fault.PlaceFault.TheVariants.{NoFace, NotRegular}
 use Rattle.far_fault.specs.declared.fault.FarFault.{FarFault}
-use Rattle.far_fault.specs.declared.fault.FarFault.TheVariants.{Usage, Read, Long, Obj, Mesh, TooLarge, Overflow, Limit, Place, Write, Memory}
+use Rattle.far_fault.specs.declared.fault.FarFault.TheVariants.{Usage, Read, Long, Obj, Mesh, TooLarge, Overflow, Limit, Place, Table, Differs, Controls, Write, Memory}
 
 abbrev pub track_of : Track → model.Track
 track_of Positions = model.Positions
@@ -38,6 +39,9 @@ fault_of (TooLarge counted) = model.TooLarge (counted_of counted)
 fault_of (Overflow track level kind) = model.Overflow (track_of track) level (kind_of kind)
 fault_of (Limit cause) = model.Limit (limit_cause_of cause)
 fault_of (Place fault) = model.Place (place_fault_of fault)
+fault_of (Table line cause) = model.Table (record { line = line; cause = table.cause_of cause })
+fault_of (Differs row) = model.Differs row
+fault_of (Controls count) = model.Controls count
 fault_of Write = model.Write
 fault_of Memory = model.Memory
 

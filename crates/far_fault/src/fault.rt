@@ -11,6 +11,7 @@ use mesh_check::MeshFault;
 use obj_tags::{ObjCause, ObjFault};
 use ratio128::Memory;
 use std::fmt;
+use table_file::{TableCause, TableFault};
 use text_pieces::Pieces;
 
 /// The values in which a number passes its bound.
@@ -77,6 +78,19 @@ pub enum FarFault {
     Limit(LimitCause),
     /// A place on the last level has no answer.
     Place(PlaceFault),
+    /// A stored table is refused. `line` is its first bad line, counted from 1 over the whole input.
+    Table {
+        line: u32,
+        cause: TableCause,
+    },
+    /// A stored table differs from that of the mesh. `row` is the first such row, counted from 0.
+    Differs {
+        row: u32,
+    },
+    /// There are not as many points as the stored table has control points. `count` is how many there are.
+    Controls {
+        count: u32,
+    },
     /// A write or a flush failed.
     Write,
     /// Memory ran out.
@@ -93,7 +107,7 @@ impl From<Memory> for FarFault {
     }
 }
 
-/// Returns the exit status of a fault, from 2 to 11 or 13, as `docs/formats.md` lists it.
+/// Returns the exit status of a fault, from 2 to 11 or from 13 to 16, as `docs/formats.md` lists it.
 pub fn status(fault: &FarFault) -> u8
     ensures { result ≡ fault_status (fault_of fault.now) }
 {
@@ -107,6 +121,9 @@ pub fn status(fault: &FarFault) -> u8
         FarFault::Overflow { .. } => 8,
         FarFault::Limit(_) => 9,
         FarFault::Place(_) => 13,
+        FarFault::Table { .. } => 14,
+        FarFault::Differs { .. } => 15,
+        FarFault::Controls { .. } => 16,
         FarFault::Write => 10,
         FarFault::Memory => 11,
     }
@@ -175,6 +192,11 @@ impl FarFault {
             }
             FarFault::Limit(cause) => limit_pieces(cause),
             FarFault::Place(fault) => place_pieces(fault),
+            FarFault::Table { line, cause } => TableFault { line, cause }.pieces(),
+            FarFault::Differs { row } => Pieces::about("row ", row as u64, " differs"),
+            FarFault::Controls { count } => {
+                Pieces::about("", count as u64, " control points given")
+            }
             FarFault::Write => Pieces::plain("writing failed"),
             FarFault::Memory => Pieces::plain(Memory.text()),
         }

@@ -8,4 +8,5 @@ mod walk;
 pub use fault::{FarFault, LimitCause, PlaceFault, Track, status};
 pub use level_walk::OverflowKind;
 pub use line::report;
+pub use table_file::TableCause;
 pub use walk::fault_of_walk;
