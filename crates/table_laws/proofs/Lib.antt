@@ -1,0 +1,4 @@
+pub mod NumberWordLemmas
+pub mod LineLemmas
+pub mod RowLemmas
+pub mod ReadLemmas

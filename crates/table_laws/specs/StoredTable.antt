@@ -1,0 +1,9 @@
+-- Tables that are stored.
+-- Source: this profile.
+use Rattle.std.specs.Prelude.{ℕ, ◌^◌, ◌≤◌}
+use Rattle.subdiv_model.specs.Table.{Table, IsTable}
+
+-- a table within its limits, of at most 2^20 control points
+pub record IsStored (table : Table) : Type 0 where
+  pub is_table : IsTable table
+  pub controls_few : table.controls ≤ 2 ^ 20

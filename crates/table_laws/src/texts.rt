@@ -1,0 +1,12 @@
+//! Laws of the texts of stored tables: each is read back as its table, and nothing else is read.
+
+ghost use Rattle.std.specs.Prelude.{◌≡◌, ℕ, List, ◌++◌, Ok};
+ghost use Rattle.subdiv_model.specs.Table.{Table};
+ghost use Rattle.subdiv_model.specs.ReadTable.{Reading, read_table};
+ghost use Rattle.subdiv_model.specs.TableText.{text_of_table};
+ghost use Rattle.table_laws.specs.StoredTable.{IsStored};
+
+/// The text of a stored table is read as the table, whatever bytes stand behind it, and these are left.
+pub fn written_tables_are_read()
+    ensures { (table : Table) (rest : List ℕ) → IsStored table → read_table (text_of_table table ++ rest) ≡ Ok (record { table = table; rest = rest }) }
+{}
