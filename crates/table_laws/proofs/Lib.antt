@@ -2,3 +2,5 @@ pub mod NumberWordLemmas
 pub mod LineLemmas
 pub mod RowLemmas
 pub mod ReadLemmas
+pub mod WrittenLemmas
+pub mod BackLemmas

@@ -1,14 +1,13 @@
 -- A line of words, each after one space, is read as these words; and a line that is read is the line of its words.
-use Rattle.std.proofs.Common.{◌≡◌, ℕ, zero, suc, ◌+◌, ◌<◌, Bool, true, false, not, ◌&&◌, ◌||◌, nat_eq, List, [], ◌∷◌, ◌++◌, length, get_or, take, drop, refl, ap, sym, ◌∙◌, append-nil, append_assoc, true≢false, arith, eqb-true, Some, None, if◌then◌else◌}
-use Rattle.std.specs.List.{list_all, list_any, flat_map, slice_split, join_with_byte, position_or_len, before_first, after_first, All, AllByRecursion}
-use Rattle.std.proofs.lemmas.Bool.{and_parts, and_from, or_from, or_right}
+use Rattle.std.proofs.Common.{◌≡◌, ℕ, ◌+◌, ◌<◌, Bool, true, false, not, ◌&&◌, ◌||◌, nat_eq, List, [], ◌∷◌, ◌++◌, length, get_or, take, drop, refl, ap, sym, ◌∙◌, append-nil, append_assoc, true≢false, arith, eqb-true}
+use Rattle.std.specs.List.{list_all, list_any, flat_map, join_with_byte, position_or_len, before_first, after_first, All, AllByRecursion}
+use Rattle.std.proofs.lemmas.Bool.{and_parts, and_from, or_right}
 use Rattle.std.proofs.lemmas.Bool.Decides.{nat_tests}
-use Rattle.std.proofs.lemmas.List.{length-append}
 use Rattle.std.proofs.lemmas.List.Elements.{All-from_recursion}
 use Rattle.std.proofs.lemmas.List.Folds.{list_all-append}
 use Rattle.std.proofs.lemmas.List.Splits.{slice_split_none, slice_split_at, join_with_byte-slice_split}
 use Rattle.std.proofs.lemmas.List.Sums.{split_at_first, passes_at_first}
-use Rattle.subdiv_model.specs.Digits.{is_digit, is_number_word}
+use Rattle.subdiv_model.specs.Digits.{is_digit}
 use Rattle.subdiv_model.specs.ObjLine.{is_lf}
 use Rattle.subdiv_model.specs.ReadTable.{spaced_words, has_line, first_words, behind_line}
 use Rattle.subdiv_model.specs.Text.{line_text}

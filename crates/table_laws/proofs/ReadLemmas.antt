@@ -1,18 +1,18 @@
 -- The text of a stored table is read as the table.
-use Rattle.std.proofs.Common.{◌≡◌, ℕ, zero, suc, ◌+◌, ◌*◌, ◌^◌, ◌<◌, ◌≤◌, Bool, true, false, not, ◌&&◌, ◌||◌, nat_eq, nat_le, nat_lt, List, [], ◌∷◌, ◌++◌, length, bytes_eq, arith, refl, ap, sym, subst, ◌∙◌, append_assoc, append-nil, le-leb, Some, None, Option, Result, Ok, Err}
+use Rattle.std.proofs.Common.{◌≡◌, ℕ, suc, ◌+◌, ◌^◌, true, not, List, [], ◌∷◌, ◌++◌, length, arith, refl, ap, sym, ◌∙◌, append_assoc, append-nil, le-leb, None, Option, Result, Ok}
 use Rattle.std.specs.Prelude.{codes}
-use Rattle.std.specs.List.{All, AllByRecursion, flat_map, sum_by}
+use Rattle.std.specs.List.{AllByRecursion, flat_map}
 use Rattle.std.proofs.lemmas.Bool.{and_from, cond-true, cond-false}
 use Rattle.std.proofs.lemmas.List.Elements.{recursion_from_All}
 use Rattle.std.proofs.lemmas.List.Sums.{sum_by-cons, sum_by-append}
-use Rattle.subdiv_model.specs.Digits.{is_number_word, number_of_digits}
+use Rattle.subdiv_model.specs.Digits.{number_of_digits}
 use Rattle.subdiv_model.specs.NumberText.{number_text}
-use Rattle.subdiv_model.specs.ReadTable.{Header, Reading, is_header_form, header_of, is_header_in_range, is_miscounted, header_cause, row_of_words, row_words_cause, has_line, first_words, behind_line, reading_unless, next_row_cause, read_rows, first_line_cause, read_table}
+use Rattle.subdiv_model.specs.ReadTable.{Header, Reading, is_header_form, header_of, is_header_in_range, is_miscounted, header_cause, row_of_words, row_words_cause, first_words, behind_line, reading_unless, next_row_cause, read_rows, first_line_cause, read_table}
 use Rattle.subdiv_model.specs.Table.{Row, Table, IsRow, entries_of}
-use Rattle.subdiv_model.specs.TableFault.{TableCause, TableFault, Form}
+use Rattle.subdiv_model.specs.TableFault.{TableCause, TableFault}
 use Rattle.subdiv_model.specs.TableText.{row_text, table_line, text_of_table}
 use Rattle.table_laws.specs.StoredTable.{IsStored}
-use Rattle.table_laws.proofs.LineLemmas.{is_word, are_words, IsFirstLine, line-read}
+use Rattle.table_laws.proofs.LineLemmas.{are_words, IsFirstLine, line-read}
 use Rattle.table_laws.proofs.NumberWordLemmas.{number-word, number-says}
 use Rattle.table_laws.proofs.RowLemmas.{row_words, number-plain, row-plain, row-back, row-good, well-counted}
 
@@ -64,7 +64,7 @@ rows-read header done (row ∷ rows) rest are all =
     ∙ ap (λ (all_rows : List Row). Ok (record { table = record { controls = header.controls; rows = all_rows }; rest = rest })) shift
 
 -- the words of the first line
-abbrev header_words : Header → List (List ℕ)
+abbrev pub header_words : Header → List (List ℕ)
 header_words header =
     codes "controls" ∷ number_text header.controls ∷ codes "rows" ∷ number_text header.rows ∷ codes "entries" ∷ number_text header.entries ∷ []
 
@@ -88,8 +88,8 @@ header-good table is =
     let header = header_for table in
     let words = codes "table" ∷ header_words header in
     let range : is_header_in_range header ≡ true =
-        and_from _ _ (and_from _ _ (le-leb table.controls (2 ^ 20) is.controls_few) (le-leb (length table.rows) (2 ^ 27) is.is_table.rows_few))
-        (le-leb (entries_of table.rows) (2 ^ 27) is.is_table.entries_few) in
+    and_from _ _ (and_from _ _ (le-leb table.controls (2 ^ 20) is.controls_few) (le-leb (length table.rows) (2 ^ 27) is.is_table.rows_few))
+    (le-leb (entries_of table.rows) (2 ^ 27) is.is_table.entries_few) in
     cond-false _ _ _ (ap not (header-form header))
     ∙ cond-false _ _ _ (ap (λ h. not (is_header_in_range h)) (header-back header) ∙ ap not range)
     ∙ cond-false _ _ _
@@ -105,9 +105,9 @@ table-read table rest is =
     let header = header_for table in
     let behind : List ℕ = flat_map row_text table.rows ++ rest in
     let text : text_of_table table ++ rest ≡ table_line table.controls (length table.rows) (entries_of table.rows) ++ behind =
-        append_assoc (table_line table.controls (length table.rows) (entries_of table.rows)) (flat_map row_text table.rows) rest in
+    append_assoc (table_line table.controls (length table.rows) (entries_of table.rows)) (flat_map row_text table.rows) rest in
     let line : IsFirstLine (table_line table.controls (length table.rows) (entries_of table.rows) ++ behind) (codes "table" ∷ header_words header) behind =
-        line-read (codes "table") (header_words header) behind refl (header-plain header) in
+    line-read (codes "table") (header_words header) behind refl (header-plain header) in
     let bytes : List ℕ = table_line table.controls (length table.rows) (entries_of table.rows) ++ behind in
     let says : header_of (first_words bytes) ≡ header = ap header_of line.words_read ∙ header-back header in
     ap read_table text

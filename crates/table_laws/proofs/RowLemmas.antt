@@ -1,10 +1,9 @@
 -- A row of a table is read back from its line.
-use Rattle.std.proofs.Common.{◌≡◌, ℕ, zero, suc, ◌+◌, ◌*◌, ◌%◌, ◌<◌, ◌≤◌, Bool, true, false, not, ◌&&◌, ◌||◌, nat_eq, nat_le, nat_lt, List, [], ◌∷◌, ◌++◌, length, map, drop, get_or, bytes_eq, arith, refl, ap, sym, subst, ◌∙◌, le_trans, le-leb, lt-ltb, le-ltb, eq-eqb, Some, None}
+use Rattle.std.proofs.Common.{◌≡◌, ℕ, zero, suc, ◌+◌, ◌*◌, ◌%◌, ◌<◌, ◌≤◌, true, false, not, nat_le, nat_lt, List, [], ◌∷◌, length, map, get_or, bytes_eq, arith, refl, ap, sym, subst, ◌∙◌, le_trans, le-leb, lt-ltb, le-ltb, eq-eqb, None}
 use Rattle.std.specs.Prelude.{codes}
-use Rattle.std.specs.List.{All, AllByRecursion, list_all, flat_map, sum_by}
+use Rattle.std.specs.List.{AllByRecursion, list_all, flat_map}
 use Rattle.std.specs.List.Sorted.{IsStrictlyIncreasing}
 use Rattle.std.proofs.lemmas.Bool.{and_from, and_left, or_from, ne_eqb, cond-true, cond-false}
-use Rattle.std.proofs.lemmas.Bool.Decides.{nat_tests}
 use Rattle.std.proofs.lemmas.List.Elements.{recursion_from_All}
 use Rattle.std.proofs.lemmas.List.Sums.{sum_by-cons}
 use Rattle.subdiv_model.specs.Channel.{number_bound}
@@ -12,7 +11,6 @@ use Rattle.subdiv_model.specs.Digits.{is_number_word, number_of_digits}
 use Rattle.subdiv_model.specs.NumberText.{number_text}
 use Rattle.subdiv_model.specs.ReadTable.{Header, is_miscounted, is_row_form, shares_of_words, row_of_words, is_term, are_shares_in_range, is_row_in_range, row_cause, row_words_cause}
 use Rattle.subdiv_model.specs.Table.{Share, Row, IsRow, total_of}
-use Rattle.subdiv_model.specs.TableFault.{TableCause}
 use Rattle.subdiv_model.specs.TableText.{share_words}
 use Rattle.obj_laws.proofs.NumeralTextLemmas.{text-of}
 use Rattle.table_laws.proofs.NumberWordLemmas.{number-word, number-says}
@@ -84,8 +82,8 @@ ascend-after share [] up = tt
 ascend-after share (next ∷ shares) up =
     let first : share.0 < next.0 = up 0 (omega arith) in
     let rest : IsStrictlyIncreasing (map (λ s. s.0) (next ∷ shares)) = λ k within.
-        let e : suc k + 1 ≡ suc (k + 1) = omega arith in
-        subst (λ n. get_or (map (λ s. s.0) (next ∷ shares)) k 0 < get_or (map (λ s. s.0) (share ∷ next ∷ shares)) n 0) e (up (suc k) (omega arith)) in
+    let e : suc k + 1 ≡ suc (k + 1) = omega arith in
+    subst (λ n. get_or (map (λ s. s.0) (next ∷ shares)) k 0 < get_or (map (λ s. s.0) (share ∷ next ∷ shares)) n 0) e (up (suc k) (omega arith)) in
     (first, ascend-after next shares rest)
 
 pub ascending : (shares : List Share) → IsStrictlyIncreasing (map (λ s. s.0) shares) → Ascend 0 shares

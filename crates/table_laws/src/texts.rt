@@ -10,3 +10,9 @@ ghost use Rattle.table_laws.specs.StoredTable.{IsStored};
 pub fn written_tables_are_read()
     ensures { (table : Table) (rest : List ℕ) → IsStored table → read_table (text_of_table table ++ rest) ≡ Ok (record { table = table; rest = rest }) }
 {}
+
+/// Bytes that are read as a table begin with its text, and the others are left. The table is stored.
+pub fn read_tables_were_written()
+    ensures text { (bytes : List ℕ) (reading : Reading) → read_table bytes ≡ Ok reading → bytes ≡ text_of_table reading.table ++ reading.rest }
+    ensures stored { (bytes : List ℕ) (reading : Reading) → read_table bytes ≡ Ok reading → IsStored reading.table }
+{}
