@@ -4,3 +4,4 @@ pub mod RowLemmas
 pub mod ReadLemmas
 pub mod WrittenLemmas
 pub mod BackLemmas
+pub mod PrefixLemmas

@@ -1,6 +1,6 @@
 //! Laws of the texts of stored tables: each is read back as its table, and nothing else is read.
 
-ghost use Rattle.std.specs.Prelude.{◌≡◌, ℕ, List, ◌++◌, Ok};
+ghost use Rattle.std.specs.Prelude.{◌≡◌, ℕ, List, [], ◌++◌, Ok};
 ghost use Rattle.subdiv_model.specs.Table.{Table};
 ghost use Rattle.subdiv_model.specs.ReadTable.{Reading, read_table};
 ghost use Rattle.subdiv_model.specs.TableText.{text_of_table};
@@ -15,4 +15,10 @@ pub fn written_tables_are_read()
 pub fn read_tables_were_written()
     ensures text { (bytes : List ℕ) (reading : Reading) → read_table bytes ≡ Ok reading → bytes ≡ text_of_table reading.table ++ reading.rest }
     ensures stored { (bytes : List ℕ) (reading : Reading) → read_table bytes ≡ Ok reading → IsStored reading.table }
+{}
+
+/// The text of a stored table does not begin with the text of another.
+pub fn table_texts_are_no_prefixes()
+    ensures table { (a b : Table) (rest : List ℕ) → IsStored a → IsStored b → text_of_table a ≡ text_of_table b ++ rest → a ≡ b }
+    ensures rest { (a b : Table) (rest : List ℕ) → IsStored a → IsStored b → text_of_table a ≡ text_of_table b ++ rest → rest ≡ [] }
 {}
