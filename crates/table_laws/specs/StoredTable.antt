@@ -1,6 +1,6 @@
 -- Tables that are stored.
 -- Source: this profile.
-use Rattle.std.specs.Prelude.{ℕ, ◌^◌, ◌≤◌}
+use Rattle.std.specs.Prelude.{◌^◌, ◌≤◌}
 use Rattle.subdiv_model.specs.Table.{Table, IsTable}
 
 -- a table within its limits, of at most 2^20 control points

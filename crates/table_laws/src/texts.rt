@@ -1,7 +1,8 @@
 //! Laws of the texts of stored tables: each is read back as its table, and nothing else is read.
 
-ghost use Rattle.std.specs.Prelude.{◌≡◌, ℕ, List, [], ◌++◌, Ok};
+ghost use Rattle.std.specs.Prelude.{◌≡◌, ◌≢◌, ℕ, List, [], ◌++◌, Ok, Err};
 ghost use Rattle.subdiv_model.specs.Table.{Table};
+ghost use Rattle.subdiv_model.specs.TableFault.{TableFault};
 ghost use Rattle.subdiv_model.specs.ReadTable.{Reading, read_table};
 ghost use Rattle.subdiv_model.specs.TableText.{text_of_table};
 ghost use Rattle.table_laws.specs.StoredTable.{IsStored};
@@ -21,4 +22,10 @@ pub fn read_tables_were_written()
 pub fn table_texts_are_no_prefixes()
     ensures table { (a b : Table) (rest : List ℕ) → IsStored a → IsStored b → text_of_table a ≡ text_of_table b ++ rest → a ≡ b }
     ensures rest { (a b : Table) (rest : List ℕ) → IsStored a → IsStored b → text_of_table a ≡ text_of_table b ++ rest → rest ≡ [] }
+{}
+
+/// Bytes that are refused do not begin with the text of a stored table.
+pub fn refused_texts_begin_with_no_table()
+    ensures { (bytes : List ℕ) (fault : TableFault) → read_table bytes ≡ Err fault
+        → (table : Table) (rest : List ℕ) → IsStored table → bytes ≢ text_of_table table ++ rest }
 {}
