@@ -5,3 +5,4 @@ pub mod ReadLemmas
 pub mod WrittenLemmas
 pub mod BackLemmas
 pub mod PrefixLemmas
+pub mod DifferenceLemmas

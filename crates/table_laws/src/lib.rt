@@ -3,4 +3,5 @@
 //! Each public function here takes nothing, does nothing and returns nothing: its clauses are the laws.
 #![tactic(auto)]
 
+pub mod differences;
 pub mod texts;
