@@ -6,3 +6,4 @@ pub mod WrittenLemmas
 pub mod BackLemmas
 pub mod PrefixLemmas
 pub mod DifferenceLemmas
+pub mod VerifiedLemmas

@@ -1,1 +1,2 @@
 pub mod StoredTable
+pub mod Verified
