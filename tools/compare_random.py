@@ -6,7 +6,7 @@ refined cube with a few changes; they are refined to depth 1 at most. Meshes are
 many with texture; they are refined, by tables and level by level, or have their levels counted or their tables
 written, to depth 3 at most. Each of them has its sparse levels written too, to depth 4 at most, its limit points, and
 the patch of a face, mostly of one that has a patch. Sheets are made by the program itself. Inputs with moves are those
-of `tools/random_frames.py`. Other meshes, which have no fault, have the points of their sparse levels compared with
+of `tools/random_frames.py`, and inputs with a stored table those of `tools/random_tables.py`. Other meshes, which have no fault, have the points of their sparse levels compared with
 those that the program itself writes of whole levels, by `tools/sparse_points.py`. In other meshes nothing is
 semi-sharp. They have their limit points compared with the reference, and those of level 1 with those of level 3, by
 `tools/limit_points.py`. Faces of other meshes have their patches compared with limit points and with the patches of
@@ -38,6 +38,7 @@ from patch_laws import drawn_faces, patches_agree
 from patch_reference import patched_levels
 from random_frames import Frames
 from random_meshes import Meshes
+from random_tables import Tables
 from run_reference import Refusal
 from sparse_points import points_agree
 
@@ -388,6 +389,10 @@ def kinds_of_runs(arguments, lasting_texts):
     yield "patches", ((words.for_patch(data), data) for data in patch_texts(seed, mesh_texts))
     yield "sheets", ((words.for_sheet(), b"") for _ in range(arguments.sheets))
     yield "inputs with moves", ((words.for_frames(data), data) for data in inputs)
+    tables = Tables(seed)
+    checked = (tables.mesh_with_table() for _ in range(arguments.tables))
+    yield "meshes with their tables", ((["verify", f"depth={depth}"], data) for depth, data in checked)
+    yield "tables with points", ((["apply"], tables.table_with_points()) for _ in range(arguments.tables))
 
 
 def compared_with_itself(arguments, lasting_texts):
@@ -409,6 +414,7 @@ def arguments_of_run():
     parser.add_argument("--meshes", type=int, default=1000, help="how many meshes each command reads that reads meshes")
     parser.add_argument("--sheets", type=int, default=200, help="how many sheets are made")
     parser.add_argument("--frames", type=int, default=400, help="how many inputs with moves are answered")
+    parser.add_argument("--tables", type=int, default=400, help="how many stored tables are compared, and how many applied")
     parser.add_argument("--points", type=int, default=100, help="how many meshes have their points compared by two commands")
     parser.add_argument("--limits", type=int, default=100, help="how many meshes have their limit points compared twice")
     parser.add_argument("--patches", type=int, default=100, help="how many faces have their patches compared with others")

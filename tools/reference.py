@@ -1,8 +1,8 @@
 #!/usr/bin/env python3
 """A plain, slow reference of the program: of `far refine`, and through `tools/level_reference.py` of `far levels`,
 `tools/sparse_reference.py` of `far sparse`, `tools/table_reference.py` of `far stencils` and `far gen`,
-`tools/limit_reference.py` of `far limit`, `tools/patch_reference.py` of `far patch`, and
-`tools/frames_reference.py` of `far frames`.
+`tools/limit_reference.py` of `far limit`, `tools/patch_reference.py` of `far patch`,
+`tools/stored_reference.py` of `far verify` and `far apply`, and `tools/frames_reference.py` of `far frames`.
 
 It is written from the definitions of `far_model` (Answer) and `subdiv_model` (Text, and those that the other references
 name), with `fractions.Fraction` for every value, and shares nothing with the program. It takes the
@@ -24,6 +24,7 @@ from mask_reference import positions_of, refined
 from patch_reference import patch_text
 from run_reference import read_mesh, run, understood
 from sparse_reference import sparse_text
+from stored_reference import applied_text, verified_text
 from table_reference import sheet_text, table_text
 from text_reference import corner_texts, line, point_lines, textured_corner_texts
 from texture_reference import texture_of
@@ -92,6 +93,12 @@ TEXTS_OF_MESH = {
     b"sparse": lambda obj, options: sparse_text(obj, depth_of(options), rule_of(options), decimals_of(options)),
 }
 
+# The text of each command that reads a stored table, of its input and the options.
+TEXTS_OF_TABLE = {
+    b"verify": lambda source, options: verified_text(source, depth_of(options)),
+    b"apply": lambda source, options: applied_text(source),
+}
+
 # The text of each command that makes its mesh, of the options.
 TEXTS_OF_OPTIONS = {
     b"gen": lambda options: sheet_text(int(options[b"seed"]), int(options[b"size"]), depth_of(options)),
@@ -110,6 +117,8 @@ def answer(words, source):
     command, options = understood(words)
     if command in TEXTS_OF_INPUT:
         yield from TEXTS_OF_INPUT[command](source, options)
+    elif command in TEXTS_OF_TABLE:
+        yield TEXTS_OF_TABLE[command](source, options)
     elif command in TEXTS_OF_OPTIONS:
         yield TEXTS_OF_OPTIONS[command](options)
     else:

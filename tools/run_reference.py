@@ -8,6 +8,7 @@ from obj_reference import Fault, read_obj
 
 GREATEST_INPUT = 2**28
 NOT_UNDERSTOOD, TOO_LONG, BAD_LINE, BAD_MESH, TOO_LARGE, OVERFLOW, NO_LIMIT, NO_PATCH = 2, 4, 5, 6, 7, 8, 9, 13
+BAD_TABLE, OTHER_TABLE, OTHER_COUNT = 14, 15, 16
 
 
 class Numbers:
@@ -37,6 +38,8 @@ OPTIONS = {
     b"levels": DEPTH,
     b"patch": {**DEPTH, b"face": Numbers(0, 4194303), b"grid": Numbers(1, 64)},
     b"sparse": {**DEPTH, b"select": [b"feature", b"all"], b"decimals": Numbers(0, 18), b"uv": [b"none"]},
+    b"verify": DEPTH,
+    b"apply": {},
     b"gen": {b"seed": Numbers(0, 2**32 - 1), b"size": Numbers(1, 256), **DEPTH},
 }
 REQUIRED = {b"seed", b"size", b"depth", b"face", b"grid"}
