@@ -7,3 +7,4 @@ pub mod BackLemmas
 pub mod PrefixLemmas
 pub mod DifferenceLemmas
 pub mod VerifiedLemmas
+pub mod EvaluatedLemmas

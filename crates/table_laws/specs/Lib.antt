@@ -1,2 +1,3 @@
 pub mod StoredTable
 pub mod Verified
+pub mod Evaluated

@@ -4,5 +4,6 @@
 #![tactic(auto)]
 
 pub mod differences;
+pub mod evaluated;
 pub mod texts;
 pub mod verified;
