@@ -1,15 +1,15 @@
 -- The rows of the table of a level, over control points, have the values of the points after the steps.
 use Rattle.std.proofs.Common.{◌≡◌, ℕ, zero, suc, ◌+◌, ◌*◌, ◌<◌, ℤ, pos, ◌+ℤ◌, ◌*ℤ◌, List, [], ◌∷◌, ◌++◌, length, map, get_or, arith, refl, ap, sym, subst, ◌∙◌, None}
 use Rattle.std.specs.Prelude.{codes}
-use Rattle.std.specs.List.{All, AllByRecursion, flat_map, enumerate_from}
+use Rattle.std.specs.List.{AllByRecursion, flat_map, enumerate_from}
 use Rattle.std.proofs.Math.IntN.{*ℤ_comm}
 use Rattle.std.proofs.lemmas.List.{length-map}
 use Rattle.std.proofs.lemmas.List.Elements.{recursion_from_All}
 use Rattle.subdiv_model.specs.Level.{Level}
-use Rattle.subdiv_model.specs.Child.{refined_level, child_level}
+use Rattle.subdiv_model.specs.Child.{refined_level}
 use Rattle.subdiv_model.specs.Mask.{Scheme, child_masks}
 use Rattle.subdiv_model.specs.NumberText.{value_text}
-use Rattle.subdiv_model.specs.Refined.{point_value, mask_value, source_value, control_values, refined_values, refined_denominators, refined_coordinates, over_common, points_of_coordinates}
+use Rattle.subdiv_model.specs.Refined.{point_value, mask_value, source_value, control_values, refined_values, refined_coordinates, over_common, points_of_coordinates}
 use Rattle.subdiv_model.specs.Support.{refined_supports, stencil_numerator}
 use Rattle.subdiv_model.specs.Table.{Row, IsRow, IsTable, level_row, level_table}
 use Rattle.subdiv_model.specs.Text.{line_text, point_line}
@@ -135,6 +135,6 @@ lines-same xs ys zs us vs ws first second third =
 pub points-same : (given : LevelOverControls) → flat_map (point_line None) (evaluated_points given) ≡ flat_map (point_line None) (points_after_steps given)
 points-same given =
     let axis : (axis : ℤ × ℤ × ℤ → ℤ) → map value_text (table_coordinates (level_table given.level given.scheme given.steps) given.common (map axis given.controls))
-        ≡ map value_text (refined_coordinates given.level given.scheme given.common (map axis given.controls) given.steps) =
-        λ axis. coordinates-same given.level given.scheme given.steps given.common (map axis given.controls) given.above_zero (length-map given.controls axis ∙ given.one_each) given.is_table in
+    ≡ map value_text (refined_coordinates given.level given.scheme given.common (map axis given.controls) given.steps) =
+    λ axis. coordinates-same given.level given.scheme given.steps given.common (map axis given.controls) given.above_zero (length-map given.controls axis ∙ given.one_each) given.is_table in
     lines-same _ _ _ _ _ _ (axis (λ p. p.0)) (axis (λ p. p.1)) (axis (λ p. p.2))

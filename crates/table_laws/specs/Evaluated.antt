@@ -1,11 +1,10 @@
 -- Tables of levels over control points.
 -- Source: this profile.
 use Rattle.std.specs.Prelude.{◌≡◌, ℕ, ◌<◌, ℤ, List, length}
-use Rattle.std.specs.List.{flat_map}
 use Rattle.subdiv_model.specs.Level.{Level}
 use Rattle.subdiv_model.specs.Mask.{Scheme}
 use Rattle.subdiv_model.specs.Refined.{Point, refined_points}
-use Rattle.subdiv_model.specs.Table.{Table, IsTable, level_table}
+use Rattle.subdiv_model.specs.Table.{IsTable, level_table}
 use Rattle.far_model.specs.Stored.{table_points}
 
 -- a level with as many control points, whole numbers over a common denominator, and its table after so many steps, within its limits
