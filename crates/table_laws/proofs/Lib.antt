@@ -8,3 +8,6 @@ pub mod PrefixLemmas
 pub mod DifferenceLemmas
 pub mod VerifiedLemmas
 pub mod EvaluatedLemmas
+pub mod CommonLemmas
+pub mod FitLemmas
+pub mod AppliedLemmas

@@ -1,3 +1,4 @@
 pub mod StoredTable
 pub mod Verified
 pub mod Evaluated
+pub mod Applied

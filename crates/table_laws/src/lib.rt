@@ -3,6 +3,7 @@
 //! Each public function here takes nothing, does nothing and returns nothing: its clauses are the laws.
 #![tactic(auto)]
 
+pub mod applied;
 pub mod differences;
 pub mod evaluated;
 pub mod texts;

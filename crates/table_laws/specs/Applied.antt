@@ -1,0 +1,22 @@
+-- Meshes behind their own tables.
+-- Source: this profile.
+use Rattle.std.specs.Prelude.{◌≡◌, ℕ, List, ◌++◌, None}
+use Rattle.subdiv_model.specs.ObjMesh.{ObjMesh}
+use Rattle.subdiv_model.specs.ReadObj.{obj_lines, read_obj_mesh}
+use Rattle.subdiv_model.specs.TableText.{text_of_table}
+use Rattle.far_model.specs.Answer.{composition_refusal, own_table}
+use Rattle.table_laws.specs.StoredTable.{IsStored}
+
+-- the text of a mesh whose table at a depth is composed and stored
+pub record TextOfMesh : Type 0 where
+  pub depth : ℕ
+  pub text : List ℕ
+  pub composed : composition_refusal depth 0 (obj_lines text) ≡ None
+  pub stored : IsStored (own_table depth (read_obj_mesh text 0))
+
+abbrev pub mesh_of : TextOfMesh → ObjMesh
+mesh_of given = read_obj_mesh given.text 0
+
+-- the text of the table, and the text of the mesh behind it
+abbrev pub behind_table : TextOfMesh → List ℕ
+behind_table given = text_of_table (own_table given.depth (mesh_of given)) ++ given.text

@@ -1,0 +1,15 @@
+//! Laws of `apply`: a mesh behind its own table gives the points that the mesh is refined to.
+
+ghost use Rattle.std.specs.Prelude.{◌≡◌, None};
+ghost use Rattle.std.specs.List.{flat_map};
+ghost use Rattle.subdiv_model.specs.Text.{point_line};
+ghost use Rattle.far_model.specs.Answer.{answer_of_stored_text, points_after};
+ghost use Rattle.far_model.specs.Command.{Apply};
+ghost use Rattle.table_laws.specs.Applied.{TextOfMesh, behind_table, mesh_of};
+
+/// Where a mesh stands behind its own table of a depth, `apply` refuses nothing. It writes the `v` lines of the points of the mesh at
+/// that depth, as `refine` writes them.
+pub fn applied_tables_give_refined_points()
+    ensures { (given : TextOfMesh) → answer_of_stored_text Apply (behind_table given)
+        ≡ record { text = flat_map (point_line None) (points_after (mesh_of given) given.depth); refusal = None } }
+{}
