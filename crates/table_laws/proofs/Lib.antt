@@ -11,3 +11,5 @@ pub mod EvaluatedLemmas
 pub mod CommonLemmas
 pub mod FitLemmas
 pub mod AppliedLemmas
+pub mod PositiveLemmas
+pub mod OwnRowLemmas
