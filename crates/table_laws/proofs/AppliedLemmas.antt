@@ -14,6 +14,7 @@ use Rattle.table_laws.specs.Applied.{TextOfMesh, mesh_of, behind_table}
 use Rattle.table_laws.proofs.CommonLemmas.{common-short, common-positive}
 use Rattle.table_laws.proofs.EvaluatedLemmas.{points-same}
 use Rattle.table_laws.proofs.FitLemmas.{is-composed, can-evaluate}
+use Rattle.table_laws.proofs.OwnTableLemmas.{composed-stored}
 use Rattle.table_laws.proofs.ReadLemmas.{table-read}
 
 pub applied : (given : TextOfMesh) → answer_of_stored_text Apply (behind_table given)
@@ -22,10 +23,11 @@ applied given =
     let lines = obj_lines given.text in
     let mesh = read_obj_mesh given.text 0 in
     let own = own_table given.depth mesh in
+    let stored = composed-stored given.depth 0 lines given.composed in
     let is = is-composed given.depth (lines_fault lines 0) mesh given.composed in
     let common = common-short lines is.read_well in
     let points = coordinates-short given.text 0 is.read_well common in
-    ap answer_of_apply (table-read own given.text given.stored)
+    ap answer_of_apply (table-read own given.text stored)
     ∙ ap (λ fault. answer_unless (control_fault own fault mesh) (points_text own mesh)) is.read_well
     ∙ ap (λ fault. answer_unless fault (points_text own mesh)) (can-evaluate given.depth mesh is.channel common points)
     ∙ ap (λ text. record { text = text; refusal = None })
@@ -37,5 +39,5 @@ applied given =
       controls = mesh.points;
       one_each = refl;
       above_zero = common-positive lines;
-      is_table = given.stored.is_table;
+      is_table = stored.is_table;
     }))

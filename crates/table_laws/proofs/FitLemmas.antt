@@ -40,7 +40,7 @@ no-end : {X : Type 0} (xs ys : List X) → xs ++ ys ≡ [] → ys ≡ []
 no-end [] ys none = none
 no-end (x ∷ xs) ys none = let long = ap length none in absurd (omega (arith, long))
 
-no-begin : {X : Type 0} (xs ys : List X) → xs ++ ys ≡ [] → xs ≡ []
+pub no-begin : {X : Type 0} (xs ys : List X) → xs ++ ys ≡ [] → xs ≡ []
 no-begin [] ys none = refl
 no-begin (x ∷ xs) ys none = let long = ap length none in absurd (omega (arith, long))
 
@@ -52,7 +52,7 @@ none-at f start (suc count) (suc i) none inside =
     let next : start + suc i ≡ start + 1 + i = omega arith in
     ap f next ∙ none-at f (start + 1) count i (no-end (f start) (flat_map f (range_with_len (start + 1) count)) none) (omega arith)
 
-no-fault-where : (stands : Bool) (fault : Fault) → fault_where stands fault ≡ [] → stands ≡ false
+pub no-fault-where : (stands : Bool) (fault : Fault) → fault_where stands fault ≡ [] → stands ≡ false
 no-fault-where false fault none = refl
 no-fault-where true fault none = let long = ap length none in absurd (omega (arith, long))
 

@@ -13,3 +13,5 @@ pub mod FitLemmas
 pub mod AppliedLemmas
 pub mod PositiveLemmas
 pub mod OwnRowLemmas
+pub mod SoundLemmas
+pub mod OwnTableLemmas

@@ -1,6 +1,6 @@
 -- The rows of the table of a level whose masks are means.
-use Rattle.std.proofs.Common.{◌≡◌, ℕ, zero, suc, ◌+◌, ◌<◌, ◌≤◌, Bool, true, nat_eq, nat_lt, List, [], ◌∷◌, length, map, get_or, arith, refl, ap, sym, subst, ◌∙◌, eq-eqb}
-use Rattle.std.specs.List.{All, AllByRecursion, enumerate_from, sum_by}
+use Rattle.std.proofs.Common.{◌≡◌, ℕ, suc, ◌+◌, ◌<◌, ◌≤◌, true, nat_eq, List, [], ◌∷◌, length, map, get_or, arith, refl, ap, sym, subst, ◌∙◌, eq-eqb}
+use Rattle.std.specs.List.{AllByRecursion, enumerate_from, sum_by}
 use Rattle.std.specs.List.Sorted.{IsStrictlyIncreasing}
 use Rattle.std.proofs.lemmas.Bool.{or_left, or_right}
 use Rattle.std.proofs.lemmas.List.{length-map}
@@ -87,11 +87,10 @@ module _ (level : Level) (scheme : Scheme) (k : ℕ) (means : (j : ℕ) → has_
       let all = refined_supports level scheme k in
       let Is : ℕ → Type 0 = λ p. IsRow level.point_count (level_row level scheme k (p, get_or all p [])) in
       let mine : support ≡ get_or all start [] = own 0 (omega arith) ∙ ap (λ p. get_or all p []) here in
-      let first : Is start = subst Is here (are 0 (omega arith)) in
-      (
+      let first : Is start = subst Is here (are 0 (omega arith)) in (
         subst (λ points. IsRow level.point_count (level_row level scheme k (start, points))) (sym mine) first,
         rows-from (start + 1) supports (λ i inside. own (suc i) (omega (arith, inside)) ∙ ap (λ p. get_or all p []) (shift i))
-        (λ i inside. subst Is (shift i) (are (suc i) (omega (arith, inside)))),
+            (λ i inside. subst Is (shift i) (are (suc i) (omega (arith, inside)))),
       )
 
   pub rows-are : ((p : ℕ) → 0 < den p) → ((p : ℕ) → den p ≤ number_bound)

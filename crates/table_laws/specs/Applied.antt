@@ -5,14 +5,12 @@ use Rattle.subdiv_model.specs.ObjMesh.{ObjMesh}
 use Rattle.subdiv_model.specs.ReadObj.{obj_lines, read_obj_mesh}
 use Rattle.subdiv_model.specs.TableText.{text_of_table}
 use Rattle.far_model.specs.Answer.{composition_refusal, own_table}
-use Rattle.table_laws.specs.StoredTable.{IsStored}
 
--- the text of a mesh whose table at a depth is composed and stored
+-- the text of a mesh whose table at a depth is composed without refusal
 pub record TextOfMesh : Type 0 where
   pub depth : ℕ
   pub text : List ℕ
   pub composed : composition_refusal depth 0 (obj_lines text) ≡ None
-  pub stored : IsStored (own_table depth (read_obj_mesh text 0))
 
 abbrev pub mesh_of : TextOfMesh → ObjMesh
 mesh_of given = read_obj_mesh given.text 0

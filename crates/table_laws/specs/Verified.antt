@@ -7,14 +7,12 @@ use Rattle.subdiv_model.specs.Text.{line_text}
 use Rattle.subdiv_model.specs.TableText.{text_of_table}
 use Rattle.far_model.specs.Answer.{composition_refusal, mesh_before_table, own_table}
 use Rattle.far_model.specs.Stored.{mesh_part, table_part}
-use Rattle.table_laws.specs.StoredTable.{IsStored}
 
--- a mesh whose table at a depth is composed and stored, and behind it the text of this table
+-- a mesh whose table at a depth is composed without refusal, and behind it the text of this table
 pub record InputWithTable : Type 0 where
   pub depth : ℕ
   pub bytes : List ℕ
   pub composed : composition_refusal depth 0 (mesh_part bytes) ≡ None
-  pub stored : IsStored (own_table depth (mesh_before_table bytes))
   pub own_text : table_part bytes ≡ text_of_table (own_table depth (mesh_before_table bytes))
 
 -- the line that says how many rows the table has

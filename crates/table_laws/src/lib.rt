@@ -6,5 +6,6 @@
 pub mod applied;
 pub mod differences;
 pub mod evaluated;
+pub mod own_tables;
 pub mod texts;
 pub mod verified;

@@ -1,5 +1,3 @@
-use Rattle.table_laws.proofs.PositiveLemmas.{all-positive}
-use Rattle.table_laws.proofs.OwnRowLemmas.{rows-are}
 use Rattle.table_laws.proofs.EvaluatedLemmas.{points-same}
 use Rattle.table_laws.proofs.evaluated.evaluated_tables_are_refined_points.Goals as goal
 
