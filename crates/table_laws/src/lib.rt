@@ -1,4 +1,4 @@
-//! Laws of stored tables: their texts are read back, and only they are, and a table that is verified is that of the mesh.
+//! Laws of stored tables: how their texts are read, which table `verify` accepts, and which points `apply` writes.
 //!
 //! Each public function here takes nothing, does nothing and returns nothing: its clauses are the laws.
 #![tactic(auto)]
