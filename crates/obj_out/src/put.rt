@@ -1,4 +1,4 @@
-ghost use Rattle.std.specs.Prelude.{◌≡◌, ℕ, ◌+◌, ◌<◌, ◌≤◌, ◌^◌, [], ◌∷◌, false, unsigned_abs, OnOk, length};
+ghost use Rattle.std.specs.Prelude.{◌≡◌, ℕ, ◌+◌, ◌<◌, ◌≤◌, ◌^◌, [], ◌∷◌, ◌++◌, false, unsigned_abs, OnOk, length};
 ghost use Rattle.subdiv_model.specs.NumberText.{number_text, fraction_text, rounded_text};
 ghost use Rattle.obj_out.specs.Puts.{Begins, Puts, Ends};
 
@@ -85,6 +85,33 @@ impl<'a, K: Sink> Out<'a, K> {
         self.make_room()?;
         self.waiting.push_wide(n);
         Ok(())
+    }
+
+    /// Puts a byte, and after it a whole number of up to 128 bits in decimal digits. Most numbers fit into
+    /// 64 bits.
+    pub fn put_wide_after(&mut self, byte: u8, n: u128) -> Result<(), WriteFailed>
+        ensures { Puts K.Sink self.old self.new (byte ∷ number_text n) result }
+    {
+        if n <= u64::MAX as u128 {
+            return self.put_number_after(byte, n as u64);
+        }
+        self.put_long_after(byte, n)
+    }
+
+    // Puts a byte, and after it a whole number of up to 128 bits.
+    fn put_long_after(&mut self, byte: u8, n: u128) -> Result<(), WriteFailed>
+        ensures { Puts K.Sink self.old self.new (byte ∷ number_text n) result }
+    {
+        self.put_byte(byte)?;
+        self.put_wide(n)
+    }
+
+    /// Puts a name, and a count in decimal digits after a space.
+    pub fn put_count(&mut self, name: &[u8], count: u64) -> Result<(), WriteFailed>
+        ensures { Puts K.Sink self.old self.new (name.now ++ (32 ∷ number_text count)) result }
+    {
+        self.put_bytes(name)?;
+        self.put_number_after(b' ', count)
     }
 
     /// Puts a fraction in lowest terms, whatever terms it is kept in: `n/d`, or `n` where d is 1,
