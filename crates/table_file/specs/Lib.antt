@@ -1,1 +1,4 @@
 pub mod View
+pub mod Shares
+pub mod Words
+pub mod Read

@@ -1,6 +1,13 @@
 //! Stored tables: their text, written and read, and where two tables differ.
 #![tactic(auto)]
 
+mod difference;
 mod fault;
+mod line;
+mod number;
+mod put;
+mod words;
 
+pub use difference::first_difference;
 pub use fault::{TableCause, TableFault, TableReadFault};
+pub use put::put_table;

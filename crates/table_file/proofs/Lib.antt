@@ -1,0 +1,4 @@
+mod LineLemmas
+mod DifferenceLemmas
+mod SplitLemmas
+mod NumberLemmas

@@ -1,0 +1,46 @@
+-- Numbers by how many digits they have.
+use Rattle.std.proofs.Common.{◌≡◌, ℕ, zero, suc, ◌+◌, ◌-◌, ◌*◌, ◌^◌, ◌<◌, ◌≤◌, Bool, true, false, not, ◌&&◌, ◌||◌, nat_eq, nat_le, List, [], ◌∷◌, length, take, get_or, arith, refl, ap, sym, ◌∙◌, subst, add-one}
+use Rattle.std.specs.List.{fold, list_all}
+use Rattle.std.proofs.Math.Nat.{mul-le-mul_right, pow-le-pow_right}
+use Rattle.std.proofs.lemmas.Bool.{and_parts, leb-true}
+use Rattle.std.proofs.lemmas.Bool.Decides.{nat_tests}
+use Rattle.std.proofs.lemmas.Grind.{pow_more}
+use Rattle.subdiv_model.specs.Digits.{is_digit, is_number_word, number_of_digits}
+use Rattle.subdiv_model.specs.Channel.{number_bound}
+use Rattle.subdiv_model.specs.ReadTable.{is_term}
+use Rattle.obj_laws.proofs.DigitLemmas.{digits-below}
+
+pub number-digits : (word : List ℕ) → is_number_word word ≡ true → list_all is_digit word ≡ true
+number-digits [] h = absurd (no h)
+  where
+    no : false ≡ true → ⊥
+    no e = cc
+number-digits (b ∷ rest) h = (and_parts (list_all is_digit (b ∷ rest)) (not (nat_eq b 48) || nat_eq (length rest) 0) h).0
+
+-- digits behind a number make it greater by a power of ten
+above : (a : ℕ) (digits : List ℕ) → a * 10 ^ length digits ≤ fold (λ n b. n * 10 + (b - 48)) a digits
+above a [] = omega arith
+above a (b ∷ digits) =
+    let power : 10 ^ suc (length digits) ≡ 10 ^ length digits * 10 = ap (λ n. 10 ^ n) (sym (add-one (length digits))) ∙ pow_more 10 (length digits) in
+    let whole : a * 10 ^ suc (length digits) ≡ a * 10 * 10 ^ length digits = ap (λ n. a * n) power ∙ regroup a (10 ^ length digits) in
+    let step : a * 10 * 10 ^ length digits ≤ (a * 10 + (b - 48)) * 10 ^ length digits = mul-le-mul_right (10 ^ length digits) (omega arith) in
+    rw whole (omega (arith, step, above (a * 10 + (b - 48)) digits))
+  where
+    regroup : (x y : ℕ) → x * (y * 10) ≡ x * 10 * y
+    regroup x y = omega arith
+
+first-digit : (b : ℕ) (rest : List ℕ) → is_number_word (b ∷ rest) ≡ true → 0 < length rest → 1 ≤ b - 48
+first-digit b rest h some = grind (arith, nat_tests)
+
+-- a number of more than so many digits is at least this power of ten
+pub number-above : (word : List ℕ) (n : ℕ) → is_number_word word ≡ true → n < length word → 0 < n → 10 ^ n ≤ number_of_digits word
+number-above [] n h long some = absurd (omega arith)
+number-above (b ∷ rest) n h long some =
+    let first : 1 ≤ 0 * 10 + (b - 48) = omega (arith, first-digit b rest h (omega arith)) in
+    let power : 10 ^ n ≤ 10 ^ length rest = pow-le-pow_right (omega arith) (omega arith) in
+    omega (arith, power, mul-le-mul_right (10 ^ length rest) first, above (0 * 10 + (b - 48)) rest)
+
+pub number-below : (digits : List ℕ) (n : ℕ) → list_all is_digit digits ≡ true → length digits ≤ n → number_of_digits digits < 10 ^ n
+number-below digits n h few =
+    let power : 10 ^ length digits ≤ 10 ^ n = pow-le-pow_right (omega arith) few in
+    omega (arith, power, digits-below 0 digits h)

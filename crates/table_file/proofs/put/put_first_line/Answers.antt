@@ -1,0 +1,25 @@
+use Rattle.obj_out.proofs.PutsLemmas.{puts-after, puts-cut, puts-same}
+use Rattle.table_file.proofs.LineLemmas.{counts-by-words}
+use Rattle.table_file.proofs.put.put_first_line.Goals as goal
+
+pub returns-in_err-put_count : goal.returns-in_err-put_count
+returns-in_err-put_count g c =
+    puts-same (counts-by-words c.args.controls c.args.rows c.args.entries)
+    (puts-cut _ c.from_residual.ensures.0 c.in_err-put_count.ensures)
+
+pub returns-in_err-put_count-2 : goal.returns-in_err-put_count-2
+returns-in_err-put_count-2 g c =
+    puts-same (counts-by-words c.args.controls c.args.rows c.args.entries)
+    (puts-after c.in_ok-put_count.ensures (puts-cut _ c.from_residual-in_err-put_count-2.ensures.0 c.in_err-put_count-2.ensures))
+
+pub returns-in_err-put_count-3 : goal.returns-in_err-put_count-3
+returns-in_err-put_count-3 g c =
+    puts-same (counts-by-words c.args.controls c.args.rows c.args.entries)
+    (puts-after c.in_ok-put_count.ensures (puts-after c.in_ok-put_count-2.ensures
+    (puts-cut _ c.from_residual-in_err-put_count-3.ensures.0 c.in_err-put_count-3.ensures)))
+
+pub returns : goal.returns
+returns g c =
+    puts-same (counts-by-words c.args.controls c.args.rows c.args.entries)
+    (puts-after c.in_ok-put_count.ensures (puts-after c.in_ok-put_count-2.ensures
+    (puts-after c.in_ok-put_count-3.ensures c.put_byte.ensures)))

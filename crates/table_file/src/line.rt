@@ -1,0 +1,21 @@
+//! The lines of a stored table, each of which LF closes.
+
+ghost use Rattle.std.specs.Prelude.{◌≡◌, ◌+◌, ◌≤◌, true, false, length, drop, MatchOption};
+ghost use Rattle.std.specs.List.{before_first};
+ghost use Rattle.subdiv_model.specs.ObjLine.{is_lf};
+ghost use Rattle.subdiv_model.specs.ReadTable.{has_line, behind_line};
+ghost use Rattle.table_file.specs.Read.{IsLine};
+
+use obj_text::line_end;
+
+// The line that begins at a place, and the place behind its LF. It returns `None` where no LF follows.
+pub(crate) fn line_at(bytes: &[u8], at: usize) -> Option<(&[u8], usize)>
+    requires { at ≤ length bytes.now }
+    ensures { MatchOption result (has_line (drop at bytes.now) ≡ false) (λ found. IsLine bytes.now at found.0.now found.1) }
+{
+    let end = line_end(bytes, at);
+    if end == bytes.len() {
+        return None;
+    }
+    Some((&bytes[at..end], end + 1))
+}
