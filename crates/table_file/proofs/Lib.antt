@@ -1,4 +1,7 @@
 mod LineLemmas
 mod DifferenceLemmas
 mod SplitLemmas
+mod HeaderLemmas
+mod RowLemmas
+mod ReadLemmas
 mod NumberLemmas

@@ -1,10 +1,13 @@
 -- Numbers by how many digits they have.
-use Rattle.std.proofs.Common.{◌≡◌, ℕ, zero, suc, ◌+◌, ◌-◌, ◌*◌, ◌^◌, ◌<◌, ◌≤◌, Bool, true, false, not, ◌&&◌, ◌||◌, nat_eq, nat_le, List, [], ◌∷◌, length, take, get_or, arith, refl, ap, sym, ◌∙◌, subst, add-one}
+use Rattle.std.proofs.Common.{◌≡◌, ℕ, zero, suc, ◌+◌, ◌-◌, ◌*◌, ◌^◌, ◌<◌, ◌≤◌, Bool, true, false, not, ◌&&◌, ◌||◌, nat_eq, nat_le, List, [], ◌∷◌, length, take, drop, get_or, length-take-le, arith, refl, ap, sym, ◌∙◌, subst, add-one}
 use Rattle.std.specs.List.{fold, list_all}
 use Rattle.std.proofs.Math.Nat.{mul-le-mul_right, pow-le-pow_right}
 use Rattle.std.proofs.lemmas.Bool.{and_parts, leb-true}
 use Rattle.std.proofs.lemmas.Bool.Decides.{nat_tests}
 use Rattle.std.proofs.lemmas.Grind.{pow_more}
+use Rattle.std.proofs.lemmas.List.{take-append-drop}
+use Rattle.std.proofs.lemmas.List.Folds.{list_all-append}
+use Rattle.std.proofs.lemmas.List.Sums.{AllPass-from_list_all}
 use Rattle.subdiv_model.specs.Digits.{is_digit, is_number_word, number_of_digits}
 use Rattle.subdiv_model.specs.Channel.{number_bound}
 use Rattle.subdiv_model.specs.ReadTable.{is_term}
@@ -44,3 +47,17 @@ pub number-below : (digits : List ℕ) (n : ℕ) → list_all is_digit digits �
 number-below digits n h few =
     let power : 10 ^ length digits ≤ 10 ^ n = pow-le-pow_right (omega arith) few in
     omega (arith, power, digits-below 0 digits h)
+
+first-all : (digits : List ℕ) (k : ℕ) → list_all is_digit digits ≡ true → list_all is_digit (take k digits) ≡ true
+first-all digits k h =
+    (and_parts (list_all is_digit (take k digits)) (list_all is_digit (drop k digits))
+    (sym (list_all-append is_digit (take k digits) (drop k digits)) ∙ ap (list_all is_digit) (take-append-drop k digits) ∙ h)).0
+
+-- what the digits before a place say, where there are at most so many more than those before the last
+pub number-before : (digits : List ℕ) (k n : ℕ) → list_all is_digit digits ≡ true → k < length digits → length digits ≤ n + 1 → number_of_digits (take k digits) < 10 ^ n
+number-before digits k n h within few =
+    number-below (take k digits) n (first-all digits k h) (omega (arith, length-take-le k digits (omega arith)))
+
+pub digit-few : (digits : List ℕ) (k d : ℕ) → list_all is_digit digits ≡ true → k < length digits → get_or digits k d - 48 ≤ 9
+digit-few digits k d h within =
+    omega (arith, leb-true (get_or digits k d) 57 (and_parts (nat_le 48 (get_or digits k d)) (nat_le (get_or digits k d) 57) (AllPass-from_list_all is_digit digits h k d within)).1)

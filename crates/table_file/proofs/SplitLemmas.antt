@@ -44,6 +44,9 @@ some-in : (p : ℕ → Bool) (bytes : List ℕ) → position_or_len p bytes < le
 some-in p bytes h =
     list_any_at p bytes (position_or_len p bytes) 0 h (not-back (p (get_or bytes (position_or_len p bytes) 0)) (prefix_len_stops (λ b. not (p b)) bytes 0 h))
 
+pub line-end-le : (bytes : List ℕ) (at : ℕ) → at ≤ length bytes → (at ≤ line_end_of bytes at) × (line_end_of bytes at ≤ length bytes)
+line-end-le bytes at inside = (omega arith, omega (arith, position-le is_lf (drop at bytes), length-drop at bytes))
+
 pub no-line : (bytes : List ℕ) (at end : ℕ) → at ≤ length bytes → end ≡ line_end_of bytes at → end ≡ length bytes → has_line (drop at bytes) ≡ false
 no-line bytes at end inside e f = none-in is_lf (drop at bytes) (omega (arith, length-drop at bytes))
 

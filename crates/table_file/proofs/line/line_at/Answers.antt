@@ -1,0 +1,14 @@
+use Rattle.std.proofs.Common.{arith, refl}
+use Rattle.table_file.proofs.SplitLemmas.{line-end-le, no-line, line-found}
+use Rattle.table_file.proofs.line.line_at.Goals as goal
+
+pub returns-then-end-bytes : goal.returns-then-end-bytes
+returns-then-end-bytes c = no-line c.args.bytes.now c.args.at c.line_end-end.result c.requires c.line_end-end.ensures c.if-end-bytes.true
+
+pub slice_bounds-result-end : goal.slice_bounds-result-end
+slice_bounds-result-end c =
+    let end = line-end-le c.args.bytes.now c.args.at c.requires in
+    omega (arith, c.line_end-end.ensures, end.0, end.1)
+
+pub returns : goal.returns
+returns c = line-found c.args.bytes.now _ c.args.at c.line_end-end.result c.requires c.line_end-end.ensures c.if-end-bytes.false refl

@@ -1,0 +1,27 @@
+-- The words of a first line.
+use Rattle.std.specs.Prelude.{ℕ, ◌≡◌, Bool, true, ◌&&◌, nat_le, List, [], length, get_or, bytes_eq}
+use Rattle.subdiv_model.specs.Digits.{is_number_word, number_of_digits}
+use Rattle.subdiv_model.specs.ReadTable.{Header}
+use Rattle.table_file.specs.declared.header.HeaderWords.{HeaderWords}
+
+-- the words begin with a name and a number
+abbrev pub is_named_number : List ℕ → List (List ℕ) → Bool
+is_named_number name words = nat_le 2 (length words) && bytes_eq (get_or words 0 []) name && is_number_word (get_or words 1 [])
+
+-- the words of the three numbers of a first line are numbers
+pub record AreHeaderWords (words : HeaderWords) (list : List (List ℕ)) : Type 0 where
+  pub controls : words.controls.now ≡ get_or list 2 []
+  pub rows : words.rows.now ≡ get_or list 4 []
+  pub entries : words.entries.now ≡ get_or list 6 []
+
+pub record AreNumbers (words : HeaderWords) : Type 0 where
+  pub controls : is_number_word words.controls.now ≡ true
+  pub rows : is_number_word words.rows.now ≡ true
+  pub entries : is_number_word words.entries.now ≡ true
+
+abbrev pub header_of_words : HeaderWords → Header
+header_of_words words = record {
+  controls = number_of_digits words.controls.now;
+  rows = number_of_digits words.rows.now;
+  entries = number_of_digits words.entries.now;
+}

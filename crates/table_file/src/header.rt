@@ -1,0 +1,123 @@
+//! The first line of a stored table.
+
+ghost use Rattle.std.specs.Prelude.{◌≡◌, ◌&&◌, ◌≤◌, ◌^◌, true, false, [], drop, length, get_or, bytes_eq, codes, None, Some, MatchOption, MatchResult};
+ghost use Rattle.subdiv_model.specs.Digits.{is_number_word, number_of_digits};
+ghost use Rattle.subdiv_model.specs.ReadTable.{spaced_words, is_header_form, is_header_in_range, header_of, header_cause, is_miscounted};
+ghost use Rattle.table_file.specs.View.{cause_of};
+ghost use Rattle.table_file.specs.Words.{words_left};
+ghost use Rattle.table_file.specs.Header.{AreHeaderWords, AreNumbers, is_named_number, header_of_words};
+
+use crate::fault::TableCause;
+use crate::number::{is_number, read_between};
+use crate::words::{Words, is_word, words_of};
+use std::marker::Model;
+
+// How many control points, rows and entries a table has by its first line.
+#[derive(Drop)]
+pub(crate) struct Header {
+    pub(crate) controls: u32,
+    pub(crate) rows: u32,
+    pub(crate) entries: u32,
+}
+
+impl Model for Header {
+    ghost use Rattle.std.specs.Prelude.{◌≤◌, ◌^◌};
+    ghost use Rattle.subdiv_model.specs.ReadTable as model;
+
+    ghost Value = { model.Header };
+
+    ghost view = { λ h. record { controls = h.controls; rows = h.rows; entries = h.entries } };
+
+    ghost invariant = { λ h. (h.controls ≤ 2 ^ 20) × (h.rows ≤ 2 ^ 27) × (h.entries ≤ 2 ^ 27) };
+}
+
+impl Header {
+    // Whether there are too many entries up to a line, or too few for the last line. So many rows are to come behind the line.
+    pub(crate) fn is_miscounted(&self, left: u32, entries: u64) -> bool
+        ensures { result ≡ is_miscounted self.now left entries }
+    {
+        let most = u64::from(self.entries);
+        most < entries || (left == 0 && entries < most)
+    }
+}
+
+// The most control points of a stored table.
+const CONTROL_LIMIT: u32 = 1 << 20;
+
+// The most rows of a stored table, and the most entries of all of them.
+const ENTRY_LIMIT: u32 = 1 << 27;
+
+// The words of the three numbers of a first line.
+#[derive(Clone, Copy)]
+pub(crate) struct HeaderWords<'a> {
+    controls: &'a [u8],
+    rows: &'a [u8],
+    entries: &'a [u8],
+}
+
+// Takes a word that is this name, and the number behind it. It returns `None` where the next words are others.
+fn named_number<'a>(words: &mut Words<'a>, name: &[u8]) -> Option<&'a [u8]>
+    ensures { MatchOption result (is_named_number name.now (words_left words.old) ≡ false)
+        (λ number. (is_named_number name.now (words_left words.old) ≡ true) × (number.now ≡ get_or (words_left words.old) 1 [])
+        × (words_left words.new ≡ drop 2 (words_left words.old))) }
+{
+    if !is_word(words.next()?, name) {
+        return None;
+    }
+    let number = words.next()?;
+    if !is_number(number) {
+        return None;
+    }
+    Some(number)
+}
+
+// The words of the numbers of a first line. It returns `None` where the line is not of the words of one.
+fn header_words(line: &[u8]) -> Option<HeaderWords<'_>>
+    ensures { MatchOption result (is_header_form (spaced_words line.now) ≡ false)
+        (λ words. (is_header_form (spaced_words line.now) ≡ true) × AreHeaderWords words (spaced_words line.now) × AreNumbers words) }
+{
+    let mut words = words_of(line);
+    if !is_word(words.next()?, b"table") {
+        return None;
+    }
+    let controls = named_number(&mut words, b"controls")?;
+    let rows = named_number(&mut words, b"rows")?;
+    let entries = named_number(&mut words, b"entries")?;
+    match words.next() {
+        None => Some(HeaderWords {
+            controls,
+            rows,
+            entries,
+        }),
+        Some(_) => None,
+    }
+}
+
+// The counts that the words say. It returns `None` where one of them passes its limit.
+fn header_in_range(words: &HeaderWords<'_>) -> Option<Header>
+    requires { AreNumbers words.now }
+    ensures { MatchOption result (is_header_in_range (header_of_words words.now) ≡ false)
+        (λ header. (is_header_in_range (header_of_words words.now) ≡ true) × (header ≡ header_of_words words.now)) }
+{
+    let controls = read_between(words.controls, 0, CONTROL_LIMIT + 1)?;
+    let rows = read_between(words.rows, 0, ENTRY_LIMIT + 1)?;
+    let entries = read_between(words.entries, 0, ENTRY_LIMIT + 1)?;
+    Some(Header {
+        controls,
+        rows,
+        entries,
+    })
+}
+
+// Reads the first line of a stored table.
+pub(crate) fn read_header(line: &[u8]) -> Result<Header, TableCause>
+    ensures { MatchResult result (λ header. (header_cause (spaced_words line.now) ≡ None) × (header ≡ header_of (spaced_words line.now)))
+        (λ cause. header_cause (spaced_words line.now) ≡ Some (cause_of cause)) }
+{
+    let words = header_words(line).ok_or(TableCause::Form)?;
+    let header = header_in_range(&words).ok_or(TableCause::Range)?;
+    if header.is_miscounted(header.rows, 0) {
+        return Err(TableCause::Count);
+    }
+    Ok(header)
+}
