@@ -52,7 +52,10 @@ pub(crate) fn row_words(line: &[u8]) -> Option<RowWords<'_>>
     }
     let denominator = words.next()?;
     let shares = words;
-    if !is_number(denominator) || !are_pairs(&mut words) {
+    if !is_number(denominator) {
+        return None;
+    }
+    if !are_pairs(&mut words) {
         return None;
     }
     Some(RowWords {

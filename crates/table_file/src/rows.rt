@@ -104,13 +104,14 @@ fn read_line(
     ensures { MatchResult result (λ next. IsRowRead header.now bytes.now at rows.old rows.new next)
         (λ fault. IsFaultOf (read_on header.now rows.old (drop at bytes.now)) fault) }
 {
+    let left = header.rows - number - 1;
     let Some((line, next)) = line_at(bytes, at) else {
         return Err(TableReadFault::Table {
             line: number + 2,
             cause: TableCause::Form,
         });
     };
-    match read_row(line, header, header.rows - number - 1, rows)? {
+    match read_row(line, header, left, rows)? {
         Some(cause) => Err(TableReadFault::Table {
             line: number + 2,
             cause,
@@ -131,7 +132,7 @@ pub(crate) fn read_all(
     requires none { rows.old.builder.table.rows ≡ [] }
     ensures read { MatchResult result (λ end. IsReadUpTo (read_on header.now rows.old (drop from bytes.now)) bytes.now rows.new.builder.table end)
         (λ fault. IsFaultOf (read_on header.now rows.old (drop from bytes.now)) fault) }
-    ensures good { OnOk result (AreRowsOf header.now rows.new) }
+    ensures few { OnOk result (rows.new.builder.table.controls ≤ 2 ^ 20) }
 {
     let mut at = from;
     for number in 0..header.rows {
