@@ -1,5 +1,5 @@
 -- Where one of two lists of rows ends.
-use Rattle.std.proofs.Common.{◌≡◌, ◌≢◌, ℕ, ◌+◌, ◌-◌, ◌<◌, ◌≤◌, min, List, [], ◌∷◌, length, drop, Some, arith, refl, length-drop, ⊎_elim}
+use Rattle.std.proofs.Common.{◌≡◌, ◌≢◌, ℕ, ◌<◌, min, List, [], ◌∷◌, length, drop, Some, arith, refl, length-drop, ⊎_elim}
 use Rattle.std.proofs.lemmas.Bool.{cases_lt}
 use Rattle.stencil_apply.specs.Table.{Row}
 use Rattle.far_model.specs.Stored.{row_difference}

@@ -1,5 +1,5 @@
 -- The form of a first line, by the names in it and the numbers behind them.
-use Rattle.std.proofs.Common.{◌≡◌, ℕ, suc, ◌+◌, ◌≤◌, ◌^◌, Bool, true, false, ◌&&◌, nat_eq, nat_le, nat_lt, List, [], ◌∷◌, length, drop, get_or, get_or-drop, drop-drop, codes, arith, refl, ap, sym, ◌∙◌}
+use Rattle.std.proofs.Common.{◌≡◌, ℕ, ◌+◌, Bool, true, false, ◌&&◌, nat_eq, nat_le, List, [], ◌∷◌, length, drop, get_or, get_or-drop, drop-drop, codes, arith, refl, ap, sym, ◌∙◌}
 use Rattle.std.specs.Borrow.{Bor}
 use Rattle.std.specs.Str.{bytes_eq}
 use Rattle.std.proofs.lemmas.Bool.{and_parts}
@@ -102,5 +102,5 @@ module _ (word : List ℕ) (controls rows entries : Bor (List ℕ)) (list first 
       controls = number-named (codes "controls") first controls.now named control;
       rows = number-named (codes "rows") second rows.now row_named row;
       entries = number-named (codes "entries") third entries.now entry_named entry;
-    }
+    },
   )

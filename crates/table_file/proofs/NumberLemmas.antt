@@ -1,5 +1,5 @@
 -- Numbers by how many digits they have.
-use Rattle.std.proofs.Common.{◌≡◌, ℕ, zero, suc, ◌+◌, ◌-◌, ◌*◌, ◌^◌, ◌<◌, ◌≤◌, Bool, true, false, not, ◌&&◌, ◌||◌, nat_eq, nat_le, List, [], ◌∷◌, length, take, drop, get_or, length-take-le, arith, refl, ap, sym, ◌∙◌, subst, add-one}
+use Rattle.std.proofs.Common.{◌≡◌, ℕ, suc, ◌+◌, ◌-◌, ◌*◌, ◌^◌, ◌<◌, ◌≤◌, true, false, not, ◌||◌, nat_eq, nat_le, List, [], ◌∷◌, length, take, drop, get_or, length-take-le, arith, ap, sym, ◌∙◌, add-one}
 use Rattle.std.specs.List.{fold, list_all}
 use Rattle.std.proofs.Math.Nat.{mul-le-mul_right, pow-le-pow_right}
 use Rattle.std.proofs.lemmas.Bool.{and_parts, leb-true}
@@ -9,8 +9,6 @@ use Rattle.std.proofs.lemmas.List.{take-append-drop}
 use Rattle.std.proofs.lemmas.List.Folds.{list_all-append}
 use Rattle.std.proofs.lemmas.List.Sums.{AllPass-from_list_all}
 use Rattle.subdiv_model.specs.Digits.{is_digit, is_number_word, number_of_digits}
-use Rattle.subdiv_model.specs.Channel.{number_bound}
-use Rattle.subdiv_model.specs.ReadTable.{is_term}
 use Rattle.obj_laws.proofs.DigitLemmas.{digits-below}
 
 pub number-digits : (word : List ℕ) → is_number_word word ≡ true → list_all is_digit word ≡ true

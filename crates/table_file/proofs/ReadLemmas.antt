@@ -1,5 +1,5 @@
 -- One row more of a table that is read.
-use Rattle.std.proofs.Common.{◌≡◌, ℕ, suc, ◌+◌, ◌-◌, ◌<◌, ◌≤◌, Bool, true, List, [], ◌∷◌, ◌++◌, length, drop, Option, Some, None, Result, Ok, Err, MatchResult, option_map, arith, refl, ap, sym, subst, ◌∙◌, length-append, if◌then◌else◌}
+use Rattle.std.proofs.Common.{◌≡◌, ℕ, suc, ◌+◌, ◌-◌, ◌<◌, List, [], ◌∷◌, ◌++◌, length, drop, Option, Some, None, Result, Err, MatchResult, option_map, arith, ap, sym, subst, ◌∙◌, length-append, if◌then◌else◌}
 use Rattle.subdiv_model.specs.ReadTable.{Header, Reading, read_rows, next_row_cause, row_words_cause, reading_unless, row_of_words, spaced_words, first_words, behind_line}
 use Rattle.subdiv_model.specs.Table.{Row, entries_of}
 use Rattle.subdiv_model.specs.TableFault as model
@@ -49,11 +49,11 @@ module _ (header : Header) (rows : Rows) (bytes line : List ℕ) (at next number
       ap length with_row.rows ∙ length-append rows.builder.table.rows (row_of_words (spaced_words line) ∷ []) in
       record {
         same =
-          read-more header (header.rows - length rows.builder.table.rows) left rows.builder.table.rows (drop at bytes) total (next-cause ∙ ap (option_map cause_of) e)
-          ∙ ap (λ l. read_rows header left (rows.builder.table.rows ++ row_of_words (spaced_words l) ∷ []) (behind_line (drop at bytes))) (sym is.whole)
-          ∙ ap (λ list. read_rows header left list (behind_line (drop at bytes))) (sym with_row.rows)
-          ∙ ap (λ rest. read_rows header left new.builder.table.rows rest) (sym is.behind)
-          ∙ ap (λ n. read_rows header n new.builder.table.rows (drop next bytes)) (omega (arith, total, grown));
+            read-more header (header.rows - length rows.builder.table.rows) left rows.builder.table.rows (drop at bytes) total (next-cause ∙ ap (option_map cause_of) e)
+            ∙ ap (λ l. read_rows header left (rows.builder.table.rows ++ row_of_words (spaced_words l) ∷ []) (behind_line (drop at bytes))) (sym is.whole)
+            ∙ ap (λ list. read_rows header left list (behind_line (drop at bytes))) (sym with_row.rows)
+            ∙ ap (λ rest. read_rows header left new.builder.table.rows rest) (sym is.behind)
+            ∙ ap (λ n. read_rows header n new.builder.table.rows (drop next bytes)) (omega (arith, total, grown));
         good = with_row.good;
         count = grown;
         inside = is.inside;

@@ -1,7 +1,6 @@
 -- The words of a row, and a row that is in range.
-use Rattle.std.proofs.Common.{◌≡◌, ℕ, zero, suc, ◌+◌, ◌-◌, ◌%◌, ◌^◌, ◌<◌, ◌≤◌, min, Bool, true, false, not, ◌&&◌, nat_eq, nat_le, nat_lt, List, [], ◌∷◌, length, map, take, get_or, codes, Option, Some, None, is_some, option_map, if◌then◌else◌, arith, refl, ap, sym, ◌∙◌, subst, add-one}
-use Rattle.std.specs.List.{All, list_all}
-use Rattle.std.specs.List.Sorted.{IsStrictlyIncreasing}
+use Rattle.std.proofs.Common.{◌≡◌, ℕ, zero, suc, ◌+◌, ◌%◌, ◌<◌, ◌≤◌, Bool, true, false, not, ◌&&◌, nat_eq, nat_le, nat_lt, List, [], ◌∷◌, length, map, get_or, codes, Option, Some, None, MatchOption, is_some, option_map, if◌then◌else◌, arith, refl, ap, sym, ◌∙◌, subst, add-one}
+use Rattle.std.specs.List.{list_all}
 use Rattle.std.specs.Borrow.{Bor}
 use Rattle.std.specs.Str.{bytes_eq}
 use Rattle.std.proofs.lemmas.List.{length-map}
@@ -13,8 +12,11 @@ use Rattle.subdiv_model.specs.ReadTable.{Header, row_of_words, is_row_form, is_t
 use Rattle.subdiv_model.specs.Table.{Share, Row, IsRow, total_of}
 use Rattle.subdiv_model.specs.TableFault as model
 use Rattle.table_file.specs.declared.fault.TableCause.{TableCause}
+use Rattle.table_file.specs.declared.row.RowWords.{RowWords}
 use Rattle.table_file.specs.declared.words.Words.{Words}
-use Rattle.table_file.specs.Row.{IsRowForm, cause_in_range}
+use Rattle.stencil_apply.specs.Arrays.{row_of}
+use Rattle.stencil_apply.specs.declared.entry.Entry.{Entry}
+use Rattle.table_file.specs.Row.{IsRowForm, row_in, cause_in_range}
 use Rattle.table_file.specs.View.{cause_of}
 use Rattle.table_file.specs.Words.{words_left, are_number_pairs, is_share_in_range}
 
@@ -80,7 +82,7 @@ module _ (list first : List (List ℕ)) (keyword : List ℕ) (den : Bor (List �
       IsRowForm (record { denominator = den; shares = shares }) list
   form-read name number pairs = record {
     form =
-      form-is ∙ ap (λ b. b && (is_number_word den.now && are_number_pairs (words_left shares))) name ∙ ap (λ b. b && are_number_pairs (words_left shares)) number ∙ pairs;
+        form-is ∙ ap (λ b. b && (is_number_word den.now && are_number_pairs (words_left shares))) name ∙ ap (λ b. b && are_number_pairs (words_left shares)) number ∙ pairs;
     row = ap row_of_words words-are;
     denominator = number;
     numbers = pairs-numbers (words_left shares) pairs;
@@ -97,6 +99,7 @@ first-share controls least share h =
   where
     at-least : (a b : ℕ) → nat_le a b ≡ true → a ≤ b
     at-least a b e = grind (arith, nat_tests)
+
     below : (a b : ℕ) → nat_lt a b ≡ true → a < b
     below a b e = grind (arith, nat_tests)
 
@@ -139,7 +142,7 @@ row-is controls row h whole =
       positive = den.0;
       short = den.1;
       ascending = λ k within. subst (λ n. get_or (map (λ share. share.0) row.shares) k 0 < get_or (map (λ share. share.0) row.shares) n 0) (sym (add-one k))
-        (ascend controls 0 row.shares both.1 k (omega (arith, within, length-map row.shares (λ share. share.0))));
+          (ascend controls 0 row.shares both.1 k (omega (arith, within, length-map row.shares (λ share. share.0))));
       inside = λ k d within. (inside controls 0 row.shares both.1 k d within).0;
       each = λ k d within. (inside controls 0 row.shares both.1 k d within).1;
       whole = whole;
@@ -168,3 +171,12 @@ pub row-good : (header : Header) (left entries controls : ℕ) (row said : Row) 
 row-good header left entries controls row said found none is same range over =
     let whole : nat_eq (total_of row.shares) row.den ≡ true = sum-whole (nat_eq (total_of row.shares) row.den) _ (sym (no-cause found none) ∙ is) in
     rw over (row-is header.controls row (ap (is_row_in_range header.controls) same ∙ range) (same-number (total_of row.shares) row.den whole))
+
+-- a denominator that was read is that of a row in range
+pub read-some : (controls : ℕ) (words : RowWords) (items : List Entry) (read : Option ℕ) (den : ℕ) → read ≡ Some den →
+    MatchOption read (is_row_in_range controls (row_in words) ≡ false) (λ d. (is_row_in_range controls (row_in words) ≡ true) × (row_of d items ≡ row_in words)) →
+    (is_row_in_range controls (row_in words) ≡ true) × (row_of den items ≡ row_in words)
+read-some controls words items read den e h =
+    subst
+    (λ (r : Option ℕ). MatchOption r (is_row_in_range controls (row_in words) ≡ false) (λ d. (is_row_in_range controls (row_in words) ≡ true) × (row_of d items ≡ row_in words)))
+    e h

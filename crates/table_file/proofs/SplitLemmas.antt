@@ -1,12 +1,12 @@
 -- The first line of a text, and the first word of a line.
 use Rattle.std.proofs.Common.{◌≡◌, ◌≢◌, ℕ, ◌+◌, ◌-◌, ◌<◌, ◌≤◌, Bool, true, false, not, List, [], ◌∷◌, length, take, drop, get_or, slice_range, arith, refl, ap, sym, ◌∙◌, length-drop}
-use Rattle.std.specs.List.{slice_split, position_or_len, prefix_len, before_first, list_any}
+use Rattle.std.specs.List.{slice_split, position_or_len, list_any}
 use Rattle.std.proofs.lemmas.List.{take_all, drop-drop}
 use Rattle.std.proofs.lemmas.List.Folds.{list_any_none, list_any_at}
 use Rattle.std.proofs.lemmas.List.Splits.{slice_split_none, slice_split_first}
 use Rattle.std.proofs.lemmas.List.Sums.{fails_before_first, prefix_len-le-length, prefix_len_stops}
 use Rattle.subdiv_model.specs.ObjLine.{is_lf, line_end_of}
-use Rattle.subdiv_model.specs.ReadTable.{spaced_words, has_line, behind_line}
+use Rattle.subdiv_model.specs.ReadTable.{spaced_words, has_line}
 use Rattle.table_file.specs.Words.{is_space}
 use Rattle.table_file.specs.Read.{IsLine}
 
@@ -61,7 +61,7 @@ line-found bytes line at end inside e other is =
       closed = some-in is_lf (drop at bytes) within;
       whole = is ∙ ap (λ n. take n (drop at bytes)) len;
       behind =
-        ap (λ n. drop n bytes) (omega arith)
-        ∙ sym (drop-drop (position_or_len is_lf (drop at bytes) + 1) at bytes);
+          ap (λ n. drop n bytes) (omega arith)
+          ∙ sym (drop-drop (position_or_len is_lf (drop at bytes) + 1) at bytes);
       inside = omega arith;
     }

@@ -1,10 +1,8 @@
 -- The rows so far of a table that is read.
-use Rattle.std.specs.Prelude.{ℕ, ◌≡◌, ◌+◌, ◌-◌, ◌≤◌, ◌++◌, ◌∷◌, [], List, length, drop, Result, MatchResult}
+use Rattle.std.specs.Prelude.{ℕ, ◌≡◌, ◌+◌, ◌-◌, ◌≤◌, ◌++◌, ◌∷◌, [], List, length, drop, Result}
 use Rattle.subdiv_model.specs.ReadTable.{Header, Reading, read_rows, read_table}
 use Rattle.subdiv_model.specs.Table.{Row, entries_of}
 use Rattle.subdiv_model.specs.TableFault.{TableFault}
-use Rattle.table_file.specs.Read.{IsFaultOf}
-use Rattle.table_file.specs.declared.fault.TableReadFault.{TableReadFault}
 use Rattle.table_file.specs.declared.rows.Rows.{Rows}
 
 -- the rows are over the control points of the first line, and have no more entries than it says

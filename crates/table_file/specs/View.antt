@@ -1,5 +1,4 @@
 -- The faults of this crate, seen as those of the definitions, and a table that was read.
-use Rattle.std.specs.Prelude.{ℕ}
 use Rattle.subdiv_model.specs.Fault as run
 use Rattle.subdiv_model.specs.TableFault as model
 use Rattle.table_file.specs.declared.fault.TableCause.{TableCause}

@@ -78,11 +78,7 @@ fn read_entry(control: &[u8], numerator: &[u8], least: u32, controls: u32) -> Op
 }
 
 // Reads the entries of a row, and returns whether all are in range.
-fn read_shares(
-    words: &mut Words<'_>,
-    controls: u32,
-    row: &mut Vec<Entry>,
-) -> Result<bool, Memory>
+fn read_shares(words: &mut Words<'_>, controls: u32, row: &mut Vec<Entry>) -> Result<bool, Memory>
     requires numbers { list_all is_number_word (words_left words.old) ≡ true }
     requires empty { row.old.items ≡ [] }
     ensures range { IfOk result (λ fits. fits ≡ are_shares_in_range controls 0 (shares_of_words (words_left words.old))) }

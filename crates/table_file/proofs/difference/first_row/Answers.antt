@@ -1,4 +1,4 @@
-use Rattle.std.proofs.Common.{◌≡◌, ◌≤◌, min, length, Some, arith, ap, sym, ◌∙◌}
+use Rattle.std.proofs.Common.{◌≡◌, min, length, Some, arith, ap, sym, ◌∙◌}
 use Rattle.table_file.proofs.DifferenceLemmas.{difference-some}
 use Rattle.table_file.proofs.difference.first_row.Goals as goal
 

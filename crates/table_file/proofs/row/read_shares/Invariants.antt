@@ -1,4 +1,4 @@
-use Rattle.std.proofs.Common.{◌≡◌, ◌≤◌, true, ◌++◌, length}
+use Rattle.std.proofs.Common.{◌≡◌, true, ◌++◌, length}
 use Rattle.std.specs.List.{list_all}
 use Rattle.subdiv_model.specs.Digits.{is_number_word}
 use Rattle.subdiv_model.specs.ReadTable.{are_shares_in_range, shares_of_words}
