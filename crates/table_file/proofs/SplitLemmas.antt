@@ -1,6 +1,7 @@
 -- The first line of a text, and the first word of a line.
-use Rattle.std.proofs.Common.{◌≡◌, ◌≢◌, ℕ, ◌+◌, ◌-◌, ◌<◌, ◌≤◌, Bool, true, false, not, List, [], ◌∷◌, length, take, drop, get_or, slice_range, arith, refl, ap, sym, ◌∙◌, length-drop}
+use Rattle.std.proofs.Common.{◌≡◌, ℕ, ◌+◌, ◌-◌, ◌<◌, ◌≤◌, Bool, true, false, not, nat_lt, List, [], ◌∷◌, length, take, drop, get_or, slice_range, arith, refl, ap, sym, ◌∙◌, length-drop}
 use Rattle.std.specs.List.{slice_split, position_or_len, list_any}
+use Rattle.std.proofs.lemmas.Bool.Decides.{nat_tests}
 use Rattle.std.proofs.lemmas.List.{take_all, drop-drop}
 use Rattle.std.proofs.lemmas.List.Folds.{list_any_none, list_any_at}
 use Rattle.std.proofs.lemmas.List.Splits.{slice_split_none, slice_split_first}
@@ -47,12 +48,19 @@ some-in p bytes h =
 pub line-end-le : (bytes : List ℕ) (at : ℕ) → at ≤ length bytes → (at ≤ line_end_of bytes at) × (line_end_of bytes at ≤ length bytes)
 line-end-le bytes at inside = (omega arith, omega (arith, position-le is_lf (drop at bytes), length-drop at bytes))
 
-pub no-line : (bytes : List ℕ) (at end : ℕ) → at ≤ length bytes → end ≡ line_end_of bytes at → end ≡ length bytes → has_line (drop at bytes) ≡ false
-no-line bytes at end inside e f = none-in is_lf (drop at bytes) (omega (arith, length-drop at bytes))
+below : (a b : ℕ) → nat_lt a b ≡ true → a < b
+below a b h = grind (arith, nat_tests)
 
-pub line-found : (bytes line : List ℕ) (at end : ℕ) → at ≤ length bytes → end ≡ line_end_of bytes at → end ≢ length bytes →
+not-below : (a b : ℕ) → nat_lt a b ≡ false → b ≤ a
+not-below a b h = grind (arith, nat_tests)
+
+pub no-line : (bytes : List ℕ) (at end : ℕ) → at ≤ length bytes → end ≡ line_end_of bytes at → nat_lt end (length bytes) ≡ false → has_line (drop at bytes) ≡ false
+no-line bytes at end inside e past = none-in is_lf (drop at bytes) (omega (arith, not-below end (length bytes) past, length-drop at bytes))
+
+pub line-found : (bytes line : List ℕ) (at end : ℕ) → at ≤ length bytes → end ≡ line_end_of bytes at → nat_lt end (length bytes) ≡ true →
     line ≡ slice_range bytes at end → IsLine bytes at line (end + 1)
-line-found bytes line at end inside e other is =
+line-found bytes line at end inside e closed is =
+    let before : end < length bytes = below end (length bytes) closed in
     let most : position_or_len is_lf (drop at bytes) ≤ length (drop at bytes) = position-le is_lf (drop at bytes) in
     let long : length (drop at bytes) ≡ length bytes - at = length-drop at bytes in
     let within : position_or_len is_lf (drop at bytes) < length (drop at bytes) = omega arith in
