@@ -14,9 +14,8 @@ use Rattle.subdiv_model.specs.TableFault as model
 use Rattle.table_file.specs.declared.fault.TableCause.{TableCause}
 use Rattle.table_file.specs.declared.row.RowWords.{RowWords}
 use Rattle.table_file.specs.declared.words.Words.{Words}
-use Rattle.stencil_apply.specs.Arrays.{row_of}
 use Rattle.stencil_apply.specs.declared.entry.Entry.{Entry}
-use Rattle.table_file.specs.Row.{IsRowForm, row_in, cause_in_range}
+use Rattle.table_file.specs.Row.{IsInRange, IsRowForm, row_in, cause_in_range}
 use Rattle.table_file.specs.View.{cause_of}
 use Rattle.table_file.specs.Words.{words_left, are_number_pairs, is_share_in_range}
 
@@ -174,9 +173,6 @@ row-good header left entries controls row said found none is same range over =
 
 -- a denominator that was read is that of a row in range
 pub read-some : (controls : ℕ) (words : RowWords) (items : List Entry) (read : Option ℕ) (den : ℕ) → read ≡ Some den →
-    MatchOption read (is_row_in_range controls (row_in words) ≡ false) (λ d. (is_row_in_range controls (row_in words) ≡ true) × (row_of d items ≡ row_in words)) →
-    (is_row_in_range controls (row_in words) ≡ true) × (row_of den items ≡ row_in words)
+    MatchOption read (is_row_in_range controls (row_in words) ≡ false) (λ d. IsInRange controls words d items) → IsInRange controls words den items
 read-some controls words items read den e h =
-    subst
-    (λ (r : Option ℕ). MatchOption r (is_row_in_range controls (row_in words) ≡ false) (λ d. (is_row_in_range controls (row_in words) ≡ true) × (row_of d items ≡ row_in words)))
-    e h
+    subst (λ (r : Option ℕ). MatchOption r (is_row_in_range controls (row_in words) ≡ false) (λ d. IsInRange controls words d items)) e h

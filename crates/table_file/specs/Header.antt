@@ -1,5 +1,5 @@
 -- The words of a first line.
-use Rattle.std.specs.Prelude.{ℕ, ◌≡◌, Bool, true, ◌&&◌, nat_le, List, [], length, get_or, bytes_eq}
+use Rattle.std.specs.Prelude.{ℕ, ◌≡◌, Bool, true, ◌&&◌, nat_le, List, [], length, drop, get_or, bytes_eq}
 use Rattle.subdiv_model.specs.Digits.{is_number_word, number_of_digits}
 use Rattle.subdiv_model.specs.ReadTable.{Header}
 use Rattle.table_file.specs.declared.header.HeaderWords.{HeaderWords}
@@ -7,6 +7,10 @@ use Rattle.table_file.specs.declared.header.HeaderWords.{HeaderWords}
 -- the words begin with a name and a number
 abbrev pub is_named_number : List ℕ → List (List ℕ) → Bool
 is_named_number name words = nat_le 2 (length words) && bytes_eq (get_or words 0 []) name && is_number_word (get_or words 1 [])
+
+-- the words begin with a name and this number, and others follow them
+abbrev pub IsNamedNumber : List ℕ → List (List ℕ) → List ℕ → List (List ℕ) → Type 0
+IsNamedNumber name words number others = (is_named_number name words ≡ true) × (number ≡ get_or words 1 []) × (others ≡ drop 2 words)
 
 -- the words of the three numbers of a first line are numbers
 pub record AreHeaderWords (words : HeaderWords) (list : List (List ℕ)) : Type 0 where

@@ -1,9 +1,10 @@
 -- Words that are still to come, and what the words of a row have to be.
-use Rattle.std.specs.Prelude.{ℕ, Bool, true, false, ◌&&◌, nat_eq, nat_le, nat_lt, List, [], ◌∷◌, Option, Some, None}
+use Rattle.std.specs.Prelude.{ℕ, ◌≡◌, Bool, true, false, ◌&&◌, nat_eq, nat_le, nat_lt, List, [], ◌∷◌, Option, Some, None}
 use Rattle.std.specs.Borrow.{Bor}
 use Rattle.subdiv_model.specs.Digits.{is_number_word, number_of_digits}
 use Rattle.subdiv_model.specs.ReadTable.{spaced_words, is_term}
 use Rattle.subdiv_model.specs.Table.{Share}
+use Rattle.stencil_apply.specs.declared.entry.Entry.{Entry}
 use Rattle.table_file.specs.declared.words.Words.{Words}
 
 abbrev pub is_space : ℕ → Bool
@@ -31,3 +32,7 @@ is_share_in_range controls least share = nat_le least share.0 && nat_lt share.0 
 -- the words say a control point with its numerator
 abbrev pub share_of : List ℕ → List ℕ → Share
 share_of control numerator = (number_of_digits control, number_of_digits numerator)
+
+-- the entry is the share, which may stand next
+abbrev pub IsNextEntry : ℕ → ℕ → Share → Entry → Type 0
+IsNextEntry controls least share entry = (is_share_in_range controls least share ≡ true) × ((entry.index, entry.numerator) ≡ share)

@@ -5,7 +5,7 @@ ghost use Rattle.subdiv_model.specs.Digits.{is_number_word, number_of_digits};
 ghost use Rattle.subdiv_model.specs.ReadTable.{spaced_words, is_header_form, is_header_in_range, header_of, header_cause, is_miscounted};
 ghost use Rattle.table_file.specs.View.{cause_of};
 ghost use Rattle.table_file.specs.Words.{words_left};
-ghost use Rattle.table_file.specs.Header.{AreHeaderWords, AreNumbers, is_named_number, header_of_words};
+ghost use Rattle.table_file.specs.Header.{AreHeaderWords, AreNumbers, IsNamedNumber, is_named_number, header_of_words};
 
 use crate::fault::TableCause;
 use crate::number::{is_number, read_between};
@@ -58,8 +58,7 @@ pub(crate) struct HeaderWords<'a> {
 // Takes a word that is this name, and the number behind it. It returns `None` where the next words are others.
 fn named_number<'a>(words: &mut Words<'a>, name: &[u8]) -> Option<&'a [u8]>
     ensures { MatchOption result (is_named_number name.now (words_left words.old) ≡ false)
-        (λ number. (is_named_number name.now (words_left words.old) ≡ true) × (number.now ≡ get_or (words_left words.old) 1 [])
-        × (words_left words.new ≡ drop 2 (words_left words.old))) }
+        (λ number. IsNamedNumber name.now (words_left words.old) number.now (words_left words.new)) }
 {
     if !is_word(words.next()?, name) {
         return None;

@@ -90,8 +90,8 @@ fn read_rest(
     requires inside { from ≤ length bytes.now }
     requires good { AreRowsOf header.now rows }
     requires none { rows.builder.table.rows ≡ [] }
-    ensures { MatchResult result (λ found. IsReadUpTo (read_on header.now rows (drop from bytes.now)) bytes.now found.table found.end)
-        (λ fault. IsFaultOf (read_on header.now rows (drop from bytes.now)) fault) }
+    ensures { let reading = read_on header.now rows (drop from bytes.now) in
+        MatchResult result (λ found. IsReadUpTo reading bytes.now found.table found.end) (λ fault. IsFaultOf reading fault) }
 {
     let end = read_all(bytes, from, header, &mut rows)?;
     Ok(ReadTable {

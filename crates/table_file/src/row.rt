@@ -9,9 +9,9 @@ ghost use Rattle.subdiv_model.specs.ReadTable.{spaced_words, is_row_form, shares
 ghost use Rattle.stencil_apply.specs.Arrays.{row_of, shares_of};
 ghost use Rattle.stencil_apply.specs.Table.{total_of};
 ghost use Rattle.table_file.specs.View.{cause_of};
-ghost use Rattle.table_file.specs.Words.{words_left, are_number_pairs, share_of, is_share_in_range};
+ghost use Rattle.table_file.specs.Words.{words_left, are_number_pairs, share_of, is_share_in_range, IsNextEntry};
 ghost use Rattle.table_file.specs.Row as specs;
-ghost use Rattle.table_file.specs.Row.{IsRowForm, row_in};
+ghost use Rattle.table_file.specs.Row.{IsInRange, IsRowForm, row_in};
 
 use crate::fault::TableCause;
 use crate::header::Header;
@@ -69,8 +69,7 @@ fn read_entry(control: &[u8], numerator: &[u8], least: u32, controls: u32) -> Op
     requires control { is_number_word control.now ≡ true }
     requires numerator { is_number_word numerator.now ≡ true }
     ensures { let share = share_of control.now numerator.now in
-        MatchOption result (is_share_in_range controls least share ≡ false)
-        (λ entry. (is_share_in_range controls least share ≡ true) × ((entry.index, entry.numerator) ≡ share)) }
+        MatchOption result (is_share_in_range controls least share ≡ false) (λ entry. IsNextEntry controls least share entry) }
 {
     let index = read_between(control, least, controls)?;
     let numerator = read_term(numerator)?;
@@ -107,7 +106,7 @@ pub(crate) fn read_values(
     requires denominator { is_number_word words.now.denominator.now ≡ true }
     requires numbers { list_all is_number_word (words_left words.now.shares) ≡ true }
     ensures { IfOk result (λ read. MatchOption read (is_row_in_range controls (row_in words.now) ≡ false)
-        (λ den. (is_row_in_range controls (row_in words.now) ≡ true) × (row_of den row.new.items ≡ row_in words.now))) }
+        (λ den. IsInRange controls words.now den row.new.items)) }
 {
     let Some(denominator) = read_term(words.denominator) else {
         return Ok(None);

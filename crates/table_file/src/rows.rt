@@ -130,8 +130,8 @@ pub(crate) fn read_all(
     requires inside { from ≤ length bytes.now }
     requires good { AreRowsOf header.now rows.old }
     requires none { rows.old.builder.table.rows ≡ [] }
-    ensures read { MatchResult result (λ end. IsReadUpTo (read_on header.now rows.old (drop from bytes.now)) bytes.now rows.new.builder.table end)
-        (λ fault. IsFaultOf (read_on header.now rows.old (drop from bytes.now)) fault) }
+    ensures read { let reading = read_on header.now rows.old (drop from bytes.now) in
+        MatchResult result (λ end. IsReadUpTo reading bytes.now rows.new.builder.table end) (λ fault. IsFaultOf reading fault) }
     ensures few { OnOk result (rows.new.builder.table.controls ≤ 2 ^ 20) }
 {
     let mut at = from;
