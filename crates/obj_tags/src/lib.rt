@@ -21,3 +21,4 @@ pub use fault::{ObjCause, ObjFault, ReadFault};
 pub use number::{numeral, numerator_over};
 pub use raw_mesh::{Boundary, CornerTag, Crease, RawMesh};
 pub use read::read_obj;
+pub use words::skip_mark;

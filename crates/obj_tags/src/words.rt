@@ -9,7 +9,7 @@ ghost use Rattle.obj_tags.specs.Walk.{words_left, parts_left};
 use obj_text::{Words, line_end, words_of};
 
 /// What follows the byte order mark that a text begins with, or the text where there is none.
-pub(crate) fn skip_mark(text: &[u8]) -> &[u8]
+pub fn skip_mark(text: &[u8]) -> &[u8]
     ensures { result.now ≡ without_mark text.now }
 {
     match text {
