@@ -3,7 +3,7 @@ mod ListLemmas
 mod PartsLemmas
 mod NumberedLemmas
 mod RoundingLemmas
-mod TableLineLemmas
+mod CountLineLemmas
 mod PatchLemmas
 pub mod LevelsLemmas
 pub mod SparseLemmas

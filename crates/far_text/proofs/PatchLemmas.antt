@@ -12,7 +12,7 @@ use Rattle.ratio128.specs.declared.point.Point3.{Point3}
 use Rattle.ratio128.specs.declared.valued.Valued.{Valued}
 use Rattle.far_text.specs.Points.{point_of, points_of}
 use Rattle.far_text.specs.Lines.{coordinate_words}
-use Rattle.far_text.specs.TableLines.{count_words}
+use Rattle.far_text.specs.CountLines.{count_words}
 use Rattle.far_text.specs.PatchLines.{face_line}
 use Rattle.far_text.proofs.LineLemmas.{ended-words}
 use Rattle.far_text.proofs.ListLemmas.{all-pairs, pair-at, pair-there}

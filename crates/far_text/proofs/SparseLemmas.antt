@@ -12,7 +12,7 @@ use Rattle.subdiv_model.specs.NumberText.{number_text}
 use Rattle.subdiv_model.specs.Text.{point_line}
 use Rattle.subdiv_model.specs.SparseText.{LeafFace, WrittenFace, WrittenLevel, written_level, written_points, points_with, kind_text, sparse_face_line, sparse_level_line, sparse_level_text, sparse_text}
 use Rattle.far_text.specs.Lines.{corner_word, valued_line}
-use Rattle.far_text.specs.TableLines.{count_words}
+use Rattle.far_text.specs.CountLines.{count_words}
 use Rattle.ratio128.specs.declared.point.Point3.{Point3}
 use Rattle.ratio128.specs.declared.valued.Valued.{Valued}
 use Rattle.sparse_faces.specs.declared.values.SparseValues.{SparseValues}

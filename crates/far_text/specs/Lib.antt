@@ -5,7 +5,8 @@ pub mod Levels
 pub mod Summary
 pub mod SparseLines
 pub mod PatchLines
-pub mod TableLines
+pub mod CountLines
+pub mod Stored
 pub mod Mesh
 pub mod Reply
 pub mod Frames

@@ -6,7 +6,6 @@ ghost use Rattle.far_text.specs.Frames.{frame_line, valued_changed_line};
 ghost use Rattle.far_text.specs.Points.{CanBeWritten};
 
 use crate::points::put_coordinates;
-use crate::words::put_count;
 use far_io::{Sink, WriteFailed};
 use obj_out::Out;
 use ratio128::{Point3, Valued};
@@ -15,7 +14,7 @@ use ratio128::{Point3, Valued};
 pub fn put_frame_count<K: Sink>(out: &mut Out<'_, K>, count: u32) -> Result<(), WriteFailed>
     ensures { Puts K.Sink out.old out.new (frame_line count) result }
 {
-    put_count(out, b"frame", count as u64)?;
+    out.put_count(b"frame", count as u64)?;
     out.put_byte(b'\n')
 }
 
@@ -30,6 +29,6 @@ pub fn put_changed<K: Sink>(
     requires { CanBeWritten common point.now }
     ensures { Puts K.Sink out.old out.new (valued_changed_line common number point.now) result }
 {
-    put_count(out, b"p", number as u64)?;
+    out.put_count(b"p", number as u64)?;
     put_coordinates(out, &point.value, point.den * common, None)
 }

@@ -6,9 +6,8 @@ ghost use Rattle.subdiv_model.specs.LevelText.{whole_text};
 ghost use Rattle.level_counts.specs.View.{seen_counts};
 ghost use Rattle.obj_out.specs.Puts.{Puts};
 ghost use Rattle.far_text.specs.Levels.{counts_line, levels_lines};
-ghost use Rattle.far_text.specs.TableLines.{kind_words};
+ghost use Rattle.far_text.specs.CountLines.{kind_words};
 
-use crate::words::put_count;
 use far_io::{Sink, WriteFailed};
 use level_counts::LevelCounts;
 use obj_out::Out;
@@ -33,10 +32,10 @@ fn put_euler<K: Sink>(out: &mut Out<'_, K>, counts: &LevelCounts) -> Result<(), 
 fn put_kinds<K: Sink>(out: &mut Out<'_, K>, counts: &LevelCounts) -> Result<(), WriteFailed>
     ensures { Puts K.Sink out.old out.new (kind_words (seen_counts counts.now)) result }
 {
-    put_count(out, b" boundary", counts.boundary as u64)?;
-    put_count(out, b" holes", counts.holes as u64)?;
-    put_count(out, b" sharp", counts.sharp as u64)?;
-    put_count(out, b" extraordinary", counts.extraordinary as u64)?;
+    out.put_count(b" boundary", counts.boundary as u64)?;
+    out.put_count(b" holes", counts.holes as u64)?;
+    out.put_count(b" sharp", counts.sharp as u64)?;
+    out.put_count(b" extraordinary", counts.extraordinary as u64)?;
     out.put_byte(b'\n')
 }
 
@@ -48,10 +47,10 @@ fn put_level_line<K: Sink>(
 ) -> Result<(), WriteFailed>
     ensures { Puts K.Sink out.old out.new (counts_line number (seen_counts counts.now)) result }
 {
-    put_count(out, b"level", number)?;
-    put_count(out, b" points", counts.points as u64)?;
-    put_count(out, b" edges", counts.edges as u64)?;
-    put_count(out, b" faces", counts.faces as u64)?;
+    out.put_count(b"level", number)?;
+    out.put_count(b" points", counts.points as u64)?;
+    out.put_count(b" edges", counts.edges as u64)?;
+    out.put_count(b" faces", counts.faces as u64)?;
     put_euler(out, counts)?;
     put_kinds(out, counts)
 }

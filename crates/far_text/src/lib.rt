@@ -1,7 +1,7 @@
 //! The texts that the program writes, put through an [`obj_out::Out`].
 //!
-//! A [`Reply`] is a refined mesh, a table of stencils, the counts of levels, the summary of a sheet, the sparse levels of a mesh or the
-//! points of a patch. Each has its text in lines, of numbers and fractions in digits. No call takes memory.
+//! A [`Reply`] is what a command writes, as a value: a refined mesh, say, or a table of stencils. Each has its text in lines, of numbers
+//! and fractions in digits. No call takes memory.
 #![tactic(auto)]
 
 mod corner_tags;
@@ -17,8 +17,8 @@ mod points;
 mod reply;
 mod sharpness;
 mod sparse;
+mod stored;
 mod summary;
-mod table;
 mod tags;
 mod texture;
 mod textured_faces;
@@ -30,5 +30,5 @@ pub use mesh::{MeshForm, RefinedMesh, RefinedTexture, put_refined};
 pub use patch::{PatchPoints, put_patch};
 pub use reply::{Reply, put_reply, write_reply};
 pub use sparse::{SparseMesh, put_sparse};
+pub use stored::{TablePoints, put_agreement, put_table_points};
 pub use summary::{Summary, put_summary};
-pub use table::put_table;

@@ -7,10 +7,9 @@ ghost use Rattle.subdiv_model.specs.Patch.{patch_places, place_line};
 ghost use Rattle.obj_out.specs.Puts.{Puts};
 ghost use Rattle.far_text.specs.Points.{CanBeWritten, point_of, points_of};
 ghost use Rattle.far_text.specs.PatchLines.{CanPatchBePut, face_line, patch_lines};
-ghost use Rattle.far_text.specs.TableLines.{count_words};
+ghost use Rattle.far_text.specs.CountLines.{count_words};
 
 use crate::points::put_coordinates;
-use crate::words::put_count;
 use far_io::{Sink, WriteFailed};
 use obj_out::Out;
 use ratio128::{Point3, Valued};
@@ -31,8 +30,8 @@ pub struct PatchPoints {
 fn put_face<K: Sink>(out: &mut Out<'_, K>, face: u32, grid: u32) -> Result<(), WriteFailed>
     ensures { Puts K.Sink out.old out.new (face_line face grid) result }
 {
-    put_count(out, b"patch face", face as u64)?;
-    put_count(out, b" grid", grid as u64)?;
+    out.put_count(b"patch face", face as u64)?;
+    out.put_count(b" grid", grid as u64)?;
     out.put_byte(b'\n')
 }
 
@@ -49,7 +48,7 @@ fn place_of(number: u64, side: u64) -> (u64, u64)
 fn put_place<K: Sink>(out: &mut Out<'_, K>, place: (u64, u64)) -> Result<(), WriteFailed>
     ensures { Puts K.Sink out.old out.new (count_words (codes "s") place.0 ++ (32 ∷ number_text place.1)) result }
 {
-    put_count(out, b"s", place.0)?;
+    out.put_count(b"s", place.0)?;
     out.put_number_after(b' ', place.1)
 }
 

@@ -9,12 +9,13 @@ use crate::levels::put_levels;
 use crate::mesh::{MeshForm, RefinedMesh, put_refined};
 use crate::patch::{PatchPoints, put_patch};
 use crate::sparse::{SparseMesh, put_sparse};
+use crate::stored::{TablePoints, put_agreement, put_table_points};
 use crate::summary::{Summary, put_summary};
-use crate::table::put_table;
 use far_io::{Sink, WriteFailed};
 use level_counts::LevelCounts;
 use obj_out::Out;
 use stencil_apply::StencilTable;
+use table_file::put_table;
 
 /// What the program writes, as values that are found before anything is written.
 #[derive(Drop)]
@@ -31,6 +32,10 @@ pub enum Reply {
     Sparse(SparseMesh),
     /// The points of the patch of a face.
     Patch(PatchPoints),
+    /// A stored table agrees with the table of a mesh. `rows` is how many rows both have.
+    Agreement { rows: u32 },
+    /// The points of a stored table.
+    Points(TablePoints),
 }
 
 /// Puts the text of a reply. It takes no memory.
@@ -41,11 +46,13 @@ pub fn put_reply<K: Sink>(out: &mut Out<'_, K>, reply: &Reply) -> Result<(), Wri
 {
     match reply {
         Reply::Refined(mesh, form) => put_refined(out, mesh, *form),
-        Reply::Table(table) => put_table(out, table),
+        Reply::Table(table) => put_table(table, out),
         Reply::Counts(counts) => put_levels(out, counts),
         Reply::Sheet(summary) => put_summary(out, summary),
         Reply::Sparse(mesh) => put_sparse(out, mesh),
         Reply::Patch(patch) => put_patch(out, patch),
+        Reply::Agreement { rows } => put_agreement(out, *rows),
+        Reply::Points(points) => put_table_points(out, points),
     }
 }
 

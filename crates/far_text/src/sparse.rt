@@ -10,7 +10,6 @@ ghost use Rattle.far_text.specs.SparseLines.{CanSparseBePut, sparse_mesh_text};
 
 use crate::faces::put_corners;
 use crate::points::put_points;
-use crate::words::put_count;
 use far_io::{Sink, WriteFailed};
 use obj_out::Out;
 use ratio128::Point3;
@@ -69,9 +68,9 @@ fn put_counts<K: Sink>(
 ) -> Result<(), WriteFailed>
     ensures { Puts K.Sink out.old out.new (sparse_level_line number level.now) result }
 {
-    put_count(out, b"level", number)?;
-    put_count(out, b" points", level.points() as u64)?;
-    put_count(out, b" faces", level.len() as u64)?;
+    out.put_count(b"level", number)?;
+    out.put_count(b" points", level.points() as u64)?;
+    out.put_count(b" faces", level.len() as u64)?;
     out.put_byte(b'\n')
 }
 

@@ -3,10 +3,9 @@
 ghost use Rattle.std.specs.Prelude.{◌≡◌, false};
 ghost use Rattle.obj_out.specs.Puts.{Puts};
 ghost use Rattle.far_text.specs.Summary.{CanSummaryBeWritten, sheet_line, depth_line, summary_text};
-ghost use Rattle.far_text.specs.TableLines.{greatest_words};
+ghost use Rattle.far_text.specs.CountLines.{greatest_words};
 
 use crate::points::put_valued;
-use crate::words::{put_count, put_wide_word};
 use far_io::{Sink, WriteFailed};
 use obj_out::Out;
 use ratio128::{Point3, Valued};
@@ -32,8 +31,8 @@ pub struct Summary {
 fn put_sheet<K: Sink>(out: &mut Out<'_, K>, summary: &Summary) -> Result<(), WriteFailed>
     ensures { Puts K.Sink out.old out.new (sheet_line summary.now.points summary.now.faces) result }
 {
-    put_count(out, b"gen points", summary.points as u64)?;
-    put_count(out, b" faces", summary.faces as u64)?;
+    out.put_count(b"gen points", summary.points as u64)?;
+    out.put_count(b" faces", summary.faces as u64)?;
     out.put_byte(b'\n')
 }
 
@@ -42,7 +41,7 @@ fn put_greatest<K: Sink>(out: &mut Out<'_, K>, greatest: u128) -> Result<(), Wri
     ensures { Puts K.Sink out.old out.new (greatest_words greatest) result }
 {
     out.put_bytes(b" den")?;
-    put_wide_word(out, greatest)?;
+    out.put_wide_after(b' ', greatest)?;
     out.put_byte(b'\n')
 }
 
@@ -50,10 +49,10 @@ fn put_greatest<K: Sink>(out: &mut Out<'_, K>, greatest: u128) -> Result<(), Wri
 fn put_depth<K: Sink>(out: &mut Out<'_, K>, summary: &Summary) -> Result<(), WriteFailed>
     ensures { Puts K.Sink out.old out.new (depth_line summary.now) result }
 {
-    put_count(out, b"level", summary.depth as u64)?;
-    put_count(out, b" points", summary.level_points as u64)?;
-    put_count(out, b" faces", summary.level_faces as u64)?;
-    put_count(out, b" entries", summary.entries)?;
+    out.put_count(b"level", summary.depth as u64)?;
+    out.put_count(b" points", summary.level_points as u64)?;
+    out.put_count(b" faces", summary.level_faces as u64)?;
+    out.put_count(b" entries", summary.entries)?;
     put_greatest(out, summary.greatest)
 }
 

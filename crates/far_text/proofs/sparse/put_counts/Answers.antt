@@ -1,6 +1,6 @@
 use Rattle.std.proofs.Common.{codes, ap}
 use Rattle.obj_out.proofs.PutsLemmas.{puts-after, puts-cut, puts-same}
-use Rattle.far_text.specs.TableLines.{count_words}
+use Rattle.far_text.specs.CountLines.{count_words}
 use Rattle.far_text.proofs.SparseLemmas.{sparse-level-by-words}
 use Rattle.far_text.proofs.sparse.put_counts.Goals as goal
 

@@ -1,5 +1,5 @@
 use Rattle.obj_out.proofs.PutsLemmas.{puts-after, puts-cut, puts-same}
-use Rattle.far_text.proofs.TableLineLemmas.{depth-by-words}
+use Rattle.far_text.proofs.CountLineLemmas.{depth-by-words}
 use Rattle.far_text.proofs.summary.put_depth.Goals as goal
 
 pub returns-in_err-put_count : goal.returns-in_err-put_count

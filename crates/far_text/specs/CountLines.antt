@@ -1,12 +1,7 @@
--- The lines of a table, of counts and of a summary, by the pieces in which they are put.
+-- The lines of counts and of a summary, by the pieces in which they are put.
 use Rattle.std.specs.Prelude.{ℕ, List, [], ◌∷◌, ◌++◌, codes}
 use Rattle.subdiv_model.specs.NumberText.{number_text}
 use Rattle.level_counts.specs.Counts.{Counts}
-use Rattle.stencil_apply.specs.Table.{Share}
-
--- a control with its numerator, each after a space
-abbrev pub share_text : Share → List ℕ
-share_text share = (32 ∷ number_text share.0) ++ (32 ∷ number_text share.1)
 
 -- a name, and a count after a space
 abbrev pub count_words : List ℕ → ℕ → List ℕ

@@ -1,6 +1,0 @@
-use Rattle.std.proofs.Common.{rules}
-use Rattle.far_text.proofs.table.put_denominator.Goals as goal
-
--- asked for by name, so that a body that breaks it is refused at once
-pub returns : goal.returns
-returns g c = search rules

@@ -1,6 +1,0 @@
-use Rattle.std.proofs.Common.{rules}
-use Rattle.far_text.proofs.words.put_wide_word.Goals as goal
-
--- asked for by name, so that a body that breaks it is refused at once
-pub returns-then-n : goal.returns-then-n
-returns-then-n g c = search rules
