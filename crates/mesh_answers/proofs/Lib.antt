@@ -1,5 +1,6 @@
 pub mod RefusalLemmas
 pub mod ReplyLemmas
+pub mod TextLemmas
 pub mod LevelLemmas
 pub mod CountLemmas
 pub mod ColumnLemmas
@@ -15,6 +16,7 @@ pub mod WrittenLemmas
 pub mod SparseLemmas
 pub mod SummaryLemmas
 pub mod MaskTableLemmas
+pub mod PointTableLemmas
 pub mod MaskPointLemmas
 pub mod LimitLemmas
 pub mod LimitPointLemmas

@@ -4,7 +4,7 @@ use Rattle.std.proofs.lemmas.List.{append_assoc}
 use Rattle.subdiv_model.specs.Lists.{first_of}
 use Rattle.subdiv_model.specs.Manifold.{IsManifold}
 use Rattle.subdiv_model.specs.ObjMesh.{ObjMesh}
-use Rattle.subdiv_model.specs.Fault.{Fault, Usage, Read, Long, Obj, Mesh, Place, TooLarge, Overflow, Limit, Write, Memory}
+use Rattle.subdiv_model.specs.Fault.{Fault, Usage, Read, Long, Obj, Mesh, Place, Table, Differs, Controls, TooLarge, Overflow, Limit, Write, Memory}
 use Rattle.subdiv_model.specs.MeshFault.{MeshFault, first_mesh_fault}
 use Rattle.subdiv_model.specs.Limits.{count_faults, level_count_faults}
 use Rattle.mesh_laws.proofs.FaultLemmas.{fault-decides}
@@ -44,6 +44,9 @@ found-here (TooLarge counted) xs ys found = first-here xs ys (TooLarge counted) 
 found-here (Overflow track level kind) xs ys found = first-here xs ys (Overflow track level kind) found
 found-here (Limit cause) xs ys found = first-here xs ys (Limit cause) found
 found-here (Place fault) xs ys found = first-here xs ys (Place fault) found
+found-here (Table fault) xs ys found = first-here xs ys (Table fault) found
+found-here (Differs row) xs ys found = first-here xs ys (Differs row) found
+found-here (Controls count) xs ys found = first-here xs ys (Controls count) found
 found-here (Usage word) xs ys found = found
 found-here Read xs ys found = found
 found-here Long xs ys found = found

@@ -8,7 +8,7 @@ use Rattle.subdiv_model.specs.TableText.{text_of_table}
 use Rattle.far_model.specs.Command.{Stencils}
 use Rattle.subdiv_model.specs.Fault.{Positions}
 use Rattle.subdiv_model.specs.Channel.{Channel, Tables, channel_faults}
-use Rattle.far_model.specs.Answer.{positions_of, table_faults}
+use Rattle.far_model.specs.Answer.{own_table, positions_of, table_faults}
 use Rattle.level_walk.specs.declared.fault.WalkFault.{WalkFault}
 use Rattle.uniform_walk.specs.Faults.{IsChannelFault}
 use Rattle.uniform_walk.specs.Levels.{AreLevelSteps}
@@ -53,12 +53,13 @@ table-steps mesh depth base same old new r taken =
     let is = subst (λ (b : Channel). AreLevelSteps b.base depth old new) same taken in
     any-steps r old new 0 (later_faces depth mesh) (omega (arith, is.later)) is.later (omega (arith, is.most, steps-of-levels (base_level mesh) depth))
 
--- what is written of it is the text of the definitions
+-- it is the table of the definitions
+pub table-own : (mesh : ObjMesh) (depth : ℕ) (composed : ComposedChannel) → IsComposedOf mesh depth composed → composed.table ≡ own_table depth mesh
+table-own mesh depth composed is =
+    level-table composed.table (base_level mesh) CatmullClark depth is.composed.controls is.composed.dens is.composed.supports
+    (stencil-numerators (positions_of mesh) depth (composed_of composed) is.composed is.made) is.made
+
+-- and what is written of it is their text
 pub table-reply : (mesh : ObjMesh) (depth : ℕ) (composed : ComposedChannel) → IsComposedOf mesh depth composed → IsReplyTo (Stencils depth) mesh (Table composed.table)
 unfolding written_text
-table-reply mesh depth composed is = record {
-  good = is.good;
-  says = ap text_of_table (level-table composed.table (base_level mesh) CatmullClark depth is.composed.controls is.composed.dens is.composed.supports
-      (stencil-numerators (positions_of mesh) depth (composed_of composed) is.composed is.made) is.made);
-  put = tt;
-}
+table-reply mesh depth composed is = record { good = is.good; says = ap text_of_table (table-own mesh depth composed is); put = tt }

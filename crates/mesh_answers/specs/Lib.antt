@@ -7,3 +7,4 @@ pub mod Tables
 pub mod MaskTables
 pub mod Limits
 pub mod Patches
+pub mod MeshText

@@ -5,7 +5,7 @@ use Rattle.subdiv_model.specs.Lists.{first_of}
 use Rattle.subdiv_model.specs.MeshFault.{MeshFault, first_mesh_fault}
 use Rattle.subdiv_model.specs.ObjMesh.{ObjMesh}
 use Rattle.far_model.specs.Command.{ReadCommand, MakeCommand}
-use Rattle.subdiv_model.specs.Fault.{Fault, Obj, Mesh, TooLarge, Overflow, Limit, Place, Memory}
+use Rattle.subdiv_model.specs.Fault.{Fault, Obj, Mesh, TooLarge, Overflow, Limit, Place, Table, Differs, Controls, Memory}
 use Rattle.subdiv_model.specs.Limits.{count_faults}
 use Rattle.far_model.specs.Answer.{answer_of_made, command_faults}
 
@@ -34,4 +34,7 @@ IsFound (TooLarge counted) refusal = refusal ≡ Some (TooLarge counted)
 IsFound (Overflow track level kind) refusal = refusal ≡ Some (Overflow track level kind)
 IsFound (Limit cause) refusal = refusal ≡ Some (Limit cause)
 IsFound (Place fault) refusal = refusal ≡ Some (Place fault)
+IsFound (Table fault) refusal = refusal ≡ Some (Table fault)
+IsFound (Differs row) refusal = refusal ≡ Some (Differs row)
+IsFound (Controls count) refusal = refusal ≡ Some (Controls count)
 IsFound other refusal = ⊥

@@ -10,12 +10,16 @@ mod scales;
 mod sheet;
 mod sparse_levels;
 mod table;
+mod text;
 mod tracks;
 
 pub use counts::levels;
 pub use limits::limit;
 pub use patches::patch;
 pub use refined::refine;
+pub use scales::fitting;
 pub use sheet::generate;
 pub use sparse_levels::sparse;
 pub use table::{compose, stencils};
+pub use text::mesh_of_text;
+pub use tracks::most_of;

@@ -10,7 +10,7 @@ use far_fault::{FarFault, OverflowKind, Track};
 use stencil_apply::{StencilTable, scale_fits};
 
 /// The table, where its greatest denominator times an amount is within the bound of numbers. The fault names a track and a level.
-pub(crate) fn fitting(
+pub fn fitting(
     table: StencilTable,
     most: u128,
     track: Track,

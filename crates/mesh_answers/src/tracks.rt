@@ -94,7 +94,7 @@ fn greatest_of_values(values: &[Point2]) -> u128
 }
 
 /// The greater of the greatest amount of the coordinates of a mesh and their common denominator.
-pub(crate) fn most_of(mesh: &RawMesh) -> u128
+pub fn most_of(mesh: &RawMesh) -> u128
     ensures { result ≡ max (positions_of mesh.now).greatest (positions_of mesh.now).common }
 {
     greatest_of_points(mesh.points()).max(mesh.scale())
