@@ -175,6 +175,9 @@ fault-of sink answer k k' (answered.TooLarge counted) is = inr is
 fault-of sink answer k k' (answered.Overflow track level kind) is = inr is
 fault-of sink answer k k' (answered.Limit cause) is = inr is
 fault-of sink answer k k' (answered.Place fault) is = inr is
+fault-of sink answer k k' (answered.Table line cause) is = inr is
+fault-of sink answer k k' (answered.Differs row) is = inr is
+fault-of sink answer k k' (answered.Controls count) is = inr is
 fault-of sink answer k k' answered.Memory is = inr is
 
 -- All lines so far were answered, and a reader moves on.

@@ -6,8 +6,8 @@ use Rattle.far_io.specs.Memory.{SureOutput, sure_faults}
 use Rattle.far_io.specs.declared.source.Source.{Ghosts as Source}
 use Rattle.far_io.specs.declared.sink.Sink.{Ghosts as Sink}
 use Rattle.far_model.specs.Words.{command_table, usage_of}
-use Rattle.far_model.specs.Command.{Command, Reads, Makes, Streams, command_of, read_or}
-use Rattle.subdiv_model.specs.Fault.{Fault, Usage, Read, Long, Obj, Mesh, TooLarge, Overflow, Limit, Place, Write, Memory}
+use Rattle.far_model.specs.Command.{Command, Reads, Stored, Makes, Streams, command_of, read_or}
+use Rattle.subdiv_model.specs.Fault.{Fault, Usage, Read, Long, Obj, Mesh, TooLarge, Overflow, Limit, Place, Table, Differs, Controls, Write, Memory}
 use Rattle.far_model.specs.Refusal.{Answer}
 use Rattle.far_model.specs.Answer.{answer, answer_of_command, answer_of_words}
 use Rattle.far_engine.specs.Laws.{IsAnsweredBy}
@@ -28,6 +28,9 @@ module _ {S K : Type 0} (source : Source S) (sink : Sink K) (s s' : S) (k k' : K
   whole answer (Some (Overflow track level kind)) is no_read no_write kept = inl (sym is.answered, λ e. absurd (cc))
   whole answer (Some (Limit cause)) is no_read no_write kept = inl (sym is.answered, λ e. absurd (cc))
   whole answer (Some (Place fault)) is no_read no_write kept = inl (sym is.answered, λ e. absurd (cc))
+  whole answer (Some (Table fault)) is no_read no_write kept = inl (sym is.answered, λ e. absurd (cc))
+  whole answer (Some (Differs row)) is no_read no_write kept = inl (sym is.answered, λ e. absurd (cc))
+  whole answer (Some (Controls count)) is no_read no_write kept = inl (sym is.answered, λ e. absurd (cc))
 
   -- so is an answer line by line
   by-lines : (answer : Answer) (outcome : Option Fault) → AnswersLines sink answer k k' outcome → (outcome ≡ Some Read → ⊥) → (outcome ≡ Some Write → ⊥) → (outcome ≡ Some Memory → k' ≡ k) →
@@ -52,6 +55,7 @@ module _ {S K : Type 0} (source : Source S) (sink : Sink K) (s s' : S) (k k' : K
   of-command : (command : Command) (bytes : List ℕ) (outcome : Option Fault) → RunsCommand source sink command s s' k k' outcome → source.left s ≡ Some bytes →
       HasAnswered (answer_of_command command bytes) outcome
   of-command (Reads command) bytes outcome run had = has-whole _ outcome run.ran (run.answer bytes had) (λ e. run.kept Memory e (λ f. cc))
+  of-command (Stored command) bytes outcome run had = has-whole _ outcome run.ran (run.answer bytes had) (λ e. run.kept Memory e (λ f. cc))
   of-command (Makes command) bytes outcome run had = has-whole _ outcome run.ran run.answer (λ e. run.kept Memory e (λ f. cc))
   of-command (Streams command) bytes outcome run had =
       let is = run.answer bytes had in

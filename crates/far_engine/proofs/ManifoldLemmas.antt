@@ -11,9 +11,10 @@ use Rattle.subdiv_model.specs.ReadObj.{obj_lines, fault_at, faces_of, first_bad_
 use Rattle.subdiv_model.specs.MeshFault.{first_mesh_fault}
 use Rattle.subdiv_model.specs.Base.{base_level}
 use Rattle.subdiv_model.specs.Cut.{cut_level}
-use Rattle.far_model.specs.Command.{Command, Reads, Makes, Streams, Frames, Gen, IsInRange}
+use Rattle.far_model.specs.Command.{Command, Reads, Stored, Makes, Streams, Verify, Apply, Frames, Gen, IsInRange}
 use Rattle.subdiv_model.specs.Generator.{generated_mesh}
 use Rattle.far_model.specs.Answer.{IsAcceptedMesh, frames_lines}
+use Rattle.far_model.specs.Stored.{mesh_part}
 use Rattle.mesh_laws.proofs.Laws.{manifold-levels}
 use Rattle.mesh_laws.proofs.FaultLemmas.{fault-decides}
 use Rattle.mesh_laws.proofs.WalkLemmas.{manifold-decides}
@@ -51,6 +52,10 @@ pub accepted-manifolds : (command : Command) (bytes : List ℕ) (mesh : ObjMesh)
 accepted-manifolds (Reads command) bytes mesh within is =
     subst HasManifolds is.1
     (lines-manifold (obj_lines bytes) 0 is.0 (subst (λ m. first_mesh_fault (length m.points) m.faces ≡ None) (sym is.1) is.2))
+accepted-manifolds (Stored (Verify depth)) bytes mesh within is =
+    subst HasManifolds is.1
+    (lines-manifold (mesh_part bytes) 0 is.0 (subst (λ m. first_mesh_fault (length m.points) m.faces ≡ None) (sym is.1) is.2))
+accepted-manifolds (Stored Apply) bytes mesh within is = absurd is
 accepted-manifolds (Makes (Gen options)) bytes mesh within is =
     let some : 0 < options.size = omega (arith, within.0) in
     subst HasManifolds is (levels-manifold (generated_mesh options.seed options.size) (generated-over options.seed options.size) (generated-manifold options.seed options.size some))

@@ -4,7 +4,7 @@ use Rattle.far_io.specs.Text.{TextInput}
 use Rattle.far_io.specs.declared.source.Source.{Ghosts as Source}
 use Rattle.far_io.specs.declared.source.InputFault.{InputFault}
 use Rattle.far_io.specs.declared.sink.Sink.{Ghosts as Sink}
-use Rattle.subdiv_model.specs.Fault.{Fault, Usage, Read, Long, Obj, Mesh, TooLarge, Overflow, Limit, Place, Write, Memory}
+use Rattle.subdiv_model.specs.Fault.{Fault, Usage, Read, Long, Obj, Mesh, TooLarge, Overflow, Limit, Place, Table, Differs, Controls, Write, Memory}
 use Rattle.subdiv_model.specs.MeshFault.{first_mesh_fault}
 use Rattle.subdiv_model.specs.ObjMesh.{ObjMesh}
 use Rattle.subdiv_model.specs.ReadObj.{obj_lines, mesh_of_lines}
@@ -19,26 +19,18 @@ use Rattle.stream_laws.specs.Laws.{mesh_words, frame_words}
 use Rattle.frame_answers.specs.Posed.{Posed, IsPosedAfter}
 use Rattle.frame_answers.specs.Answers.{IsStart}
 use Rattle.frame_answers.specs.StepCounts.{start_least, start_limit, frames_limit}
-use Rattle.far_engine.specs.Input.{IsMeshText, IsTextFault, input_fault_of}
+use Rattle.mesh_answers.specs.MeshText.{IsMeshText, IsTextFault}
+use Rattle.far_engine.specs.Input.{input_fault_of}
 use Rattle.far_engine.specs.Stream.{IsEnd}
 use Rattle.far_engine.specs.StepCounts.{TakesSteps}
 use Rattle.far_engine.specs.MeshPart.{AreLinesAfter, IsMeshRead, IsWholeMesh, IsBeforeFrames, IsRest, IsPart, IsPartOr}
 use Rattle.far_engine.specs.FrameLines.{CanCount, begun, IsStreaming, RunsFrames, MayStream}
 use Rattle.far_engine.specs.declared.frame_lines.FrameLines.{FrameLines}
 use Rattle.far_engine.specs.declared.mesh_part.MeshPart.{MeshPart}
-use Rattle.far_engine.proofs.AnswerLemmas.{checked-refusal}
+use Rattle.mesh_answers.proofs.TextLemmas.{composition-refusal, text-fault-found}
 use Rattle.far_engine.proofs.RefusalLemmas.{frames-refuses}
 use Rattle.far_engine.proofs.StepLemmas.{HasFrameLines, takes-none, takes-steps}
 use Rattle.far_engine.proofs.StreamLemmas.{runs-end, written-nothing}
-
--- what is refused of the lines of a text without fault is refused of its mesh
-mesh-refusal : (options : FramesOptions) (bytes : List ℕ) (mesh : ObjMesh) → IsMeshText bytes options.scale mesh
-    → frames_refusal options (obj_lines bytes) ≡ refusal_of_mesh (Stencils options.depth) mesh
-mesh-refusal options bytes mesh is =
-    let read = mesh_of_lines (obj_lines bytes) options.scale in
-    ap (λ fault. (answer_of_read (Stencils options.depth) fault read).refusal) is.good
-    ∙ checked-refusal (Stencils options.depth) (first_mesh_fault (length read.points) read.faces) read
-    ∙ ap (refusal_of_mesh (Stencils options.depth)) (sym is.mesh_is)
 
 -- a fault that was found is the refusal, or memory ran out
 found-is : (P : Fault → Type 0) (fault : Fault) (refusal : Option Fault) → IsFound fault refusal → (refusal ≡ Some fault → P fault) → P Memory → P fault
@@ -49,6 +41,9 @@ found-is P (TooLarge counted) refusal found is short = is found
 found-is P (Overflow track level kind) refusal found is short = is found
 found-is P (Limit cause) refusal found is short = is found
 found-is P (Place fault) refusal found is short = is found
+found-is P (Table fault) refusal found is short = is found
+found-is P (Differs row) refusal found is short = is found
+found-is P (Controls count) refusal found is short = is found
 found-is P (Usage word) refusal found is short = absurd found
 found-is P Read refusal found is short = absurd found
 found-is P Long refusal found is short = absurd found
@@ -57,18 +52,8 @@ found-is P Write refusal found is short = absurd found
 -- so is a fault of the text
 text-fault-is : (P : Fault → Type 0) (bytes : List ℕ) (options : FramesOptions) (fault : Fault) → IsTextFault bytes options.scale fault
     → (frames_refusal options (obj_lines bytes) ≡ Some fault → P fault) → P Memory → P fault
-text-fault-is P bytes options (Obj fault) is refused short =
-    refused (ap (λ found. (answer_of_read (Stencils options.depth) found (mesh_of_lines (obj_lines bytes) options.scale)).refusal) is)
-text-fault-is P bytes options Memory is refused short = short
-text-fault-is P bytes options (Usage word) is refused short = absurd is
-text-fault-is P bytes options Read is refused short = absurd is
-text-fault-is P bytes options Long is refused short = absurd is
-text-fault-is P bytes options (Mesh fault) is refused short = absurd is
-text-fault-is P bytes options (TooLarge counted) is refused short = absurd is
-text-fault-is P bytes options (Overflow track level kind) is refused short = absurd is
-text-fault-is P bytes options (Limit cause) is refused short = absurd is
-text-fault-is P bytes options (Place fault) is refused short = absurd is
-text-fault-is P bytes options Write is refused short = absurd is
+text-fault-is P bytes options fault is refused short =
+    found-is P fault (frames_refusal options (obj_lines bytes)) (text-fault-found options.depth options.scale bytes fault is) refused short
 
 -- each line has its LF
 lines-fit : (lines : List (List ℕ)) → length lines ≤ length (text_of_lines lines)
@@ -151,7 +136,7 @@ module _ {S K : Type 0} (source : Source S) (sink : Sink K) (options : FramesOpt
       run =
           runs-end source sink (frames-refuses options) s t k k [] (Some fault)
           (found-is (λ f. IsEnd source (rule_of (Frames options)) s t [] (Some f)) fault (refusal_of_mesh (Stencils options.depth) mesh) found
-          (λ e. read.refused fault (mesh-refusal options bytes mesh text ∙ e)) read.no_memory)
+          (λ e. read.refused fault (composition-refusal options.depth options.scale bytes mesh text ∙ e)) read.no_memory)
           (written-nothing sink k) (λ e. refl);
       taken = takes-start (Some fault) later (λ e. absurd (cc)) most;
     }
@@ -161,7 +146,7 @@ module _ {S K : Type 0} (source : Source S) (sink : Sink K) (options : FramesOpt
         → n' ≤ n + start_limit options.depth mesh → RunsFrames (begun source sink options s k n) t k None n'
     whole-ends whole good least most = record {
       run =
-          runs-end source sink (frames-refuses options) s t k k [] None (whole.ended (mesh-refusal options bytes mesh text ∙ good)) (written-nothing sink k) (λ e. refl);
+          runs-end source sink (frames-refuses options) s t k k [] None (whole.ended (composition-refusal options.depth options.scale bytes mesh text ∙ good)) (written-nothing sink k) (λ e. refl);
       taken = takes-start None (omega (arith, least)) (λ e. least) most;
     }
 
@@ -176,7 +161,7 @@ module _ {S K : Type 0} (source : Source S) (sink : Sink K) (options : FramesOpt
           text = [];
           read = record {
             took = before.took;
-            handled = before.handled (mesh-refusal options bytes mesh text ∙ good);
+            handled = before.handled (composition-refusal options.depth options.scale bytes mesh text ∙ good);
             frames = before.frames;
             room = room;
             passed = before.number_is;

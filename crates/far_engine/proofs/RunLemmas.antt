@@ -4,7 +4,7 @@ use Rattle.far_io.specs.Bytes.{Rose, Took, Added, AddedPrefix}
 use Rattle.far_io.specs.declared.source.Source.{Ghosts as Source}
 use Rattle.far_io.specs.declared.sink.Sink.{Ghosts as Sink}
 use Rattle.far_model.specs.Words.{command_table, usage_of}
-use Rattle.far_model.specs.Command.{Command, Reads, Makes, Streams, ReadCommand, MakeCommand, command_of}
+use Rattle.far_model.specs.Command.{Command, Reads, Stored, Makes, Streams, ReadCommand, StoredCommand, MakeCommand, command_of}
 use Rattle.subdiv_model.specs.Fault.{Fault, Usage, Read, Long, Write}
 use Rattle.subdiv_model.specs.ObjMesh.{ObjMesh}
 use Rattle.ratio128.specs.StepsTaken.{StepsTaken}
@@ -34,12 +34,13 @@ took-nothing None = tt
 ran-of : {S K : Type 0} (source : Source S) (sink : Sink K) (command : Command) (s s' : S) (k k' : K) (outcome : Option Fault) →
     RunsCommand source sink command s s' k k' outcome → Ran source sink s s' k k' outcome
 ran-of source sink (Reads command) s s' k k' outcome runs = runs.ran
+ran-of source sink (Stored command) s s' k k' outcome runs = runs.ran
 ran-of source sink (Makes command) s s' k k' outcome runs = runs.ran
 ran-of source sink (Streams command) s s' k k' outcome runs = runs.ran
 
 module _ {S K : Type 0} (source : Source S) (sink : Sink K) where
   -- a fault was found before anything was written
-  module _ (command : ReadCommand) (s s' : S) (k : K) (fault : Fault) (is : IsRefused source command s s' fault) where
+  module _ (command : Command) (s s' : S) (k : K) (fault : Fault) (is : IsRefused source command s s' fault) where
     pub read-refused : RunsRead source sink command s s' k k (Some fault)
     read-refused = record {
       ran = record {
@@ -59,7 +60,7 @@ module _ {S K : Type 0} (source : Source S) (sink : Sink K) where
     }
 
   -- the text of a reply stands in the sink
-  module _ (command : ReadCommand) (s s' : S) (k k' : K) (reply : Reply) (is : IsReady source command s s' reply) (later : sink.faults k ≤ sink.faults k') (fixed : sink.fixed k' ≡ sink.fixed k) where
+  module _ (command : Command) (s s' : S) (k k' : K) (reply : Reply) (is : IsReady source command s s' reply) (later : sink.faults k ≤ sink.faults k') (fixed : sink.fixed k' ≡ sink.fixed k) where
     read-written : Added (sink.held k) (sink.held k') (reply_text reply) → RunsRead source sink command s s' k k' None
     read-written added = record {
       ran = record {
@@ -106,7 +107,7 @@ module _ {S K : Type 0} (source : Source S) (sink : Sink K) where
     }
 
   -- whatever was found, and whatever the sink answers
-  pub runs-read : (command : ReadCommand) (s s' : S) (k k' : K) (found : Result Reply FarFault) (result : Result (Unit {0}) FarFault) (old new : ℕ) →
+  pub runs-read : (command : Command) (s s' : S) (k k' : K) (found : Result Reply FarFault) (result : Result (Unit {0}) FarFault) (old new : ℕ) →
       FindsReply source command s s' found old new → PutsFound sink found k k' result → RunsRead source sink command s s' k k' (outcome_of result)
   runs-read command s s' k k' (Err fault) result old new finds puts =
       let put = puts.refused fault refl in
@@ -129,8 +130,8 @@ module _ {S K : Type 0} (source : Source S) (sink : Sink K) where
       failed (Ok tt) e f = cc
       failed (Err other) e f = cc
 
-  pub read-steps : (command : ReadCommand) (s s' : S) (k k' : K) (found : Result Reply FarFault) (result : Result (Unit {0}) FarFault) (old new : ℕ) →
-      FindsReply source command s s' found old new → PutsFound sink found k k' result → TakesSteps source (Reads command) s s' (outcome_of result) old new
+  pub read-steps : (command : Command) (s s' : S) (k k' : K) (found : Result Reply FarFault) (result : Result (Unit {0}) FarFault) (old new : ℕ) →
+      FindsReply source command s s' found old new → PutsFound sink found k k' result → TakesSteps source command s s' (outcome_of result) old new
   read-steps command s s' k k' found result old new finds puts = record {
     later = finds.of_taken.2.later;
     of_taken = (
@@ -247,13 +248,13 @@ module _ {S K : Type 0} (source : Source S) (sink : Sink K) where
 
   -- a fault of the source is one of the command
   pub runs-fault : (named : Command) (command : ReadCommand) (s s' : S) (k : K) (r : Result (Unit {0}) FarFault) (fault : FarFault) → named ≡ Reads command → IsErr r → IsErrAnd r (λ g. g ≡ fault) →
-      IsRefused source command s s' (fault_of fault) → RunsCommand source sink named s s' k k (outcome_of r)
+      IsRefused source (Reads command) s s' (fault_of fault) → RunsCommand source sink named s s' k k (outcome_of r)
   runs-fault named command s s' k (Ok tt) fault same err told is = absurd (cc)
   runs-fault named command s s' k (Err other) fault same err told is =
-      runs-as named (Reads command) same s s' k k (Some (fault_of other)) (read-refused command s s' k (fault_of other) (subst (λ f. IsRefused source command s s' (fault_of f)) (sym told) is))
+      runs-as named (Reads command) same s s' k k (Some (fault_of other)) (read-refused (Reads command) s s' k (fault_of other) (subst (λ f. IsRefused source (Reads command) s s' (fault_of f)) (sym told) is))
 
   pub fault-steps : (named : Command) (command : ReadCommand) (s s' : S) (r : Result (Unit {0}) FarFault) (fault : FarFault) (steps : ℕ) → named ≡ Reads command → IsErr r →
-      IsRefused source command s s' (fault_of fault) → TakesSteps source named s s' (outcome_of r) steps steps
+      IsRefused source (Reads command) s s' (fault_of fault) → TakesSteps source named s s' (outcome_of r) steps steps
   fault-steps named command s s' (Ok tt) fault steps same err is = absurd (cc)
   fault-steps named command s s' (Err other) fault steps same err is =
       let within : (bytes : List ℕ) → IsWithinSteps (Reads command) bytes (Some (fault_of other)) steps steps =
@@ -265,10 +266,19 @@ module _ {S K : Type 0} (source : Source S) (sink : Sink K) where
   module _ (named : Command) (command : ReadCommand) (same : named ≡ Reads command) (s s' : S) (mesh : ObjMesh) (of : IsMeshOf source s s' mesh)
       (found : Result Reply FarFault) (old new : ℕ) (is : IsAnswerTo command mesh found old new) (k k' : K) (result : Result (Unit {0}) FarFault) (puts : PutsFound sink found k k' result) where
     pub runs-mesh : RunsCommand source sink named s s' k k' (outcome_of result)
-    runs-mesh = runs-as named (Reads command) same s s' k k' (outcome_of result) (runs-read command s s' k k' found result old new (finds-reply source command s s' mesh found old new of is) puts)
+    runs-mesh = runs-as named (Reads command) same s s' k k' (outcome_of result) (runs-read (Reads command) s s' k k' found result old new (finds-reply source command s s' mesh found old new of is) puts)
 
     pub steps-mesh : TakesSteps source named s s' (outcome_of result) old new
-    steps-mesh = steps-as named (Reads command) same s s' (outcome_of result) old new (read-steps command s s' k k' found result old new (finds-reply source command s s' mesh found old new of is) puts)
+    steps-mesh = steps-as named (Reads command) same s s' (outcome_of result) old new (read-steps (Reads command) s s' k k' found result old new (finds-reply source command s s' mesh found old new of is) puts)
+
+  -- what is found of a stored table is an answer of the command
+  module _ (named : Command) (command : StoredCommand) (same : named ≡ Stored command) (s s' : S) (found : Result Reply FarFault) (old new : ℕ)
+      (finds : FindsReply source (Stored command) s s' found old new) (k k' : K) (result : Result (Unit {0}) FarFault) (puts : PutsFound sink found k k' result) where
+    pub runs-stored : RunsCommand source sink named s s' k k' (outcome_of result)
+    runs-stored = runs-as named (Stored command) same s s' k k' (outcome_of result) (runs-read (Stored command) s s' k k' found result old new finds puts)
+
+    pub steps-stored : TakesSteps source named s s' (outcome_of result) old new
+    steps-stored = steps-as named (Stored command) same s s' (outcome_of result) old new (read-steps (Stored command) s s' k k' found result old new finds puts)
 
   -- words that say a command run it
   pub runs-words : (words : List (List ℕ)) (command : Command) (s s' : S) (k k' : K) (outcome : Option Fault) → usage_of command_table words ≡ None → command ≡ command_of words →

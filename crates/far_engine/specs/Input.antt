@@ -5,36 +5,27 @@ use Rattle.far_io.specs.declared.sink.Sink.{Ghosts as Sink}
 use Rattle.far_io.specs.declared.source.Source.{Ghosts}
 use Rattle.far_io.specs.declared.source.InputFault.{InputFault}
 use Rattle.far_io.specs.declared.source.InputFault.TheVariants.{Read as ReadFailed, Long as TooLong, Memory as NoMemory}
-use Rattle.far_model.specs.Command.{ReadCommand}
+use Rattle.far_model.specs.Command.{Command, Reads, Stored, Makes, Streams}
 use Rattle.subdiv_model.specs.ObjMesh.{ObjMesh}
 use Rattle.subdiv_model.specs.ReadObj.{read_obj_fault, read_obj_mesh}
 use Rattle.subdiv_model.specs.Fault as model
 use Rattle.subdiv_model.specs.Fault.{Fault, Usage, Read, Long, Obj, Write, Memory}
-use Rattle.far_model.specs.Answer.{answer_of_bytes, byte_limit}
+use Rattle.far_model.specs.Answer.{answer_of_command, byte_limit}
 use Rattle.far_text.specs.Reply.{CanPut, reply_text}
 use Rattle.far_text.specs.declared.reply.Reply.{Reply}
 use Rattle.ratio128.specs.StepsTaken.{StepsTaken}
 use Rattle.far_fault.specs.View.{fault_of}
 use Rattle.far_fault.specs.declared.fault.FarFault.{FarFault}
 use Rattle.far_fault.specs.declared.fault.FarFault.TheVariants as answered
-use Rattle.mesh_answers.specs.StepCounts.{least_steps, step_limit}
+use Rattle.mesh_answers.specs.MeshText.{IsMeshText}
 use Rattle.far_engine.specs.Outcome.{IsAnswered, is_after_reading}
+use Rattle.far_engine.specs.StepCounts.{least_steps, step_limit}
 
 -- why a source could not be read to its end
 abbrev pub input_fault_of : InputFault → Fault
 input_fault_of ReadFailed = model.Read
 input_fault_of TooLong = model.Long
 input_fault_of NoMemory = model.Memory
-
--- the text has no fault, and this is its mesh, read with a power of ten in its common denominator; or it has this one, or memory ran out
-pub record IsMeshText (bytes : List ℕ) (scale : ℕ) (mesh : ObjMesh) : Type 0 where
-  pub good : read_obj_fault bytes scale ≡ None
-  pub mesh_is : mesh ≡ read_obj_mesh bytes scale
-
-abbrev pub IsTextFault : List ℕ → ℕ → Fault → Type 0
-IsTextFault bytes scale (Obj fault) = read_obj_fault bytes scale ≡ Some fault
-IsTextFault bytes scale Memory = Unit {0}
-IsTextFault bytes scale other = ⊥
 
 -- the source was read to its end, and its bytes are the text of this mesh
 pub record IsMeshOf {S : Type 0} (source : Ghosts S) (s s' : S) (mesh : ObjMesh) : Type 0 where
@@ -45,9 +36,16 @@ pub record IsMeshOf {S : Type 0} (source : Ghosts S) (s s' : S) (mesh : ObjMesh)
   pub text : IsMeshText bytes 0 mesh
   pub later : source.faults s ≤ source.faults s'
 
+-- a command reads its whole input before it answers
+abbrev pub ReadsWhole : Command → Type 0
+ReadsWhole (Reads command) = Unit {0}
+ReadsWhole (Stored command) = Unit {0}
+ReadsWhole (Makes command) = ⊥
+ReadsWhole (Streams command) = ⊥
+
 -- a command has no reply for this fault, which is neither one of the words nor one of writing
-pub record IsRefused {S : Type 0} (source : Ghosts S) (command : ReadCommand) (s s' : S) (fault : Fault) : Type 0 where
-  pub answer : (bytes : List ℕ) → source.left s ≡ Some bytes → IsAnswered (Some fault) (answer_of_bytes command bytes).refusal
+pub record IsRefused {S : Type 0} (source : Ghosts S) (command : Command) (s s' : S) (fault : Fault) : Type 0 where
+  pub answer : (bytes : List ℕ) → source.left s ≡ Some bytes → IsAnswered (Some fault) (answer_of_command command bytes).refusal
   pub whole : IsTrue (is_after_reading (Some fault)) → IsDry (source.left s')
   pub not_usage : (word : ℕ) → fault ≢ Usage word
   pub not_write : fault ≢ Write
@@ -57,21 +55,21 @@ pub record IsRefused {S : Type 0} (source : Ghosts S) (command : ReadCommand) (s
   pub later : source.faults s ≤ source.faults s'
 
 -- nothing is refused of the input, which was read to its end, and this is the reply
-pub record IsReady {S : Type 0} (source : Ghosts S) (command : ReadCommand) (s s' : S) (reply : Reply) : Type 0 where
-  pub good : (bytes : List ℕ) → source.left s ≡ Some bytes → (answer_of_bytes command bytes).refusal ≡ None
-  pub says : (bytes : List ℕ) → source.left s ≡ Some bytes → reply_text reply ≡ (answer_of_bytes command bytes).text
+pub record IsReady {S : Type 0} (source : Ghosts S) (command : Command) (s s' : S) (reply : Reply) : Type 0 where
+  pub good : (bytes : List ℕ) → source.left s ≡ Some bytes → (answer_of_command command bytes).refusal ≡ None
+  pub says : (bytes : List ℕ) → source.left s ≡ Some bytes → reply_text reply ≡ (answer_of_command command bytes).text
   pub put : CanPut reply
   pub dry : IsDry (source.left s')
   pub taken : TookPrefix (source.left s) (source.left s')
   pub later : source.faults s ≤ source.faults s'
 
 -- what a command finds of a source: a reply, or why there is none, in so many steps with the bytes that came
-pub record FindsReply {S : Type 0} (source : Ghosts S) (command : ReadCommand) (s s' : S) (result : Result Reply FarFault) (old new : ℕ) : Type 0 where
+pub record FindsReply {S : Type 0} (source : Ghosts S) (command : Command) (s s' : S) (result : Result Reply FarFault) (old new : ℕ) : Type 0 where
   pub reply : MatchResult result (λ reply. IsReady source command s s' reply) (λ fault. IsRefused source command s s' (fault_of fault))
   pub of_taken : (bytes : List ℕ) × Took (source.left s) (source.left s') bytes
-      × StepsTaken result old new (least_steps command (read_obj_mesh bytes 0)) (step_limit command (read_obj_mesh bytes 0))
+      × StepsTaken result old new (least_steps command bytes) (step_limit command bytes)
   pub of_told : (bytes : List ℕ) → source.left s ≡ Some bytes
-      → StepsTaken result old new (least_steps command (read_obj_mesh bytes 0)) (step_limit command (read_obj_mesh bytes 0))
+      → StepsTaken result old new (least_steps command bytes) (step_limit command bytes)
 
 -- what is found was written into a sink, or it is a fault and the sink was not called
 pub record PutsFound {K : Type 0} (sink : Sink K) (found : Result Reply FarFault) (k k' : K) (result : Result (Unit {0}) FarFault) : Type 0 where

@@ -12,7 +12,8 @@ use Rattle.stream_laws.specs.Handled.{text_of_lines, IsHandled}
 use Rattle.stream_laws.specs.Laws.{have_frames, mesh_words, frame_words}
 use Rattle.far_fault.specs.View.{fault_of}
 use Rattle.far_fault.specs.declared.fault.FarFault.{FarFault}
-use Rattle.far_engine.specs.Input.{IsMeshText, input_fault_of}
+use Rattle.mesh_answers.specs.MeshText.{IsMeshText}
+use Rattle.far_engine.specs.Input.{input_fault_of}
 use Rattle.far_engine.specs.Stream.{TookLines, IsEnd}
 use Rattle.far_engine.specs.declared.mesh_part.MeshEnd.{MeshEnd}
 use Rattle.far_engine.specs.declared.mesh_part.MeshEnd.TheVariants.{Closed, Last, Input}

@@ -11,11 +11,11 @@ use Rattle.subdiv_model.specs.Child.{refined_level}
 use Rattle.subdiv_model.specs.Cut.{SeamMode, cut_level}
 use Rattle.subdiv_model.specs.ObjMesh.{ObjMesh}
 use Rattle.far_model.specs.Words.{command_table, usage_of}
-use Rattle.far_model.specs.Command.{Command, Reads, Makes, Streams, ReadCommand, MakeCommand, command_of}
+use Rattle.far_model.specs.Command.{Command, Reads, Stored, Makes, Streams, MakeCommand, command_of}
 use Rattle.subdiv_model.specs.Fault.{Fault, Usage, Read, Long, Write, Memory, fault_line, outcome_status}
 use Rattle.far_model.specs.Refusal.{Answer}
 use Rattle.far_model.specs.Stream.{LineRule, answer_so_far, answer_of_all, answer_of_lines}
-use Rattle.far_model.specs.Answer.{IsAcceptedMesh, answer_of_bytes, answer_of_made, byte_limit, rule_of}
+use Rattle.far_model.specs.Answer.{IsAcceptedMesh, answer_of_command, answer_of_made, byte_limit, rule_of}
 use Rattle.far_engine.specs.Outcome.{IsAnswered, is_after_reading}
 use Rattle.far_engine.specs.StepCounts.{RunSteps}
 
@@ -39,11 +39,11 @@ pub record AnswersWhole {K : Type 0} (sink : Sink K) (answer : Answer) (k k' : K
   pub text : outcome ≡ None → Added (sink.held k) (sink.held k') answer.text
   pub prefix : outcome ≡ Some Write → AddedPrefix (sink.held k) (sink.held k') answer.text
 
--- A command that reads a mesh and then answers.
-pub record RunsRead {S K : Type 0} (source : Source S) (sink : Sink K) (command : ReadCommand) (s s' : S) (k k' : K) (outcome : Option Fault) : Type 0 where
+-- A command that reads its whole input and then answers.
+pub record RunsRead {S K : Type 0} (source : Source S) (sink : Sink K) (command : Command) (s s' : S) (k k' : K) (outcome : Option Fault) : Type 0 where
   pub ran : Ran source sink s s' k k' outcome
   -- the answer is the one that is defined for the bytes that the source had
-  pub answer : (bytes : List ℕ) → source.left s ≡ Some bytes → AnswersWhole sink (answer_of_bytes command bytes) k k' outcome
+  pub answer : (bytes : List ℕ) → source.left s ≡ Some bytes → AnswersWhole sink (answer_of_command command bytes) k k' outcome
   -- where it comes after reading, the input was read to its end, and Long only where more bytes came
   pub whole : IsTrue (is_after_reading outcome) → IsDry (source.left s')
   pub long : outcome ≡ Some Long → TookMore byte_limit (source.left s) (source.left s')
@@ -81,7 +81,8 @@ pub record RunsStream {S K : Type 0} (source : Source S) (sink : Sink K) (rule :
 
 -- A command, by its kind.
 abbrev pub RunsCommand : {S K : Type 0} → Source S → Sink K → Command → S → S → K → K → Option Fault → Type 0
-RunsCommand source sink (Reads command) s s' k k' outcome = RunsRead source sink command s s' k k' outcome
+RunsCommand source sink (Reads command) s s' k k' outcome = RunsRead source sink (Reads command) s s' k k' outcome
+RunsCommand source sink (Stored command) s s' k k' outcome = RunsRead source sink (Stored command) s s' k k' outcome
 RunsCommand source sink (Makes command) s s' k k' outcome = RunsMake source sink command s s' k k' outcome
 RunsCommand source sink (Streams command) s s' k k' outcome = RunsStream source sink (rule_of command) s s' k k' outcome
 

@@ -4,13 +4,14 @@ use Rattle.std.specs.Prelude.{ℕ, ◌≡◌, ◌+◌, ◌≤◌, List, Option, 
 use Rattle.far_io.specs.Bytes.{Took}
 use Rattle.far_io.specs.declared.source.Source.{Ghosts}
 use Rattle.far_model.specs.Words.{command_table, usage_of}
-use Rattle.far_model.specs.Command.{Command, Reads, Makes, Streams, StreamCommand, Frames, command_of}
+use Rattle.far_model.specs.Command.{Command, Reads, Stored, Makes, Streams, StreamCommand, Frames, command_of}
 use Rattle.subdiv_model.specs.Fault.{Fault}
 use Rattle.subdiv_model.specs.ReadObj.{obj_lines, read_obj_mesh}
 use Rattle.far_model.specs.Frames.{frame_lines}
 use Rattle.far_model.specs.Answer.{frames_lines, frames_mesh}
 use Rattle.frame_answers.specs.StepCounts.{start_least, frames_limit}
 use Rattle.mesh_answers.specs.StepCounts as mesh
+use Rattle.table_answers.specs.Answers.{stored_least, stored_limit}
 
 -- how many steps a stream takes at least where it answers an input, and how many it may take
 abbrev pub stream_least : StreamCommand → List ℕ → ℕ
@@ -22,11 +23,13 @@ stream_limit (Frames options) bytes = frames_limit options.depth (frames_mesh op
 -- how many steps a command takes at least where it answers an input, and how many it may take
 abbrev pub least_steps : Command → List ℕ → ℕ
 least_steps (Reads command) bytes = mesh.least_steps command (read_obj_mesh bytes 0)
+least_steps (Stored command) bytes = stored_least command bytes
 least_steps (Makes command) bytes = mesh.made_least command
 least_steps (Streams command) bytes = stream_least command bytes
 
 abbrev pub step_limit : Command → List ℕ → ℕ
 step_limit (Reads command) bytes = mesh.step_limit command (read_obj_mesh bytes 0)
+step_limit (Stored command) bytes = stored_limit command bytes
 step_limit (Makes command) bytes = mesh.made_limit command
 step_limit (Streams command) bytes = stream_limit command bytes
 

@@ -1,24 +1,25 @@
 //! A command that is read already, over a source and a sink.
 
 ghost use Rattle.std.specs.Prelude.{IfOk};
-ghost use Rattle.far_model.specs.Command.{IsInRange};
+ghost use Rattle.far_model.specs.Command.{IsInRange, IsStoredInRange, Stored};
 ghost use Rattle.far_fault.specs.View.{outcome_of};
 ghost use Rattle.far_text.specs.Reply.{CanPut};
-ghost use Rattle.far_words.specs.View.{command_of_code};
-ghost use Rattle.far_engine.specs.Input.{PutsFound};
+ghost use Rattle.far_words.specs.View.{command_of_code, stored_of_code};
+ghost use Rattle.far_engine.specs.Input.{FindsReply, PutsFound};
 ghost use Rattle.far_engine.specs.Runs.{RunsCommand};
 ghost use Rattle.far_engine.specs.StepCounts.{TakesSteps};
 
 use crate::frames::run_frames;
-use crate::input::read_mesh;
+use crate::input::{bytes_of, read_mesh};
 use far_fault::FarFault;
 use far_io::{Sink, Source, WriteFailed};
 use far_text::{Reply, write_reply};
-use far_words::{Command, MakeCommand, ReadCommand, StreamCommand};
+use far_words::{Command, MakeCommand, ReadCommand, StoredCommand, StreamCommand};
 use mesh_answers::{generate, levels, limit, patch, refine, sparse, stencils};
 use ratio128::Steps;
 use std::alloc::Global;
 use std::sync::ledger::Ledger;
+use table_answers::{apply, verify};
 
 // Writes a reply into the sink.
 fn put_reply<K: Sink>(reply: &Reply, sink: &mut K) -> Result<(), FarFault>
@@ -40,9 +41,26 @@ fn put_found<K: Sink>(found: Result<Reply, FarFault>, sink: &mut K) -> Result<()
     put_reply(&reply, sink)
 }
 
+// What a command makes of an input with a stored table, which is read to its end.
+fn find_stored<S: Source, L: Ledger>(
+    alloc: Global,
+    command: &StoredCommand,
+    source: &mut S,
+    steps: &mut Steps<L>,
+) -> Result<Reply, FarFault>
+    requires { IsStoredInRange (stored_of_code command.now) }
+    ensures { FindsReply S.Source (Stored (stored_of_code command.now)) source.old source.new result steps.old steps.new }
+{
+    let bytes = bytes_of(alloc, source)?;
+    match *command {
+        StoredCommand::Verify { depth } => verify(alloc, &bytes, depth, steps),
+        StoredCommand::Apply => apply(alloc, &bytes, steps),
+    }
+}
+
 /// Runs a command that is read already: reads the source, and writes the answer into the sink.
 ///
-/// A command that reads a mesh reads the source to its end before it writes. One that makes its mesh does not call the source.
+/// A command that reads a mesh or a stored table reads the source to its end before it writes. One that makes its mesh does not call the source.
 /// `frames` answers each line before it reads on. The numbers of the command are those that its options allow, as
 /// [`Command::is_in_range`] tests. [`run`](crate::run) tells what each command answers and refuses, and the steps that it
 /// takes; its fault `Usage` never comes here.
@@ -81,6 +99,7 @@ pub fn run_command<S: Source, K: Sink, L: Ledger>(
                 ReadCommand::Patch(options) => put_found(patch(alloc, &mesh, options, steps), sink),
             }
         }
+        Command::Stored(command) => put_found(find_stored(alloc, command, source, steps), sink),
         Command::Make(MakeCommand::Gen(options)) => {
             put_found(generate(alloc, options, steps), sink)
         }

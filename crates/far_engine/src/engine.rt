@@ -31,6 +31,10 @@ use std::sync::ledger::Ledger;
 /// - `levels` writes a line with the counts of each level.
 /// - `patch` writes the limit surface over a face of the last level, a quad inside with four quads around each corner and nothing
 ///   sharp there. Of the places of a grid along the sides it writes the points row by row, as fractions in lowest terms.
+/// - `verify` compares a stored table with the table of the mesh before it, and writes how many rows both have. The table begins at the
+///   first line whose first word is `table`.
+/// - `apply` evaluates a stored table over the points of the OBJ text behind it, and writes a point for each row, as fractions in
+///   lowest terms.
 /// - `gen` makes a sheet of quads from its seed, and never calls the source. It writes the counts of the sheet and of its last
 ///   level, and the last point there.
 /// - `frames` reads a mesh up to the line `frames`, or up to the end of the input, and then answers line by line. A line `move`
@@ -62,6 +66,14 @@ use std::sync::ledger::Ledger;
 ///   at the depth, for a common denominator, `TooLarge` for more than 2^27 entries of these rows, and `Overflow` for the greatest
 ///   numerator. The depth of such an `Overflow` may be 0.
 ///
+/// `verify` refuses its mesh as `stencils` does. Then `Table` comes with the first bad line of the stored table, at the line behind
+/// its text where bytes follow it, and at the line behind the last where no line begins with `table`. Then `Differs` comes with the
+/// first row that differs, counted from 0.
+///
+/// `apply` refuses its input for the first of these: `Table` with the first bad line of the table, `Obj` with the least bad line of
+/// the text behind it, `Controls` where the table has another number of control points than the text has points, and `Overflow` of
+/// the positions at level 0 where a numerator can pass its bound.
+///
 /// `sparse` looks at its present faces and points alone. At each level it refuses more than 2^22 present faces (`TooLarge`) before
 /// all else.
 ///
@@ -83,9 +95,10 @@ use std::sync::ledger::Ledger;
 /// A run takes at most one step for each face of the levels that it makes; those of a sparse level are its present faces. `gen`,
 /// `frames`, and `refine` by a table, take one more for each entry of the last table; `refine` level by level takes one more for each
 /// mask term. `limit` takes one more for each entry of the rows of limit points, and `patch` for each entry of the rows of its patch.
+/// `verify` takes the steps of `stencils`, and `apply` one for each entry of the table that it reads.
 /// `sparse` takes at most one more for each entry of the present points of its levels. A texture channel takes as many again. A line
 /// `move` takes one step for each point that depends on its control point.
-/// Where `refine`, `limit`, `patch`, `gen` or `frames` answers, it took one step for each of these entries or mask terms.
+/// Where `refine`, `limit`, `patch`, `apply`, `gen` or `frames` answers, it took one step for each of these entries or mask terms.
 pub fn run<S: Source, K: Sink, L: Ledger>(
     alloc: Global,
     words: &Vec<String>,

@@ -2,14 +2,15 @@
 
 ghost use Rattle.std.specs.Prelude.{◌≡◌, ◌≤◌, ◌^◌, length, IfOk, IfErr, MatchResult, OnOk};
 ghost use Rattle.far_model.specs.Answer.{byte_limit};
-ghost use Rattle.far_model.specs.Command.{ReadCommand as model_command};
+ghost use Rattle.far_model.specs.Command.{Command, ReadCommand, Reads};
 ghost use Rattle.far_io.specs.Bytes.{Took, IsDry};
 ghost use Rattle.far_fault.specs.View.{fault_of};
-ghost use Rattle.far_engine.specs.Input.{IsMeshOf, IsMeshText, IsRefused, IsTextFault, input_fault_of};
+ghost use Rattle.mesh_answers.specs.MeshText.{IsMeshText, IsTextFault};
+ghost use Rattle.far_engine.specs.Input.{IsMeshOf, IsRefused, ReadsWhole, input_fault_of};
 
 use far_fault::FarFault;
 use far_io::{InputFault, Source, read_all};
-use obj_tags::{ObjFault, ReadFault, read_obj};
+use mesh_answers::mesh_of_text;
 use raw_mesh::RawMesh;
 use std::alloc::Global;
 
@@ -27,12 +28,12 @@ pub(crate) fn fault_of_input(fault: InputFault) -> FarFault
     }
 }
 
-// All bytes that a source has.
-fn bytes_of<S: Source>(alloc: Global, source: &mut S) -> Result<Vec<u8>, FarFault>
+/// All bytes that a source has.
+pub(crate) fn bytes_of<S: Source>(alloc: Global, source: &mut S) -> Result<Vec<u8>, FarFault>
     ensures all { IfOk result (λ bytes. Took (S.left source.old) (S.left source.new) bytes.items) }
     ensures dry { OnOk result (IsDry (S.left source.new)) }
     ensures short { IfOk result (λ bytes. length bytes.items ≤ byte_limit) }
-    ensures fault { (command : model_command) → IfErr result (λ fault. IsRefused S.Source command source.old source.new (fault_of fault)) }
+    ensures fault { (command : Command) → ReadsWhole command → IfErr result (λ fault. IsRefused S.Source command source.old source.new (fault_of fault)) }
     ensures later { S.faults source.old ≤ S.faults source.new }
 {
     match read_all(alloc, source, LIMIT) {
@@ -41,24 +42,11 @@ fn bytes_of<S: Source>(alloc: Global, source: &mut S) -> Result<Vec<u8>, FarFaul
     }
 }
 
-/// The mesh of an OBJ text, whose positions stand over a multiple of ten to `scale`, which is at most 18.
-pub(crate) fn mesh_of(alloc: Global, bytes: &[u8], scale: u32) -> Result<RawMesh, FarFault>
-    requires short { length bytes.now ≤ 2 ^ 28 }
-    requires scale { scale ≤ 18 }
-    ensures { MatchResult result (λ mesh. IsMeshText bytes.now scale mesh) (λ fault. IsTextFault bytes.now scale (fault_of fault)) }
-{
-    match read_obj(alloc, bytes, scale) {
-        Ok(mesh) => Ok(mesh),
-        Err(ReadFault::Obj(ObjFault { line, cause })) => Err(FarFault::Obj { line, cause }),
-        Err(ReadFault::Memory) => Err(FarFault::Memory),
-    }
-}
-
 /// The mesh of a source, which is read to its end.
 pub(crate) fn read_mesh<S: Source>(alloc: Global, source: &mut S) -> Result<RawMesh, FarFault>
     ensures { MatchResult result (λ mesh. IsMeshOf S.Source source.old source.new mesh)
-        (λ fault. (command : model_command) → IsRefused S.Source command source.old source.new (fault_of fault)) }
+        (λ fault. (command : ReadCommand) → IsRefused S.Source (Reads command) source.old source.new (fault_of fault)) }
 {
     let bytes = bytes_of(alloc, source)?;
-    mesh_of(alloc, &bytes, 0)
+    mesh_of_text(alloc, &bytes, 0)
 }

@@ -12,4 +12,6 @@ mod mesh_part;
 
 pub use command::run_command;
 pub use engine::{program, run};
-pub use far_fault::{FarFault, LimitCause, OverflowKind, PlaceFault, Track, report, status};
+pub use far_fault::{
+    FarFault, LimitCause, OverflowKind, PlaceFault, TableCause, Track, report, status,
+};

@@ -2,19 +2,20 @@
 
 ghost use Rattle.std.specs.Prelude.{◌≡◌, ℕ, suc, ◌^◌, ◌+◌, ◌<◌, ◌≤◌, List, [], length, Ok, None, IfOk, OnOk, MatchResult};
 ghost use Rattle.subdiv_model.specs.ObjLine.{line_words};
-ghost use Rattle.subdiv_model.specs.ReadObj.{without_mark};
 ghost use Rattle.far_model.specs.Frames.{is_frames_line, words_after};
 ghost use Rattle.stream_laws.specs.Handled.{text_of_lines};
 ghost use Rattle.far_fault.specs.View.{fault_of};
 ghost use Rattle.far_words.specs.View.{frames_of_code};
-ghost use Rattle.far_engine.specs.Input.{IsMeshText, IsTextFault};
+ghost use Rattle.mesh_answers.specs.MeshText.{IsMeshText, IsTextFault};
 ghost use Rattle.far_engine.specs.MeshPart.{AreLinesAfter, EndsMesh, FindsMeshEnd, IsMeshLines, IsPartOr};
 
 use crate::frame_lines::FrameLines;
-use crate::input::{LIMIT, fault_of_input, mesh_of};
+use crate::input::{LIMIT, fault_of_input};
 use far_fault::FarFault;
 use far_io::{InputFault, NextText, Source, TextReader};
 use far_words::FramesOptions;
+use mesh_answers::mesh_of_text;
+use obj_tags::skip_mark;
 use obj_text::words_of;
 use raw_mesh::RawMesh;
 use std::alloc::Global;
@@ -35,16 +36,6 @@ pub(crate) enum MeshEnd {
 pub(crate) struct MeshPart {
     pub(crate) mesh: RawMesh,
     pub(crate) lines: Option<FrameLines>,
-}
-
-// What follows the byte order mark that a text begins with, or the text where there is none.
-fn skip_mark(text: &[u8]) -> &[u8]
-    ensures { result.now ≡ without_mark text.now }
-{
-    match text {
-        [0xEF, 0xBB, 0xBF, rest @ ..] => rest,
-        _ => text,
-    }
 }
 
 // Whether the first word of a line is `frames`.
@@ -126,7 +117,7 @@ fn part_of(
     ensures lines { IfOk result (λ part. part.lines ≡ lines) }
     ensures mesh { MatchResult result (λ part. IsMeshText text.now scale part.mesh) (λ fault. IsTextFault text.now scale (fault_of fault)) }
 {
-    let mesh = mesh_of(alloc, text, scale)?;
+    let mesh = mesh_of_text(alloc, text, scale)?;
     Ok(MeshPart { mesh, lines })
 }
 

@@ -1,7 +1,7 @@
 use Rattle.std.proofs.Common.{rules, ap, ◌∙◌}
 use Rattle.far_model.specs.Command.{Frames, Makes, Reads, Streams}
 use Rattle.far_words.specs.View.{command_of_code, frames_of_code, read_of_code}
-use Rattle.far_engine.proofs.RunLemmas.{fault-steps, make-steps, runs-as, runs-fault, runs-make, runs-mesh, steps-as, steps-mesh}
+use Rattle.far_engine.proofs.RunLemmas.{fault-steps, make-steps, runs-as, runs-fault, runs-make, runs-mesh, runs-stored, steps-as, steps-mesh, steps-stored}
 use Rattle.far_engine.proofs.command.run_command.Goals as goal
 
 pub returns-in_err-mesh-in-Read-clause-run : goal.returns-in_err-mesh-in-Read-clause-run
@@ -59,6 +59,14 @@ returns-in-Read-clause-run g c =
 pub returns-in-Read-clause-steps : goal.returns-in-Read-clause-steps
 returns-in-Read-clause-steps g c =
     steps-mesh g.S.Source g.K.Sink _ _ (ap command_of_code c.in-Read.is ∙ ap (λ k. Reads (read_of_code k)) c.in-Patch.is) _ _ _ c.in_ok-mesh-in-Read.ensures _ _ _ c.patch.ensures _ _ _ c.put_found-in-Patch.ensures
+
+pub returns-in-Stored-clause-run : goal.returns-in-Stored-clause-run
+returns-in-Stored-clause-run g c =
+    runs-stored g.S.Source g.K.Sink _ _ (ap command_of_code c.in-Stored.is) _ _ _ _ _ c.find_stored.ensures _ _ _ c.put_found-in-Stored.ensures
+
+pub returns-in-Stored-clause-steps : goal.returns-in-Stored-clause-steps
+returns-in-Stored-clause-steps g c =
+    steps-stored g.S.Source g.K.Sink _ _ (ap command_of_code c.in-Stored.is) _ _ _ _ _ c.find_stored.ensures _ _ _ c.put_found-in-Stored.ensures
 
 pub returns-in-Make-Gen-clause-run : goal.returns-in-Make-Gen-clause-run
 returns-in-Make-Gen-clause-run g c =
