@@ -34,6 +34,8 @@ mod sessions;
 #[cfg(test)]
 mod sparse;
 #[cfg(test)]
+mod stored;
+#[cfg(test)]
 mod tables;
 #[cfg(test)]
 mod widths;
