@@ -2,7 +2,9 @@
 
 use crate::engine::failing_sink;
 use crate::expect::{expect_answer, expect_same};
-use far_engine::{FarFault, LimitCause, OverflowKind, PlaceFault, Track, report, status};
+use far_engine::{
+    FarFault, LimitCause, OverflowKind, PlaceFault, TableCause, Track, report, status,
+};
 use far_io::{SureSink, WriteFailed};
 use level_topology::Counted;
 use mesh_check::MeshFault;
@@ -127,6 +129,32 @@ const FAULTS: &[Fault] = &[
         FarFault::Place(PlaceFault::NotRegular { face: 0 }),
         13,
         "far: face 0 is not a regular inner face\n",
+    ),
+    (
+        FarFault::Table {
+            line: u32::MAX,
+            cause: TableCause::Range,
+        },
+        14,
+        "far: line 4294967295: table number out of range\n",
+    ),
+    (
+        FarFault::Table {
+            line: 2,
+            cause: TableCause::Count,
+        },
+        14,
+        "far: line 2: table entry count\n",
+    ),
+    (
+        FarFault::Differs { row: u32::MAX },
+        15,
+        "far: row 4294967295 differs\n",
+    ),
+    (
+        FarFault::Controls { count: u32::MAX },
+        16,
+        "far: 4294967295 control points given\n",
     ),
 ];
 

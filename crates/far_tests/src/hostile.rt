@@ -5,7 +5,8 @@ ghost use Rattle.std.specs.Prelude.{◌≡◌, ◌<◌};
 use crate::engine::{run_alone, words_of};
 use crate::expect::{expect_answer, expect_same};
 use crate::inputs::{
-    CUBE, CUBE_REFINED, CURVED_SHEET, GEN, MOVED_SQUARE, REFINE, SQUARE, TWO_CHARTS,
+    CUBE, CUBE_REFINED, CURVED_SHEET, GEN, MOVED_SQUARE, QUARTER_AND_POINTS, REFINE, SQUARE,
+    SQUARE_AND_TABLE, TWO_CHARTS,
 };
 use far_engine::{FarFault, run};
 use far_io::{MemSink, MemSource};
@@ -196,6 +197,8 @@ const WRITES: &[Writes] = &[
     ("patch depth=0 face=4 grid=1", CURVED_SHEET, 16, 6),
     ("sparse depth=1", SQUARE, 16, 16),
     ("levels depth=1", CUBE, 16, 12),
+    ("verify depth=0", SQUARE_AND_TABLE, 4, 5),
+    ("apply", QUARTER_AND_POINTS, 4, 4),
     ("frames depth=1", MOVED_SQUARE, 16, 6),
     (GEN, "", 16, 6),
     (REFINE, TWO_CHARTS, 64, 10),

@@ -51,6 +51,17 @@ pub const SQUARE_TABLE: &str = "\
     s 2 2 1 3 1\n\
     s 2 0 1 3 1\n";
 
+// The square before its table at depth 0.
+pub const SQUARE_AND_TABLE: &str = "v 0 0 0\nv 4 0 0\nv 4 4 0\nv 0 4 0\nf 1 2 3 4\n\
+    table controls 4 rows 4 entries 4\ns 1 0 1\ns 1 1 1\ns 1 2 1\ns 1 3 1\n";
+
+// A table of one row, which has a quarter of the second control point.
+pub const QUARTER_TABLE: &str = "table controls 2 rows 1 entries 2\ns 4 0 3 1 1\n";
+
+// This table before two points.
+pub const QUARTER_AND_POINTS: &str =
+    "table controls 2 rows 1 entries 2\ns 4 0 3 1 1\nv 0 0 0\nv 4 8 1\n";
+
 // The limit points of the square after one step: points of a uniform cubic curve, and the point of the face.
 pub const SQUARE_LIMITS: &str = "\
     v 2/3 2/3 0\n\

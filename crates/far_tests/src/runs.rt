@@ -4,10 +4,11 @@ use crate::engine::run_alone;
 use crate::expect::expect_answer;
 use crate::inputs::{
     CUBE, CUBE_LEVEL, CUBE_REFINED, CURVED_PATCH, CURVED_SHEET, GEN, GREAT_CHART, GREATER_CUBE,
-    LEVELS, MOVED_SQUARE, MOVED_SQUARE_ANSWER, REFINE, SHEET, SQUARE, SQUARE_LEVELS, SQUARE_LIMITS,
-    SQUARE_TABLE, TRIANGLES, TWO_CHARTS, TWO_CHARTS_IN_DECIMALS,
+    LEVELS, MOVED_SQUARE, MOVED_SQUARE_ANSWER, QUARTER_AND_POINTS, QUARTER_TABLE, REFINE, SHEET,
+    SQUARE, SQUARE_LEVELS, SQUARE_LIMITS, SQUARE_TABLE, TRIANGLES, TWO_CHARTS,
+    TWO_CHARTS_IN_DECIMALS,
 };
-use far_engine::{FarFault, LimitCause, OverflowKind, PlaceFault, Track};
+use far_engine::{FarFault, LimitCause, OverflowKind, PlaceFault, TableCause, Track};
 use level_topology::Counted;
 use mesh_check::MeshFault;
 use obj_tags::ObjCause;
@@ -127,6 +128,38 @@ const RUNS: &[Run] = &[
         "t interpolateboundary 1/0/0 1\n",
         Ok(()),
         SQUARE_LEVELS,
+    ),
+    (
+        "verify depth=1",
+        SQUARE,
+        SQUARE_TABLE,
+        Ok(()),
+        "table agrees 9\n",
+    ),
+    (
+        "verify depth=0",
+        SQUARE,
+        SQUARE_TABLE,
+        Err(FarFault::Differs { row: 0 }),
+        "",
+    ),
+    (
+        "verify depth=1",
+        SQUARE,
+        "",
+        Err(FarFault::Table {
+            line: 6,
+            cause: TableCause::Form,
+        }),
+        "",
+    ),
+    ("apply", QUARTER_AND_POINTS, "", Ok(()), "v 1 2 1/4\n"),
+    (
+        "apply",
+        QUARTER_TABLE,
+        "v 0 0 0\n",
+        Err(FarFault::Controls { count: 1 }),
+        "",
     ),
     (
         "frames depth=1",

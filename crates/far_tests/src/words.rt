@@ -4,7 +4,7 @@ use crate::engine::words_of;
 use crate::expect::expect_same;
 use far_words::{
     By, Command, FramesOptions, GenOptions, LimitOptions, MakeCommand, PatchOptions, ReadCommand,
-    RefineOptions, Select, SparseOptions, StreamCommand, Uv, read_words,
+    RefineOptions, Select, SparseOptions, StoredCommand, StreamCommand, Uv, read_words,
 };
 use std::process::Abort;
 use std::test::Fail;
@@ -103,6 +103,11 @@ const WORDS: &[Words] = &[
         "patch grid=64 face=4194303 depth=10",
         patch!(10, 4_194_303, 64),
     ),
+    (
+        "verify depth=10",
+        Ok(Command::Stored(StoredCommand::Verify { depth: 10 })),
+    ),
+    ("apply", Ok(Command::Stored(StoredCommand::Apply))),
     ("frames depth=10", moves!(10, 0)),
     ("frames scale=18 depth=0", moves!(0, 18)),
     ("gen seed=0 size=1 depth=0", sheet!(0, 1, 0)),
@@ -117,6 +122,9 @@ const WORDS: &[Words] = &[
     ("patch face=4194304 depth=0 grid=1", Err(1)),
     ("patch depth=0 face=0 grid=65", Err(3)),
     ("patch depth=0 grid=1", Err(3)),
+    ("verify", Err(1)),
+    ("verify depth=11", Err(1)),
+    ("apply depth=0", Err(1)),
     ("refine depth=01", Err(1)),
     ("frames scale=0", Err(2)),
     ("frames depth=0 scale=19", Err(2)),
