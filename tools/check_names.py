@@ -60,7 +60,7 @@ ANTT_NAMES = [
     re.compile(r"^ *(?:(?:abbrev|unfoldable|pub) )*([^\s:(){}]+) :\s", re.M),
     re.compile(r"^ *(?:pub )?(?:record|data|mod) ([\w-]+)", re.M),
 ]
-ANTT_PUBLIC = re.compile(r"^(?:abbrev |unfoldable )?pub (?:record |data )?(?!mod )([\w-]+)", re.M)
+ANTT_PUBLIC = re.compile(r"^(?:abbrev |unfoldable )?pub (?:record |data )?(?!mod |use )([\w-]+)", re.M)
 RT_NAMES = [
     re.compile(r"\b(?:fn|struct|enum|trait|type|const|static|mod|macro_rules!|ghost) +(\w+)"),
     re.compile(r"\b(?:requires|ensures) +(\w+) *\{"),

@@ -27,13 +27,15 @@ COMMANDS = "crates/far_model/specs/Command.antt"
 ANSWERS = "crates/far_model/specs/Answer.antt"
 TYPE_OF_REPLIES = "crates/far_text/src/reply.rt"
 REPLIES = "crates/mesh_answers/src/*.rt"
+STORED_REPLIES = "crates/table_answers/src/*.rt"
 STEPS = "crates/mesh_answers/specs/StepCounts.antt"
+STORED_STEPS = "crates/table_answers/specs/Answers.antt"
 CRATES = "crates.txt"
 GUIDE = "CONTRIBUTING.md"
 
 # The constructor of a command in the definitions, and the call that finds the reply of a command.
 CONSTRUCTOR = r"^pub data <Kind>Command .*\n(?:  .*\n)*?  <variant> :"
-FINDS_REPLY = r"\bIs(?:AnswerTo|MadeAnswer) \(?<variant>\b"
+FINDS_REPLY = r"\bIs(?:AnswerTo|StoredAnswer|MadeAnswer) \(?<variant>\b"
 
 # A run of a command, in a table of the tests.
 ROW_OF_RUN = r'(?:    \(|        )(?:"<name>(?: [^"]*)?"|<constant>),'
@@ -41,8 +43,17 @@ ROW_OF_RUN = r'(?:    \(|        )(?:"<name>(?: [^"]*)?"|<constant>),'
 NUMBERS = "no one two three four five six seven eight nine ten".split()
 
 # The kinds of commands, and those of crates: definitions and laws have no calls, and a program none but `main`.
-READ, MAKE, STREAM = "read", "make", "stream"
+READ, STORED, MAKE, STREAM = "read", "stored", "make", "stream"
 CODE, LAWS, TESTS, PROGRAM = "code", "laws", "tests", "program"
+
+# Of each kind of command the constructor of `Command` in the definitions, what documents say that such a command does, and the
+# record of a run.
+KINDS = {
+    READ: ("Reads", "read", "RunsRead"),
+    STORED: ("Stored", "take", "RunsRead"),
+    MAKE: ("Makes", "make", "RunsMake"),
+    STREAM: ("Streams", "stream", "RunsStream"),
+}
 
 
 class Place(NamedTuple):
@@ -83,15 +94,23 @@ class Missing(NamedTuple):
 DEFINITION_PLACES = [
     Place(COMMAND_TABLE, "a row of `command_table`", r'record \{ name = codes "<name>"; options '),
     Place(COMMANDS, "a constructor of `<Kind>Command`", CONSTRUCTOR),
-    Place(COMMANDS, "an arm of `command_named`", r"(?:then|else) <Kind>s \(?<variant>\b"),
+    Place(COMMANDS, "an arm of `command_named`", r"(?:then|else) <constructor> \(?<variant>\b"),
     Place(COMMANDS, "its range, an arm of `Is<Kind>InRange`", r"^Is<Kind>InRange \(?<variant>\b"),
     Place(ANSWERS, "an arm of `command_faults`", r"^command_faults \(?<variant>\b", (READ,)),
     Place(ANSWERS, "an arm of `command_text`", r"^command_text \(?<variant>\b", (READ,)),
+    Place(ANSWERS, "an arm of `answer_of_stored_text`", r"^answer_of_stored_text \(?<variant>\b", (STORED,)),
+    Place(ANSWERS, "an arm of `IsAcceptedBeforeTable`", r"^IsAcceptedBeforeTable \(?<variant>\b", (STORED,)),
     Place(ANSWERS, "an arm of `made_mesh`", r"^made_mesh \(?<variant>\b", (MAKE,)),
     Place(ANSWERS, "an arm of `made_faults`", r"^made_faults \(?<variant>\b", (MAKE,)),
     Place(ANSWERS, "an arm of `made_text`", r"^made_text \(?<variant>\b", (MAKE,)),
     Place(ANSWERS, "an arm of `rule_of`", r"^rule_of \(?<variant>\b", (STREAM,)),
-    Place("crates/far_model/src/answers.rt", "an example of its answer", r'\banswer \(codes "<name>" ∷'),
+    Place(
+        "crates/far_model/src/answers.rt",
+        "an example of its answer",
+        r'\banswer \(codes "<name>" ∷',
+        (READ, MAKE, STREAM),
+    ),
+    Place("crates/far_model/src/stored.rt", "an example of its answer", r'\banswer \(codes "<name>" ∷', (STORED,)),
 ]
 
 WORDS_PLACES = [
@@ -112,32 +131,48 @@ ANSWER_PLACES = [
         TYPE_OF_REPLIES,
         "a variant of `Reply`, where the text is a new one",
         r"^pub enum Reply \{\n(?:    .*\n)*?    <reply>\b",
-        (READ, MAKE),
+        (READ, STORED, MAKE),
     ),
     Place(
         "crates/far_text/specs/Reply.antt",
         "the text of this variant, an arm of `reply_text`",
         r"^reply_text \(?<reply>\b",
-        (READ, MAKE),
+        (READ, STORED, MAKE),
     ),
     Place(STEPS, "an arm of `least_steps`", r"^least_steps \(?<variant>\b", (READ,)),
     Place(STEPS, "an arm of `step_limit`", r"^step_limit \(?<variant>\b", (READ,)),
+    Place(STORED_STEPS, "an arm of `stored_least`", r"^stored_least \(?<variant>\b", (STORED,)),
+    Place(STORED_STEPS, "an arm of `stored_limit`", r"^stored_limit \(?<variant>\b", (STORED,)),
     Place(STEPS, "an arm of `made_least`", r"^made_least \(?<variant>\b", (MAKE,)),
     Place(STEPS, "an arm of `made_limit`", r"^made_limit \(?<variant>\b", (MAKE,)),
     Place(REPLIES, "the call that finds the reply", FINDS_REPLY, (READ, MAKE)),
+    Place(STORED_REPLIES, "the call that finds the reply", FINDS_REPLY, (STORED,)),
     Place("crates/far_engine/specs/StepCounts.antt", "an arm of `stream_least`", r"^stream_least \(?<variant>\b", (STREAM,)),
     Place("crates/far_engine/specs/StepCounts.antt", "an arm of `stream_limit`", r"^stream_limit \(?<variant>\b", (STREAM,)),
-    Place("crates/far_engine/src/command.rt", "an arm of `run_command`", r"\b<Kind>Command::<variant>\b[^=;]*=>"),
+    Place(
+        "crates/far_engine/src/command.rt",
+        "an arm of `run_command`",
+        r"\b<Kind>Command::<variant>\b[^=;]*=>",
+        (READ, MAKE, STREAM),
+    ),
+    Place("crates/far_engine/src/command.rt", "an arm of `find_stored`", r"\b<Kind>Command::<variant>\b[^=;]*=>", (STORED,)),
     Place(
         "crates/far_engine/proofs/command/run_command/Answers.antt",
         "the answers of this arm",
         r"\bin-(Make-|Stream-)?<variant>\b",
+        (READ, MAKE, STREAM),
+    ),
+    Place(
+        "crates/far_engine/proofs/command/find_stored/Answers.antt",
+        "the answers of this arm",
+        r"^(?!use ).*\b<variant>\b",
+        (STORED,),
     ),
     Place(
         "crates/far_engine/proofs/ManifoldLemmas.antt",
         "a case of `accepted-manifolds`",
-        r"^accepted-manifolds \(<Kind>s \(?<variant>\b",
-        (MAKE, STREAM),
+        r"^accepted-manifolds \(<constructor> \(?<variant>\b",
+        (STORED, MAKE, STREAM),
     ),
     Place("crates/far_engine/src/engine.rt", "what it answers, in the comment of `run`", r"^/// - `<name>` "),
 ]
@@ -152,6 +187,12 @@ REFERENCE_PLACES = [
     ),
     Place(
         "tools/reference.py",
+        "its text, an entry of `TEXTS_OF_TABLE`",
+        r'^TEXTS_OF_TABLE = \{\n(?:    .*\n)*?    b"<name>": ',
+        (STORED,),
+    ),
+    Place(
+        "tools/reference.py",
         "its text, an entry of `TEXTS_OF_OPTIONS`",
         r'^TEXTS_OF_OPTIONS = \{\n(?:    .*\n)*?    b"<name>": ',
         (MAKE,),
@@ -162,7 +203,8 @@ REFERENCE_PLACES = [
         r'^TEXTS_OF_INPUT = \{\n(?:    .*\n)*?    b"<name>": ',
         (STREAM,),
     ),
-    Place("tools/compare_random.py", "random words of it, in `Words`", r'\breturn \["<name>"[,\]]'),
+    Place("tools/compare_random.py", "random words of it, in `Words`", r'\breturn \["<name>"[,\]]', (READ, MAKE, STREAM)),
+    Place("tools/compare_random.py", "random inputs of it, in `kinds_of_runs`", r'^    yield .*\(\["<name>"[,\]]', (STORED,)),
     Place("tools/test_launcher.py", "a run of it, in `runs`", r'\byield \["<name>"[,\]]'),
     Place("tools/refuse_memory.py", "a run of it, in `runs`", r'\byield "<name>[ "]'),
 ]
@@ -171,14 +213,15 @@ DOCUMENT_PLACES = [
     Place("docs/formats.md", "how many commands there are, <commands>", r"(?i:\bhas <commands> commands\b)"),
     Place("docs/formats.md", "an example of its words", r"^far <name>\b"),
     Place("docs/formats.md", "a part that says what it writes", r"^## Output of `<name>`$"),
-    Place("docs/help.txt", "how many of its kind there are, <of_kind>", r"(?i:^<of_kind> commands? <kind>s?\b)"),
+    Place("docs/help.txt", "how many of its kind there are, <of_kind>", r"(?i:^<of_kind> commands? <verb>s?\b)"),
     Place("docs/help.txt", "its options and an example", r"^  \./far <name>\b"),
     Place("docs/rules/answers.md", "a row of the table of options", r"^\|[^|\n]*`<name>`[^|\n]*\|"),
     Place("docs/rules/answers.md", "its name, beside its kind", r"^- `<Kind>Command` .*`<name>`"),
     Place("docs/proofs.md", "how many commands there are, <commands>", r"(?i:\bthe <commands> commands\b)"),
     Place("docs/proofs.md", "what it writes, in the sentence on the program", r"^> .*`<name>`"),
     Place("docs/architecture.md", "its call, in the row of `mesh_answers`", r"^\| `mesh_answers` \|.*`<call>`", (READ, MAKE)),
-    Place("crates/far_engine/README.md", "its name, beside the record of its kind", r"`Runs<Kind>`, of [^|\n]*`<name>`"),
+    Place("docs/architecture.md", "its call, in the row of `table_answers`", r"^\| `table_answers` \|.*`<call>`", (STORED,)),
+    Place("crates/far_engine/README.md", "its name, beside the record of its kind", r"`<record>`, of [^|\n]*`<name>`"),
     Place("README.md", "how many commands read a mesh, <of_kind>", r"(?i:\b<of_kind> commands read\b)", (READ,)),
     Place("README.md", "a row of the table of commands", r"^\| \[`<name>`\]\(#<name>\) \|"),
     Place("README.md", "a part with an example", r"^### `<name>`$"),
@@ -260,7 +303,7 @@ def in_words(count: int) -> str:
 
 def kind_of_command(top: Path, variant: str, otherwise: str) -> str:
     """The kind of command under which the definitions have a constructor of this name."""
-    for kind in (READ, MAKE, STREAM):
+    for kind in KINDS:
         constructor = filled(CONSTRUCTOR, {"Kind": kind.capitalize(), "variant": variant})
         if re.search(constructor, text_of(top, COMMANDS), re.M):
             return kind
@@ -272,17 +315,22 @@ def variant_of(name: str) -> str:
     return "".join(part.capitalize() for part in re.split("[-_]", name))
 
 
+def reply_files(top: Path) -> List[Path]:
+    """The files with the calls that find replies."""
+    return sorted(path for pattern in (REPLIES, STORED_REPLIES) for path in top.glob(pattern))
+
+
 def unmade_reply(top: Path) -> Optional[str]:
     """The first variant of `Reply` that no call makes."""
     variants = re.search(r"^pub enum Reply \{\n(.*?)^\}", text_of(top, TYPE_OF_REPLIES), re.M | re.S)
-    made = {reply for path in top.glob(REPLIES) for reply in re.findall(r"\bReply::(\w+)", read(path))}
+    made = {reply for path in reply_files(top) for reply in re.findall(r"\bReply::(\w+)", read(path))}
     return next((it for it in re.findall(r"^    (\w+)", variants[1] if variants else "", re.M) if it not in made), None)
 
 
 def call_and_reply(top: Path, name: str, variant: str) -> Tuple[str, str]:
     """The call that finds the reply of a command, and the variant of `Reply` that it makes. Where there is no such call yet,
     it has the name of the command, and the variant is the one that no call makes, or else has that name too."""
-    for path in sorted(top.glob(REPLIES)):
+    for path in reply_files(top):
         text = read(path)
         # A file may have private calls before the public one, one of which makes the reply.
         contracts = list(re.finditer(filled(FINDS_REPLY, {"variant": variant}), text))
@@ -301,6 +349,7 @@ def command(top: Path, name: str, otherwise: str) -> Subject:
     call, reply = call_and_reply(top, name, variant)
     words = {"name": re.escape(name), "variant": variant, "kind": kind, "Kind": kind.capitalize()}
     words.update(constant=re.sub("-", "_", name).upper(), call=call, reply=reply)
+    words.update(zip(("constructor", "verb", "record"), KINDS[kind]))
     words.update(commands=in_words(len(kinds)), of_kind=in_words(list(kinds.values()).count(kind)))
     return Subject(f"command {name}", kind, words)
 
@@ -402,7 +451,7 @@ def arguments() -> argparse.Namespace:
     parser.add_argument("--list", choices=sorted(LISTS), help="print the places of a command or of a crate, and check nothing")
     parser.add_argument("--command", metavar="NAME", help="check this command alone")
     parser.add_argument("--crate", metavar="NAME", help="check this crate alone")
-    parser.add_argument("--kind", choices=(READ, MAKE, STREAM), default=READ, help="the kind of a command that has no constructor yet")
+    parser.add_argument("--kind", choices=tuple(KINDS), default=READ, help="the kind of a command that has no constructor yet")
     parser.add_argument("--top", type=Path, default=Path(__file__).resolve().parent.parent, help="the repository")
     return parser.parse_args()
 

@@ -44,8 +44,12 @@ def example(name):
     return (TOP / "examples" / name).read_bytes()
 
 
+def case(name):
+    return (TOP / "cases" / name / "stdin").read_bytes()
+
+
 def runs():
-    """Words and standard input: each command, both paths, texture, tags, moves, and inputs that are refused."""
+    """Words and standard input: each command, both paths, texture, tags, moves, stored tables, and inputs that are refused."""
     cube, unfolded = example("cube.obj"), example("unfolded_cube.obj")
     tagged = cube + TAGS.encode()
     yield "refine depth=1", cube
@@ -63,11 +67,15 @@ def runs():
     yield "limit depth=1 decimals=2", tagged
     yield "patch depth=2 face=2 grid=2", cube
     yield "patch depth=1 face=0 grid=2", tagged
+    yield "verify depth=1", case("verify/cube-at-depth-one")
+    yield "apply", case("apply/cube-at-depth-one")
     yield "gen seed=7 size=2 depth=1", b""
     yield "refine depth=1 tags=maybe", cube
     yield "refine depth=1", cube + b"v 1 2\n"
     yield "levels depth=1", cube + b"f 1 2 3\n"
     yield "frames depth=1", cube + MOVES
+    yield "verify depth=1", case("verify/row-more")
+    yield "apply", case("apply/row-that-does-not-sum")
     yield "refine depth=10", cube
 
 

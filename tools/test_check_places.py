@@ -15,7 +15,7 @@ from functools import lru_cache
 from pathlib import Path
 from typing import Iterator, List, NamedTuple, Tuple
 
-from check_places import CODE, COMMAND_PLACES, CRATE_PLACES, LISTS, MAKE, READ, STREAM, Place
+from check_places import CODE, COMMAND_PLACES, CRATE_PLACES, LISTS, MAKE, READ, STORED, STREAM, Place
 from tracked_files import TOP, copy_files, tracked_files
 
 SCRIPT = TOP / "tools" / "check_places.py"
@@ -60,6 +60,18 @@ PLANTS = [
         "command gen: missing in crates/far_model/specs/Answer.antt: an arm of `made_faults`",
     ),
     Plant(
+        "crates/far_model/specs/Command.antt",
+        "then Stored Apply",
+        "then Stored Other",
+        "command apply: missing in crates/far_model/specs/Command.antt: an arm of `command_named`",
+    ),
+    Plant(
+        "crates/far_model/specs/Answer.antt",
+        "answer_of_stored_text (Verify ",
+        "answer_of_stored_text (Other ",
+        "command verify: missing in crates/far_model/specs/Answer.antt: an arm of `answer_of_stored_text`",
+    ),
+    Plant(
         "crates/far_model/src/answers.rt",
         'answer (codes "gen" ',
         'answer (codes "other" ',
@@ -97,6 +109,18 @@ PLANTS = [
         "command levels: missing in crates/mesh_answers/src/*.rt: the call that finds the reply",
     ),
     Plant(
+        "crates/table_answers/src/applied.rt",
+        "",
+        "",
+        "command apply: missing in crates/table_answers/src/*.rt: the call that finds the reply",
+    ),
+    Plant(
+        "crates/table_answers/specs/Answers.antt",
+        "stored_limit (Verify ",
+        "stored_limit (Other ",
+        "command verify: missing in crates/table_answers/specs/Answers.antt: an arm of `stored_limit`",
+    ),
+    Plant(
         "crates/mesh_answers/specs/StepCounts.antt",
         "step_limit (Refine ",
         "step_limit (Other ",
@@ -121,6 +145,24 @@ PLANTS = [
         "command gen: missing in crates/far_engine/proofs/ManifoldLemmas.antt: a case of `accepted-manifolds`",
     ),
     Plant(
+        "crates/far_engine/src/command.rt",
+        "StoredCommand::Apply ",
+        "StoredCommand::Other ",
+        "command apply: missing in crates/far_engine/src/command.rt: an arm of `find_stored`",
+    ),
+    Plant(
+        "tools/reference.py",
+        'b"verify": ',
+        'b"other": ',
+        "command verify: missing in tools/reference.py: its text, an entry of `TEXTS_OF_TABLE`",
+    ),
+    Plant(
+        "tools/compare_random.py",
+        '(["apply"], ',
+        '(["other"], ',
+        "command apply: missing in tools/compare_random.py: random inputs of it, in `kinds_of_runs`",
+    ),
+    Plant(
         "tools/reference.py",
         'b"gen": ',
         'b"other": ',
@@ -140,9 +182,9 @@ PLANTS = [
     ),
     Plant(
         "docs/formats.md",
-        "has eight commands",
-        "has seven commands",
-        "command gen: missing in docs/formats.md: how many commands there are, eight",
+        "has ten commands",
+        "has nine commands",
+        "command gen: missing in docs/formats.md: how many commands there are, ten",
         ("--command", "gen"),
     ),
     Plant(
@@ -150,6 +192,13 @@ PLANTS = [
         "One command makes",
         "Two commands make",
         "command gen: missing in docs/help.txt: how many of its kind there are, one",
+    ),
+    Plant(
+        "docs/help.txt",
+        "Two commands take",
+        "Three commands take",
+        "command verify: missing in docs/help.txt: how many of its kind there are, two",
+        ("--command", "verify"),
     ),
     Plant(
         "docs/help.txt",
@@ -305,6 +354,7 @@ def checked_places(places: List[Place], kind: str) -> int:
 # Options of the script, the status, and how many lines it prints.
 RUNS = [
     (("--command", "unheard-of"), 1, checked_places(COMMAND_PLACES, READ) + 1),
+    (("--command", "unheard-of", "--kind", "stored"), 1, checked_places(COMMAND_PLACES, STORED) + 1),
     (("--command", "unheard-of", "--kind", "make"), 1, checked_places(COMMAND_PLACES, MAKE) + 1),
     (("--command", "unheard-of", "--kind", "stream"), 1, checked_places(COMMAND_PLACES, STREAM) + 1),
     (("--crate", "unheard_of"), 1, checked_places(CRATE_PLACES, CODE) + 1),

@@ -49,6 +49,8 @@ def runs():
     yield ["limit", "depth=1"], content("examples/creased_cube.obj")
     yield ["patch", "depth=2", "face=2", "grid=3"], cube
     yield ["patch", "depth=1", "face=2", "grid=3"], cube
+    yield ["verify", "depth=1"], content("cases/verify/cube-at-depth-one/stdin")
+    yield ["apply"], content("cases/apply/cube-at-depth-one/stdin")
     yield ["frames", "depth=1"], cube + MOVES
     yield ["gen", "seed=7", "size=4", "depth=2"], b""
     yield ["refine", "depth=3"], b""
@@ -56,6 +58,8 @@ def runs():
     yield ["refine", "depth=1"], b"\xff\x00\n"
     yield ["frames", "depth=1", "scale=18"], cube + MOVES + b"move 8 0 0 0\n"
     yield ["levels", "depth=1"], content("cases/levels/bowtie/stdin")
+    yield ["verify", "depth=1"], content("cases/verify/row-more/stdin")
+    yield ["apply"], content("cases/apply/point-too-few/stdin")
     yield ["refine", "depth=x"], cube
     yield ["refine", "depth=1 tags=yes"], cube
     yield ["refine", "depth=1", "*"], cube
@@ -138,7 +142,7 @@ class Launcher:
             self.check(f"help by {words}", outcome(self.far, words) == ended, outcome(self.far, words))
         text = ended[1].decode()
         for command, options in OPTIONS.items():
-            part = text.partition(f"./far {command.decode()} ")[2].partition("Example: ")
+            part = re.split(rf"^  \./far {command.decode()}\b", text, 1, re.M)[-1].partition("Example: ")
             for name, values in options.items():
                 numbers = [str(values.least), str(values.most)] if isinstance(values, Numbers) else []
                 names = numbers or [value.decode() for value in values]
