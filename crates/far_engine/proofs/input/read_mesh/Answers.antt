@@ -7,4 +7,4 @@ returns-in_err-bytes g c = still-refused g.S.Source _ _ _ _ c.from_residual.ensu
 pub returns : goal.returns
 returns g c =
     let read = c.in_ok-bytes.ensures in
-    mesh-of-text g.S.Source _ _ _ _ _ c.deref.ensures.value read.all read.dry read.short c.bytes_of.ensures.later c.mesh_of.ensures
+    mesh-of-text g.S.Source _ _ _ _ _ c.deref.ensures.value read.all read.dry read.short c.bytes_of.ensures.later c.mesh_of_text.ensures
