@@ -66,7 +66,7 @@ RT_NAMES = [
     re.compile(r"\b(?:requires|ensures) +(\w+) *\{"),
     re.compile(r"\b(\w+): "),
 ]
-RT_TYPE = re.compile(r"^(?:pub(?:\([^)]*\))? )?(struct|enum|trait|impl)\b([^{;]*)\{(.*?)^\}", re.M | re.S)
+RT_TYPE = re.compile(r"^(?:pub(?:\([^)]*\))? )?(struct|enum|trait|impl)\b([^{;]*)\{(?!\})(.*?)^\}", re.M | re.S)
 RT_MEMBER = re.compile(r"\bfn (\w+)|^ +(?:pub(?:\([^)]*\))? )?ghost (\w+)|^ +(?:pub(?:\([^)]*\))? )?(\w+):|^ {4}([A-Z]\w*)", re.M)
 PUBLIC_FN = re.compile(r"^ *pub fn (\w+)", re.M)
 IMPORT = re.compile(r"\buse ([\w.:]+)(?:\.|::)(?:\{([^}]*)\}|(\w+))")
