@@ -5,7 +5,8 @@ Each mesh is made as a text in a temporary folder, mostly at two sizes. A row te
 last level, or of the mesh where it is refused, and under `sparse` the present faces of all levels; the least time of some
 runs (whole processes, reading and writing included) and the greatest peak memory; how much is written; the nanoseconds
 for each face, each entry of the table, where one is composed of the positions alone, and each byte that is read or
-written; and the exponent with which the time grows with the faces from the smaller size to it: 1.0 is linear.
+written; and the exponent with which the time grows with the faces from the smaller size to it: 1.0 is linear. `apply` and `verify`
+read the table of depth 3 beside the mesh, and their rows have the faces of that level.
 
 The status is checked, the first line of `levels`, how many faces are written or counted, and the lines `level` of
 `sparse`, all of them for the cube and the sheets, and else that of level 0. What is wrong is told, and the exit status is
@@ -95,14 +96,16 @@ OTHERS = ["levels depth=3", "stencils depth=3"]
 LIMITS = ["refine depth=2", "limit depth=2"]
 # Face 2 of level 2 stands inside a face of level 0, so that it has a patch where that is a quad.
 PATCHES = ["stencils depth=2", "patch depth=2 face=2 grid=64"]
+DEPTH_OF_STORED_TABLE = 3
+STORED = ["apply", f"verify depth={DEPTH_OF_STORED_TABLE}"]
 COMMANDS = [
     Case(mesh, maker, words, with_quarter(size))
     for mesh, maker, size, lines in [
         ("sheet", meshes.sheet, 64**2, PATHS),
         ("creased sheet", meshes.creased_sheet, 64**2, PATHS + ["refine depth=3 tags=yes"] + OTHERS),
-        ("torus", meshes.torus, 64**2, PATHS + DECIMALS + OTHERS + LIMITS + PATCHES),
+        ("torus", meshes.torus, 64**2, PATHS + DECIMALS + OTHERS + LIMITS + PATCHES + STORED),
         ("textured sheet", meshes.textured_sheet, 64**2, PATHS + DECIMALS + ["refine depth=3 uv=linear"]),
-        ("character", meshes.character, 20000, PATHS + DECIMALS + OTHERS + LIMITS + PATCHES),
+        ("character", meshes.character, 20000, PATHS + DECIMALS + OTHERS + LIMITS + PATCHES + STORED),
         ("textured character", meshes.textured_character, 20000, PATHS + DECIMALS),
         ("none", None, 128**2, ["gen seed=7 size={side} depth=3"]),
         ("large sheet", meshes.sheet, 141**2, ["levels depth=3"]),
@@ -135,7 +138,8 @@ PRESENT = {meshes.cube: [(26, 24), (98, 96), (296, 216)], meshes.sheet: [(64, 36
 
 
 def depth_of(words):
-    return int(re.search(r"depth=(\d+)", words)[1])
+    depth = re.search(r"depth=(\d+)", words)
+    return int(depth[1]) if depth else DEPTH_OF_STORED_TABLE
 
 
 def write_mesh(path, maker, size):
@@ -156,6 +160,18 @@ def make(folder, case, size):
         mesh = pool.apply(write_mesh, (path, case.maker, size))
     faces = mesh.corners * 4 ** (depth - 1) if depth else mesh.faces
     return Made(path, faces, mesh.status, mesh.first_line)
+
+
+def is_stored(words):
+    return words.startswith(("apply", "verify"))
+
+
+def put_table(program, words, path):
+    """Puts the table of a mesh before its text for `apply`, and behind it for `verify`."""
+    mesh = path.read_bytes()
+    asked = [program, "stencils", f"depth={DEPTH_OF_STORED_TABLE}"]
+    table = subprocess.run(asked, input=mesh, stdout=subprocess.PIPE, check=True).stdout
+    path.write_bytes(table + mesh if words.startswith("apply") else mesh + table)
 
 
 # Runs
@@ -204,7 +220,7 @@ def faces_told(words, path):
         if words.startswith(("refine", "limit")):
             return sum(line.startswith(b"f ") for line in text)
         has_none = words.startswith(("stencils", "patch", "frames"))
-        return None if has_none else int(re.findall(rb" faces (\d+)", text.read())[-1])
+        return None if has_none or is_stored(words) else int(re.findall(rb" faces (\d+)", text.read())[-1])
 
 
 def faults_of(case, made, sink, status):
@@ -224,6 +240,10 @@ def faults_of(case, made, sink, status):
 def entries_of(program, case, words, path):
     """How many entries the table has by which a run goes; nothing where there is none, or a second one of texture."""
     command = words.split()[0]
+    if is_stored(words):
+        with open(path, "rb") as text:
+            header = next(line for line in text if line.startswith(b"table "))
+        return int(header.split()[-1])
     if command in ("levels", "limit", "patch", "frames", "sparse") or "by=level" in words or case.maker in TEXTURED:
         return None
     asked = words if command == "gen" else f"stencils depth={depth_of(words)}"
@@ -250,6 +270,8 @@ def measured(program, case, size, runs):
     words = case.words.format(side=math.isqrt(size))
     with tempfile.TemporaryDirectory() as folder:
         made, sink = make(Path(folder), case, size), Path(folder) / "written"
+        if is_stored(words):
+            put_table(program, words, made.path)
         seen = [run_once(program, words, made.path, sink) for _ in range(runs)]
         seconds, peaks, statuses = zip(*seen)
         status = next((one for one in statuses if one != made.status), made.status)
