@@ -95,7 +95,7 @@ fn points_reply<L: Ledger>(
     with_points(mesh, values)
 }
 
-// What comes of a table over the points of a mesh.
+// The answer of a table over the points of a mesh.
 fn table_points<L: Ledger>(
     alloc: Global,
     table: StencilTable,
@@ -110,7 +110,7 @@ fn table_points<L: Ledger>(
     Ok(points_reply(alloc, table, mesh, steps)?)
 }
 
-// What comes of the table that was read from the beginning of an input, over the points of the text behind it.
+// The answer of the table at the beginning of an input, over the points of the text behind it.
 fn answer_read<L: Ledger>(
     alloc: Global,
     read: ReadTable,

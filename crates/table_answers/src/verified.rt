@@ -72,7 +72,7 @@ fn stored_table(alloc: Global, text: &[u8], lines: u32) -> Result<StencilTable, 
     }
 }
 
-// What comes of a stored table beside the table of the mesh.
+// The answer of a stored table beside the table of the mesh.
 fn compare(stored: &StencilTable, own: &StencilTable) -> Result<Reply, FarFault>
     ensures { IsAnswerOf (compared stored.now own.now) result }
 {
@@ -82,7 +82,7 @@ fn compare(stored: &StencilTable, own: &StencilTable) -> Result<Reply, FarFault>
     }
 }
 
-// What comes of both tables, which the function leaves behind.
+// The answer of both tables, which the function drops.
 fn compare_and_drop(stored: StencilTable, own: StencilTable) -> Result<Reply, FarFault>
     ensures { IsAnswerOf (compared stored own) result }
 {
