@@ -8,3 +8,4 @@ pub mod RuleOrderLemmas
 pub mod SameWeightLemmas
 pub mod TermOrderLemmas
 pub mod MaskValueLemmas
+pub mod TagLemmas

@@ -22,7 +22,7 @@ proper-lowest a b above below =
     and_from _ _ (lt-ltb 0 least.0 (lowest-positive a b above))
     (and_from _ _ (lt-ltb least.0 (10 * least.1) (lowest-below 10 a b below)) (eq-eqb (gcd_of least.0 least.1) 1 one))
 
-proper-of : (num den : ℕ) → is_proper_sharpness (sharpness_of num den) ≡ true
+pub proper-of : (num den : ℕ) → is_proper_sharpness (sharpness_of num den) ≡ true
 proper-of zero den = refl
 proper-of (suc num) den =
     cond_both (nat_le (10 * den) (suc num)) Infinite (semi_of (lowest (suc num, den))) (λ s. is_proper_sharpness s ≡ true) (λ _. refl)

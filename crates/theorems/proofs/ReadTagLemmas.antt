@@ -1,84 +1,15 @@
 -- The tags of each text have well formed sharpnesses, and the common denominators of each text are above 0.
-use Rattle.std.proofs.Common.{◌≡◌, ℕ, zero, suc, ◌*◌, ◌^◌, ◌<◌, Bool, true, nat_eq, nat_le, List, [], ◌∷◌, map, zip, length, get_or, replicate, arith, lit<, refl, ◌∙◌}
-use Rattle.std.specs.Prelude.{codes}
-use Rattle.std.specs.List.{list_all, filter, flat_map}
-use Rattle.std.proofs.lemmas.Bool.{and_from, and_parts, cond_both, leb-false, lt-ltb, eq-eqb}
-use Rattle.std.proofs.lemmas.List.Folds.{list_all-append}
-use Rattle.std.proofs.lemmas.Nat.Gcd.{same_from_IsGcd}
-use Rattle.subdiv_model.specs.Fractions.{gcd_of, lowest}
-use Rattle.subdiv_model.specs.Sharpness.{Sharpness, Smooth, Infinite, is_proper_sharpness, semi_of, sharpness_of, sharpness_of_fraction}
-use Rattle.subdiv_model.specs.Numeral.{numeral_amount}
+use Rattle.std.proofs.Common.{ℕ, ◌^◌, ◌<◌, List, lit<}
+use Rattle.std.specs.List.{filter, flat_map}
 use Rattle.subdiv_model.specs.ObjLine.{is_vertex_line}
-use Rattle.subdiv_model.specs.ObjTag.{tag_indices, tag_numerals, tag_sharpnesses, for_each, chain_pairs, tag_creases, tag_corners}
-use Rattle.subdiv_model.specs.ReadObj.{is_texture_line, kept_coordinates, obj_lines, tags_named, read_obj_mesh}
-use Rattle.number_laws.proofs.FractionLemmas.{gcd_of-is}
-use Rattle.number_laws.proofs.DivisorLemmas.{lowest-coprime, lowest-positive, lowest-below}
+use Rattle.subdiv_model.specs.ReadObj.{is_texture_line, kept_coordinates, obj_lines, read_obj_mesh}
 use Rattle.obj_laws.proofs.NumeralValueLemmas.{tens}
 use Rattle.text_laws.proofs.PointLemmas.{common-positive}
+use Rattle.sharpness_laws.proofs.TagLemmas.{creases-proper, corners-proper}
 use Rattle.mask_laws.specs.Laws.{HasProperTags}
 
--- the sharpness of any fraction is well formed
-proper-lowest : (a b : ℕ) → 0 < a → a < 10 * b → is_proper_sharpness (semi_of (lowest (a, b))) ≡ true
-proper-lowest a b above below =
-    let least = lowest (a, b) in
-    let one : gcd_of least.0 least.1 ≡ 1 =
-    same_from_IsGcd least.0 least.1 _ 1 (gcd_of-is least.0 least.1) (lowest-coprime a b (omega arith)) in
-    and_from _ _ (lt-ltb 0 least.0 (lowest-positive a b above))
-    (and_from _ _ (lt-ltb least.0 (10 * least.1) (lowest-below 10 a b below)) (eq-eqb (gcd_of least.0 least.1) 1 one))
-
-proper-of : (num den : ℕ) → is_proper_sharpness (sharpness_of num den) ≡ true
-proper-of zero den = refl
-proper-of (suc num) den =
-    cond_both (nat_le (10 * den) (suc num)) Infinite (semi_of (lowest (suc num, den))) (λ s. is_proper_sharpness s ≡ true) (λ _. refl)
-    (λ below. proper-lowest (suc num) den (omega arith) (leb-false _ _ below))
-
--- so are those of a tag
-proper-numerals : (words : List (List ℕ)) → list_all is_proper_sharpness (map (λ word. sharpness_of_fraction (numeral_amount word)) words) ≡ true
-proper-numerals [] = refl
-proper-numerals (word ∷ words) = and_from _ _ (proper-of (numeral_amount word).0 (numeral_amount word).1) (proper-numerals words)
-
-proper-replicate : (n : ℕ) (s : Sharpness) → is_proper_sharpness s ≡ true → list_all is_proper_sharpness (replicate n s) ≡ true
-proper-replicate zero s h = refl
-proper-replicate (suc n) s h = and_from _ _ h (proper-replicate n s h)
-
-proper-first : (ss : List Sharpness) → list_all is_proper_sharpness ss ≡ true → is_proper_sharpness (get_or ss 0 Smooth) ≡ true
-proper-first [] h = refl
-proper-first (s ∷ ss) h = (and_parts (is_proper_sharpness s) (list_all is_proper_sharpness ss) h).0
-
-proper-each : (count : ℕ) (ss : List Sharpness) → list_all is_proper_sharpness ss ≡ true → list_all is_proper_sharpness (for_each count ss) ≡ true
-proper-each count ss h =
-    cond_both (nat_eq (length ss) 1) (replicate count (get_or ss 0 Smooth)) ss (λ xs. list_all is_proper_sharpness xs ≡ true)
-    (λ _. proper-replicate count (get_or ss 0 Smooth) (proper-first ss h)) (λ _. h)
-
-proper-zip : {X : Type 0} (xs : List X) (ss : List Sharpness) → list_all is_proper_sharpness ss ≡ true
-    → list_all (λ (tag : X × Sharpness). is_proper_sharpness tag.1) (zip xs ss) ≡ true
-proper-zip [] ss h = refl
-proper-zip (x ∷ xs) [] h = refl
-proper-zip (x ∷ xs) (s ∷ ss) h =
-    let parts = and_parts (is_proper_sharpness s) (list_all is_proper_sharpness ss) h in and_from _ _ parts.0 (proper-zip xs ss parts.1)
-
-proper-creases : (words : List (List ℕ)) → list_all (λ crease. is_proper_sharpness crease.1) (tag_creases words) ≡ true
-proper-creases words =
-    let pairs = chain_pairs (tag_indices words) in
-    proper-zip pairs (for_each (length pairs) (tag_sharpnesses words)) (proper-each (length pairs) (tag_sharpnesses words) (proper-numerals (tag_numerals words)))
-
-proper-corners : (words : List (List ℕ)) → list_all (λ tag. is_proper_sharpness tag.1) (tag_corners words) ≡ true
-proper-corners words =
-    let vertices = tag_indices words in
-    proper-zip vertices (for_each (length vertices) (tag_sharpnesses words))
-    (proper-each (length vertices) (tag_sharpnesses words) (proper-numerals (tag_numerals words)))
-
--- what holds of all that is made of each holds of all
-all-made : {X Y : Type 0} (test : Y → Bool) (make : X → List Y) → ((x : X) → list_all test (make x) ≡ true) → (xs : List X)
-    → list_all test (flat_map make xs) ≡ true
-all-made test make each [] = refl
-all-made test make each (x ∷ xs) = list_all-append test (make x) (flat_map make xs) ∙ and_from _ _ (each x) (all-made test make each xs)
-
 pub read-proper : (text : List ℕ) (least : ℕ) → HasProperTags (read_obj_mesh text least)
-read-proper text least = record {
-  creases = all-made (λ crease. is_proper_sharpness crease.1) tag_creases proper-creases (tags_named (codes "crease") (obj_lines text));
-  corner_tags = all-made (λ tag. is_proper_sharpness tag.1) tag_corners proper-corners (tags_named (codes "corner") (obj_lines text));
-}
+read-proper text least = record { creases = creases-proper (obj_lines text); corner_tags = corners-proper (obj_lines text) }
 
 pub read-common : (text : List ℕ) (least : ℕ) → 0 < (read_obj_mesh text least).common
 read-common text least = common-positive (10 ^ least) (flat_map kept_coordinates (filter is_vertex_line (obj_lines text))) (tens least)
