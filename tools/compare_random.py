@@ -6,9 +6,10 @@ refined cube with a few changes; they are refined to depth 1 at most. Meshes are
 many with texture; they are refined, by tables and level by level, or have their levels counted or their tables
 written, to depth 3 at most. Each of them has its sparse levels written too, to depth 4 at most, its limit points, and
 the patch of a face, mostly of one that has a patch. Sheets are made by the program itself. Inputs with moves are those
-of `tools/random_frames.py`, and inputs with a stored table those of `tools/random_tables.py`. Other meshes, which have no fault, have the points of their sparse levels compared with
-those that the program itself writes of whole levels, by `tools/sparse_points.py`. In other meshes nothing is
-semi-sharp. They have their limit points compared with the reference, and those of level 1 with those of level 3, by
+of `tools/random_frames.py`, and inputs with a stored table those of `tools/random_tables.py`. Two inputs with a table
+are cut after each of their bytes, the same two for every seed. Other meshes, which have no fault, have the points of
+their sparse levels compared with those that the program itself writes of whole levels, by `tools/sparse_points.py`. In
+other meshes nothing is semi-sharp. They have their limit points compared with the reference, and those of level 1 with those of level 3, by
 `tools/limit_points.py`. Faces of other meshes have their patches compared with limit points and with the patches of
 their children, by `tools/patch_laws.py`. More meshes are refined from a text of the program and at once, by
 `tools/continued_refinement.py`. The options are random too. The same seed makes the same words and texts. A text on
@@ -38,7 +39,7 @@ from patch_laws import drawn_faces, patches_agree
 from patch_reference import patched_levels
 from random_frames import Frames
 from random_meshes import Meshes
-from random_tables import Tables
+from random_tables import Tables, cut_inputs
 from run_reference import Refusal
 from sparse_points import points_agree
 
@@ -393,6 +394,7 @@ def kinds_of_runs(arguments, lasting_texts):
     checked = (tables.mesh_with_table() for _ in range(arguments.tables))
     yield "meshes with their tables", ((["verify", f"depth={depth}"], data) for depth, data in checked)
     yield "tables with points", ((["apply"], tables.table_with_points()) for _ in range(arguments.tables))
+    yield "cut tables", cut_inputs()
 
 
 def compared_with_itself(arguments, lasting_texts):
