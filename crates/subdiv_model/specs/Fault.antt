@@ -56,6 +56,10 @@ pub data PlaceFault : Type 0 where
   NoFace : ℕ → PlaceFault
   -- the face has no patch
   NotRegular : ℕ → PlaceFault
+  -- the face has so many corners, and no place with the corner that is asked for
+  NoCorner : ℕ → PlaceFault
+  -- the face is a hole
+  IsHole : ℕ → PlaceFault
 
 pub data Fault : Type 0 where
   -- the words are no command; the place of the first bad one, from 0, or the number of words
@@ -122,6 +126,8 @@ track_text Patch = codes "patch"
 abbrev pub place_fault_text : PlaceFault → List ℕ
 place_fault_text (NoFace count) = codes "there are " ++ (number_text count ++ codes " faces")
 place_fault_text (NotRegular face) = codes "face " ++ (number_text face ++ codes " is not a regular inner face")
+place_fault_text (NoCorner size) = codes "the face has " ++ (number_text size ++ codes " corners")
+place_fault_text (IsHole face) = codes "face " ++ (number_text face ++ codes " is a hole")
 
 abbrev pub table_cause_text : TableCause → List ℕ
 table_cause_text Form = codes "table form"

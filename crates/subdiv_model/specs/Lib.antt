@@ -45,6 +45,8 @@ pub mod Feature
 pub mod Sparse
 pub mod SparseFaults
 pub mod SparseText
+pub mod SparseTexture
+pub mod Leaf
 pub mod Limit
 pub mod ExampleLimits
 pub mod Patch

@@ -1,7 +1,7 @@
 -- Sparse levels: the faces of the uniform levels that are present where some faces are selected to be refined.
 -- Source: OpenSubdiv's Vtr layer for sparse refinement; which faces are present is this profile's.
-use Rattle.std.specs.Prelude.{ℕ, zero, suc, Bool, not, ◌&&◌, nat_eq, List, [], get_or, length, map, replicate}
-use Rattle.std.specs.List.{filter, flat_map, list_any, list_all, range_with_len, enumerate_from}
+use Rattle.std.specs.Prelude.{ℕ, zero, suc, ◌+◌, Bool, not, ◌&&◌, nat_eq, List, [], get_or, length, map, replicate, take}
+use Rattle.std.specs.List.{filter, flat_map, list_any, list_all, sum_by, range_with_len, enumerate_from}
 use Rattle.subdiv_model.specs.Lists.{places, each_once_by}
 use Rattle.subdiv_model.specs.Polygons.{Polygon, polygon_at, is_among, has_corner}
 use Rattle.subdiv_model.specs.Level.{Level, is_hole, faces_at}
@@ -18,6 +18,10 @@ meets meeting depth face = is_among (get_or meeting depth []) face
 -- the vertices of all corners, face by face; the child faces of a level are numbered as its corners are
 abbrev pub corners_of : List Polygon → List ℕ
 corners_of polygons = flat_map (λ polygon. polygon) polygons
+
+-- the number in the next level of the child face of a corner, which is given as a face and a place in it
+abbrev pub child_number : List Polygon → ℕ × ℕ → ℕ
+child_number polygons place = sum_by length (take place.0 polygons) + place.1
 
 -- the face of each corner
 abbrev pub parents_of : List Polygon → List ℕ
