@@ -20,10 +20,12 @@ use Rattle.subdiv_model.specs.Feature.{FaceFacts, is_feature, is_selectable}
 use Rattle.subdiv_model.specs.Sparse.{Meeting, meeting_to}
 use Rattle.subdiv_model.specs.SparseFaults.{sparse_faults}
 use Rattle.subdiv_model.specs.SparseText.{sparse_text}
+use Rattle.subdiv_model.specs.SparseTexture.{SparseTrack, selected_to, textured_sparse_text}
+use Rattle.subdiv_model.specs.Leaf.{Location, base_location, grid_pairs, leaf_line, leaf_of, location_faults}
 use Rattle.subdiv_model.specs.Limit.{limit_faults, limit_points}
 use Rattle.subdiv_model.specs.Patch.{patch_faults, patch_text}
 use Rattle.subdiv_model.specs.Generator.{generated_mesh}
-use Rattle.far_model.specs.Command.{Command, Reads, Stored, Makes, Streams, StoredCommand, Verify, Apply, ReadCommand, Refine, Sparse, Stencils, Limit, Levels, Patch, MakeCommand, Gen, StreamCommand, Frames, RefineOptions, SparseOptions, LimitOptions, PatchOptions, FramesOptions, Select, FeatureFaces, AllFaces, Uv, SmoothUv, CornersUv, BoundariesUv, LinearUv, By, ByTable, ByLevel, read_words}
+use Rattle.far_model.specs.Command.{Command, Reads, Stored, Makes, Streams, StoredCommand, Verify, Apply, ReadCommand, Refine, Sparse, Stencils, Limit, Levels, Patch, Map, MakeCommand, Gen, StreamCommand, Frames, RefineOptions, SparseOptions, LimitOptions, PatchOptions, MapOptions, FramesOptions, Select, FeatureFaces, AllFaces, Uv, SmoothUv, CornersUv, BoundariesUv, LinearUv, By, ByTable, ByLevel, read_words}
 use Rattle.subdiv_model.specs.Limits.{count_faults, level_count_faults}
 use Rattle.subdiv_model.specs.Fault.{Fault, Usage, Long, Obj, Mesh, Positions, Texture}
 use Rattle.far_model.specs.Refusal.{Answer, refused, answer_unless}
@@ -91,12 +93,35 @@ abbrev pub test_of : Select → FaceFacts → Bool
 test_of FeatureFaces = is_feature
 test_of AllFaces = is_selectable
 
-abbrev pub meeting_for : SparseOptions → ObjMesh → Meeting
-meeting_for options mesh = meeting_to (test_of options.select) (base_level mesh) options.depth
+abbrev pub meeting_by : Select → ℕ → ObjMesh → Meeting
+meeting_by select depth mesh = meeting_to (test_of select) (base_level mesh) depth
 
--- the faults of the sparse levels
+abbrev pub meeting_for : SparseOptions → ObjMesh → Meeting
+meeting_for options mesh = meeting_by options.select options.depth mesh
+
+-- how the texture of the sparse levels is refined, where they have any: the mesh has texture, and it is asked for
+abbrev pub sparse_uv : SparseOptions → ObjMesh → Option Uv
+sparse_uv options mesh = if mesh.has_texture then options.uv else None
+
+-- the predicate of the texture: at each level the faces that are selected of the mesh
+abbrev pub texture_meeting : SparseOptions → ObjMesh → Meeting
+texture_meeting options mesh = selected_to (base_level mesh) (meeting_for options mesh) options.depth
+
+-- the faults of the sparse levels of the positions, and then of the texture
+abbrev pub sparse_texture_faults : SparseOptions → ObjMesh → Option Uv → List Fault
+sparse_texture_faults options mesh None = []
+sparse_texture_faults options mesh (Some uv) = sparse_faults Tables (texture_of mesh uv) (texture_meeting options mesh) Texture options.depth
+
 abbrev pub sparse_mesh_faults : SparseOptions → ObjMesh → List Fault
-sparse_mesh_faults options mesh = sparse_faults Tables (positions_of mesh) (meeting_for options mesh) Positions options.depth
+sparse_mesh_faults options mesh =
+    sparse_faults Tables (positions_of mesh) (meeting_for options mesh) Positions options.depth
+    ++ sparse_texture_faults options mesh (sparse_uv options mesh)
+
+-- the faults of the sparse levels, as far as their faces and their sharpness go, and of the face whose places are asked for
+abbrev pub map_mesh_faults : MapOptions → ObjMesh → List Fault
+map_mesh_faults options mesh =
+    sparse_faults Sharpnesses (positions_of mesh) (meeting_by options.select options.depth mesh) Positions options.depth
+    ++ location_faults (base_level mesh) options.face options.corner
 
 -- the faults of a table of the positions
 abbrev pub table_faults : ℕ → ObjMesh → List Fault
@@ -118,6 +143,7 @@ command_faults (Stencils depth) mesh = table_faults depth mesh
 command_faults (Limit options) mesh = limit_mesh_faults options mesh
 command_faults (Levels depth) mesh = level_count_faults mesh.faces depth ++ channel_faults Sharpnesses (positions_of mesh) Positions depth
 command_faults (Patch options) mesh = patch_mesh_faults options mesh
+command_faults (Map options) mesh = map_mesh_faults options mesh
 
 -- the mesh that a command makes, and the faults that it has with it
 abbrev pub made_mesh : MakeCommand → ObjMesh
@@ -152,6 +178,27 @@ limit_mesh_text options mesh =
 abbrev pub patch_mesh_text : PatchOptions → ObjMesh → List ℕ
 patch_mesh_text options mesh = patch_text (base_level mesh) options.face options.grid mesh.common mesh.points options.depth
 
+-- the sparse levels of the positions, and of the texture where there is any
+abbrev pub sparse_positions : SparseOptions → ObjMesh → SparseTrack Point
+sparse_positions options mesh = record { base = base_level mesh; meeting = meeting_for options mesh; values = points_after mesh }
+
+abbrev pub sparse_texture : SparseOptions → ObjMesh → Uv → SparseTrack (Value × Value)
+sparse_texture options mesh uv =
+    record { base = cut_level (seams_of uv) mesh; meeting = texture_meeting options mesh; values = texture_after mesh uv }
+
+abbrev pub sparse_mesh_text : SparseOptions → ObjMesh → Option Uv → List ℕ
+sparse_mesh_text options mesh None = sparse_text options.decimals (points_after mesh) (base_level mesh) (meeting_for options mesh) options.depth
+sparse_mesh_text options mesh (Some uv) =
+    textured_sparse_text options.decimals (sparse_positions options mesh) (sparse_texture options mesh uv) options.depth
+
+-- the leaf of each pair of the grid on a face
+abbrev pub map_leaf : MapOptions → ObjMesh → ℕ × ℕ → Location
+map_leaf options mesh pair =
+    leaf_of options.grid options.depth (base_level mesh) (meeting_by options.select options.depth mesh) (base_location options.face options.corner pair)
+
+abbrev pub map_mesh_text : MapOptions → ObjMesh → List ℕ
+map_mesh_text options mesh = flat_map (λ pair. leaf_line options.grid pair (map_leaf options mesh pair)) (grid_pairs options.grid)
+
 -- the tags of a level, where they are asked for
 abbrev pub written_tags : Bool → Level → List ℕ
 written_tags tags level = if tags then tags_text level else []
@@ -185,11 +232,12 @@ generated_text mesh depth =
 -- what a command writes of an accepted mesh without faults
 abbrev pub command_text : ReadCommand → ObjMesh → List ℕ
 command_text (Refine options) mesh = refined_mesh_text options mesh ++ written_tags options.tags (refined_level (base_level mesh) options.depth)
-command_text (Sparse options) mesh = sparse_text options.decimals (points_after mesh) (base_level mesh) (meeting_for options mesh) options.depth
+command_text (Sparse options) mesh = sparse_mesh_text options mesh (sparse_uv options mesh)
 command_text (Stencils depth) mesh = table_text (base_level mesh) CatmullClark depth
 command_text (Limit options) mesh = limit_mesh_text options mesh
 command_text (Levels depth) mesh = levels_text (base_level mesh) depth
 command_text (Patch options) mesh = patch_mesh_text options mesh
+command_text (Map options) mesh = map_mesh_text options mesh
 
 abbrev pub made_text : MakeCommand → List ℕ
 made_text (Gen options) = generated_text (generated_mesh options.seed options.size) options.depth

@@ -36,6 +36,8 @@ pub record SparseOptions : Type 0 where
   pub select : Select
   -- rounded to so many decimals, or else in lowest terms
   pub decimals : Option ℕ
+  -- with texture, and how it is cut and refined
+  pub uv : Option Uv
 
 -- what `limit` is asked for
 pub record LimitOptions : Type 0 where
@@ -48,6 +50,15 @@ pub record PatchOptions : Type 0 where
   pub depth : ℕ
   pub face : ℕ
   pub grid : ℕ
+
+-- what `map` is asked for: the depth, a face of the mesh, how many steps its grid has along a side, which corner's child the places lie on where
+-- the face is no quad, and which faces are refined further
+pub record MapOptions : Type 0 where
+  pub depth : ℕ
+  pub face : ℕ
+  pub grid : ℕ
+  pub corner : ℕ
+  pub select : Select
 
 -- what `gen` is asked for: the sheet, and the depth
 pub record GenOptions : Type 0 where
@@ -70,6 +81,7 @@ pub data ReadCommand : Type 0 where
   -- the depth
   Levels : ℕ → ReadCommand
   Patch : PatchOptions → ReadCommand
+  Map : MapOptions → ReadCommand
 
 -- the commands that make their mesh, and read nothing
 pub data MakeCommand : Type 0 where
@@ -118,11 +130,15 @@ refine_of options = record {
 abbrev pub select_of : List ℕ → Select
 select_of value = if bytes_eq value (codes "all") then AllFaces else FeatureFaces
 
+abbrev pub sparse_uv_of : List ℕ → Option Uv
+sparse_uv_of value = if bytes_eq value (codes "none") then None else Some (uv_of value)
+
 abbrev pub sparse_of : List (List ℕ) → SparseOptions
 sparse_of options = record {
   depth = required_number options (codes "depth");
   select = select_of (unwrap_or (value_of options (codes "select")) (codes "feature"));
   decimals = number_of options (codes "decimals");
+  uv = sparse_uv_of (unwrap_or (value_of options (codes "uv")) (codes "none"));
 }
 
 abbrev pub limit_of : List (List ℕ) → LimitOptions
@@ -133,6 +149,15 @@ patch_of options = record {
   depth = required_number options (codes "depth");
   face = required_number options (codes "face");
   grid = required_number options (codes "grid");
+}
+
+abbrev pub map_of : List (List ℕ) → MapOptions
+map_of options = record {
+  depth = required_number options (codes "depth");
+  face = required_number options (codes "face");
+  grid = required_number options (codes "grid");
+  corner = required_number options (codes "corner");
+  select = select_of (unwrap_or (value_of options (codes "select")) (codes "feature"));
 }
 
 abbrev pub gen_of : List (List ℕ) → GenOptions
@@ -155,6 +180,7 @@ command_named name options =
     else if bytes_eq name (codes "frames") then Streams (Frames (frames_of options))
     else if bytes_eq name (codes "levels") then Reads (Levels (required_number options (codes "depth")))
     else if bytes_eq name (codes "patch") then Reads (Patch (patch_of options))
+    else if bytes_eq name (codes "map") then Reads (Map (map_of options))
     else if bytes_eq name (codes "verify") then Stored (Verify (required_number options (codes "depth")))
     else if bytes_eq name (codes "apply") then Stored Apply
     else Makes (Gen (gen_of options))
@@ -175,7 +201,8 @@ abbrev pub read_words : List (List ℕ) → Result Command ℕ
 read_words words = read_words_by command_table words
 
 -- the numbers of a command are those that the table of words allows: a depth of at most 10 (of limit points, at least 1), at most 18
--- decimals, a face below 2^22, a grid from 1 to 64, a size from 1 to 256, and a scale of at most 18
+-- decimals, a face below 2^22 or of a mesh below 2^20, a grid from 1 to 64 or of a map to 256, a corner below 2^16, a size from 1 to 256,
+-- and a scale of at most 18
 abbrev pub IsReadInRange : ReadCommand → Type 0
 IsReadInRange (Refine options) = (options.depth ≤ 10) × IfSome options.decimals (λ digits. digits ≤ 18)
 IsReadInRange (Sparse options) = (options.depth ≤ 10) × IfSome options.decimals (λ digits. digits ≤ 18)
@@ -183,6 +210,8 @@ IsReadInRange (Stencils depth) = depth ≤ 10
 IsReadInRange (Limit options) = (1 ≤ options.depth) × (options.depth ≤ 10) × IfSome options.decimals (λ digits. digits ≤ 18)
 IsReadInRange (Levels depth) = depth ≤ 10
 IsReadInRange (Patch options) = (options.depth ≤ 10) × (options.face < 2 ^ 22) × (1 ≤ options.grid) × (options.grid ≤ 64)
+IsReadInRange (Map options) =
+    (options.depth ≤ 10) × (options.face < 2 ^ 20) × (1 ≤ options.grid) × (options.grid ≤ 256) × (options.corner < 2 ^ 16)
 
 abbrev pub IsStoredInRange : StoredCommand → Type 0
 IsStoredInRange (Verify depth) = depth ≤ 10

@@ -1,14 +1,21 @@
 -- What the examples of command lines and answers compute.
 use Rattle.std.specs.Prelude.{ℕ, ◌+◌, pos, Bool, false, nat_eq, nat_lt, List, [], ◌∷◌, ◌++◌, length, get_or, Some, None, codes, if◌then◌else◌}
-use Rattle.subdiv_model.specs.ExampleTexts.{seamed_text}
+use Rattle.std.specs.List.{flat_map}
+use Rattle.subdiv_model.specs.Base.{base_level}
+use Rattle.subdiv_model.specs.Cut.{SmoothSeams, cut_level}
+use Rattle.subdiv_model.specs.ExampleTexts.{cube_text, seamed_text}
 use Rattle.subdiv_model.specs.Fault.{Obj}
 use Rattle.subdiv_model.specs.NumberText.{number_text}
 use Rattle.subdiv_model.specs.ObjFault.{UnknownKeyword, LongLine}
+use Rattle.subdiv_model.specs.Leaf.{leaf_line}
+use Rattle.subdiv_model.specs.ObjMesh.{ObjMesh}
 use Rattle.subdiv_model.specs.ReadObj.{read_obj_mesh}
+use Rattle.subdiv_model.specs.SparseText.{WrittenLevel, written_level}
+use Rattle.subdiv_model.specs.SparseTexture.{textured_level_line, textured_sparse_line}
 use Rattle.subdiv_model.specs.Text.{texture_line}
 use Rattle.subdiv_model.specs.Value.{whole_value}
-use Rattle.far_model.specs.Answer.{texture_after}
-use Rattle.far_model.specs.Command.{uv_of}
+use Rattle.far_model.specs.Answer.{map_leaf, meeting_for, texture_after, texture_meeting}
+use Rattle.far_model.specs.Command.{FeatureFaces, Select, SmoothUv, SparseOptions, uv_of}
 use Rattle.far_model.specs.Refusal.{refused, answer_unless}
 use Rattle.far_model.specs.Stream.{LineRule}
 use Rattle.far_model.specs.Words.{option_value}
@@ -36,3 +43,32 @@ echo_rule = record {
 -- a sheet of three by three quads, at the squares of their places in a row
 abbrev pub curved_sheet_text : List ℕ
 curved_sheet_text = codes "v 0 0 0\nv 1 0 1\nv 2 0 4\nv 3 0 9\nv 0 1 0\nv 1 1 1\nv 2 1 4\nv 3 1 9\nv 0 2 0\nv 1 2 1\nv 2 2 4\nv 3 2 9\nv 0 3 0\nv 1 3 1\nv 2 3 4\nv 3 3 9\nf 1 2 6 5\nf 2 3 7 6\nf 3 4 8 7\nf 5 6 10 9\nf 6 7 11 10\nf 7 8 12 11\nf 9 10 14 13\nf 10 11 15 14\nf 11 12 16 15\n"
+
+-- three quads in a row whose texture is cut between the first and the second, with sharp corners and a crease
+abbrev pub seamed_strip_text : List ℕ
+seamed_strip_text = codes "v 0 0 0\nv 1 0 0\nv 2 0 0\nv 3 0 0\nv 0 1 0\nv 1 1 0\nv 2 1 0\nv 3 1 0\nvt 0 0\nvt 1 0\nvt 2 0\nvt 3 0\nvt 4 0\nvt 5 0\nvt 6 0\nvt 7 0\nvt 8 0\nvt 9 0\nf 1/1 2/2 6/3 5/4\nf 2/5 3/6 7/7 6/8\nf 3/6 4/9 8/10 7/7\nt interpolateboundary 1/0/0 1\nt crease 2/1/0 2 6 2\n"
+
+-- what `sparse` is asked for, with smooth texture and depth 1
+abbrev pub textured_options : Select → SparseOptions
+textured_options select = record { depth = 1; select = select; decimals = None; uv = Some SmoothUv }
+
+-- a level of the texture of a text, as it is written
+abbrev pub texture_level : Select → ObjMesh → ℕ → WrittenLevel
+texture_level select mesh k = written_level (cut_level SmoothSeams mesh) (texture_meeting (textured_options select) mesh) k
+
+-- the line with the counts of a level
+abbrev pub level_head : Select → List ℕ → ℕ → List ℕ
+level_head select text k =
+    let mesh = read_obj_mesh text 0 in
+    textured_level_line k (written_level (base_level mesh) (meeting_for (textured_options select) mesh) k) (texture_level select mesh k)
+
+-- the lines of the faces of a level
+abbrev pub level_faces : Select → List ℕ → ℕ → List ℕ
+level_faces select text k =
+    let mesh = read_obj_mesh text 0 in
+    flat_map (textured_sparse_line (texture_level select mesh k)) (written_level (base_level mesh) (meeting_for (textured_options select) mesh) k).faces
+
+-- the line of `map` for a pair on face 0 of the cube, to a depth and on a grid
+abbrev pub cube_leaf : ℕ → ℕ → ℕ × ℕ → List ℕ
+cube_leaf depth grid pair =
+    leaf_line grid pair (map_leaf (record { depth = depth; face = 0; grid = grid; corner = 0; select = FeatureFaces }) (read_obj_mesh cube_text 0) pair)

@@ -42,12 +42,12 @@ path_names = codes "table" ∷ codes "level" ∷ []
 abbrev pub tags_names : List (List ℕ)
 tags_names = codes "no" ∷ codes "yes" ∷ []
 
--- the names that say which faces are refined further, and that sparse levels have no texture
+-- the names that say which faces are refined further, and whether sparse levels have texture, and how it is refined
 abbrev pub select_names : List (List ℕ)
 select_names = codes "feature" ∷ codes "all" ∷ []
 
 abbrev pub sparse_texture_names : List (List ℕ)
-sparse_texture_names = codes "none" ∷ []
+sparse_texture_names = codes "none" ∷ texture_names
 
 -- the commands and their options
 abbrev pub command_table : List CommandRule
@@ -59,6 +59,7 @@ command_table =
     ∷ record { name = codes "frames"; options = required_option (codes "depth") 0 10 ∷ number_option (codes "scale") 0 18 ∷ [] }
     ∷ record { name = codes "levels"; options = required_option (codes "depth") 0 10 ∷ [] }
     ∷ record { name = codes "patch"; options = required_option (codes "depth") 0 10 ∷ required_option (codes "face") 0 4194303 ∷ required_option (codes "grid") 1 64 ∷ [] }
+    ∷ record { name = codes "map"; options = required_option (codes "depth") 0 10 ∷ required_option (codes "face") 0 1048575 ∷ required_option (codes "grid") 1 256 ∷ number_option (codes "corner") 0 65535 ∷ name_option (codes "select") select_names ∷ [] }
     ∷ record { name = codes "verify"; options = required_option (codes "depth") 0 10 ∷ [] }
     ∷ record { name = codes "apply"; options = [] }
     ∷ record { name = codes "gen"; options = required_option (codes "seed") 0 4294967295 ∷ required_option (codes "size") 1 256 ∷ required_option (codes "depth") 0 10 ∷ [] }

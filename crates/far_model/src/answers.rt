@@ -7,11 +7,11 @@ ghost use Rattle.std.specs.Prelude.{◌≡◌, List, [], ◌∷◌, ◌++◌, ma
 ghost use Rattle.subdiv_model.specs.Limits.{count_faults, level_count_faults};
 ghost use Rattle.far_model.specs.Answer.{answer, answer_of_made, answer_of_mesh, made_mesh};
 ghost use Rattle.subdiv_model.specs.Base.{base_level};
-ghost use Rattle.far_model.specs.Examples.{curved_sheet_text, first_texture};
+ghost use Rattle.far_model.specs.Examples.{cube_leaf, curved_sheet_text, first_texture, level_faces, level_head, seamed_strip_text};
 ghost use Rattle.subdiv_model.specs.ExampleTexts.{corner_cube_refined_text, cube_text, hidden_square_refined_text, refined_square_points_text, refined_square_text, seamed_text, sharp_square_refined_text, sheet_summary_text, square_text, tagged_cube_text};
-ghost use Rattle.far_model.specs.Command.{MakeCommand, ReadCommand};
+ghost use Rattle.far_model.specs.Command.{AllFaces, FeatureFaces, MakeCommand, ReadCommand};
 ghost use Rattle.subdiv_model.specs.Examples.{cube};
-ghost use Rattle.subdiv_model.specs.Fault.{ChaikinOverflow, Dart, Entries, Fault, FaceSize, LevelFaces, Limit, Long, Memory, Mesh, NoFace, NotRegular, Obj, Overflow, Place, Positions, Read, SemiSharp, Texture, TooLarge, TransitionOverflow, Usage, Valence, ValueOverflow, Write, fault_line, fault_status, outcome_status};
+ghost use Rattle.subdiv_model.specs.Fault.{ChaikinOverflow, Dart, Entries, Fault, FaceSize, IsHole, LevelFaces, Limit, Long, Memory, Mesh, NoCorner, NoFace, NotRegular, Obj, Overflow, Place, Positions, Read, SemiSharp, Texture, TooLarge, TransitionOverflow, Usage, Valence, ValueOverflow, Write, fault_line, fault_status, outcome_status};
 ghost use Rattle.subdiv_model.specs.Generator.{draws_from, generated_mesh, sheet_faces};
 ghost use Rattle.subdiv_model.specs.MeshFault.{NonManifoldEdge, RepeatedVertex, SplitVertex};
 ghost use Rattle.subdiv_model.specs.ObjFault.{BadTag, UnknownKeyword};
@@ -61,7 +61,33 @@ pub fn sparse_levels()
         ≡ record { text = codes "level 0 points 4 faces 1\nv 0 0 0\nv 4 0 0\nv 4 4 0\nv 0 4 0\nf l 0 1 2 3 4\nlevel 1 points 0 faces 0\n"; refusal = None } }
     ensures all { (answer (codes "sparse" ∷ codes "depth=1" ∷ codes "select=all" ∷ codes "uv=none" ∷ []) square_text).text
         ≡ codes "level 0 points 4 faces 1\nv 0 0 0\nv 4 0 0\nv 4 4 0\nv 0 4 0\nf s 0 1 2 3 4\nlevel 1 points 9 faces 4\nv 1/2 1/2 0\nv 2 0 0\nv 2 2 0\nv 0 2 0\nv 7/2 1/2 0\nv 4 2 0\nv 7/2 7/2 0\nv 2 4 0\nv 1/2 7/2 0\nf l 0 1 2 3 4\nf l 1 5 6 3 2\nf l 2 7 8 3 6\nf l 3 9 4 3 8\n" }
-    ensures words { (answer (codes "sparse" ∷ codes "depth=1" ∷ codes "uv=smooth" ∷ []) square_text).refusal ≡ Some (Usage 2) }
+    ensures untextured { answer (codes "sparse" ∷ codes "depth=0" ∷ codes "uv=smooth" ∷ []) square_text ≡ answer (codes "sparse" ∷ codes "depth=0" ∷ []) square_text }
+    ensures words { (answer (codes "sparse" ∷ codes "depth=1" ∷ codes "uv=no" ∷ []) square_text).refusal ≡ Some (Usage 2) }
+{}
+
+/// The texture of sparse levels: two quads that a seam parts, and three quads of which one has no texture corner at depth 1.
+pub fn texture_of_sparse_levels()
+    ensures seam { level_head AllFaces seamed_text 0 ++ level_head AllFaces seamed_text 1 ≡ codes "level 0 points 6 faces 2 texture 8\nlevel 1 points 15 faces 8 texture 18\n" }
+    ensures faces { level_faces AllFaces seamed_text 0 ≡ codes "f s 0 1/1 2/2 3/3 4/4\nf s 1 2/5 5/6 6/7 3/8\n" }
+    ensures strip { level_head FeatureFaces seamed_strip_text 0 ++ level_head FeatureFaces seamed_strip_text 1
+        ≡ codes "level 0 points 8 faces 3 texture 10\nlevel 1 points 18 faces 10 texture 15\n" }
+    ensures alone { take 28 (level_faces FeatureFaces seamed_strip_text 1) ≡ codes "f r 1 1 2 3 4\nf r 2 5 6 3 2\n" }
+    ensures text { take 35 (answer (codes "sparse" ∷ codes "depth=0" ∷ codes "uv=smooth" ∷ []) seamed_text).text ≡ codes "level 0 points 6 faces 2 texture 8\n" }
+{}
+
+/// The leaves of places on the cube, where each face is refined, and why a face has no places.
+pub fn leaves_of_a_cube()
+    ensures middle { cube_leaf 1 2 (1, 1) ≡ codes "p 1 1 level 1 face 0 corner 0 at 1 1\n" }
+    ensures beside { cube_leaf 1 2 (2, 0) ≡ codes "p 2 0 level 1 face 1 corner 0 at 0 0\n" }
+    ensures opposite { cube_leaf 1 2 (2, 2) ≡ codes "p 2 2 level 1 face 2 corner 0 at 0 0\n" }
+    ensures top { cube_leaf 1 2 (1, 2) ≡ codes "p 1 2 level 1 face 2 corner 0 at 1 0\n" }
+    ensures end { cube_leaf 1 2 (0, 2) ≡ codes "p 0 2 level 1 face 3 corner 0 at 0 0\n" }
+    ensures deeper { cube_leaf 2 4 (1, 1) ≡ codes "p 1 1 level 2 face 0 corner 0 at 1 1\n" }
+    ensures whole { (answer (codes "map" ∷ codes "depth=0" ∷ codes "face=0" ∷ codes "grid=1" ∷ []) square_text).text
+        ≡ codes "p 0 0 level 0 face 0 corner 0 at 0 0\np 1 0 level 0 face 0 corner 0 at 1 0\np 0 1 level 0 face 0 corner 0 at 0 1\np 1 1 level 0 face 0 corner 0 at 1 1\n" }
+    ensures past { (answer (codes "map" ∷ codes "depth=2" ∷ codes "face=6" ∷ codes "grid=4" ∷ []) cube_text).refusal ≡ Some (Place (NoFace 6)) }
+    ensures corner { (answer (codes "map" ∷ codes "depth=2" ∷ codes "face=0" ∷ codes "grid=4" ∷ codes "corner=1" ∷ []) cube_text).refusal ≡ Some (Place (NoCorner 4)) }
+    ensures hole { (answer (codes "map" ∷ codes "depth=2" ∷ codes "face=0" ∷ codes "grid=4" ∷ []) (cube_text ++ codes "t hole 1/0/0 0\n")).refusal ≡ Some (Place (IsHole 0)) }
 {}
 
 /// Limit points of the square, and points that have none.
