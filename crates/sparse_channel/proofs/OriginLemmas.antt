@@ -7,7 +7,7 @@ use Rattle.subdiv_model.specs.Polygons.{has_corner, is_among, polygon_at}
 use Rattle.subdiv_model.specs.Level.{Level}
 use Rattle.subdiv_model.specs.Child.{child_points}
 use Rattle.subdiv_model.specs.Mask.{Scheme, Mask, child_masks}
-use Rattle.subdiv_model.specs.Sparse.{is_on}
+use Rattle.subdiv_model.specs.Sparse.{child_number, is_on}
 use Rattle.number_laws.proofs.CountLemmas.{all-weaker}
 use Rattle.mesh_laws.proofs.FanLemmas.{any-number, number-any}
 use Rattle.mesh_laws.proofs.ChildCornerLemmas.{corner-place, corner-point, corner-self}
@@ -18,7 +18,7 @@ use Rattle.part_laws.proofs.TermLemmas.{all-true}
 use Rattle.part_laws.proofs.JoinLemmas.{corner-in, corner-of}
 use Rattle.part_laws.proofs.SelfLemmas.{among-at}
 use Rattle.part_laws.proofs.NameLemmas.{name-old}
-use Rattle.sparse_laws.specs.NextSparse.{child_number, vertex_at}
+use Rattle.sparse_laws.specs.NextSparse.{vertex_at}
 use Rattle.sparse_laws.specs.Laws.{Kept, AgreeingTest, chosen_by}
 use Rattle.sparse_laws.proofs.SelectedLemmas.{among-all}
 use Rattle.sparse_laws.proofs.CornerLemmas.{child, child-at-place}

@@ -6,7 +6,7 @@ use Rattle.subdiv_model.specs.Lists.{places}
 use Rattle.subdiv_model.specs.Polygons.{Polygon, has_corner, is_among, polygon_at}
 use Rattle.subdiv_model.specs.Edges.{edges_of, edge_number, faces_of_point}
 use Rattle.subdiv_model.specs.Child.{edge_point, child_polygons}
-use Rattle.subdiv_model.specs.Sparse.{corners_of, is_on}
+use Rattle.subdiv_model.specs.Sparse.{child_number, corners_of, is_on}
 use Rattle.mesh_laws.proofs.FanLemmas.{faces-among, number-any}
 use Rattle.mesh_laws.proofs.EdgeLemmas.{position-alike, any-alike}
 use Rattle.number_laws.proofs.CountLemmas.{all-weaker}
@@ -21,7 +21,7 @@ use Rattle.part_laws.proofs.JoinLemmas.{corner-named, corner-unnamed}
 use Rattle.part_laws.proofs.SelfLemmas.{among-at}
 use Rattle.part_laws.proofs.PlaceLemmas.{first_place, owner}
 use Rattle.part_laws.proofs.ChildLemmas.{IsNew, kind, child-part, child-places, next-whole}
-use Rattle.sparse_laws.specs.NextSparse.{vertex_at, vertices_of, has_all_faces, child_number}
+use Rattle.sparse_laws.specs.NextSparse.{vertex_at, vertices_of, has_all_faces}
 use Rattle.sparse_laws.proofs.SelectedLemmas.{among-all}
 use Rattle.sparse_laws.proofs.CornerLemmas.{HasChild, all-among, all-own, each-vertex, own-vertex, vertices-old, vertices-edge}
 use Rattle.sparse_laws.proofs.PresentLemmas.{Selection, present-at}

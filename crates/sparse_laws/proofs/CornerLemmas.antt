@@ -24,7 +24,8 @@ use Rattle.part_laws.proofs.SelfLemmas.{among-at}
 use Rattle.part_laws.proofs.PlaceLemmas.{child-of-face}
 use Rattle.part_laws.proofs.NameLemmas.{edge-there}
 use Rattle.part_laws.proofs.ChildLemmas.{IsNew}
-use Rattle.sparse_laws.specs.NextSparse.{vertex_at, vertices_of, child_number}
+use Rattle.subdiv_model.specs.Sparse.{child_number}
+use Rattle.sparse_laws.specs.NextSparse.{vertex_at, vertices_of}
 
 last-read : (s : ℕ × ℕ) (sides : List (ℕ × ℕ)) (d : ℕ × ℕ) → last_of s sides ≡ get_or (s ∷ sides) (length sides) d
 last-read s [] d = refl

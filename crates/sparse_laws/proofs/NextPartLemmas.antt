@@ -9,7 +9,7 @@ use Rattle.subdiv_model.specs.Lists.{places, each_once_by}
 use Rattle.subdiv_model.specs.Polygons.{Polygon, has_corner, is_among, is_over, polygon_at}
 use Rattle.subdiv_model.specs.Level.{Level}
 use Rattle.subdiv_model.specs.Child.{child_level}
-use Rattle.subdiv_model.specs.Sparse.{corners_of, is_on}
+use Rattle.subdiv_model.specs.Sparse.{child_number, corners_of, is_on}
 use Rattle.number_laws.proofs.CountLemmas.{all-weaker}
 use Rattle.mesh_laws.proofs.ClosedLemmas.{all-at}
 use Rattle.mesh_laws.proofs.ChildCornerLemmas.{corner-place, corner-point}
@@ -25,7 +25,7 @@ use Rattle.part_laws.proofs.PlaceLemmas.{owner-below}
 use Rattle.part_laws.proofs.ChildLemmas.{child-places}
 use Rattle.part_laws.proofs.NextLemmas.{next-part}
 use Rattle.sparse_laws.specs.SparseLevels.{name_in}
-use Rattle.sparse_laws.specs.NextSparse.{vertex_at, next_places, next_children, next_points, child_number, has_all_faces}
+use Rattle.sparse_laws.specs.NextSparse.{vertex_at, next_places, next_children, next_points, has_all_faces}
 use Rattle.sparse_laws.proofs.NameLemmas.{part-renamed}
 use Rattle.sparse_laws.proofs.NumberLemmas.{is_place}
 use Rattle.sparse_laws.proofs.CornerLemmas.{all-among, child-at-place}

@@ -10,7 +10,7 @@ use Rattle.std.proofs.lemmas.List.Sums.{list_all-from_AllPass}
 use Rattle.subdiv_model.specs.Polygons.{Polygon, has_corner, is_among, is_over, polygon_at}
 use Rattle.subdiv_model.specs.Level.{Level}
 use Rattle.subdiv_model.specs.Child.{child_polygons, refined_level}
-use Rattle.subdiv_model.specs.Sparse.{Meeting, inner, is_on, is_whole, present, present_points, selected}
+use Rattle.subdiv_model.specs.Sparse.{Meeting, child_number, inner, is_on, is_whole, present, present_points, selected}
 use Rattle.mesh_laws.proofs.FanLemmas.{any-number}
 use Rattle.mesh_laws.proofs.WalkLemmas.{range-all}
 use Rattle.mesh_laws.proofs.ChildPlaceLemmas.{all-of}
@@ -23,7 +23,7 @@ use Rattle.part_laws.proofs.PartLemmas.{as-many, as-range}
 use Rattle.part_laws.proofs.PlaceLemmas.{first_place}
 use Rattle.part_laws.proofs.ChildLemmas.{face-below}
 use Rattle.sparse_laws.specs.SparseLevels.{SparseLevel, IsSparse, name_in}
-use Rattle.sparse_laws.specs.NextSparse.{child_number, next_children, next_places, next_points, uniform_child}
+use Rattle.sparse_laws.specs.NextSparse.{next_children, next_places, next_points, uniform_child}
 use Rattle.sparse_laws.specs.Selected.{is_selected_in}
 use Rattle.sparse_laws.specs.Laws.{Kept, AgreeingTest, NextKept, chosen_by}
 use Rattle.sparse_laws.proofs.SelectedLemmas.{among-all, selected-same, complete-whole}

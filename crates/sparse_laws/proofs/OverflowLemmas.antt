@@ -10,7 +10,7 @@ use Rattle.subdiv_model.specs.Lists.{places, each_once_by}
 use Rattle.subdiv_model.specs.Polygons.{Polygon, has_corner, is_among, polygon_at}
 use Rattle.subdiv_model.specs.Child.{refined_level}
 use Rattle.subdiv_model.specs.Channel.{chaikin_overflows_at}
-use Rattle.subdiv_model.specs.Sparse.{corners_of, is_on}
+use Rattle.subdiv_model.specs.Sparse.{child_number, corners_of, is_on}
 use Rattle.subdiv_model.specs.SparseFaults.{points_with_child, present_faces}
 use Rattle.number_laws.proofs.ListLemmas.{any-flat_map}
 use Rattle.mesh_laws.proofs.FanLemmas.{any-number, number-any}
@@ -26,7 +26,7 @@ use Rattle.part_laws.proofs.SelfLemmas.{among-at}
 use Rattle.part_laws.proofs.PlaceLemmas.{among-range}
 use Rattle.part_laws.proofs.NameLemmas.{name-old, name-face, name-edge}
 use Rattle.part_laws.proofs.ChildLemmas.{IsNew, child-places, kind, name-below}
-use Rattle.sparse_laws.specs.NextSparse.{child_number, corner_places, next_places, next_points, vertex_at}
+use Rattle.sparse_laws.specs.NextSparse.{corner_places, next_places, next_points, vertex_at}
 use Rattle.sparse_laws.specs.Selected.{OverflowsOn}
 use Rattle.sparse_laws.specs.Laws.{Kept, AgreeingTest, chosen_by}
 use Rattle.sparse_laws.proofs.SelectedLemmas.{among-all}

@@ -1,12 +1,12 @@
 -- The next sparse level, as it is made of one: the child faces of the corners that lie on selected faces.
 -- Source: this profile.
-use Rattle.std.specs.Prelude.{ℕ, suc, ◌≡◌, ◌+◌, ◌-◌, ◌*◌, Bool, nat_eq, nat_lt, List, [], ◌∷◌, length, map, take, get_or, if◌then◌else◌, IsTrue}
-use Rattle.std.specs.List.{filter, flat_map, list_all, sum_by, range_with_len, enumerate_from}
+use Rattle.std.specs.Prelude.{ℕ, suc, ◌≡◌, ◌+◌, ◌-◌, ◌*◌, Bool, nat_eq, nat_lt, List, [], ◌∷◌, length, map, get_or, if◌then◌else◌, IsTrue}
+use Rattle.std.specs.List.{filter, flat_map, list_all, range_with_len, enumerate_from}
 use Rattle.subdiv_model.specs.Lists.{each_once_by}
 use Rattle.subdiv_model.specs.Polygons.{Polygon, polygon_at, is_among, is_over}
 use Rattle.subdiv_model.specs.Level.{Level}
 use Rattle.subdiv_model.specs.Child.{child_level}
-use Rattle.subdiv_model.specs.Sparse.{corners_of, is_on}
+use Rattle.subdiv_model.specs.Sparse.{child_number, corners_of, is_on}
 use Rattle.part_laws.specs.Children.{edge_at}
 use Rattle.part_laws.specs.LevelParts.{IsLevelPart}
 use Rattle.sparse_laws.specs.SparseLevels.{SparseLevel, name_in}
@@ -22,10 +22,6 @@ vertex_at polygons place = get_or (polygon_at polygons place.0) place.1 0
 -- the corners whose vertices lie on selected faces: their child faces are present
 abbrev pub next_places : List Polygon → List ℕ → List (ℕ × ℕ)
 next_places polygons selected = filter (λ place. is_on polygons selected (vertex_at polygons place)) (corner_places polygons)
-
--- the number in the whole next level of the child face of a corner
-abbrev pub child_number : List Polygon → ℕ × ℕ → ℕ
-child_number polygons place = sum_by length (take place.0 polygons) + place.1
 
 abbrev pub next_children : List Polygon → List ℕ → List ℕ
 next_children polygons selected = map (child_number polygons) (next_places polygons selected)

@@ -21,7 +21,8 @@ use Rattle.child_slots.proofs.QuadLemmas.{child-quad}
 use Rattle.part_laws.proofs.ListLemmas.{map-agree, map-twice}
 use Rattle.part_laws.proofs.PartLemmas.{as-many, polygon-in}
 use Rattle.sparse_laws.specs.SparseLevels.{name_in}
-use Rattle.sparse_laws.specs.NextSparse.{child_number, next_children}
+use Rattle.subdiv_model.specs.Sparse.{child_number}
+use Rattle.sparse_laws.specs.NextSparse.{next_children}
 use Rattle.sparse_laws.proofs.NumberLemmas.{is_place}
 use Rattle.sparse_laws.proofs.PresentLemmas.{all-chosen}
 use Rattle.sparse_level.proofs.NextPointLemmas.{places-within, points-next}

@@ -4,7 +4,7 @@ use Rattle.std.specs.List.{list_any, list_all}
 use Rattle.subdiv_model.specs.Polygons.{Polygon, has_corner, is_among, is_over, polygon_at}
 use Rattle.subdiv_model.specs.Level.{Level}
 use Rattle.subdiv_model.specs.Child.{child_polygons}
-use Rattle.subdiv_model.specs.Sparse.{corners_of, is_on}
+use Rattle.subdiv_model.specs.Sparse.{child_number, corners_of, is_on}
 use Rattle.number_laws.proofs.ListLemmas.{any-flat_map}
 use Rattle.mesh_laws.proofs.FanLemmas.{any-number, number-any}
 use Rattle.mesh_laws.proofs.ClosedLemmas.{all-at}
@@ -13,7 +13,7 @@ use Rattle.part_laws.specs.Parts.{is_corner}
 use Rattle.part_laws.proofs.ListLemmas.{any-mapped}
 use Rattle.part_laws.proofs.TermLemmas.{all-true}
 use Rattle.part_laws.proofs.SelfLemmas.{among-at}
-use Rattle.sparse_laws.specs.NextSparse.{child_number, next_children, next_points, vertex_at}
+use Rattle.sparse_laws.specs.NextSparse.{next_children, next_points, vertex_at}
 use Rattle.sparse_laws.proofs.CornerLemmas.{child, child-at-place, one-among, vertices-old}
 use Rattle.sparse_laws.proofs.NextPartLemmas.{points-own}
 use Rattle.sparse_level.proofs.OnceLemmas.{once-among}

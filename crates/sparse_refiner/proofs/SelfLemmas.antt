@@ -9,14 +9,14 @@ use Rattle.subdiv_model.specs.Lists.{places}
 use Rattle.subdiv_model.specs.Polygons.{has_corner, is_among, is_over, polygon_at}
 use Rattle.subdiv_model.specs.Level.{Level}
 use Rattle.subdiv_model.specs.Child.{child_polygons}
-use Rattle.subdiv_model.specs.Sparse.{corners_of, is_on}
+use Rattle.subdiv_model.specs.Sparse.{child_number, corners_of, is_on}
 use Rattle.mesh_laws.proofs.ChildCornerLemmas.{corner-place}
 use Rattle.level_laws.proofs.FaceLemmas.{child_polygons-length}
 use Rattle.part_laws.specs.Parts.{IsWholeAt, face_in}
 use Rattle.part_laws.proofs.ListLemmas.{map-agree}
 use Rattle.part_laws.proofs.PlaceLemmas.{bounded, first_place, owner, owner-below}
 use Rattle.part_laws.proofs.SelfLemmas.{self-level, self-whole}
-use Rattle.sparse_laws.specs.NextSparse.{child_number, has_all_faces, next_children, next_places, vertex_at, vertices_of}
+use Rattle.sparse_laws.specs.NextSparse.{has_all_faces, next_children, next_places, vertex_at, vertices_of}
 use Rattle.sparse_laws.proofs.CornerLemmas.{own-vertex}
 use Rattle.sparse_laws.proofs.InnerLemmas.{places-ascend}
 use Rattle.sparse_laws.proofs.NumberLemmas.{among-places, corner-read, corners-length, is_place}

@@ -10,7 +10,7 @@ use Rattle.subdiv_model.specs.Value.{whole_value}
 use Rattle.subdiv_model.specs.Refined.{child_denominators, child_values, control_values, refined_denominators, refined_values}
 use Rattle.subdiv_model.specs.Support.{child_supports, refined_supports}
 use Rattle.subdiv_model.specs.Channel.{transition_overflows_at}
-use Rattle.subdiv_model.specs.Sparse.{present_points}
+use Rattle.subdiv_model.specs.Sparse.{child_number, present_points}
 use Rattle.subdiv_model.specs.SparseFaults.{points_with_child}
 use Rattle.mesh_laws.proofs.ClosedLemmas.{all-at}
 use Rattle.mesh_laws.proofs.ChildCornerLemmas.{corner-point}
@@ -24,7 +24,7 @@ use Rattle.part_laws.proofs.LevelLemmas.{same-transition}
 use Rattle.part_laws.proofs.JoinLemmas.{corner-of}
 use Rattle.part_laws.proofs.ChildLemmas.{child-points}
 use Rattle.part_laws.proofs.ValueLemmas.{next-denominators, next-masks, next-supports, next-values}
-use Rattle.sparse_laws.specs.NextSparse.{child_number, vertex_at}
+use Rattle.sparse_laws.specs.NextSparse.{vertex_at}
 use Rattle.sparse_laws.specs.Laws.{Kept, AgreeingTest, chosen_by, part_of}
 use Rattle.sparse_laws.proofs.FactLemmas.{all-own}
 use Rattle.sparse_laws.proofs.NextPartLemmas.{begins-at, points-same}
