@@ -11,12 +11,12 @@ use Rattle.subdiv_model.specs.Child.{child_level}
 use Rattle.subdiv_model.specs.Level.{Level}
 use Rattle.subdiv_model.specs.Lists.{each_once_by}
 use Rattle.subdiv_model.specs.Polygons.{Polygon, polygon_at}
-use Rattle.subdiv_model.specs.Sparse.{is_on}
+use Rattle.subdiv_model.specs.Sparse.{child_number, is_on}
 use Rattle.part_laws.proofs.ListLemmas.{joined-mapped}
 use Rattle.child_slots.specs.Slots.{quad_at}
 use Rattle.child_slots.specs.Parts.{place_number}
 use Rattle.child_slots.proofs.QuadLemmas.{child-quad, face-below}
-use Rattle.sparse_laws.specs.NextSparse.{corner_places, next_places, next_points, child_number, vertex_at}
+use Rattle.sparse_laws.specs.NextSparse.{corner_places, next_places, next_points, vertex_at}
 use Rattle.sparse_level.specs.Places.{points_at, AreWithin}
 
 -- the places of the corners of faces, where the first of these has this number

@@ -105,6 +105,13 @@ impl SparseLevel {
         self.numbers[f as usize]
     }
 
+    /// The numbers of all faces in the uniform level.
+    pub fn numbers(&self) -> &[u64]
+        ensures { result.now ≡ self.now.numbers }
+    {
+        &self.numbers
+    }
+
     /// Whether the parent of a face is selected; at level 0 each face is inner.
     pub fn is_inner(&self, f: u32) -> bool
         requires { f < length self.now.topology.level.polygons }

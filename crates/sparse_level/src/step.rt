@@ -71,6 +71,27 @@ impl SparseStep {
         &self.selected
     }
 
+    /// The numbers of all new faces in the uniform level.
+    pub fn numbers(&self) -> &[u64]
+        ensures { result.now ≡ self.now.numbers }
+    {
+        &self.numbers
+    }
+
+    /// After how many steps the new level is.
+    pub fn depth(&self) -> u32
+        ensures { result ≡ self.now.depth }
+    {
+        self.depth
+    }
+
+    /// What holds of each new level.
+    pub fn facts(&self)
+        ensures { IsSparseTopology (next_of self.now) }
+    {
+        let _ = &self.child;
+    }
+
     /// The new level, and the marks of the faces of the level before.
     pub fn into_parts(self) -> (SparseLevel, Vec<bool>)
         ensures level { result.0 ≡ next_of self }
