@@ -1,0 +1,126 @@
+-- The faces that are selected by a predicate are a selection, of the level itself and of each level with the same faces.
+use Rattle.std.proofs.Common.{◌≡◌, ℕ, zero, suc, ◌<◌, ◌≤◌, Bool, true, false, not, ◌&&◌, nat_eq, List, [], ◌∷◌, length, get_or, arith, refl, ap, sym, ◌∙◌}
+use Rattle.std.specs.List.{filter, list_all, range_with_len}
+use Rattle.std.proofs.lemmas.Bool.{and_parts, eqb-true}
+use Rattle.std.proofs.lemmas.List.FromFn.{length-map-range_with_len, get_or-map-range_with_len}
+use Rattle.subdiv_model.specs.Polygons.{is_among}
+use Rattle.subdiv_model.specs.Level.{Level, is_hole}
+use Rattle.subdiv_model.specs.Child.{refined_level}
+use Rattle.subdiv_model.specs.Sparse.{Meeting, meets, chosen, selected, inner, children_of}
+use Rattle.subdiv_model.specs.SparseTexture.{selected_to}
+use Rattle.part_laws.proofs.AscendingLemmas.{kept-of-all}
+use Rattle.sparse_laws.proofs.FactLemmas.{kept-pass, all-own}
+use Rattle.sparse_laws.proofs.InnerLemmas.{inner-ascends}
+use Rattle.sparse_laws.proofs.SelectedLemmas.{among-all, selected-chosen}
+use Rattle.sparse_texture_laws.specs.Selection.{faces_among, IsSelection}
+use Rattle.sparse_texture_laws.specs.Cut.{HaveSameFaces}
+use Rattle.sparse_texture_laws.proofs.FaceLemmas.{children-same, count-same, after-same}
+
+pub kept-among : (test : ℕ → Bool) (ns : List ℕ) (n : ℕ) → is_among (filter test ns) n ≡ true → is_among ns n ≡ true
+kept-among test [] n h = h
+kept-among test (m ∷ ns) n h = go (test m) refl (nat_eq n m) refl (λ more. kept-among test ns n more)
+  where
+    go : (a : Bool) → test m ≡ a → (b : Bool) → nat_eq n m ≡ b → (is_among (filter test ns) n ≡ true → is_among ns n ≡ true) → is_among (m ∷ ns) n ≡ true
+    go true e true f rest = rw f refl
+    go true e false f rest = let there = rw (e, f) at h in rw f (rest there)
+    go false e true f rest = rw f refl
+    go false e false f rest = let there = rw e at h in rw f (rest there)
+
+among-kept : (test : ℕ → Bool) (ns : List ℕ) (n : ℕ) → test n ≡ true → is_among ns n ≡ true → is_among (filter test ns) n ≡ true
+among-kept test [] n on h = h
+among-kept test (m ∷ ns) n on h = go (test m) refl (nat_eq n m) refl (λ more. among-kept test ns n on more)
+  where
+    go : (a : Bool) → test m ≡ a → (b : Bool) → nat_eq n m ≡ b → (is_among ns n ≡ true → is_among (filter test ns) n ≡ true) → is_among (filter test (m ∷ ns)) n ≡ true
+    go true e true f rest = rw (e, f) refl
+    go true e false f rest = let more = rest (rw f at h) in rw (e, f) more
+    go false e true f rest = let same = ap test (eqb-true n m f) in absurd (cc)
+    go false e false f rest = let more = rest (rw f at h) in rw e more
+
+-- a number of the list is among those that are kept exactly where it passes
+kept-passes : (test : ℕ → Bool) (ns : List ℕ) (n : ℕ) → is_among ns n ≡ true → is_among (filter test ns) n ≡ test n
+kept-passes test ns n there = go (test n) refl (is_among (filter test ns) n) refl
+  where
+    go : (a : Bool) → test n ≡ a → (b : Bool) → is_among (filter test ns) n ≡ b → is_among (filter test ns) n ≡ test n
+    go true e b f = among-kept test ns n e there ∙ sym e
+    go false e false f = f ∙ sym e
+    go false e true f = let on = among-all test (filter test ns) n f (kept-pass test ns) in absurd (cc)
+
+pub filter-agree : (keep test other : ℕ → Bool) → ((n : ℕ) → keep n ≡ true → test n ≡ other n) → (ns : List ℕ) → list_all keep ns ≡ true → filter test ns ≡ filter other ns
+filter-agree keep test other same [] all = refl
+filter-agree keep test other same (n ∷ ns) all =
+    let parts = and_parts (keep n) (list_all keep ns) all in
+    let here = same n parts.0 in
+    let rest = filter-agree keep test other same ns parts.1 in
+    rw (here, rest) refl
+
+-- what was chosen is chosen again by its numbers
+again : (a b c : Bool) → a ≡ (b && c) → (a && c) ≡ (b && c)
+again a true true e = rw e refl
+again a true false e = rw e refl
+again a false true e = rw e refl
+again a false false e = rw e refl
+
+chosen-again : (level : Level) (meeting : Meeting) (depth : ℕ) (faces : List ℕ) → filter (λ f. is_among (chosen level meeting depth faces) f && not (is_hole level f)) faces ≡ chosen level meeting depth faces
+chosen-again level meeting depth faces =
+    let test : ℕ → Bool = λ f. meets meeting depth f && not (is_hole level f) in
+    filter-agree (is_among faces) (λ f. is_among (filter test faces) f && not (is_hole level f)) test (λ f there. again (is_among (filter test faces) f) (meets meeting depth f) (not (is_hole level f)) (kept-passes test faces f there)) faces (all-own faces)
+
+-- the selected faces, by their numbers among all
+pub selected-among : (base : Level) (meeting : Meeting) (k : ℕ) → selected base meeting k ≡ faces_among (refined_level base k) (selected base meeting k)
+selected-among base meeting k =
+    let level = refined_level base k in
+    let ins = inner base meeting k in
+    let some = chosen level meeting k ins in
+    let test : ℕ → Bool = λ f. is_among some f && not (is_hole level f) in
+    let same = selected-chosen base meeting k in
+    same
+    ∙ sym (chosen-again level meeting k ins)
+    ∙ sym (kept-of-all test 0 (length level.polygons) ins (inner-ascends base meeting k) (λ i low high on.
+    kept-among (λ face. meets meeting k face && not (is_hole level face)) ins i (and_parts (is_among some i) (not (is_hole level i)) on).0))
+    ∙ ap (faces_among level) (sym same)
+
+pub selected-at : (base : Level) (meeting : Meeting) (depth k : ℕ) → k < depth → get_or (selected_to base meeting depth) k [] ≡ selected base meeting k
+selected-at base meeting depth k h = get_or-map-range_with_len (selected base meeting) 0 depth k k [] h (omega arith)
+
+module _ (base cut : Level) (same : HaveSameFaces base cut) (meeting : Meeting) where
+  among-same : (k : ℕ) (numbers : List ℕ) → faces_among (refined_level cut k) numbers ≡ faces_among (refined_level base k) numbers
+  among-same k numbers =
+      let alike = after-same base cut same k in
+      ap (λ count. filter (λ f. is_among numbers f && not (is_hole (refined_level cut k) f)) (range_with_len 0 count)) (count-same (refined_level base k) (refined_level cut k) alike)
+      ∙ ap (λ marks. filter (λ f. is_among numbers f && not (get_or marks f false)) (range_with_len 0 (length (refined_level base k).polygons))) alike.holes
+
+  pub cut-selection : (depth : ℕ) → IsSelection cut depth (selected_to base meeting depth)
+  cut-selection depth = record {
+    levels = length-map-range_with_len (selected base meeting) 0 depth;
+    each = λ k h.
+        let at = selected-at base meeting depth k h in
+        at ∙ selected-among base meeting k ∙ sym (among-same k (selected base meeting k)) ∙ ap (faces_among (refined_level cut k)) (sym at);
+  }
+
+  module _ (depth : ℕ) where
+    abbrev numbers : Meeting
+    numbers = selected_to base meeting depth
+
+    -- where the inner faces are the same, so are the selected ones
+    from-inner : (k : ℕ) → k < depth → inner cut (selected_to base meeting depth) k ≡ inner base meeting k → selected cut (selected_to base meeting depth) k ≡ selected base meeting k
+    from-inner k h e =
+        let alike = after-same base cut same k in
+        let level = refined_level base k in
+        let at = selected-at base meeting depth k h in
+        selected-chosen cut numbers k
+        ∙ ap (chosen (refined_level cut k) numbers k) e
+        ∙ ap (λ marks. filter (λ f. is_among (get_or numbers k []) f && not (get_or marks f false)) (inner base meeting k)) alike.holes
+        ∙ ap (λ ns. filter (λ f. is_among ns f && not (is_hole level f)) (inner base meeting k)) (at ∙ selected-chosen base meeting k)
+        ∙ chosen-again level meeting k (inner base meeting k)
+        ∙ sym (selected-chosen base meeting k)
+
+    pub cut-inner : (k : ℕ) → k ≤ depth → inner cut (selected_to base meeting depth) k ≡ inner base meeting k
+    cut-inner zero h = ap (range_with_len 0) (count-same base cut same)
+    cut-inner (suc k) h =
+        let alike = after-same base cut same k in
+        ap (children_of (refined_level cut k).polygons) (from-inner k (omega arith) (cut-inner k (omega arith)))
+        ∙ children-same (refined_level cut k).polygons (refined_level base k).polygons (selected base meeting k) alike.sizes
+
+    -- the faces that are selected by their numbers are the selected faces
+    pub cut-selected : (k : ℕ) → k < depth → selected cut (selected_to base meeting depth) k ≡ selected base meeting k
+    cut-selected k h = from-inner k h (cut-inner k (omega arith))

@@ -1,0 +1,32 @@
+//! Laws of selections: the selected faces of a mesh, taken by their numbers in a level with the same faces.
+
+ghost use Rattle.std.specs.Prelude.{◌≡◌, ℕ, ◌<◌, ◌≤◌, List};
+ghost use Rattle.subdiv_model.specs.Level.{Level};
+ghost use Rattle.subdiv_model.specs.Sparse.{Meeting, inner, selected, meeting_to};
+ghost use Rattle.subdiv_model.specs.SparseText.{written_level};
+ghost use Rattle.subdiv_model.specs.SparseTexture.{selected_to};
+ghost use Rattle.sparse_texture_laws.specs.Selection.{IsSelection, is_chosen_in, selected_numbers};
+ghost use Rattle.sparse_texture_laws.specs.Cut.{HaveSameFaces};
+
+/// The faces that a predicate selects, level by level, are a selection of each level with the same faces.
+pub fn selected_faces_are_a_selection()
+    ensures { (base cut : Level) (meeting : Meeting) (depth : ℕ) → HaveSameFaces base cut → IsSelection cut depth (selected_to base meeting depth) }
+{}
+
+/// A level with the same faces has the same selected faces where these are taken by their numbers, and so the same inner faces.
+pub fn faces_are_selected_by_their_numbers()
+    ensures selected { (base cut : Level) (meeting : Meeting) (depth k : ℕ) → HaveSameFaces base cut → k < depth
+        → selected cut (selected_to base meeting depth) k ≡ selected base meeting k }
+    ensures inner { (base cut : Level) (meeting : Meeting) (depth k : ℕ) → HaveSameFaces base cut → k ≤ depth
+        → inner cut (selected_to base meeting depth) k ≡ inner base meeting k }
+{}
+
+/// A selection is the predicate of the test of faces by their numbers.
+pub fn selections_are_predicates()
+    ensures { (base : Level) (depth : ℕ) (numbers : List (List ℕ)) → IsSelection base depth numbers → meeting_to (is_chosen_in numbers) base depth ≡ numbers }
+{}
+
+/// The faces that a level is written with as selected are the selected faces.
+pub fn written_levels_show_the_selected_faces()
+    ensures { (base : Level) (meeting : Meeting) (depth : ℕ) → selected_numbers (written_level base meeting depth) ≡ selected base meeting depth }
+{}
