@@ -1,0 +1,5 @@
+pub mod PairLemmas
+pub mod FirstLemmas
+pub mod QuadPairLemmas
+pub mod BorderLemmas
+pub mod PathLemmas

@@ -1,0 +1,5 @@
+use Rattle.leaf_laws.proofs.FirstLemmas.{leaf-first}
+use Rattle.leaf_laws.proofs.leaves.leaves_are_first.Goals as goal
+
+pub returns : goal.returns
+returns c = λ grid depth base meeting at is. leaf-first grid depth base meeting at is

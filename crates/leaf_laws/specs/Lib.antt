@@ -1,0 +1,2 @@
+pub mod FirstLeaf
+pub mod Paths
