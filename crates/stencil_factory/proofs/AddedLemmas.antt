@@ -86,11 +86,11 @@ added-append [] ys sums = refl
 added-append (x ∷ xs) ys sums = added-append xs ys (added_at x.0 (1 * x.1) sums)
 
 -- what holds of joined lists holds of each
-all-first : {X : Type 0} (P : X → Type 0) (xs ys : List X) → AllByRecursion P (xs ++ ys) → AllByRecursion P xs
+pub all-first : {X : Type 0} (P : X → Type 0) (xs ys : List X) → AllByRecursion P (xs ++ ys) → AllByRecursion P xs
 all-first P [] ys h = tt
 all-first P (x ∷ xs) ys h = (h.0, all-first P xs ys h.1)
 
-all-second : {X : Type 0} (P : X → Type 0) (xs ys : List X) → AllByRecursion P (xs ++ ys) → AllByRecursion P ys
+pub all-second : {X : Type 0} (P : X → Type 0) (xs ys : List X) → AllByRecursion P (xs ++ ys) → AllByRecursion P ys
 all-second P [] ys h = h
 all-second P (x ∷ xs) ys h = all-second P xs ys h.1
 

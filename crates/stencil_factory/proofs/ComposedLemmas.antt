@@ -16,6 +16,11 @@ use Rattle.stencil_factory.specs.Rows.{support_of, supports_of, dens_of, share_s
 use Rattle.stencil_factory.specs.MaskRows.{no_mask, mask_at, mask_entries, AreRowDenominators, AreMaskRows}
 use Rattle.stencil_factory.specs.Composing.{IsComposedRow, AreComposedRows}
 
+-- the entries with a row more
+pub entries-next : (rows : List Row) (row : Row) → entries_of (rows ++ row ∷ []) ≡ entries_of rows + length row.shares
+entries-next rows row =
+    omega (arith, sum_by-append (λ (r : Row). length r.shares) rows (row ∷ []), sum_by-cons (λ (r : Row). length r.shares) row [])
+
 -- a row has an entry
 pub row-some : (level : Level) (table : Table) (mask : Mask) (row : Row) → IsComposedRow level table mask row → 1 ≤ length row.shares
 row-some level table mask row is = some row.shares (omega (arith, is.is.positive, is.is.whole))
@@ -139,6 +144,10 @@ module _ (level : Level) (table : Table) where
 
       pub next-count : mask_entries level table masks ≤ 2 ^ 27 → length rows < 2 ^ 27
       next-count few = omega (arith, next-entries few, row-some level table _ row is, rows-few (take p masks) rows are)
+
+      -- where there is room for its entries there is room for the row
+      pub room-count : entries_of rows + length row.shares ≤ 2 ^ 27 → length rows < 2 ^ 27
+      room-count few = omega (arith, few, row-some level table _ row is, rows-few (take p masks) rows are)
 
     -- rows for all masks
     pub are-rows : (p : ℕ) (composed : Table) → length masks ≤ p → composed.controls ≡ table.controls

@@ -23,3 +23,5 @@ pub mod PointLemmas
 pub mod FoundLemmas
 pub mod PutLemmas
 pub mod BoundLemmas
+pub mod WeightedRowLemmas
+pub mod NarrowLemmas

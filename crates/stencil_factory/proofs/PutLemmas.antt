@@ -16,17 +16,18 @@ use Rattle.child_masks.specs.Found.{ArePointDenominators}
 use Rattle.child_masks.proofs.DenLemmas.{dens-positive}
 use Rattle.stencil_apply.specs.Table.{Share, Table, total_of}
 use Rattle.stencil_factory.specs.Rows.{support_of, supports_of}
-use Rattle.stencil_factory.specs.Scratch.{added_shares, shares_from, sum_of}
+use Rattle.stencil_factory.specs.Scratch.{added_shares, shares_from, sum_of, AreSharesOf}
 use Rattle.stencil_factory.specs.Flat.{CanAddAll, IsWeighed}
 use Rattle.stencil_factory.specs.Met.{Places, with_places}
 use Rattle.stencil_factory.specs.Named.{AreNamed}
 use Rattle.stencil_factory.specs.MaskRows.{AreWeightsOf}
 use Rattle.stencil_factory.specs.Joined.{terms_of_shares, amounts_of, entries_at, weighing, AreJoined}
-use Rattle.stencil_factory.specs.Weights.{is_named}
+use Rattle.stencil_factory.specs.Weights.{is_named, AreWeights}
 use Rattle.stencil_factory.proofs.AddedLemmas.{first-and-others, can-first, can-next, same-next}
 use Rattle.stencil_factory.proofs.ScratchLemmas.{sum-added_shares, some-added_shares}
 use Rattle.stencil_factory.proofs.RowLemmas.{zero-at}
-use Rattle.stencil_factory.proofs.JoinLemmas.{told-inside, told-total, are-joined, place-weight, sum-weight}
+use Rattle.stencil_factory.proofs.WeightLemmas.{sums-themselves}
+use Rattle.stencil_factory.proofs.JoinLemmas.{told-inside, are-joined, place-weight, sum-weight}
 use Rattle.stencil_factory.proofs.WeighingLemmas.{weighing-above, weighing-all, weighing-added, among-sums, same-added, weighing-some, weighing-none}
 use Rattle.stencil_factory.proofs.PointLemmas.{joined-names, joined-named, joined-den, joined-positive, joined-can, joined-weighed}
 use Rattle.stencil_factory.proofs.FoundLemmas.{common-positive}
@@ -191,6 +192,14 @@ module _ (level : Level) (mask put : Mask) (are : AreWeightsOf level.point_count
           joined-weighed level mask put.denominator joined is-joined dens points den den_is short m m_is zeros refl new
           (added ∙ ap (added_shares 1 (amounts_of dens m (weighing raw))) clear ∙ same)
 
+      -- the amounts themselves are weights of the mask
+      pub put-amounts : AreWeights level dens mask (amounts_of dens m (weighing raw))
+      put-amounts =
+          let amounts = amounts_of dens m (weighing raw) in
+          let placed = amounts-inside dens m count (weighing raw) (weighing-all (λ (share : Share). share.0 < count) raw raw-inside) in
+          (put-weighed (added_shares 1 amounts start) refl).weights amounts
+          (subst (λ sums. AreSharesOf (added_shares 1 amounts sums) amounts) (sym clear) (sums-themselves count amounts placed (put-can den (omega arith)).each))
+
 -- A round of a loop over weights: those of the first, and of the others.
 module _ (rest : List Share) (some : 1 ≤ length rest) where
   abbrev first : Share
@@ -199,7 +208,7 @@ module _ (rest : List Share) (some : 1 ≤ length rest) where
   abbrev others : List Share
   others = take (length rest - 1) (drop 1 rest)
 
-  weighing-split : weighing rest ≡ weighing (first ∷ []) ++ weighing others
+  pub weighing-split : weighing rest ≡ weighing (first ∷ []) ++ weighing others
   weighing-split = ap weighing (first-and-others rest (0, 0) some) ∙ filter-append (λ (share : Share). nat_lt 0 share.1) (first ∷ []) others
 
   pub support-split : support_of (weighing rest) ≡ support_of (weighing (first ∷ [])) ++ support_of (weighing others)

@@ -167,6 +167,23 @@ module _ (n : ℕ) (shares : List Share) (inside : AllByRecursion (λ share. sha
       of.named v ∙ some-added_shares 1 v shares zeros (omega arith) placed each
       ∙ ap (λ b. b || is_among (support_of shares) v) (zero-place n v)
 
+  -- they are what is taken of the sums themselves
+  pub sums-themselves : AreSharesOf sums shares
+  sums-themselves = record {
+    inside = subst (λ k. AllByRecursion (λ share. share.0 < k) shares) (sym count) inside;
+    each = each;
+    named = λ v.
+        sym (some-added_shares 1 v shares zeros (omega arith) placed each ∙ ap (λ b. b || is_among (support_of shares) v) (zero-place n v));
+    value = λ numbers.
+        sym (
+        dense_sum-added_shares numbers 1 shares zeros placed
+        ∙ ap (λ z. z +ℤ pos 1 *ℤ share_sum numbers shares) (dense_sum-zeros numbers n)
+        ∙ +ℤ_idl (pos 1 *ℤ share_sum numbers shares)
+        ∙ *ℤ_comm (pos 1) (share_sum numbers shares)
+        ∙ times-one (share_sum numbers shares)
+        );
+  }
+
   -- inside
   sums-inside : (made : List Share) → AreSharesOf sums made → AllByRecursion (λ share. share.0 < n) made
   sums-inside made of = subst (λ k. AllByRecursion (λ share. share.0 < k) made) count of.inside

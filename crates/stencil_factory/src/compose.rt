@@ -1,6 +1,6 @@
 //! The rows of a table, composed from those of the points of a level.
 
-ghost use Rattle.std.specs.Prelude.{◌≡◌, ◌+◌, ◌*◌, ◌^◌, ◌<◌, ◌≤◌, List, length, max, replicate, take, IfOk, OnOk};
+ghost use Rattle.std.specs.Prelude.{◌≡◌, ◌+◌, ◌-◌, ◌*◌, ◌^◌, ◌<◌, ◌≤◌, List, length, max, replicate, take, IfOk, OnOk};
 ghost use Rattle.std.specs.List.{All, fold};
 ghost use Rattle.number_width.specs.Numbers.{width_for, most_of};
 ghost use Rattle.subdiv_model.specs.Refined.{mask_denominator, source_denominator};
@@ -48,8 +48,9 @@ impl<T: Natural, M: Drop> Room<T, M> {
     }
 }
 
-// Adds the row of a point, times a factor, to the sums.
-fn add_row<T: Natural>(
+/// Adds the row of a point, times a factor, to the sums.
+#[inline(always)]
+pub(crate) fn add_row<T: Natural>(
     table: &StencilTable,
     point: u32,
     factor: T,
@@ -136,8 +137,9 @@ fn compose_row<T: Natural, R: RowMasks>(
     sum_rows(table, &room.weights, &mut room.controls, &mut room.entries)
 }
 
-// Puts a row of entries over a denominator after the others.
-fn put_entries<T: Natural>(
+/// Puts a row of entries over a denominator after the others.
+#[inline]
+pub(crate) fn put_entries<T: Natural>(
     den: u128,
     entries: &Entries<T>,
     builder: &mut TableBuilder,
@@ -145,7 +147,8 @@ fn put_entries<T: Natural>(
     requires row { IsRow builder.old.table.controls (record { den = den; shares = entries.now }) }
     requires rows { length builder.old.table.rows < 2 ^ 27 }
     requires entries { entries_of builder.old.table.rows + length entries.now ≤ 2 ^ 27 }
-    ensures { OnOk result (builder.new.table ≡ with_row (record { den = den; shares = entries.now }) builder.old.table) }
+    ensures added { OnOk result (builder.new.table ≡ with_row (record { den = den; shares = entries.now }) builder.old.table) }
+    ensures room { OnOk result (builder.new.room_entries ≡ builder.old.room_entries - length entries.now) }
 {
     builder.add_parts(den, entries.indices(), entries.numerators())
 }

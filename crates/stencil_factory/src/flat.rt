@@ -14,8 +14,8 @@ use mask_rules::{At, Term};
 use number_width::Natural;
 use ratio128::{Memory, quotient};
 
-// A weight over a multiple of a denominator. Where both are one number nothing is divided.
-fn weight_over(weight: u128, multiple: u128, den: u128) -> u128
+/// A weight over a multiple of a denominator. Where both are one number nothing is divided.
+pub(crate) fn weight_over(weight: u128, multiple: u128, den: u128) -> u128
     requires positive { 0 < den }
     requires small { weight * (multiple / den) ≤ number_bound }
     ensures { result ≡ weight * (multiple / den) }

@@ -13,6 +13,7 @@ mod flat;
 mod mask_table;
 mod met;
 mod name;
+mod narrow;
 mod point_masks;
 mod point_rows;
 mod row_fault;
@@ -20,6 +21,7 @@ mod rows;
 mod scratch;
 mod step;
 mod weigh;
+mod weighted_rows;
 mod weights;
 
 pub use controls::identity;

@@ -8,6 +8,7 @@ ghost use Rattle.stencil_factory.specs.Rows.{dens_of};
 ghost use Rattle.stencil_factory.specs.MaskRows.{mask_at, AreRowDenominators, HasFewEntries, IsRowFault, IsRowComposition};
 
 use crate::compose::{compose_found, compose_rows};
+use crate::narrow::compose_narrow;
 use crate::point_masks::{PointMasks, PointWeights};
 use crate::point_rows::PointRows;
 use crate::row_fault::RowFault;
@@ -120,13 +121,8 @@ fn compose_over<M: PointMasks>(
     Ok(composed)
 }
 
-/// The table of masks over the points of a level, from the table of these points, both over the same control points: each row has
-/// the control points that its mask depends on, ascending, over the mask's common denominator.
-///
-/// There is a row in the table for each point of the level. The faults are looked for in the order of the variants of
-/// [`RowFault`], each over all rows. Where the rows that are summed have at most 2^27 entries together, so has the answer, and its
-/// entries are not counted before.
-pub fn compose_masks<M: PointMasks>(
+// The table of masks, whose denominators are found before any row is composed.
+fn compose_surveyed<M: PointMasks>(
     alloc: Global,
     table: &StencilTable,
     masks: &M,
@@ -136,4 +132,25 @@ pub fn compose_masks<M: PointMasks>(
 {
     let found = survey_rows(alloc, table, masks)?;
     compose_over(alloc, table, masks, &found)
+}
+
+/// The table of masks over the points of a level, from the table of these points, both over the same control points: each row has
+/// the control points that its mask depends on, ascending, over the mask's common denominator.
+///
+/// There is a row in the table for each point of the level. The faults are looked for in the order of the variants of
+/// [`RowFault`], each over all rows. Where each denominator has 64 bits and the entries are few, the masks are visited once. Else
+/// they are visited first for the denominators. Where the rows that are summed have at most 2^27 entries together, so has the answer,
+/// and its entries are not counted before.
+pub fn compose_masks<M: PointMasks>(
+    alloc: Global,
+    table: &StencilTable,
+    masks: &M,
+) -> Result<StencilTable, RowFault>
+    requires { length table.now.rows ≡ (M.level masks.now).point_count }
+    ensures { IsRowComposition (M.level masks.now) (M.masks masks.now) table.now result }
+{
+    match compose_narrow(alloc, table, masks)? {
+        Some(composed) => Ok(composed),
+        None => compose_surveyed(alloc, table, masks),
+    }
 }

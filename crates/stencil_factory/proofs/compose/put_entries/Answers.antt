@@ -1,6 +1,7 @@
-use Rattle.std.proofs.Common.{◌≡◌, List, ap, arith, subst, sym, ◌∙◌, map, length}
+use Rattle.std.proofs.Common.{◌≡◌, ◌-◌, List, ap, arith, subst, sym, ◌∙◌, map, length}
 use Rattle.std.specs.List.{zip}
 use Rattle.std.proofs.lemmas.Result.{on_ok_weaker}
+use Rattle.std.proofs.lemmas.List.{length-map}
 use Rattle.stencil_apply.specs.Table.{Share, IsRow}
 use Rattle.stencil_apply.specs.Built.{with_row}
 use Rattle.stencil_factory.proofs.PairLemmas.{zip-parts, parts-count}
@@ -19,9 +20,15 @@ pub add_parts-requires-clause-entries : goal.add_parts-requires-clause-entries
 add_parts-requires-clause-entries g c =
     omega (arith, c.requires.entries, parts-count c.args.entries.now c.indices.result.now (map g.T.Natural.value c.numerators.result.now) c.indices.ensures c.numerators.ensures, ap length (read g c))
 
-pub returns : goal.returns
-returns g c =
+pub returns-clause-added : goal.returns-clause-added
+returns-clause-added g c =
     on_ok_weaker c.add_parts.result
     (λ added. added ∙ ap (λ (shares : List Share). with_row (record { den = c.args.den; shares = shares }) c.args.builder.now.table)
     (zip-parts c.args.entries.now c.indices.result.now (map g.T.Natural.value c.numerators.result.now) c.indices.ensures c.numerators.ensures))
     c.add_parts.ensures.added
+
+pub returns-clause-room : goal.returns-clause-room
+returns-clause-room g c =
+    on_ok_weaker c.add_parts.result
+    (λ left. left ∙ ap (λ n. c.args.builder.now.room_entries - n) (ap length c.indices.ensures ∙ length-map c.args.entries.now (λ (share : Share). share.0)))
+    c.add_parts.ensures.room_entries

@@ -18,11 +18,11 @@ put_entries-requires-clause-entries g c =
     next-entries (g.R.RowMasks.level c.args.rows.now) c.args.table.now (g.R.RowMasks.masks c.args.rows.now) c.args.row c.args.builder.now.table.rows _ c.requires.known c.requires.done c.in_ok-compose_row.ensures.row c.requires.few
 
 pub returns-clause-same : goal.returns-clause-same
-returns-clause-same g c = on_ok_weaker c.put_entries.result (λ added. ap (λ (t : Table). t.controls) added ∙ c.requires.same) c.put_entries.ensures
+returns-clause-same g c = on_ok_weaker c.put_entries.result (λ added. ap (λ (t : Table). t.controls) added ∙ c.requires.same) c.put_entries.ensures.added
 
 pub returns-clause-done : goal.returns-clause-done
 returns-clause-done g c =
     on_ok_weaker c.put_entries.result
     (λ added. subst (λ (t : Table). AreComposedRows (g.R.RowMasks.level c.args.rows.now) c.args.table.now (take (c.args.row + 1) (g.R.RowMasks.masks c.args.rows.now)) t.rows) (sym added)
     (next-rows (g.R.RowMasks.level c.args.rows.now) c.args.table.now (g.R.RowMasks.masks c.args.rows.now) c.args.row c.args.builder.now.table.rows _ c.requires.known c.requires.done c.in_ok-compose_row.ensures.row))
-    c.put_entries.ensures
+    c.put_entries.ensures.added

@@ -1,5 +1,4 @@
-use Rattle.std.proofs.Common.{◌≡◌, ◌+◌, ◌*◌, ◌<◌, ◌≤◌, arith, ap, sym, subst, ◌∙◌, [], ◌∷◌, map, get_or, length}
-use Rattle.std.specs.List.{sum_by}
+use Rattle.std.proofs.Common.{◌*◌, arith, ap, sym, subst, ◌∙◌, [], map, get_or, length}
 use Rattle.std.proofs.lemmas.List.Sums.{sum_by-cons}
 use Rattle.subdiv_model.specs.Multiples.{lcm_of_all}
 use Rattle.subdiv_model.specs.Refined.{mask_denominator, source_denominator}

@@ -1,4 +1,4 @@
-use Rattle.std.proofs.Common.{◌≡◌, ◌<◌, arith, length, take, [], ◌∷◌}
+use Rattle.std.proofs.Common.{◌<◌, arith, length, []}
 use Rattle.std.proofs.lemmas.List.Sums.{sum_by-cons}
 use Rattle.subdiv_model.specs.Support.{mask_support, source_support}
 use Rattle.stencil_factory.specs.Rows.{supports_of}

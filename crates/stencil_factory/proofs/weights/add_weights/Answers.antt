@@ -1,6 +1,4 @@
-use Rattle.std.proofs.Common.{◌≡◌, ◌<◌, refl, ap, sym, ◌∙◌, length}
-use Rattle.std.specs.List.{All}
-use Rattle.stencil_apply.specs.Table.{Share}
+use Rattle.std.proofs.Common.{ap, sym, ◌∙◌, length}
 use Rattle.stencil_factory.specs.Scratch.{added_shares}
 use Rattle.stencil_factory.specs.Joined.{amounts_of, weighing}
 use Rattle.stencil_factory.proofs.AddedLemmas.{none-left}

@@ -1,0 +1,161 @@
+//! The table of masks over the points of a level, in one visit of the masks and in numerators of 64 bits.
+
+ghost use Rattle.std.specs.Prelude.{◌≡◌, ◌+◌, ◌^◌, ◌<◌, ◌≤◌, length, replicate, take, true, IfOk, OnOk, IfSome};
+ghost use Rattle.stencil_apply.specs.Table.{entries_of};
+ghost use Rattle.stencil_apply.specs.Built.{no_rows};
+ghost use Rattle.stencil_factory.specs.Composing.{IsComposedRow, AreComposedRows};
+ghost use Rattle.stencil_factory.specs.MaskRows.{mask_at, AreMaskRows};
+
+use crate::compose::put_entries;
+use crate::entries::Entries;
+use crate::point_masks::{PointMasks, PointWeights};
+use crate::scratch::Scratch;
+use crate::weighted_rows::add_weighted_rows;
+use crate::weights::multiple_of_weights;
+use number_width::Width;
+use ratio128::limits::ENTRY_BOUND;
+use ratio128::{Memory, times_within};
+use std::alloc::Global;
+use stencil_apply::{StencilTable, TableBuilder};
+
+// The greatest denominator of 64 bits.
+const WORD_BOUND: u128 = u64::MAX as u128;
+
+// Where rows are composed: the weights of a row, and from them the entries of control points.
+#[derive(Drop)]
+struct NarrowRoom {
+    weights: PointWeights,
+    controls: Scratch<u64>,
+    entries: Entries<u64>,
+}
+
+impl NarrowRoom {
+    // Room for rows over so many control points.
+    fn new(alloc: Global, controls: u32) -> Result<NarrowRoom, Memory>
+        ensures { IfOk result (λ room. room.controls ≡ replicate controls 0) }
+    {
+        Ok(NarrowRoom {
+            controls: Scratch::new(alloc, controls)?,
+            weights: PointWeights::new(alloc),
+            entries: Entries::new(alloc),
+        })
+    }
+}
+
+// Puts the entries of a row in their place, and returns its denominator, or 0 where that has more than 64 bits.
+fn compose_row<M: PointMasks>(
+    table: &StencilTable,
+    masks: &M,
+    row: u32,
+    room: &mut NarrowRoom,
+) -> Result<u128, Memory>
+    requires each { length table.now.rows ≡ (M.level masks.now).point_count }
+    requires known { row < length (M.masks masks.now) }
+    requires clear { room.old.controls ≡ replicate table.now.controls 0 }
+    ensures clear { OnOk result (room.new.controls ≡ replicate table.now.controls 0) }
+    ensures row { IfOk result (λ den. 0 < den → IsComposedRow (M.level masks.now) table.now (mask_at (M.masks masks.now) row) (record { den = den; shares = room.new.entries })) }
+{
+    table.facts();
+    masks.put(row, &mut room.weights)?;
+    let weights = room.weights.weights();
+    let multiple = multiple_of_weights(weights, table.denominators());
+    let den = times_within(room.weights.denominator(), multiple, WORD_BOUND).unwrap_or(0);
+    if den == 0 {
+        return Ok(0);
+    }
+    add_weighted_rows(table, weights, multiple, &mut room.controls)?;
+    room.controls.take(&mut room.entries)?;
+    Ok(den)
+}
+
+// Puts the row of a mask after those of the masks before it, and returns whether it has 64 bits and there is room for its entries.
+fn put_row<M: PointMasks>(
+    table: &StencilTable,
+    masks: &M,
+    row: u32,
+    room: &mut NarrowRoom,
+    builder: &mut TableBuilder,
+) -> Result<bool, Memory>
+    requires each { length table.now.rows ≡ (M.level masks.now).point_count }
+    requires known { row < length (M.masks masks.now) }
+    requires clear { room.old.controls ≡ replicate table.now.controls 0 }
+    requires same { builder.old.table.controls ≡ table.now.controls }
+    requires few { entries_of builder.old.table.rows + builder.old.room_entries ≤ 2 ^ 27 }
+    requires done { AreComposedRows (M.level masks.now) table.now (take row (M.masks masks.now)) builder.old.table.rows }
+    ensures clear { OnOk result (room.new.controls ≡ replicate table.now.controls 0) }
+    ensures same { OnOk result (builder.new.table.controls ≡ table.now.controls) }
+    ensures few { OnOk result (entries_of builder.new.table.rows + builder.new.room_entries ≤ 2 ^ 27) }
+    ensures done { IfOk result (λ put. put ≡ true → AreComposedRows (M.level masks.now) table.now (take (row + 1) (M.masks masks.now)) builder.new.table.rows) }
+{
+    let den = compose_row(table, masks, row, room)?;
+    let (_, left) = builder.room();
+    if den == 0 || room.entries.indices().len() as u64 > left {
+        return Ok(false);
+    }
+    put_entries(den, &room.entries, builder)?;
+    Ok(true)
+}
+
+// Puts all rows, and returns whether each has 64 bits and there is room for all entries.
+fn put_rows<M: PointMasks>(
+    table: &StencilTable,
+    masks: &M,
+    room: &mut NarrowRoom,
+    builder: &mut TableBuilder,
+) -> Result<bool, Memory>
+    requires each { length table.now.rows ≡ (M.level masks.now).point_count }
+    requires clear { room.old.controls ≡ replicate table.now.controls 0 }
+    requires none { builder.old.table ≡ no_rows table.now.controls }
+    requires few { builder.old.room_entries ≤ 2 ^ 27 }
+    ensures { IfOk result (λ put. put ≡ true → AreMaskRows (M.level masks.now) (M.masks masks.now) table.now builder.new.table) }
+{
+    for row in 0..masks.count() {
+        if !put_row(table, masks, row, room, builder)? {
+            return Ok(false);
+        }
+    }
+    Ok(true)
+}
+
+// Puts all rows into a table that has room for so many entries.
+fn put_in_room<M: PointMasks>(
+    alloc: Global,
+    table: &StencilTable,
+    masks: &M,
+    builder: &mut TableBuilder,
+) -> Result<bool, Memory>
+    requires each { length table.now.rows ≡ (M.level masks.now).point_count }
+    requires none { builder.old.table ≡ no_rows table.now.controls }
+    requires few { builder.old.room_entries ≤ 2 ^ 27 }
+    ensures { IfOk result (λ put. put ≡ true → AreMaskRows (M.level masks.now) (M.masks masks.now) table.now builder.new.table) }
+{
+    let mut room = NarrowRoom::new(alloc, table.controls())?;
+    put_rows(table, masks, &mut room, builder)
+}
+
+/// The table of the masks, where each common denominator has 64 bits and the rows have at most three times as many entries as the table
+/// of the points. It is made in one visit of the masks. Where it is not made the rows up to the first that does not fit were composed.
+pub(crate) fn compose_narrow<M: PointMasks>(
+    alloc: Global,
+    table: &StencilTable,
+    masks: &M,
+) -> Result<Option<StencilTable>, Memory>
+    requires { length table.now.rows ≡ (M.level masks.now).point_count }
+    ensures { IfOk result (λ composed. IfSome composed (AreMaskRows (M.level masks.now) (M.masks masks.now) table.now)) }
+{
+    table.facts();
+    let rows = masks.count().min(ENTRY_BOUND as u32);
+    let entries = table.entries().saturating_mul(3).min(ENTRY_BOUND);
+    let mut builder = TableBuilder::with_room(
+        alloc,
+        table.controls(),
+        rows,
+        entries,
+        Width::Narrow,
+    )?;
+    if put_in_room(alloc, table, masks, &mut builder)? {
+        Ok(Some(builder.finish()))
+    } else {
+        Ok(None)
+    }
+}

@@ -1,0 +1,57 @@
+//! The rows of points, each times the weight of its point, as they are told. A weight of 0 is passed over.
+
+ghost use Rattle.std.specs.Prelude.{◌≡◌, ◌<◌, [], ◌∷◌, length, OnOk};
+ghost use Rattle.std.specs.List.{All};
+ghost use Rattle.subdiv_model.specs.Channel.{number_bound};
+ghost use Rattle.stencil_factory.specs.Rows.{dens_of};
+ghost use Rattle.stencil_factory.specs.Composing.{added_rows, CanAddRows};
+ghost use Rattle.stencil_factory.specs.Joined.{amounts_of, weighing};
+
+use crate::compose::add_row;
+use crate::flat::weight_over;
+use crate::scratch::Scratch;
+use number_width::Natural;
+use ratio128::Memory;
+use stencil_apply::StencilTable;
+
+// Adds the row of a point, times a weight over a multiple of the point's denominator.
+fn add_weighted_row<T: Natural>(
+    table: &StencilTable,
+    weight: &(u32, u128),
+    multiple: u128,
+    sums: &mut Scratch<T>,
+) -> Result<(), Memory>
+    requires known { weight.now.0 < length table.now.rows }
+    requires can { CanAddRows T.most table.now (amounts_of (dens_of table.now) multiple (weighing (weight.now ∷ []))) sums.old }
+    requires short { CanAddRows number_bound table.now (amounts_of (dens_of table.now) multiple (weighing (weight.now ∷ []))) sums.old }
+    ensures { OnOk result (sums.new ≡ added_rows table.now (amounts_of (dens_of table.now) multiple (weighing (weight.now ∷ []))) sums.old) }
+{
+    if weight.1 == 0 {
+        return Ok(());
+    }
+    table.facts();
+    let den = table.denominators()[weight.0 as usize];
+    let amount = weight_over(weight.1, multiple, den);
+    add_row(table, weight.0, T::of(amount), sums)
+}
+
+/// Adds the rows of the weights' points, each times its weight over a multiple of the denominators of all these points.
+pub(crate) fn add_weighted_rows<T: Natural>(
+    table: &StencilTable,
+    weights: &[(u32, u128)],
+    multiple: u128,
+    sums: &mut Scratch<T>,
+) -> Result<(), Memory>
+    requires known { All (λ share. share.0 < length table.now.rows) weights.now }
+    requires can { CanAddRows T.most table.now (amounts_of (dens_of table.now) multiple (weighing weights.now)) sums.old }
+    requires short { CanAddRows number_bound table.now (amounts_of (dens_of table.now) multiple (weighing weights.now)) sums.old }
+    ensures { OnOk result (sums.new ≡ added_rows table.now (amounts_of (dens_of table.now) multiple (weighing weights.now)) sums.old) }
+{
+    table.facts();
+    let mut rest = weights;
+    while let [weight, others @ ..] = rest {
+        add_weighted_row(table, weight, multiple, sums)?;
+        rest = others;
+    }
+    Ok(())
+}
