@@ -1,0 +1,4 @@
+pub mod SearchLemmas
+pub mod NumberLemmas
+pub mod RefineLemmas
+pub mod WrittenLemmas

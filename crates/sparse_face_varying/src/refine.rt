@@ -1,0 +1,75 @@
+//! Sparse levels of a texture channel, where faces are selected by their numbers.
+
+ghost use Rattle.std.specs.Prelude.{◌≡◌, ◌+◌, ◌<◌, ◌≤◌, length, map, IfOk, MatchResult};
+ghost use Rattle.std.specs.List.Sorted.{IsStrictlyIncreasing};
+ghost use Rattle.channel_refine.specs.Evaluated.{control_rows};
+ghost use Rattle.channel_refine.specs.Refined.{AreControls};
+ghost use Rattle.sparse_refiner.specs.Refined.{IsNextOf, IsRefined, IsRefusal, SparseOf, places_for};
+ghost use Rattle.sparse_channel.specs.Refined.{AreSparseLevels, IsSparseFault};
+ghost use Rattle.sparse_channel.specs.View.{sparse_rows};
+ghost use Rattle.sparse_texture_laws.specs.Selection.{IsSelection, is_chosen};
+ghost use Rattle.sparse_face_varying.specs.Steps.{AreMeetingSteps};
+
+use crate::chosen::{Chosen, ChosenLevels, is_chosen, is_chosen_in};
+use channel_refine::BaseChannel;
+use feature_select::SelectRule;
+use level_topology::FaceFacts;
+use level_walk::WalkFault;
+use ratio128::{Primvar, Steps};
+use sparse_channel::refine_sparse;
+use sparse_faces::SparseValues;
+use sparse_refiner::{RefineFault, SparseLevel, SparseStep, refine_selected};
+use std::alloc::Global;
+use std::sync::ledger::Ledger;
+
+/// The next sparse level of a channel, where those faces are selected that have one of the numbers and are no holes. The numbers
+/// ascend. They are searched for each inner face. It is one step for each new face.
+///
+/// It answers `TooLarge` with the number of new faces where there are more than 2^22, before anything is made, `Chaikin` with the
+/// least vertex on a selected face at which halves of edges overflow, and `Memory` where memory runs out.
+pub fn refine_like<L: Ledger>(
+    alloc: Global,
+    channel: &SparseLevel,
+    numbers: &[u64],
+    steps: &mut Steps<L>,
+) -> Result<SparseStep, RefineFault>
+    requires depth { channel.now.depth < 10 }
+    requires ascending { IsStrictlyIncreasing numbers.now }
+    ensures refined { MatchResult result (IsRefined (is_chosen numbers.now) channel.now) (IsRefusal (is_chosen numbers.now) channel.now) }
+    ensures sparse { (of : SparseOf (is_chosen numbers.now) channel.now) → IfOk result (IsNextOf of) }
+    ensures steps { steps.new ≤ steps.old + length (places_for (is_chosen numbers.now) channel.now) }
+    ensures later { steps.old ≤ steps.new }
+{
+    let rule = SelectRule::with(Chosen { numbers }, |facts: &FaceFacts| {
+        is_chosen(numbers, facts)
+    });
+    refine_selected(alloc, channel, &rule, steps)
+}
+
+/// The sparse levels of a channel from 0 to a depth of at most 10, where at each level those faces are selected that have one of its
+/// numbers. It is one step for each face of the levels after the first, and at most one for each entry of the tables of present points.
+///
+/// A fault is that of the first level, counted from 1, that cannot be had: more than 2^22 present faces, and then the first number that
+/// passes its bound, in the order of the variants of [`OverflowKind`](level_walk::OverflowKind), with too many entries before the last.
+/// Memory may run out at any level.
+pub fn refine_sparse_texture<P: Primvar<L>, L: Ledger>(
+    alloc: Global,
+    base: BaseChannel,
+    numbers: &[Vec<u64>],
+    controls: &[P],
+    depth: u32,
+    steps: &mut Steps<L>,
+) -> Result<Vec<SparseValues<P>>, WalkFault>
+    requires depth { depth ≤ 10 }
+    requires controls { AreControls base (control_rows (map P.numbers controls.now)) }
+    requires selection { IsSelection base.base depth (map (λ n. n.items) numbers.now) }
+    ensures refined { MatchResult result
+        (λ levels. AreSparseLevels base (map (λ n. n.items) numbers.now) (control_rows (map P.numbers controls.now)) depth (map (sparse_rows P.numbers) levels.items))
+        (λ fault. IsSparseFault base (map (λ n. n.items) numbers.now) depth fault) }
+    ensures steps { AreMeetingSteps base (map (λ n. n.items) numbers.now) depth steps.old steps.new }
+{
+    let rule = SelectRule::with(ChosenLevels { levels: numbers }, |facts: &FaceFacts| {
+        is_chosen_in(numbers, facts)
+    });
+    refine_sparse(alloc, base, &rule, controls, depth, steps)
+}
