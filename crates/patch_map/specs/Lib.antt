@@ -1,0 +1,4 @@
+pub mod View
+pub mod Map
+pub mod Found
+pub mod Is
