@@ -1,0 +1,55 @@
+use Rattle.level_walk.specs.Walk.{at}
+use Rattle.level_walk.proofs.WalkLemmas.{handed-on}
+use Rattle.sparse_walk.proofs.StartLemmas.{each-complete, ready-base}
+use Rattle.sparse_map.proofs.GrowingLemmas.{all-mapped, all-steps, at-begin, no-fault, stopped-levels}
+use Rattle.sparse_map.proofs.series.map_sparse.Goals as goal
+
+pub base-requires : goal.base-requires
+base-requires g c = each-complete c.args.base c.requires.base
+
+pub walk-requires-clause-ready : goal.walk-requires-clause-ready
+walk-requires-clause-ready g c =
+    ready-base (g.T.FaceTest.meets c.args.rule.now.1) c.args.base c.requires.base c.facts.ensures _ _ c.in_ok-level.level c.args.depth c.in_ok-level.ensures c.requires.depth c.requires.answers
+
+pub returns-in_err-end-clause-map : goal.returns-in_err-end-clause-map
+returns-in_err-end-clause-map g c =
+    let test = g.T.FaceTest.meets c.args.rule.now.1 in
+    handed-on _ c.in_err-end.field-0.0 _ _ c.from_residual-in_err-end.ensures.0 c.from_residual-in_err-end.ensures.1
+    (stopped-levels test c.args.base.level c.args.depth _
+    (at-begin test c.args.base c.requires.base c.facts.ensures c.args.depth _ c.in_ok-level.ensures c.sparse.result.now c.sparse.ensures c.in_ok-growing.ensures)
+    c.in_err-end.field-0.0 c.walk.new.steps c.in_err-end.ensures).0
+
+pub returns-in_err-end-clause-steps : goal.returns-in_err-end-clause-steps
+returns-in_err-end-clause-steps g c =
+    let test = g.T.FaceTest.meets c.args.rule.now.1 in
+    (stopped-levels test c.args.base.level c.args.depth _
+    (at-begin test c.args.base c.requires.base c.facts.ensures c.args.depth _ c.in_ok-level.ensures c.sparse.result.now c.sparse.ensures c.in_ok-growing.ensures)
+    c.in_err-end.field-0.0 c.walk.new.steps c.in_err-end.ensures).1
+
+pub returns-in_err-into_map-clause-steps : goal.returns-in_err-into_map-clause-steps
+returns-in_err-into_map-clause-steps g c =
+    let test = g.T.FaceTest.meets c.args.rule.now.1 in
+    all-steps test c.args.base.level c.args.depth _
+    (at-begin test c.args.base c.requires.base c.facts.ensures c.args.depth _ c.in_ok-level.ensures c.sparse.result.now c.sparse.ensures c.in_ok-growing.ensures)
+    (at c.in_ok-end.end c.walk.new.visitor c.walk.new.steps) c.in_ok-end.ensures
+
+pub returns-clause-map : goal.returns-clause-map
+returns-clause-map g c =
+    let test = g.T.FaceTest.meets c.args.rule.now.1 in
+    all-mapped test c.args.base.level c.args.depth _
+    (at-begin test c.args.base c.requires.base c.facts.ensures c.args.depth _ c.in_ok-level.ensures c.sparse.result.now c.sparse.ensures c.in_ok-growing.ensures)
+    (at c.in_ok-end.end c.walk.new.visitor c.walk.new.steps) _ c.in_ok-end.ensures c.in_ok-into_map.ensures
+
+pub returns-clause-fine : goal.returns-clause-fine
+returns-clause-fine g c =
+    let test = g.T.FaceTest.meets c.args.rule.now.1 in
+    no-fault test c.args.base.level c.args.depth _
+    (at-begin test c.args.base c.requires.base c.facts.ensures c.args.depth _ c.in_ok-level.ensures c.sparse.result.now c.sparse.ensures c.in_ok-growing.ensures)
+    (at c.in_ok-end.end c.walk.new.visitor c.walk.new.steps) c.in_ok-end.ensures
+
+pub returns-clause-steps : goal.returns-clause-steps
+returns-clause-steps g c =
+    let test = g.T.FaceTest.meets c.args.rule.now.1 in
+    all-steps test c.args.base.level c.args.depth _
+    (at-begin test c.args.base c.requires.base c.facts.ensures c.args.depth _ c.in_ok-level.ensures c.sparse.result.now c.sparse.ensures c.in_ok-growing.ensures)
+    (at c.in_ok-end.end c.walk.new.visitor c.walk.new.steps) c.in_ok-end.ensures

@@ -1,0 +1,73 @@
+//! A visitor of a walk that makes a map of its levels.
+
+ghost use Rattle.std.specs.Prelude.{◌≡◌, IfOk};
+ghost use Rattle.patch_map.specs.Map.{map_of_base};
+ghost use Rattle.sparse_map.specs.Grown.{IsWithLevel};
+
+use level_walk::Visitor;
+use patch_map::PatchMap;
+use ratio128::Memory;
+use sparse_level::SparseLevel;
+use sparse_walk::WalkedSparse;
+use std::alloc::Global;
+use std::marker::Model;
+
+/// A visitor that keeps the map of the levels so far.
+#[derive(Drop)]
+pub(crate) struct Growing {
+    map: PatchMap,
+}
+
+impl Model for Growing {
+    ghost use Rattle.patch_map.specs.Map.{LevelMap};
+
+    ghost Value = { LevelMap };
+
+    ghost view = { λ g. g.map };
+}
+
+// Puts a level after those of a map. Level 0 is there already.
+fn put_level(map: &mut PatchMap, level: &WalkedSparse) -> Result<(), Memory>
+    ensures { IfOk result (λ _. IsWithLevel map.old level.now map.new) }
+{
+    if level.sparse().depth() == 0 {
+        return Ok(());
+    }
+    map.grow_to(level.before(), level.sparse())
+}
+
+impl Growing {
+    /// The map of level 0.
+    ///
+    /// It answers `Memory` where memory runs out.
+    pub(crate) fn start(alloc: Global, base: &SparseLevel) -> Result<Growing, Memory>
+        requires { base.now.depth ≡ 0 }
+        ensures { IfOk result (λ growing. growing ≡ map_of_base base.now.topology.level.polygons) }
+    {
+        let map = PatchMap::start(alloc, base)?;
+        Ok(Growing { map })
+    }
+
+    /// The map of all levels, of which the last is this one.
+    ///
+    /// It answers `Memory` where memory runs out, and the map is dropped then.
+    pub(crate) fn into_map(self, end: &WalkedSparse) -> Result<PatchMap, Memory>
+        ensures { IfOk result (λ map. IsWithLevel self end.now map) }
+    {
+        let mut map = self.map;
+        put_level(&mut map, end)?;
+        Ok(map)
+    }
+}
+
+impl<C: Drop> Visitor<WalkedSparse, C> for Growing {
+    ghost use Rattle.sparse_map.specs.Grown.{IsWithLevel};
+
+    ghost Takes = { λ before walked carried after. IsWithLevel before walked after };
+
+    fn leave(&mut self, level: WalkedSparse, carried: C) -> Result<(), Memory> {
+        drop(carried);
+        put_level(&mut self.map, &level)?;
+        Ok(())
+    }
+}
