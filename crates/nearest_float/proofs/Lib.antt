@@ -1,0 +1,13 @@
+pub mod UnitLemmas
+pub mod NearLemmas
+pub mod RoundLemmas
+pub mod DivideLemmas
+pub mod ScaleLemmas
+pub mod DistanceLemmas
+pub mod LastLemmas
+pub mod FormatLemmas
+pub mod TermLemmas
+pub mod SignLemmas
+pub mod ListLemmas
+pub mod LawLemmas
+pub mod BackLemmas

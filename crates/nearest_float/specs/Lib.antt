@@ -1,0 +1,7 @@
+pub mod Binary
+pub mod Nearest
+pub mod Scaled
+pub mod Exact
+pub mod Terms
+pub mod Faults
+pub mod Lists

@@ -1,0 +1,28 @@
+-- The number of a format that is nearest to a fraction.
+use Rattle.std.specs.Prelude.{ℕ, ◌+◌, ◌-◌, ◌*◌, ◌%◌, ◌^◌, ◌≤◌, ◌≡◌, ◌≢◌, ◌↔◌, ℤ, pos, ◌*ℤ◌, ◌-ℤ◌, unsigned_abs, int_lt, if◌then◌else◌}
+use Rattle.nearest_float.specs.Binary.{Format, unit_bits, size_of, sign_of, infinity, IsFinite, significand, units, value_of}
+
+-- How far a number is from num / den, as a numerator over den * 2 ^ unit_bits.
+abbrev pub distance : Format → ℤ → ℕ → ℕ → ℕ
+distance f num den bits = unsigned_abs (num *ℤ pos (2 ^ unit_bits f) -ℤ value_of f bits *ℤ pos den)
+
+-- No number is nearer, and where another is as near the significand is even.
+pub record IsNearestFinite (f : Format) (num : ℤ) (den bits : ℕ) : Type 0 where
+  pub nearest : (other : ℕ) → IsFinite f other → distance f num den bits ≤ distance f num den other
+  pub even : (other : ℕ) → IsFinite f other → value_of f other ≢ value_of f bits → distance f num den other ≡ distance f num den bits
+      → significand f.fraction_bits (size_of f bits) % 2 ≡ 0
+
+-- Twice the number halfway between the greatest finite one and the power of two above it, in units.
+abbrev pub twice_last_half : Format → ℕ
+twice_last_half f = units f.fraction_bits (infinity f - 1) + units f.fraction_bits (infinity f)
+
+-- The fraction is at least halfway past the greatest finite number.
+abbrev pub IsPastFinite : Format → ℤ → ℕ → Type 0
+IsPastFinite f num den = twice_last_half f * den ≤ 2 * (unsigned_abs num * 2 ^ unit_bits f)
+
+-- The bits are those of the number nearest to num / den, ties to even: infinity exactly past the finite ones, and 0 without a sign.
+pub record IsNearest (f : Format) (num : ℤ) (den bits : ℕ) : Type 0 where
+  pub sign : sign_of f bits ≡ if (int_lt num (pos 0)) then 1 else 0
+  pub finite : IsFinite f bits → IsNearestFinite f num den bits
+  pub infinite : size_of f bits ≡ infinity f ↔ IsPastFinite f num den
+  pub number : size_of f bits ≤ infinity f

@@ -1,0 +1,131 @@
+ghost use Rattle.std.specs.Prelude.{◌≡◌, ℕ, ◌+◌, ◌*◌, ◌/◌, ◌%◌, ◌^◌, ◌<◌, ◌≤◌, MatchResult};
+ghost use Rattle.nearest_float.specs.Binary.{binary32, binary64, significand, doublings, units, signed_by};
+ghost use Rattle.nearest_float.specs.Exact.{IsExact};
+ghost use Rattle.nearest_float.specs.Faults.{IsReading, IsRefused};
+ghost use Rattle.nearest_float.specs.Terms.{AreTermsOf};
+
+use crate::FloatFault;
+use ratio128::Frac;
+
+const INFINITY64: u64 = 0x7ff0_0000_0000_0000;
+
+const INFINITY32: u32 = 0x7f80_0000;
+
+const SIGN64: u64 = 0x8000_0000_0000_0000;
+
+const SIGN32: u32 = 0x8000_0000;
+
+// A size as a significand, and how often a unit times it is doubled.
+#[derive(Clone, Copy)]
+struct Parts {
+    significand: u64,
+    doublings: u32,
+}
+
+fn parts_of(size: u64, fraction_bits: u32) -> Parts
+    requires short { fraction_bits ≤ 52 }
+    requires finite { size < 2047 * 2 ^ fraction_bits }
+    ensures significand { result.significand ≡ significand fraction_bits size }
+    ensures doublings { result.doublings ≡ doublings fraction_bits size }
+    ensures few { result.doublings < 2047 }
+{
+    let field = size >> fraction_bits;
+    let fraction = size - (field << fraction_bits);
+    if field == 0 {
+        Parts {
+            significand: fraction,
+            doublings: 0,
+        }
+    } else {
+        Parts {
+            significand: fraction + (1 << fraction_bits),
+            doublings: (field - 1) as u32,
+        }
+    }
+}
+
+// The numerator and the denominator of an odd number of units, doubled so often. A unit is 1 over 2^unit_bits.
+fn terms_of_odd(odd: u128, doublings: u32, unit_bits: u32) -> Option<(u128, u128)>
+    requires odd { odd % 2 ≡ 1 }
+    requires fits { odd < 2 ^ 64 }
+    requires few { doublings < 2 ^ 12 }
+    requires unit_fits { unit_bits < 2 ^ 12 }
+    ensures { AreTermsOf (odd * 2 ^ doublings) (2 ^ unit_bits) result }
+{
+    if doublings < unit_bits {
+        let halvings = unit_bits - doublings;
+        if halvings > 126 {
+            None
+        } else {
+            Some((odd, 1 << halvings))
+        }
+    } else {
+        let shift = doublings - unit_bits;
+        if odd.ilog2() + shift > 126 {
+            None
+        } else {
+            Some((odd << shift, 1))
+        }
+    }
+}
+
+// The numerator and the denominator of a number of units, doubled so often.
+fn terms_of(parts: Parts, unit_bits: u32) -> Option<(u128, u128)>
+    requires few { parts.doublings < 2047 }
+    requires unit_fits { unit_bits < 2 ^ 12 }
+    ensures { AreTermsOf (parts.significand * 2 ^ parts.doublings) (2 ^ unit_bits) result }
+{
+    if parts.significand == 0 {
+        return Some((0, 1));
+    }
+    let amount = parts.significand as u128;
+    let twos = amount.trailing_zeros();
+    terms_of_odd(amount >> twos, parts.doublings + twos, unit_bits)
+}
+
+// The amount, below 0 where the sign is not 0.
+fn signed(sign: u64, amount: u128) -> i128
+    requires { amount < 2 ^ 127 }
+    ensures { result ≡ signed_by sign amount }
+{
+    let size = amount as i128;
+    if sign == 0 { size } else { -size }
+}
+
+// The fraction of a finite size with a sign.
+fn exact(sign: u64, size: u64, fraction_bits: u32, unit_bits: u32) -> Result<Frac, FloatFault>
+    requires short { fraction_bits ≤ 52 }
+    requires finite { size < 2047 * 2 ^ fraction_bits }
+    requires unit_fits { unit_bits < 2 ^ 12 }
+    ensures { IsReading (signed_by sign (units fraction_bits size)) (2 ^ unit_bits) result }
+{
+    match terms_of(parts_of(size, fraction_bits), unit_bits) {
+        None => Err(FloatFault::TooWide),
+        Some((amount, den)) => Ok(Frac {
+            num: signed(sign, amount),
+            den,
+        }),
+    }
+}
+
+/// The exact fraction of the binary64 number of the bits, in lowest terms.
+pub fn exact_binary64(bits: u64) -> Result<Frac, FloatFault>
+    ensures { MatchResult result (λ x. IsExact binary64 bits x.num x.den) (λ fault. IsRefused binary64 bits fault) }
+{
+    let size = bits % SIGN64;
+    if size >= INFINITY64 {
+        return Err(FloatFault::NotFinite);
+    }
+    exact(bits / SIGN64, size, 52, 1074)
+}
+
+/// The exact fraction of the binary32 number of the bits, in lowest terms.
+pub fn exact_binary32(bits: u32) -> Result<Frac, FloatFault>
+    ensures { MatchResult result (λ x. IsExact binary32 bits x.num x.den) (λ fault. IsRefused binary32 bits fault) }
+{
+    let size = bits % SIGN32;
+    if size >= INFINITY32 {
+        return Err(FloatFault::NotFinite);
+    }
+    exact((bits / SIGN32) as u64, size as u64, 23, 149)
+}

@@ -1,0 +1,56 @@
+//! Why bits have no fraction.
+
+use ratio128::Memory;
+use std::alloc::AllocError;
+use std::fmt;
+
+/// Why the bits of a number have no fraction.
+#[derive(Clone, Copy, Debug, PartialEq, Eq)]
+pub enum FloatFault {
+    /// They are those of an infinity or of what is no number.
+    NotFinite,
+    /// In lowest terms the numerator is 2^127 or more in amount, or the denominator is above 2^126.
+    TooWide,
+}
+
+impl fmt::Display for FloatFault {
+    fn fmt<W: fmt::Write>(&self, f: &mut fmt::Formatter<W>) -> fmt::Result {
+        match self {
+            FloatFault::NotFinite => f.write_str("not a finite number"),
+            FloatFault::TooWide => f.write_str("the fraction is too wide"),
+        }
+    }
+}
+
+impl std::error::Error for FloatFault {}
+
+/// Why the bits of a list of numbers have no fractions.
+#[derive(Clone, Copy, Debug, PartialEq, Eq)]
+pub enum ListFault {
+    /// The number at this place, counted from 0, is the first without a fraction.
+    At(usize, FloatFault),
+    /// Memory ran out.
+    Memory,
+}
+
+impl fmt::Display for ListFault {
+    fn fmt<W: fmt::Write>(&self, f: &mut fmt::Formatter<W>) -> fmt::Result {
+        match self {
+            ListFault::At(place, fault) => write!(f, "number {place}: {fault}"),
+            ListFault::Memory => f.write_str(Memory.text()),
+        }
+    }
+}
+
+impl std::error::Error for ListFault {}
+
+impl From<AllocError> for ListFault {
+    ghost use Rattle.std.specs.Prelude.{◌≡◌};
+    ghost use Rattle.nearest_float.specs.declared.fault.ListFault.TheVariants.{Memory};
+
+    ghost from_gives = { λ _ e. e ≡ Memory };
+
+    fn from(_: AllocError) -> ListFault {
+        ListFault::Memory
+    }
+}

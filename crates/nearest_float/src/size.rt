@@ -1,0 +1,114 @@
+ghost use Rattle.std.specs.Prelude.{◌≡◌, ℕ, ◌+◌, ◌-◌, ◌*◌, ◌^◌, ◌<◌, ◌≤◌};
+ghost use Rattle.nearest_float.specs.Scaled.{IsScaled, IsNearestSize, rounded_half_even};
+
+// A fraction as a quotient from 1 up to 2, and how often a unit times the quotient is doubled.
+#[derive(Clone, Copy)]
+struct WideFraction {
+    top: u128,
+    bottom: u128,
+    doublings: u32,
+}
+
+// The fraction in units, of which 1 has 2^unit_bits.
+fn widen(amount: u128, den: u128, unit_bits: u32) -> WideFraction
+    requires amount { 0 < amount }
+    requires amount_fits { amount < 2 ^ 127 }
+    requires den { 0 < den }
+    requires den_fits { den < 2 ^ 127 }
+    requires fine { 127 ≤ unit_bits }
+    requires unit_fits { unit_bits ≤ 1074 }
+    ensures scaled { IsScaled (amount * 2 ^ unit_bits) den result.top result.bottom result.doublings }
+    ensures few { result.doublings ≤ unit_bits + 126 }
+{
+    let amount_shift = 126 - amount.ilog2();
+    let den_shift = 126 - den.ilog2();
+    let top = amount << amount_shift;
+    let bottom = den << den_shift;
+    let doublings = unit_bits + den_shift - amount_shift;
+    if top < bottom {
+        WideFraction {
+            top: top << 1,
+            bottom,
+            doublings: doublings - 1,
+        }
+    } else {
+        WideFraction {
+            top,
+            bottom,
+            doublings,
+        }
+    }
+}
+
+// The whole quotient of top * 2^shift by bottom, and the rest. The quotient by the upper half of bottom, rounded up, is
+// at most 1 too small.
+fn long_quotient(top: u128, bottom: u128, shift: u32) -> (u64, u128)
+    requires wide { 2 ^ 126 ≤ bottom }
+    requires fits { bottom < 2 ^ 127 }
+    requires below { top < 2 * bottom }
+    requires short { shift ≤ 52 }
+    ensures whole { top * 2 ^ shift ≡ result.0 * bottom + result.1 }
+    ensures rest { result.1 < bottom }
+    ensures few { result.0 < 2 ^ 53 }
+{
+    let guess = (top >> (64 - shift)) / ((bottom >> 64) + 1);
+    let rest = (top << shift).wrapping_sub(guess.wrapping_mul(bottom));
+    if rest < bottom {
+        (guess as u64, rest)
+    } else {
+        (guess as u64 + 1, rest - bottom)
+    }
+}
+
+// The quotient with the rest over bottom rounded, ties to even.
+fn rounded(quotient: u64, rest: u128, bottom: u128) -> u64
+    requires few { quotient < 2 ^ 53 }
+    requires rest { rest < bottom }
+    requires fits { bottom < 2 ^ 127 }
+    ensures value { result ≡ rounded_half_even quotient rest bottom }
+    ensures few { result ≤ 2 ^ 53 }
+{
+    let twice = rest * 2;
+    if twice < bottom {
+        quotient
+    } else if bottom < twice {
+        quotient + 1
+    } else {
+        quotient + quotient % 2
+    }
+}
+
+// A significand, doubled so often, as a size. A significand of twice the hidden bit counts one more doubling.
+fn size_from(doublings: u64, significand: u64, fraction_bits: u32) -> u64
+    requires short { fraction_bits ≤ 52 }
+    requires fits { doublings * 2 ^ fraction_bits + significand < 2 ^ 64 }
+    ensures { result ≡ doublings * 2 ^ fraction_bits + significand }
+{
+    (doublings << fraction_bits) + significand
+}
+
+// The size of the nearest number, in a format without a greatest exponent.
+pub(crate) fn nearest_size(amount: u128, den: u128, fraction_bits: u32, unit_bits: u32) -> u64
+    requires amount_fits { amount < 2 ^ 127 }
+    requires den { 0 < den }
+    requires den_fits { den < 2 ^ 127 }
+    requires some { 0 < fraction_bits }
+    requires short { fraction_bits ≤ 52 }
+    requires fine { 127 ≤ unit_bits }
+    requires unit_fits { unit_bits ≤ 1074 }
+    ensures nearest { IsNearestSize fraction_bits (amount * 2 ^ unit_bits) den result }
+    ensures within { result ≤ (unit_bits + 128 - fraction_bits) * 2 ^ fraction_bits }
+{
+    if amount == 0 {
+        return 0;
+    }
+    let fraction = widen(amount, den, unit_bits);
+    let shift = fraction_bits.min(fraction.doublings);
+    let (quotient, rest) = long_quotient(fraction.top, fraction.bottom, shift);
+    let significand = rounded(quotient, rest, fraction.bottom);
+    size_from(
+        (fraction.doublings - shift) as u64,
+        significand,
+        fraction_bits,
+    )
+}
