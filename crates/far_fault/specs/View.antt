@@ -11,7 +11,7 @@ use Rattle.far_fault.specs.declared.fault.Track.TheVariants.{Positions, Texture,
 use Rattle.far_fault.specs.declared.fault.LimitCause.{LimitCause}
 use Rattle.far_fault.specs.declared.fault.LimitCause.TheVariants.{Dart, SemiSharp}
 use Rattle.far_fault.specs.declared.fault.PlaceFault.{PlaceFault}
-use Rattle.far_fault.specs.declared.fault.PlaceFault.TheVariants.{NoFace, NotRegular}
+use Rattle.far_fault.specs.declared.fault.PlaceFault.TheVariants.{NoFace, NotRegular, NoCorner, IsHole}
 use Rattle.far_fault.specs.declared.fault.FarFault.{FarFault}
 use Rattle.far_fault.specs.declared.fault.FarFault.TheVariants.{Usage, Read, Long, Obj, Mesh, TooLarge, Overflow, Limit, Place, Table, Differs, Controls, Write, Memory}
 
@@ -28,6 +28,8 @@ limit_cause_of (SemiSharp v) = model.SemiSharp v
 abbrev pub place_fault_of : PlaceFault → model.PlaceFault
 place_fault_of (NoFace count) = model.NoFace count
 place_fault_of (NotRegular face) = model.NotRegular face
+place_fault_of (NoCorner count) = model.NoCorner count
+place_fault_of (IsHole face) = model.IsHole face
 
 abbrev pub fault_of : FarFault → model.Fault
 fault_of (Usage word) = model.Usage word

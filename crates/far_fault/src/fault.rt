@@ -36,13 +36,18 @@ pub enum LimitCause {
     SemiSharp(u32),
 }
 
-/// Why a place on a level has no answer. Faces are counted from 0.
+/// Why a place on a level has no answer. Faces and corners are counted from 0.
 #[derive(Clone, Copy, Debug, PartialEq, Eq)]
 pub enum PlaceFault {
     /// The level has no face of the number that is asked for. `count` is how many it has.
     NoFace { count: u32 },
     /// The face is no quad, or one of its corners is at the boundary, sharp, or without four quads around it.
     NotRegular { face: u32 },
+    /// The face has no place with the corner that is asked for. `count` is how many corners it has. Each of them has places, unless
+    /// there are four: then corner 0 has all of them.
+    NoCorner { count: u32 },
+    /// The face is a hole.
+    IsHole { face: u32 },
 }
 
 /// The fault of a run. Each fault has a status and a line on standard error.
@@ -76,7 +81,7 @@ pub enum FarFault {
     },
     /// A point has no limit point. The field names the least such point.
     Limit(LimitCause),
-    /// A place on the last level has no answer.
+    /// A place on a level has no answer. The level is the last one, or for a map that of the mesh.
     Place(PlaceFault),
     /// A stored table is refused. `line` is its first bad line, counted from 1 over the whole input.
     Table {
@@ -172,6 +177,10 @@ fn place_pieces(fault: PlaceFault) -> Pieces
         PlaceFault::NotRegular { face } => {
             Pieces::about("face ", face as u64, " is not a regular inner face")
         }
+        PlaceFault::NoCorner { count } => {
+            Pieces::about("the face has ", count as u64, " corners")
+        }
+        PlaceFault::IsHole { face } => Pieces::about("face ", face as u64, " is a hole"),
     }
 }
 
