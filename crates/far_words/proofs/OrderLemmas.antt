@@ -11,7 +11,7 @@ use Rattle.std.proofs.lemmas.Slice.Eq.{bytes_eq-Decides}
 use Rattle.std.proofs.lemmas.Map.Keys.{IsDistinct-IsPermutation}
 use Rattle.std.proofs.lemmas.Map.Views.{Contains-from_lookup, lookup-from_Contains}
 use Rattle.far_model.specs.Words.{OptionRule, CommandRule, option_name, option_value, is_option_of, has_option, has_required, first_bad_option, value_of, usage_of_options, usage_of_rule, required_number, rule_named, usage_of}
-use Rattle.far_model.specs.Command.{Command, Reads, Stored, Makes, Streams, Refine, Sparse, Stencils, Limit, Levels, Patch, Verify, Apply, Gen, Frames, RefineOptions, SparseOptions, LimitOptions, PatchOptions, FramesOptions, GenOptions, command_named, frames_of, gen_of, limit_of, patch_of, refine_of, sparse_of, read_words_by, read_or}
+use Rattle.far_model.specs.Command.{Command, Reads, Stored, Makes, Streams, Refine, Sparse, Stencils, Limit, Levels, Patch, Map, Verify, Apply, Gen, Frames, RefineOptions, SparseOptions, LimitOptions, PatchOptions, MapOptions, FramesOptions, GenOptions, command_named, frames_of, gen_of, limit_of, map_of, patch_of, refine_of, sparse_of, read_words_by, read_or}
 use Rattle.far_words.proofs.GoodOptionLemmas.{names_of, IsGood, good-or-early, none-bad-of-good}
 
 -- an option as its name and its value
@@ -119,8 +119,8 @@ usage-order None options others p h = absurd (cc)
 usage-order (Some rule) options others p h = understood-order rule.options options others p h
 
 -- a command of a name, by what its options say
-abbrev command-by : (name : List ℕ) (refine : RefineOptions) (sparse : SparseOptions) (depth : ℕ) (limit : LimitOptions) (frames : FramesOptions) (patch : PatchOptions) (gen : GenOptions) → Command
-command-by name refine sparse depth limit frames patch gen =
+abbrev command-by : (name : List ℕ) (refine : RefineOptions) (sparse : SparseOptions) (depth : ℕ) (limit : LimitOptions) (frames : FramesOptions) (patch : PatchOptions) (map : MapOptions) (gen : GenOptions) → Command
+command-by name refine sparse depth limit frames patch map gen =
     if bytes_eq name (codes "refine") then Reads (Refine refine)
     else if bytes_eq name (codes "sparse") then Reads (Sparse sparse)
     else if bytes_eq name (codes "stencils") then Reads (Stencils depth)
@@ -128,6 +128,7 @@ command-by name refine sparse depth limit frames patch gen =
     else if bytes_eq name (codes "frames") then Streams (Frames frames)
     else if bytes_eq name (codes "levels") then Reads (Levels depth)
     else if bytes_eq name (codes "patch") then Reads (Patch patch)
+    else if bytes_eq name (codes "map") then Reads (Map map)
     else if bytes_eq name (codes "verify") then Stored (Verify depth)
     else if bytes_eq name (codes "apply") then Stored Apply
     else Makes (Gen gen)
@@ -141,13 +142,16 @@ module _ (options others : List (List ℕ)) (same : (n : List ℕ) → value_of 
   refine-same = cc (same (codes "depth"), same (codes "decimals"), same (codes "uv"), same (codes "by"), same (codes "tags"))
 
   sparse-same : sparse_of others ≡ sparse_of options
-  sparse-same = cc (same (codes "depth"), same (codes "select"), same (codes "decimals"))
+  sparse-same = cc (same (codes "depth"), same (codes "select"), same (codes "decimals"), same (codes "uv"))
 
   limit-same : limit_of others ≡ limit_of options
   limit-same = cc (same (codes "depth"), same (codes "decimals"))
 
   patch-same : patch_of others ≡ patch_of options
   patch-same = cc (same (codes "depth"), same (codes "face"), same (codes "grid"))
+
+  map-same : map_of others ≡ map_of options
+  map-same = cc (same (codes "depth"), same (codes "face"), same (codes "grid"), same (codes "corner"), same (codes "select"))
 
   frames-same : frames_of others ≡ frames_of options
   frames-same = cc (same (codes "depth"), same (codes "scale"))
@@ -157,13 +161,14 @@ module _ (options others : List (List ℕ)) (same : (n : List ℕ) → value_of 
 
   command-same : (name : List ℕ) → command_named name others ≡ command_named name options
   command-same name =
-      ap (λ refine. command-by name refine (sparse_of others) (required_number others (codes "depth")) (limit_of others) (frames_of others) (patch_of others) (gen_of others)) refine-same
-      ∙ ap (λ sparse. command-by name (refine_of options) sparse (required_number others (codes "depth")) (limit_of others) (frames_of others) (patch_of others) (gen_of others)) sparse-same
-      ∙ ap (λ depth. command-by name (refine_of options) (sparse_of options) depth (limit_of others) (frames_of others) (patch_of others) (gen_of others)) depth-same
-      ∙ ap (λ limit. command-by name (refine_of options) (sparse_of options) (required_number options (codes "depth")) limit (frames_of others) (patch_of others) (gen_of others)) limit-same
-      ∙ ap (λ frames. command-by name (refine_of options) (sparse_of options) (required_number options (codes "depth")) (limit_of options) frames (patch_of others) (gen_of others)) frames-same
-      ∙ ap (λ patch. command-by name (refine_of options) (sparse_of options) (required_number options (codes "depth")) (limit_of options) (frames_of options) patch (gen_of others)) patch-same
-      ∙ ap (command-by name (refine_of options) (sparse_of options) (required_number options (codes "depth")) (limit_of options) (frames_of options) (patch_of options)) gen-same
+      ap (λ refine. command-by name refine (sparse_of others) (required_number others (codes "depth")) (limit_of others) (frames_of others) (patch_of others) (map_of others) (gen_of others)) refine-same
+      ∙ ap (λ sparse. command-by name (refine_of options) sparse (required_number others (codes "depth")) (limit_of others) (frames_of others) (patch_of others) (map_of others) (gen_of others)) sparse-same
+      ∙ ap (λ depth. command-by name (refine_of options) (sparse_of options) depth (limit_of others) (frames_of others) (patch_of others) (map_of others) (gen_of others)) depth-same
+      ∙ ap (λ limit. command-by name (refine_of options) (sparse_of options) (required_number options (codes "depth")) limit (frames_of others) (patch_of others) (map_of others) (gen_of others)) limit-same
+      ∙ ap (λ frames. command-by name (refine_of options) (sparse_of options) (required_number options (codes "depth")) (limit_of options) frames (patch_of others) (map_of others) (gen_of others)) frames-same
+      ∙ ap (λ patch. command-by name (refine_of options) (sparse_of options) (required_number options (codes "depth")) (limit_of options) (frames_of options) patch (map_of others) (gen_of others)) patch-same
+      ∙ ap (λ map. command-by name (refine_of options) (sparse_of options) (required_number options (codes "depth")) (limit_of options) (frames_of options) (patch_of options) map (gen_of others)) map-same
+      ∙ ap (command-by name (refine_of options) (sparse_of options) (required_number options (codes "depth")) (limit_of options) (frames_of options) (patch_of options) (map_of options)) gen-same
 
 value-in-order : (found : Option CommandRule) (options others : List (List ℕ)) → IsPermutation options others
     → usage_of_rule found options ≡ None

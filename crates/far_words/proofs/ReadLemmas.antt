@@ -63,6 +63,7 @@ small-numbers rule options small h =
       scale = numbers-of-good rule.options options all.0 good (codes "scale") refl;
       face = numbers-of-good rule.options options all.0 good (codes "face") refl;
       grid = numbers-of-good rule.options options all.0 good (codes "grid") refl;
+      corner = numbers-of-good rule.options options all.0 good (codes "corner") refl;
     }
 
 pub few-rules : (rule : CommandRule) → is_u32_rule rule ≡ true → length rule.options < 4294967295

@@ -70,6 +70,18 @@ patch_rule = record {
   options = required_option (codes "depth") 0 10 ∷ required_option (codes "face") 0 4194303 ∷ required_option (codes "grid") 1 64 ∷ [];
 }
 
+abbrev map_rule : CommandRule
+map_rule = record {
+  name = codes "map";
+  options =
+      required_option (codes "depth") 0 10
+      ∷ required_option (codes "face") 0 1048575
+      ∷ required_option (codes "grid") 1 256
+      ∷ number_option (codes "corner") 0 65535
+      ∷ name_option (codes "select") select_names
+      ∷ [];
+}
+
 abbrev frames_rule : CommandRule
 frames_rule = record { name = codes "frames"; options = required_option (codes "depth") 0 10 ∷ number_option (codes "scale") 0 18 ∷ [] }
 
@@ -193,51 +205,76 @@ frames_depth options none =
     let allowed = allowed-of-rule (Some frames_rule) options frames_rule (codes "depth") found.0 refl none found.1 in
     (number_within options (codes "depth") found.0 0 10 found.1 allowed).1
 
+map_corner : (options : List (List ℕ)) → usage_of_rule (Some map_rule) options ≡ None → required_number options (codes "corner") ≤ 65535
+map_corner options none = go (value_of options (codes "corner")) refl
+  where
+    go : (found : Option (List ℕ)) → value_of options (codes "corner") ≡ found → unwrap_or (option_map number_of_digits found) 0 ≤ 65535
+    go None is = omega arith
+    go (Some value) is =
+        (within_bounds (is_number_word value) 0 65535 (number_of_digits value)
+        (allowed-of-rule (Some map_rule) options map_rule (codes "corner") value refl none is)).1
+
+map_numbers : (options : List (List ℕ)) → usage_of_rule (Some map_rule) options ≡ None →
+    (required_number options (codes "depth") ≤ 10) × (required_number options (codes "face") < 2 ^ 20)
+    × (1 ≤ required_number options (codes "grid")) × (required_number options (codes "grid") ≤ 256) × (required_number options (codes "corner") < 2 ^ 16)
+map_numbers options none =
+    let there = each_of_three (is_some (value_of options (codes "depth"))) (is_some (value_of options (codes "face"))) (is_some (value_of options (codes "grid")))
+    (required-of-rule (Some map_rule) options map_rule refl none) in
+    let depth = some_value (value_of options (codes "depth")) there.0 in
+    let face = some_value (value_of options (codes "face")) there.1 in
+    let grid = some_value (value_of options (codes "grid")) there.2 in
+    let depth_within = number_within options (codes "depth") depth.0 0 10 depth.1 (allowed-of-rule (Some map_rule) options map_rule (codes "depth") depth.0 refl none depth.1) in
+    let face_within = number_within options (codes "face") face.0 0 1048575 face.1 (allowed-of-rule (Some map_rule) options map_rule (codes "face") face.0 refl none face.1) in
+    let grid_within = number_within options (codes "grid") grid.0 1 256 grid.1 (allowed-of-rule (Some map_rule) options map_rule (codes "grid") grid.0 refl none grid.1) in
+    (depth_within.1, omega (arith, face_within.1), grid_within.0, grid_within.1, omega (arith, map_corner options none))
+
 -- words that are a command say one within the bounds of its options
 pub says-in-range : (words : List (List ℕ)) → usage_of command_table words ≡ None → IsInRange (command_of words)
 says-in-range [] none = absurd (cc)
 says-in-range (name ∷ options) none =
     by_test (bytes_eq name (codes "refine")) (bytes_eq name (codes "sparse")) (bytes_eq name (codes "stencils")) (bytes_eq name (codes "limit"))
-    (bytes_eq name (codes "frames")) (bytes_eq name (codes "levels")) (bytes_eq name (codes "patch")) (bytes_eq name (codes "verify"))
-    (bytes_eq name (codes "apply")) (bytes_eq name (codes "gen"))
-    refl refl refl refl refl refl refl refl refl refl none
+    (bytes_eq name (codes "frames")) (bytes_eq name (codes "levels")) (bytes_eq name (codes "patch")) (bytes_eq name (codes "map"))
+    (bytes_eq name (codes "verify")) (bytes_eq name (codes "apply")) (bytes_eq name (codes "gen"))
+    refl refl refl refl refl refl refl refl refl refl refl none
   where
     -- the command is that of this name
     named : (known : List ℕ) → bytes_eq name known ≡ true → IsInRange (command_of (known ∷ options)) → IsInRange (command_of (name ∷ options))
     named known is built = subst IsInRange (sym (ap (λ n. command_of (n ∷ options)) ((bytes_eq-Decides name known).0 is))) built
 
-    by_test : (refined thinned tabled limited moved counted patched verified applied made : Bool) →
+    by_test : (refined thinned tabled limited moved counted patched mapped verified applied made : Bool) →
         bytes_eq name (codes "refine") ≡ refined → bytes_eq name (codes "sparse") ≡ thinned → bytes_eq name (codes "stencils") ≡ tabled → bytes_eq name (codes "limit") ≡ limited →
-        bytes_eq name (codes "frames") ≡ moved → bytes_eq name (codes "levels") ≡ counted → bytes_eq name (codes "patch") ≡ patched → bytes_eq name (codes "verify") ≡ verified →
+        bytes_eq name (codes "frames") ≡ moved → bytes_eq name (codes "levels") ≡ counted → bytes_eq name (codes "patch") ≡ patched → bytes_eq name (codes "map") ≡ mapped → bytes_eq name (codes "verify") ≡ verified →
         bytes_eq name (codes "apply") ≡ applied → bytes_eq name (codes "gen") ≡ made →
         usage_of_rule
         (cond refined (Some refine_rule) (cond thinned (Some sparse_rule) (cond tabled (Some (depth_rule (codes "stencils"))) (cond limited (Some limit_rule)
-        (cond moved (Some frames_rule) (cond counted (Some (depth_rule (codes "levels"))) (cond patched (Some patch_rule) (cond verified (Some (depth_rule (codes "verify")))
-        (cond applied (Some apply_rule) (cond made (Some gen_rule) None))))))))))
+        (cond moved (Some frames_rule) (cond counted (Some (depth_rule (codes "levels"))) (cond patched (Some patch_rule) (cond mapped (Some map_rule)
+        (cond verified (Some (depth_rule (codes "verify"))) (cond applied (Some apply_rule) (cond made (Some gen_rule) None)))))))))))
         options ≡ None →
         IsInRange (command_of (name ∷ options))
-    by_test true thinned tabled limited moved counted patched verified applied made is d e l f g p h i j none =
+    by_test true thinned tabled limited moved counted patched mapped verified applied made is d e l f g p m h i j none =
         named (codes "refine") is (refine_depth options none, refine_decimals options none)
-    by_test false true tabled limited moved counted patched verified applied made d is e l f g p h i j none =
+    by_test false true tabled limited moved counted patched mapped verified applied made d is e l f g p m h i j none =
         named (codes "sparse") is (sparse_depth options none, sparse_decimals options none)
-    by_test false false true limited moved counted patched verified applied made d e is l f g p h i j none =
+    by_test false false true limited moved counted patched mapped verified applied made d e is l f g p m h i j none =
         named (codes "stencils") is (depth_alone (codes "stencils") options none)
-    by_test false false false true moved counted patched verified applied made d e l is f g p h i j none =
+    by_test false false false true moved counted patched mapped verified applied made d e l is f g p m h i j none =
         let depth = limit_depth options none in
         named (codes "limit") is (depth.0, depth.1, limit_decimals options none)
-    by_test false false false false true counted patched verified applied made d e l f is g p h i j none =
+    by_test false false false false true counted patched mapped verified applied made d e l f is g p m h i j none =
         named (codes "frames") is (frames_depth options none, frames_scale options none)
-    by_test false false false false false true patched verified applied made d e l f g is p h i j none =
+    by_test false false false false false true patched mapped verified applied made d e l f g is p m h i j none =
         named (codes "levels") is (depth_alone (codes "levels") options none)
-    by_test false false false false false false true verified applied made d e l f g p is h i j none =
+    by_test false false false false false false true mapped verified applied made d e l f g p is m h i j none =
         named (codes "patch") is (patch_numbers options none)
-    by_test false false false false false false false true applied made d e l f g p h is i j none =
+    by_test false false false false false false false true verified applied made d e l f g p n is h i j none =
+        named (codes "map") is (map_numbers options none)
+    by_test false false false false false false false false true applied made d e l f g p h m is i j none =
         named (codes "verify") is (depth_alone (codes "verify") options none)
-    by_test false false false false false false false false true made d e l f g p h i is j none =
+    by_test false false false false false false false false false true made d e l f g p h m i is j none =
         named (codes "apply") is tt
-    by_test false false false false false false false false false true d e l f g p h i j is none =
+    by_test false false false false false false false false false false true d e l f g p h m i j is none =
         named (codes "gen") is (gen_numbers options none)
-    by_test false false false false false false false false false false d e l f g p h i j k none = absurd (cc)
+    by_test false false false false false false false false false false false d e l f g p h m i j k none = absurd (cc)
 
 -- a command that was read is within the bounds of its options
 pub read-in-range : (words : List (List ℕ)) (r : Result Command ℕ) → result_of_code r ≡ read_words_by command_table words →

@@ -29,10 +29,11 @@ pub record AreNumbersU32 (options : List (List ℕ)) : Type 0 where
   pub scale : u32_of_option options (codes "scale") ≡ number_of options (codes "scale")
   pub face : u32_of_option options (codes "face") ≡ number_of options (codes "face")
   pub grid : u32_of_option options (codes "grid") ≡ number_of options (codes "grid")
+  pub corner : u32_of_option options (codes "corner") ≡ number_of options (codes "corner")
 
 -- the options whose values become numbers of a command
 abbrev pub number_names : List (List ℕ)
-number_names = codes "depth" ∷ codes "decimals" ∷ codes "seed" ∷ codes "size" ∷ codes "scale" ∷ codes "face" ∷ codes "grid" ∷ []
+number_names = codes "depth" ∷ codes "decimals" ∷ codes "seed" ∷ codes "size" ∷ codes "scale" ∷ codes "face" ∷ codes "grid" ∷ codes "corner" ∷ []
 
 abbrev pub is_u32_kind : ValueKind → Bool
 is_u32_kind (Between least greatest) = fits_u32 greatest

@@ -1,5 +1,5 @@
 -- The types of this crate, seen as those of the definitions.
-use Rattle.std.specs.Prelude.{ℕ, List, map, Result}
+use Rattle.std.specs.Prelude.{ℕ, List, map, Option, Some, None, Result}
 use Rattle.std.specs.Result.{result_map_both}
 use Rattle.far_model.specs.Words as words
 use Rattle.far_model.specs.Command as model
@@ -14,13 +14,16 @@ use Rattle.far_words.specs.declared.command.By.TheVariants.{Table, Level}
 use Rattle.far_words.specs.declared.command.RefineOptions.{RefineOptions}
 use Rattle.far_words.specs.declared.command.Select.{Select}
 use Rattle.far_words.specs.declared.command.Select.TheVariants.{Feature, All}
+use Rattle.far_words.specs.declared.command.SparseUv.{SparseUv}
+use Rattle.far_words.specs.declared.command.SparseUv.TheVariants as texture
 use Rattle.far_words.specs.declared.command.SparseOptions.{SparseOptions}
 use Rattle.far_words.specs.declared.command.LimitOptions.{LimitOptions}
 use Rattle.far_words.specs.declared.command.PatchOptions.{PatchOptions}
+use Rattle.far_words.specs.declared.command.MapOptions.{MapOptions}
 use Rattle.far_words.specs.declared.command.GenOptions.{GenOptions}
 use Rattle.far_words.specs.declared.command.FramesOptions.{FramesOptions}
 use Rattle.far_words.specs.declared.command.ReadCommand.{ReadCommand}
-use Rattle.far_words.specs.declared.command.ReadCommand.TheVariants.{Refine, Sparse, Stencils, Limit, Levels, Patch}
+use Rattle.far_words.specs.declared.command.ReadCommand.TheVariants.{Refine, Sparse, Stencils, Limit, Levels, Patch, Map}
 use Rattle.far_words.specs.declared.command.StoredCommand.{StoredCommand}
 use Rattle.far_words.specs.declared.command.StoredCommand.TheVariants.{Verify, Apply}
 use Rattle.far_words.specs.declared.command.MakeCommand.{MakeCommand}
@@ -66,14 +69,27 @@ abbrev pub select_of_code : Select → model.Select
 select_of_code Feature = model.FeatureFaces
 select_of_code All = model.AllFaces
 
+-- how the texture of sparse levels is refined, where it is written
+abbrev pub sparse_uv_of_code : SparseUv → Option model.Uv
+sparse_uv_of_code texture.NoTexture = None
+sparse_uv_of_code texture.Smooth = Some model.SmoothUv
+sparse_uv_of_code texture.Corners = Some model.CornersUv
+sparse_uv_of_code texture.Boundaries = Some model.BoundariesUv
+sparse_uv_of_code texture.Linear = Some model.LinearUv
+
 abbrev pub sparse_of_code : SparseOptions → model.SparseOptions
-sparse_of_code options = record { depth = options.depth; select = select_of_code options.select; decimals = options.decimals }
+sparse_of_code options =
+    record { depth = options.depth; select = select_of_code options.select; decimals = options.decimals; uv = sparse_uv_of_code options.uv }
 
 abbrev pub limit_of_code : LimitOptions → model.LimitOptions
 limit_of_code options = record { depth = options.depth; decimals = options.decimals }
 
 abbrev pub patch_of_code : PatchOptions → model.PatchOptions
 patch_of_code options = record { depth = options.depth; face = options.face; grid = options.grid }
+
+abbrev pub map_of_code : MapOptions → model.MapOptions
+map_of_code options =
+    record { depth = options.depth; face = options.face; grid = options.grid; corner = options.corner; select = select_of_code options.select }
 
 abbrev pub gen_of_code : GenOptions → model.GenOptions
 gen_of_code options = record { seed = options.seed; size = options.size; depth = options.depth }
@@ -88,6 +104,7 @@ read_of_code (Stencils depth) = model.Stencils depth
 read_of_code (Limit options) = model.Limit (limit_of_code options)
 read_of_code (Levels depth) = model.Levels depth
 read_of_code (Patch options) = model.Patch (patch_of_code options)
+read_of_code (Map options) = model.Map (map_of_code options)
 
 abbrev pub stored_of_code : StoredCommand → model.StoredCommand
 stored_of_code (Verify depth) = model.Verify depth

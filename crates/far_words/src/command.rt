@@ -1,8 +1,9 @@
 //! Commands as values.
 
-ghost use Rattle.std.specs.Prelude.{◌↔◌, IsTrue};
+ghost use Rattle.std.specs.Prelude.{◌≡◌, ◌↔◌, IsTrue};
+ghost use Rattle.std.specs.Option.{option_map};
 ghost use Rattle.far_model.specs.Command.{IsInRange, IsMakeInRange, IsReadInRange, IsStoredInRange, IsStreamInRange};
-ghost use Rattle.far_words.specs.View.{command_of_code, make_of_code, read_of_code, stored_of_code, stream_of_code};
+ghost use Rattle.far_words.specs.View.{command_of_code, make_of_code, read_of_code, sparse_uv_of_code, stored_of_code, stream_of_code, uv_of_code};
 
 /// How the texture is refined, and what stays sharp where seams cut it.
 #[derive(Clone, Copy, Debug, PartialEq, Eq)]
@@ -48,6 +49,21 @@ pub enum Select {
     All,
 }
 
+/// Whether the texture of sparse levels is written, and how it is refined.
+#[derive(Clone, Copy, Debug, PartialEq, Eq)]
+pub enum SparseUv {
+    /// No texture is written.
+    NoTexture,
+    /// As the mesh is, with nothing more sharp.
+    Smooth,
+    /// With the texture's points of one face sharp.
+    Corners,
+    /// With all points on the boundary of the cut texture sharp.
+    Boundaries,
+    /// Linearly.
+    Linear,
+}
+
 /// What `sparse` is asked for.
 #[derive(Clone, Copy, Debug, PartialEq, Eq)]
 pub struct SparseOptions {
@@ -56,6 +72,7 @@ pub struct SparseOptions {
     pub select: Select,
     /// How many decimals numbers are rounded to, at most 18, or `None` for fractions in lowest terms.
     pub decimals: Option<u32>,
+    pub uv: SparseUv,
 }
 
 /// What `limit` is asked for.
@@ -76,6 +93,21 @@ pub struct PatchOptions {
     pub face: u32,
     /// From 1 to 64.
     pub grid: u32,
+}
+
+/// What `map` is asked for: a depth, a face of the mesh, and how many steps its grid has along each side. Of a face that is no quad the
+/// places lie on the child face of a corner.
+#[derive(Clone, Copy, Debug, PartialEq, Eq)]
+pub struct MapOptions {
+    /// At most 10.
+    pub depth: u32,
+    /// The number of the face, counted from 0, below 2^20.
+    pub face: u32,
+    /// From 1 to 256.
+    pub grid: u32,
+    /// The corner, counted from 0, below 2^16. Of a quad it is 0.
+    pub corner: u32,
+    pub select: Select,
 }
 
 /// What `gen` is asked for: a sheet of `size` by `size` quads, and its depth.
@@ -112,6 +144,8 @@ pub enum ReadCommand {
     Levels { depth: u32 },
     /// Writes the points of the patch of a face of a mesh at a depth.
     Patch(PatchOptions),
+    /// Writes the leaf of the sparse levels of a mesh that has each place of a face.
+    Map(MapOptions),
 }
 
 /// A command that takes a stored table and then answers.
@@ -146,6 +180,21 @@ pub enum Command {
     Stream(StreamCommand),
 }
 
+impl SparseUv {
+    /// Returns how the texture is refined, or `None` where none is written.
+    pub fn texture(self) -> Option<Uv>
+        ensures { option_map uv_of_code result ≡ sparse_uv_of_code self }
+    {
+        match self {
+            SparseUv::NoTexture => None,
+            SparseUv::Smooth => Some(Uv::Smooth),
+            SparseUv::Corners => Some(Uv::Corners),
+            SparseUv::Boundaries => Some(Uv::Boundaries),
+            SparseUv::Linear => Some(Uv::Linear),
+        }
+    }
+}
+
 impl ReadCommand {
     /// Whether the numbers of the command are those that its options allow.
     pub fn is_in_range(&self) -> bool
@@ -168,6 +217,13 @@ impl ReadCommand {
                     && options.face <= 4194303
                     && 1 <= options.grid
                     && options.grid <= 64
+            }
+            ReadCommand::Map(options) => {
+                options.depth <= 10
+                    && options.face <= 1048575
+                    && 1 <= options.grid
+                    && options.grid <= 256
+                    && options.corner <= 65535
             }
         }
     }

@@ -9,8 +9,8 @@ mod read;
 mod table;
 
 pub use command::{
-    By, Command, FramesOptions, GenOptions, LimitOptions, MakeCommand, PatchOptions, ReadCommand,
-    RefineOptions, Select, SparseOptions, StoredCommand, StreamCommand, Uv,
+    By, Command, FramesOptions, GenOptions, LimitOptions, MakeCommand, MapOptions, PatchOptions,
+    ReadCommand, RefineOptions, Select, SparseOptions, SparseUv, StoredCommand, StreamCommand, Uv,
 };
 pub use read::{read_words, read_words_by};
 pub use table::{CommandRule, OptionRule, ValueKind, command_table};

@@ -6,12 +6,12 @@ ghost use Rattle.far_model.specs.Words.{usage_of_rule};
 ghost use Rattle.far_model.specs.Words as words;
 ghost use Rattle.far_model.specs.Command.{IsInRange, read_or};
 ghost use Rattle.far_model.specs.Command as model;
-ghost use Rattle.far_words.specs.View.{table_of_code, rule_of_code, uv_of_code, by_of_code, select_of_code, refine_of_code, sparse_of_code, limit_of_code, patch_of_code, gen_of_code, frames_of_code, command_of_code, result_of_code};
+ghost use Rattle.far_words.specs.View.{table_of_code, rule_of_code, uv_of_code, by_of_code, select_of_code, sparse_uv_of_code, refine_of_code, sparse_of_code, limit_of_code, patch_of_code, map_of_code, gen_of_code, frames_of_code, command_of_code, result_of_code};
 ghost use Rattle.far_words.specs.Table.{AreNumbersU32, is_u32_rule, is_u32_table, u32_of_option};
 
 use crate::command::{
-    By, Command, FramesOptions, GenOptions, LimitOptions, MakeCommand, PatchOptions, ReadCommand,
-    RefineOptions, Select, SparseOptions, StoredCommand, StreamCommand, Uv,
+    By, Command, FramesOptions, GenOptions, LimitOptions, MakeCommand, MapOptions, PatchOptions,
+    ReadCommand, RefineOptions, Select, SparseOptions, SparseUv, StoredCommand, StreamCommand, Uv,
 };
 use crate::options::{first_bad_option, has_required, number_of, value_of};
 use crate::table::{CommandRule, command_table};
@@ -66,6 +66,18 @@ fn select_named(name: &str) -> Select
     }
 }
 
+fn sparse_uv_named(name: &str) -> SparseUv
+    ensures { sparse_uv_of_code result ≡ model.sparse_uv_of name.now }
+{
+    match name {
+        "none" => SparseUv::NoTexture,
+        "corners" => SparseUv::Corners,
+        "boundaries" => SparseUv::Boundaries,
+        "linear" => SparseUv::Linear,
+        _ => SparseUv::Smooth,
+    }
+}
+
 fn sparse_of(options: &[String]) -> SparseOptions
     requires { AreNumbersU32 (map string_bytes options.now) }
     ensures { sparse_of_code result ≡ model.sparse_of (map string_bytes options.now) }
@@ -74,6 +86,7 @@ fn sparse_of(options: &[String]) -> SparseOptions
         depth: required_number(options, "depth"),
         select: select_named(value_of(options, "select").unwrap_or("feature")),
         decimals: number_of(options, "decimals"),
+        uv: sparse_uv_named(value_of(options, "uv").unwrap_or("none")),
     }
 }
 
@@ -95,6 +108,19 @@ fn patch_of(options: &[String]) -> PatchOptions
         depth: required_number(options, "depth"),
         face: required_number(options, "face"),
         grid: required_number(options, "grid"),
+    }
+}
+
+fn map_of(options: &[String]) -> MapOptions
+    requires { AreNumbersU32 (map string_bytes options.now) }
+    ensures { map_of_code result ≡ model.map_of (map string_bytes options.now) }
+{
+    MapOptions {
+        depth: required_number(options, "depth"),
+        face: required_number(options, "face"),
+        grid: required_number(options, "grid"),
+        corner: required_number(options, "corner"),
+        select: select_named(value_of(options, "select").unwrap_or("feature")),
     }
 }
 
@@ -136,6 +162,7 @@ fn command_named(name: &str, options: &[String]) -> Command
             depth: required_number(options, "depth"),
         }),
         "patch" => Command::Read(ReadCommand::Patch(patch_of(options))),
+        "map" => Command::Read(ReadCommand::Map(map_of(options))),
         "verify" => Command::Stored(StoredCommand::Verify {
             depth: required_number(options, "depth"),
         }),

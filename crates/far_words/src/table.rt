@@ -66,7 +66,7 @@ const COMMANDS: &[CommandRule] = &[
             required_option!("depth", 0, 10),
             name_option!("select", &["feature", "all"]),
             number_option!("decimals", 0, 18),
-            name_option!("uv", &["none"]),
+            name_option!("uv", &["none", "smooth", "corners", "boundaries", "linear"]),
         ],
     },
     CommandRule {
@@ -97,6 +97,16 @@ const COMMANDS: &[CommandRule] = &[
             required_option!("depth", 0, 10),
             required_option!("face", 0, 4194303),
             required_option!("grid", 1, 64),
+        ],
+    },
+    CommandRule {
+        name: "map",
+        options: &[
+            required_option!("depth", 0, 10),
+            required_option!("face", 0, 1048575),
+            required_option!("grid", 1, 256),
+            number_option!("corner", 0, 65535),
+            name_option!("select", &["feature", "all"]),
         ],
     },
     CommandRule {
