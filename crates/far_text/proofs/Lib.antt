@@ -4,7 +4,11 @@ mod PartsLemmas
 mod NumberedLemmas
 mod RoundingLemmas
 mod CountLineLemmas
+mod GridLemmas
 mod PatchLemmas
+mod FaceNumberLemmas
+pub mod MapLemmas
+pub mod TexturedLemmas
 pub mod LevelsLemmas
 pub mod SparseLemmas
 pub mod SameTextLemmas

@@ -84,7 +84,7 @@ pub alike-corners : (ps qs : List Polygon) (f : ℕ) → map length qs ≡ map l
 alike-corners ps qs f alike = sym (get_or-map length qs f []) ∙ ap (λ (sizes : List ℕ). get_or sizes f 0) alike ∙ get_or-map length ps f []
 
 -- as many pairs as items in the first of two lists that are as long
-zip-long : {X Y : Type 0} (xs : List X) (ys : List Y) → length ys ≡ length xs → length (zip xs ys) ≡ length xs
+pub zip-long : {X Y : Type 0} (xs : List X) (ys : List Y) → length ys ≡ length xs → length (zip xs ys) ≡ length xs
 zip-long xs ys e = sym (length-map (zip xs ys) (λ p. p.0)) ∙ ap length (firsts-zip xs ys e)
 
 -- there is a pair for each item, and it is the item and that at its place

@@ -20,7 +20,8 @@ texture-point-same decimals p q above below same =
     ap (λ t. words t (value_text_with decimals p.1)) (value-same decimals p.0 q.0 above.u below.u same.u)
     ∙ ap (λ t. words (value_text_with decimals q.0) t) (value-same decimals p.1 q.1 above.v below.v same.v)
 
-texture-same : (decimals : Option ℕ) (ps qs : List (Value × Value)) → AllByRecursion HasTextureDenominators ps → AllByRecursion HasTextureDenominators qs →
+-- point by point
+pub texture-same : (decimals : Option ℕ) (ps qs : List (Value × Value)) → AllByRecursion HasTextureDenominators ps → AllByRecursion HasTextureDenominators qs →
     AllZip IsSameTexturePoint ps qs → flat_map (texture_line decimals) ps ≡ flat_map (texture_line decimals) qs
 texture-same decimals [] [] above below same = refl
 texture-same decimals [] (q ∷ qs) above below same = absurd same

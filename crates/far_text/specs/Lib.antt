@@ -4,7 +4,9 @@ pub mod Lines
 pub mod Levels
 pub mod Summary
 pub mod SparseLines
+pub mod TexturedLines
 pub mod PatchLines
+pub mod MapLines
 pub mod CountLines
 pub mod Stored
 pub mod Mesh

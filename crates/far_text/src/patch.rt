@@ -36,7 +36,7 @@ fn put_face<K: Sink>(out: &mut Out<'_, K>, face: u32, grid: u32) -> Result<(), W
 }
 
 // Returns the place (i, j) of the point with this number, where each row has so many points.
-fn place_of(number: u64, side: u64) -> (u64, u64)
+pub(crate) fn place_of(number: u64, side: u64) -> (u64, u64)
     requires { 0 < side }
     ensures within { result.0 < side }
     ensures number { result.1 * side + result.0 ≡ number }
@@ -44,11 +44,15 @@ fn place_of(number: u64, side: u64) -> (u64, u64)
     (number % side, number / side)
 }
 
-// Puts how the line of a place begins.
-fn put_place<K: Sink>(out: &mut Out<'_, K>, place: (u64, u64)) -> Result<(), WriteFailed>
-    ensures { Puts K.Sink out.old out.new (count_words (codes "s") place.0 ++ (32 ∷ number_text place.1)) result }
+// Puts how the line of a place begins: a keyword and the place.
+pub(crate) fn put_place<K: Sink>(
+    out: &mut Out<'_, K>,
+    keyword: &[u8],
+    place: (u64, u64),
+) -> Result<(), WriteFailed>
+    ensures { Puts K.Sink out.old out.new (count_words keyword.now place.0 ++ (32 ∷ number_text place.1)) result }
 {
-    out.put_count(b"s", place.0)?;
+    out.put_count(keyword, place.0)?;
     out.put_number_after(b' ', place.1)
 }
 
@@ -62,7 +66,7 @@ fn put_place_line<K: Sink>(
     requires { CanBeWritten common point.now }
     ensures { Puts K.Sink out.old out.new (place_line (place, point_of common point.now)) result }
 {
-    put_place(out, place)?;
+    put_place(out, b"s", place)?;
     put_coordinates(out, &point.value, point.den * common, None)
 }
 

@@ -6,11 +6,13 @@ ghost use Rattle.obj_out.specs.Puts.{Puts};
 ghost use Rattle.far_text.specs.Reply.{CanPut, reply_text};
 
 use crate::levels::put_levels;
+use crate::map::{MapLeaves, put_map};
 use crate::mesh::{MeshForm, RefinedMesh, put_refined};
 use crate::patch::{PatchPoints, put_patch};
 use crate::sparse::{SparseMesh, put_sparse};
 use crate::stored::{TablePoints, put_agreement, put_table_points};
 use crate::summary::{Summary, put_summary};
+use crate::textured_sparse::{TexturedSparse, put_textured_sparse};
 use far_io::{Sink, WriteFailed};
 use level_counts::LevelCounts;
 use obj_out::Out;
@@ -30,8 +32,12 @@ pub enum Reply {
     Sheet(Summary),
     /// The sparse levels of a mesh.
     Sparse(SparseMesh),
+    /// The sparse levels of a mesh, with their texture.
+    TexturedSparse(TexturedSparse),
     /// The points of the patch of a face.
     Patch(PatchPoints),
+    /// The leaves of the sparse levels that have the places of a face.
+    Map(MapLeaves),
     /// A stored table agrees with the table of a mesh. `rows` is how many rows both have.
     Agreement { rows: u32 },
     /// The points of a stored table.
@@ -50,7 +56,9 @@ pub fn put_reply<K: Sink>(out: &mut Out<'_, K>, reply: &Reply) -> Result<(), Wri
         Reply::Counts(counts) => put_levels(out, counts),
         Reply::Sheet(summary) => put_summary(out, summary),
         Reply::Sparse(mesh) => put_sparse(out, mesh),
+        Reply::TexturedSparse(sparse) => put_textured_sparse(out, sparse),
         Reply::Patch(patch) => put_patch(out, patch),
+        Reply::Map(map) => put_map(out, map),
         Reply::Agreement { rows } => put_agreement(out, *rows),
         Reply::Points(points) => put_table_points(out, points),
     }

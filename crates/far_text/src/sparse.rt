@@ -27,7 +27,7 @@ pub struct SparseMesh {
 }
 
 // Puts how the line of a face of this kind begins.
-fn put_kind<K: Sink>(out: &mut Out<'_, K>, kind: FaceKind) -> Result<(), WriteFailed>
+pub(crate) fn put_kind<K: Sink>(out: &mut Out<'_, K>, kind: FaceKind) -> Result<(), WriteFailed>
     ensures { Puts K.Sink out.old out.new (codes "f" ++ (32 ∷ kind_text (kind_of kind))) result }
 {
     match kind {

@@ -31,7 +31,7 @@ fn put_corner_word<K: Sink>(
 }
 
 // Puts the corners of a face with their texture points.
-fn put_corners<K: Sink>(
+pub(crate) fn put_corners<K: Sink>(
     out: &mut Out<'_, K>,
     corners: &[u32],
     texture: &[u32],

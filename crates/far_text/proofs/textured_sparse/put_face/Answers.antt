@@ -1,0 +1,45 @@
+use Rattle.std.proofs.Common.{◌≡◌, ◌++◌, ◌∷◌, codes, length, ap, sym, subst, IfSome}
+use Rattle.std.specs.Prelude.{option_map}
+use Rattle.subdiv_model.specs.NumberText.{number_text}
+use Rattle.subdiv_model.specs.SparseText.{kind_text}
+use Rattle.subdiv_model.specs.SparseTexture.{corner_words}
+use Rattle.sparse_faces.specs.View.{face_at}
+use Rattle.obj_out.proofs.PutsLemmas.{puts-after, puts-cut, puts-same}
+use Rattle.far_text.specs.TexturedLines.{spaced}
+use Rattle.far_text.proofs.TexturedLemmas.{textured-face-by-words}
+use Rattle.far_text.proofs.textured_sparse.put_face.Goals as goal
+
+pub returns-in_err-put_kind : goal.returns-in_err-put_kind
+returns-in_err-put_kind g c =
+    let kind = ap (λ k. codes "f" ++ (32 ∷ kind_text k)) c.kind.ensures in
+    puts-same (textured-face-by-words (face_at c.args.level.now c.args.f) (option_map (λ points. points.now) c.args.texture))
+    (puts-cut _ c.from_residual.ensures.0 (puts-same kind c.in_err-put_kind.ensures))
+
+pub returns-in_err-put_number_after : goal.returns-in_err-put_number_after
+returns-in_err-put_number_after g c =
+    let kind = ap (λ k. codes "f" ++ (32 ∷ kind_text k)) c.kind.ensures in
+    let number = ap (λ n. 32 ∷ number_text n) c.number.ensures in
+    puts-same (textured-face-by-words (face_at c.args.level.now c.args.f) (option_map (λ points. points.now) c.args.texture))
+    (puts-after (puts-same kind c.in_ok-put_kind.ensures) (puts-cut _ c.from_residual-in_err-put_number_after.ensures.0 (puts-same number c.in_err-put_number_after.ensures)))
+
+pub put_sparse_corners-requires-clause-alike : goal.put_sparse_corners-requires-clause-alike
+put_sparse_corners-requires-clause-alike g c =
+    subst (λ corners. IfSome (option_map (λ points. points.now) c.args.texture) (λ points. length points ≡ length corners)) (sym c.corners.ensures) c.requires.alike
+
+pub returns-in_err-put_sparse_corners : goal.returns-in_err-put_sparse_corners
+returns-in_err-put_sparse_corners g c =
+    let kind = ap (λ k. codes "f" ++ (32 ∷ kind_text k)) c.kind.ensures in
+    let number = ap (λ n. 32 ∷ number_text n) c.number.ensures in
+    let corners = ap (λ corners. spaced (corner_words corners (option_map (λ points. points.now) c.args.texture))) c.corners.ensures in
+    puts-same (textured-face-by-words (face_at c.args.level.now c.args.f) (option_map (λ points. points.now) c.args.texture))
+    (puts-after (puts-same kind c.in_ok-put_kind.ensures) (puts-after (puts-same number c.in_ok-put_number_after.ensures)
+    (puts-cut _ c.from_residual-in_err-put_sparse_corners.ensures.0 (puts-same corners c.in_err-put_sparse_corners.ensures))))
+
+pub returns : goal.returns
+returns g c =
+    let kind = ap (λ k. codes "f" ++ (32 ∷ kind_text k)) c.kind.ensures in
+    let number = ap (λ n. 32 ∷ number_text n) c.number.ensures in
+    let corners = ap (λ corners. spaced (corner_words corners (option_map (λ points. points.now) c.args.texture))) c.corners.ensures in
+    puts-same (textured-face-by-words (face_at c.args.level.now c.args.f) (option_map (λ points. points.now) c.args.texture))
+    (puts-after (puts-same kind c.in_ok-put_kind.ensures) (puts-after (puts-same number c.in_ok-put_number_after.ensures)
+    (puts-after (puts-same corners c.in_ok-put_sparse_corners.ensures) c.put_byte.ensures)))
