@@ -22,3 +22,7 @@ pub mod LimitLemmas
 pub mod LimitPointLemmas
 pub mod PatchLemmas
 pub mod PatchPointLemmas
+pub mod SparseTextureLemmas
+pub mod FacesAlikeLemmas
+pub mod SparseReplyLemmas
+pub mod LeafLemmas

@@ -1,5 +1,5 @@
 -- The points that a table of masks makes are those of the definitions, in other terms.
-use Rattle.std.proofs.Common.{◌≡◌, ℕ, ◌+◌, ◌*◌, ◌<◌, ◌≤◌, max, ℤ, List, length, map, get_or, pos, Result, Ok, Err, IsOkAnd, OnOk, MatchResult, arith, refl, ap, sym, subst, ◌∙◌}
+use Rattle.std.proofs.Common.{◌≡◌, ℕ, ◌+◌, ◌<◌, ◌≤◌, ℤ, List, length, map, get_or, Result, Ok, Err, IsOkAnd, OnOk, MatchResult, arith, ap, sym, subst, ◌∙◌}
 use Rattle.std.specs.List.{All, AllZip}
 use Rattle.std.proofs.lemmas.List.{length-map}
 use Rattle.subdiv_model.specs.Value.{Value}

@@ -98,7 +98,7 @@ positive-by common (u ∷ us) (v ∷ vs) some hu hv = (
 )
 
 -- a texture value with short numbers can be written
-written-value : (common : ℕ) (p : Valued Point2) → 0 < p.den * common → p.den * common ≤ number_bound → primvar.greatest_amount (numbers p.value) ≤ number_bound → CanTextureBeWritten common p
+pub written-value : (common : ℕ) (p : Valued Point2) → 0 < p.den * common → p.den * common ≤ number_bound → primvar.greatest_amount (numbers p.value) ≤ number_bound → CanTextureBeWritten common p
 written-value common p positive short most =
     let rest = max (unsigned_abs p.value.v) 0 in
     let first : unsigned_abs p.value.u ≤ number_bound = omega (arith, most, le-max_left (unsigned_abs p.value.u) rest) in
@@ -192,7 +192,7 @@ module _ (mesh : ObjMesh) (uv : Uv) (channel : CutChannel) (level : Topology) (c
           max-le first second
 
 -- a coordinate of the refined texture
-abbrev texture-column : ObjMesh → Uv → ℕ → (ℤ × ℤ → ℤ) → List Value
+abbrev pub texture-column : ObjMesh → Uv → ℕ → (ℤ × ℤ → ℤ) → List Value
 texture-column mesh uv depth coordinate = refined_values (cut_level (seams_of uv) mesh) (scheme_of uv) (control_values (map coordinate (channel_values mesh))) depth
 
 -- The refined texture, by the record of the refined channel.
@@ -222,7 +222,7 @@ asked-steps options mesh = go options.by
     go ByLevel = refl
 
 -- The values of a texture are its controls.
-value-controls : (mesh : ObjMesh) (uv : Uv) (values : List Point2) → map value_of values ≡ channel_values mesh → AreControls (texture_of mesh uv) (control_rows (map numbers values))
+pub value-controls : (mesh : ObjMesh) (uv : Uv) (values : List Point2) → map value_of values ≡ channel_values mesh → AreControls (texture_of mesh uv) (control_rows (map numbers values))
 value-controls mesh uv values said =
     are-controls values (texture_of mesh uv)
     (sym (length-map values value_of) ∙ ap length said ∙ length-map (channel_points mesh) (λ point. get_or mesh.texture (texture_number mesh point.1 point.0) (pos 0, pos 0)))

@@ -38,7 +38,7 @@ abbrev origin : Point
 origin = (whole_value (pos 0), whole_value (pos 0), whole_value (pos 0))
 
 -- 0 is 0 over any denominator
-nothing-scaled : (common : ℕ) (x : Value) → IsSameValue (whole_value (pos 0)) x → IsSameValue (whole_value (pos 0)) (over_common common x)
+pub nothing-scaled : (common : ℕ) (x : Value) → IsSameValue (whole_value (pos 0)) x → IsSameValue (whole_value (pos 0)) (over_common common x)
 nothing-scaled common x same = none (x.den * common) ∙ sym (none x.den) ∙ same
   where
     gone : (n : ℕ) → 0 * n ≡ 0
@@ -73,7 +73,7 @@ positive-at common some (a ∷ xs) (b ∷ ys) (c ∷ zs) zero hx hy hz =
 positive-at common some (a ∷ xs) (b ∷ ys) (c ∷ zs) (suc v) hx hy hz = positive-at common some xs ys zs v hx hy hz
 
 -- values with denominators of at least 1
-abbrev ArePositive : List Value → Type 0
+abbrev pub ArePositive : List Value → Type 0
 ArePositive values = (p : ℕ) → 0 < (point_value values p).den
 
 module _ (common : ℕ) (xs ys zs : List Value) where

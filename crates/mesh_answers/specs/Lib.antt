@@ -8,3 +8,5 @@ pub mod MaskTables
 pub mod Limits
 pub mod Patches
 pub mod MeshText
+pub mod SparseLevels
+pub mod Leaves

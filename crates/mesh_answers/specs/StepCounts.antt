@@ -1,8 +1,8 @@
 -- How many steps a command takes with a mesh.
 -- Source: this profile.
-use Rattle.std.specs.Prelude.{ℕ, ◌+◌, length, if◌then◌else◌}
+use Rattle.std.specs.Prelude.{ℕ, ◌+◌, length, Option, Some, None, if◌then◌else◌}
 use Rattle.std.specs.List.{sum_by, range_with_len}
-use Rattle.far_model.specs.Command.{ReadCommand, Refine, Sparse, Stencils, Limit, Levels, Patch, MakeCommand, Gen, RefineOptions, SparseOptions, PatchOptions, By, ByTable, ByLevel}
+use Rattle.far_model.specs.Command.{ReadCommand, Refine, Sparse, Stencils, Limit, Levels, Patch, Map, MakeCommand, Gen, RefineOptions, SparseOptions, PatchOptions, Select, Uv, By, ByTable, ByLevel}
 use Rattle.subdiv_model.specs.ObjMesh.{ObjMesh}
 use Rattle.subdiv_model.specs.Level.{Level}
 use Rattle.subdiv_model.specs.Base.{base_level}
@@ -12,8 +12,10 @@ use Rattle.subdiv_model.specs.Mask.{Scheme, CatmullClark, mask_terms}
 use Rattle.subdiv_model.specs.Support.{entries_after}
 use Rattle.subdiv_model.specs.Limit.{limit_entries_after}
 use Rattle.subdiv_model.specs.Patch.{patch_entries_after}
+use Rattle.subdiv_model.specs.Channel.{Channel}
+use Rattle.subdiv_model.specs.Sparse.{Meeting}
 use Rattle.subdiv_model.specs.SparseFaults.{present_entries, present_faces}
-use Rattle.far_model.specs.Answer.{made_mesh, meeting_for, positions_of, seams_of, scheme_of}
+use Rattle.far_model.specs.Answer.{made_mesh, meeting_by, meeting_for, positions_of, seams_of, scheme_of, sparse_uv, texture_meeting, texture_of}
 
 -- how many faces the levels of a mesh from 1 to a depth have, and those from 0
 abbrev pub later_faces : ℕ → ObjMesh → ℕ
@@ -46,15 +48,40 @@ refine_limit options mesh =
     + where_textured mesh (level_faces_to options.depth mesh + texture_steps options mesh)
 
 -- how many faces of the sparse levels of a mesh from 1 to a depth are present, and of those from 0; all faces of level 0 are
-abbrev pub later_present : SparseOptions → ObjMesh → ℕ
-later_present options mesh = sum_by (present_faces (base_level mesh) (meeting_for options mesh)) (range_with_len 1 options.depth)
+abbrev pub later_present : Select → ℕ → ObjMesh → ℕ
+later_present select depth mesh = sum_by (present_faces (base_level mesh) (meeting_by select depth mesh)) (range_with_len 1 depth)
 
-abbrev pub present_faces_to : SparseOptions → ObjMesh → ℕ
-present_faces_to options mesh = length mesh.faces + later_present options mesh
+abbrev pub present_faces_to : Select → ℕ → ObjMesh → ℕ
+present_faces_to select depth mesh = length mesh.faces + later_present select depth mesh
 
--- how many entries the tables of the present points of these levels have
-abbrev pub present_entries_to : SparseOptions → ObjMesh → ℕ
-present_entries_to options mesh = sum_by (present_entries (positions_of mesh) (meeting_for options mesh)) (range_with_len 0 (options.depth + 1))
+-- how many entries the tables of the present points of a channel's levels have
+abbrev pub present_entries_to : Channel → Meeting → ℕ → ℕ
+present_entries_to channel meeting depth = sum_by (present_entries channel meeting) (range_with_len 0 (depth + 1))
+
+-- how many steps the sparse levels of the positions take after level 0, and those of the texture
+abbrev pub sparse_position_steps : SparseOptions → ObjMesh → ℕ
+sparse_position_steps options mesh =
+    later_present options.select options.depth mesh + present_entries_to (positions_of mesh) (meeting_for options mesh) options.depth
+
+abbrev pub sparse_texture_steps : SparseOptions → ObjMesh → Uv → ℕ
+sparse_texture_steps options mesh uv =
+    sum_by (present_faces (texture_of mesh uv).base (texture_meeting options mesh)) (range_with_len 1 options.depth)
+    + present_entries_to (texture_of mesh uv) (texture_meeting options mesh) options.depth
+
+-- how many steps the texture takes, where there is any: those of its sparse levels, and one for each face of the cut mesh
+abbrev pub sparse_cut_steps : ObjMesh → Option Uv → ℕ
+sparse_cut_steps mesh None = 0
+sparse_cut_steps mesh (Some uv) = length mesh.faces
+
+abbrev pub where_sparse_texture : SparseOptions → ObjMesh → Option Uv → ℕ
+where_sparse_texture options mesh None = 0
+where_sparse_texture options mesh (Some uv) = sparse_texture_steps options mesh uv
+
+abbrev pub sparse_later_steps : SparseOptions → ObjMesh → ℕ
+sparse_later_steps options mesh = sparse_position_steps options mesh + where_sparse_texture options mesh (sparse_uv options mesh)
+
+abbrev pub sparse_limit : SparseOptions → ObjMesh → ℕ
+sparse_limit options mesh = length mesh.faces + sparse_cut_steps mesh (sparse_uv options mesh) + sparse_later_steps options mesh
 
 -- how many entries the table of the limit points of a mesh at a depth has
 abbrev pub limit_steps : ℕ → ObjMesh → ℕ
@@ -72,17 +99,19 @@ least_steps (Stencils depth) mesh = 0
 least_steps (Limit options) mesh = limit_steps options.depth mesh
 least_steps (Levels depth) mesh = 0
 least_steps (Patch options) mesh = patch_steps options mesh
+least_steps (Map options) mesh = 0
 
 -- how many it may take: one for each face of the levels that it makes, of the positions and of the texture, and what the
--- values take; of sparse levels one for each present face, and one for each entry of a present point; of limit points and of a
--- patch one for each entry of their table beside the faces
+-- values take; of sparse levels one for each present face, and one for each entry of a present point, for the positions and for the
+-- texture; of limit points and of a patch one for each entry of their table beside the faces; of a map one for each present face
 abbrev pub step_limit : ReadCommand → ObjMesh → ℕ
 step_limit (Refine options) mesh = refine_limit options mesh
-step_limit (Sparse options) mesh = present_faces_to options mesh + present_entries_to options mesh
+step_limit (Sparse options) mesh = sparse_limit options mesh
 step_limit (Stencils depth) mesh = level_faces_to depth mesh
 step_limit (Limit options) mesh = level_faces_to options.depth mesh + limit_steps options.depth mesh
 step_limit (Levels depth) mesh = level_faces_to depth mesh
 step_limit (Patch options) mesh = level_faces_to options.depth mesh + patch_steps options mesh
+step_limit (Map options) mesh = present_faces_to options.select options.depth mesh
 
 -- those of a command that makes its mesh
 abbrev pub made_least : MakeCommand → ℕ

@@ -2,6 +2,7 @@
 #![tactic(auto)]
 
 mod counts;
+mod leaf_map;
 mod level;
 mod limits;
 mod patches;
@@ -9,11 +10,13 @@ mod refined;
 mod scales;
 mod sheet;
 mod sparse_levels;
+mod sparse_tracks;
 mod table;
 mod text;
 mod tracks;
 
 pub use counts::levels;
+pub use leaf_map::leaves;
 pub use limits::limit;
 pub use patches::patch;
 pub use refined::refine;

@@ -1,58 +1,217 @@
-//! The sparse levels of a mesh.
+//! The sparse levels of a mesh, with its texture.
 
-ghost use Rattle.std.specs.Prelude.{◌≡◌, ◌+◌, MatchResult};
+ghost use Rattle.std.specs.Prelude.{◌≡◌, ◌+◌, map, Some, Err, IsOkAnd, MatchResult};
 ghost use Rattle.feature_select.specs.Rule.{AnswersTest};
-ghost use Rattle.mesh_check.specs.Checked.{IsAccepted};
 ghost use Rattle.far_model.specs.Command.{Sparse, IsReadInRange};
-ghost use Rattle.far_model.specs.Answer.{test_of};
+ghost use Rattle.far_model.specs.Answer.{positions_of, sparse_uv, test_of, texture_meeting};
+ghost use Rattle.subdiv_model.specs.Fault.{Texture};
 ghost use Rattle.far_fault.specs.View.{fault_of};
+ghost use Rattle.far_fault.specs.Walk.{walk_fault_of};
 ghost use Rattle.ratio128.specs.StepsTaken.{StepsTaken};
 ghost use Rattle.far_words.specs.View.{sparse_of_code};
-ghost use Rattle.mesh_answers.specs.Refusals.{refusal_of_mesh, IsFound};
+ghost use Rattle.far_text.specs.declared.reply.Reply.TheVariants as variant;
+ghost use Rattle.mesh_answers.specs.Refusals.{IsFound, refusal_of_mesh};
 ghost use Rattle.mesh_answers.specs.Replies.{IsAnswerTo, IsReplyTo};
-ghost use Rattle.mesh_answers.specs.StepCounts.{later_present, present_entries_to};
+ghost use Rattle.mesh_answers.specs.SparseLevels.{ArePointsLevels, AreSparseTexture, AreSparseTracks, IsSparseBase, IsWithinLimits, sparse_position_refusal, sparse_texture_refusal};
+ghost use Rattle.mesh_answers.specs.StepCounts.{sparse_later_steps, sparse_position_steps, where_sparse_texture};
 
-use crate::level::level_0;
-use crate::tracks::position_channel;
+use crate::sparse_tracks::sparse_tracks;
+use crate::tracks::{BaseTexture, BaseTracks};
+use channel_refine::BaseChannel;
 use far_fault::{FarFault, Track, fault_of_walk};
-use far_text::{Reply, SparseMesh};
+use far_text::{Reply, SparseMesh, SparseTexture, TexturedSparse};
 use far_words::{Select, SparseOptions};
 use feature_select::{Every, FaceTest, Feature, SelectRule, is_feature, is_selectable};
-use level_topology::{FaceFacts, Level};
-use ratio128::Steps;
+use level_topology::FaceFacts;
+use level_walk::WalkFault;
+use ratio128::{Point2, Point3, Steps};
 use raw_mesh::RawMesh;
 use sparse_channel::refine_sparse;
+use sparse_face_varying::{refine_sparse_texture, selected_levels};
+use sparse_faces::SparseValues;
 use std::alloc::Global;
 use std::sync::ledger::Ledger;
 
-// The sparse levels of a mesh, from its level 0, where a rule selects the faces that the options name.
+// The sparse levels of the positions, where a rule selects the faces that the options name.
+fn points_levels<T: FaceTest, F: Fn(&FaceFacts) -> bool, L: Ledger>(
+    alloc: Global,
+    mesh: &RawMesh,
+    positions: BaseChannel,
+    rule: &SelectRule<T, F>,
+    options: &SparseOptions,
+    steps: &mut Steps<L>,
+) -> Result<Vec<SparseValues<Point3>>, FarFault>
+    requires range { IsReadInRange (Sparse (sparse_of_code options.now)) }
+    requires mesh { IsWithinLimits mesh.now }
+    requires base { positions ≡ positions_of mesh.now }
+    requires answers { AnswersTest F.Fn rule.now.0 (T.meets rule.now.1) }
+    requires test { T.meets rule.now.1 ≡ test_of (sparse_of_code options.now).select }
+    ensures levels { MatchResult result
+        (λ levels. ArePointsLevels (sparse_of_code options.now) mesh.now levels.items)
+        (λ fault. IsFound (fault_of fault) (sparse_position_refusal (sparse_of_code options.now) mesh.now)) }
+    ensures steps { StepsTaken result steps.old steps.new 0 (sparse_position_steps (sparse_of_code options.now) mesh.now) }
+{
+    mesh.facts();
+    match refine_sparse(alloc, positions, rule, mesh.points(), options.depth, steps) {
+        Ok(levels) => Ok(levels),
+        Err(fault) => Err(fault_of_walk(fault, Track::Positions)),
+    }
+}
+
+// The fault of a run for that of a walk over the sparse levels of a texture.
+fn texture_fault(fault: WalkFault) -> FarFault
+    ensures { fault_of result ≡ walk_fault_of Texture fault }
+{
+    fault_of_walk(fault, Track::Texture)
+}
+
+// The sparse levels of the texture, where these numbers are those of the selected faces of each level.
+fn texture_levels<L: Ledger>(
+    alloc: Global,
+    mesh: &RawMesh,
+    numbers: &[Vec<u64>],
+    texture: BaseTexture,
+    options: &SparseOptions,
+    steps: &mut Steps<L>,
+) -> Result<Vec<SparseValues<Point2>>, FarFault>
+    requires range { IsReadInRange (Sparse (sparse_of_code options.now)) }
+    requires numbers { map (λ list. list.items) numbers.now ≡ texture_meeting (sparse_of_code options.now) mesh.now }
+    requires base { IsSparseBase (sparse_uv (sparse_of_code options.now) mesh.now) mesh.now (Some texture) }
+    ensures levels { MatchResult result
+        (λ levels. AreSparseTexture (sparse_of_code options.now) mesh.now levels.items)
+        (λ fault. IsFound (fault_of fault) (sparse_texture_refusal (sparse_of_code options.now) mesh.now)) }
+    ensures steps { StepsTaken result steps.old steps.new 0 (where_sparse_texture (sparse_of_code options.now) mesh.now (sparse_uv (sparse_of_code options.now) mesh.now)) }
+{
+    mesh.facts();
+    let BaseTexture { base, values } = texture;
+    match refine_sparse_texture(alloc, base, numbers, &values, options.depth, steps) {
+        Ok(levels) => Ok(levels),
+        Err(fault) => Err(texture_fault(fault)),
+    }
+}
+
+// The sparse levels of the texture, which follow the selection of the positions.
+fn texture_like<L: Ledger>(
+    alloc: Global,
+    mesh: &RawMesh,
+    levels: &[SparseValues<Point3>],
+    texture: BaseTexture,
+    options: &SparseOptions,
+    steps: &mut Steps<L>,
+) -> Result<Vec<SparseValues<Point2>>, FarFault>
+    requires range { IsReadInRange (Sparse (sparse_of_code options.now)) }
+    requires levels { ArePointsLevels (sparse_of_code options.now) mesh.now levels.now }
+    requires base { IsSparseBase (sparse_uv (sparse_of_code options.now) mesh.now) mesh.now (Some texture) }
+    ensures levels { MatchResult result
+        (λ levels. AreSparseTexture (sparse_of_code options.now) mesh.now levels.items)
+        (λ fault. IsFound (fault_of fault) (sparse_texture_refusal (sparse_of_code options.now) mesh.now)) }
+    ensures steps { StepsTaken result steps.old steps.new 0 (where_sparse_texture (sparse_of_code options.now) mesh.now (sparse_uv (sparse_of_code options.now) mesh.now)) }
+{
+    let numbers = selected_levels(alloc, levels, options.depth)?;
+    texture_levels(alloc, mesh, &numbers, texture, options, steps)
+}
+
+// The sparse levels of a mesh as they are written.
+fn sparse_mesh(
+    mesh: &RawMesh,
+    options: &SparseOptions,
+    levels: Vec<SparseValues<Point3>>,
+) -> SparseMesh
+    ensures { result ≡ record { levels = levels; common = mesh.now.common; decimals = options.now.decimals } }
+{
+    SparseMesh {
+        levels,
+        common: mesh.scale(),
+        decimals: options.decimals,
+    }
+}
+
+// The reply with the sparse levels of a mesh, and with those of its texture, where they were found.
+fn with_texture(
+    mesh: &RawMesh,
+    options: &SparseOptions,
+    levels: Vec<SparseValues<Point3>>,
+    texture: Result<Vec<SparseValues<Point2>>, FarFault>,
+) -> Result<Reply, FarFault>
+    ensures { MatchResult texture
+        (λ texture. IsOkAnd result (λ reply. reply ≡ variant.TexturedSparse (record {
+          mesh = record { levels = levels; common = mesh.now.common; decimals = options.now.decimals };
+          texture = record { levels = texture; common = mesh.now.texture_common };
+        })))
+        (λ fault. result ≡ Err fault) }
+{
+    let points = sparse_mesh(mesh, options, levels);
+    let common = mesh.texture_scale();
+    texture.map(|levels| {
+        Reply::TexturedSparse(TexturedSparse {
+            mesh: points,
+            texture: SparseTexture { levels, common },
+        })
+    })
+}
+
+// The sparse levels of a mesh with its texture, where the levels of the positions were found.
+fn textured_reply<L: Ledger>(
+    alloc: Global,
+    mesh: &RawMesh,
+    options: &SparseOptions,
+    levels: Vec<SparseValues<Point3>>,
+    texture: BaseTexture,
+    steps: &mut Steps<L>,
+) -> Result<Reply, FarFault>
+    requires range { IsReadInRange (Sparse (sparse_of_code options.now)) }
+    requires levels { ArePointsLevels (sparse_of_code options.now) mesh.now levels.items }
+    requires base { IsSparseBase (sparse_uv (sparse_of_code options.now) mesh.now) mesh.now (Some texture) }
+    ensures reply { MatchResult result (λ reply. IsReplyTo (Sparse (sparse_of_code options.now)) mesh.now reply)
+        (λ fault. IsFound (fault_of fault) (refusal_of_mesh (Sparse (sparse_of_code options.now)) mesh.now)) }
+    ensures steps { StepsTaken result steps.old steps.new 0 (where_sparse_texture (sparse_of_code options.now) mesh.now (sparse_uv (sparse_of_code options.now) mesh.now)) }
+{
+    let texture = texture_like(alloc, mesh, &levels, texture, options, steps);
+    with_texture(mesh, options, levels, texture)
+}
+
+// The reply with the sparse levels of the positions, and of the texture where the mesh has a channel of it.
+fn reply_with<L: Ledger>(
+    alloc: Global,
+    mesh: &RawMesh,
+    options: &SparseOptions,
+    levels: Vec<SparseValues<Point3>>,
+    texture: Option<BaseTexture>,
+    steps: &mut Steps<L>,
+) -> Result<Reply, FarFault>
+    requires range { IsReadInRange (Sparse (sparse_of_code options.now)) }
+    requires levels { ArePointsLevels (sparse_of_code options.now) mesh.now levels.items }
+    requires base { IsSparseBase (sparse_uv (sparse_of_code options.now) mesh.now) mesh.now texture }
+    ensures reply { MatchResult result (λ reply. IsReplyTo (Sparse (sparse_of_code options.now)) mesh.now reply)
+        (λ fault. IsFound (fault_of fault) (refusal_of_mesh (Sparse (sparse_of_code options.now)) mesh.now)) }
+    ensures steps { StepsTaken result steps.old steps.new 0 (where_sparse_texture (sparse_of_code options.now) mesh.now (sparse_uv (sparse_of_code options.now) mesh.now)) }
+{
+    match texture {
+        Some(texture) => textured_reply(alloc, mesh, options, levels, texture, steps),
+        None => Ok(Reply::Sparse(sparse_mesh(mesh, options, levels))),
+    }
+}
+
+// The reply with the sparse levels of the channels of a mesh, where a rule selects the faces that the options name.
 fn sparse_from<T: FaceTest, F: Fn(&FaceFacts) -> bool, L: Ledger>(
     alloc: Global,
     mesh: &RawMesh,
-    level: Level,
+    tracks: BaseTracks,
     rule: &SelectRule<T, F>,
     options: &SparseOptions,
     steps: &mut Steps<L>,
 ) -> Result<Reply, FarFault>
     requires range { IsReadInRange (Sparse (sparse_of_code options.now)) }
-    requires level { IsAccepted mesh.now level }
+    requires tracks { AreSparseTracks (sparse_of_code options.now) mesh.now tracks }
     requires answers { AnswersTest F.Fn rule.now.0 (T.meets rule.now.1) }
     requires test { T.meets rule.now.1 ≡ test_of (sparse_of_code options.now).select }
     ensures reply { MatchResult result (λ reply. IsReplyTo (Sparse (sparse_of_code options.now)) mesh.now reply)
         (λ fault. IsFound (fault_of fault) (refusal_of_mesh (Sparse (sparse_of_code options.now)) mesh.now)) }
-    ensures steps { StepsTaken result steps.old steps.new 0
-        (later_present (sparse_of_code options.now) mesh.now + present_entries_to (sparse_of_code options.now) mesh.now) }
+    ensures steps { StepsTaken result steps.old steps.new 0 (sparse_later_steps (sparse_of_code options.now) mesh.now) }
 {
-    mesh.facts();
-    let positions = position_channel(mesh, level);
-    match refine_sparse(alloc, positions, rule, mesh.points(), options.depth, steps) {
-        Ok(levels) => Ok(Reply::Sparse(SparseMesh {
-            levels,
-            common: mesh.scale(),
-            decimals: options.decimals,
-        })),
-        Err(fault) => Err(fault_of_walk(fault, Track::Positions)),
-    }
+    let BaseTracks { positions, texture } = tracks;
+    let levels = points_levels(alloc, mesh, positions, rule, options, steps)?;
+    reply_with(alloc, mesh, options, levels, texture, steps)
 }
 
 // The sparse levels of a mesh, where a rule selects the faces that the options name.
@@ -68,24 +227,29 @@ fn sparse_by<T: FaceTest, F: Fn(&FaceFacts) -> bool, L: Ledger>(
     requires test { T.meets rule.now.1 ≡ test_of (sparse_of_code options.now).select }
     ensures { IsAnswerTo (Sparse (sparse_of_code options.now)) mesh.now result steps.old steps.new }
 {
-    let level = level_0(alloc, mesh, steps)?;
-    sparse_from(alloc, mesh, level, rule, options, steps)
+    let tracks = sparse_tracks(alloc, mesh, options, steps)?;
+    sparse_from(alloc, mesh, tracks, rule, options, steps)
 }
 
 /// Returns the sparse levels of a mesh from level 0 to a depth, with the points that are written of each. The faces that the options
 /// select are refined further. The depth is at most 10.
 ///
-/// The reply writes coordinates as fractions, or rounded to at most 18 decimals.
+/// Where the mesh has texture and the options ask for it, each level has its texture points too. The texture follows the selection of
+/// the positions: at each level its selected faces have the numbers of theirs.
+///
+/// The reply writes numbers as fractions, or rounded to at most 18 decimals.
 ///
 /// The fault is the first of these:
 ///
 /// - `Mesh` where the mesh is no manifold, with its first fault;
 /// - `TooLarge` with the first count of the mesh that passes its limit;
-/// - `TooLarge` or `Overflow` with the first level, counted from 1, at which something of the present faces or points passes its bound.
+/// - `TooLarge` or `Overflow` with the first level, counted from 1, at which something of the present faces or points passes its bound;
+/// - `TooLarge` or `Overflow` with the first level, counted from 1, at which something of the texture passes its bound.
 ///
 /// At a level the order is more than 2^22 present faces (`TooLarge`), `Chaikin`, `Transition`, `Denominator`, a table of more than 2^27
 /// entries (`TooLarge`), `Value`. `Memory` may come of any mesh. The call takes at most one step for each present face of the levels
-/// from 0 to the depth. It takes at most one more for each entry of their present points.
+/// from 0 to the depth. It takes at most one more for each entry of their present points. For a texture it takes at most as many again
+/// as its own levels have.
 pub fn sparse<L: Ledger>(
     alloc: Global,
     mesh: &RawMesh,

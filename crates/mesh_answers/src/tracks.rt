@@ -126,8 +126,8 @@ fn texture_channel(mesh: &RawMesh, channel: Channel, uv: Uv) -> BaseTexture
     }
 }
 
-// The channel of the texture of a mesh, where it has one.
-fn cut_texture<L: Ledger>(
+/// The channel of the texture of a mesh, where it has one.
+pub(crate) fn cut_texture<L: Ledger>(
     alloc: Global,
     mesh: &RawMesh,
     level: &Level,

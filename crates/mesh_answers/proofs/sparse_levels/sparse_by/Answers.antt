@@ -3,18 +3,18 @@ use Rattle.far_model.specs.Answer.{sparse_mesh_faults}
 use Rattle.far_model.specs.Command.{Sparse}
 use Rattle.far_words.specs.View.{sparse_of_code}
 use Rattle.mesh_answers.proofs.ReplyLemmas.{refuses}
-use Rattle.mesh_answers.proofs.SparseLemmas.{sparse-end}
+use Rattle.mesh_answers.proofs.SparseReplyLemmas.{sparse-end}
 use Rattle.mesh_answers.proofs.sparse_levels.sparse_by.Goals as goal
 
-pub returns-in_err-level : goal.returns-in_err-level
-returns-in_err-level g c =
+pub returns-in_err-tracks : goal.returns-in_err-tracks
+returns-in_err-tracks g c =
     let options = sparse_of_code c.args.options.now in
-    let level = c.level_0.ensures.steps in
-    refuses (Sparse options) c.args.mesh.now c.args.steps.now c.level_0.new.steps level.later (omega (arith, level.most)) _ _
-    c.from_residual.ensures.0 c.from_residual.ensures.1 (c.in_err-level.ensures.checked (sparse_mesh_faults options c.args.mesh.now))
+    let tracks = c.sparse_tracks.ensures.steps in
+    refuses (Sparse options) c.args.mesh.now c.args.steps.now c.sparse_tracks.new.steps tracks.later (omega (arith, tracks.most)) _ _
+    c.from_residual.ensures.0 c.from_residual.ensures.1 (c.in_err-tracks.ensures.tracks (sparse_mesh_faults options c.args.mesh.now))
 
 pub returns : goal.returns
 returns g c =
-    let level = c.level_0.ensures.steps in
-    sparse-end (sparse_of_code c.args.options.now) c.args.mesh.now c.args.steps.now c.level_0.new.steps c.sparse_from.new.steps _
-    level.later level.most c.sparse_from.ensures.reply c.sparse_from.ensures.steps
+    let tracks = c.sparse_tracks.ensures.steps in
+    sparse-end (sparse_of_code c.args.options.now) c.args.mesh.now c.args.steps.now c.sparse_tracks.new.steps c.sparse_from.new.steps _
+    tracks.later tracks.most c.sparse_from.ensures.reply c.sparse_from.ensures.steps

@@ -1,0 +1,42 @@
+-- The leaves of the places of a face of a mesh.
+use Rattle.std.specs.Prelude.{ℕ, ◌≡◌, ◌+◌, List, [], map, Option, None, option_map}
+use Rattle.std.specs.List.{range_with_len}
+use Rattle.subdiv_model.specs.Lists.{first_of}
+use Rattle.subdiv_model.specs.Base.{base_level}
+use Rattle.subdiv_model.specs.Fault.{Fault, Place, Positions}
+use Rattle.subdiv_model.specs.Channel.{Sharpnesses}
+use Rattle.subdiv_model.specs.Leaf.{Location, location_faults}
+use Rattle.subdiv_model.specs.ObjMesh.{ObjMesh}
+use Rattle.subdiv_model.specs.SparseFaults.{sparse_faults}
+use Rattle.far_model.specs.Command.{MapOptions}
+use Rattle.far_model.specs.Answer.{map_leaf, meeting_by, positions_of}
+use Rattle.far_fault.specs.View.{place_fault_of}
+use Rattle.far_fault.specs.declared.fault.PlaceFault.{PlaceFault}
+use Rattle.patch_map.specs.Map.{LevelMap}
+use Rattle.patch_map.specs.Is.{IsMapOf}
+use Rattle.mesh_answers.specs.SparseLevels.{IsWithinLimits}
+
+-- the faults of the sparse levels of a mesh, as far as their faces and their sharpness go, and the first of them
+abbrev pub map_level_faults : MapOptions → ObjMesh → List Fault
+map_level_faults options mesh = sparse_faults Sharpnesses (positions_of mesh) (meeting_by options.select options.depth mesh) Positions options.depth
+
+abbrev pub map_level_refusal : MapOptions → ObjMesh → Option Fault
+map_level_refusal options mesh = first_of (map_level_faults options mesh)
+
+-- a map of the sparse levels of a mesh that is within its limits, where the levels have no fault
+pub record IsLevelMap (options : MapOptions) (mesh : ObjMesh) (found : LevelMap) : Type 0 where
+  pub mesh_is : IsWithinLimits mesh
+  pub fine : map_level_faults options mesh ≡ []
+  pub map_is : IsMapOf (base_level mesh) (meeting_by options.select options.depth mesh) options.depth found
+
+-- the face that is asked for has this fault, or has places with the corner that is asked for
+pub record IsMapFor (options : MapOptions) (mesh : ObjMesh) (fault : Option PlaceFault) (found : LevelMap) : Type 0 where
+  pub map_is : IsLevelMap options mesh found
+  pub fault_is : option_map (λ place. Place (place_fault_of place)) fault ≡ first_of (location_faults (base_level mesh) options.face options.corner)
+
+abbrev pub CanFind : MapOptions → ObjMesh → LevelMap → Type 0
+CanFind options mesh found = IsMapFor options mesh None found
+
+-- the leaves of a row of the grid
+abbrev pub row_leaves : MapOptions → ObjMesh → ℕ → List Location
+row_leaves options mesh j = map (λ i. map_leaf options mesh (i, j)) (range_with_len 0 (options.grid + 1))

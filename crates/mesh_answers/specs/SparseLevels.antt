@@ -1,0 +1,82 @@
+-- The sparse levels of a mesh and of its texture, as they are found.
+use Rattle.std.specs.Prelude.{ℕ, ◌≡◌, ◌+◌, ◌<◌, List, [], length, get_or, map, Option, Some, None}
+use Rattle.std.specs.List.{All, AllZip}
+use Rattle.subdiv_model.specs.Lists.{first_of}
+use Rattle.subdiv_model.specs.MeshFault.{first_mesh_fault}
+use Rattle.subdiv_model.specs.Limits.{count_faults}
+use Rattle.subdiv_model.specs.Value.{Value}
+use Rattle.subdiv_model.specs.Refined.{Point}
+use Rattle.subdiv_model.specs.Cut.{channel_values}
+use Rattle.subdiv_model.specs.ObjMesh.{ObjMesh}
+use Rattle.subdiv_model.specs.Channel.{Tables}
+use Rattle.subdiv_model.specs.Fault.{Fault, Positions}
+use Rattle.subdiv_model.specs.SparseFaults.{sparse_faults}
+use Rattle.subdiv_model.specs.SparseTexture.{SparsePart, points_part, texture_part}
+use Rattle.far_model.specs.Command.{SparseOptions, Uv}
+use Rattle.far_model.specs.Answer.{meeting_for, positions_of, sparse_positions, sparse_texture, sparse_texture_faults, sparse_uv, texture_of}
+use Rattle.ratio128.specs.declared.point.Point2.{Point2}
+use Rattle.ratio128.specs.declared.point.Point3.{Point3}
+use Rattle.raw_mesh.specs.View.{texture_of as value_of}
+use Rattle.sparse_faces.specs.declared.values.SparseValues.{SparseValues}
+use Rattle.far_text.specs.Points.{points_of, CanBeWritten, IsSamePoint, HasDenominators}
+use Rattle.far_text.specs.Texture.{texture_points_of, CanTextureBeWritten, IsSameTexturePoint, HasTextureDenominators}
+use Rattle.mesh_answers.specs.declared.tracks.BaseTexture.{BaseTexture}
+use Rattle.mesh_answers.specs.declared.tracks.BaseTracks.{BaseTracks}
+
+-- the channel of the texture that sparse levels have, with its values, and none where they have no texture
+abbrev pub IsSparseBase : Option Uv → ObjMesh → Option BaseTexture → Type 0
+IsSparseBase uv mesh None = uv ≡ None
+IsSparseBase uv mesh (Some texture) =
+    (mode : Uv) × (uv ≡ Some mode) × (texture.base ≡ texture_of mesh mode) × (map value_of texture.values.items ≡ channel_values mesh)
+
+-- the mesh is a manifold, and its counts are within their limits
+pub record IsWithinLimits (mesh : ObjMesh) : Type 0 where
+  pub manifold : first_mesh_fault (length mesh.points) mesh.faces ≡ None
+  pub small : first_of (count_faults mesh) ≡ None
+
+-- the channels of a mesh whose sparse levels are asked for
+pub record AreSparseTracks (options : SparseOptions) (mesh : ObjMesh) (tracks : BaseTracks) : Type 0 where
+  pub mesh_is : IsWithinLimits mesh
+  pub positions : tracks.positions ≡ positions_of mesh
+  pub texture : IsSparseBase (sparse_uv options mesh) mesh tracks.texture
+
+-- A level is that of the definitions. Its values are the points that are written, in any terms, over the common denominator.
+pub record IsPointsLevel (common : ℕ) (level : SparseValues Point3) (part : SparsePart Point) : Type 0 where
+  pub faces : level.faces ≡ part.level
+  pub same : AllZip IsSamePoint (points_of common level.values.items) part.values
+  pub positive : All HasDenominators part.values
+  pub written : All (CanBeWritten common) level.values.items
+
+pub record IsTextureLevel (common : ℕ) (level : SparseValues Point2) (part : SparsePart (Value × Value)) : Type 0 where
+  pub faces : level.faces ≡ part.level
+  pub same : AllZip IsSameTexturePoint (texture_points_of common level.values.items) part.values
+  pub positive : All HasTextureDenominators part.values
+  pub written : All (CanTextureBeWritten common) level.values.items
+
+-- the sparse levels of the positions from 0 to the depth, and their faults
+abbrev pub sparse_position_faults : SparseOptions → ObjMesh → List Fault
+sparse_position_faults options mesh = sparse_faults Tables (positions_of mesh) (meeting_for options mesh) Positions options.depth
+
+pub record ArePointsLevels (options : SparseOptions) (mesh : ObjMesh) (levels : List (SparseValues Point3)) : Type 0 where
+  pub mesh_is : IsWithinLimits mesh
+  pub fine : sparse_position_faults options mesh ≡ []
+  pub count : length levels ≡ options.depth + 1
+  pub each : (k : ℕ) (d : SparseValues Point3) → k < length levels → IsPointsLevel mesh.common (get_or levels k d) (points_part (sparse_positions options mesh) k)
+
+-- those of the texture, which is refined so
+pub record AreTextureLevels (options : SparseOptions) (mesh : ObjMesh) (mode : Uv) (levels : List (SparseValues Point2)) : Type 0 where
+  pub fine : sparse_texture_faults options mesh (Some mode) ≡ []
+  pub count : length levels ≡ options.depth + 1
+  pub each : (k : ℕ) (d : SparseValues Point2) → k < length levels
+      → IsTextureLevel mesh.texture_common (get_or levels k d) (texture_part (sparse_texture options mesh mode) k)
+
+-- those of the texture that is asked for
+abbrev pub AreSparseTexture : SparseOptions → ObjMesh → List (SparseValues Point2) → Type 0
+AreSparseTexture options mesh levels = (mode : Uv) × (sparse_uv options mesh ≡ Some mode) × AreTextureLevels options mesh mode levels
+
+-- the first fault of the positions, and of the texture
+abbrev pub sparse_position_refusal : SparseOptions → ObjMesh → Option Fault
+sparse_position_refusal options mesh = first_of (sparse_position_faults options mesh)
+
+abbrev pub sparse_texture_refusal : SparseOptions → ObjMesh → Option Fault
+sparse_texture_refusal options mesh = first_of (sparse_texture_faults options mesh (sparse_uv options mesh))
