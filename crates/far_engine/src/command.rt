@@ -15,7 +15,7 @@ use far_fault::FarFault;
 use far_io::{Sink, Source, WriteFailed};
 use far_text::{Reply, write_reply};
 use far_words::{Command, MakeCommand, ReadCommand, StoredCommand, StreamCommand};
-use mesh_answers::{generate, levels, limit, patch, refine, sparse, stencils};
+use mesh_answers::{generate, leaves, levels, limit, patch, refine, sparse, stencils};
 use ratio128::Steps;
 use std::alloc::Global;
 use std::sync::ledger::Ledger;
@@ -97,6 +97,7 @@ pub fn run_command<S: Source, K: Sink, L: Ledger>(
                     sink,
                 ),
                 ReadCommand::Patch(options) => put_found(patch(alloc, &mesh, options, steps), sink),
+                ReadCommand::Map(options) => put_found(leaves(alloc, &mesh, options, steps), sink),
             }
         }
         Command::Stored(command) => put_found(find_stored(alloc, command, source, steps), sink),

@@ -24,13 +24,17 @@ use std::sync::ledger::Ledger;
 ///   last level and applies it once; `by=level` goes level by level, and has no limit on entries.
 /// - `sparse` writes the sparse levels from level 0 to the depth. Only selected faces are refined further: the features, or all
 ///   faces but holes. Of each level it writes a line of counts, the points of the present faces, and a line for each such face with
-///   its kind, its number in the whole level and its corners.
+///   its kind, its number in the whole level and its corners. Where `uv` asks for texture and the mesh has a channel of it, `sparse`
+///   writes its texture points too. The texture follows the selection of the positions, so a corner has a texture point where the
+///   face is present in the texture.
 /// - `stencils` writes the table of the last level: the control points that each point depends on, and how much of each.
 /// - `limit` writes the limit points of the points of the last level, and its faces. The depth is at least 1. Coordinates are written
 ///   as `refine` writes them.
 /// - `levels` writes a line with the counts of each level.
 /// - `patch` writes the limit surface over a face of the last level, a quad inside with four quads around each corner and nothing
 ///   sharp there. Of the places of a grid along the sides it writes the points row by row, as fractions in lowest terms.
+/// - `map` writes of each place of a grid on a face of the mesh the leaf that has it, among the sparse levels to the depth, and where
+///   the place lies there. A leaf is a face that is refined no further.
 /// - `verify` compares a stored table with the table of the mesh before it, and writes how many rows both have. The table begins at the
 ///   first line whose first word is `table`.
 /// - `apply` evaluates a stored table over the points of the OBJ text behind it, and writes a point for each row, as fractions in
@@ -52,19 +56,20 @@ use std::sync::ledger::Ledger;
 /// - `Long` where more than 2^28 bytes came;
 /// - `Obj` where a line is refused, with the least such line and its cause;
 /// - `Mesh` where the mesh is no manifold, with its first fault;
-/// - `TooLarge` where a count of the mesh passes its limit, or, but under `sparse`, a level up to the depth would have more than
+/// - `TooLarge` where a count of the mesh passes its limit, or, but under `sparse` and `map`, a level up to the depth would have more than
 ///   2^22 faces;
 /// - `Overflow` of the positions, with the least level at which a number passes its bound, and the first such number there: the
 ///   denominator of the half of an edge under `chaikin`, that of the weight between two rules, the common denominator of a
 ///   point, or the greatest numerator over it. `levels` looks at halves alone;
 /// - `TooLarge` where a table is composed that has more than 2^27 entries at a level: before the numerators of this level;
-/// - under `refine`, `Overflow` or `TooLarge` of the texture, in this order again;
+/// - under `refine`, and under `sparse` with texture, `Overflow` or `TooLarge` of the texture, in this order again;
 /// - under `limit`, `Limit` where a point of the last level has no limit point, with the least such point and why. Then `Overflow`
 ///   of the rows of limit points at the depth, for a common denominator, `TooLarge` for more than 2^27 entries of these rows, and
 ///   `Overflow` for the greatest numerator;
 /// - under `patch`, `Place` where the last level has no such face, or the face has no patch. Then `Overflow` of the rows of the patch
 ///   at the depth, for a common denominator, `TooLarge` for more than 2^27 entries of these rows, and `Overflow` for the greatest
-///   numerator. The depth of such an `Overflow` may be 0.
+///   numerator. The depth of such an `Overflow` may be 0;
+/// - under `map`, `Place` where the mesh has no such face, where the face has no places with the corner, or where it is a hole.
 ///
 /// `verify` refuses its mesh as `stencils` does. Then `Table` comes with the first bad line of the stored table, at the line behind
 /// its text where bytes follow it, and at the line behind the last where no line begins with `table`. Then `Differs` comes with the
@@ -74,8 +79,8 @@ use std::sync::ledger::Ledger;
 /// the text behind it, `Controls` where the table has another number of control points than the text has points, and `Overflow` of
 /// the positions at level 0 where a numerator can pass its bound.
 ///
-/// `sparse` looks at its present faces and points alone. At each level it refuses more than 2^22 present faces (`TooLarge`) before
-/// all else.
+/// `sparse` looks at its present faces and points alone, and `map` at its present faces. At each level they refuse more than 2^22
+/// present faces (`TooLarge`) before all else. Of the overflows `map` looks at halves alone.
 ///
 /// `frames` refuses its mesh as `stencils` does, at the line `frames` or at the end of the input. Behind that line it answers each
 /// line up to the first of these faults, whatever follows:

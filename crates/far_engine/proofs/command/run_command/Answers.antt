@@ -52,13 +52,21 @@ pub returns-in-Levels-clause-steps : goal.returns-in-Levels-clause-steps
 returns-in-Levels-clause-steps g c =
     steps-mesh g.S.Source g.K.Sink _ _ (ap command_of_code c.in-Read.is ∙ ap (λ k. Reads (read_of_code k)) c.in-Levels.is) _ _ _ c.in_ok-mesh-in-Read.ensures _ _ _ c.levels.ensures _ _ _ c.put_found-in-Levels.ensures
 
+pub returns-in-Patch-clause-run : goal.returns-in-Patch-clause-run
+returns-in-Patch-clause-run g c =
+    runs-mesh g.S.Source g.K.Sink _ _ (ap command_of_code c.in-Read.is ∙ ap (λ k. Reads (read_of_code k)) c.in-Patch.is) _ _ _ c.in_ok-mesh-in-Read.ensures _ _ _ c.patch.ensures _ _ _ c.put_found-in-Patch.ensures
+
+pub returns-in-Patch-clause-steps : goal.returns-in-Patch-clause-steps
+returns-in-Patch-clause-steps g c =
+    steps-mesh g.S.Source g.K.Sink _ _ (ap command_of_code c.in-Read.is ∙ ap (λ k. Reads (read_of_code k)) c.in-Patch.is) _ _ _ c.in_ok-mesh-in-Read.ensures _ _ _ c.patch.ensures _ _ _ c.put_found-in-Patch.ensures
+
 pub returns-in-Read-clause-run : goal.returns-in-Read-clause-run
 returns-in-Read-clause-run g c =
-    runs-mesh g.S.Source g.K.Sink _ _ (ap command_of_code c.in-Read.is ∙ ap (λ k. Reads (read_of_code k)) c.in-Patch.is) _ _ _ c.in_ok-mesh-in-Read.ensures _ _ _ c.patch.ensures _ _ _ c.put_found-in-Patch.ensures
+    runs-mesh g.S.Source g.K.Sink _ _ (ap command_of_code c.in-Read.is ∙ ap (λ k. Reads (read_of_code k)) c.in-Map.is) _ _ _ c.in_ok-mesh-in-Read.ensures _ _ _ c.leaves.ensures _ _ _ c.put_found-in-Map.ensures
 
 pub returns-in-Read-clause-steps : goal.returns-in-Read-clause-steps
 returns-in-Read-clause-steps g c =
-    steps-mesh g.S.Source g.K.Sink _ _ (ap command_of_code c.in-Read.is ∙ ap (λ k. Reads (read_of_code k)) c.in-Patch.is) _ _ _ c.in_ok-mesh-in-Read.ensures _ _ _ c.patch.ensures _ _ _ c.put_found-in-Patch.ensures
+    steps-mesh g.S.Source g.K.Sink _ _ (ap command_of_code c.in-Read.is ∙ ap (λ k. Reads (read_of_code k)) c.in-Map.is) _ _ _ c.in_ok-mesh-in-Read.ensures _ _ _ c.leaves.ensures _ _ _ c.put_found-in-Map.ensures
 
 pub returns-in-Stored-clause-run : goal.returns-in-Stored-clause-run
 returns-in-Stored-clause-run g c =
