@@ -1,3 +1,4 @@
 mod ControlLemmas
 mod RowLemmas
+mod SparseLemmas
 mod StepLemmas

@@ -1,4 +1,5 @@
-//! Tests of calls below the program: numbers, words, meshes, cut meshes, marks, tables, channels and sparse levels.
+//! Tests of calls below the program: numbers, words, meshes, cut meshes, marks, tables, channels, sparse levels,
+//! their maps and their textures.
 #![tactic(auto)]
 
 #[cfg(test)]
@@ -10,11 +11,15 @@ mod cuts;
 #[cfg(test)]
 mod expect;
 #[cfg(test)]
+mod floats;
+#[cfg(test)]
 mod frame_lines;
 #[cfg(test)]
 mod inputs;
 #[cfg(test)]
 mod lines;
+#[cfg(test)]
+mod maps;
 #[cfg(test)]
 mod marks;
 #[cfg(test)]
@@ -33,6 +38,8 @@ mod parts;
 mod sessions;
 #[cfg(test)]
 mod sparse;
+#[cfg(test)]
+mod sparse_texture;
 #[cfg(test)]
 mod stored;
 #[cfg(test)]
