@@ -131,6 +131,16 @@ const FAULTS: &[Fault] = &[
         "far: face 0 is not a regular inner face\n",
     ),
     (
+        FarFault::Place(PlaceFault::NoCorner { count: 3 }),
+        13,
+        "far: the face has 3 corners\n",
+    ),
+    (
+        FarFault::Place(PlaceFault::IsHole { face: u32::MAX }),
+        13,
+        "far: face 4294967295 is a hole\n",
+    ),
+    (
         FarFault::Table {
             line: u32::MAX,
             cause: TableCause::Range,

@@ -117,6 +117,16 @@ pub const TWO_CHARTS_IN_DECIMALS: &str =
     vt 0.00 0.00\nvt 1.00 0.00\nvt 1.00 1.00\nvt 0.00 1.00\nvt 4.00 0.00\nvt 5.00 0.00\nvt 5.00 1.00\n\
     vt 4.00 1.00\nf 1/1 2/2 3/3 4/4\nf 2/5 5/6 6/7 3/8\nt interpolateboundary 1/0/0 2\n";
 
+// Level 0 of the two charts as a sparse level with texture.
+pub const TWO_CHARTS_LEVEL: &str =
+    "level 0 points 6 faces 2 texture 8\nv 0 0 0\nv 1 0 0\nv 1 1 0\nv 0 1 0\nv 2 0 0\nv 2 1 0\nvt 0 0\nvt 1 0\n\
+    vt 1 1\nvt 0 1\nvt 4 0\nvt 5 0\nvt 5 1\nvt 4 1\nf l 0 1/1 2/2 3/3 4/4\nf l 1 2/5 5/6 6/7 3/8\n";
+
+// The leaves of the corners of the cube's first face, which is refined once.
+pub const CUBE_LEAVES: &str =
+    "p 0 0 level 1 face 0 corner 0 at 0 0\np 1 0 level 1 face 1 corner 0 at 0 0\n\
+    p 0 1 level 1 face 3 corner 0 at 0 0\np 1 1 level 1 face 2 corner 0 at 0 0\n";
+
 // The two charts, of which the first corner of the second has a great texture value.
 pub const GREAT_CHART: &str =
     "v 0 0 0\nv 1 0 0\nv 1 1 0\nv 0 1 0\nv 2 0 0\nv 2 1 0\nvt 0 0\nvt 1 0\nvt 1 1\nvt 0 1\nvt 1e36 0\nvt 5 0\n\

@@ -3,10 +3,10 @@
 use crate::engine::run_alone;
 use crate::expect::expect_answer;
 use crate::inputs::{
-    CUBE, CUBE_LEVEL, CUBE_REFINED, CURVED_PATCH, CURVED_SHEET, GEN, GREAT_CHART, GREATER_CUBE,
-    LEVELS, MOVED_SQUARE, MOVED_SQUARE_ANSWER, QUARTER_AND_POINTS, QUARTER_TABLE, REFINE, SHEET,
-    SQUARE, SQUARE_LEVELS, SQUARE_LIMITS, SQUARE_TABLE, TRIANGLES, TWO_CHARTS,
-    TWO_CHARTS_IN_DECIMALS,
+    CUBE, CUBE_LEAVES, CUBE_LEVEL, CUBE_REFINED, CURVED_PATCH, CURVED_SHEET, GEN, GREAT_CHART,
+    GREATER_CUBE, LEVELS, MOVED_SQUARE, MOVED_SQUARE_ANSWER, QUARTER_AND_POINTS, QUARTER_TABLE,
+    REFINE, SHEET, SQUARE, SQUARE_LEVELS, SQUARE_LIMITS, SQUARE_TABLE, TRIANGLES, TWO_CHARTS,
+    TWO_CHARTS_IN_DECIMALS, TWO_CHARTS_LEVEL,
 };
 use far_engine::{FarFault, LimitCause, OverflowKind, PlaceFault, TableCause, Track};
 use level_topology::Counted;
@@ -128,6 +128,46 @@ const RUNS: &[Run] = &[
         "t interpolateboundary 1/0/0 1\n",
         Ok(()),
         SQUARE_LEVELS,
+    ),
+    (
+        "sparse depth=0 uv=smooth",
+        TWO_CHARTS,
+        "",
+        Ok(()),
+        TWO_CHARTS_LEVEL,
+    ),
+    (
+        "sparse depth=2 select=all uv=smooth",
+        GREAT_CHART,
+        "",
+        Err(FarFault::Overflow {
+            track: Track::Texture,
+            level: 2,
+            kind: OverflowKind::Value,
+        }),
+        "",
+    ),
+    ("map depth=1 face=0 grid=1", CUBE, "", Ok(()), CUBE_LEAVES),
+    (
+        "map depth=1 face=6 grid=1",
+        CUBE,
+        "",
+        Err(FarFault::Place(PlaceFault::NoFace { count: 6 })),
+        "",
+    ),
+    (
+        "map depth=1 face=0 grid=1 corner=1",
+        CUBE,
+        "",
+        Err(FarFault::Place(PlaceFault::NoCorner { count: 4 })),
+        "",
+    ),
+    (
+        "map depth=1 face=0 grid=1",
+        CUBE,
+        "t hole 1/0/0 0\n",
+        Err(FarFault::Place(PlaceFault::IsHole { face: 0 })),
+        "",
     ),
     (
         "verify depth=1",

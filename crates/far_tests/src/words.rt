@@ -3,8 +3,9 @@
 use crate::engine::words_of;
 use crate::expect::expect_same;
 use far_words::{
-    By, Command, FramesOptions, GenOptions, LimitOptions, MakeCommand, PatchOptions, ReadCommand,
-    RefineOptions, Select, SparseOptions, StoredCommand, StreamCommand, Uv, read_words,
+    By, Command, FramesOptions, GenOptions, LimitOptions, MakeCommand, MapOptions, PatchOptions,
+    ReadCommand, RefineOptions, Select, SparseOptions, SparseUv, StoredCommand, StreamCommand, Uv,
+    read_words,
 };
 use std::process::Abort;
 use std::test::Fail;
@@ -24,11 +25,12 @@ macro_rules! refine {
 
 // Refining selected faces with these options.
 macro_rules! sparse {
-    ($depth:literal, $select:ident, $decimals:expr) => {
+    ($depth:literal, $select:ident, $decimals:expr, $uv:ident) => {
         Ok(Command::Read(ReadCommand::Sparse(SparseOptions {
             depth: $depth,
             select: Select::$select,
             decimals: $decimals,
+            uv: SparseUv::$uv,
         })))
     };
 }
@@ -44,6 +46,19 @@ macro_rules! limit {
 macro_rules! patch {
     ($depth:literal, $face:literal, $grid:literal) => {
         Ok(Command::Read(ReadCommand::Patch(PatchOptions { depth: $depth, face: $face, grid: $grid })))
+    };
+}
+
+// The leaves of the places of a face, on a grid, where faces are selected to a depth.
+macro_rules! map {
+    ($depth:literal, $face:literal, $grid:literal, $corner:literal, $select:ident) => {
+        Ok(Command::Read(ReadCommand::Map(MapOptions {
+            depth: $depth,
+            face: $face,
+            grid: $grid,
+            corner: $corner,
+            select: Select::$select,
+        })))
     };
 }
 
@@ -83,10 +98,26 @@ const WORDS: &[Words] = &[
         "refine uv=linear by=level depth=5",
         refine!(5, None, Linear, Level, false),
     ),
-    ("sparse depth=10", sparse!(10, Feature, None)),
+    ("sparse depth=10", sparse!(10, Feature, None, NoTexture)),
     (
         "sparse uv=none decimals=18 select=all depth=0",
-        sparse!(0, All, Some(18)),
+        sparse!(0, All, Some(18), NoTexture),
+    ),
+    (
+        "sparse depth=3 uv=smooth",
+        sparse!(3, Feature, None, Smooth),
+    ),
+    (
+        "sparse uv=corners depth=0",
+        sparse!(0, Feature, None, Corners),
+    ),
+    (
+        "sparse depth=2 select=all uv=boundaries",
+        sparse!(2, All, None, Boundaries),
+    ),
+    (
+        "sparse uv=linear decimals=0 depth=1",
+        sparse!(1, Feature, Some(0), Linear),
     ),
     (
         "stencils depth=3",
@@ -102,6 +133,11 @@ const WORDS: &[Words] = &[
     (
         "patch grid=64 face=4194303 depth=10",
         patch!(10, 4_194_303, 64),
+    ),
+    ("map depth=0 face=0 grid=1", map!(0, 0, 1, 0, Feature)),
+    (
+        "map select=all corner=65535 grid=256 face=1048575 depth=10",
+        map!(10, 1_048_575, 256, 65535, All),
     ),
     (
         "verify depth=10",
@@ -122,6 +158,12 @@ const WORDS: &[Words] = &[
     ("patch face=4194304 depth=0 grid=1", Err(1)),
     ("patch depth=0 face=0 grid=65", Err(3)),
     ("patch depth=0 grid=1", Err(3)),
+    ("sparse depth=0 uv=texture", Err(2)),
+    ("map depth=0 face=1048576 grid=1", Err(2)),
+    ("map depth=0 face=0 grid=257", Err(3)),
+    ("map depth=0 face=0 grid=0", Err(3)),
+    ("map depth=0 face=0 grid=1 corner=65536", Err(4)),
+    ("map face=0 grid=1 corner=0", Err(4)),
     ("verify", Err(1)),
     ("verify depth=11", Err(1)),
     ("apply depth=0", Err(1)),
