@@ -2,11 +2,12 @@
 """Times the commands of the built program on large meshes, those among them that are made to take long.
 
 Each mesh is made as a text in a temporary folder, mostly at two sizes. A row tells of the larger one: the faces of the
-last level, or of the mesh where it is refused, and under `sparse` the present faces of all levels; the least time of some
-runs (whole processes, reading and writing included) and the greatest peak memory; how much is written; the nanoseconds
-for each face, each entry of the table, where one is composed of the positions alone, and each byte that is read or
-written; and the exponent with which the time grows with the faces from the smaller size to it: 1.0 is linear. `apply` and `verify`
-read the table of depth 3 beside the mesh, and their rows have the faces of that level.
+last level, or of the mesh where it is refused, under `sparse` the present faces of all levels, and under `map` the places
+in their stead; the least time of some runs (whole processes, reading and writing included) and the greatest peak memory;
+how much is written; the nanoseconds for each face, each entry of the table, where one is composed of the positions
+alone, and each byte that is read or written; and the exponent with which the time grows with the faces from the smaller
+size to it: 1.0 is linear. `apply` and `verify` read the table of depth 3 beside the mesh, and their rows have the faces
+of that level.
 
 The status is checked, the first line of `levels`, how many faces are written or counted, and the lines `level` of
 `sparse`, all of them for the cube and the sheets, and else that of level 0. What is wrong is told, and the exit status is
@@ -123,6 +124,11 @@ FEATURES = [
         ("character, by its bumps", meshes.bumpy_character, (216, 54)),
     ]
 ]
+FEATURES += [
+    Case("textured character", meshes.textured_character, "sparse depth=10 uv=smooth", with_quarter(20000)),
+    Case("character", meshes.character, "map depth=3 face=0 grid=256", with_quarter(20000)),
+    Case("character", meshes.character, "map depth=10 face=0 grid=256", with_quarter(20000)),
+]
 MOVES = [Case("cube, by its moves", meshes.moved_cube, "frames depth=1", with_quarter(MILLION))]
 CASES = CHECKS + COMMANDS + FEATURES + MOVES + [Case("one quad", meshes.sheet, "levels depth=10", (1,))]
 SESSIONS = [
@@ -193,9 +199,9 @@ def is_sparse(case):
 
 
 def level_lines(path):
-    """The lines `level` of a text."""
+    """The lines `level` of a text, without the counts of texture."""
     with open(path, "rb") as text:
-        return [line.decode().rstrip("\n") for line in text if line.startswith(b"level ")]
+        return [line.decode().partition(" texture")[0].rstrip("\n") for line in text if line.startswith(b"level ")]
 
 
 def wanted_levels(case, made):
@@ -219,7 +225,7 @@ def faces_told(words, path):
     with open(path, "rb") as text:
         if words.startswith(("refine", "limit")):
             return sum(line.startswith(b"f ") for line in text)
-        has_none = words.startswith(("stencils", "patch", "frames"))
+        has_none = words.startswith(("stencils", "patch", "map", "frames"))
         return None if has_none or is_stored(words) else int(re.findall(rb" faces (\d+)", text.read())[-1])
 
 
@@ -244,7 +250,7 @@ def entries_of(program, case, words, path):
         with open(path, "rb") as text:
             header = next(line for line in text if line.startswith(b"table "))
         return int(header.split()[-1])
-    if command in ("levels", "limit", "patch", "frames", "sparse") or "by=level" in words or case.maker in TEXTURED:
+    if command in ("levels", "limit", "patch", "map", "frames", "sparse") or "by=level" in words or case.maker in TEXTURED:
         return None
     asked = words if command == "gen" else f"stencils depth={depth_of(words)}"
     outputs = {"stdout": subprocess.PIPE, "stderr": subprocess.DEVNULL}
@@ -254,7 +260,9 @@ def entries_of(program, case, words, path):
 
 
 def faces_of(case, made, sink):
-    """How many faces the time of a run is told of."""
+    """How many faces the time of a run is told of, or how many places."""
+    if case.words.startswith("map"):
+        return sink.read_bytes().count(b"\n")
     return sum(int(line.split()[-1]) for line in level_lines(sink)) if is_sparse(case) else made.faces
 
 

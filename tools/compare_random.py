@@ -5,10 +5,12 @@ Texts are made of lines that are good, bad or nearly bad, and of the cube, the u
 refined cube with a few changes; they are refined to depth 1 at most. Meshes are those of `tools/random_meshes.py`,
 many with texture; they are refined, by tables and level by level, or have their levels counted or their tables
 written, to depth 3 at most. Each of them has its sparse levels written too, to depth 4 at most, its limit points, and
-the patch of a face, mostly of one that has a patch. Sheets are made by the program itself. Inputs with moves are those
-of `tools/random_frames.py`, and inputs with a stored table those of `tools/random_tables.py`. Two inputs with a table
-are cut after each of their bytes, the same two for every seed. Other meshes, which have no fault, have the points of
-their sparse levels compared with those that the program itself writes of whole levels, by `tools/sparse_points.py`. In
+the patch of a face, mostly of one that has a patch. Other meshes have places of a face mapped to their leaves. Others
+have texture and no fault, and their sparse levels are written with it. Sheets are made by the program itself. Inputs
+with moves are those of `tools/random_frames.py`, and inputs with a stored table those of `tools/random_tables.py`. Two
+inputs with a table are cut after each of their bytes, the same two for every seed. Other meshes, which have no fault,
+have the points of their sparse levels compared with those that the program itself writes of whole levels, by
+`tools/sparse_points.py`. The textured meshes have their texture compared so, by `tools/sparse_texture_points.py`. In
 other meshes nothing is semi-sharp. They have their limit points compared with the reference, and those of level 1 with those of level 3, by
 `tools/limit_points.py`. Faces of other meshes have their patches compared with limit points and with the patches of
 their children, by `tools/patch_laws.py`. More meshes are refined from a text of the program and at once, by
@@ -16,6 +18,7 @@ their children, by `tools/patch_laws.py`. More meshes are refined from a text of
 which the two differ is printed, and the exit status is then 1.
 
     tools/compare_random.py --seed 1 --count 3000 --meshes 1500 --frames 1200 --points 1000 --limits 1000 --continued 1000
+    tools/compare_random.py --seed 1 --textures 300 --maps 300
 
 A run is one process. Four at a time compare a hundred thousand answers so, each run with a seed of its own:
 
@@ -42,6 +45,7 @@ from random_meshes import Meshes
 from random_tables import Tables, cut_inputs
 from run_reference import Refusal
 from sparse_points import points_agree
+from sparse_texture_points import texture_agrees
 
 TOP = Path(__file__).resolve().parent.parent
 REFINE = ["refine", "depth=1"]
@@ -55,9 +59,10 @@ MOST_SPARSE_FACES = 1600
 SEEDS = ["0", "1", "7", str(2**31 - 1), str(2**31), str(2**32 - 1)]
 SCALES = ["0", "1", "2", "3", "6", "17", "18"]
 BAD_SCALES = ["scale=19", "scale=00", "scale=", "scale", "decimals=1", "depth=1", "Scale=1", "scale=-1"]
-BAD_SPARSE = ["select=", "select=features", "select", "uv=smooth", "uv=", "decimals=19", "depth=1", "by=level", "tags=no"]
+BAD_SPARSE = ["select=", "select=features", "select", "uv=no", "uv=", "decimals=19", "depth=1", "by=level", "tags=no"]
 BAD_LIMITS = ["depth=0", "depth=11", "depth=01", "decimals=19", "decimals=", "by=level", "tags=no", "uv=smooth", "depth=1"]
 BAD_PATCHES = ["grid=0", "grid=65", "grid=01", "face=4194304", "face=-1", "face=", "depth=11", "decimals=2", "grid"]
+BAD_MAPS = ["grid=0", "grid=257", "face=1048576", "corner=65536", "corner=-1", "select=none", "decimals=2", "uv=none", "grid"]
 BAD_SHEETS = ["size=0", "size=257", "seed=-1", f"seed={2**32}", "seed=00", "depth=11", "by=table", "size"]
 OPTIONS = {
     "decimals": ["0", "1", "2", "3", "6", "17", "18"],
@@ -66,10 +71,11 @@ OPTIONS = {
     "tags": ["yes", "yes", "no"],
 }
 BAD_OPTIONS = ["depth=1", "depth=01", "depth=11", "decimals=19", "decimals=-1", "uv=", "by=tables", "tags", "=1", "x=1"]
-SPARSE_OPTIONS = {"select": ["feature", "all", "all"], "decimals": ["0", "3", "18"], "uv": ["none"]}
+SPARSE_OPTIONS = {"select": ["feature", "all", "all"], "decimals": ["0", "3", "18"], "uv": ["none", *OPTIONS["uv"]]}
 GRIDS = ["1", "1", "2", "2", "2", "3", "4", "5", "7", "8"]
 LARGE_GRIDS = ["16", "63", "64"]
 GREATEST_FACE = 2**22 - 1
+MAP_GRIDS = ["1", "2", "2", "3", "4", "4", "5", "6", "8", "8"]
 # How likely an option is there.
 CHANCES = {"decimals": 0.4, "uv": 0.7, "by": 0.4, "tags": 0.4}
 CUBE = (TOP / "examples" / "cube.obj").read_bytes()
@@ -129,6 +135,11 @@ def is_taken(data):
     return expected(["sparse", "depth=0"], data)[0] == 0
 
 
+def has_texture(data):
+    """Whether the faces of a text have texture, and it can be refined once."""
+    return b"\nvt" in data and b" texture " in expected(["sparse", "depth=1", "select=all", "uv=smooth"], data)[1]
+
+
 def taken(text):
     """The texts that a call gives, one after another, without those that are not taken."""
     return filter(is_taken, iter(text, None))
@@ -143,9 +154,14 @@ def patches_for(data):
 _, REFINED_CUBE, _ = expected(REFINE, CUBE)
 
 
+def sizes_of(data):
+    """How many corners each face of a text has, roughly where its lines are bad."""
+    return [len(line.split()) - 1 for line in data.split(b"\n") if line.startswith(b"f")]
+
+
 def corners_of(data):
-    """How many corners the faces of a text have, roughly where its lines are bad."""
-    return sum(len(line.split()) - 1 for line in data.split(b"\n") if line.startswith(b"f"))
+    """How many corners the faces of a text have together."""
+    return sum(sizes_of(data))
 
 
 class Texts:
@@ -298,6 +314,33 @@ class Words:
         self.random.shuffle(options)
         return ["sparse", *options]
 
+    def for_texture(self, data):
+        """The words by which the sparse levels of a mesh with texture are written with it."""
+        options = [word for word in self.for_sparse(data) if not word.startswith("uv=")]
+        return [*options, f"uv={self.random.choice(OPTIONS['uv'])}"]
+
+    def face_and_corner(self, data):
+        """A face of a mesh and a corner with which it has places; now and then one that it does not have."""
+        sizes = sizes_of(data)
+        if not sizes or self.random.random() < 0.05:
+            return self.random.choice([len(sizes), len(sizes) + 3, 2**20 - 1]), 0
+        face = self.random.randrange(len(sizes))
+        if self.random.random() < 0.05:
+            return face, self.random.choice([1, sizes[face], 65535])
+        return face, 0 if sizes[face] == 4 else self.random.randrange(max(sizes[face], 1))
+
+    def for_map(self, data):
+        """The words by which places of a face of a mesh are mapped, not too far for its corners; now and then with a bad
+        word, or without one."""
+        face, corner = self.face_and_corner(data)
+        depth = self.depth_for(corners_of(data), MOST_SPARSE_FACES, GREATEST_SPARSE_DEPTH)
+        options = [f"depth={depth}", f"face={face}", f"grid={self.random.choice(MAP_GRIDS)}"]
+        options += [f"corner={corner}"] if corner or self.random.random() < 0.2 else []
+        options += [f"select={self.random.choice(SPARSE_OPTIONS['select'])}"] if self.random.random() < 0.6 else []
+        options += [self.random.choice(BAD_MAPS)] if self.random.random() < 0.03 else []
+        self.random.shuffle(options)
+        return ["map", *options[1 if self.random.random() < 0.02 else 0 :]]
+
     def for_limit(self, data):
         """The words by which the limit points of a mesh are written, not too far for its corners; now and then with a bad
         word."""
@@ -377,6 +420,18 @@ def patch_texts(seed, mesh_texts):
         yield from islice(filter(patches_for, iter(text, None)), 2 * fifth)
 
 
+def textured_texts(seed, count):
+    """So many texts of meshes with texture, which can be refined once."""
+    return islice(filter(has_texture, iter(Meshes(f"textures of {seed}").text, None)), count)
+
+
+def map_texts(seed, count):
+    """So many texts of meshes, of which each tenth may have a fault."""
+    meshes = Meshes(f"maps of {seed}")
+    good = taken(meshes.text)
+    return (meshes.text() if number % 10 == 9 else next(good) for number in range(count))
+
+
 def kinds_of_runs(arguments, lasting_texts):
     """What is compared with the reference: of each kind its words and its texts."""
     seed = arguments.seed
@@ -388,6 +443,8 @@ def kinds_of_runs(arguments, lasting_texts):
     yield "sparse levels", ((words.for_sparse(data), data) for data in mesh_texts)
     yield "limit points", ((words.for_limit(data), data) for data in mesh_texts + lasting_texts)
     yield "patches", ((words.for_patch(data), data) for data in patch_texts(seed, mesh_texts))
+    yield "textured sparse levels", ((words.for_texture(data), data) for data in textured_texts(seed, arguments.textures))
+    yield "maps", ((words.for_map(data), data) for data in map_texts(seed, arguments.maps))
     yield "sheets", ((words.for_sheet(), b"") for _ in range(arguments.sheets))
     yield "inputs with moves", ((words.for_frames(data), data) for data in inputs)
     tables = Tables(seed)
@@ -402,6 +459,7 @@ def compared_with_itself(arguments, lasting_texts):
     program, seed = arguments.program, arguments.seed
     others, bases, sources = (taken(Meshes(f"{name} of {seed}").text) for name in ("points", "texts", "patches"))
     yield points_agree(program, islice(others, arguments.points))
+    yield texture_agrees(program, textured_texts(seed, arguments.textures))
     yield limits_stay(program, lasting_texts)
     drawn = drawn_faces(random.Random(f"faces of {seed}"), sources)
     yield patches_agree(program, islice(drawn, arguments.patches))
@@ -418,6 +476,8 @@ def arguments_of_run():
     parser.add_argument("--frames", type=int, default=400, help="how many inputs with moves are answered")
     parser.add_argument("--tables", type=int, default=400, help="how many stored tables are compared, and how many applied")
     parser.add_argument("--points", type=int, default=100, help="how many meshes have their points compared by two commands")
+    parser.add_argument("--textures", type=int, default=30, help="how many meshes have their texture at sparse levels compared")
+    parser.add_argument("--maps", type=int, default=30, help="how many meshes have places of a face mapped to leaves")
     parser.add_argument("--limits", type=int, default=100, help="how many meshes have their limit points compared twice")
     parser.add_argument("--patches", type=int, default=100, help="how many faces have their patches compared with others")
     parser.add_argument("--continued", type=int, default=100, help="how many meshes are refined from texts of the program")

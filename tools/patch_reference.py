@@ -8,7 +8,7 @@ from itertools import product
 
 from level_reference import accepted, next_level, overflow
 from mask_reference import GREATEST_NUMBER, MOST_ENTRIES, base_points, mask_of, masked, positions_of, stepped
-from run_reference import NO_PATCH, TOO_LARGE, Refusal, mesh_of
+from run_reference import NO_PLACE, TOO_LARGE, Refusal, mesh_of
 from text_reference import line, number_text
 
 
@@ -50,9 +50,9 @@ def patched_levels(data, depth, most):
 def check_place(level, face):
     """Refuses a face that is not there, or that has no patch."""
     if face >= len(level.mesh.faces):
-        raise Refusal(NO_PATCH, f"far: there are {len(level.mesh.faces)} faces")
+        raise Refusal(NO_PLACE, f"far: there are {len(level.mesh.faces)} faces")
     if face not in regular_faces(level):
-        raise Refusal(NO_PATCH, f"far: face {face} is not a regular inner face")
+        raise Refusal(NO_PLACE, f"far: face {face} is not a regular inner face")
 
 
 # The sixteen points

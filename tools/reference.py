@@ -1,7 +1,7 @@
 #!/usr/bin/env python3
 """A plain, slow reference of the program: of `far refine`, and through `tools/level_reference.py` of `far levels`,
 `tools/sparse_reference.py` of `far sparse`, `tools/table_reference.py` of `far stencils` and `far gen`,
-`tools/limit_reference.py` of `far limit`, `tools/patch_reference.py` of `far patch`,
+`tools/limit_reference.py` of `far limit`, `tools/patch_reference.py` of `far patch`, `tools/map_reference.py` of `far map`,
 `tools/stored_reference.py` of `far verify` and `far apply`, and `tools/frames_reference.py` of `far frames`.
 
 It is written from the definitions of `far_model` (Answer) and `subdiv_model` (Text, and those that the other references
@@ -20,6 +20,7 @@ from math import inf
 from frames_reference import frame_texts
 from level_reference import accepted, levels_text, sharp_edges
 from limit_reference import limit_text
+from map_reference import map_text
 from mask_reference import positions_of, refined
 from patch_reference import patch_text
 from run_reference import read_mesh, run, understood
@@ -83,6 +84,17 @@ def refined_text(obj, options):
     return "".join(lines + (tag_lines(level) if with_tags else []))
 
 
+def written_levels_text(obj, options):
+    """The text of the sparse levels of a mesh that was read, or its Refusal."""
+    return sparse_text(obj, depth_of(options), rule_of(options), decimals_of(options), options.get(b"uv", b"none"))
+
+
+def leaves_text(obj, options):
+    """The text of the places of a face of a mesh that was read, or its Refusal."""
+    face, grid, corner = (int(options.get(name, 0)) for name in (b"face", b"grid", b"corner"))
+    return map_text(obj, depth_of(options), rule_of(options), (face, corner), grid)
+
+
 # The text of each command that reads a mesh, of the mesh and the options.
 TEXTS_OF_MESH = {
     b"refine": refined_text,
@@ -90,7 +102,8 @@ TEXTS_OF_MESH = {
     b"limit": lambda obj, options: limit_text(obj, depth_of(options), decimals_of(options)),
     b"levels": lambda obj, options: levels_text(obj, depth_of(options)),
     b"patch": lambda obj, options: patch_text(obj, depth_of(options), int(options[b"face"]), int(options[b"grid"])),
-    b"sparse": lambda obj, options: sparse_text(obj, depth_of(options), rule_of(options), decimals_of(options)),
+    b"sparse": written_levels_text,
+    b"map": leaves_text,
 }
 
 # The text of each command that reads a stored table, of its input and the options.

@@ -63,10 +63,13 @@ def runs():
     yield "levels depth=1", cube
     yield "sparse depth=2", tagged
     yield "sparse depth=1 select=all", unfolded
+    yield "sparse depth=2 uv=smooth", case("sparse-texture/seam-beside-a-crease")
     yield "limit depth=2", cube + RING
     yield "limit depth=1 decimals=2", tagged
     yield "patch depth=2 face=2 grid=2", cube
     yield "patch depth=1 face=0 grid=2", tagged
+    yield "map depth=2 face=0 grid=2", tagged
+    yield "map depth=2 face=2 grid=2", tagged
     yield "verify depth=1", case("verify/cube-at-depth-one")
     yield "apply", case("apply/cube-at-depth-one")
     yield "gen seed=7 size=2 depth=1", b""

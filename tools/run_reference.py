@@ -7,7 +7,7 @@ import sys
 from obj_reference import Fault, read_obj
 
 GREATEST_INPUT = 2**28
-NOT_UNDERSTOOD, TOO_LONG, BAD_LINE, BAD_MESH, TOO_LARGE, OVERFLOW, NO_LIMIT, NO_PATCH = 2, 4, 5, 6, 7, 8, 9, 13
+NOT_UNDERSTOOD, TOO_LONG, BAD_LINE, BAD_MESH, TOO_LARGE, OVERFLOW, NO_LIMIT, NO_PLACE = 2, 4, 5, 6, 7, 8, 9, 13
 BAD_TABLE, OTHER_TABLE, OTHER_COUNT = 14, 15, 16
 
 
@@ -37,7 +37,19 @@ OPTIONS = {
     b"frames": {**DEPTH, b"scale": Numbers(0, 18)},
     b"levels": DEPTH,
     b"patch": {**DEPTH, b"face": Numbers(0, 4194303), b"grid": Numbers(1, 64)},
-    b"sparse": {**DEPTH, b"select": [b"feature", b"all"], b"decimals": Numbers(0, 18), b"uv": [b"none"]},
+    b"sparse": {
+        **DEPTH,
+        b"select": [b"feature", b"all"],
+        b"decimals": Numbers(0, 18),
+        b"uv": [b"none", b"smooth", b"corners", b"boundaries", b"linear"],
+    },
+    b"map": {
+        **DEPTH,
+        b"face": Numbers(0, 1048575),
+        b"grid": Numbers(1, 256),
+        b"corner": Numbers(0, 65535),
+        b"select": [b"feature", b"all"],
+    },
     b"verify": DEPTH,
     b"apply": {},
     b"gen": {b"seed": Numbers(0, 2**32 - 1), b"size": Numbers(1, 256), **DEPTH},

@@ -1,18 +1,35 @@
 """A plain, slow reference of sparse levels: of each level the points and faces that are present, and of what kind each
-face is.
+face is, with texture where it is asked for.
 
-It is written from the definitions of `subdiv_model` (Feature, Sparse, SparseFaults and SparseText), over whole uniform
-levels, of which it makes the values of present points alone. It shares nothing with the program. `tools/reference.py`
-answers `sparse` through it.
+It is written from the definitions of `subdiv_model` (Feature, Sparse, SparseFaults, SparseText and SparseTexture) over
+uniform levels, of which it makes the values of present points alone. A level of many faces loses those that are far from
+selected ones, since nothing here depends on them. It shares nothing with the program. `tools/reference.py` answers
+`sparse` through it.
 """
 
 from dataclasses import dataclass
 from math import inf
 
-from level_reference import GREATEST_LEVEL, Level, accepted, has_fine_halves, next_level, overflow, semi_sharp_at, sharp_edges
+from level_reference import (
+    GREATEST_LEVEL,
+    Faces,
+    Level,
+    accepted,
+    has_fine_halves,
+    next_level,
+    overflow,
+    semi_sharp_at,
+    sharp_edges,
+    sides,
+    unordered,
+)
 from mask_reference import base_points, check_numbers, check_weights, edge_mask, face_mask, masked, positions_of, vertex_mask
 from run_reference import TOO_LARGE, Refusal
-from text_reference import corner_texts, line, point_lines
+from text_reference import corner_texts, line, point_lines, textured_corner_texts
+from texture_reference import texture_of
+
+# A level of at most so many faces keeps them all.
+MOST_KEPT = 1000
 
 
 # Which faces can be selected
@@ -42,25 +59,128 @@ def regular_points(level):
 
 def selectable(level):
     """The faces that are no holes."""
-    return [number for number in range(len(level.mesh.faces)) if number not in level.holes]
+    return [face for face in range(len(level.mesh.faces)) if face not in level.holes]
 
 
 def features(level):
     """The faces that are no holes, and are no quads or have a corner that is not regular."""
     faces, regular = level.mesh.faces, regular_points(level)
-    return [number for number in selectable(level) if len(faces[number]) != 4 or not regular.issuperset(faces[number])]
+    return [face for face in selectable(level) if len(faces[face]) != 4 or not regular.issuperset(faces[face])]
 
 
 # The faces of a level that each rule has.
 RULES = {b"feature": features, b"all": selectable}
 
 
-# Points
+def by_name(select):
+    """The rule of this name: the faces that it has of the level with a number, whose faces have these uniform numbers."""
+    return lambda number, level, numbers: RULES[select](level)
 
 
-def points_of(level, present):
+def by_numbers(selected):
+    """The rule that has at each level the faces with these uniform numbers, and no holes."""
+    return lambda number, level, numbers: [face for face in selectable(level) if numbers[face] in selected[number]]
+
+
+# Sparse levels
+
+
+@dataclass
+class Part:
+    """A uniform level, or the part of it that its selected faces and their neighbours come of: the level, and of each of
+    its faces the uniform number, ascending. The other faces are given by their places in the level: those that are present,
+    ascending; those that have a selected parent; and those that are selected."""
+
+    level: Level
+    numbers: list
+    present: list
+    inner: set
+    selected: set
+
+
+def selected_of(number, level, numbers, inner, rule):
+    """Those of the inner faces that the rule has, none where there is no rule."""
+    return inner.intersection(rule(number, level, numbers)) if rule else set()
+
+
+def first(base, rule):
+    """Level 0, all of whose faces are present and inner."""
+    every = list(range(len(base.mesh.faces)))
+    return Part(base, every, every, set(every), selected_of(0, base, every, set(every), rule))
+
+
+def points_of(level, faces):
     """The points of these faces, by first appearance."""
-    return list(dict.fromkeys(vertex for face in present for vertex in level.mesh.faces[face]))
+    return list(dict.fromkeys(vertex for face in faces for vertex in level.mesh.faces[face]))
+
+
+def corners_of(level):
+    """The face and the vertex of each corner; the faces of the next level stand in the order of the corners."""
+    return [(number, vertex) for number, face in enumerate(level.mesh.faces) for vertex in face]
+
+
+def child_numbers(part, number):
+    """The uniform numbers of the children of all faces, where the next level has this number. From level 1 on the uniform
+    level has four children of each face."""
+    if number == 1:
+        return list(range(sum(map(len, part.level.mesh.faces))))
+    return [4 * face + corner for face in part.numbers for corner in range(4)]
+
+
+def kept_faces(level, faces):
+    """A level with some of its faces alone. Its points keep their numbers."""
+    polygons = [level.mesh.faces[face] for face in faces]
+    edges = {unordered(side) for polygon in polygons for side in sides(polygon)}
+    sharpness = {edge: value for edge, value in level.sharpness.items() if edge in edges}
+    holes = {place for place, face in enumerate(faces) if face in level.holes}
+    return Level(level.points, Faces(polygons), holes, sharpness, level.vertex_sharpness, level.method)
+
+
+def kept_children(level, selected):
+    """The children, by their places, that are kept of a level with these selected faces: all of few faces, and else those
+    of the faces that touch selected ones."""
+    corners = corners_of(level)
+    if len(corners) <= MOST_KEPT:
+        return list(range(len(corners)))
+    near = set(points_of(level, selected))
+    touching = {face for face, polygon in enumerate(level.mesh.faces) if near.intersection(polygon)}
+    return [child for child, (face, _) in enumerate(corners) if face in touching]
+
+
+def check_faces(track, level, near, number):
+    """Refuses the next level, which has this number and the children at these vertices, by the count of its faces, and
+    then by the sharpness at the vertices."""
+    count = sum(vertex in near for _, vertex in corners_of(level))
+    if count > GREATEST_LEVEL:
+        raise Refusal(TOO_LARGE, f"far: level {number} has {count} faces")
+    values = semi_sharp_at(level)
+    if level.method == b"chaikin" and any(has_fine_halves(values[vertex]) for vertex in near if vertex in values):
+        raise overflow(track, number, "chaikin")
+
+
+def next_part(track, part, rule, number):
+    """The next level, which has this number, or a Refusal. Its present faces are the children at vertices of selected
+    faces, and its inner faces all children of these."""
+    parent, near = part.level, set(points_of(part.level, part.selected))
+    check_faces(track, parent, near, number)
+    kept, numbers, corners = kept_children(parent, part.selected), child_numbers(part, number), corners_of(parent)
+    level, numbers = kept_faces(next_level(parent), kept), [numbers[child] for child in kept]
+    present = [place for place, child in enumerate(kept) if corners[child][1] in near]
+    inner = {place for place, child in enumerate(kept) if corners[child][0] in part.selected}
+    return Part(level, numbers, present, inner, selected_of(number, level, numbers, inner, rule))
+
+
+def parts(track, base, depth, rule):
+    """The levels from 0 to the depth, one after another, of which the last has no selected faces; or the Refusal of a
+    level by its faces or by its sharpness."""
+    part = first(base, rule if depth > 0 else None)
+    yield part
+    for number in range(1, depth + 1):
+        part = next_part(track, part, rule if number < depth else None, number)
+        yield part
+
+
+# Points
 
 
 class Sources(dict):
@@ -88,100 +208,86 @@ def child_point(channel, level, sources, number):
     return masked(edge_mask(channel, level, level.mesh.edges[number - first_edge_point]), sources)
 
 
-# Sparse levels
-
-
 @dataclass
 class Sparse:
-    """A uniform level; its points that are present, by their numbers; the numbers of its faces that are present,
-    ascending; and of those that have a selected parent, and that are selected."""
+    """A level, and its points that are present, by their numbers."""
 
-    level: Level
+    part: Part
     points: dict
-    present: list
-    inner: set
-    selected: set
 
 
-def selected_of(level, inner, rule):
-    """Those of the inner faces that the rule has, none where there is no rule."""
-    return inner.intersection(rule(level)) if rule else set()
-
-
-def first(channel, rule):
-    """Level 0 of a channel, all of whose points and faces are present, and all of whose faces are inner."""
-    level, points = channel.base, dict(enumerate(base_points(channel)))
-    every = range(len(level.mesh.faces))
-    return Sparse(level, points, list(every), set(every), selected_of(level, set(every), rule))
-
-
-def corners_of(level):
-    """The face and the vertex of each corner; the faces of the next level are numbered as the corners are."""
-    return [(number, vertex) for number, face in enumerate(level.mesh.faces) for vertex in face]
-
-
-def present_after(sparse):
-    """The faces of the next level whose vertices lie on selected faces."""
-    near = set(points_of(sparse.level, sparse.selected))
-    return [child for child, (_, vertex) in enumerate(corners_of(sparse.level)) if vertex in near]
-
-
-def check_level(channel, level, present, vertices, number):
-    """Refuses the next level, which has this number, by the count of its present faces, and then by the sharpness at the
-    vertices whose new points are present."""
-    if len(present) > GREATEST_LEVEL:
-        raise Refusal(TOO_LARGE, f"far: level {number} has {len(present)} faces")
-    values = semi_sharp_at(level)
-    if level.method == b"chaikin" and any(has_fine_halves(values[vertex]) for vertex in vertices if vertex in values):
-        raise overflow(channel.track, number, "chaikin")
-    check_weights(channel, level, vertices, number)
-
-
-def next_sparse(channel, sparse, rule, number):
-    """The next level, which has this number, or a Refusal. Its inner faces are those whose parents are selected."""
-    parent, present, child = sparse.level, present_after(sparse), next_level(sparse.level)
-    numbers, sources = points_of(child, present), Sources(parent, sparse.points)
-    check_level(channel, parent, present, [point for point in numbers if point < parent.points], number)
-    points = {point: child_point(channel, parent, sources, point) for point in numbers}
+def next_points(channel, before, part, number):
+    """The points of the next level, which has this number, from the level before it; or a Refusal. The weights of vertices
+    are asked where their new points are present."""
+    level, numbers = before.part.level, points_of(part.level, part.present)
+    check_weights(channel, level, [point for point in numbers if point < level.points], number)
+    sources = Sources(level, before.points)
+    points = {point: child_point(channel, level, sources, point) for point in numbers}
     check_numbers(channel, list(points.values()), number, True)
-    inner = {face for face, (of, _) in enumerate(corners_of(parent)) if of in sparse.selected}
-    return Sparse(child, points, present, inner, selected_of(child, inner, rule))
+    return points
 
 
 def sparse_levels(channel, depth, rule):
-    """The levels from 0 to the depth, of which the last has no selected faces, or a Refusal."""
-    levels = [first(channel, rule if depth > 0 else None)]
-    for number in range(1, depth + 1):
-        levels.append(next_sparse(channel, levels[-1], rule if number < depth else None, number))
+    """The levels from 0 to the depth with their points, or a Refusal. All points of level 0 are present."""
+    levels = []
+    for number, part in enumerate(parts(channel.track, channel.base, depth, rule)):
+        points = next_points(channel, levels[-1], part, number) if levels else dict(enumerate(base_points(channel)))
+        levels.append(Sparse(part, points))
     return levels
+
+
+def selected_numbers(sparse):
+    """The uniform numbers of the selected faces of a level."""
+    return {sparse.part.numbers[face] for face in sparse.part.selected}
 
 
 # Texts
 
 
-def kind_of(sparse, face):
-    if face in sparse.level.holes:
+def kind_of(part, face):
+    if face in part.level.holes:
         return "h"
-    if face not in sparse.inner:
+    if face not in part.inner:
         return "r"
-    return "s" if face in sparse.selected else "l"
+    return "s" if face in part.selected else "l"
 
 
-def face_line(sparse, face, places):
-    corners = [places[vertex] for vertex in sparse.level.mesh.faces[face]]
-    return line("f", kind_of(sparse, face), face, *corner_texts(corners))
+def written_points(sparse, keyword, decimals):
+    """The lines of the points that are written: those of the present faces, also at level 0."""
+    numbers = points_of(sparse.part.level, sparse.part.present)
+    return point_lines(keyword, [sparse.points[point].value for point in numbers], decimals)
 
 
-def level_text(number, sparse, decimals):
-    """The text of a level; its points are those that faces have, also at level 0."""
-    numbers = points_of(sparse.level, sparse.present)
-    places = {point: place for place, point in enumerate(numbers)}
-    points = point_lines("v", [sparse.points[point].value for point in numbers], decimals)
-    faces = [face_line(sparse, face, places) for face in sparse.present]
-    return "".join([line("level", number, "points", len(points), "faces", len(faces)), *points, *faces])
+def written_corners(part):
+    """Of each present face, by its uniform number, its corners among the points that are written."""
+    places = {point: place for place, point in enumerate(points_of(part.level, part.present))}
+    faces = part.level.mesh.faces
+    return {part.numbers[face]: [places[vertex] for vertex in faces[face]] for face in part.present}
 
 
-def sparse_text(obj, depth, select, decimals):
-    """The text of a mesh that was read, with the faces selected by a rule, or its Refusal."""
-    levels = sparse_levels(positions_of(obj, accepted(obj, 0)), depth, RULES[select])
-    return "".join(level_text(number, sparse, decimals) for number, sparse in enumerate(levels))
+def face_lines(part, texture):
+    """The lines of the present faces; where the texture, if there is one, has a face, its corners have texture points."""
+    own, other = written_corners(part), written_corners(texture.part) if texture else {}
+    for face in part.present:
+        number = part.numbers[face]
+        with_texture = number in other
+        corners = textured_corner_texts((own[number], other[number])) if with_texture else corner_texts(own[number])
+        yield line("f", kind_of(part, face), number, *corners)
+
+
+def level_text(number, sparse, texture, decimals):
+    """The text of a level, with its texture where there is one."""
+    points, values = written_points(sparse, "v", decimals), written_points(texture, "vt", decimals) if texture else []
+    counts = ["points", len(points), "faces", len(sparse.part.present), *(["texture", len(values)] if texture else [])]
+    return "".join([line("level", number, *counts), *points, *values, *face_lines(sparse.part, texture)])
+
+
+def sparse_text(obj, depth, select, decimals, uv):
+    """The text of a mesh that was read, with the faces selected by a rule, or its Refusal. The texture follows the
+    positions, where there is one and it is asked for; its selected faces are those of the positions."""
+    base = accepted(obj, 0)
+    levels = sparse_levels(positions_of(obj, base), depth, by_name(select))
+    textures = [None] * len(levels)
+    if uv != b"none" and obj.has_texture:
+        textures = sparse_levels(texture_of(obj, base, uv), depth, by_numbers(list(map(selected_numbers, levels))))
+    return "".join(level_text(number, *pair, decimals) for number, pair in enumerate(zip(levels, textures)))

@@ -182,9 +182,9 @@ PLANTS = [
     ),
     Plant(
         "docs/formats.md",
-        "has ten commands",
+        "has 11 commands",
         "has nine commands",
-        "command gen: missing in docs/formats.md: how many commands there are, ten",
+        "command gen: missing in docs/formats.md: how many commands there are, 11",
         ("--command", "gen"),
     ),
     Plant(

@@ -45,10 +45,13 @@ def runs():
     yield ["levels", "depth=1"], dog
     yield ["stencils", "depth=1"], cube
     yield ["sparse", "depth=3"], content("examples/creased_cube.obj")
+    yield ["sparse", "depth=2", "uv=corners", "decimals=2"], unfolded
     yield ["limit", "depth=2", "decimals=3"], unfolded
     yield ["limit", "depth=1"], content("examples/creased_cube.obj")
     yield ["patch", "depth=2", "face=2", "grid=3"], cube
     yield ["patch", "depth=1", "face=2", "grid=3"], cube
+    yield ["map", "depth=3", "face=0", "grid=4"], cube
+    yield ["map", "depth=3", "face=0", "grid=4", "corner=1"], cube
     yield ["verify", "depth=1"], content("cases/verify/cube-at-depth-one/stdin")
     yield ["apply"], content("cases/apply/cube-at-depth-one/stdin")
     yield ["frames", "depth=1"], cube + MOVES
