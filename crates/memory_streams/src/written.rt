@@ -1,0 +1,31 @@
+ghost use Rattle.std.specs.Prelude.{◌≡◌, ℕ, List, [], ◌++◌};
+ghost use Rattle.std.specs.Borrow.{ftrue};
+
+use std::marker::Model;
+
+// Bytes that only clauses see: it takes no memory, and its calls do nothing when they run.
+#[derive(Drop)]
+pub(crate) struct Written {
+    pub ghost bytes: { List ℕ },
+}
+
+impl Model for Written {
+    ghost also_owns = { λ _. ftrue };
+}
+
+impl Written {
+    // No bytes.
+    pub(crate) fn new() -> Written
+        ensures { result.bytes ≡ [] }
+    {
+        Written {}
+    }
+
+    // These bytes, and the piece behind them.
+    pub(crate) fn and(&self, piece: &[u8]) -> Written
+        ensures { result.bytes ≡ self.now.bytes ++ piece.now }
+    {
+        let _ = piece;
+        Written {}
+    }
+}
