@@ -1,0 +1,13 @@
+-- The format and the bits of some numbers.
+use Rattle.std.specs.Prelude.{ℕ, List}
+use Rattle.nearest_float.specs.Binary.{Format, binary32, binary64}
+use Rattle.exact_arrays.specs.declared.floats.Floats.{Floats}
+use Rattle.exact_arrays.specs.declared.floats.Floats.TheVariants.{Doubles, Singles}
+
+abbrev pub format_of : Floats → Format
+format_of (Doubles bits) = binary64
+format_of (Singles bits) = binary32
+
+abbrev pub bits_of : Floats → List ℕ
+bits_of (Doubles bits) = bits.now
+bits_of (Singles bits) = bits.now

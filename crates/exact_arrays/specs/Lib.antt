@@ -1,0 +1,6 @@
+pub mod Floats
+pub mod Scale
+pub mod ScaleFaults
+pub mod Nearest
+pub mod Amounts
+pub mod Grid

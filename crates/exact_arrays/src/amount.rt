@@ -1,0 +1,158 @@
+//! Sizes of numbers, rounded to multiples of a power of two.
+
+ghost use Rattle.std.specs.Prelude.{◌≡◌, ℕ, ◌+◌, ◌*◌, ◌/◌, ◌%◌, ◌^◌, ◌<◌, ◌≤◌, IfSome, IfNone};
+ghost use Rattle.nearest_float.specs.Binary.{significand, doublings, units, signed_by};
+ghost use Rattle.nearest_float.specs.Scaled.{rounded_half_even};
+ghost use Rattle.exact_arrays.specs.Amounts.{IsRounding, IsRoundingOf, IsGridNumberOf};
+
+// A size as a significand, and how often a unit times it is doubled.
+#[derive(Clone, Copy)]
+struct Parts {
+    significand: u64,
+    doublings: u32,
+}
+
+// An amount as a numerator over the grid, and whether that is another amount.
+#[derive(Clone, Copy)]
+struct Rounded {
+    amount: u128,
+    changed: bool,
+}
+
+// A number as a numerator over the grid, and whether that is another number.
+#[derive(Clone, Copy)]
+pub(crate) struct GridNumber {
+    pub(crate) numerator: i128,
+    pub(crate) changed: bool,
+}
+
+fn parts_of(size: u64, fraction_bits: u32) -> Parts
+    requires short { fraction_bits ≤ 52 }
+    requires finite { size < 2047 * 2 ^ fraction_bits }
+    ensures significand { result.significand ≡ significand fraction_bits size }
+    ensures small { result.significand < 2 ^ 53 }
+    ensures doublings { result.doublings ≡ doublings fraction_bits size }
+    ensures few { result.doublings < 2047 }
+{
+    let field = size >> fraction_bits;
+    let fraction = size - (field << fraction_bits);
+    if field == 0 {
+        Parts {
+            significand: fraction,
+            doublings: 0,
+        }
+    } else {
+        Parts {
+            significand: fraction + (1 << fraction_bits),
+            doublings: (field - 1) as u32,
+        }
+    }
+}
+
+// A significand doubled so often, where it is below 2^127.
+fn shifted_up(significand: u64, shift: u32) -> Option<u128>
+    requires few { shift < 2 ^ 12 }
+    ensures none { IfNone result (2 ^ 127 ≤ significand * 2 ^ shift) }
+    ensures some { IfSome result (λ n. n ≡ significand * 2 ^ shift) }
+    ensures fits { IfSome result (λ n. n < 2 ^ 127) }
+{
+    if significand == 0 {
+        return Some(0);
+    }
+    let amount = significand as u128;
+    if amount.ilog2() + shift > 126 {
+        None
+    } else {
+        Some(amount << shift)
+    }
+}
+
+// The quotient with the rest over bottom rounded, ties to even.
+fn half_even(quotient: u64, rest: u64, bottom: u64) -> u64
+    requires few { quotient < 2 ^ 53 }
+    requires rest { rest < bottom }
+    requires fits { bottom < 2 ^ 63 + 1 }
+    ensures value { result ≡ rounded_half_even quotient rest bottom }
+    ensures few { result ≤ 2 ^ 53 }
+{
+    let twice = rest * 2;
+    if twice < bottom {
+        quotient
+    } else if bottom < twice {
+        quotient + 1
+    } else {
+        quotient + quotient % 2
+    }
+}
+
+// A significand halved so often, rounded, and whether that changed it.
+fn shifted_down(significand: u64, shift: u32) -> Rounded
+    requires small { significand < 2 ^ 53 }
+    ensures { IsRounding significand (2 ^ shift) 1 result }
+{
+    if shift > 63 {
+        return Rounded {
+            amount: 0,
+            changed: significand != 0,
+        };
+    }
+    let quotient = significand >> shift;
+    let rest = significand - (quotient << shift);
+    Rounded {
+        amount: half_even(quotient, rest, 1 << shift) as u128,
+        changed: rest != 0,
+    }
+}
+
+// A significand, doubled so often, as a multiple over the grid. A unit is 1 over 2^unit_bits.
+fn rounded_amount(parts: Parts, unit_bits: u32, grid_bits: u32) -> Option<Rounded>
+    requires small { parts.significand < 2 ^ 53 }
+    requires few { parts.doublings < 2047 }
+    requires unit_fits { unit_bits < 2 ^ 12 }
+    requires grid_fits { grid_bits ≤ 126 }
+    ensures { IsRoundingOf (parts.significand * 2 ^ parts.doublings) (2 ^ unit_bits) (2 ^ grid_bits) result }
+{
+    let up = parts.doublings + grid_bits;
+    if up < unit_bits {
+        return Some(shifted_down(parts.significand, unit_bits - up));
+    }
+    match shifted_up(parts.significand, up - unit_bits) {
+        None => None,
+        Some(amount) => Some(Rounded {
+            amount,
+            changed: false,
+        }),
+    }
+}
+
+// The amount, below 0 where the sign is not 0.
+fn signed(sign: u64, amount: u128) -> i128
+    requires { amount < 2 ^ 127 }
+    ensures { result ≡ signed_by sign amount }
+{
+    let size = amount as i128;
+    if sign == 0 { size } else { -size }
+}
+
+// A finite size with a sign as a multiple over the grid.
+pub(crate) fn rounded_size(
+    sign: u64,
+    size: u64,
+    fraction_bits: u32,
+    unit_bits: u32,
+    grid_bits: u32,
+) -> Option<GridNumber>
+    requires short { fraction_bits ≤ 52 }
+    requires finite { size < 2047 * 2 ^ fraction_bits }
+    requires unit_fits { unit_bits < 2 ^ 12 }
+    requires grid_fits { grid_bits ≤ 126 }
+    ensures { IsGridNumberOf (signed_by sign (units fraction_bits size)) (2 ^ unit_bits) (2 ^ grid_bits) result }
+{
+    match rounded_amount(parts_of(size, fraction_bits), unit_bits, grid_bits) {
+        None => None,
+        Some(amount) => Some(GridNumber {
+            numerator: signed(sign, amount.amount),
+            changed: amount.changed,
+        }),
+    }
+}

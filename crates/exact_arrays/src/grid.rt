@@ -1,0 +1,145 @@
+//! Numbers rounded to multiples of a power of two.
+
+ghost use Rattle.std.specs.Prelude.{◌≡◌, ◌+◌, ◌≤◌, ◌<◌, length, get_or, map, take, drop, MatchResult};
+ghost use Rattle.nearest_float.specs.Binary.{binary32, binary64};
+ghost use Rattle.flat_arrays.specs.Words.{integer_of};
+ghost use Rattle.exact_arrays.specs.Floats.{bits_of, format_of};
+ghost use Rattle.exact_arrays.specs.Grid.{AreRounded, IsRoundFault, IsRoundedTo, IsUnroundedHere, IsRoundRefused};
+
+use crate::NumberFault;
+use crate::amount::{GridNumber, rounded_size};
+use crate::floats::Floats;
+use flat_arrays::{Wide, put_item};
+use nearest_float::FloatFault;
+
+const INFINITY64: u64 = 0x7ff0_0000_0000_0000;
+
+const INFINITY32: u32 = 0x7f80_0000;
+
+const SIGN64: u64 = 0x8000_0000_0000_0000;
+
+const SIGN32: u32 = 0x8000_0000;
+
+fn rounded_binary64(bits: u64, grid_bits: u32) -> Result<GridNumber, FloatFault>
+    requires { grid_bits ≤ 126 }
+    ensures { MatchResult result (λ x. IsRoundedTo binary64 grid_bits bits x) (λ fault. IsRoundRefused binary64 grid_bits bits fault) }
+{
+    let size = bits % SIGN64;
+    if size >= INFINITY64 {
+        return Err(FloatFault::NotFinite);
+    }
+    match rounded_size(bits / SIGN64, size, 52, 1074, grid_bits) {
+        Some(number) => Ok(number),
+        None => Err(FloatFault::TooWide),
+    }
+}
+
+fn rounded_binary32(bits: u32, grid_bits: u32) -> Result<GridNumber, FloatFault>
+    requires { grid_bits ≤ 126 }
+    ensures { MatchResult result (λ x. IsRoundedTo binary32 grid_bits bits x) (λ fault. IsRoundRefused binary32 grid_bits bits fault) }
+{
+    let size = bits % SIGN32;
+    if size >= INFINITY32 {
+        return Err(FloatFault::NotFinite);
+    }
+    match rounded_size((bits / SIGN32) as u64, size as u64, 23, 149, grid_bits) {
+        Some(number) => Ok(number),
+        None => Err(FloatFault::TooWide),
+    }
+}
+
+fn rounded_double(bits: &[u64], place: usize, grid_bits: u32) -> Result<GridNumber, FloatFault>
+    requires inside { place < length bits.now }
+    requires grid_fits { grid_bits ≤ 126 }
+    ensures { MatchResult result (λ x. IsRoundedTo binary64 grid_bits (get_or bits.now place 0) x) (λ fault. IsRoundRefused binary64 grid_bits (get_or bits.now place 0) fault) }
+{
+    rounded_binary64(bits[place], grid_bits)
+}
+
+fn rounded_single(bits: &[u32], place: usize, grid_bits: u32) -> Result<GridNumber, FloatFault>
+    requires inside { place < length bits.now }
+    requires grid_fits { grid_bits ≤ 126 }
+    ensures { MatchResult result (λ x. IsRoundedTo binary32 grid_bits (get_or bits.now place 0) x) (λ fault. IsRoundRefused binary32 grid_bits (get_or bits.now place 0) fault) }
+{
+    rounded_binary32(bits[place], grid_bits)
+}
+
+// The number at a place, rounded.
+fn rounded_float(numbers: &Floats, place: usize, grid_bits: u32) -> Result<GridNumber, FloatFault>
+    requires inside { place < length (bits_of numbers.now) }
+    requires grid_fits { grid_bits ≤ 126 }
+    ensures { MatchResult result (λ x. IsRoundedTo (format_of numbers.now) grid_bits (get_or (bits_of numbers.now) place 0) x) (λ fault. IsRoundRefused (format_of numbers.now) grid_bits (get_or (bits_of numbers.now) place 0) fault) }
+{
+    match numbers {
+        Floats::Doubles(bits) => rounded_double(bits, place, grid_bits),
+        Floats::Singles(bits) => rounded_single(bits, place, grid_bits),
+    }
+}
+
+// The number at a place, rounded, or the place with the fault.
+fn rounded_at(numbers: &Floats, place: usize, grid_bits: u32) -> Result<GridNumber, NumberFault>
+    requires inside { place < length (bits_of numbers.now) }
+    requires grid_fits { grid_bits ≤ 126 }
+    ensures { MatchResult result (λ x. IsRoundedTo (format_of numbers.now) grid_bits (get_or (bits_of numbers.now) place 0) x) (λ x. IsUnroundedHere (format_of numbers.now) grid_bits (get_or (bits_of numbers.now) place 0) place x) }
+{
+    match rounded_float(numbers, place, grid_bits) {
+        Ok(number) => Ok(number),
+        Err(fault) => Err(NumberFault { place, fault }),
+    }
+}
+
+// The numerators over the grid, and how many numbers change.
+fn round_all(numbers: &Floats, grid_bits: u32, out: &mut [Wide]) -> Result<u64, NumberFault>
+    requires equal { length out.old ≡ length (bits_of numbers.now) }
+    requires grid_fits { grid_bits ≤ 126 }
+    ensures rounded { MatchResult result (λ changed. AreRounded (format_of numbers.now) grid_bits (bits_of numbers.now) changed (map integer_of out.new)) (λ x. IsRoundFault (format_of numbers.now) grid_bits (bits_of numbers.now) x) }
+    ensures len { length out.new ≡ length out.old }
+{
+    let mut changed: u64 = 0;
+    for place in 0..numbers.len() {
+        let number = rounded_at(numbers, place, grid_bits)?;
+        put_item(out, place, Wide::of_integer(number.numerator));
+        changed += u64::from(number.changed);
+    }
+    Ok(changed)
+}
+
+/// Writes binary64 numbers, each rounded to the nearest multiple of 2^-grid_bits, into the array as numerators over 2^grid_bits, and returns
+/// how many numbers have another value than their numerators.
+///
+/// Of two multiples as near it is the one with an even numerator. `grid_bits` is at most 126. The array has a place for each number. The
+/// places behind them stay.
+///
+/// # Errors
+///
+/// `NotFinite` or `TooWide` with the place of the first number, counted from 0, that is not finite or has a numerator of 2^127 or more in
+/// amount. The places of the numbers then have any items.
+pub fn round_binary64s(bits: &[u64], grid_bits: u32, out: &mut [Wide]) -> Result<u64, NumberFault>
+    requires fits { length bits.now ≤ length out.old }
+    requires grid_fits { grid_bits ≤ 126 }
+    ensures rounded { MatchResult result (λ changed. AreRounded binary64 grid_bits bits.now changed (map integer_of (take (length bits.now) out.new))) (λ x. IsRoundFault binary64 grid_bits bits.now x) }
+    ensures rest { drop (length bits.now) out.new ≡ drop (length bits.now) out.old }
+    ensures len { length out.new ≡ length out.old }
+{
+    round_all(&Floats::Doubles(bits), grid_bits, &mut out[..bits.len()])
+}
+
+/// Writes binary32 numbers, each rounded to the nearest multiple of 2^-grid_bits, into the array as numerators over 2^grid_bits, and returns
+/// how many numbers have another value than their numerators.
+///
+/// Of two multiples as near it is the one with an even numerator. `grid_bits` is at most 126. The array has a place for each number. The
+/// places behind them stay.
+///
+/// # Errors
+///
+/// `NotFinite` or `TooWide` with the place of the first number, counted from 0, that is not finite or has a numerator of 2^127 or more in
+/// amount. The places of the numbers then have any items.
+pub fn round_binary32s(bits: &[u32], grid_bits: u32, out: &mut [Wide]) -> Result<u64, NumberFault>
+    requires fits { length bits.now ≤ length out.old }
+    requires grid_fits { grid_bits ≤ 126 }
+    ensures rounded { MatchResult result (λ changed. AreRounded binary32 grid_bits bits.now changed (map integer_of (take (length bits.now) out.new))) (λ x. IsRoundFault binary32 grid_bits bits.now x) }
+    ensures rest { drop (length bits.now) out.new ≡ drop (length bits.now) out.old }
+    ensures len { length out.new ≡ length out.old }
+{
+    round_all(&Floats::Singles(bits), grid_bits, &mut out[..bits.len()])
+}
