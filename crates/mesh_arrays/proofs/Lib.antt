@@ -1,0 +1,2 @@
+pub mod MeshLemmas
+pub mod FaceLemmas

@@ -1,0 +1,8 @@
+use Rattle.std.proofs.Common.{◌≡◌, map, take}
+use Rattle.raw_mesh.specs.View as view
+use Rattle.mesh_arrays.specs.Arrays.{point_of}
+use Rattle.mesh_arrays.proofs.mesh.points_of.Given as goal
+
+-- what was made of those so far
+abbrev pub invariant-loop-p : goal.invariant-loop-p
+invariant-loop-p l = map view.point_of l.all.items ≡ map point_of (take l.p-index l.points)

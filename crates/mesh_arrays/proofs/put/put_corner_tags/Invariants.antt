@@ -1,0 +1,11 @@
+use Rattle.std.proofs.Common.{◌≡◌, length, map, take}
+use Rattle.raw_mesh.specs.View as view
+use Rattle.mesh_arrays.specs.Arrays.{corner_tag_of}
+use Rattle.mesh_arrays.proofs.put.put_corner_tags.Given as goal
+
+-- those so far are written
+abbrev pub invariant-loop-k : goal.invariant-loop-k
+invariant-loop-k l = record {
+  written : map corner_tag_of (take l.k l.out) ≡ map view.corner_tag_of (take l.k l.tags);
+  len : length l.out ≡ length l.fn.out;
+}

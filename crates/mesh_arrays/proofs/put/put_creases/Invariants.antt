@@ -1,0 +1,11 @@
+use Rattle.std.proofs.Common.{◌≡◌, length, map, take}
+use Rattle.raw_mesh.specs.View as view
+use Rattle.mesh_arrays.specs.Arrays.{crease_of}
+use Rattle.mesh_arrays.proofs.put.put_creases.Given as goal
+
+-- those so far are written
+abbrev pub invariant-loop-k : goal.invariant-loop-k
+invariant-loop-k l = record {
+  written : map crease_of (take l.k l.out) ≡ map view.crease_of (take l.k l.creases);
+  len : length l.out ≡ length l.fn.out;
+}

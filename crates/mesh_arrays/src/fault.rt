@@ -1,0 +1,71 @@
+//! Why arrays are no mesh.
+
+ghost use Rattle.std.specs.Prelude.{◌≡◌};
+ghost use Rattle.mesh_arrays.specs.Faults as spec;
+
+use ratio128::Memory;
+use raw_mesh::{BadPart, PartsFault};
+use std::alloc::AllocError;
+use std::fmt;
+
+/// Why arrays are no mesh. They are tried in the order of these variants. A place is that of an item in its array, counted from 0.
+#[derive(Clone, Copy, Debug, PartialEq, Eq)]
+pub enum ArraysFault {
+    /// The boundary mode is above 2.
+    Boundary,
+    /// The method is above 1.
+    Method,
+    /// The denominator of the sharpness of the crease at this place is not from 1 to 2^60.
+    CreaseSharpness(usize),
+    /// The denominator of the sharpness of the corner tag at this place is not from 1 to 2^60.
+    CornerSharpness(usize),
+    /// A part is refused.
+    Part(BadPart),
+    /// Memory ran out.
+    Memory,
+}
+
+impl fmt::Display for ArraysFault {
+    fn fmt<W: fmt::Write>(&self, f: &mut fmt::Formatter<W>) -> fmt::Result {
+        match *self {
+            ArraysFault::Boundary => f.write_str("the boundary mode is not from 0 to 2"),
+            ArraysFault::Method => f.write_str("the method is not 0 or 1"),
+            ArraysFault::CreaseSharpness(place) => {
+                write!(
+                    f,
+                    "the sharpness of crease {place} is over 0 or over more than 2^60"
+                )
+            }
+            ArraysFault::CornerSharpness(place) => {
+                write!(
+                    f,
+                    "the sharpness of corner tag {place} is over 0 or over more than 2^60"
+                )
+            }
+            ArraysFault::Part(bad) => write!(f, "{bad}"),
+            ArraysFault::Memory => f.write_str(Memory.text()),
+        }
+    }
+}
+
+impl std::error::Error for ArraysFault {}
+
+impl From<AllocError> for ArraysFault {
+    ghost use Rattle.mesh_arrays.specs.declared.fault.ArraysFault.TheVariants.{Memory};
+
+    ghost from_gives = { λ _ e. e ≡ Memory };
+
+    fn from(_: AllocError) -> ArraysFault {
+        ArraysFault::Memory
+    }
+}
+
+// The fault of arrays that stands for one of their parts.
+pub(crate) fn fault_of_parts(fault: PartsFault) -> ArraysFault
+    ensures { result ≡ spec.fault_of_parts fault }
+{
+    match fault {
+        PartsFault::Bad(bad) => ArraysFault::Part(bad),
+        PartsFault::Memory => ArraysFault::Memory,
+    }
+}
