@@ -1,0 +1,41 @@
+//! How many points, edges, faces and corners a level has.
+
+ghost use Rattle.std.specs.Prelude.{◌≡◌, length};
+ghost use Rattle.std.specs.List.{sum_by};
+ghost use Rattle.level_arrays.specs.Places as spec;
+
+use level_topology::Level;
+
+/// How much a level has of each kind. By these numbers a caller makes arrays that are long enough.
+#[repr(C)]
+#[derive(Clone, Copy, Debug, PartialEq, Eq)]
+pub struct LevelCounts {
+    /// How many points there are.
+    pub points: u32,
+    /// How many edges there are.
+    pub edges: u32,
+    /// How many faces there are.
+    pub faces: u32,
+    /// How many corners all faces have together.
+    pub corners: u32,
+}
+
+// How many corners all faces have together.
+fn corners(level: &Level) -> u32
+    ensures { result ≡ sum_by length level.now.level.polygons }
+{
+    let starts = level.corner_starts();
+    starts[starts.len() - 1]
+}
+
+/// How many points, edges, faces and corners a level has.
+pub fn counts_of(level: &Level) -> LevelCounts
+    ensures { result ≡ spec.counts_of level.now }
+{
+    LevelCounts {
+        points: level.points(),
+        edges: level.edges(),
+        faces: level.faces(),
+        corners: corners(level),
+    }
+}
