@@ -1,0 +1,29 @@
+use Rattle.std.proofs.Common.{◌+◌, ◌<◌, ◌≤◌, length, arith, sym, ◌∙◌}
+use Rattle.nearest_float.specs.Binary.{binary32}
+use Rattle.stencil_apply.specs.Table.{entries_of}
+use Rattle.flat_arrays.proofs.PartLemmas.{part-rest, part-length}
+use Rattle.table_arrays.proofs.FlatLemmas.{entries-more, entries-room, entries-all}
+use Rattle.table_arrays.proofs.WeightLemmas.{weights-more, weights-all}
+use Rattle.table_arrays.proofs.floats.put_weights32.Goals as goal
+
+pub loop-row-preserved : goal.loop-row-preserved
+loop-row-preserved c =
+    let rows = c.args.table.now.rows in
+    let at = c.loop-row.at in
+    let len = c.row_len-len.result in
+    let part = c.fill_weights32.new.out in
+    let inside : c.loop-row.row < length rows = omega (arith, c.loop-row-test.true, c.rows-row-end.ensures) in
+    let room = entries-room rows c.loop-row.row at len inside c.loop-row.invariant.at c.row_len-len.ensures in
+    let fits : at + len ≤ length c.loop-row.out = omega (arith, room, c.requires.fits, c.loop-row.invariant.len) in
+    let short = c.fill_weights32.ensures.len ∙ sym c.row_len-len.ensures in record {
+      at = entries-more rows c.loop-row.row at len inside c.loop-row.invariant.at c.row_len-len.ensures;
+      written = weights-more binary32 rows c.loop-row.row at len c.loop-row.out part inside fits short c.loop-row.invariant.written c.fill_weights32.ensures.nearest;
+      rest = part-rest (entries_of rows) at len c.loop-row.out part c.args.out.now fits room short c.loop-row.invariant.rest;
+      len = part-length at len c.loop-row.out part fits short ∙ c.loop-row.invariant.len;
+    }
+
+pub returns-clause-written : goal.returns-clause-written
+returns-clause-written c =
+    let end : length c.args.table.now.rows ≤ c.loop-row.row = omega (arith, c.loop-row-test.false, c.rows-row-end.ensures) in
+    weights-all binary32 c.args.table.now.rows c.loop-row.row c.loop-row.at c.loop-row.out end (entries-all c.args.table.now.rows c.loop-row.row c.loop-row.at end c.loop-row.invariant.at)
+    c.loop-row.invariant.written

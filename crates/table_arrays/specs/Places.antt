@@ -1,0 +1,53 @@
+-- A table in a caller's arrays: how long they have to be, and what is written there.
+use Rattle.std.specs.Prelude.{ℕ, ◌≡◌, ◌+◌, ◌&&◌, Bool, List, nat_le, length, map, take}
+use Rattle.subdiv_model.specs.Table.{Table, entries_of}
+use Rattle.nearest_arrays.specs.Nearest.{AreNearest}
+use Rattle.flat_arrays.specs.Words.{natural_of}
+use Rattle.table_arrays.specs.Flat.{row_starts, indices_of, numerators_of, denominators_of, fractions_of}
+use Rattle.table_arrays.specs.declared.places.TableCounts.{TableCounts}
+use Rattle.table_arrays.specs.declared.places.ExactPlaces.{ExactPlaces}
+use Rattle.table_arrays.specs.declared.places.DoublePlaces.{DoublePlaces}
+use Rattle.table_arrays.specs.declared.places.FloatPlaces.{FloatPlaces}
+use Rattle.nearest_float.specs.Binary.{binary32, binary64}
+
+-- how many control points, rows and entries a table has
+abbrev pub counts_of : Table → TableCounts
+counts_of table = record { controls = table.controls; rows = length table.rows; entries = entries_of table.rows }
+
+-- places for so many: one more than there are rows, and one for each entry
+abbrev pub are_rows_long_enough : TableCounts → List ℕ → List ℕ → Bool
+are_rows_long_enough counts starts indices = nat_le (counts.rows + 1) (length starts) && nat_le counts.entries (length indices)
+
+abbrev pub are_exact_long_enough : TableCounts → ExactPlaces → Bool
+are_exact_long_enough counts places =
+    are_rows_long_enough counts places.starts.now places.indices.now
+    && (nat_le counts.entries (length places.numerators.now) && nat_le counts.rows (length places.denominators.now))
+
+abbrev pub are_doubles_long_enough : TableCounts → DoublePlaces → Bool
+are_doubles_long_enough counts places =
+    are_rows_long_enough counts places.starts.now places.indices.now && nat_le counts.entries (length places.weights.now)
+
+abbrev pub are_floats_long_enough : TableCounts → FloatPlaces → Bool
+are_floats_long_enough counts places =
+    are_rows_long_enough counts places.starts.now places.indices.now && nat_le counts.entries (length places.weights.now)
+
+-- where the entries of each row begin, and their control points
+pub record AreRowsWritten (table : Table) (starts indices : List ℕ) : Type 0 where
+  pub begin : take (length table.rows + 1) starts ≡ row_starts table.rows
+  pub control : take (entries_of table.rows) indices ≡ indices_of table.rows
+
+-- the rows with their exact numerators and denominators
+pub record IsExactWritten (table : Table) (places : ExactPlaces) : Type 0 where
+  pub rows : AreRowsWritten table places.starts.now places.indices.now
+  pub numerators : map natural_of (take (entries_of table.rows) places.numerators.now) ≡ numerators_of table.rows
+  pub denominators : map natural_of (take (length table.rows) places.denominators.now) ≡ denominators_of table.rows
+
+-- the rows with the nearest doubles of their weights
+pub record AreDoublesWritten (table : Table) (places : DoublePlaces) : Type 0 where
+  pub rows : AreRowsWritten table places.starts.now places.indices.now
+  pub weights : AreNearest binary64 (fractions_of table.rows) (take (entries_of table.rows) places.weights.now)
+
+-- the rows with the nearest floats of their weights
+pub record AreFloatsWritten (table : Table) (places : FloatPlaces) : Type 0 where
+  pub rows : AreRowsWritten table places.starts.now places.indices.now
+  pub weights : AreNearest binary32 (fractions_of table.rows) (take (entries_of table.rows) places.weights.now)
