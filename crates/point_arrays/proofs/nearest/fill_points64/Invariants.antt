@@ -1,0 +1,9 @@
+use Rattle.std.proofs.Common.{◌*◌, take}
+use Rattle.nearest_float.specs.Binary.{binary64}
+use Rattle.nearest_arrays.specs.Nearest.{AreNearest}
+use Rattle.point_arrays.specs.Points.{coordinates}
+use Rattle.point_arrays.proofs.nearest.fill_points64.Given as goal
+
+-- the numbers nearest to the coordinates of the points before this one are written
+abbrev pub invariant-loop-place : goal.invariant-loop-place
+invariant-loop-place l = AreNearest binary64 (coordinates l.common (take l.place l.points)) (take (3 * l.place) l.out)
