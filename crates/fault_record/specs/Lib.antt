@@ -1,0 +1,6 @@
+pub mod Table
+pub mod Arrays
+pub mod Range
+pub mod Back
+pub mod Named
+pub mod Lines

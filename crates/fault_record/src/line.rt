@@ -1,0 +1,88 @@
+//! The line of a fault in bytes of a caller.
+
+ghost use Rattle.std.specs.Prelude.{◌≡◌, ◌+◌, ◌≤◌, [], ◌++◌, codes, length, take, drop};
+ghost use Rattle.subdiv_model.specs.Fault.{Fault, fault_line};
+ghost use Rattle.text_pieces.specs.Text.{piece_text, pieces_text};
+ghost use Rattle.far_fault.specs.View.{fault_of};
+ghost use Rattle.fault_record.specs.Back.{IsOfNone, IsRecordOf};
+ghost use Rattle.fault_record.specs.Lines.{IsPut};
+
+use crate::back::fault_of_record;
+use crate::record::FaultRecord;
+use far_fault::FarFault;
+use flat_arrays::put_items;
+use itoa::Buffer;
+use text_pieces::{Piece, Pieces};
+
+// Writes the text of a piece behind the first bytes, and returns where it ends.
+fn put_piece(line: &mut [u8], at: usize, piece: &Piece) -> usize
+    requires { at + length (piece_text piece.now) ≤ length line.old }
+    ensures written { take result line.new ≡ take at line.old ++ piece_text piece.now }
+    ensures end { result ≡ at + length (piece_text piece.now) }
+{
+    let mut buffer = Buffer::new();
+    let text = piece.text(&mut buffer).as_bytes();
+    put_items(line, at, text);
+    at + text.len()
+}
+
+// Writes the pieces one after another behind the first bytes, and returns where they end.
+fn put_pieces(line: &mut [u8], at: usize, pieces: &[Piece]) -> usize
+    requires { at + length (pieces_text pieces.now) ≤ length line.old }
+    ensures written { take result line.new ≡ take at line.old ++ pieces_text pieces.now }
+    ensures end { result ≡ at + length (pieces_text pieces.now) }
+{
+    let mut end = at;
+    let mut rest = pieces;
+    while let [piece, others @ ..] = rest {
+        end = put_piece(line, end, piece);
+        rest = others;
+    }
+    end
+}
+
+// Writes the pieces as a line of the program, and returns where it ends.
+fn put_as_line(line: &mut [u8], pieces: &Pieces) -> usize
+    requires { length (codes "far: " ++ (pieces.now ++ codes "\n")) ≤ length line.old }
+    ensures written { take result line.new ≡ codes "far: " ++ (pieces.now ++ codes "\n") }
+    ensures end { result ≡ length (codes "far: " ++ (pieces.now ++ codes "\n")) }
+{
+    let start = put_piece(line, 0, &Piece::Text("far: "));
+    let end = put_pieces(line, start, pieces.as_slice());
+    put_piece(line, end, &Piece::Text("\n"))
+}
+
+// Writes as much of a text as fits, and leaves what is behind it.
+fn put_front(text: &[u8], out: &mut [u8])
+    ensures { out.new ≡ take (length out.old) text.now ++ drop (length text.now) out.old }
+{
+    let count = text.len().min(out.len());
+    out[..count].copy_from_slice(&text[..count]);
+}
+
+// Writes as much of the fault's line as fits, and returns how long the line is.
+fn put_fault_line(fault: &FarFault, out: &mut [u8]) -> u64
+    requires { length (fault_line (fault_of fault.now)) ≤ 128 }
+    ensures { IsPut (fault_line (fault_of fault.now)) out.old out.new result }
+{
+    let mut line = [0u8; 128];
+    let end = put_as_line(&mut line, &fault.pieces());
+    put_front(&line[..end], out);
+    end as u64
+}
+
+/// Writes the line of the fault of the record into the bytes, and returns how long the line is. It is the line that a run with the fault
+/// writes on standard error: it begins with `far: ` and ends with LF, and has at most 128 bytes.
+///
+/// Where there are fewer bytes than the line has, its first bytes are written. Bytes behind the line stay. Where the record is that of
+/// no fault of a run, nothing is written, and 0 is returned.
+pub fn put_line(held: &FaultRecord, out: &mut [u8]) -> u64
+    ensures line { (fault : Fault) → IsRecordOf held.now fault → IsPut (fault_line fault) out.old out.new result }
+    ensures none { IsOfNone held.now → IsPut [] out.old out.new result }
+    ensures short { result ≤ 128 }
+{
+    match fault_of_record(held) {
+        Some(fault) => put_fault_line(&fault, out),
+        None => 0,
+    }
+}
