@@ -1,0 +1,44 @@
+-- The record of the fault for which a mesh in arrays has no levels.
+use Rattle.std.specs.Prelude.{ℕ, ◌≡◌, ◌<◌, ◌⊎◌, List}
+use Rattle.subdiv_model.specs.Fault.{Fault}
+use Rattle.subdiv_model.specs.ObjMesh.{ObjMesh}
+use Rattle.mesh_arrays.specs.Arrays.{mesh_of_arrays}
+use Rattle.mesh_arrays.specs.Faults.{IsArraysFault}
+use Rattle.mesh_arrays.specs.declared.arrays.MeshArrays.{MeshArrays}
+use Rattle.mesh_arrays.specs.declared.fault.ArraysFault.{ArraysFault}
+use Rattle.mesh_arrays.specs.declared.fault.ArraysFault.TheVariants as arrays
+use Rattle.fault_record.specs.Arrays.{row, record_of_bad_part}
+use Rattle.fault_record.specs.Back.{IsRecordOf}
+use Rattle.fault_record.specs.declared.record.FaultRecord.{FaultRecord}
+use Rattle.mesh_answers.specs.Refusals.{IsFound, refusal_by}
+
+-- what is wrong with the options and the tags of arrays follows what is wrong with a part
+abbrev pub record_of_arrays : ArraysFault → FaultRecord
+--                                                 status kind first second
+record_of_arrays arrays.Boundary = row 17 13 0 0
+record_of_arrays arrays.Method = row 17 14 0 0
+record_of_arrays (arrays.CreaseSharpness place) = row 17 15 place 0
+record_of_arrays (arrays.CornerSharpness place) = row 17 16 place 0
+record_of_arrays (arrays.Part bad) = record_of_bad_part bad
+record_of_arrays arrays.Memory = row 11 0 0 0
+
+-- the depth is too great
+abbrev pub bad_depth : FaultRecord
+bad_depth = row 19 0 0 0
+
+-- the arrays are no mesh
+pub record AreNoMesh (mesh : MeshArrays) (found : FaultRecord) : Type 0 where
+  pub fault : ArraysFault
+  pub is : IsArraysFault mesh fault
+  pub recorded : found ≡ record_of_arrays fault
+
+-- the arrays are a mesh, of which this is the first fault, those of its levels among them
+pub record IsRefusedBy (faults : List Fault) (mesh : ObjMesh) (found : FaultRecord) : Type 0 where
+  pub fault : Fault
+  pub is : IsFound fault (refusal_by faults mesh)
+  pub recorded : IsRecordOf found fault
+
+-- why a mesh in arrays is refused with these faults of its levels to a depth: the depth comes first, then the arrays
+abbrev pub IsRefusal : ℕ → List Fault → MeshArrays → FaultRecord → Type 0
+IsRefusal depth faults mesh found =
+    ((10 < depth) × (found ≡ bad_depth)) ⊎ (AreNoMesh mesh found ⊎ IsRefusedBy faults (mesh_of_arrays mesh) found)

@@ -1,0 +1,47 @@
+//! The records of faults of arrays.
+
+ghost use Rattle.std.specs.Prelude.{◌≡◌};
+ghost use Rattle.array_answers.specs.Refused as spec;
+ghost use Rattle.fault_record.specs.Arrays.{row};
+
+use far_fault::FarFault;
+use fault_record::{BAD_ARGUMENT, BAD_ARRAYS, FaultRecord, record_of};
+use mesh_arrays::ArraysFault;
+
+// A record of arrays.
+fn bad_arrays(kind: u32, place: usize) -> FaultRecord
+    ensures { result ≡ row 17 kind place 0 }
+{
+    FaultRecord {
+        status: BAD_ARRAYS,
+        kind,
+        first: place as u64,
+        second: 0,
+    }
+}
+
+/// Returns the record of a fault of arrays.
+pub(crate) fn record_of_arrays(fault: &ArraysFault) -> FaultRecord
+    ensures { result ≡ spec.record_of_arrays fault.now }
+{
+    match *fault {
+        ArraysFault::Boundary => bad_arrays(13, 0),
+        ArraysFault::Method => bad_arrays(14, 0),
+        ArraysFault::CreaseSharpness(place) => bad_arrays(15, place),
+        ArraysFault::CornerSharpness(place) => bad_arrays(16, place),
+        ArraysFault::Part(bad) => FaultRecord::of_bad_part(&bad),
+        ArraysFault::Memory => record_of(&FarFault::Memory),
+    }
+}
+
+/// The record of a depth above 10.
+pub(crate) fn bad_depth() -> FaultRecord
+    ensures { result ≡ spec.bad_depth }
+{
+    FaultRecord {
+        status: BAD_ARGUMENT,
+        kind: 0,
+        first: 0,
+        second: 0,
+    }
+}
