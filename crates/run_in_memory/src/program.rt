@@ -1,0 +1,129 @@
+//! A run of the program over slices.
+
+ghost use Rattle.std.specs.Prelude.{◌≡◌, ◌<◌, ℕ, List, map, string_bytes};
+ghost use Rattle.run_in_memory.specs.Runs.{RunsInMemory, RunsOverSlices};
+ghost use Rattle.run_in_memory.specs.Words.{words_of};
+
+use crate::words::words_in;
+use far_engine::{FarFault, program, report, status};
+use memory_streams::{SliceSink, SliceSource};
+use ratio128::Steps;
+use std::alloc::Global;
+use std::marker::Brand;
+use std::sync::ledger::{Blank, Ledger};
+
+/// How a run in memory ended.
+#[repr(C)]
+#[derive(Clone, Copy, Debug, PartialEq, Eq)]
+pub struct Ran {
+    /// The exit status of the program: 0 without a fault, else that of the fault.
+    pub status: u8,
+    /// How many bytes the answer has, or 2^64 - 1 where it has more.
+    pub written: u64,
+    /// How many bytes the line of the fault has; 0 without a fault.
+    pub reported: u64,
+}
+
+// The program over the streams, with a counter of its own.
+fn run_counted<L: Ledger>(
+    alloc: Global,
+    blank: Blank,
+    words: &Vec<String>,
+    source: &mut SliceSource,
+    sink: &mut SliceSink,
+    errors: &mut SliceSink,
+) -> u8
+    requires name { blank.name ≡ L.name }
+    requires parts { blank.parts ≡ L.parts }
+    requires some { 0 < blank.parts }
+    ensures { RunsOverSlices (map string_bytes words.now.items) source.old source.new sink.old sink.new errors.old errors.new result }
+{
+    program(
+        alloc,
+        words,
+        source,
+        sink,
+        errors,
+        &mut Steps::start(blank.open::<L>()),
+    )
+}
+
+// The program over the streams. They keep their slices.
+fn run_streams(
+    alloc: Global,
+    words: &Vec<String>,
+    source: &mut SliceSource,
+    sink: &mut SliceSink,
+    errors: &mut SliceSink,
+) -> u8
+    ensures runs { RunsOverSlices (map string_bytes words.now.items) source.old source.new sink.old sink.new errors.old errors.new result }
+    ensures same_out { sink.new.out.ghost_name ≡ sink.old.out.ghost_name }
+    ensures same_errors { errors.new.out.ghost_name ≡ errors.old.out.ghost_name }
+{
+    run_counted::<Brand>(alloc, Blank::new(1), words, source, sink, errors)
+}
+
+// The program over these words.
+fn run_words(
+    alloc: Global,
+    words: &Vec<String>,
+    input: &[u8],
+    out: &mut [u8],
+    errors: &mut [u8],
+) -> Ran
+    ensures { RunsInMemory (map string_bytes words.now.items) input.now out.new errors.new result }
+{
+    let mut sink = SliceSink::new(out);
+    let mut reports = SliceSink::new(errors);
+    let status = run_streams(
+        alloc,
+        words,
+        &mut SliceSource::new(input),
+        &mut sink,
+        &mut reports,
+    );
+    let written = sink.finish();
+    let reported = reports.finish();
+    Ran {
+        status,
+        written,
+        reported,
+    }
+}
+
+// The report of want of memory, before any word was read.
+fn without_memory(out: &mut [u8], errors: &mut [u8]) -> Ran
+    ensures { (words : List (List ℕ)) (input : List ℕ) → RunsInMemory words input out.new errors.new result }
+{
+    let _ = out;
+    let mut reports = SliceSink::new(errors);
+    let _ = report(&FarFault::Memory, &mut reports);
+    Ran {
+        status: status(&FarFault::Memory),
+        written: 0,
+        reported: reports.finish(),
+    }
+}
+
+/// Runs the program over slices: the words of its command line, its standard input, and where its standard output and its standard
+/// error go.
+///
+/// `words` are the words after the program's name, each ended by a zero byte. Where a word is not UTF-8, or the last one is not
+/// ended, there are no words, which is no command. `out` gets the answer and `errors` the line of the fault, each as far as it
+/// fits; the lengths of the whole texts are returned. What stands behind them in a slice is not said.
+///
+/// Memory may run out at any time. The status is then that of the fault `Memory`, and nothing is written into `out`.
+pub fn run_in_memory(
+    alloc: Global,
+    words: &[u8],
+    input: &[u8],
+    out: &mut [u8],
+    errors: &mut [u8],
+) -> Ran
+    ensures { RunsInMemory (words_of words.now) input.now out.new errors.new result }
+{
+    match words_in(alloc, words) {
+        Ok(words) => run_words(alloc, &words, input, out, errors),
+        Err(_) => without_memory(out, errors),
+    }
+}
