@@ -1,0 +1,25 @@
+//! Tests of the crates that read and fill arrays of a caller.
+#![tactic(auto)]
+
+#[cfg(test)]
+mod answers;
+#[cfg(test)]
+mod fault_records;
+#[cfg(test)]
+mod in_memory;
+#[cfg(test)]
+mod levels;
+#[cfg(test)]
+mod meshes;
+#[cfg(test)]
+mod nearest;
+#[cfg(test)]
+mod points;
+#[cfg(test)]
+mod scales;
+#[cfg(test)]
+mod stencils;
+#[cfg(test)]
+mod streams;
+#[cfg(test)]
+mod words;

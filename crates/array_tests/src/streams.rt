@@ -1,0 +1,67 @@
+//! Streams over slices: the bytes that are left, what stands in the slice, and how long the whole text is.
+
+ghost use Rattle.std.specs.Prelude.{◌≡◌};
+ghost use Rattle.memory_streams.specs.Text.{IsStored, count_of};
+
+use far_io::{Sink, Source, read_all, write_all_of};
+use memory_streams::{SliceSink, SliceSource};
+use std::test::Fail;
+
+// Writes a text into a slice, and returns how long it is.
+fn text_into(text: &[u8], out: &mut [u8]) -> u64
+    ensures total { result ≡ count_of text.now }
+    ensures stored { IsStored text.now out.new }
+{
+    let mut sink = SliceSink::new(out);
+    let _ = write_all_of(&mut sink, text);
+    sink.finish()
+}
+
+// A text, how many bytes it has, and what stands in a slice of four dots afterwards.
+type Writing = (&'static str, u64, &'static str);
+
+const WRITINGS: &[Writing] = &[
+    ("", 0, "...."),
+    ("abc", 3, "abc."),
+    ("abcd", 4, "abcd"),
+    ("abcdef", 6, "abcd"),
+];
+
+fn writings() -> &'static [Writing] {
+    WRITINGS
+}
+
+#[test]
+fn the_slice_gets_what_fits(rt: HostRuntime) {
+    for row in writings() {
+        let &(text, total, held) = row;
+        let mut out = *b"....";
+        assert_eq!(rt; text_into(text.as_bytes(), &mut out), total);
+        assert_eq!(rt; out.as_slice(), held.as_bytes());
+    }
+}
+
+#[test]
+fn pieces_stand_behind_one_another(rt: HostRuntime) {
+    let mut out = *b"....";
+    let mut sink = SliceSink::new(&mut out);
+    assert_eq!(rt; sink.write(b"ab"), Ok(2));
+    assert_eq!(rt; sink.write(b"cde"), Ok(2));
+    assert_eq!(rt; sink.write(b"e"), Ok(1));
+    assert_eq!(rt; sink.flush(), Ok(()));
+    assert_eq!(rt; sink.total(), 5);
+    assert_eq!(rt; sink.finish(), 5);
+    assert_eq!(rt; &out, b"abcd");
+}
+
+#[test]
+fn a_slice_is_read_to_its_end(rt: HostRuntime) -> Result<(), Fail> {
+    let mut source = SliceSource::new(b"abcde");
+    let mut piece = [0u8; 3];
+    assert_eq!(rt; source.read(&mut piece), Ok(3));
+    assert_eq!(rt; &piece, b"abc");
+    let rest = read_all(rt.alloc(), &mut source, 2)?;
+    assert_eq!(rt; rest.as_slice(), b"de".as_slice());
+    assert_eq!(rt; source.read(&mut piece), Ok(0));
+    Ok(())
+}
