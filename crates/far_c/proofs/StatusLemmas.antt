@@ -1,0 +1,86 @@
+-- What a call answers, by whether it wrote or was refused.
+use Rattle.std.proofs.Common.{◌≡◌, ℕ, ◌*◌, Bool, true, false, nat_le, List, length, take, inl, inr, refl, sym, subst, if◌then◌else◌}
+use Rattle.std.proofs.lemmas.Bool.{leb-false}
+use Rattle.subdiv_model.specs.Table.{Table}
+use Rattle.nearest_float.specs.Binary.{Format}
+use Rattle.nearest_arrays.specs.Nearest.{AreNearest}
+use Rattle.flat_arrays.specs.declared.wide.Wide.{Wide}
+use Rattle.mesh_arrays.specs.declared.arrays.MeshArrays.{MeshArrays}
+use Rattle.fault_record.specs.declared.record.FaultRecord.{FaultRecord}
+use Rattle.table_arrays.specs.Places as table
+use Rattle.table_arrays.specs.declared.places.TableCounts.{TableCounts}
+use Rattle.level_arrays.specs.Places as level
+use Rattle.level_arrays.specs.declared.counts.LevelCounts.{LevelCounts}
+use Rattle.level_arrays.specs.declared.places.LevelPlaces.{LevelPlaces}
+use Rattle.point_arrays.specs.Points.{coordinates}
+use Rattle.array_answers.specs.Composed.{IsRefinedOf, ArePointsOf}
+use Rattle.array_answers.specs.declared.compose.RefinedArrays.{RefinedArrays}
+use Rattle.array_answers.specs.declared.points.RefinedPoints.{RefinedPoints}
+use Rattle.far_c.specs.Answers.{AnswersTable, AnswersLevel, AnswersPoints, AnswersExactPoints, AreExactPoints, are_exact_long_enough, IsRefusedAt}
+
+module _ (mesh : MeshArrays) (depth : ℕ) (fault : FaultRecord) where
+  -- a table is written, or an array is too short
+  pub table-answered : {P : Type 0} (long_enough : TableCounts → P → Bool) (Written : Table → P → Type 0) (old new : P) (refined : RefinedArrays) (counts : TableCounts) (ok : Bool) (status : ℕ)
+      → IsRefinedOf mesh depth refined → counts ≡ table.counts_of refined.composed.table → ok ≡ long_enough (table.counts_of refined.composed.table) old
+      → (ok ≡ true → Written refined.composed.table new) → (ok ≡ false → new ≡ old) → status ≡ (if ok then 0 else 1)
+      → AnswersTable long_enough Written mesh depth status counts old new fault
+  table-answered long_enough Written old new refined counts true status is counted enough written kept done =
+      inl (done, record { refined = refined; is = is; holds = (counted, written refl) })
+  table-answered long_enough Written old new refined counts false status is counted enough written kept done =
+      inr (inl (done, record { refined = refined; is = is; holds = (counted, sym enough, kept refl) }))
+
+  pub table-refused : {P : Type 0} (long_enough : TableCounts → P → Bool) (Written : Table → P → Type 0) (old : P) (counts : TableCounts) → IsRefusedAt mesh depth fault
+      → AnswersTable long_enough Written mesh depth fault.status counts old old fault
+  table-refused long_enough Written old counts is = inr (inr (refl, (is, refl)))
+
+  -- a level is written, or an array is too short
+  pub level-answered : (old new : LevelPlaces) (refined : RefinedArrays) (counts : LevelCounts) (ok : Bool) (status : ℕ)
+      → IsRefinedOf mesh depth refined → counts ≡ level.counts_of refined.composed.level → ok ≡ level.are_long_enough (level.counts_of refined.composed.level) old
+      → (ok ≡ true → level.IsWritten refined.composed.level.level new) → (ok ≡ false → new ≡ old) → status ≡ (if ok then 0 else 1)
+      → AnswersLevel mesh depth status counts old new fault
+  level-answered old new refined counts true status is counted enough written kept done =
+      inl (done, record { refined = refined; is = is; holds = (counted, written refl) })
+  level-answered old new refined counts false status is counted enough written kept done =
+      inr (inl (done, record { refined = refined; is = is; holds = (counted, sym enough, kept refl) }))
+
+  pub level-refused : (old : LevelPlaces) (counts : LevelCounts) → IsRefusedAt mesh depth fault → AnswersLevel mesh depth fault.status counts old old fault
+  level-refused old counts is = inr (inr (refl, (is, refl)))
+
+  -- points are written, or the array is too short
+  points-written : (f : Format) (old new : List ℕ) (refined : RefinedPoints) (ok : Bool) (status : ℕ)
+      → ArePointsOf mesh depth refined → ok ≡ nat_le (3 * length refined.points.items) (length old)
+      → (ok ≡ true → AreNearest f (coordinates refined.common refined.points.items) (take (3 * length refined.points.items) new)) → (ok ≡ false → new ≡ old) → status ≡ (if ok then 0 else 1)
+      → AnswersPoints f mesh depth status (length refined.points.items) old new fault
+  points-written f old new refined true status are enough written kept done =
+      inl (done, record { refined = refined; are = are; counted = refl; holds = written refl })
+  points-written f old new refined false status are enough written kept done =
+      inr (inl (done, record { refined = refined; are = are; counted = refl; holds = (leb-false (3 * length refined.points.items) (length old) (sym enough), kept refl) }))
+
+  pub points-answered : (f : Format) (old new : List ℕ) (refined : RefinedPoints) (count : ℕ) (ok : Bool) (status : ℕ)
+      → ArePointsOf mesh depth refined → count ≡ length refined.points.items → ok ≡ nat_le (3 * length refined.points.items) (length old)
+      → (ok ≡ true → AreNearest f (coordinates refined.common refined.points.items) (take (3 * length refined.points.items) new)) → (ok ≡ false → new ≡ old) → status ≡ (if ok then 0 else 1)
+      → AnswersPoints f mesh depth status count old new fault
+  points-answered f old new refined count ok status are counted enough written kept done =
+      subst (λ (n : ℕ). AnswersPoints f mesh depth status n old new fault) (sym counted) (points-written f old new refined ok status are enough written kept done)
+
+  pub points-refused : (f : Format) (count : ℕ) (old : List ℕ) → IsRefusedAt mesh depth fault → AnswersPoints f mesh depth fault.status count old old fault
+  points-refused f count old is = inr (inr (refl, (is, refl)))
+
+  exact-written : (old_nums nums old_dens dens : List Wide) (refined : RefinedPoints) (ok : Bool) (status : ℕ)
+      → ArePointsOf mesh depth refined → ok ≡ are_exact_long_enough (length refined.points.items) old_nums old_dens
+      → (ok ≡ true → AreExactPoints (length refined.points.items) nums dens refined) → (ok ≡ false → (nums ≡ old_nums) × (dens ≡ old_dens)) → status ≡ (if ok then 0 else 1)
+      → AnswersExactPoints mesh depth status (length refined.points.items) old_nums nums old_dens dens fault
+  exact-written old_nums nums old_dens dens refined true status are enough written kept done =
+      inl (done, record { refined = refined; are = are; counted = refl; holds = written refl })
+  exact-written old_nums nums old_dens dens refined false status are enough written kept done =
+      inr (inl (done, record { refined = refined; are = are; counted = refl; holds = (sym enough, (kept refl).0, (kept refl).1) }))
+
+  pub exact-answered : (old_nums nums old_dens dens : List Wide) (refined : RefinedPoints) (count : ℕ) (ok : Bool) (status : ℕ)
+      → ArePointsOf mesh depth refined → count ≡ length refined.points.items → ok ≡ are_exact_long_enough (length refined.points.items) old_nums old_dens
+      → (ok ≡ true → AreExactPoints (length refined.points.items) nums dens refined) → (ok ≡ false → (nums ≡ old_nums) × (dens ≡ old_dens)) → status ≡ (if ok then 0 else 1)
+      → AnswersExactPoints mesh depth status count old_nums nums old_dens dens fault
+  exact-answered old_nums nums old_dens dens refined count ok status are counted enough written kept done =
+      subst (λ (n : ℕ). AnswersExactPoints mesh depth status n old_nums nums old_dens dens fault) (sym counted) (exact-written old_nums nums old_dens dens refined ok status are enough written kept done)
+
+  pub exact-refused : (count : ℕ) (nums dens : List Wide) → IsRefusedAt mesh depth fault → AnswersExactPoints mesh depth fault.status count nums nums dens dens fault
+  exact-refused count nums dens is = inr (inr (refl, (is, refl, refl)))

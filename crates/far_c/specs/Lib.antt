@@ -1,0 +1,4 @@
+pub mod Status
+pub mod Answers
+pub mod Numbers
+pub mod Texts

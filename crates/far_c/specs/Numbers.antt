@@ -1,0 +1,32 @@
+-- What is answered to doubles and floats: their exact numerators.
+use Rattle.std.specs.Prelude.{ℕ, ◌≡◌, ◌<◌, ◌⊎◌, List, length, map, take}
+use Rattle.nearest_float.specs.Binary.{Format}
+use Rattle.flat_arrays.specs.Words.{integer_of}
+use Rattle.flat_arrays.specs.declared.wide.Wide.{Wide}
+use Rattle.exact_arrays.specs.Scale.{AreScaled}
+use Rattle.exact_arrays.specs.ScaleFaults.{IsScaleFault}
+use Rattle.exact_arrays.specs.Grid.{AreRounded, IsRoundFault}
+use Rattle.exact_arrays.specs.declared.fault.NumberFault.{NumberFault}
+use Rattle.fault_record.specs.Arrays.{row, record_of_bad_number}
+use Rattle.fault_record.specs.declared.record.FaultRecord.{FaultRecord}
+use Rattle.far_c.specs.Status.{IsStatus}
+
+-- a number is refused for this, and this is the record
+pub record IsNumberRefused (Refused : NumberFault → Type 0) (found : FaultRecord) : Type 0 where
+  pub fault : NumberFault
+  pub is : Refused fault
+  pub recorded : found ≡ record_of_bad_number fault.place fault.fault
+
+-- the array has fewer places than there are numbers, and nothing is written
+abbrev pub IsShort : List ℕ → List Wide → List Wide → Type 0
+IsShort bits old new = (length old < length bits) × (new ≡ old)
+
+abbrev pub AnswersScale : Format → List ℕ → ℕ → ℕ → List Wide → List Wide → FaultRecord → Type 0
+AnswersScale f bits status scale old new fault =
+    IsStatus status (AreScaled f bits scale (map integer_of (take (length bits) new))) (IsShort bits old new) (IsNumberRefused (IsScaleFault f bits)) fault
+
+-- a grid finer than 2^-126 is refused before all numbers
+abbrev pub AnswersRounding : Format → ℕ → List ℕ → ℕ → ℕ → List Wide → List Wide → FaultRecord → Type 0
+AnswersRounding f grid_bits bits status changed old new fault =
+    IsStatus status (AreRounded f grid_bits bits changed (map integer_of (take (length bits) new))) (IsShort bits old new)
+    (λ found. ((126 < grid_bits) × (found ≡ row 19 0 0 0)) ⊎ IsNumberRefused (IsRoundFault f grid_bits bits) found) fault

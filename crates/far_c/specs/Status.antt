@@ -1,0 +1,8 @@
+-- The status of a call.
+use Rattle.std.specs.Prelude.{ℕ, ◌≡◌, ◌⊎◌}
+use Rattle.fault_record.specs.declared.record.FaultRecord.{FaultRecord}
+
+-- 0 where the call did what it says, 1 where an array is too short, and else the status of the fault
+abbrev pub IsStatus : ℕ → Type 0 → Type 0 → (FaultRecord → Type 0) → FaultRecord → Type 0
+IsStatus status done short refused fault =
+    ((status ≡ 0) × done) ⊎ (((status ≡ 1) × short) ⊎ ((status ≡ fault.status) × refused fault))

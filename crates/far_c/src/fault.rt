@@ -1,0 +1,18 @@
+//! The line of a fault.
+
+ghost use Rattle.std.specs.Prelude.{◌≤◌, []};
+ghost use Rattle.subdiv_model.specs.Fault.{Fault, fault_line};
+ghost use Rattle.fault_record.specs.Back.{IsRecordOf, IsOfNone};
+ghost use Rattle.fault_record.specs.Lines.{IsPut};
+
+use fault_record::{FaultRecord, put_line};
+
+/// Writes the line of a fault of a run, as far as it fits, and returns how long it is. A record of no such fault has no line.
+#[unsafe(no_mangle)]
+pub extern "C" fn far_fault_line(fault: &FaultRecord, out: &mut [u8]) -> u64
+    ensures line { (named : Fault) → IsRecordOf fault.now named → IsPut (fault_line named) out.old out.new result }
+    ensures none { IsOfNone fault.now → IsPut [] out.old out.new result }
+    ensures short { result ≤ 128 }
+{
+    put_line(fault, out)
+}

@@ -1,0 +1,43 @@
+//! Levels of a mesh.
+
+ghost use Rattle.std.specs.Prelude.{◌≡◌};
+ghost use Rattle.flat_arrays.specs.Places.{IsSameArray};
+ghost use Rattle.far_c.specs.Answers.{AnswersLevel};
+
+use crate::status::written;
+use array_answers::refine_arrays;
+use fault_record::FaultRecord;
+use level_arrays::{LevelCounts, LevelPlaces, counts_of, put_level};
+use mesh_arrays::MeshArrays;
+use std::alloc::Global;
+
+/// Writes the faces and the edges of the level of a mesh at a depth, and its counts.
+#[unsafe(no_mangle)]
+pub extern "C" fn far_level(
+    alloc: Global,
+    mesh: &MeshArrays,
+    depth: u32,
+    counts: &mut LevelCounts,
+    places: &mut LevelPlaces,
+    fault: &mut FaultRecord,
+) -> u32
+    ensures answer { AnswersLevel mesh.now depth result counts.new places.old places.new fault.new }
+    ensures face_sizes { IsSameArray places.old.face_sizes places.new.face_sizes }
+    ensures corners { IsSameArray places.old.corners places.new.corners }
+    ensures edges { IsSameArray places.old.edges places.new.edges }
+    ensures holes { IsSameArray places.old.holes places.new.holes }
+{
+    match refine_arrays(alloc, mesh, depth) {
+        Ok(refined) => {
+            *counts = counts_of(&refined.composed.level);
+            let done = put_level(&refined.composed.level, places);
+            // The prover proves a drop by name once for its type.
+            drop(refined);
+            written(done)
+        }
+        Err(found) => {
+            *fault = found;
+            found.status
+        }
+    }
+}

@@ -1,0 +1,148 @@
+//! Doubles and floats as exact numerators.
+
+ghost use Rattle.std.specs.Prelude.{◌≡◌, length};
+ghost use Rattle.nearest_float.specs.Binary.{binary32, binary64};
+ghost use Rattle.flat_arrays.specs.Words.{natural_of};
+ghost use Rattle.fault_record.specs.Arrays.{record_of_bad_number, row};
+ghost use Rattle.far_c.specs.Numbers.{AnswersRounding, AnswersScale};
+
+use exact_arrays::{
+    NumberFault, round_binary32s, round_binary64s, scale_binary32s, scale_binary64s,
+};
+use fault_record::{BAD_ARGUMENT, DONE, FaultRecord, TOO_SHORT};
+use flat_arrays::Wide;
+
+const FINEST_GRID: u32 = 126;
+
+// The record of a number that was refused.
+fn record_of_number(fault: NumberFault) -> FaultRecord
+    ensures { result ≡ record_of_bad_number fault.place fault.fault }
+{
+    FaultRecord::of_bad_number(fault.place, fault.fault)
+}
+
+// The record of a grid that is too fine.
+fn bad_grid() -> FaultRecord
+    ensures { result ≡ row 19 0 0 0 }
+{
+    FaultRecord {
+        status: BAD_ARGUMENT,
+        kind: 0,
+        first: 0,
+        second: 0,
+    }
+}
+
+/// Writes the numerators of doubles over their least common denominator, and that denominator.
+#[unsafe(no_mangle)]
+pub extern "C" fn far_scale_doubles(
+    bits: &[u64],
+    out: &mut [Wide],
+    scale: &mut Wide,
+    fault: &mut FaultRecord,
+) -> u32
+    ensures answer { AnswersScale binary64 bits.now result (natural_of scale.new) out.old out.new fault.new }
+    ensures len { length out.new ≡ length out.old }
+{
+    if out.len() < bits.len() {
+        return TOO_SHORT;
+    }
+    match scale_binary64s(bits, out) {
+        Ok(found) => {
+            *scale = Wide::of_natural(found);
+            DONE
+        }
+        Err(refused) => {
+            *fault = record_of_number(refused);
+            fault.status
+        }
+    }
+}
+
+/// Writes the numerators of floats over their least common denominator, and that denominator.
+#[unsafe(no_mangle)]
+pub extern "C" fn far_scale_floats(
+    bits: &[u32],
+    out: &mut [Wide],
+    scale: &mut Wide,
+    fault: &mut FaultRecord,
+) -> u32
+    ensures answer { AnswersScale binary32 bits.now result (natural_of scale.new) out.old out.new fault.new }
+    ensures len { length out.new ≡ length out.old }
+{
+    if out.len() < bits.len() {
+        return TOO_SHORT;
+    }
+    match scale_binary32s(bits, out) {
+        Ok(found) => {
+            *scale = Wide::of_natural(found);
+            DONE
+        }
+        Err(refused) => {
+            *fault = record_of_number(refused);
+            fault.status
+        }
+    }
+}
+
+/// Writes the numerators of doubles rounded to multiples of 2^-grid_bits, over 2^grid_bits, and how many have another value.
+#[unsafe(no_mangle)]
+pub extern "C" fn far_round_doubles(
+    bits: &[u64],
+    grid_bits: u32,
+    out: &mut [Wide],
+    changed: &mut u64,
+    fault: &mut FaultRecord,
+) -> u32
+    ensures answer { AnswersRounding binary64 grid_bits bits.now result changed.new out.old out.new fault.new }
+    ensures len { length out.new ≡ length out.old }
+{
+    if grid_bits > FINEST_GRID {
+        *fault = bad_grid();
+        return fault.status;
+    }
+    if out.len() < bits.len() {
+        return TOO_SHORT;
+    }
+    match round_binary64s(bits, grid_bits, out) {
+        Ok(count) => {
+            *changed = count;
+            DONE
+        }
+        Err(refused) => {
+            *fault = record_of_number(refused);
+            fault.status
+        }
+    }
+}
+
+/// Writes the numerators of floats rounded to multiples of 2^-grid_bits, over 2^grid_bits, and how many have another value.
+#[unsafe(no_mangle)]
+pub extern "C" fn far_round_floats(
+    bits: &[u32],
+    grid_bits: u32,
+    out: &mut [Wide],
+    changed: &mut u64,
+    fault: &mut FaultRecord,
+) -> u32
+    ensures answer { AnswersRounding binary32 grid_bits bits.now result changed.new out.old out.new fault.new }
+    ensures len { length out.new ≡ length out.old }
+{
+    if grid_bits > FINEST_GRID {
+        *fault = bad_grid();
+        return fault.status;
+    }
+    if out.len() < bits.len() {
+        return TOO_SHORT;
+    }
+    match round_binary32s(bits, grid_bits, out) {
+        Ok(count) => {
+            *changed = count;
+            DONE
+        }
+        Err(refused) => {
+            *fault = record_of_number(refused);
+            fault.status
+        }
+    }
+}

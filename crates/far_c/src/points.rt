@@ -1,0 +1,158 @@
+//! Points of a mesh at a depth.
+
+ghost use Rattle.std.specs.Prelude.{◌≡◌, ◌*◌, ◌≤◌, length, nat_le, map, take, true, false};
+ghost use Rattle.std.specs.List.{All};
+ghost use Rattle.nearest_float.specs.Binary.{binary32, binary64};
+ghost use Rattle.nearest_arrays.specs.Nearest.{AreNearest};
+ghost use Rattle.point_arrays.specs.Points.{CanBePut, coordinates};
+ghost use Rattle.far_c.specs.Answers.{AnswersExactPoints, AnswersPoints, AreExactPoints, are_exact_long_enough};
+
+use crate::status::written;
+use array_answers::{RefinedPoints, refine_points};
+use fault_record::FaultRecord;
+use flat_arrays::Wide;
+use mesh_arrays::MeshArrays;
+use point_arrays::{put_exact_points, put_points32, put_points64};
+use std::alloc::Global;
+
+// How many points there are.
+fn count_of(refined: &RefinedPoints) -> u64
+    ensures { result ≡ length refined.now.points.items }
+{
+    refined.points.len() as u64
+}
+
+// Writes the points exactly, where both arrays are long enough, and returns whether it did.
+fn put_exact(refined: &RefinedPoints, numerators: &mut [Wide], denominators: &mut [Wide]) -> bool
+    requires { All (CanBePut refined.now.common) refined.now.points.items }
+    ensures long_enough { result ≡ are_exact_long_enough (length refined.now.points.items) numerators.old denominators.old }
+    ensures written { result ≡ true → AreExactPoints (length refined.now.points.items) numerators.new denominators.new refined.now }
+    ensures kept { result ≡ false → (numerators.new ≡ numerators.old) × (denominators.new ≡ denominators.old) }
+    ensures len { length numerators.new ≡ length numerators.old }
+    ensures dens_len { length denominators.new ≡ length denominators.old }
+{
+    let points = refined.points.as_slice();
+    if numerators.len() / 3 < points.len() || denominators.len() < points.len() {
+        return false;
+    }
+    put_exact_points(points, refined.common, numerators, denominators);
+    true
+}
+
+// Writes the nearest doubles of the points, where the array is long enough, and returns whether it did.
+fn put_doubles(refined: &RefinedPoints, out: &mut [u64]) -> bool
+    requires { All (CanBePut refined.now.common) refined.now.points.items }
+    ensures long_enough { result ≡ nat_le (3 * length refined.now.points.items) (length out.old) }
+    ensures written { result ≡ true → AreNearest binary64 (coordinates refined.now.common refined.now.points.items) (take (3 * length refined.now.points.items) out.new) }
+    ensures kept { result ≡ false → out.new ≡ out.old }
+    ensures len { length out.new ≡ length out.old }
+{
+    let points = refined.points.as_slice();
+    if out.len() / 3 < points.len() {
+        return false;
+    }
+    put_points64(points, refined.common, out);
+    true
+}
+
+// Writes the nearest floats of the points, where the array is long enough, and returns whether it did.
+fn put_floats(refined: &RefinedPoints, out: &mut [u32]) -> bool
+    requires { All (CanBePut refined.now.common) refined.now.points.items }
+    ensures long_enough { result ≡ nat_le (3 * length refined.now.points.items) (length out.old) }
+    ensures written { result ≡ true → AreNearest binary32 (coordinates refined.now.common refined.now.points.items) (take (3 * length refined.now.points.items) out.new) }
+    ensures kept { result ≡ false → out.new ≡ out.old }
+    ensures len { length out.new ≡ length out.old }
+{
+    let points = refined.points.as_slice();
+    if out.len() / 3 < points.len() {
+        return false;
+    }
+    put_points32(points, refined.common, out);
+    true
+}
+
+/// Writes the points of a mesh at a depth exactly, three numerators over a denominator each, and how many there are.
+#[unsafe(no_mangle)]
+pub extern "C" fn far_points_exact(
+    alloc: Global,
+    mesh: &MeshArrays,
+    depth: u32,
+    count: &mut u64,
+    numerators: &mut [Wide],
+    denominators: &mut [Wide],
+    fault: &mut FaultRecord,
+) -> u32
+    ensures answer { AnswersExactPoints mesh.now depth result count.new numerators.old numerators.new denominators.old denominators.new fault.new }
+    ensures len { length numerators.new ≡ length numerators.old }
+    ensures dens_len { length denominators.new ≡ length denominators.old }
+{
+    match refine_points(alloc, mesh, depth) {
+        Ok(refined) => {
+            *count = count_of(&refined);
+            let done = put_exact(&refined, numerators, denominators);
+            // The prover proves a drop by name once for its type.
+            drop(refined);
+            written(done)
+        }
+        Err(found) => {
+            *fault = found;
+            found.status
+        }
+    }
+}
+
+/// Writes the nearest doubles of the points of a mesh at a depth, three a point, and how many points there are.
+#[unsafe(no_mangle)]
+pub extern "C" fn far_points_doubles(
+    alloc: Global,
+    mesh: &MeshArrays,
+    depth: u32,
+    count: &mut u64,
+    out: &mut [u64],
+    fault: &mut FaultRecord,
+) -> u32
+    ensures answer { AnswersPoints binary64 mesh.now depth result count.new out.old out.new fault.new }
+    ensures len { length out.new ≡ length out.old }
+{
+    match refine_points(alloc, mesh, depth) {
+        Ok(refined) => {
+            *count = count_of(&refined);
+            let done = put_doubles(&refined, out);
+            // The prover proves a drop by name once for its type.
+            drop(refined);
+            written(done)
+        }
+        Err(found) => {
+            *fault = found;
+            found.status
+        }
+    }
+}
+
+/// Writes the nearest floats of the points of a mesh at a depth, three a point, and how many points there are.
+#[unsafe(no_mangle)]
+pub extern "C" fn far_points_floats(
+    alloc: Global,
+    mesh: &MeshArrays,
+    depth: u32,
+    count: &mut u64,
+    out: &mut [u32],
+    fault: &mut FaultRecord,
+) -> u32
+    ensures answer { AnswersPoints binary32 mesh.now depth result count.new out.old out.new fault.new }
+    ensures len { length out.new ≡ length out.old }
+{
+    match refine_points(alloc, mesh, depth) {
+        Ok(refined) => {
+            *count = count_of(&refined);
+            let done = put_floats(&refined, out);
+            // The prover proves a drop by name once for its type.
+            drop(refined);
+            written(done)
+        }
+        Err(found) => {
+            *fault = found;
+            found.status
+        }
+    }
+}

@@ -1,0 +1,21 @@
+//! Runs of the program.
+
+ghost use Rattle.run_in_memory.specs.Runs.{RunsInMemory};
+ghost use Rattle.run_in_memory.specs.Words.{words_of};
+
+use run_in_memory::{Ran, run_in_memory};
+use std::alloc::Global;
+
+/// Runs the program over slices. The words of its command line end with a zero byte each.
+#[unsafe(no_mangle)]
+pub extern "C" fn far_run(
+    alloc: Global,
+    words: &[u8],
+    input: &[u8],
+    out: &mut [u8],
+    errors: &mut [u8],
+) -> Ran
+    ensures { RunsInMemory (words_of words.now) input.now out.new errors.new result }
+{
+    run_in_memory(alloc, words, input, out, errors)
+}

@@ -1,0 +1,107 @@
+//! Tables of a mesh.
+
+ghost use Rattle.std.specs.Prelude.{◌≡◌};
+ghost use Rattle.flat_arrays.specs.Places.{IsSameArray};
+ghost use Rattle.table_arrays.specs.Places as table;
+ghost use Rattle.far_c.specs.Answers.{AnswersTable};
+
+use crate::status::written;
+use array_answers::refine_arrays;
+use fault_record::FaultRecord;
+use mesh_arrays::MeshArrays;
+use std::alloc::Global;
+use table_arrays::{
+    DoublePlaces, ExactPlaces, FloatPlaces, TableCounts, counts_of, put_double_table,
+    put_exact_table, put_float_table,
+};
+
+/// Writes the table of the points of a mesh at a depth with exact weights, and its counts.
+#[unsafe(no_mangle)]
+pub extern "C" fn far_table_exact(
+    alloc: Global,
+    mesh: &MeshArrays,
+    depth: u32,
+    counts: &mut TableCounts,
+    places: &mut ExactPlaces,
+    fault: &mut FaultRecord,
+) -> u32
+    ensures answer { AnswersTable table.are_exact_long_enough table.IsExactWritten mesh.now depth result counts.new places.old places.new fault.new }
+    ensures starts { IsSameArray places.old.starts places.new.starts }
+    ensures indices { IsSameArray places.old.indices places.new.indices }
+    ensures numerators { IsSameArray places.old.numerators places.new.numerators }
+    ensures denominators { IsSameArray places.old.denominators places.new.denominators }
+{
+    match refine_arrays(alloc, mesh, depth) {
+        Ok(refined) => {
+            *counts = counts_of(&refined.composed.table);
+            let done = put_exact_table(&refined.composed.table, places);
+            // The prover proves a drop by name once for its type.
+            drop(refined);
+            written(done)
+        }
+        Err(found) => {
+            *fault = found;
+            found.status
+        }
+    }
+}
+
+/// Writes the table of the points of a mesh at a depth with the nearest doubles of its weights, and its counts.
+#[unsafe(no_mangle)]
+pub extern "C" fn far_table_doubles(
+    alloc: Global,
+    mesh: &MeshArrays,
+    depth: u32,
+    counts: &mut TableCounts,
+    places: &mut DoublePlaces,
+    fault: &mut FaultRecord,
+) -> u32
+    ensures answer { AnswersTable table.are_doubles_long_enough table.AreDoublesWritten mesh.now depth result counts.new places.old places.new fault.new }
+    ensures starts { IsSameArray places.old.starts places.new.starts }
+    ensures indices { IsSameArray places.old.indices places.new.indices }
+    ensures weights { IsSameArray places.old.weights places.new.weights }
+{
+    match refine_arrays(alloc, mesh, depth) {
+        Ok(refined) => {
+            *counts = counts_of(&refined.composed.table);
+            let done = put_double_table(&refined.composed.table, places);
+            // The prover proves a drop by name once for its type.
+            drop(refined);
+            written(done)
+        }
+        Err(found) => {
+            *fault = found;
+            found.status
+        }
+    }
+}
+
+/// Writes the table of the points of a mesh at a depth with the nearest floats of its weights, and its counts.
+#[unsafe(no_mangle)]
+pub extern "C" fn far_table_floats(
+    alloc: Global,
+    mesh: &MeshArrays,
+    depth: u32,
+    counts: &mut TableCounts,
+    places: &mut FloatPlaces,
+    fault: &mut FaultRecord,
+) -> u32
+    ensures answer { AnswersTable table.are_floats_long_enough table.AreFloatsWritten mesh.now depth result counts.new places.old places.new fault.new }
+    ensures starts { IsSameArray places.old.starts places.new.starts }
+    ensures indices { IsSameArray places.old.indices places.new.indices }
+    ensures weights { IsSameArray places.old.weights places.new.weights }
+{
+    match refine_arrays(alloc, mesh, depth) {
+        Ok(refined) => {
+            *counts = counts_of(&refined.composed.table);
+            let done = put_float_table(&refined.composed.table, places);
+            // The prover proves a drop by name once for its type.
+            drop(refined);
+            written(done)
+        }
+        Err(found) => {
+            *fault = found;
+            found.status
+        }
+    }
+}

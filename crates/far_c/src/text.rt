@@ -1,0 +1,49 @@
+//! The mesh of an OBJ text.
+
+ghost use Rattle.std.specs.Prelude.{◌≡◌};
+ghost use Rattle.mesh_arrays.specs.Written.{AreSamePlaces};
+ghost use Rattle.far_c.specs.Texts.{AnswersText};
+
+use far_fault::FarFault;
+use fault_record::{DONE, FaultRecord, TOO_SHORT, record_of};
+use mesh_answers::mesh_of_text;
+use mesh_arrays::{
+    MeshCounts, MeshOptions, MeshPlaces, are_long_enough, counts_of, options_of, put_mesh,
+};
+use std::alloc::Global;
+
+const TEXT_LIMIT: usize = 1 << 28;
+
+/// Writes the mesh of an OBJ text of at most 2^28 bytes into arrays, with its counts and its options.
+#[unsafe(no_mangle)]
+pub extern "C" fn far_read_obj(
+    alloc: Global,
+    text: &[u8],
+    counts: &mut MeshCounts,
+    options: &mut MeshOptions,
+    places: &mut MeshPlaces,
+    fault: &mut FaultRecord,
+) -> u32
+    ensures answer { AnswersText text.now result counts.new options.new places.old places.new fault.new }
+    ensures places { AreSamePlaces places.old places.new }
+{
+    if text.len() > TEXT_LIMIT {
+        *fault = record_of(&FarFault::Long);
+        return fault.status;
+    }
+    match mesh_of_text(alloc, text, 0) {
+        Ok(mesh) => {
+            *counts = counts_of(&mesh);
+            *options = options_of(&mesh);
+            if !are_long_enough(counts, places) {
+                return TOO_SHORT;
+            }
+            put_mesh(&mesh, places);
+            DONE
+        }
+        Err(found) => {
+            *fault = record_of(&found);
+            fault.status
+        }
+    }
+}
