@@ -5,7 +5,8 @@ In a copy of the tracked files each of some runs is made by the proved program i
 proved, and by `./far` once the proved program stands where the launcher looks for it. All have to end alike, but for
 the one line on standard error by which `./far` says that a run is not proved. Beside these runs it tries what the
 launcher does by itself: its help, a source that is newer than a program, a toolchain that is missing or fails, and
-`./far --build`. There a stand-in of `rt` is called in the place of the toolchain, since proving takes an hour.
+`./far --build`, `./far --install` and `./far --uninstall`. There stand-ins of `rt`, and of `python3` with the builder of the
+library, are called in the place of the toolchain, since proving takes an hour.
 
 It builds the program unproved once, which takes half a minute where a processor is free. Its one line is
 `the launcher: N checks passed`, and the exit status 0. It is 1 where a check fails, which is printed, and 2 where
@@ -26,10 +27,15 @@ from run_reference import OPTIONS, Numbers
 from tracked_files import PROGRAM, TOP, copy_files, put_program, tracked_files
 
 NOT_PROVED = re.compile(rb"\./far: this run is not proved[^\n]*\n")
-COMMANDS_OF_THE_LAUNCHER = "bash cat cmp date dirname find flock ln mkdir mktemp mv readlink rm sleep touch"
+COMMANDS_OF_THE_LAUNCHER = "bash cat cmp date dirname find flock install ln mkdir mktemp mv readlink rm rmdir sed sleep touch"
 CLOSED_INPUT, FULL_OUTPUT = 'exec "$@" <&-', 'exec "$@" > /dev/full'
 SECONDS = 1200
 MOVES = b"frames\nmove 0 2 2 2\ngo\n"
+MANIFEST = "share/drillolive/manifest"
+INSTALLED = (
+    "bin/far lib/libdrillolive.a lib/libdrillolive.so lib/pkgconfig/drillolive.pc include/drillolive.h include/drillolive.hpp "
+    "share/man/man1/far.1"
+).split()
 
 
 def content(path):
@@ -101,19 +107,30 @@ class Launcher:
         self.unproved = self.copy / ".far/far_cli"
         self.passed, self.failed = 0, []
         copy_files(tracked_files(), self.copy)
-        self.plain, self.refusing, self.agreeing = (room / name for name in ("plain", "refusing", "agreeing"))
+        names = ("plain", "refusing", "agreeing", "lacking")
+        self.plain, self.refusing, self.agreeing, self.lacking = (room / name for name in names)
         self.make_stand_ins()
 
     def make_stand_ins(self):
-        """Makes folders of commands without `rt`, with one that fails, and with one that notes how it is called."""
-        for folder in (self.plain, self.refusing, self.agreeing):
+        """Makes folders of commands without `rt`, with one that fails, and with one that notes how it is called.
+
+        In the third a stand-in of `python3` builds the library, and in the fourth one ends well and builds nothing.
+        """
+        note = 'echo proving\n{ pwd; printf "%s\\n" "$@"; cat; } > "$0.called"\n'
+        build = 'mkdir -p "${1%/*}/../build/lib"\nfor it in a so; do echo $it > "${1%/*}/../build/lib/libdrillolive.$it"; done\n'
+        stand_ins = {
+            self.plain: {},
+            self.refusing: {"rt": "exit 1\n", "python3": build},
+            self.agreeing: {"rt": note, "python3": build},
+            self.lacking: {"rt": note, "python3": "exit 0\n"},
+        }
+        for folder, commands in stand_ins.items():
             folder.mkdir()
             for name in COMMANDS_OF_THE_LAUNCHER.split():
                 (folder / name).symlink_to(shutil.which(name))
-        note = '#!/usr/bin/env bash\necho proving\n{ pwd; printf "%s\\n" "$@"; cat; } > "$0.called"\n'
-        for folder, text in ((self.refusing, "#!/usr/bin/env bash\nexit 1\n"), (self.agreeing, note)):
-            (folder / "rt").write_text(text)
-            (folder / "rt").chmod(0o755)
+            for name, text in commands.items():
+                (folder / name).write_text("#!/usr/bin/env bash\n" + text)
+                (folder / name).chmod(0o755)
 
     def check(self, what, passed, ended):
         if passed:
@@ -189,6 +206,57 @@ class Launcher:
         self.check("a run after --build", ended[0] == 0 and ended[1] and not ended[2], ended)
 
 
+    def install(self, word, prefix, folder):
+        """How `./far --install` or `./far --uninstall` of a folder ends, under the commands of another folder."""
+        return outcome(self.far, [word, prefix], path=str(folder))
+
+    def check_refused_install(self, prefix):
+        """Checks that nothing is installed where the program or the library cannot be built, or no folder is named."""
+        for what, folder in (("rt that fails", self.refusing), ("no rt", self.plain), ("no C compiler", self.lacking)):
+            ended = self.install("--install", prefix, folder)
+            last = ended[2].splitlines()[-1:]
+            self.check(f"--install with {what}", ended[:2] == (1, b"") and last and last[0].startswith(b"./far: "), ended)
+            self.check(f"--install with {what} leaves a file", not prefix.exists(), ended)
+        for word in ("--install", "--uninstall"):
+            ended = outcome(self.far, [word], path=str(self.agreeing))
+            self.check(f"{word} without a folder", ended == (1, b"", f"./far: {word} takes a folder\n".encode()), ended)
+        ended = self.install("--uninstall", prefix, self.agreeing)
+        self.check("--uninstall of nothing", ended[:2] == (1, b"") and b"nothing is installed" in ended[2], ended)
+
+    def check_install(self):
+        """Checks that `./far --install` proves and then installs what it lists, also over itself, and nothing else."""
+        prefix = self.copy.parent / "a prefix"
+        self.check_refused_install(prefix)
+        (self.agreeing / "rt.called").unlink()
+        for time in ("first", "second"):
+            ended = self.install("--install", prefix, self.agreeing)
+            listed = (prefix / MANIFEST).read_text().splitlines() if (prefix / MANIFEST).is_file() else []
+            self.check(f"{time} --install", ended == (0, b"", b"proving\n") and listed == INSTALLED, ended)
+            found = sorted(str(path.relative_to(prefix)) for path in prefix.rglob("*") if path.is_file())
+            self.check(f"{time} --install made {found}", found == sorted([*INSTALLED, MANIFEST]), ended)
+        self.check("--install proves", (self.agreeing / "rt.called").read_text().startswith(f"{self.copy}/crates/far_cli\nrun\n"), ended)
+        same = (prefix / "bin/far").read_bytes() == (self.copy / PROGRAM).read_bytes() and os.access(prefix / "bin/far", os.X_OK)
+        self.check("the installed program is the proved one", same, ended)
+        described = (prefix / "lib/pkgconfig/drillolive.pc").read_text()
+        self.check("drillolive.pc", f"prefix={prefix}\n" in described and re.search(r"^Version: \d+\.\d+\.\d+$", described, re.M), ended)
+        self.check_uninstall(prefix)
+
+    def check_uninstall(self, prefix):
+        """Checks that `./far --uninstall` removes what was installed, keeps all else, and names no file outside of the folder."""
+        kept = prefix / "lib/other"
+        kept.write_text("")
+        ended = self.install("--uninstall", prefix, self.plain)
+        left = sorted(str(path.relative_to(prefix)) for path in prefix.rglob("*") if path.is_file())
+        self.check(f"--uninstall leaves {left}", ended == (0, b"", b"") and left == ["lib/other"], ended)
+        (prefix / MANIFEST).parent.mkdir(parents=True)
+        for name in ("../outside", "/outside", "lib/../../outside"):
+            (self.copy.parent / "outside").write_text("")
+            (prefix / MANIFEST).write_text(f"{name}\n")
+            ended = self.install("--uninstall", prefix, self.plain)
+            refused = ended[:2] == (1, b"") and (self.copy.parent / "outside").is_file()
+            self.check(f"--uninstall of {name}", refused, ended)
+
+
 def test(launcher):
     wanted = [outcome(launcher.program, *run) for run in runs()]
     launcher.ends_without_program("no rt", launcher.plain, b"README.md")
@@ -200,6 +268,7 @@ def test(launcher):
     launcher.check_link()
     launcher.check_newer_source(wanted)
     launcher.check_build()
+    launcher.check_install()
 
 
 def main():
