@@ -40,7 +40,8 @@ Block = collections.namedtuple("Block", "kind text part")
 # A row of a table of clauses: the names of its calls, how its clause cell begins ("as", "needs" or ""), and the names there.
 Row = collections.namedtuple("Row", "calls kind names")
 
-FUNCTION = re.compile(r"(?:    )?(pub |pub\(crate\) |)fn (\w+)")
+EXPORTED = 'pub extern "C" '
+FUNCTION = re.compile(rf"(?:    )?({EXPORTED}|pub |pub\(crate\) |)fn (\w+)")
 CLAUSE = re.compile(r"\s+(requires|ensures) (\w+) \{")
 MEMBER = re.compile(r"\s+ghost (\w+)(?: =|:) \{")
 EXPORT = re.compile(r"^pub use [\w:]+::(\{[^}]*\}|\w+);", re.MULTILINE)
@@ -91,8 +92,11 @@ def exports_of(library):
 
 
 def is_public(exports, in_the_open, traits, function):
-    """Whether a caller reaches it: a free function, a method of an exported type, or one of a trait of the crate that has clauses."""
+    """Whether a caller reaches it: an export for C, a free function, a method of an exported type, or one of a trait of the crate that
+    has clauses."""
     trait, owner, visibility, name, clauses = function
+    if visibility == EXPORTED:
+        return True
     if owner is None:
         return visibility == "pub " and (name in exports or in_the_open)
     if trait is None:
@@ -333,7 +337,7 @@ def check_crate(name, crate, laws):
 
 def crate_names():
     lines = (ROOT / "crates.txt").read_text(encoding="utf-8").split("\n")
-    return [line.split(":")[0] for line in lines if line and not line.startswith("#")]
+    return [line.split(":")[0].split()[0] for line in lines if line and not line.startswith("#")]
 
 
 def main():

@@ -166,7 +166,7 @@ def add_sources(names, tree, pattern, comment, declared):
 
 
 def add_words(names, tree):
-    """The words of texts and command lines, as the definitions write them; tools, cases, edits, crates and files."""
+    """The words of texts and command lines, as the definitions write them; tools, what C calls, cases, edits, crates and files."""
     for path in tree.matching(MODEL):
         for text in CODES.findall(tree.text(path)):
             names.add(re.findall(r"[\w-]+", text.replace("\\n", " ")))
@@ -174,6 +174,8 @@ def add_words(names, tree):
         names.add(name for pair in PYTHON_NAMES.findall(tree.text(path)) for name in pair if name)
     for path in tree.matching(r"[^/]*|tools/.*|crates/\w+/must-fail/.*|crates/\w+/[^/]*"):
         names.add([Path(path).stem, Path(path).name])
+    for path in tree.matching(r"(?:include|bindings)/.*\.(?:h|hpp|c)"):
+        names.add(re.findall(r"\b(?:drillolive|DRILLOLIVE|far)_\w+", tree.text(path)))
     names.add(name for folder in tree.folders for name in folder.split("/"))
     names.add(re.findall(r"\w+", re.sub("#.*", "", tree.text("crates.txt"))))
 

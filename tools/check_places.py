@@ -42,9 +42,9 @@ ROW_OF_RUN = r'(?:    \(|        )(?:"<name>(?: [^"]*)?"|<constant>),'
 
 NUMBERS = "no one two three four five six seven eight nine ten".split()
 
-# The kinds of commands, and those of crates: definitions and laws have no calls, and a program none but `main`.
+# The kinds of commands, and those of crates: definitions and laws have no calls, a program none but `main`, and an interface its exports for C.
 READ, STORED, MAKE, STREAM = "read", "stored", "make", "stream"
-CODE, LAWS, TESTS, PROGRAM = "code", "laws", "tests", "program"
+CODE, LAWS, TESTS, PROGRAM, INTERFACE = "code", "laws", "tests", "program", "interface"
 
 # Of each kind of command the constructor of `Command` in the definitions, what documents say that such a command does, and the
 # record of a run.
@@ -250,15 +250,16 @@ COMMAND_PLACES = [
 
 CRATE_PLACES = [
     Place(CRATES, "its line, with the crates that it stands on", r"^<name>(?: staticlib)?:"),
-    Place("crates/*/src/lib.rt", "a comment that says what the crate is", r"\A//! ", (CODE, LAWS, TESTS)),
+    Place("crates/*/src/lib.rt", "a comment that says what the crate is", r"\A//! ", (CODE, LAWS, TESTS, INTERFACE)),
     Place("crates/*/src/main.rt", "a comment that says what the program does", r"\A//! ", (PROGRAM,)),
     Place("crates/*/README.md", "what it is, an example and its contracts, as tools/check_crates.py checks", None),
-    Place("crates/*/must-fail/*.edit", "wrong bodies that the prover must refuse", "", (CODE,)),
+    Place("crates/*/must-fail/*.edit", "wrong bodies that the prover must refuse", "", (CODE, INTERFACE)),
     Place("docs/architecture.md", "its place in a picture", r"\A(?:[^|\n].*\n|\n)*?.*\b<name>\b"),
     Place("docs/architecture.md", "a row of the table of crates", r"^\| `<name>` \|"),
     Place("docs/proofs.md", "a row of the table of crates", r"^\| \[`<name>`\]\(\.\./crates/<name>/README\.md\) \|"),
-    Place("docs/proofs.md", "rows of its edits in the table of wrong bodies", r"^\| `<name>` \| `", (CODE,)),
+    Place("docs/proofs.md", "rows of its edits in the table of wrong bodies", r"^\| `<name>` \| `", (CODE, INTERFACE)),
     Place("crates/*_tests/src/*.rt", "a test that calls it, or a crate above it", r"^use (?:<users>)::", (CODE,)),
+    Place("bindings/c/*.h", "its exports, as C declares them", r"\b<name>\b", (INTERFACE,)),
 ]
 
 LISTS = {"command": COMMAND_PLACES, "crate": CRATE_PLACES}
@@ -357,6 +358,8 @@ def command(top: Path, name: str, otherwise: str) -> Subject:
 def kind_of_crate(top: Path, name: str) -> str:
     if (top / "crates" / name / "src" / "main.rt").is_file():
         return PROGRAM
+    if re.search(rf"^{name} staticlib:", text_of(top, CRATES), re.M):
+        return INTERFACE
     if name.endswith("_laws") or name.endswith("_model") or name in ("sparse_values", "theorems"):
         return LAWS
     return TESTS if name.endswith("_tests") else CODE
