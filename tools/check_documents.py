@@ -44,6 +44,8 @@ LOOKS_LIKE_A_COMMAND = re.compile(r"\$ |\./far\b|tools/|rt ")
 # Patterns of the commands that are not run, each with the reason.
 NOT_RUN = {
     ".ci/run": "it runs this check, and takes an hour from nothing",
+    "./far --install *": "it proves all, and tools/test_launcher.py runs it over a stand-in of rt",
+    "cc *": "tools/build_library.py compiles the examples and the tests",
     "./far --build": "it proves the program, which takes an hour from nothing",
     "git *": "it is for a machine without the repository, or changes it",
     "cd *": "it only leads to the command after it",
