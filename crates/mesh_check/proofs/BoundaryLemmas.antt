@@ -1,5 +1,5 @@
 -- The edges that numbers name, and the sides whose edge no other side is.
-use Rattle.std.proofs.Common.{◌≡◌, ℕ, Bool, true, ◌&&◌, nat_eq, nat_lt, List, [], ◌∷◌, map, refl, ap, sym, ◌∙◌, None}
+use Rattle.std.proofs.Common.{◌≡◌, ℕ, true, ◌&&◌, nat_eq, nat_lt, List, map, ap, sym, ◌∙◌, None}
 use Rattle.std.specs.List.{filter, list_any, list_all, count_by, range_with_len}
 use Rattle.std.specs.List.Sorted.{IsPermutation, IsSorted}
 use Rattle.std.specs.Ordering.{nat_cmp}
@@ -13,7 +13,7 @@ use Rattle.number_laws.proofs.CountLemmas.{any-count}
 use Rattle.mesh_laws.proofs.EdgeLemmas.{faces-count}
 use Rattle.mesh_laws.proofs.FaultLemmas.{fault-decides}
 use Rattle.mesh_check.specs.Keys.{IsWord, AreWords, AreEdgeKeys, edge_key}
-use Rattle.mesh_check.proofs.KeyLemmas.{edge-key-same, count-keys, count-moved}
+use Rattle.mesh_check.proofs.KeyLemmas.{edge-key-same, count-keys, filter-agree, count-moved}
 use Rattle.mesh_check.proofs.SearchLemmas.{sorted-rises}
 
 -- after a sort the numbers of edges ascend, and each stands there as often as before
@@ -33,15 +33,10 @@ pub edges-known : (sides : List (ℕ × ℕ)) (keys : List ℕ) → AreEdgeKeys 
 edges-known sides keys are s word =
     any-count (nat_eq (edge_key s)) keys ∙ ap (nat_lt 0) (edge-often sides keys are s word) ∙ sym (any-count (same_edge s) sides)
 
--- tests that agree at each side keep the same sides
-filter-sides : (p q : ℕ × ℕ → Bool) → ((s : ℕ × ℕ) → IsWord s → p s ≡ q s) → (sides : List (ℕ × ℕ)) → AreWords sides → filter p sides ≡ filter q sides
-filter-sides p q agree [] words = refl
-filter-sides p q agree (s ∷ sides) words = rw (agree s words.0, filter-sides p q agree sides words.1) refl
-
 -- the sides whose number stands once are those whose edge one side is
 pub boundary-found : (sides : List (ℕ × ℕ)) (keys found : List ℕ) → AreEdgeKeys sides keys → ((n : ℕ) → is_among found n ≡ nat_eq (count_by (nat_eq n) keys) 1) → filter (λ s. is_among found (edge_key s)) sides ≡ filter (λ s. nat_eq (count_by (same_edge s) sides) 1) sides
 boundary-found sides keys found are once =
-    filter-sides (λ s. is_among found (edge_key s)) (λ s. nat_eq (count_by (same_edge s) sides) 1)
+    filter-agree (λ s. is_among found (edge_key s)) (λ s. nat_eq (count_by (same_edge s) sides) 1)
     (λ s word. once (edge_key s) ∙ ap (λ n. nat_eq n 1) (edge-often sides keys are s word)) sides are.words
 
 -- faces without fault are simple

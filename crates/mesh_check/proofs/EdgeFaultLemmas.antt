@@ -1,18 +1,19 @@
 -- The first edge that passes a test, in order of first appearance, is the first side that passes it.
-use Rattle.std.proofs.Common.{◌≡◌, ℕ, ◌+◌, ◌≤◌, Bool, true, false, not, ◌&&◌, ◌||◌, nat_eq, nat_le, List, [], ◌∷◌, ◌++◌, map, arith, refl, ap, sym, ◌∙◌, Option, Some, None, ◌⊎◌, inl, inr}
+use Rattle.std.proofs.Common.{◌≡◌, ℕ, ◌+◌, ◌≤◌, Bool, true, false, not, ◌&&◌, ◌||◌, nat_eq, nat_le, List, [], ◌∷◌, ◌++◌, map, append_assoc, arith, refl, ap, sym, ◌∙◌, Option, Some, None, ◌⊎◌, inl, inr}
 use Rattle.std.specs.List.{filter, find, count_by}
 use Rattle.std.proofs.lemmas.Bool.Decides.{nat_tests}
 use Rattle.std.proofs.lemmas.Bool.{or_cases}
 use Rattle.subdiv_model.specs.Lists.{first_of}
 use Rattle.subdiv_model.specs.Polygons.{Polygon, same_edge, same_side}
 use Rattle.subdiv_model.specs.Edges.{all_sides, first_named, reversed, times_used}
-use Rattle.subdiv_model.specs.MeshFault.{NonManifoldEdge, WindingClash, is_crowded, is_clashing, crowded_edges, clashing_edges}
+use Rattle.subdiv_model.specs.MeshFault.{MeshFault, NonManifoldEdge, WindingClash, is_crowded, is_clashing, crowded_edges, clashing_edges}
 use Rattle.number_laws.proofs.CountLemmas.{count-agree}
 use Rattle.mesh_laws.proofs.SideLemmas.{edge-count-le, same_edge-alike, same_side-alike}
 use Rattle.mesh_check.specs.Faults.{edge_faults, edge_named}
+use Rattle.mesh_check.specs.Listed.{fault_of_edge}
 
 -- the sides of an edge that does not pass may be left out
-filter-without : (test : ℕ × ℕ → Bool) → ((s t : ℕ × ℕ) → same_edge s t ≡ true → test s ≡ test t) → (s : ℕ × ℕ) → test s ≡ false → (xs : List (ℕ × ℕ)) → filter test (filter (λ y. not (same_edge s y)) xs) ≡ filter test xs
+pub filter-without : (test : ℕ × ℕ → Bool) → ((s t : ℕ × ℕ) → same_edge s t ≡ true → test s ≡ test t) → (s : ℕ × ℕ) → test s ≡ false → (xs : List (ℕ × ℕ)) → filter test (filter (λ y. not (same_edge s y)) xs) ≡ filter test xs
 filter-without test alike s h [] = refl
 filter-without test alike s h (x ∷ xs) = go (same_edge s x) refl (filter-without test alike s h xs)
   where
@@ -33,10 +34,10 @@ first-edge test alike (s ∷ sides) = go (test s) refl (first-edge test alike si
     go true e behind = rw e refl
     go false e behind = rw e (ap first_of (filter-without test alike s e (first_named sides)) ∙ behind)
 
-crowded-alike : (polygons : List Polygon) (s t : ℕ × ℕ) → same_edge s t ≡ true → is_crowded polygons s ≡ is_crowded polygons t
+pub crowded-alike : (polygons : List Polygon) (s t : ℕ × ℕ) → same_edge s t ≡ true → is_crowded polygons s ≡ is_crowded polygons t
 crowded-alike polygons s t h = ap (nat_le 3) (count-agree (same_edge s) (same_edge t) (λ u. same_edge-alike s t u h) (all_sides polygons))
 
-clashing-alike : (polygons : List Polygon) (s t : ℕ × ℕ) → same_edge s t ≡ true → is_clashing polygons s ≡ is_clashing polygons t
+pub clashing-alike : (polygons : List Polygon) (s t : ℕ × ℕ) → same_edge s t ≡ true → is_clashing polygons s ≡ is_clashing polygons t
 clashing-alike polygons s t h = go (or_cases (same_side s t) (nat_eq s.0 t.1 && nat_eq s.1 t.0) h)
   where
     back : (u : ℕ × ℕ) → same_side s t ≡ true → same_side (reversed s) u ≡ same_side (reversed t) u
@@ -121,6 +122,10 @@ find-never : (test : ℕ × ℕ → Bool) → ((s : ℕ × ℕ) → test s ≡ f
 find-never test never [] = refl
 find-never test never (s ∷ sides) = rw (never s) (find-never test never sides)
 
+nothing-first : {X : Type 0} (xs : List X) → None ≡ first_of xs → xs ≡ []
+nothing-first [] h = refl
+nothing-first (x ∷ xs) h = absurd (cc)
+
 -- where each side occurs at most once, no edge has a fault
 pub edge-once : (polygons : List Polygon) (sides slice : List (ℕ × ℕ)) → slice ≡ sides → sides ≡ all_sides polygons → ((s : ℕ × ℕ) → count_by (same_side s) slice ≤ 1) → None ≡ first_of (edge_faults polygons)
 edge-once polygons sides slice at is once =
@@ -133,3 +138,17 @@ edge-once polygons sides slice at is once =
 
     single : (m n : ℕ) → m ≤ 1 → n ≤ 1 → (nat_le 2 m || nat_le 2 n) ≡ false
     single m n h k = grind (arith, nat_tests)
+
+-- and none is listed
+pub edges-once : (polygons : List Polygon) (sides slice : List (ℕ × ℕ)) → slice ≡ sides → sides ≡ all_sides polygons → ((s : ℕ × ℕ) → count_by (same_side s) slice ≤ 1) → edge_faults polygons ≡ []
+edges-once polygons sides slice at is once = nothing-first (edge_faults polygons) (edge-once polygons sides slice at is once)
+
+-- the crowded edges and then the clashing edges are put
+pub edges-put : (polygons : List Polygon) (old between new : List MeshFault) (crowded clashing : List (ℕ × ℕ)) → between ≡ old ++ map (fault_of_edge true) crowded → new ≡ between ++ map (fault_of_edge false) clashing
+    → crowded ≡ crowded_edges polygons → clashing ≡ clashing_edges polygons → new ≡ old ++ edge_faults polygons
+edges-put polygons old between new crowded clashing first second here behind =
+    second
+    ∙ ap (λ ys. ys ++ map (fault_of_edge false) clashing) first
+    ∙ append_assoc old (map (fault_of_edge true) crowded) (map (fault_of_edge false) clashing)
+    ∙ ap (λ es. old ++ (map (fault_of_edge true) es ++ map (fault_of_edge false) clashing)) here
+    ∙ ap (λ es. old ++ (map (fault_of_edge true) (crowded_edges polygons) ++ map (fault_of_edge false) es)) behind

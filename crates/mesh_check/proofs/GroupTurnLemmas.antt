@@ -16,10 +16,8 @@ use Rattle.mesh_laws.proofs.FanLemmas.{distinct-at}
 use Rattle.mesh_check.specs.declared.turns.Turn.{Turn}
 use Rattle.mesh_check.specs.Turns.{turns_from, turns_of, turns_after, turns_at}
 use Rattle.mesh_check.specs.Group.{IsGroup}
+use Rattle.mesh_check.specs.Groups.{no_turn}
 use Rattle.mesh_check.proofs.TurnLemmas.{is_turn, face-turns}
-
-abbrev pub no_turn : Turn
-no_turn = record { vertex = 0; before = 0; face = 0; after = 0 }
 
 -- the corner is at this vertex in this face
 abbrev is_at : ℕ → ℕ → Turn → Bool

@@ -1,6 +1,6 @@
 -- Numbers that ascend: those that stand a number of places later again stand more often than that.
 use Rattle.std.proofs.Common.{◌≡◌, ℕ, zero, suc, ◌+◌, ◌^◌, ◌<◌, Bool, true, false, ◌&&◌, nat_eq, nat_le, nat_lt, List, [], ◌∷◌, map, arith, refl, ap, sym, ◌∙◌, cond}
-use Rattle.std.specs.List.{list_all, count_by, find}
+use Rattle.std.specs.List.{list_all, count_by, filter, find}
 use Rattle.std.specs.List.Sorted.{IsPermutation}
 use Rattle.std.proofs.lemmas.Bool.Decides.{nat_tests}
 use Rattle.std.proofs.lemmas.Bool.{and_parts, and_from, eqb-true}
@@ -131,3 +131,8 @@ count-keys key same agree s h (t ∷ sides) words =
 pub find-agree : (p q : ℕ × ℕ → Bool) → ((s : ℕ × ℕ) → IsWord s → p s ≡ q s) → (sides : List (ℕ × ℕ)) → AreWords sides → find p sides ≡ find q sides
 find-agree p q agree [] words = refl
 find-agree p q agree (s ∷ sides) words = rw (agree s words.0, find-agree p q agree sides words.1) refl
+
+-- and keep the same ones
+pub filter-agree : (p q : ℕ × ℕ → Bool) → ((s : ℕ × ℕ) → IsWord s → p s ≡ q s) → (sides : List (ℕ × ℕ)) → AreWords sides → filter p sides ≡ filter q sides
+filter-agree p q agree [] words = refl
+filter-agree p q agree (s ∷ sides) words = rw (agree s words.0, filter-agree p q agree sides words.1) refl

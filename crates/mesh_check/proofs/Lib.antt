@@ -13,12 +13,15 @@ mod TurnLemmas
 mod CountLemmas
 mod GroupTurnLemmas
 mod FaultLemmas
+mod ListedLemmas
 mod SplitLemmas
 mod VertexLemmas
+mod SplitListLemmas
 mod TurnSideLemmas
 mod BoundaryLemmas
 mod HoleLemmas
 mod OnceLemmas
+mod NamedLemmas
 mod EndLemmas
 mod ValenceLemmas
 pub mod BaseFaceLemmas

@@ -95,7 +95,7 @@ low-with marks v mark low h w = go (nat_eq v w) refl
         let apart : w ≢ v = λ k. grind (arith, nat_tests) in
         omega (arith, get_or-set_other marks v w mark 0 apart, low w)
 
-abbrev no_marks : ℕ → List ℕ
+abbrev pub no_marks : ℕ → List ℕ
 no_marks n = replicate n 0
 
 -- where nothing is marked, each number has no mark

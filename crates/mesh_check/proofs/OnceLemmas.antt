@@ -1,8 +1,8 @@
 -- Numbers that ascend, each once.
 use Rattle.std.proofs.Common.{◌≡◌, ℕ, ◌+◌, ◌≤◌, Bool, true, false, not, ◌||◌, nat_eq, nat_le, nat_lt, List, [], ◌∷◌, map, arith, refl, ap, sym, ◌∙◌}
-use Rattle.std.specs.List.{filter, count_by}
+use Rattle.std.specs.List.{filter, list_all, count_by}
 use Rattle.std.proofs.lemmas.Bool.Decides.{nat_tests}
-use Rattle.std.proofs.lemmas.Bool.{and_from, eqb-true, eq-eqb}
+use Rattle.std.proofs.lemmas.Bool.{and_parts, and_from, eqb-true, eq-eqb}
 use Rattle.subdiv_model.specs.Polygons.{same_edge, is_among, is_distinct}
 use Rattle.subdiv_model.specs.Edges.{first_named}
 use Rattle.number_laws.proofs.CountLemmas.{any-count, count-cons, one_if, one-yes}
@@ -48,6 +48,26 @@ once-distinct (n ∷ xs) rises = go (is_again 1 (n ∷ xs) n) refl (once-distinc
     go : (b : Bool) → is_again 1 (n ∷ xs) n ≡ b → is_distinct (each_once xs) ≡ true → is_distinct (each_once (n ∷ xs)) ≡ true
     go true e behind = rw e behind
     go false e behind = rw e (and_from _ _ (ap not (once-among xs n ∙ not-behind n xs rises e)) behind)
+
+-- what is below all numbers is below those that are kept
+below-once : (n : ℕ) (xs : List ℕ) → list_all (nat_le n) xs ≡ true → list_all (nat_le n) (each_once xs) ≡ true
+below-once n [] h = refl
+below-once n (x ∷ xs) h =
+    let parts = and_parts (nat_le n x) (list_all (nat_le n) xs) h in
+    go (is_again 1 (x ∷ xs) x) refl parts.0 (below-once n xs parts.1)
+  where
+    go : (b : Bool) → is_again 1 (x ∷ xs) x ≡ b → nat_le n x ≡ true → list_all (nat_le n) (each_once xs) ≡ true → list_all (nat_le n) (each_once (x ∷ xs)) ≡ true
+    go true e first behind = rw e behind
+    go false e first behind = rw e (and_from _ _ first behind)
+
+-- what is kept ascends
+pub once-rise : (xs : List ℕ) → Rises xs → Rises (each_once xs)
+once-rise [] rises = rises
+once-rise (x ∷ xs) rises = go (is_again 1 (x ∷ xs) x) refl (below-once x xs rises.0) (once-rise xs rises.1)
+  where
+    go : (b : Bool) → is_again 1 (x ∷ xs) x ≡ b → list_all (nat_le x) (each_once xs) ≡ true → Rises (each_once xs) → Rises (each_once (x ∷ xs))
+    go true e below behind = rw e behind
+    go false e below behind = rw e (below, behind)
 
 -- the numbers of edges that are all different
 keys-distinct : (edges : List (ℕ × ℕ)) → AreWords edges → ((s : ℕ × ℕ) → count_by (same_edge s) edges ≤ 1) → is_distinct (map edge_key edges) ≡ true

@@ -1,5 +1,5 @@
 -- The first place of what passes a test, found from a place on.
-use Rattle.std.proofs.Common.{◌≡◌, ℕ, zero, suc, ◌+◌, ◌≤◌, Bool, true, false, List, [], ◌∷◌, ◌++◌, length, drop, take, append-nil, arith, refl, ap, sym, ◌∙◌, Some, None, add-one}
+use Rattle.std.proofs.Common.{◌≡◌, ℕ, zero, suc, ◌+◌, ◌≤◌, Bool, true, false, List, [], ◌∷◌, ◌++◌, length, map, drop, take, append-nil, append_assoc, if◌then◌else◌, arith, refl, ap, sym, ◌∙◌, Some, None, add-one}
 use Rattle.std.specs.List.{slice_get}
 use Rattle.std.proofs.lemmas.List.{take_more}
 use Rattle.std.proofs.lemmas.Grind.{flat_map-append}
@@ -35,6 +35,26 @@ drop-all (y ∷ ys) (suc i) h = drop-all ys i (omega arith)
 -- no place is found at the end
 pub place-none : {X : Type 0} (test : X → Bool) (xs : List X) (i : ℕ) → length xs ≤ i → None ≡ first_of (places_from i test (drop i xs))
 place-none test xs i h = rw (drop-all xs i h) refl
+
+-- what stands at a place is put where it passes, and what passes behind it follows
+pub place-put : {X Y : Type 0} (kind : ℕ → Y) (test : X → Bool) (xs : List X) (i : ℕ) (x : X) (put : Bool) (now new all : List Y) → slice_get xs i ≡ Some x → put ≡ test x → new ≡ now ++ (if put then kind i ∷ [] else [])
+    → now ++ map kind (places_from i test (drop i xs)) ≡ all → new ++ map kind (places_from (i + 1) test (drop (i + 1) xs)) ≡ all
+place-put {Y = Y} kind test xs i x put now new all at passes is whole = go put passes is ∙ sym (ap (λ ys. now ++ map kind (places_from i test ys)) (drop-here xs i x at)) ∙ whole
+  where
+    behind : List Y
+    behind = map kind (places_from (i + 1) test (drop (i + 1) xs))
+
+    go : (b : Bool) → b ≡ test x → new ≡ now ++ (if b then kind i ∷ [] else []) → new ++ behind ≡ now ++ map kind (places_from i test (x ∷ drop (i + 1) xs))
+    go true e made =
+        ap (λ ys. ys ++ behind) made ∙ append_assoc now (kind i ∷ []) behind
+        ∙ ap (λ b. now ++ map kind (if b then i ∷ places_from (i + 1) test (drop (i + 1) xs) else places_from (i + 1) test (drop (i + 1) xs))) e
+    go false e made =
+        ap (λ ys. ys ++ behind) (made ∙ append-nil now)
+        ∙ ap (λ b. now ++ map kind (if b then i ∷ places_from (i + 1) test (drop (i + 1) xs) else places_from (i + 1) test (drop (i + 1) xs))) e
+
+-- at the end all are put
+pub places-end : {X Y : Type 0} (kind : ℕ → Y) (test : X → Bool) (xs : List X) (i : ℕ) (now all : List Y) → length xs ≤ i → now ++ map kind (places_from i test (drop i xs)) ≡ all → now ≡ all
+places-end kind test xs i now all h whole = sym (ap (λ ys. now ++ map kind (places_from i test ys)) (drop-all xs i h) ∙ append-nil now) ∙ whole
 
 -- the sides of one face more
 pub sides-next : (polygons : List Polygon) (i : ℕ) (face : Polygon) (before after : List (ℕ × ℕ)) → slice_get polygons i ≡ Some face → before ≡ all_sides (take i polygons) → after ≡ before ++ sides_of face → after ≡ all_sides (take (i + 1) polygons)

@@ -1,6 +1,6 @@
 -- Numbers that ascend, searched, and the first side that a search finds.
 use Rattle.std.proofs.Common.{◌≡◌, ℕ, zero, suc, ◌<◌, ◌≤◌, Bool, true, false, ◌||◌, nat_eq, nat_le, nat_lt, List, [], ◌∷◌, length, map, get_or, arith, refl, ap, sym, ◌∙◌, Result, Ok, Err}
-use Rattle.std.specs.List.{count_by, find}
+use Rattle.std.specs.List.{count_by, filter, find}
 use Rattle.std.specs.List.Sorted.{IsBinarySearchResult, IsPermutation, IsSorted}
 use Rattle.std.specs.Ordering.{nat_cmp}
 use Rattle.std.specs.Result.{MatchResult, is_ok}
@@ -12,8 +12,8 @@ use Rattle.std.proofs.lemmas.List.Sorted.{searched, IsNonDecreasingBy-from_sort}
 use Rattle.subdiv_model.specs.Polygons.{same_side, same_edge, is_among}
 use Rattle.subdiv_model.specs.Edges.{reversed}
 use Rattle.mesh_laws.proofs.SideLemmas.{among-place}
-use Rattle.mesh_check.specs.Keys.{IsWord, AreWords, side_key, edge_key, Rises, repeats}
-use Rattle.mesh_check.proofs.KeyLemmas.{side-key-same, edge-key-same, count-keys, find-agree, repeats-count, count-moved}
+use Rattle.mesh_check.specs.Keys.{IsWord, AreWords, side_key, edge_key, Rises, repeats, is_named}
+use Rattle.mesh_check.proofs.KeyLemmas.{side-key-same, edge-key-same, count-keys, find-agree, filter-agree, repeats-count, count-moved}
 
 -- numbers that ascend do so between any two places
 pub rise-at : (xs : List ℕ) → Rises xs → (i j : ℕ) → i ≤ j → j < length xs → get_or xs i 0 ≤ get_or xs j 0
@@ -66,27 +66,49 @@ often-moved limit xs ys moved rises n = repeats-count limit n ys rises ∙ ap (n
 above : (k n : ℕ) → nat_lt k n ≡ nat_le (suc k) n
 above k n = grind (arith, nat_tests)
 
--- the first side whose edge three sides are
-pub crowded-found : (sides : List (ℕ × ℕ)) (found keys : List ℕ) → AreWords sides → keys ≡ map edge_key sides → ((n : ℕ) → is_among found n ≡ nat_lt 2 (count_by (nat_eq n) keys)) → find (λ s. is_among found (edge_key s)) sides ≡ find (λ s. nat_le 3 (count_by (same_edge s) sides)) sides
-crowded-found sides found keys words is often =
-    find-agree (λ s. is_among found (edge_key s)) (λ s. nat_le 3 (count_by (same_edge s) sides)) (λ s word.
-    often (edge_key s)
-    ∙ ap (λ ks. nat_lt 2 (count_by (nat_eq (edge_key s)) ks)) is
-    ∙ ap (nat_lt 2) (count-keys edge_key same_edge edge-key-same s word sides words)
-    ∙ above 2 (count_by (same_edge s) sides)) sides words
+-- three sides are an edge
+abbrev is_crowded_in : List (ℕ × ℕ) → ℕ × ℕ → Bool
+is_crowded_in sides s = nat_le 3 (count_by (same_edge s) sides)
 
--- the number of a side stands there exactly where the side occurs twice
-twice-side : (sides : List (ℕ × ℕ)) (found keys : List ℕ) → AreWords sides → keys ≡ map side_key sides → ((n : ℕ) → is_among found n ≡ nat_lt 1 (count_by (nat_eq n) keys)) → (s : ℕ × ℕ) → IsWord s → is_among found (side_key s) ≡ nat_le 2 (count_by (same_side s) sides)
-twice-side sides found keys words is often s word =
-    often (side_key s)
-    ∙ ap (λ ks. nat_lt 1 (count_by (nat_eq (side_key s)) ks)) is
-    ∙ ap (nat_lt 1) (count-keys side_key same_side (λ a b x y. side-key-same a b x.1 y.1) s word sides words)
-    ∙ above 1 (count_by (same_side s) sides)
+-- two sides are an edge in one direction
+abbrev is_clashing_in : List (ℕ × ℕ) → ℕ × ℕ → Bool
+is_clashing_in sides s = nat_le 2 (count_by (same_side s) sides) || nat_le 2 (count_by (same_side (reversed s)) sides)
 
--- the first side whose edge two sides are in one direction
-pub clashing-found : (sides : List (ℕ × ℕ)) (found keys : List ℕ) → AreWords sides → keys ≡ map side_key sides → ((n : ℕ) → is_among found n ≡ nat_lt 1 (count_by (nat_eq n) keys)) → find (λ s. is_among found (side_key s) || is_among found (side_key (reversed s))) sides ≡ find (λ s. nat_le 2 (count_by (same_side s) sides) || nat_le 2 (count_by (same_side (reversed s)) sides)) sides
-clashing-found sides found keys words is often =
-    find-agree (λ s. is_among found (side_key s) || is_among found (side_key (reversed s))) (λ s. nat_le 2 (count_by (same_side s) sides) || nat_le 2 (count_by (same_side (reversed s)) sides)) (λ s word.
-    let one = twice-side sides found keys words is often s word in
-    let other = twice-side sides found keys words is often (reversed s) (word.1, word.0) in
-    rw (one, other) refl) sides words
+module _ (sides : List (ℕ × ℕ)) (found keys : List ℕ) (words : AreWords sides) where
+  -- the number of an edge stands there exactly where three sides are the edge
+  crowded-named : keys ≡ map edge_key sides → ((n : ℕ) → is_among found n ≡ nat_lt 2 (count_by (nat_eq n) keys)) → (s : ℕ × ℕ) → IsWord s → is_named false found s ≡ is_crowded_in sides s
+  crowded-named is often s word =
+      often (edge_key s)
+      ∙ ap (λ ks. nat_lt 2 (count_by (nat_eq (edge_key s)) ks)) is
+      ∙ ap (nat_lt 2) (count-keys edge_key same_edge edge-key-same s word sides words)
+      ∙ above 2 (count_by (same_edge s) sides)
+
+  -- the number of a side stands there exactly where the side occurs twice
+  twice-side : keys ≡ map side_key sides → ((n : ℕ) → is_among found n ≡ nat_lt 1 (count_by (nat_eq n) keys)) → (s : ℕ × ℕ) → IsWord s → is_among found (side_key s) ≡ nat_le 2 (count_by (same_side s) sides)
+  twice-side is often s word =
+      often (side_key s)
+      ∙ ap (λ ks. nat_lt 1 (count_by (nat_eq (side_key s)) ks)) is
+      ∙ ap (nat_lt 1) (count-keys side_key same_side (λ a b x y. side-key-same a b x.1 y.1) s word sides words)
+      ∙ above 1 (count_by (same_side s) sides)
+
+  clashing-named : keys ≡ map side_key sides → ((n : ℕ) → is_among found n ≡ nat_lt 1 (count_by (nat_eq n) keys)) → (s : ℕ × ℕ) → IsWord s → is_named true found s ≡ is_clashing_in sides s
+  clashing-named is often s word =
+      let one = twice-side is often s word in
+      let other = twice-side is often (reversed s) (word.1, word.0) in
+      rw (one, other) refl
+
+  -- the first side whose edge three sides are
+  pub crowded-found : keys ≡ map edge_key sides → ((n : ℕ) → is_among found n ≡ nat_lt 2 (count_by (nat_eq n) keys)) → find (is_named false found) sides ≡ find (is_crowded_in sides) sides
+  crowded-found is often = find-agree (is_named false found) (is_crowded_in sides) (crowded-named is often) sides words
+
+  -- the first side whose edge two sides are in one direction
+  pub clashing-found : keys ≡ map side_key sides → ((n : ℕ) → is_among found n ≡ nat_lt 1 (count_by (nat_eq n) keys)) → find (is_named true found) sides ≡ find (is_clashing_in sides) sides
+  clashing-found is often = find-agree (is_named true found) (is_clashing_in sides) (clashing-named is often) sides words
+
+  -- the sides whose edge three sides are
+  pub crowded-kept : keys ≡ map edge_key sides → ((n : ℕ) → is_among found n ≡ nat_lt 2 (count_by (nat_eq n) keys)) → filter (is_named false found) sides ≡ filter (is_crowded_in sides) sides
+  crowded-kept is often = filter-agree (is_named false found) (is_crowded_in sides) (crowded-named is often) sides words
+
+  -- the sides whose edge two sides are in one direction
+  pub clashing-kept : keys ≡ map side_key sides → ((n : ℕ) → is_among found n ≡ nat_lt 1 (count_by (nat_eq n) keys)) → filter (is_named true found) sides ≡ filter (is_clashing_in sides) sides
+  clashing-kept is often = filter-agree (is_named true found) (is_clashing_in sides) (clashing-named is often) sides words

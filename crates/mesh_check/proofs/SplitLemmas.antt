@@ -1,38 +1,22 @@
 -- Corners that are sorted by vertex: those at the first vertex stand in front, and what is behind them are all corners at the other
 -- vertices.
-use Rattle.std.proofs.Common.{◌≡◌, ℕ, zero, suc, ◌<◌, ◌≤◌, Bool, true, false, not, ◌||◌, nat_eq, nat_le, List, [], ◌∷◌, length, map, get_or, take, drop, cond, arith, refl, ap, sym, subst, ◌∙◌, ◌⊎◌, inl, inr, Some, one-add}
-use Rattle.std.specs.List.{filter, list_all, prefix_len, find}
+use Rattle.std.proofs.Common.{◌≡◌, ℕ, zero, suc, ◌<◌, ◌≤◌, Bool, true, false, ◌||◌, nat_eq, nat_le, List, [], ◌∷◌, length, map, get_or, take, drop, cond, arith, refl, ap, sym, subst, ◌∙◌, ◌⊎◌, inl, inr, Some, one-add}
+use Rattle.std.specs.List.{list_all, prefix_len, find}
 use Rattle.std.specs.List.Sorted.{IsNonDecreasingBy}
 use Rattle.std.proofs.lemmas.Bool.Decides.{nat_tests}
 use Rattle.std.proofs.lemmas.Bool.{and_parts, and_from, or_cases, eqb-true, eq-eqb}
-use Rattle.std.proofs.lemmas.List.{length-map, get_or-map}
+use Rattle.std.proofs.lemmas.List.{length-map, length-drop, get_or-map}
 use Rattle.std.proofs.lemmas.List.Sums.{prefix_len-le-length}
 use Rattle.subdiv_model.specs.Polygons.{Polygon, is_among}
+use Rattle.subdiv_model.specs.Manifold.{has_one_fan}
 use Rattle.mesh_check.specs.declared.turns.Turn.{Turn}
 use Rattle.mesh_check.specs.Keys.{Rises}
 use Rattle.mesh_check.specs.Turns.{turn_key, turns_at}
-use Rattle.mesh_check.specs.Group.{IsGroup}
+use Rattle.mesh_check.specs.Groups.{no_turn, vertices, first_vertex, turns_off, IsGroupOf, AreGroups, IsFirstGroup}
 use Rattle.mesh_check.proofs.SearchLemmas.{rises-from}
-use Rattle.mesh_check.proofs.GroupTurnLemmas.{no_turn}
-
--- the vertices of corners
-abbrev pub vertices : List Turn → List ℕ
-vertices turns = map (λ (t : Turn). t.vertex) turns
-
--- the corners at other vertices
-abbrev pub turns_off : ℕ → List Turn → List Turn
-turns_off v turns = filter (λ t. not (nat_eq v t.vertex)) turns
-
--- the vertex of the first corner
-abbrev pub first_vertex : List Turn → ℕ
-first_vertex turns = (get_or turns 0 no_turn).vertex
-
--- the corners are a group at the vertex
-abbrev pub IsGroupOf : List Polygon → ℕ → List Turn → Type 0
-IsGroupOf polygons v group = IsGroup polygons v (map (λ (t : Turn). t.before) group) (map (λ (t : Turn). t.face) group) (map (λ (t : Turn). t.after) group)
 
 -- a vertex before all others has no corner among theirs
-above-off : (v m : ℕ) (turns : List Turn) → v < m → list_all (nat_le m) (vertices turns) ≡ true → (turns_at v turns ≡ []) × (turns_off v turns ≡ turns)
+pub above-off : (v m : ℕ) (turns : List Turn) → v < m → list_all (nat_le m) (vertices turns) ≡ true → (turns_at v turns ≡ []) × (turns_off v turns ≡ turns)
 above-off v m [] less h = (refl, refl)
 above-off v m (t ∷ turns) less h =
     let parts = and_parts (nat_le m t.vertex) (list_all (nat_le m) (vertices turns)) h in
@@ -161,3 +145,38 @@ pub off-groups : (polygons : List Polygon) (v : ℕ) (rest others : List Turn) �
 off-groups polygons v rest others is groups w there =
     let found = off-vertex v w rest (sym (ap (λ ts. is_among (vertices ts) w) is) ∙ there) in
     subst (λ ts. IsGroupOf polygons w ts) (sym (ap (turns_at w) is ∙ at-off v w rest found.0)) (groups w found.1)
+
+-- the first corner is one of its group
+first-counted : (turns : List Turn) → 1 ≤ length turns → 0 < prefix_len (λ t. nat_eq (first_vertex turns) t.vertex) turns
+first-counted [] h = absurd (omega arith)
+first-counted (t ∷ turns) h = rw (eq-eqb t.vertex t.vertex refl) (omega arith)
+
+module _ (polygons : List Polygon) (rest : List Turn) (size : ℕ) (groups : AreGroups polygons rest) (some : 1 ≤ length rest) (counted : size ≡ prefix_len (λ t. nat_eq (first_vertex rest) t.vertex) rest) where
+  -- so many corners in front are those at the first vertex
+  pub front-group-is : take size rest ≡ turns_at (first_vertex rest) rest
+  front-group-is = front-is rest size counted groups.vertices_rise (take size rest) refl
+
+  -- they are a group
+  pub front-group-of : IsGroupOf polygons (first_vertex rest) (take size rest)
+  front-group-of = subst (λ ts. IsGroupOf polygons (first_vertex rest) ts) (sym front-group-is) (groups.groups (first_vertex rest) (first-among rest some))
+
+  -- which ascends by the corner before the vertex
+  pub front-group-rises : Rises (map (λ (t : Turn). t.before) (take size rest))
+  front-group-rises = subst (λ ts. Rises (map (λ (t : Turn). t.before) ts)) (sym front-group-is) (group-rises (first_vertex rest) rest groups.keys)
+
+  -- where it is known whether its faces are one fan, the first group is known, and the others are groups still
+  pub first-group-is : (is : Bool) → is ≡ has_one_fan polygons (first_vertex rest) → IsFirstGroup polygons rest is size
+  first-group-is is fan =
+      let behind = back-is rest size counted groups.vertices_rise (drop size rest) refl in
+      record {
+        fan = fan;
+        some = omega (arith, counted, first-counted rest some);
+        within = front-within rest size counted groups.vertices_rise;
+        behind = behind;
+        others = record {
+          keys = drop-rises turn_key size rest groups.keys;
+          vertices_rise = drop-rises (λ (t : Turn). t.vertex) size rest groups.vertices_rise;
+          short = omega (arith, length-drop size rest, groups.short);
+          groups = off-groups polygons (first_vertex rest) rest (drop size rest) behind groups.groups;
+        };
+      }

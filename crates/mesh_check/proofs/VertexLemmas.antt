@@ -1,6 +1,6 @@
 -- The first vertex whose faces are not one fan is the first such vertex of corners that are sorted by vertex.
-use Rattle.std.proofs.Common.{◌≡◌, ℕ, suc, ◌+◌, ◌<◌, ◌≤◌, Bool, true, false, not, ◌||◌, nat_eq, nat_le, List, [], ◌∷◌, length, get_or, arith, refl, ap, sym, subst, ◌∙◌, ◌⊎◌, inl, inr, Option, Some, None, zero-add}
-use Rattle.std.specs.List.{All, filter, list_any, find, sum_by, range_with_len}
+use Rattle.std.proofs.Common.{◌≡◌, ℕ, suc, ◌+◌, ◌<◌, ◌≤◌, ◌^◌, Bool, true, false, not, ◌||◌, nat_eq, nat_le, List, [], ◌∷◌, length, get_or, arith, refl, ap, sym, subst, ◌∙◌, ◌⊎◌, inl, inr, Option, Some, None, zero-add}
+use Rattle.std.specs.List.{All, filter, list_all, list_any, find, sum_by, range_with_len}
 use Rattle.std.specs.List.Sorted.{IsPermutation}
 use Rattle.std.proofs.lemmas.Bool.Decides.{nat_tests}
 use Rattle.std.proofs.lemmas.Bool.{or_cases, eqb-true}
@@ -11,16 +11,17 @@ use Rattle.std.proofs.lemmas.List.Sorted.{length_permutation, list_any-IsPermuta
 use Rattle.std.proofs.lemmas.List.Sums.{AllPass-from_list_all, sum_by-cons}
 use Rattle.subdiv_model.specs.Polygons.{Polygon, has_corner, is_among}
 use Rattle.subdiv_model.specs.Lists.{first_of, places_from}
-use Rattle.subdiv_model.specs.Manifold.{none_left, walk_meets_all, has_one_fan}
+use Rattle.subdiv_model.specs.Manifold.{is_simple, none_left, walk_meets_all, has_one_fan}
 use Rattle.subdiv_model.specs.MeshFault.{split_vertices}
 use Rattle.mesh_laws.proofs.SideLemmas.{among-place}
 use Rattle.level_topology.proofs.FanOrderLemmas.{among-at}
 use Rattle.mesh_check.specs.declared.turns.Turn.{Turn}
 use Rattle.mesh_check.specs.Keys.{Rises}
-use Rattle.mesh_check.specs.Turns.{turns_of, turns_after}
+use Rattle.mesh_check.specs.Turns.{turns_of, turns_after, AreSortedTurns}
 use Rattle.mesh_check.proofs.SearchLemmas.{rises-from}
+use Rattle.mesh_check.proofs.GroupTurnLemmas.{group-of}
 use Rattle.mesh_check.proofs.TurnLemmas.{face-vertices}
-use Rattle.mesh_check.proofs.SplitLemmas.{vertices}
+use Rattle.mesh_check.specs.Groups.{vertices, AreGroups}
 
 -- what a search finds passes
 find-passes : (test : ℕ → Bool) (xs : List ℕ) (n : ℕ) → find test xs ≡ Some n → test n ≡ true
@@ -87,7 +88,7 @@ first-find test (x ∷ xs) = go (test x) refl (first-find test xs)
     go false e behind = rw e behind
 
 -- numbers one after another ascend
-range-rises : (n : ℕ) → Rises (range_with_len 0 n)
+pub range-rises : (n : ℕ) → Rises (range_with_len 0 n)
 range-rises n = rises-from (range_with_len 0 n) (λ i j h k.
     let inside : j < n = omega (arith, k, length-range_with_len 0 n) in
     let low : get_or (range_with_len 0 n) i 0 ≡ 0 + i = get_or-range_with_len 0 n i 0 (omega arith) in
@@ -95,7 +96,7 @@ range-rises n = rises-from (range_with_len 0 n) (λ i j h k.
     omega (arith, low, high))
 
 -- each number below the end is in the range
-range-among : (n v : ℕ) → v < n → is_among (range_with_len 0 n) v ≡ true
+pub range-among : (n v : ℕ) → v < n → is_among (range_with_len 0 n) v ≡ true
 range-among n v h = among-place v (range_with_len 0 n) v (omega (arith, length-range_with_len 0 n)) (get_or-range_with_len 0 n v 0 h ∙ zero-add v)
 
 -- what passes nowhere has no place
@@ -108,7 +109,7 @@ no-places test place (x ∷ xs) h = go (test x) refl (λ k. no-places test (plac
     go false e behind = rw e (behind (rw e at h))
 
 -- a vertex that is not one fan has a face
-split-corner : (polygons : List Polygon) (v : ℕ) → not (has_one_fan polygons v) ≡ true → list_any (has_corner v) polygons ≡ true
+pub split-corner : (polygons : List Polygon) (v : ℕ) → not (has_one_fan polygons v) ≡ true → list_any (has_corner v) polygons ≡ true
 split-corner polygons v split = go (list_any (has_corner v) polygons) refl
   where
     go : (b : Bool) → list_any (has_corner v) polygons ≡ b → list_any (has_corner v) polygons ≡ true
@@ -119,7 +120,7 @@ split-corner polygons v split = go (list_any (has_corner v) polygons) refl
         absurd (cc)
 
 -- each corner of a face is a vertex of the corners of all faces
-corner-vertex : (v k : ℕ) (polygons : List Polygon) → is_among (vertices (turns_after k polygons)) v ≡ list_any (has_corner v) polygons
+pub corner-vertex : (v k : ℕ) (polygons : List Polygon) → is_among (vertices (turns_after k polygons)) v ≡ list_any (has_corner v) polygons
 corner-vertex v k [] = refl
 corner-vertex v k (polygon ∷ polygons) =
     ap (λ xs. is_among xs v) (map-append (λ (t : Turn). t.vertex) (turns_of k polygon) (turns_after (k + 1) polygons))
@@ -133,14 +134,14 @@ any-vertex v [] = refl
 any-vertex v (t ∷ turns) = ap (λ b. nat_eq v t.vertex || b) (any-vertex v turns)
 
 -- in any order
-moved-vertex : (v : ℕ) (xs ys : List Turn) → IsPermutation xs ys → is_among (vertices xs) v ≡ is_among (vertices ys) v
+pub moved-vertex : (v : ℕ) (xs ys : List Turn) → IsPermutation xs ys → is_among (vertices xs) v ≡ is_among (vertices ys) v
 moved-vertex v xs ys moved =
     any-vertex v xs
     ∙ list_any-IsPermutation (λ (t : Turn). nat_eq v t.vertex) xs ys moved
     ∙ sym (any-vertex v ys)
 
 -- a corner is one of the points
-corner-inside : (points v : ℕ) (polygons : List Polygon) → All (λ face. All (λ w. w < points) face) polygons → list_any (has_corner v) polygons ≡ true → v < points
+pub corner-inside : (points v : ℕ) (polygons : List Polygon) → All (λ face. All (λ w. w < points) face) polygons → list_any (has_corner v) polygons ≡ true → v < points
 corner-inside points v [] within h = absurd (cc)
 corner-inside points v (polygon ∷ polygons) within h = go (or_cases (has_corner v polygon) (list_any (has_corner v) polygons) h) (λ k. corner-inside points v polygons (λ i d inside. within (suc i) d (omega arith)) k)
   where
@@ -168,3 +169,12 @@ after-length k (polygon ∷ polygons) =
 -- there are as many as the faces have corners
 pub moved-length : (polygons : List Polygon) (turns : List Turn) → IsPermutation (turns_after 0 polygons) turns → length turns ≡ sum_by length polygons
 moved-length polygons turns moved = length_permutation (turns_after 0 polygons) turns moved ∙ after-length 0 polygons
+
+-- sorted corners of simple faces are groups
+pub groups-start : (polygons : List Polygon) (turns : List Turn) → list_all is_simple polygons ≡ true → sum_by length polygons < 2 ^ 27 → AreSortedTurns polygons turns → AreGroups polygons turns
+groups-start polygons turns simple few sorted = record {
+  keys = sorted.keys;
+  vertices_rise = sorted.vertices;
+  short = omega (arith, moved-length polygons turns sorted.moved, few);
+  groups = λ v there. group-of polygons simple v turns sorted.moved;
+}

@@ -1,6 +1,8 @@
 -- Sides and edges as numbers, and the numbers that stand often among numbers that ascend.
-use Rattle.std.specs.Prelude.{◌≡◌, ℕ, ◌+◌, ◌*◌, ◌/◌, ◌%◌, ◌^◌, ◌<◌, Bool, false, not, ◌&&◌, ◌||◌, nat_eq, nat_le, nat_lt, List, [], ◌∷◌, length, map, get_or, IsTrue, if◌then◌else◌}
-use Rattle.std.specs.List.{list_all, count_by}
+use Rattle.std.specs.Prelude.{◌≡◌, ℕ, ◌+◌, ◌*◌, ◌/◌, ◌%◌, ◌^◌, ◌<◌, Bool, true, false, not, ◌&&◌, ◌||◌, nat_eq, nat_le, nat_lt, List, [], ◌∷◌, length, map, get_or, IsTrue, if◌then◌else◌}
+use Rattle.std.specs.List.{list_all, count_by, position_or_len}
+use Rattle.subdiv_model.specs.Polygons.{is_among}
+use Rattle.subdiv_model.specs.Edges.{reversed}
 use Rattle.level_builder.specs.NumberedEdges.{low_first}
 
 -- both ends fit 32 bits
@@ -68,3 +70,12 @@ pub record AreEdgeKeys (sides : List (ℕ × ℕ)) (keys : List ℕ) : Type 0 wh
   pub words : AreWords sides
   pub rises : Rises keys
   pub often : (n : ℕ) → count_by (nat_eq n) keys ≡ count_by (nat_eq n) (map edge_key sides)
+
+-- the side is among these; where directions do not count, its edge is
+abbrev pub is_named : Bool → List ℕ → ℕ × ℕ → Bool
+is_named true known s = is_among known (side_key s) || is_among known (side_key (reversed s))
+is_named false known s = is_among known (edge_key s)
+
+-- the number is one of these, and has no mark 1 at its place
+abbrev pub is_unmarked : List ℕ → List ℕ → ℕ → Bool
+is_unmarked keys marks n = is_among keys n && not (nat_eq (get_or marks (position_or_len (nat_eq n) keys) 0) 1)

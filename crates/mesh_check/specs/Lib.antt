@@ -1,10 +1,12 @@
 pub mod View
 pub mod Faults
+pub mod Listed
 pub mod Keys
 pub mod Marks
 pub mod Chain
 pub mod Group
 pub mod Turns
+pub mod Groups
 pub mod Counts
 pub mod Base
 pub mod Checked

@@ -1,13 +1,14 @@
 //! The edges of the faces, and the sides whose edge no other side is.
 
-ghost use Rattle.std.specs.Prelude.{◌≡◌, ℕ, nat_eq, [], ◌∷◌, ◌++◌, length, IfOk, OnOk, None, if◌then◌else◌};
+ghost use Rattle.std.specs.Prelude.{◌≡◌, ℕ, nat_eq, length, IfOk, None};
 ghost use Rattle.std.specs.List.{filter, list_any, count_by};
 ghost use Rattle.subdiv_model.specs.Polygons.{same_edge, is_among};
 ghost use Rattle.subdiv_model.specs.Edges.{all_sides, is_boundary};
 ghost use Rattle.subdiv_model.specs.MeshFault.{first_mesh_fault};
 ghost use Rattle.mesh_check.specs.Keys.{IsWord, edge_key, Rises, AreEdgeKeys};
 
-use crate::keys::{alone, edge_key, edge_keys, is_known};
+use crate::edges::sides_among;
+use crate::keys::{alone, edge_keys};
 use ratio128::Memory;
 use raw_mesh::RawMesh;
 use std::alloc::Global;
@@ -23,35 +24,6 @@ pub(crate) fn known_edges(alloc: Global, sides: &[(u32, u32)]) -> Result<Vec<u64
     Ok(edges)
 }
 
-// Puts a side behind the others, where it is said to.
-fn put_if(put: bool, found: &mut Vec<(u32, u32)>, side: (u32, u32)) -> Result<(), Memory>
-    ensures { OnOk result (found.new.items ≡ (if put then found.old.items ++ side ∷ [] else found.old.items)) }
-{
-    if put {
-        found.push(side)?;
-    }
-    Ok(())
-}
-
-// The sides whose edge is one of these.
-fn sides_among(
-    alloc: Global,
-    sides: &[(u32, u32)],
-    edges: &[u64],
-) -> Result<Vec<(u32, u32)>, Memory>
-    requires { Rises edges.now }
-    ensures { IfOk result (λ found. found.items ≡ filter (λ s. is_among edges.now (edge_key s)) sides.now) }
-{
-    let mut found = Vec::new(alloc);
-    let mut rest = sides;
-    while let [side, others @ ..] = rest {
-        let known = is_known(edges, edge_key(*side));
-        put_if(known, &mut found, *side)?;
-        rest = others;
-    }
-    Ok(found)
-}
-
 // The sides whose edge no other side is.
 fn boundary_sides(
     alloc: Global,
@@ -62,7 +34,7 @@ fn boundary_sides(
     ensures { IfOk result (λ found. found.items ≡ filter (λ s. nat_eq (count_by (same_edge s) sides.now) 1) sides.now) }
 {
     let once = alone(alloc, edges)?;
-    let found = sides_among(alloc, sides, &once)?;
+    let found = sides_among(alloc, sides, &once, false)?;
     Ok(found)
 }
 

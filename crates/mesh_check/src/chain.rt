@@ -38,7 +38,7 @@ fn is_long_walk(alloc: Global, next: &[u32], start: u32) -> Result<bool, Memory>
         if (i as usize) >= next.len() {
             return Ok(false);
         }
-        if mark_at(&mut marks, i, 1) {
+        if mark_at(&mut marks, i as usize, 1) {
             return Ok(false);
         }
         i = next[i as usize];

@@ -1,12 +1,15 @@
 //! The corners of each face: three or more, and no vertex twice.
 
-ghost use Rattle.std.specs.Prelude.{◌≡◌, ℕ, ◌+◌, ◌<◌, ◌≤◌, length, get_or, IfOk, not};
+ghost use Rattle.std.specs.Prelude.{◌≡◌, ℕ, ◌+◌, ◌<◌, ◌≤◌, ◌++◌, length, map, get_or, IfOk, OnOk, not};
 ghost use Rattle.std.specs.List.{All};
 ghost use Rattle.subdiv_model.specs.Lists.{first_of};
 ghost use Rattle.subdiv_model.specs.Polygons.{is_distinct};
-ghost use Rattle.subdiv_model.specs.MeshFault.{small_faces, repeating_faces};
+ghost use Rattle.subdiv_model.specs.MeshFault.{FaceTooSmall, RepeatedVertex, small_faces, repeating_faces};
+ghost use Rattle.mesh_check.specs.View.{mesh_fault_of};
 
+use crate::fault::MeshFault;
 use crate::marks::{mark_at, no_marks};
+use crate::put::put_if;
 use ratio128::Memory;
 use raw_mesh::RawMesh;
 use std::alloc::Global;
@@ -32,7 +35,7 @@ fn has_twice(face: &[u32], marks: &mut Vec<u32>, mark: u32) -> bool
     ensures size { length marks.new.items ≡ length marks.old.items }
 {
     for i in 0..face.len() {
-        if mark_at(marks, face[i], mark) {
+        if mark_at(marks, face[i] as usize, mark) {
             return true;
         }
     }
@@ -51,4 +54,32 @@ pub(crate) fn repeating_face(alloc: Global, raw: &RawMesh) -> Result<Option<u32>
         }
     }
     Ok(None)
+}
+
+// Puts the faces of fewer than three corners behind other faults, ascending.
+pub(crate) fn put_small_faces(faults: &mut Vec<MeshFault>, raw: &RawMesh) -> Result<(), Memory>
+    ensures { OnOk result (map mesh_fault_of faults.new.items ≡ map mesh_fault_of faults.old.items ++ map FaceTooSmall (small_faces raw.now.faces)) }
+{
+    for f in 0..raw.faces() {
+        let small = raw.face(f).len() < 3;
+        put_if(small, faults, MeshFault::FaceTooSmall(f))?;
+    }
+    Ok(())
+}
+
+// Puts the faces that have a vertex twice behind other faults, ascending.
+pub(crate) fn put_repeating_faces(
+    alloc: Global,
+    faults: &mut Vec<MeshFault>,
+    raw: &RawMesh,
+) -> Result<(), Memory>
+    ensures { OnOk result (map mesh_fault_of faults.new.items ≡ map mesh_fault_of faults.old.items ++ map RepeatedVertex (repeating_faces raw.now.faces)) }
+{
+    raw.facts();
+    let mut marks = no_marks(alloc, raw.points().len())?;
+    for f in 0..raw.faces() {
+        let twice = has_twice(raw.face(f), &mut marks, f + 1);
+        put_if(twice, faults, MeshFault::RepeatedVertex(f))?;
+    }
+    Ok(())
 }

@@ -1,23 +1,35 @@
-//! Edges that too many sides are, and edges that two sides are in one direction.
+//! Sides that are looked for by numbers: those of edges that too many sides are, and of edges that two sides are in one direction.
 
-ghost use Rattle.std.specs.Prelude.{◌≡◌, ◌||◌, IfOk, nat_le};
-ghost use Rattle.std.specs.List.{count_by, find};
-ghost use Rattle.subdiv_model.specs.Polygons.{same_edge, same_side, is_among};
+ghost use Rattle.std.specs.Prelude.{◌≡◌, [], ◌∷◌, ◌++◌, ◌||◌, IfOk, OnOk, nat_le, true, false, if◌then◌else◌};
+ghost use Rattle.std.specs.List.{count_by, filter, find};
+ghost use Rattle.subdiv_model.specs.Polygons.{same_edge, same_side};
 ghost use Rattle.subdiv_model.specs.Edges.{reversed};
-ghost use Rattle.mesh_check.specs.Keys.{side_key, edge_key, Rises};
+ghost use Rattle.mesh_check.specs.Keys.{Rises, is_named};
 
 use crate::keys::{edge_key, edge_keys, frequent, is_known, side_key, side_keys};
 use ratio128::Memory;
 use std::alloc::Global;
 
-// The first side whose edge is among these.
-fn find_edge(sides: &[(u32, u32)], edges: &[u64]) -> Option<(u32, u32)>
-    requires { Rises edges.now }
-    ensures { result ≡ find (λ s. is_among edges.now (edge_key s)) sides.now }
+// Whether a side is among these in one of its directions, or where directions do not count, whether its edge is.
+fn is_named(known: &[u64], directed: bool, side: (u32, u32)) -> bool
+    requires { Rises known.now }
+    ensures { result ≡ is_named directed known.now side }
+{
+    if directed {
+        is_known(known, side_key(side)) || is_known(known, side_key((side.1, side.0)))
+    } else {
+        is_known(known, edge_key(side))
+    }
+}
+
+// The first side that is among these.
+fn find_side(sides: &[(u32, u32)], known: &[u64], directed: bool) -> Option<(u32, u32)>
+    requires { Rises known.now }
+    ensures { result ≡ find (is_named directed known.now) sides.now }
 {
     let mut rest = sides;
     while let [side, others @ ..] = rest {
-        if is_known(edges, edge_key(*side)) {
+        if is_named(known, directed, *side) {
             return Some(*side);
         }
         rest = others;
@@ -25,27 +37,34 @@ fn find_edge(sides: &[(u32, u32)], edges: &[u64]) -> Option<(u32, u32)>
     None
 }
 
-// Whether a side is among these, or the same side the other way.
-fn is_known_side(known: &[u64], side: (u32, u32)) -> bool
-    requires { Rises known.now }
-    ensures { result ≡ (is_among known.now (side_key side) || is_among known.now (side_key (reversed side))) }
+// Puts a side behind the others, where it is said to.
+pub(crate) fn put_if(put: bool, found: &mut Vec<(u32, u32)>, side: (u32, u32)) -> Result<(), Memory>
+    ensures { OnOk result (found.new.items ≡ (if put then found.old.items ++ side ∷ [] else found.old.items)) }
 {
-    is_known(known, side_key(side)) || is_known(known, side_key((side.1, side.0)))
+    if put {
+        found.push(side)?;
+    }
+    Ok(())
 }
 
-// The first side that is among these in one of its directions.
-fn find_side(sides: &[(u32, u32)], known: &[u64]) -> Option<(u32, u32)>
+// The sides that are among these.
+pub(crate) fn sides_among(
+    alloc: Global,
+    sides: &[(u32, u32)],
+    known: &[u64],
+    directed: bool,
+) -> Result<Vec<(u32, u32)>, Memory>
     requires { Rises known.now }
-    ensures { result ≡ find (λ s. is_among known.now (side_key s) || is_among known.now (side_key (reversed s))) sides.now }
+    ensures { IfOk result (λ found. found.items ≡ filter (is_named directed known.now) sides.now) }
 {
+    let mut found = Vec::new(alloc);
     let mut rest = sides;
     while let [side, others @ ..] = rest {
-        if is_known_side(known, *side) {
-            return Some(*side);
-        }
+        let put = is_named(known, directed, *side);
+        put_if(put, &mut found, *side)?;
         rest = others;
     }
-    None
+    Ok(found)
 }
 
 // The first side whose edge three or more sides are.
@@ -56,7 +75,7 @@ pub(crate) fn crowded_side(
     ensures { IfOk result (λ found. found ≡ find (λ s. nat_le 3 (count_by (same_edge s) sides.now)) sides.now) }
 {
     let crowded = frequent(alloc, edge_keys(alloc, sides)?, 2)?;
-    Ok(find_edge(sides, &crowded))
+    Ok(find_side(sides, &crowded, false))
 }
 
 // The first side whose edge two sides are in one direction.
@@ -67,5 +86,23 @@ pub(crate) fn clashing_side(
     ensures { IfOk result (λ found. found ≡ find (λ s. nat_le 2 (count_by (same_side s) sides.now) || nat_le 2 (count_by (same_side (reversed s)) sides.now)) sides.now) }
 {
     let twice = frequent(alloc, side_keys(alloc, sides)?, 1)?;
-    Ok(find_side(sides, &twice))
+    Ok(find_side(sides, &twice, true))
+}
+
+// The sides whose edge three or more sides are.
+pub(crate) fn crowded_sides(alloc: Global, sides: &[(u32, u32)]) -> Result<Vec<(u32, u32)>, Memory>
+    ensures { IfOk result (λ found. found.items ≡ filter (λ s. nat_le 3 (count_by (same_edge s) sides.now)) sides.now) }
+{
+    let crowded = frequent(alloc, edge_keys(alloc, sides)?, 2)?;
+    let found = sides_among(alloc, sides, &crowded, false)?;
+    Ok(found)
+}
+
+// The sides whose edge two sides are in one direction.
+pub(crate) fn clashing_sides(alloc: Global, sides: &[(u32, u32)]) -> Result<Vec<(u32, u32)>, Memory>
+    ensures { IfOk result (λ found. found.items ≡ filter (λ s. nat_le 2 (count_by (same_side s) sides.now) || nat_le 2 (count_by (same_side (reversed s)) sides.now)) sides.now) }
+{
+    let twice = frequent(alloc, side_keys(alloc, sides)?, 1)?;
+    let found = sides_among(alloc, sides, &twice, true)?;
+    Ok(found)
 }

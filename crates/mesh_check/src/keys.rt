@@ -3,7 +3,7 @@
 ghost use Rattle.std.specs.Prelude.{◌≡◌, ℕ, nat_eq, nat_lt, ◌&&◌, [], ◌∷◌, ◌++◌, map, IfOk, OnOk, if◌then◌else◌};
 ghost use Rattle.std.specs.List.{count_by};
 ghost use Rattle.subdiv_model.specs.Polygons.{is_among};
-ghost use Rattle.mesh_check.specs.Keys.{IsWord, AreWords, side_key, edge_key, key_by, Rises, is_again, repeats};
+ghost use Rattle.mesh_check.specs.Keys.{IsWord, AreWords, side_key, edge_key, key_by, Rises, is_again, repeats, each_once};
 
 use ratio128::Memory;
 use std::alloc::Global;
@@ -125,6 +125,20 @@ pub(crate) fn alone(alloc: Global, keys: &[u64]) -> Result<Vec<u64>, Memory>
         let next = is_again(rest, 1, *key);
         put_if(!again && !next, &mut found, *key)?;
         again = next;
+        rest = others;
+    }
+    Ok(found)
+}
+
+// Numbers that ascend, each once.
+pub(crate) fn each_once(alloc: Global, keys: &[u64]) -> Result<Vec<u64>, Memory>
+    ensures { IfOk result (λ found. found.items ≡ each_once keys.now) }
+{
+    let mut found = Vec::new(alloc);
+    let mut rest = keys;
+    while let [key, others @ ..] = rest {
+        let again = is_again(rest, 1, *key);
+        put_if(!again, &mut found, *key)?;
         rest = others;
     }
     Ok(found)

@@ -14,14 +14,14 @@ pub(crate) fn no_marks(alloc: Global, count: usize) -> Result<Vec<u32>, Memory>
     Ok(marks)
 }
 
-// Whether a mark stands at a vertex, and sets it there.
-pub(crate) fn mark_at(marks: &mut Vec<u32>, v: u32, mark: u32) -> bool
+// Whether a mark stands at a place, and sets it there.
+pub(crate) fn mark_at(marks: &mut Vec<u32>, v: usize, mark: u32) -> bool
     requires { v < length marks.old.items }
     ensures was { result ≡ nat_eq (get_or marks.old.items v 0) mark }
     ensures marks { marks.new.items ≡ slice_set marks.old.items v mark }
 {
-    let was = marks[v as usize] == mark;
-    marks[v as usize] = mark;
+    let was = marks[v] == mark;
+    marks[v] = mark;
     was
 }
 

@@ -1,17 +1,21 @@
-//! The first vertex whose faces are more than one fan.
+//! The vertices whose faces are more than one fan.
 
-ghost use Rattle.std.specs.Prelude.{◌≡◌, ◌^◌, ◌<◌, true, nat_eq, length, map, IfOk, IsTrue};
+ghost use Rattle.std.specs.Prelude.{◌≡◌, ◌^◌, ◌<◌, ◌++◌, true, nat_eq, length, map, IfOk, OnOk, IsTrue};
 ghost use Rattle.std.specs.List.{list_all, prefix_len};
 ghost use Rattle.subdiv_model.specs.Lists.{first_of};
 ghost use Rattle.subdiv_model.specs.Polygons.{is_distinct, has_distinct_sides};
 ghost use Rattle.subdiv_model.specs.Edges.{all_sides};
 ghost use Rattle.subdiv_model.specs.Manifold.{is_simple};
-ghost use Rattle.subdiv_model.specs.MeshFault.{split_vertices};
+ghost use Rattle.subdiv_model.specs.MeshFault.{SplitVertex, split_vertices};
+ghost use Rattle.mesh_check.specs.View.{mesh_fault_of};
 ghost use Rattle.mesh_check.specs.Keys.{Rises};
 ghost use Rattle.mesh_check.specs.Group.{DecidesFan};
 ghost use Rattle.mesh_check.specs.Turns.{AreSortedTurns};
+ghost use Rattle.mesh_check.specs.Groups.{AreGroups, IsFirstGroup};
 
 use crate::fan::is_fan;
+use crate::fault::MeshFault;
+use crate::put::put_if;
 use crate::turns::Turn;
 use ratio128::Memory;
 use raw_mesh::RawMesh;
@@ -72,6 +76,21 @@ fn is_group_fan(alloc: Global, group: &[Turn]) -> Result<bool, Memory>
     Ok(is)
 }
 
+// Whether the faces at the first vertex are one fan, and how many corners are there, where all faces are simple and no side
+// occurs twice.
+fn first_group(alloc: Global, raw: &RawMesh, turns: &[Turn]) -> Result<(bool, usize), Memory>
+    requires some { 0 < length turns.now }
+    requires simple { IsTrue (list_all is_simple raw.now.faces) }
+    requires once { IsTrue (has_distinct_sides (all_sides raw.now.faces)) }
+    requires groups { AreGroups raw.now.faces turns.now }
+    ensures { IfOk result (λ found. IsFirstGroup raw.now.faces turns.now found.0 found.1) }
+{
+    let _ = raw;
+    let size = group_size(turns, turns[0].vertex);
+    let is = is_group_fan(alloc, &turns[..size])?;
+    Ok((is, size))
+}
+
 // The first vertex whose faces are more than one fan, by the sorted corners, where all faces are simple and no side occurs twice.
 pub(crate) fn split_vertex(
     alloc: Global,
@@ -87,11 +106,37 @@ pub(crate) fn split_vertex(
     let mut rest = turns;
     while let [first, ..] = rest {
         let v = first.vertex;
-        let (group, others) = rest.split_at(group_size(rest, v));
-        if !is_group_fan(alloc, group)? {
+        let group = first_group(alloc, raw, rest)?;
+        if !group.0 {
             return Ok(Some(v));
         }
+        let (_, others) = rest.split_at(group.1);
         rest = others;
     }
     Ok(None)
+}
+
+// Puts the vertices whose faces are more than one fan behind other faults, ascending, where all faces are simple and no side
+// occurs twice.
+pub(crate) fn put_split_vertices(
+    alloc: Global,
+    faults: &mut Vec<MeshFault>,
+    raw: &RawMesh,
+    turns: &[Turn],
+) -> Result<(), Memory>
+    requires simple { IsTrue (list_all is_simple raw.now.faces) }
+    requires once { IsTrue (has_distinct_sides (all_sides raw.now.faces)) }
+    requires sorted { AreSortedTurns raw.now.faces turns.now }
+    ensures { OnOk result (map mesh_fault_of faults.new.items ≡ map mesh_fault_of faults.old.items ++ map SplitVertex (split_vertices (length raw.now.points) raw.now.faces)) }
+{
+    raw.facts();
+    let mut rest = turns;
+    while let [first, ..] = rest {
+        let v = first.vertex;
+        let group = first_group(alloc, raw, rest)?;
+        put_if(!group.0, faults, MeshFault::SplitVertex(v))?;
+        let (_, others) = rest.split_at(group.1);
+        rest = others;
+    }
+    Ok(())
 }

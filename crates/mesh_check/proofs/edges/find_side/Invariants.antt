@@ -1,14 +1,10 @@
-use Rattle.std.proofs.Common.{◌≡◌, ◌||◌, length}
+use Rattle.std.proofs.Common.{◌≡◌, length}
 use Rattle.std.specs.List.{find}
-use Rattle.subdiv_model.specs.Polygons.{is_among}
-use Rattle.subdiv_model.specs.Edges.{reversed}
-use Rattle.mesh_check.specs.Keys.{side_key}
+use Rattle.mesh_check.specs.Keys.{is_named}
 use Rattle.mesh_check.proofs.edges.find_side.Given as goal
 
 abbrev pub invariant-loop-rest : goal.invariant-loop-rest
-invariant-loop-rest l =
-    find (λ s. is_among l.known (side_key s) || is_among l.known (side_key (reversed s))) l.rest
-    ≡ find (λ s. is_among l.known (side_key s) || is_among l.known (side_key (reversed s))) l.sides
+invariant-loop-rest l = find (is_named l.directed l.known) l.rest ≡ find (is_named l.directed l.known) l.sides
 
 abbrev pub decreases-loop-rest : goal.decreases-loop-rest
 decreases-loop-rest l = length l.rest
