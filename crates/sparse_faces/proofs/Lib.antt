@@ -1,3 +1,4 @@
 pub mod NumberLemmas
 pub mod TableLemmas
 pub mod FaceLemmas
+pub mod CountLemmas

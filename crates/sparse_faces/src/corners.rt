@@ -1,6 +1,7 @@
 //! The corners of all faces, each by the number of its point.
 
 ghost use Rattle.std.specs.Prelude.{◌≡◌, ◌+◌, ◌<◌, [], length, get_or, IfOk};
+ghost use Rattle.std.specs.List.{sum_by};
 ghost use Rattle.subdiv_model.specs.Sparse.{corners_of};
 ghost use Rattle.level_topology.specs.Packed.{pieces, Ascend};
 ghost use Rattle.sparse_faces.specs.Numbers.{numbered_faces};
@@ -75,6 +76,13 @@ impl NumberedCorners {
         ensures { result ≡ self.now.points }
     {
         self.points
+    }
+
+    // How many corners all faces have together.
+    pub(crate) fn count(&self) -> u32
+        ensures { result ≡ sum_by length self.now.faces }
+    {
+        self.starts[self.starts.len() - 1] - self.starts[0]
     }
 
     // The corners of a face.

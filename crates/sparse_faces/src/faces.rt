@@ -1,6 +1,7 @@
 //! The faces of a sparse level as they are written.
 
 ghost use Rattle.std.specs.Prelude.{◌≡◌, ◌<◌, length, IfOk};
+ghost use Rattle.std.specs.List.{sum_by};
 ghost use Rattle.sparse_laws.specs.Written.{written_here};
 ghost use Rattle.sparse_level.specs.View.{level_of};
 ghost use Rattle.sparse_level.specs.Places.{marked};
@@ -77,6 +78,13 @@ impl SparseFaces {
         ensures { result ≡ length self.now.faces }
     {
         self.kinds.len() as u32
+    }
+
+    /// How many corners all faces have together.
+    pub fn corner_count(&self) -> u32
+        ensures { result ≡ sum_by (λ face. length face.corners) self.now.faces }
+    {
+        self.corners.count()
     }
 
     /// The kind of a face.
