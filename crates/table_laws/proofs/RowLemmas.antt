@@ -104,7 +104,8 @@ shares-in-range controls least (share ∷ shares) up inside each few =
     (and_from (nat_le 1 share.1) (nat_le share.1 number_bound) (le-leb 1 share.1 each.0) (le-leb share.1 number_bound here)))
     (shares-in-range controls (suc share.0) shares up.1 inside.1 each.1 others)
 
-row-in-range : (controls : ℕ) (row : Row) → IsRow controls row → is_row_in_range controls row ≡ true
+-- so are those of a row
+pub row-in-range : (controls : ℕ) (row : Row) → IsRow controls row → is_row_in_range controls row ≡ true
 row-in-range controls row is =
     and_from (is_term row.den) (are_shares_in_range controls 0 row.shares)
     (and_from (nat_le 1 row.den) (nat_le row.den number_bound) (le-leb 1 row.den is.positive) (le-leb row.den number_bound is.short))

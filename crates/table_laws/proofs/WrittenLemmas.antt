@@ -100,23 +100,28 @@ turned : (b : Bool) → not b ≡ false → b ≡ true
 turned true h = refl
 turned false h = absurd (true≢false h)
 
+-- numbers in range that sum to their denominator are a row
+pub is-row : (controls : ℕ) (row : Row) → is_row_in_range controls row ≡ true → total_of row.shares ≡ row.den → IsRow controls row
+is-row controls row good whole =
+    let range = and_parts (is_term row.den) (are_shares_in_range controls 0 row.shares) good in
+    let term = and_parts (nat_le 1 row.den) (nat_le row.den number_bound) range.0 in
+    let shares = shares-are controls 0 row.shares range.1 in
+    record {
+      positive = leb-true 1 row.den term.0;
+      short = leb-true row.den number_bound term.1;
+      ascending = increasing 0 row.shares shares.ascend;
+      inside = All-from_recursion _ row.shares shares.inside;
+      each = All-from_recursion _ row.shares shares.each;
+      whole = whole;
+    }
+
 row-is : (header : Header) (left entries : ℕ) (row : Row) → row_cause header left entries row ≡ None → IsGoodRow header left entries row
 row-is header left entries row none =
     let first = not-failed (not (is_row_in_range header.controls row)) Range _ none in
     let second = not-failed (not (nat_eq (total_of row.shares) row.den)) Sum _ first.1 in
     let third = not-failed (is_miscounted header left (entries + length row.shares)) Count None second.1 in
-    let range = and_parts (is_term row.den) (are_shares_in_range header.controls 0 row.shares) (turned _ first.0) in
-    let term = and_parts (nat_le 1 row.den) (nat_le row.den number_bound) range.0 in
-    let shares = shares-are header.controls 0 row.shares range.1 in
     record {
-      is_row = record {
-        positive = leb-true 1 row.den term.0;
-        short = leb-true row.den number_bound term.1;
-        ascending = increasing 0 row.shares shares.ascend;
-        inside = All-from_recursion _ row.shares shares.inside;
-        each = All-from_recursion _ row.shares shares.each;
-        whole = eqb-true (total_of row.shares) row.den (turned _ second.0);
-      };
+      is_row = is-row header.controls row (turned _ first.0) (eqb-true (total_of row.shares) row.den (turned _ second.0));
       counted = third.0;
     }
 
