@@ -1,0 +1,4 @@
+pub mod SumLemmas
+pub mod PutLemmas
+pub mod RangeLemmas
+pub mod FractionLemmas

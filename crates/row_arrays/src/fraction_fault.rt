@@ -1,0 +1,29 @@
+//! Why fractions are not rounded.
+
+use std::fmt;
+
+/// Why fractions are not rounded.
+#[derive(Clone, Copy, Debug, PartialEq, Eq)]
+pub enum FractionFault {
+    /// No number shares a denominator, the array has fewer places than there are numbers, or there are fewer denominators than are needed.
+    Short,
+    /// The denominator at this place, counted from 0, times the scale is 0, or 2^127 or more.
+    Denominator(usize),
+    /// The numerator at this place, counted from 0, is -2^127.
+    Numerator(usize),
+}
+
+impl fmt::Display for FractionFault {
+    fn fmt<W: fmt::Write>(&self, f: &mut fmt::Formatter<W>) -> fmt::Result {
+        match self {
+            FractionFault::Short => f.write_str("an array is too short"),
+            FractionFault::Denominator(place) => write!(
+                f,
+                "denominator {place} is out of its range"
+            ),
+            FractionFault::Numerator(place) => write!(f, "numerator {place} is out of its range"),
+        }
+    }
+}
+
+impl std::error::Error for FractionFault {}

@@ -1,0 +1,75 @@
+//! Rows and controls as a caller holds them.
+
+use flat_arrays::Wide;
+use std::fmt;
+
+/// Rows in flat arrays. Row r has the entries from `starts[r]` up to `starts[r + 1]`, counted from 0. Each entry has a control and a numerator.
+#[repr(C)]
+#[derive(Clone, Copy)]
+pub struct RowArrays<'a> {
+    /// Where the entries of each row begin, and at the end where the last ones end.
+    pub starts: &'a [u32],
+    /// The control of each entry, counted from 0.
+    pub indices: &'a [u32],
+    /// The numerator of each entry, without a sign.
+    pub numerators: &'a [Wide],
+}
+
+impl RowArrays<'_> {
+    ghost use Rattle.std.specs.Prelude.{◌≡◌, ◌<◌, length};
+    ghost use Rattle.row_arrays.specs.Rows.{row_start};
+
+    // Where the entries of a row begin, or those of the last one end.
+    pub(crate) fn start(&self, row: usize) -> usize
+        requires { row < length self.now.starts.now }
+        ensures { result ≡ row_start self.now row }
+    {
+        self.starts[row] as usize
+    }
+}
+
+/// Controls in a flat array. Each has as many integers as there are components.
+#[repr(C)]
+#[derive(Clone, Copy)]
+pub struct ControlArrays<'a> {
+    /// The integers of all controls in two's complement, control by control.
+    pub numbers: &'a [Wide],
+    /// How many integers each control has.
+    pub components: u32,
+}
+
+/// The rows from one up to another, counted from 0.
+#[repr(C)]
+#[derive(Clone, Copy, Debug, PartialEq, Eq)]
+pub struct RowRange {
+    /// The first row.
+    pub from: u32,
+    /// The row behind the last one.
+    pub to: u32,
+}
+
+/// Why rows are not evaluated.
+#[derive(Clone, Copy, Debug, PartialEq, Eq)]
+pub enum RowFault {
+    /// The controls have no components, or the range is no range of the rows.
+    Range,
+    /// The array has fewer places than the rows have sums.
+    Short,
+    /// The entries of this row, counted from 0, are not within the arrays, or one of them names no control.
+    Row(u32),
+    /// A product or a partial sum of this row, counted from 0, is no integer of 128 bits.
+    Overflow(u32),
+}
+
+impl fmt::Display for RowFault {
+    fn fmt<W: fmt::Write>(&self, f: &mut fmt::Formatter<W>) -> fmt::Result {
+        match self {
+            RowFault::Range => f.write_str("no range of the rows"),
+            RowFault::Short => f.write_str("the array is too short"),
+            RowFault::Row(row) => write!(f, "row {row} is not within the arrays"),
+            RowFault::Overflow(row) => write!(f, "row {row} has a sum that does not fit"),
+        }
+    }
+}
+
+impl std::error::Error for RowFault {}
