@@ -1,0 +1,5 @@
+mod ItemLemmas
+mod PartLemmas
+mod LawLemmas
+mod UniformLemmas
+mod SeriesLemmas

@@ -1,0 +1,11 @@
+use Rattle.std.proofs.Common.{◌≡◌, length, map, take}
+use Rattle.level_origins.specs.Places.{kind_of}
+use Rattle.level_origins.specs.View.{seen_origin}
+use Rattle.level_origins.proofs.places.put_kinds.Given as goal
+
+-- the kinds so far
+abbrev pub invariant-loop-i : goal.invariant-loop-i
+invariant-loop-i l = record {
+  written : take l.i l.out ≡ map kind_of (map seen_origin (take l.i l.origins));
+  len : length l.out ≡ length l.fn.out;
+}

@@ -1,0 +1,11 @@
+use Rattle.std.proofs.Common.{◌≡◌, length, map, take}
+use Rattle.level_origins.specs.Origins.{number_of}
+use Rattle.level_origins.specs.View.{seen_origin}
+use Rattle.level_origins.proofs.places.put_numbers.Given as goal
+
+-- the numbers so far
+abbrev pub invariant-loop-i : goal.invariant-loop-i
+invariant-loop-i l = record {
+  written : take l.i l.out ≡ map number_of (map seen_origin (take l.i l.origins));
+  len : length l.out ≡ length l.fn.out;
+}

@@ -1,0 +1,26 @@
+-- Origins in a caller's arrays: how long these have to be, and what is written there.
+use Rattle.std.specs.Prelude.{ℕ, ◌≡◌, ◌&&◌, Bool, nat_le, length, map, take}
+use Rattle.level_origins.specs.Origins.{Origin, OnPoint, OnEdge, OnFace, number_of, Origins}
+use Rattle.level_origins.specs.declared.places.OriginCounts.{OriginCounts}
+use Rattle.level_origins.specs.declared.places.OriginPlaces.{OriginPlaces}
+
+-- 0 for a point of level 0, 1 for an edge, and 2 for a face
+abbrev pub kind_of : Origin → ℕ
+kind_of (OnPoint v) = 0
+kind_of (OnEdge e) = 1
+kind_of (OnFace f) = 2
+
+-- how many points and faces there are
+abbrev pub counts_of : Origins → OriginCounts
+counts_of origins = record { points = length origins.points; faces = length origins.faces }
+
+abbrev pub are_long_enough : Origins → OriginPlaces → Bool
+are_long_enough origins places =
+    nat_le (length origins.points) (length places.kinds.now)
+    && (nat_le (length origins.points) (length places.numbers.now) && nat_le (length origins.faces) (length places.faces.now))
+
+-- the kind and the number of the origin of each point, and the face of level 0 of each face
+pub record IsWritten (origins : Origins) (places : OriginPlaces) : Type 0 where
+  pub kinds : take (length origins.points) places.kinds.now ≡ map kind_of origins.points
+  pub numbers : take (length origins.points) places.numbers.now ≡ map number_of origins.points
+  pub faces : take (length origins.faces) places.faces.now ≡ origins.faces
