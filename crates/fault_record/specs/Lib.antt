@@ -4,3 +4,4 @@ pub mod Range
 pub mod Back
 pub mod Named
 pub mod Lines
+pub mod MeshFaults

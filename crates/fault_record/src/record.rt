@@ -12,16 +12,17 @@ pub const DONE: u32 = 0;
 /// The status of a call for which an array of the caller is too short. The counts that are needed are written.
 pub const TOO_SHORT: u32 = 1;
 
-/// The status of a mesh that is refused for its arrays. The kind is the place of the fault among the variants of `BadPart`, counted from 0,
-/// and the first number is the place in the array, counted from 0, where the fault has one.
+/// The status of arrays that are refused. For a mesh the kind is the place of the fault among the variants of `BadPart`, counted from 0, or
+/// from 13 to 16 for its options and tags. It is 17 for a row of a table, and 18 for a denominator. The first number is the place in the
+/// array, counted from 0, where the fault has one.
 pub const BAD_ARRAYS: u32 = 17;
 
-/// The status of a list of floats of which one has no exact fraction that fits. The kind is 0 where it is no finite number, and 1
-/// where its fraction is too wide. The first number is its place in the list, counted from 0.
+/// The status of a list of numbers of which one is refused. The kind is 0 where it is no finite number, and 1 where its fraction is too
+/// wide. The first number is its place in the list, counted from 0.
 pub const BAD_NUMBER: u32 = 18;
 
-/// The status of a call with an option that is out of its range. The first number is the place of the option among those of the
-/// call, counted from 0.
+/// The status of a call with an option that is out of its range, or that asks a mesh for texture that it does not have. The kind is 1 for a
+/// range of rows, and else 0.
 pub const BAD_ARGUMENT: u32 = 19;
 
 /// A fault as four numbers, as C holds it.

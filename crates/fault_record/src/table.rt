@@ -105,7 +105,7 @@ fn about(status: u32, kind: u32, number: u32) -> FaultRecord
 }
 
 // Returns the record of what is wrong with a mesh.
-fn mesh_record(fault: MeshFault) -> FaultRecord
+pub(crate) fn mesh_record(fault: MeshFault) -> FaultRecord
     ensures row { result ≡ spec.mesh_record (mesh_fault_of fault) }
     ensures range { IsMeshInRange (mesh_fault_of fault) }
 {
