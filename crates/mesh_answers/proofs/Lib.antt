@@ -26,3 +26,5 @@ pub mod SparseTextureLemmas
 pub mod FacesAlikeLemmas
 pub mod SparseReplyLemmas
 pub mod LeafLemmas
+pub mod TextureTableLemmas
+pub mod OriginLemmas

@@ -1,5 +1,5 @@
 -- The sparse levels of the positions of a mesh, and what they are refused for.
-use Rattle.std.proofs.Common.{◌≡◌, ℕ, ◌+◌, ◌<◌, ℤ, Bool, List, [], length, map, get_or, Result, arith, refl, ap, sym, subst, ◌∙◌}
+use Rattle.std.proofs.Common.{◌≡◌, ℕ, ◌+◌, ◌<◌, ℤ, Bool, List, [], length, map, get_or, Result, Ok, Err, MatchResult, Vec, Global, arith, refl, ap, sym, subst, ◌∙◌}
 use Rattle.std.specs.List.{All}
 use Rattle.std.proofs.lemmas.List.{length-map, get_or-map}
 use Rattle.subdiv_model.specs.Lists.{first_of}
@@ -25,13 +25,16 @@ use Rattle.channel_refine.specs.Evaluated.{control_rows}
 use Rattle.sparse_channel.specs.Refined.{AreSparseLevels, AreSparseSteps, AreSparseTo, IsSparseCause, IsSparseFaultTo, IsSparseLevel, SparseRows}
 use Rattle.sparse_channel.specs.View.{sparse_rows}
 use Rattle.sparse_faces.specs.declared.values.SparseValues.{SparseValues}
+use Rattle.far_fault.specs.View.{fault_of}
 use Rattle.far_fault.specs.Walk.{fault_at, walk_fault_of}
+use Rattle.far_fault.specs.declared.fault.FarFault.{FarFault}
 use Rattle.far_text.specs.Points.{CanBeWritten}
 use Rattle.subdiv_model.specs.SparseFaults.{sparse_faults}
 use Rattle.subdiv_model.specs.Channel.{Tables}
 use Rattle.mesh_answers.specs.Refusals.{IsFound}
-use Rattle.mesh_answers.specs.SparseLevels.{ArePointsLevels, IsPointsLevel, IsWithinLimits, sparse_position_refusal}
+use Rattle.mesh_answers.specs.SparseLevels.{ArePointsLevels, ArePointsLevelsFound, IsPointsLevel, IsWithinLimits, sparse_position_faults, sparse_position_refusal}
 use Rattle.mesh_answers.specs.StepCounts.{sparse_position_steps}
+use Rattle.mesh_answers.proofs.RefusalLemmas.{refusal-of-small}
 use Rattle.mesh_answers.proofs.ReplyLemmas.{any-steps}
 use Rattle.mesh_answers.proofs.ColumnLemmas.{IsColumn, column-seen, can-be-written}
 use Rattle.mesh_answers.proofs.PointLemmas.{numbers, written-point}
@@ -116,3 +119,10 @@ module _ (options : SparseOptions) (mesh : ObjMesh) (points : List Point3) (said
             (subst (IsSparseLevel (positions_of mesh) (meeting_for options mesh) (control_rows (map numbers points)) k)
             (get_or-map (sparse_rows numbers) levels k d no_rows h) (are.each k (omega (arith, h, count))));
       }
+
+-- A mesh within its limits is refused for the first fault of its positions, where they are asked for alone.
+pub positions-alone : (options : SparseOptions) (mesh : ObjMesh) → IsWithinLimits mesh → (r : Result (Vec (SparseValues Point3) Global) FarFault) →
+    MatchResult r (λ levels. ArePointsLevels options mesh levels.items) (λ fault. IsFound (fault_of fault) (sparse_position_refusal options mesh)) → ArePointsLevelsFound options mesh r
+positions-alone options mesh within (Ok levels) are = are
+positions-alone options mesh within (Err fault) found =
+    subst (IsFound (fault_of fault)) (sym (refusal-of-small mesh within.manifold (sparse_position_faults options mesh) within.small)) found

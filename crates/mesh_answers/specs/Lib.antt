@@ -7,6 +7,8 @@ pub mod Tables
 pub mod MaskTables
 pub mod Limits
 pub mod Patches
+pub mod Textures
 pub mod MeshText
 pub mod SparseLevels
 pub mod Leaves
+pub mod Origins

@@ -1,5 +1,5 @@
 -- The limit points of a mesh at a depth.
-use Rattle.std.specs.Prelude.{ℕ, ◌≡◌, Option, None}
+use Rattle.std.specs.Prelude.{ℕ, ◌≡◌, Option, None, Result, MatchResult}
 use Rattle.subdiv_model.specs.Base.{base_level}
 use Rattle.subdiv_model.specs.Child.{refined_level}
 use Rattle.subdiv_model.specs.ObjMesh.{ObjMesh}
@@ -10,6 +10,9 @@ use Rattle.far_model.specs.Answer.{positions_of}
 use Rattle.limit_stencils.specs.declared.fault.QuadFault.{QuadFault}
 use Rattle.limit_stencils.specs.declared.fault.QuadFault.TheVariants.{Dart, SemiSharp, Denominator, TooManyEntries, Memory}
 use Rattle.channel_refine.specs.declared.compose.ComposedChannel.{ComposedChannel}
+use Rattle.far_fault.specs.View.{fault_of}
+use Rattle.far_fault.specs.declared.fault.FarFault.{FarFault}
+use Rattle.mesh_answers.specs.Refusals.{IsFound}
 use Rattle.mesh_answers.specs.MaskTables.{IsMaskTable, refusal_behind_table}
 
 -- what a mesh is refused for where its limit points at a depth are asked for
@@ -29,3 +32,7 @@ pub record AreLimitRows (mesh : ObjMesh) (depth : ℕ) (limits : ComposedChannel
   pub good : limit_refusal depth mesh ≡ None
   pub level_is : limits.level.level ≡ refined_level (base_level mesh) depth
   pub rows : IsMaskTable mesh depth (limit_masks (refined_level (base_level mesh) depth)) limits.table
+
+-- the level with this table, or what is refused of the mesh where it is composed
+abbrev pub IsLimitComposition : ObjMesh → ℕ → Result ComposedChannel FarFault → Type 0
+IsLimitComposition mesh depth result = MatchResult result (AreLimitRows mesh depth) (λ fault. IsFound (fault_of fault) (limit_refusal depth mesh))

@@ -1,5 +1,5 @@
 -- The patch of a face of a mesh's level at a depth.
-use Rattle.std.specs.Prelude.{ℕ, ◌≡◌, List, Option, None}
+use Rattle.std.specs.Prelude.{ℕ, ◌≡◌, List, Option, None, Result, MatchResult}
 use Rattle.subdiv_model.specs.Base.{base_level}
 use Rattle.subdiv_model.specs.Child.{refined_level}
 use Rattle.subdiv_model.specs.Mask.{Mask}
@@ -12,6 +12,9 @@ use Rattle.far_model.specs.Answer.{positions_of}
 use Rattle.stencil_apply.specs.Table.{Table}
 use Rattle.patch_bspline.specs.declared.fault.PatchFault.{PatchFault}
 use Rattle.patch_bspline.specs.declared.fault.PatchFault.TheVariants.{NoFace, NotRegular, Denominator, TooManyEntries, Memory}
+use Rattle.far_fault.specs.View.{fault_of}
+use Rattle.far_fault.specs.declared.fault.FarFault.{FarFault}
+use Rattle.mesh_answers.specs.Refusals.{IsFound}
 use Rattle.mesh_answers.specs.MaskTables.{IsMaskTable, refusal_behind_table}
 
 -- what a mesh is refused for where a patch is asked for
@@ -34,3 +37,7 @@ masks_of_patch options mesh = patch_masks (refined_level (base_level mesh) optio
 pub record ArePatchRows (options : PatchOptions) (mesh : ObjMesh) (table : Table) : Type 0 where
   pub good : patch_refusal options mesh ≡ None
   pub rows : IsMaskTable mesh options.depth (masks_of_patch options mesh) table
+
+-- these rows, or what is refused of the mesh where they are composed
+abbrev pub IsPatchComposition : PatchOptions → ObjMesh → Result Table FarFault → Type 0
+IsPatchComposition options mesh result = MatchResult result (ArePatchRows options mesh) (λ fault. IsFound (fault_of fault) (patch_refusal options mesh))

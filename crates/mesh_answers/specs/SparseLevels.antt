@@ -1,5 +1,6 @@
 -- The sparse levels of a mesh and of its texture, as they are found.
-use Rattle.std.specs.Prelude.{ℕ, ◌≡◌, ◌+◌, ◌<◌, List, [], length, get_or, map, Option, Some, None}
+use Rattle.std.specs.Prelude.{ℕ, ◌≡◌, ◌+◌, ◌<◌, List, [], length, get_or, map, Option, Some, None, Result, MatchResult, Vec}
+use Rattle.std.specs.Global.{Global}
 use Rattle.std.specs.List.{All, AllZip}
 use Rattle.subdiv_model.specs.Lists.{first_of}
 use Rattle.subdiv_model.specs.MeshFault.{first_mesh_fault}
@@ -20,6 +21,9 @@ use Rattle.raw_mesh.specs.View.{texture_of as value_of}
 use Rattle.sparse_faces.specs.declared.values.SparseValues.{SparseValues}
 use Rattle.far_text.specs.Points.{points_of, CanBeWritten, IsSamePoint, HasDenominators}
 use Rattle.far_text.specs.Texture.{texture_points_of, CanTextureBeWritten, IsSameTexturePoint, HasTextureDenominators}
+use Rattle.far_fault.specs.View.{fault_of}
+use Rattle.far_fault.specs.declared.fault.FarFault.{FarFault}
+use Rattle.mesh_answers.specs.Refusals.{IsFound, refusal_by}
 use Rattle.mesh_answers.specs.declared.tracks.BaseTexture.{BaseTexture}
 use Rattle.mesh_answers.specs.declared.tracks.BaseTracks.{BaseTracks}
 
@@ -80,3 +84,8 @@ sparse_position_refusal options mesh = first_of (sparse_position_faults options 
 
 abbrev pub sparse_texture_refusal : SparseOptions → ObjMesh → Option Fault
 sparse_texture_refusal options mesh = first_of (sparse_texture_faults options mesh (sparse_uv options mesh))
+
+-- the sparse levels of the positions, or what is refused of the mesh where they are asked for alone
+abbrev pub ArePointsLevelsFound : SparseOptions → ObjMesh → Result (Vec (SparseValues Point3) Global) FarFault → Type 0
+ArePointsLevelsFound options mesh result =
+    MatchResult result (λ levels. ArePointsLevels options mesh levels.items) (λ fault. IsFound (fault_of fault) (refusal_by (sparse_position_faults options mesh) mesh))

@@ -6,10 +6,10 @@ ghost use Rattle.far_fault.specs.View.{fault_of};
 ghost use Rattle.far_words.specs.View.{limit_of_code};
 ghost use Rattle.far_text.specs.declared.reply.Reply.TheVariants.{Refined};
 ghost use Rattle.ratio128.specs.StepsTaken.{StepsTaken};
-ghost use Rattle.mesh_answers.specs.Limits.{AreLimitRows, limit_fault_of, limit_refusal};
+ghost use Rattle.mesh_answers.specs.Limits.{AreLimitRows, IsLimitComposition, limit_fault_of, limit_refusal};
 ghost use Rattle.mesh_answers.specs.Refusals.{IsFound};
 ghost use Rattle.mesh_answers.specs.Replies.{IsAnswerTo, IsReplyTo};
-ghost use Rattle.mesh_answers.specs.StepCounts.{limit_steps};
+ghost use Rattle.mesh_answers.specs.StepCounts.{level_faces_to, limit_steps};
 ghost use Rattle.mesh_answers.specs.Tables.{IsComposedOf};
 
 use crate::scales::fitting;
@@ -84,12 +84,32 @@ fn limit_level(
 ) -> Result<ComposedChannel, FarFault>
     requires depth { 1 ≤ depth }
     requires composed { IsComposedOf mesh.now depth composed }
-    ensures { MatchResult result (λ limits. AreLimitRows mesh.now depth limits) (λ fault. IsFound (fault_of fault) (limit_refusal depth mesh.now)) }
+    ensures { IsLimitComposition mesh.now depth result }
 {
     let limits = limit_table(alloc, mesh, &composed, depth);
     // The prover proves a drop by name once for its type.
     drop(composed.table);
     with_table(composed.level, limits)
+}
+
+/// Returns the level of a mesh at a depth, with the table of its limit points over the control points of the mesh. The depth is from 1 to
+/// 10.
+///
+/// The faults are those of [`limit`], in the same order. The call takes at most one step for each face of the levels from 0 to the
+/// depth.
+pub fn compose_limits<L: Ledger>(
+    alloc: Global,
+    mesh: &RawMesh,
+    depth: u32,
+    steps: &mut Steps<L>,
+) -> Result<ComposedChannel, FarFault>
+    requires at_least { 1 ≤ depth }
+    requires at_most { depth ≤ 10 }
+    ensures limits { IsLimitComposition mesh.now depth result }
+    ensures steps { StepsTaken result steps.old steps.new 0 (level_faces_to depth mesh.now) }
+{
+    let composed = compose(alloc, mesh, depth, steps)?;
+    limit_level(alloc, mesh, composed, depth)
 }
 
 // The reply with a level and its points, where they were found.
@@ -167,7 +187,6 @@ pub fn limit<L: Ledger>(
     requires { IsReadInRange (Limit (limit_of_code options.now)) }
     ensures { IsAnswerTo (Limit (limit_of_code options.now)) mesh.now result steps.old steps.new }
 {
-    let composed = compose(alloc, mesh, options.depth, steps)?;
-    let limits = limit_level(alloc, mesh, composed, options.depth)?;
+    let limits = compose_limits(alloc, mesh, options.depth, steps)?;
     Ok(limit_reply(alloc, mesh, limits, options, steps)?)
 }

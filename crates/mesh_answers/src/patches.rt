@@ -6,10 +6,9 @@ ghost use Rattle.far_fault.specs.View.{fault_of};
 ghost use Rattle.far_words.specs.View.{patch_of_code};
 ghost use Rattle.far_text.specs.declared.reply.Reply.TheVariants as variant;
 ghost use Rattle.ratio128.specs.StepsTaken.{StepsTaken};
-ghost use Rattle.mesh_answers.specs.Patches.{ArePatchRows, patch_fault_of, patch_refusal};
-ghost use Rattle.mesh_answers.specs.Refusals.{IsFound};
+ghost use Rattle.mesh_answers.specs.Patches.{ArePatchRows, IsPatchComposition, patch_fault_of};
 ghost use Rattle.mesh_answers.specs.Replies.{IsAnswerTo, IsReplyTo};
-ghost use Rattle.mesh_answers.specs.StepCounts.{patch_steps};
+ghost use Rattle.mesh_answers.specs.StepCounts.{level_faces_to, patch_steps};
 ghost use Rattle.mesh_answers.specs.Tables.{IsComposedOf};
 
 use crate::scales::fitting;
@@ -53,9 +52,7 @@ fn patch_rows(
 ) -> Result<StencilTable, FarFault>
     requires range { IsReadInRange (Patch (patch_of_code options.now)) }
     requires composed { IsComposedOf mesh.now options.now.depth composed.now }
-    ensures { MatchResult result
-        (λ table. ArePatchRows (patch_of_code options.now) mesh.now table)
-        (λ fault. IsFound (fault_of fault) (patch_refusal (patch_of_code options.now) mesh.now)) }
+    ensures { IsPatchComposition (patch_of_code options.now) mesh.now result }
 {
     match patch_table(
         alloc,
@@ -78,14 +75,32 @@ fn rows_from(
 ) -> Result<StencilTable, FarFault>
     requires range { IsReadInRange (Patch (patch_of_code options.now)) }
     requires composed { IsComposedOf mesh.now options.now.depth composed }
-    ensures { MatchResult result
-        (λ table. ArePatchRows (patch_of_code options.now) mesh.now table)
-        (λ fault. IsFound (fault_of fault) (patch_refusal (patch_of_code options.now) mesh.now)) }
+    ensures { IsPatchComposition (patch_of_code options.now) mesh.now result }
 {
     let rows = patch_rows(alloc, mesh, &composed, options);
     // The prover proves a drop by name once for its type.
     drop(composed);
     rows
+}
+
+/// Returns the rows of the patch of a face of a mesh's level at a depth, over the control points of the mesh. The place at i/grid along
+/// the side from corner 0 to corner 1 and at j/grid along the side from corner 0 to corner 3 has the row j · (grid + 1) + i, counted from
+/// 0. The depth is at most 10. The face is below 2^22 and counted from 0, and the grid has from 1 to 64 steps along each side.
+///
+/// The faults are those of [`patch`], in the same order. The call takes at most one step for each face of the levels from 0 to the
+/// depth.
+pub fn compose_patch<L: Ledger>(
+    alloc: Global,
+    mesh: &RawMesh,
+    options: &PatchOptions,
+    steps: &mut Steps<L>,
+) -> Result<StencilTable, FarFault>
+    requires { IsReadInRange (Patch (patch_of_code options.now)) }
+    ensures rows { IsPatchComposition (patch_of_code options.now) mesh.now result }
+    ensures steps { StepsTaken result steps.old steps.new 0 (level_faces_to options.now.depth mesh.now) }
+{
+    let composed = compose(alloc, mesh, options.depth, steps)?;
+    rows_from(alloc, mesh, composed, options)
 }
 
 // The reply with the points of a patch, where they were found.
@@ -159,7 +174,6 @@ pub fn patch<L: Ledger>(
     requires { IsReadInRange (Patch (patch_of_code options.now)) }
     ensures { IsAnswerTo (Patch (patch_of_code options.now)) mesh.now result steps.old steps.new }
 {
-    let composed = compose(alloc, mesh, options.depth, steps)?;
-    let rows = rows_from(alloc, mesh, composed, options)?;
+    let rows = compose_patch(alloc, mesh, options, steps)?;
     Ok(patch_reply(alloc, mesh, rows, options, steps)?)
 }

@@ -1,9 +1,8 @@
 //! The sparse levels of a mesh, with its texture.
 
-ghost use Rattle.std.specs.Prelude.{◌≡◌, ◌+◌, map, Some, Err, IsOkAnd, MatchResult};
-ghost use Rattle.feature_select.specs.Rule.{AnswersTest};
+ghost use Rattle.std.specs.Prelude.{◌≡◌, map, Some, Err, IsOkAnd, MatchResult};
 ghost use Rattle.far_model.specs.Command.{Sparse, IsReadInRange};
-ghost use Rattle.far_model.specs.Answer.{positions_of, sparse_uv, test_of, texture_meeting};
+ghost use Rattle.far_model.specs.Answer.{sparse_uv, texture_meeting};
 ghost use Rattle.subdiv_model.specs.Fault.{Texture};
 ghost use Rattle.far_fault.specs.View.{fault_of};
 ghost use Rattle.far_fault.specs.Walk.{walk_fault_of};
@@ -12,51 +11,22 @@ ghost use Rattle.far_words.specs.View.{sparse_of_code};
 ghost use Rattle.far_text.specs.declared.reply.Reply.TheVariants as variant;
 ghost use Rattle.mesh_answers.specs.Refusals.{IsFound, refusal_of_mesh};
 ghost use Rattle.mesh_answers.specs.Replies.{IsAnswerTo, IsReplyTo};
-ghost use Rattle.mesh_answers.specs.SparseLevels.{ArePointsLevels, AreSparseTexture, AreSparseTracks, IsSparseBase, IsWithinLimits, sparse_position_refusal, sparse_texture_refusal};
-ghost use Rattle.mesh_answers.specs.StepCounts.{sparse_later_steps, sparse_position_steps, where_sparse_texture};
+ghost use Rattle.mesh_answers.specs.SparseLevels.{ArePointsLevels, AreSparseTexture, AreSparseTracks, IsSparseBase, sparse_texture_refusal};
+ghost use Rattle.mesh_answers.specs.StepCounts.{sparse_later_steps, where_sparse_texture};
 
+use crate::sparse_positions::selected_points;
 use crate::sparse_tracks::sparse_tracks;
 use crate::tracks::{BaseTexture, BaseTracks};
-use channel_refine::BaseChannel;
 use far_fault::{FarFault, Track, fault_of_walk};
 use far_text::{Reply, SparseMesh, SparseTexture, TexturedSparse};
-use far_words::{Select, SparseOptions};
-use feature_select::{Every, FaceTest, Feature, SelectRule, is_feature, is_selectable};
-use level_topology::FaceFacts;
+use far_words::SparseOptions;
 use level_walk::WalkFault;
 use ratio128::{Point2, Point3, Steps};
 use raw_mesh::RawMesh;
-use sparse_channel::refine_sparse;
 use sparse_face_varying::{refine_sparse_texture, selected_levels};
 use sparse_faces::SparseValues;
 use std::alloc::Global;
 use std::sync::ledger::Ledger;
-
-// The sparse levels of the positions, where a rule selects the faces that the options name.
-fn points_levels<T: FaceTest, F: Fn(&FaceFacts) -> bool, L: Ledger>(
-    alloc: Global,
-    mesh: &RawMesh,
-    positions: BaseChannel,
-    rule: &SelectRule<T, F>,
-    options: &SparseOptions,
-    steps: &mut Steps<L>,
-) -> Result<Vec<SparseValues<Point3>>, FarFault>
-    requires range { IsReadInRange (Sparse (sparse_of_code options.now)) }
-    requires mesh { IsWithinLimits mesh.now }
-    requires base { positions ≡ positions_of mesh.now }
-    requires answers { AnswersTest F.Fn rule.now.0 (T.meets rule.now.1) }
-    requires test { T.meets rule.now.1 ≡ test_of (sparse_of_code options.now).select }
-    ensures levels { MatchResult result
-        (λ levels. ArePointsLevels (sparse_of_code options.now) mesh.now levels.items)
-        (λ fault. IsFound (fault_of fault) (sparse_position_refusal (sparse_of_code options.now) mesh.now)) }
-    ensures steps { StepsTaken result steps.old steps.new 0 (sparse_position_steps (sparse_of_code options.now) mesh.now) }
-{
-    mesh.facts();
-    match refine_sparse(alloc, positions, rule, mesh.points(), options.depth, steps) {
-        Ok(levels) => Ok(levels),
-        Err(fault) => Err(fault_of_walk(fault, Track::Positions)),
-    }
-}
 
 // The fault of a run for that of a walk over the sparse levels of a texture.
 fn texture_fault(fault: WalkFault) -> FarFault
@@ -192,43 +162,23 @@ fn reply_with<L: Ledger>(
     }
 }
 
-// The reply with the sparse levels of the channels of a mesh, where a rule selects the faces that the options name.
-fn sparse_from<T: FaceTest, F: Fn(&FaceFacts) -> bool, L: Ledger>(
+// The reply with the sparse levels of the channels of a mesh.
+fn sparse_from<L: Ledger>(
     alloc: Global,
     mesh: &RawMesh,
     tracks: BaseTracks,
-    rule: &SelectRule<T, F>,
     options: &SparseOptions,
     steps: &mut Steps<L>,
 ) -> Result<Reply, FarFault>
     requires range { IsReadInRange (Sparse (sparse_of_code options.now)) }
     requires tracks { AreSparseTracks (sparse_of_code options.now) mesh.now tracks }
-    requires answers { AnswersTest F.Fn rule.now.0 (T.meets rule.now.1) }
-    requires test { T.meets rule.now.1 ≡ test_of (sparse_of_code options.now).select }
     ensures reply { MatchResult result (λ reply. IsReplyTo (Sparse (sparse_of_code options.now)) mesh.now reply)
         (λ fault. IsFound (fault_of fault) (refusal_of_mesh (Sparse (sparse_of_code options.now)) mesh.now)) }
     ensures steps { StepsTaken result steps.old steps.new 0 (sparse_later_steps (sparse_of_code options.now) mesh.now) }
 {
     let BaseTracks { positions, texture } = tracks;
-    let levels = points_levels(alloc, mesh, positions, rule, options, steps)?;
+    let levels = selected_points(alloc, mesh, positions, options, steps)?;
     reply_with(alloc, mesh, options, levels, texture, steps)
-}
-
-// The sparse levels of a mesh, where a rule selects the faces that the options name.
-fn sparse_by<T: FaceTest, F: Fn(&FaceFacts) -> bool, L: Ledger>(
-    alloc: Global,
-    mesh: &RawMesh,
-    rule: &SelectRule<T, F>,
-    options: &SparseOptions,
-    steps: &mut Steps<L>,
-) -> Result<Reply, FarFault>
-    requires range { IsReadInRange (Sparse (sparse_of_code options.now)) }
-    requires answers { AnswersTest F.Fn rule.now.0 (T.meets rule.now.1) }
-    requires test { T.meets rule.now.1 ≡ test_of (sparse_of_code options.now).select }
-    ensures { IsAnswerTo (Sparse (sparse_of_code options.now)) mesh.now result steps.old steps.new }
-{
-    let tracks = sparse_tracks(alloc, mesh, options, steps)?;
-    sparse_from(alloc, mesh, tracks, rule, options, steps)
 }
 
 /// Returns the sparse levels of a mesh from level 0 to a depth, with the points that are written of each. The faces that the options
@@ -259,14 +209,6 @@ pub fn sparse<L: Ledger>(
     requires { IsReadInRange (Sparse (sparse_of_code options.now)) }
     ensures { IsAnswerTo (Sparse (sparse_of_code options.now)) mesh.now result steps.old steps.new }
 {
-    match options.select {
-        Select::Feature => {
-            let rule = SelectRule::<Feature, _>::new(|facts: &FaceFacts| is_feature(facts));
-            sparse_by(alloc, mesh, &rule, options, steps)
-        }
-        Select::All => {
-            let rule = SelectRule::<Every, _>::new(|facts: &FaceFacts| is_selectable(facts));
-            sparse_by(alloc, mesh, &rule, options, steps)
-        }
-    }
+    let tracks = sparse_tracks(alloc, mesh, options, steps)?;
+    sparse_from(alloc, mesh, tracks, options, steps)
 }

@@ -4,7 +4,7 @@ use Rattle.far_model.specs.Command.{Sparse}
 use Rattle.far_words.specs.View.{sparse_of_code}
 use Rattle.mesh_answers.proofs.ReplyLemmas.{refuses}
 use Rattle.mesh_answers.proofs.SparseReplyLemmas.{sparse-end}
-use Rattle.mesh_answers.proofs.sparse_levels.sparse_by.Goals as goal
+use Rattle.mesh_answers.proofs.sparse_levels.sparse.Goals as goal
 
 pub returns-in_err-tracks : goal.returns-in_err-tracks
 returns-in_err-tracks g c =

@@ -3,7 +3,7 @@ use Rattle.far_words.specs.View.{sparse_of_code}
 use Rattle.mesh_answers.specs.Refusals.{IsFound}
 use Rattle.mesh_answers.specs.SparseLevels.{sparse_position_refusal}
 use Rattle.mesh_answers.proofs.SparseLemmas.{sparse-controls, sparse-failed, sparse-found, sparse-steps}
-use Rattle.mesh_answers.proofs.sparse_levels.points_levels.Goals as goal
+use Rattle.mesh_answers.proofs.sparse_positions.points_levels.Goals as goal
 
 pub refine_sparse-requires-clause-controls : goal.refine_sparse-requires-clause-controls
 refine_sparse-requires-clause-controls g c =

@@ -1,0 +1,105 @@
+//! The sparse levels of the positions of a mesh.
+
+ghost use Rattle.std.specs.Prelude.{◌≡◌, ◌+◌, ◌≤◌, length, MatchResult};
+ghost use Rattle.feature_select.specs.Rule.{AnswersTest};
+ghost use Rattle.far_model.specs.Answer.{positions_of, test_of};
+ghost use Rattle.far_fault.specs.View.{fault_of};
+ghost use Rattle.far_words.specs.View.{sparse_of_code};
+ghost use Rattle.ratio128.specs.StepsTaken.{StepsTaken};
+ghost use Rattle.mesh_answers.specs.Refusals.{IsFound};
+ghost use Rattle.mesh_answers.specs.SparseLevels.{ArePointsLevels, ArePointsLevelsFound, IsWithinLimits, sparse_position_refusal};
+ghost use Rattle.mesh_answers.specs.StepCounts.{sparse_position_steps};
+
+use crate::level::level_0;
+use crate::tracks::position_channel;
+use channel_refine::BaseChannel;
+use far_fault::{FarFault, Track, fault_of_walk};
+use far_words::{Select, SparseOptions};
+use feature_select::{Every, FaceTest, Feature, SelectRule, is_feature, is_selectable};
+use level_topology::FaceFacts;
+use ratio128::{Point3, Steps};
+use raw_mesh::RawMesh;
+use sparse_channel::refine_sparse;
+use sparse_faces::SparseValues;
+use std::alloc::Global;
+use std::sync::ledger::Ledger;
+
+// The sparse levels of the positions, where a rule selects the faces that the options name.
+fn points_levels<T: FaceTest, F: Fn(&FaceFacts) -> bool, L: Ledger>(
+    alloc: Global,
+    mesh: &RawMesh,
+    positions: BaseChannel,
+    rule: &SelectRule<T, F>,
+    options: &SparseOptions,
+    steps: &mut Steps<L>,
+) -> Result<Vec<SparseValues<Point3>>, FarFault>
+    requires depth { options.now.depth ≤ 10 }
+    requires mesh { IsWithinLimits mesh.now }
+    requires base { positions ≡ positions_of mesh.now }
+    requires answers { AnswersTest F.Fn rule.now.0 (T.meets rule.now.1) }
+    requires test { T.meets rule.now.1 ≡ test_of (sparse_of_code options.now).select }
+    ensures levels { MatchResult result
+        (λ levels. ArePointsLevels (sparse_of_code options.now) mesh.now levels.items)
+        (λ fault. IsFound (fault_of fault) (sparse_position_refusal (sparse_of_code options.now) mesh.now)) }
+    ensures steps { StepsTaken result steps.old steps.new 0 (sparse_position_steps (sparse_of_code options.now) mesh.now) }
+{
+    mesh.facts();
+    match refine_sparse(alloc, positions, rule, mesh.points(), options.depth, steps) {
+        Ok(levels) => Ok(levels),
+        Err(fault) => Err(fault_of_walk(fault, Track::Positions)),
+    }
+}
+
+/// The sparse levels of the positions of a mesh, from the channel of the positions. The options name the faces that are selected.
+pub(crate) fn selected_points<L: Ledger>(
+    alloc: Global,
+    mesh: &RawMesh,
+    positions: BaseChannel,
+    options: &SparseOptions,
+    steps: &mut Steps<L>,
+) -> Result<Vec<SparseValues<Point3>>, FarFault>
+    requires depth { options.now.depth ≤ 10 }
+    requires mesh { IsWithinLimits mesh.now }
+    requires base { positions ≡ positions_of mesh.now }
+    ensures levels { MatchResult result
+        (λ levels. ArePointsLevels (sparse_of_code options.now) mesh.now levels.items)
+        (λ fault. IsFound (fault_of fault) (sparse_position_refusal (sparse_of_code options.now) mesh.now)) }
+    ensures steps { StepsTaken result steps.old steps.new 0 (sparse_position_steps (sparse_of_code options.now) mesh.now) }
+{
+    match options.select {
+        Select::Feature => {
+            let rule = SelectRule::<Feature, _>::new(|facts: &FaceFacts| is_feature(facts));
+            points_levels(alloc, mesh, positions, &rule, options, steps)
+        }
+        Select::All => {
+            let rule = SelectRule::<Every, _>::new(|facts: &FaceFacts| is_selectable(facts));
+            points_levels(alloc, mesh, positions, &rule, options, steps)
+        }
+    }
+}
+
+/// Returns the sparse levels of the positions of a mesh from level 0 to a depth, with the points that are written of each. The faces that
+/// the options select are refined further. The depth is at most 10. The call does not look at the decimals or at `uv`.
+///
+/// The fault is the first of these:
+///
+/// - `Mesh` where the mesh is no manifold, with its first fault;
+/// - `TooLarge` with the first count of the mesh that passes its limit;
+/// - `TooLarge` or `Overflow` with the first level, counted from 1, at which something of the present faces or points passes its bound.
+///
+/// At a level the order is more than 2^22 present faces (`TooLarge`), `Chaikin`, `Transition`, `Denominator`, a table of more than 2^27
+/// entries (`TooLarge`), `Value`. `Memory` may come of any mesh. The call takes at most one step for each present face of the levels
+/// from 0 to the depth. It takes at most one more for each entry of their present points.
+pub fn sparse_points<L: Ledger>(
+    alloc: Global,
+    mesh: &RawMesh,
+    options: &SparseOptions,
+    steps: &mut Steps<L>,
+) -> Result<Vec<SparseValues<Point3>>, FarFault>
+    requires { options.now.depth ≤ 10 }
+    ensures levels { ArePointsLevelsFound (sparse_of_code options.now) mesh.now result }
+    ensures steps { StepsTaken result steps.old steps.new 0 (length mesh.now.faces + sparse_position_steps (sparse_of_code options.now) mesh.now) }
+{
+    let level = level_0(alloc, mesh, steps)?;
+    selected_points(alloc, mesh, position_channel(mesh, level), options, steps)
+}
