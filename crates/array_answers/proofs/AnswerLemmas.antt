@@ -29,7 +29,11 @@ use Rattle.mesh_arrays.specs.declared.arrays.MeshArrays.{MeshArrays}
 use Rattle.mesh_arrays.specs.declared.fault.ArraysFault.{ArraysFault}
 use Rattle.fault_record.specs.Back.{IsRecordOf}
 use Rattle.fault_record.specs.declared.record.FaultRecord.{FaultRecord}
-use Rattle.array_answers.specs.Refused.{IsRefusal, record_of_arrays}
+use Rattle.mesh_check.specs.declared.fault.MeshFault.{MeshFault}
+use Rattle.mesh_arrays.specs.declared.fault.ArraysFault.TheVariants as arrays_fault
+use Rattle.fault_record.specs.Arrays.{row}
+use Rattle.array_answers.specs.Refused.{IsRefusal, AreNoMesh, record_of_arrays}
+use Rattle.array_answers.specs.Faults.{AreListed, AreFaultsOf}
 use Rattle.array_answers.specs.Composed.{ArePointsOf}
 use Rattle.array_answers.specs.declared.points.RefinedPoints.{RefinedPoints}
 
@@ -72,3 +76,11 @@ points-found arrays depth mesh composed found few good is common are = record {
   points = subst (λ m. AreRefined Tables m depth composed.level found.points.items) good.same are;
   put = all-can-be-put found.common found.points.items (subst (λ n. All (CanBeWritten n) found.points.items) (sym common) are.written);
 }
+
+-- what is listed of their mesh is listed of the arrays
+pub faults-found : (arrays : MeshArrays) (mesh : ObjMesh) (faults : List MeshFault) → IsMeshOf arrays mesh → AreListed mesh faults → AreFaultsOf arrays faults
+faults-found arrays mesh faults good listed = record { good = subst (IsMeshOf arrays) good.same good; listed = subst (λ m. AreListed m faults) good.same listed }
+
+-- memory may run out at any arrays
+pub no-memory : (arrays : MeshArrays) (found : FaultRecord) → found ≡ row 11 0 0 0 → AreNoMesh arrays found
+no-memory arrays found is = record { fault = arrays_fault.Memory; is = tt; recorded = is }

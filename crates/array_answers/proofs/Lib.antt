@@ -1,1 +1,4 @@
 pub mod AnswerLemmas
+pub mod RowLemmas
+pub mod OriginLemmas
+pub mod SparseLemmas

@@ -2,6 +2,7 @@
 
 ghost use Rattle.std.specs.Prelude.{◌≡◌};
 ghost use Rattle.array_answers.specs.Refused as spec;
+ghost use Rattle.array_answers.specs.Rows.{bad_request};
 ghost use Rattle.fault_record.specs.Arrays.{row};
 
 use far_fault::FarFault;
@@ -34,9 +35,9 @@ pub(crate) fn record_of_arrays(fault: &ArraysFault) -> FaultRecord
     }
 }
 
-/// The record of a depth above 10.
-pub(crate) fn bad_depth() -> FaultRecord
-    ensures { result ≡ spec.bad_depth }
+/// The record of a request with a number that is out of its range, or with texture that the mesh does not have.
+pub(crate) fn bad_request() -> FaultRecord
+    ensures { result ≡ bad_request }
 {
     FaultRecord {
         status: BAD_ARGUMENT,
@@ -44,4 +45,11 @@ pub(crate) fn bad_depth() -> FaultRecord
         first: 0,
         second: 0,
     }
+}
+
+/// The record of a depth above 10.
+pub(crate) fn bad_depth() -> FaultRecord
+    ensures { result ≡ spec.bad_depth }
+{
+    bad_request()
 }
