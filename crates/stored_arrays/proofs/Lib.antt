@@ -1,0 +1,4 @@
+mod EntryLemmas
+mod BuiltLemmas
+mod CheckLemmas
+mod OwnLemmas

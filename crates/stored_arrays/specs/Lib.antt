@@ -1,0 +1,5 @@
+pub mod Texts
+pub mod Rows
+pub mod Entries
+pub mod Built
+pub mod Checked

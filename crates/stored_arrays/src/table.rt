@@ -1,0 +1,132 @@
+//! The table of rows in arrays of a caller.
+
+ghost use Rattle.std.specs.Prelude.{◌≡◌, ◌<◌, true, length, IfOk, MatchResult};
+ghost use Rattle.fault_record.specs.Arrays.{row};
+ghost use Rattle.stored_arrays.specs.Built.{AreAdded, AreFirstRows, IsAdded, IsRowsFault};
+ghost use Rattle.stored_arrays.specs.Rows.{IsTableOf, IsTableOfRows, is_in_shape};
+
+use crate::entries::read_row;
+use crate::rows::{ExactRows, are_in_shape, denominator_of};
+use far_fault::FarFault;
+use fault_record::{BAD_ARRAYS, FaultRecord, record_of};
+use number_width::Width;
+use ratio128::Memory;
+use std::alloc::Global;
+use stencil_apply::{Entry, StencilTable, TableBuilder};
+
+// The rows that were added, and a place for the entries of one row.
+#[derive(Drop)]
+struct Added {
+    builder: TableBuilder,
+    entries: Vec<Entry>,
+}
+
+// No rows, with room for those of the arrays.
+fn no_rows(alloc: Global, rows: &ExactRows) -> Result<Added, Memory>
+    requires { is_in_shape rows.now ≡ true }
+    ensures { IfOk result (λ added. AreFirstRows rows.now 0 added.builder.table) }
+{
+    let builder = TableBuilder::with_room(
+        alloc,
+        rows.controls,
+        rows.denominators.len() as u32,
+        rows.indices.len() as u64,
+        Width::Narrow,
+    )?;
+    Ok(Added {
+        builder,
+        entries: Vec::new(alloc),
+    })
+}
+
+// Adds a row behind those before it, and returns whether it is good.
+fn add_row(rows: &ExactRows, r: usize, added: &mut Added) -> Result<bool, Memory>
+    requires shape { is_in_shape rows.now ≡ true }
+    requires inside { r < length rows.now.denominators.now }
+    requires before { AreFirstRows rows.now r added.old.builder.table }
+    ensures { IfOk result (λ good. IsAdded rows.now r added.new.builder.table good) }
+{
+    if !read_row(rows, r, &mut added.entries)? {
+        return Ok(false);
+    }
+    added
+        .builder
+        .add_row(denominator_of(rows, r), &added.entries)?;
+    Ok(true)
+}
+
+// Adds all rows, and returns the first one that is not good.
+fn add_rows(rows: &ExactRows, added: &mut Added) -> Result<Option<usize>, Memory>
+    requires shape { is_in_shape rows.now ≡ true }
+    requires none { AreFirstRows rows.now 0 added.old.builder.table }
+    ensures { IfOk result (λ bad. AreAdded rows.now added.new.builder.table bad) }
+{
+    for r in 0..rows.denominators.len() {
+        if !add_row(rows, r, added)? {
+            return Ok(Some(r));
+        }
+    }
+    Ok(None)
+}
+
+// A record of arrays that are no rows.
+fn bad_arrays(first: u64, second: u64) -> FaultRecord
+    ensures { result ≡ row 17 17 first second }
+{
+    FaultRecord {
+        status: BAD_ARRAYS,
+        kind: 17,
+        first,
+        second,
+    }
+}
+
+// Why there is no table.
+enum RowsFault {
+    // The row is not good.
+    Row(usize),
+    Memory,
+}
+
+impl From<Memory> for RowsFault {
+    ghost use Rattle.stored_arrays.specs.declared.table.RowsFault.TheVariants as fault;
+
+    ghost from_gives = { λ _ e. e ≡ fault.Memory };
+
+    fn from(_: Memory) -> RowsFault {
+        RowsFault::Memory
+    }
+}
+
+// The table of arrays that fit together.
+fn table_in_shape(alloc: Global, rows: &ExactRows) -> Result<StencilTable, RowsFault>
+    requires { is_in_shape rows.now ≡ true }
+    ensures { MatchResult result (IsTableOf rows.now) (IsRowsFault rows.now) }
+{
+    let mut added = no_rows(alloc, rows)?;
+    match add_rows(rows, &mut added)? {
+        Some(r) => Err(RowsFault::Row(r)),
+        None => Ok(added.builder.finish()),
+    }
+}
+
+/// Returns the table of the rows in the arrays. The work grows with the entries and the rows alone.
+///
+/// There are at most 2^27 control points, rows and entries, as many numerators as control points of entries, and exactly one start more than
+/// there are denominators. Row `r` has the entries from `starts[r]` up to `starts[r + 1]`. These are within the arrays, and a row over the
+/// control points: each once and ascending, with numerators above 0 that sum to the denominator, which is from 1 to 2^126 - 1.
+///
+/// The record has the status `BAD_ARRAYS` and the kind 17. Where the arrays do not fit together or are too long, its numbers are 0 and 1. Else
+/// they are the first row, counted from 0, that is none or has entries outside the arrays, and 0. `Memory` may come at any rows.
+pub fn table_of_rows(alloc: Global, rows: &ExactRows) -> Result<StencilTable, FaultRecord>
+    ensures { IsTableOfRows rows.now result }
+{
+    if !are_in_shape(rows) {
+        return Err(bad_arrays(0, 1));
+    }
+    match table_in_shape(alloc, rows) {
+        Ok(table) => Ok(table),
+        Err(RowsFault::Row(r)) => Err(bad_arrays(r as u64, 0)),
+        Err(RowsFault::Memory) => Err(record_of(&FarFault::Memory)),
+    }
+}
