@@ -63,7 +63,7 @@ const CUBE_CORNERS: &[u32] = &[
     0, 1, 3, 2, 2, 3, 5, 4, 4, 5, 7, 6, 6, 7, 1, 0, 1, 7, 5, 3, 6, 0, 2, 4,
 ];
 
-fn cube() -> MeshArrays<'static> {
+pub(crate) fn cube() -> MeshArrays<'static> {
     MeshArrays {
         points: CUBE_POINTS,
         scale: ONE,

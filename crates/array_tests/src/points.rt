@@ -1,8 +1,8 @@
 //! Refined points in arrays of a caller.
 
 use flat_arrays::Wide;
-use point_arrays::{put_exact_points, put_points32, put_points64};
-use ratio128::{Point3, Valued};
+use point_arrays::{put_exact_points, put_exact_values, put_points32, put_points64};
+use ratio128::{Point2, Point3, Valued};
 
 // Over 2: one half, -3/2 and 4. Over 6: one sixth, -1/3 and 0.
 const POINTS: [Valued<Point3>; 2] = [
@@ -75,4 +75,19 @@ fn points_have_numerators_and_denominators(rt: HostRuntime) {
     );
     assert_eq!(rt; numerators[6], old);
     assert_eq!(rt; denominators[2], old);
+}
+
+#[test]
+fn texture_values_have_numerators(rt: HostRuntime) {
+    let values = [Point2 { u: 1, v: -3 }, Point2 { u: 0, v: 8 }];
+    let old = Wide { low: 7, high: 7 };
+    let mut numerators = [old; 5];
+    put_exact_values(&values, &mut numerators);
+    assert!(rt;
+        numerators
+            .iter()
+            .zip(&[1, -3, 0, 8])
+            .all(|(n, want)| n.integer() == *want)
+    );
+    assert_eq!(rt; numerators[4], old);
 }
