@@ -1,1 +1,5 @@
 pub mod StatusLemmas
+mod StoredLemmas
+pub mod OriginLemmas
+pub mod TextureLemmas
+pub mod SparseLemmas

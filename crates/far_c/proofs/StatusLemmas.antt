@@ -1,5 +1,5 @@
 -- What a call answers, by whether it wrote or was refused.
-use Rattle.std.proofs.Common.{◌≡◌, ℕ, ◌*◌, Bool, true, false, nat_le, List, length, take, inl, inr, refl, sym, subst, if◌then◌else◌}
+use Rattle.std.proofs.Common.{◌≡◌, ℕ, ◌*◌, Bool, true, false, nat_le, List, length, take, Option, Some, None, MatchOption, inl, inr, refl, ap, sym, ◌∙◌, subst, if◌then◌else◌}
 use Rattle.std.proofs.lemmas.Bool.{leb-false}
 use Rattle.subdiv_model.specs.Table.{Table}
 use Rattle.nearest_float.specs.Binary.{Format}
@@ -13,26 +13,67 @@ use Rattle.level_arrays.specs.Places as level
 use Rattle.level_arrays.specs.declared.counts.LevelCounts.{LevelCounts}
 use Rattle.level_arrays.specs.declared.places.LevelPlaces.{LevelPlaces}
 use Rattle.point_arrays.specs.Points.{coordinates}
+use Rattle.array_answers.specs.Asked.{rows_asked}
+use Rattle.array_answers.specs.Rows.{AreRowsAsked, IsRequestRefused}
 use Rattle.array_answers.specs.Composed.{IsRefinedOf, ArePointsOf}
 use Rattle.array_answers.specs.declared.compose.RefinedArrays.{RefinedArrays}
 use Rattle.array_answers.specs.declared.points.RefinedPoints.{RefinedPoints}
+use Rattle.array_answers.specs.declared.request.RowRequest.{RowRequest}
+use Rattle.row_arrays.specs.Fractions.{fraction_fault, fractions_of}
+use Rattle.row_arrays.specs.declared.fraction_fault.FractionFault.{FractionFault}
+use Rattle.row_arrays.specs.declared.fractions.FractionArrays.{FractionArrays}
+use Rattle.far_c.specs.Status.{AnswersFault}
+use Rattle.far_c.specs.Fractions.{AnswersFractions, record_of_fraction_fault}
 use Rattle.far_c.specs.Answers.{AnswersTable, AnswersLevel, AnswersPoints, AnswersExactPoints, AreExactPoints, are_exact_long_enough, IsRefusedAt}
 
-module _ (mesh : MeshArrays) (depth : ℕ) (fault : FaultRecord) where
-  -- a table is written, or an array is too short
-  pub table-answered : {P : Type 0} (long_enough : TableCounts → P → Bool) (Written : Table → P → Type 0) (old new : P) (refined : RefinedArrays) (counts : TableCounts) (ok : Bool) (status : ℕ)
-      → IsRefinedOf mesh depth refined → counts ≡ table.counts_of refined.composed.table → ok ≡ long_enough (table.counts_of refined.composed.table) old
-      → (ok ≡ true → Written refined.composed.table new) → (ok ≡ false → new ≡ old) → status ≡ (if ok then 0 else 1)
-      → AnswersTable long_enough Written mesh depth status counts old new fault
-  table-answered long_enough Written old new refined counts true status is counted enough written kept done =
-      inl (done, record { refined = refined; is = is; holds = (counted, written refl) })
-  table-answered long_enough Written old new refined counts false status is counted enough written kept done =
-      inr (inl (done, record { refined = refined; is = is; holds = (counted, sym enough, kept refl) }))
+-- there is no fault
+pub none-answered : {F : Type 0} (record_of : F → FaultRecord) (fault : Option F) (held : FaultRecord) → fault ≡ None → AnswersFault record_of fault 0 held
+none-answered record_of None held e = refl
+none-answered record_of (Some found) held e = cc
 
-  pub table-refused : {P : Type 0} (long_enough : TableCounts → P → Bool) (Written : Table → P → Type 0) (old : P) (counts : TableCounts) → IsRefusedAt mesh depth fault
-      → AnswersTable long_enough Written mesh depth fault.status counts old old fault
+-- there is this fault
+pub fault-answered : {F : Type 0} (record_of : F → FaultRecord) (fault : Option F) (found : F) (held : FaultRecord) → fault ≡ Some found → held ≡ record_of found
+    → AnswersFault record_of fault held.status held
+fault-answered record_of None found held e is = cc
+fault-answered record_of (Some other) found held e is = (is ∙ ap record_of (some-same found other (sym e)), refl)
+  where
+    some-same : {F : Type 0} (a b : F) → Some a ≡ Some b → a ≡ b
+    some-same a b e = cc
+
+-- fractions are rounded
+pub fractions-answered : (f : Format) (fractions : FractionArrays) (old new : List ℕ) (held : FaultRecord) → fraction_fault fractions (length old) ≡ None
+    → AreNearest f (fractions_of fractions) (take (length fractions.numerators.now) new) → AnswersFractions f fractions 0 old new held
+fractions-answered f fractions old new held none nearest = (none-answered record_of_fraction_fault (fraction_fault fractions (length old)) held none, by (fraction_fault fractions (length old)) none)
+  where
+    by : (fault : Option FractionFault) → fault ≡ None → MatchOption fault (AreNearest f (fractions_of fractions) (take (length fractions.numerators.now) new)) (λ _. new ≡ old)
+    by None e = nearest
+    by (Some found) e = cc
+
+pub fractions-refused : (f : Format) (fractions : FractionArrays) (old new : List ℕ) (found : FractionFault) (held : FaultRecord) → fraction_fault fractions (length old) ≡ Some found
+    → held ≡ record_of_fraction_fault found → new ≡ old → AnswersFractions f fractions held.status old new held
+fractions-refused f fractions old new found held some is kept =
+    (fault-answered record_of_fraction_fault (fraction_fault fractions (length old)) found held some is, by (fraction_fault fractions (length old)) some)
+  where
+    by : (fault : Option FractionFault) → fault ≡ Some found → MatchOption fault (AreNearest f (fractions_of fractions) (take (length fractions.numerators.now) new)) (λ _. new ≡ old)
+    by None e = cc
+    by (Some other) e = kept
+
+-- a table is written, or an array is too short
+module _ (mesh : MeshArrays) (request : RowRequest) (fault : FaultRecord) where
+  pub table-answered : {P : Type 0} (long_enough : TableCounts → P → Bool) (Written : Table → P → Type 0) (old new : P) (rows : Table) (counts : TableCounts) (ok : Bool) (status : ℕ)
+      → AreRowsAsked request mesh rows → counts ≡ table.counts_of rows → ok ≡ long_enough (table.counts_of rows) old
+      → (ok ≡ true → Written rows new) → (ok ≡ false → new ≡ old) → status ≡ (if ok then 0 else 1)
+      → AnswersTable long_enough Written mesh request status counts old new fault
+  table-answered long_enough Written old new rows counts true status are counted enough written kept done =
+      inl (done, record { table = rows; are = are; holds = (counted, written refl) })
+  table-answered long_enough Written old new rows counts false status are counted enough written kept done =
+      inr (inl (done, record { table = rows; are = are; holds = (counted, sym enough, kept refl) }))
+
+  pub table-refused : {P : Type 0} (long_enough : TableCounts → P → Bool) (Written : Table → P → Type 0) (old : P) (counts : TableCounts) → IsRequestRefused (rows_asked request) mesh fault
+      → AnswersTable long_enough Written mesh request fault.status counts old old fault
   table-refused long_enough Written old counts is = inr (inr (refl, (is, refl)))
 
+module _ (mesh : MeshArrays) (depth : ℕ) (fault : FaultRecord) where
   -- a level is written, or an array is too short
   pub level-answered : (old new : LevelPlaces) (refined : RefinedArrays) (counts : LevelCounts) (ok : Bool) (status : ℕ)
       → IsRefinedOf mesh depth refined → counts ≡ level.counts_of refined.composed.level → ok ≡ level.are_long_enough (level.counts_of refined.composed.level) old

@@ -16,10 +16,13 @@ use Rattle.level_arrays.specs.Places as level
 use Rattle.level_arrays.specs.declared.counts.LevelCounts.{LevelCounts}
 use Rattle.level_arrays.specs.declared.places.LevelPlaces.{LevelPlaces}
 use Rattle.point_arrays.specs.Points.{coordinates, all_numerators, all_denominators}
+use Rattle.array_answers.specs.Asked.{rows_asked}
+use Rattle.array_answers.specs.Rows.{AreRowsAsked, IsRequestRefused}
 use Rattle.array_answers.specs.Refused.{IsRefusal}
 use Rattle.array_answers.specs.Composed.{IsRefinedOf, ArePointsOf}
 use Rattle.array_answers.specs.declared.compose.RefinedArrays.{RefinedArrays}
 use Rattle.array_answers.specs.declared.points.RefinedPoints.{RefinedPoints}
+use Rattle.array_answers.specs.declared.request.RowRequest.{RowRequest}
 use Rattle.far_c.specs.Status.{IsStatus}
 
 -- the mesh is refused at the depth, as the command `stencils` refuses it
@@ -32,13 +35,19 @@ pub record HasLevel (mesh : MeshArrays) (depth : ℕ) (Holds : Topology → Tabl
   pub is : IsRefinedOf mesh depth refined
   pub holds : Holds refined.composed.level refined.composed.table
 
--- the table at the depth is written, or only its counts where an array is too short
-abbrev pub AnswersTable : {P : Type 0} → (TableCounts → P → Bool) → (Table → P → Type 0) → MeshArrays → ℕ → ℕ → TableCounts → P → P → FaultRecord → Type 0
-AnswersTable long_enough Written mesh depth status counts old new fault =
+-- the mesh has the rows that are asked for, and of their table this holds
+pub record HasRows (mesh : MeshArrays) (request : RowRequest) (Holds : Table → Type 0) : Type 0 where
+  pub table : Table
+  pub are : AreRowsAsked request mesh table
+  pub holds : Holds table
+
+-- their table is written, or only its counts where an array is too short
+abbrev pub AnswersTable : {P : Type 0} → (TableCounts → P → Bool) → (Table → P → Type 0) → MeshArrays → RowRequest → ℕ → TableCounts → P → P → FaultRecord → Type 0
+AnswersTable long_enough Written mesh request status counts old new fault =
     IsStatus status
-    (HasLevel mesh depth (λ l t. (counts ≡ table.counts_of t) × Written t new))
-    (HasLevel mesh depth (λ l t. (counts ≡ table.counts_of t) × (long_enough (table.counts_of t) old ≡ false) × (new ≡ old)))
-    (λ found. IsRefusedAt mesh depth found × (new ≡ old)) fault
+    (HasRows mesh request (λ t. (counts ≡ table.counts_of t) × Written t new))
+    (HasRows mesh request (λ t. (counts ≡ table.counts_of t) × (long_enough (table.counts_of t) old ≡ false) × (new ≡ old)))
+    (λ found. IsRequestRefused (rows_asked request) mesh found × (new ≡ old)) fault
 
 -- the faces and the edges of the level are written, or only its counts where an array is too short
 abbrev pub AnswersLevel : MeshArrays → ℕ → ℕ → LevelCounts → LevelPlaces → LevelPlaces → FaultRecord → Type 0

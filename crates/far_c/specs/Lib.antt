@@ -2,3 +2,10 @@ pub mod Status
 pub mod Answers
 pub mod Numbers
 pub mod Texts
+pub mod Rows
+pub mod Fractions
+pub mod Stored
+pub mod Origins
+pub mod Faults
+pub mod Textures
+pub mod Sparse

@@ -3,10 +3,17 @@
 #![tactic(auto)]
 
 mod fault;
+mod faults;
+mod fractions;
 mod level;
 mod numbers;
+mod origins;
 mod points;
+mod rows;
 mod run;
+mod sparse;
 mod status;
+mod stored;
 mod tables;
 mod text;
+mod textures;

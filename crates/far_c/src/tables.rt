@@ -6,7 +6,7 @@ ghost use Rattle.table_arrays.specs.Places as table;
 ghost use Rattle.far_c.specs.Answers.{AnswersTable};
 
 use crate::status::written;
-use array_answers::refine_arrays;
+use array_answers::{RowRequest, rows_of_arrays};
 use fault_record::FaultRecord;
 use mesh_arrays::MeshArrays;
 use std::alloc::Global;
@@ -15,28 +15,28 @@ use table_arrays::{
     put_exact_table, put_float_table,
 };
 
-/// Writes the table of the points of a mesh at a depth with exact weights, and its counts.
+/// Writes the table of the rows that are asked for of a mesh with exact weights, and its counts.
 #[unsafe(no_mangle)]
 pub extern "C" fn far_table_exact(
     alloc: Global,
     mesh: &MeshArrays,
-    depth: u32,
+    request: &RowRequest,
     counts: &mut TableCounts,
     places: &mut ExactPlaces,
     fault: &mut FaultRecord,
 ) -> u32
-    ensures answer { AnswersTable table.are_exact_long_enough table.IsExactWritten mesh.now depth result counts.new places.old places.new fault.new }
+    ensures answer { AnswersTable table.are_exact_long_enough table.IsExactWritten mesh.now request.now result counts.new places.old places.new fault.new }
     ensures starts { IsSameArray places.old.starts places.new.starts }
     ensures indices { IsSameArray places.old.indices places.new.indices }
     ensures numerators { IsSameArray places.old.numerators places.new.numerators }
     ensures denominators { IsSameArray places.old.denominators places.new.denominators }
 {
-    match refine_arrays(alloc, mesh, depth) {
-        Ok(refined) => {
-            *counts = counts_of(&refined.composed.table);
-            let done = put_exact_table(&refined.composed.table, places);
+    match rows_of_arrays(alloc, mesh, request) {
+        Ok(rows) => {
+            *counts = counts_of(&rows);
+            let done = put_exact_table(&rows, places);
             // The prover proves a drop by name once for its type.
-            drop(refined);
+            drop(rows);
             written(done)
         }
         Err(found) => {
@@ -46,27 +46,27 @@ pub extern "C" fn far_table_exact(
     }
 }
 
-/// Writes the table of the points of a mesh at a depth with the nearest doubles of its weights, and its counts.
+/// Writes the table of the rows that are asked for of a mesh with the nearest doubles of its weights, and its counts.
 #[unsafe(no_mangle)]
 pub extern "C" fn far_table_doubles(
     alloc: Global,
     mesh: &MeshArrays,
-    depth: u32,
+    request: &RowRequest,
     counts: &mut TableCounts,
     places: &mut DoublePlaces,
     fault: &mut FaultRecord,
 ) -> u32
-    ensures answer { AnswersTable table.are_doubles_long_enough table.AreDoublesWritten mesh.now depth result counts.new places.old places.new fault.new }
+    ensures answer { AnswersTable table.are_doubles_long_enough table.AreDoublesWritten mesh.now request.now result counts.new places.old places.new fault.new }
     ensures starts { IsSameArray places.old.starts places.new.starts }
     ensures indices { IsSameArray places.old.indices places.new.indices }
     ensures weights { IsSameArray places.old.weights places.new.weights }
 {
-    match refine_arrays(alloc, mesh, depth) {
-        Ok(refined) => {
-            *counts = counts_of(&refined.composed.table);
-            let done = put_double_table(&refined.composed.table, places);
+    match rows_of_arrays(alloc, mesh, request) {
+        Ok(rows) => {
+            *counts = counts_of(&rows);
+            let done = put_double_table(&rows, places);
             // The prover proves a drop by name once for its type.
-            drop(refined);
+            drop(rows);
             written(done)
         }
         Err(found) => {
@@ -76,27 +76,27 @@ pub extern "C" fn far_table_doubles(
     }
 }
 
-/// Writes the table of the points of a mesh at a depth with the nearest floats of its weights, and its counts.
+/// Writes the table of the rows that are asked for of a mesh with the nearest floats of its weights, and its counts.
 #[unsafe(no_mangle)]
 pub extern "C" fn far_table_floats(
     alloc: Global,
     mesh: &MeshArrays,
-    depth: u32,
+    request: &RowRequest,
     counts: &mut TableCounts,
     places: &mut FloatPlaces,
     fault: &mut FaultRecord,
 ) -> u32
-    ensures answer { AnswersTable table.are_floats_long_enough table.AreFloatsWritten mesh.now depth result counts.new places.old places.new fault.new }
+    ensures answer { AnswersTable table.are_floats_long_enough table.AreFloatsWritten mesh.now request.now result counts.new places.old places.new fault.new }
     ensures starts { IsSameArray places.old.starts places.new.starts }
     ensures indices { IsSameArray places.old.indices places.new.indices }
     ensures weights { IsSameArray places.old.weights places.new.weights }
 {
-    match refine_arrays(alloc, mesh, depth) {
-        Ok(refined) => {
-            *counts = counts_of(&refined.composed.table);
-            let done = put_float_table(&refined.composed.table, places);
+    match rows_of_arrays(alloc, mesh, request) {
+        Ok(rows) => {
+            *counts = counts_of(&rows);
+            let done = put_float_table(&rows, places);
             // The prover proves a drop by name once for its type.
-            drop(refined);
+            drop(rows);
             written(done)
         }
         Err(found) => {

@@ -1,0 +1,25 @@
+-- What a call answers that writes origins.
+use Rattle.std.proofs.Common.{◌≡◌, ℕ, inl, inr, Bool, true, false, refl, sym, if◌then◌else◌}
+use Rattle.level_origins.specs.View.{seen_origins}
+use Rattle.level_origins.specs.Places as places
+use Rattle.level_origins.specs.declared.origin.Origins.{Origins}
+use Rattle.level_origins.specs.declared.places.OriginCounts.{OriginCounts}
+use Rattle.level_origins.specs.declared.places.OriginPlaces.{OriginPlaces}
+use Rattle.mesh_arrays.specs.declared.arrays.MeshArrays.{MeshArrays}
+use Rattle.fault_record.specs.declared.record.FaultRecord.{FaultRecord}
+use Rattle.array_answers.specs.Origins.{AreOriginsOfArrays, IsLevelsRefusal}
+use Rattle.far_c.specs.Origins.{AnswersOrigins}
+
+module _ (mesh : MeshArrays) (depth : ℕ) (fault : FaultRecord) where
+  -- origins are written, or an array is too short
+  pub origins-answered : (old new : OriginPlaces) (origins : Origins) (counts : OriginCounts) (ok : Bool) (status : ℕ)
+      → AreOriginsOfArrays mesh depth origins → counts ≡ places.counts_of (seen_origins origins) → ok ≡ places.are_long_enough (seen_origins origins) old
+      → (ok ≡ true → places.IsWritten (seen_origins origins) new) → (ok ≡ false → new ≡ old) → status ≡ (if ok then 0 else 1)
+      → AnswersOrigins mesh depth status counts old new fault
+  origins-answered old new origins counts true status are counted enough written kept done =
+      inl (done, record { origins = origins; are = are; holds = (counted, written refl) })
+  origins-answered old new origins counts false status are counted enough written kept done =
+      inr (inl (done, record { origins = origins; are = are; holds = (counted, sym enough, kept refl) }))
+
+  pub origins-refused : (old : OriginPlaces) (counts : OriginCounts) → IsLevelsRefusal mesh depth fault → AnswersOrigins mesh depth fault.status counts old old fault
+  origins-refused old counts is = inr (inr (refl, (is, refl)))

@@ -1,0 +1,12 @@
+use Rattle.nearest_float.specs.Binary.{binary32}
+use Rattle.far_c.proofs.StatusLemmas.{fractions-answered, fractions-refused}
+use Rattle.far_c.proofs.fractions.far_nearest_floats.Goals as goal
+
+pub returns-in-Ok-clause-answer : goal.returns-in-Ok-clause-answer
+returns-in-Ok-clause-answer c =
+    fractions-answered binary32 c.args.fractions.now c.args.out.now c.round_fractions32.new.out c.args.fault.now c.in-Ok.ensures.fault c.in-Ok.ensures.put
+
+pub returns-in-Err-clause-answer : goal.returns-in-Err-clause-answer
+returns-in-Err-clause-answer c =
+    fractions-refused binary32 c.args.fractions.now c.args.out.now c.round_fractions32.new.out c.in-Err.found c.record_of_fraction_fault.result c.in-Err.ensures.fault
+    c.record_of_fraction_fault.ensures c.in-Err.ensures.put

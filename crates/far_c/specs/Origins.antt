@@ -1,0 +1,26 @@
+-- What is answered to a mesh: where its level at a depth lies on it.
+use Rattle.std.specs.Prelude.{ℕ, ◌≡◌, false}
+use Rattle.level_origins.specs.Origins as model
+use Rattle.level_origins.specs.View.{seen_origins}
+use Rattle.level_origins.specs.Places as places
+use Rattle.level_origins.specs.declared.origin.Origins.{Origins}
+use Rattle.level_origins.specs.declared.places.OriginCounts.{OriginCounts}
+use Rattle.level_origins.specs.declared.places.OriginPlaces.{OriginPlaces}
+use Rattle.mesh_arrays.specs.declared.arrays.MeshArrays.{MeshArrays}
+use Rattle.fault_record.specs.declared.record.FaultRecord.{FaultRecord}
+use Rattle.array_answers.specs.Origins.{AreOriginsOfArrays, IsLevelsRefusal}
+use Rattle.far_c.specs.Status.{IsStatus}
+
+-- the mesh has a level at the depth with these origins, of which this holds
+pub record HasOrigins (mesh : MeshArrays) (depth : ℕ) (Holds : model.Origins → Type 0) : Type 0 where
+  pub origins : Origins
+  pub are : AreOriginsOfArrays mesh depth origins
+  pub holds : Holds (seen_origins origins)
+
+-- the origins are written, or only their counts where an array is too short
+abbrev pub AnswersOrigins : MeshArrays → ℕ → ℕ → OriginCounts → OriginPlaces → OriginPlaces → FaultRecord → Type 0
+AnswersOrigins mesh depth status counts old new fault =
+    IsStatus status
+    (HasOrigins mesh depth (λ o. (counts ≡ places.counts_of o) × places.IsWritten o new))
+    (HasOrigins mesh depth (λ o. (counts ≡ places.counts_of o) × (places.are_long_enough o old ≡ false) × (new ≡ old)))
+    (λ found. IsLevelsRefusal mesh depth found × (new ≡ old)) fault

@@ -1,0 +1,59 @@
+-- What is answered to stored tables: rows in arrays, a text, and whether a text is that of a mesh.
+use Rattle.std.specs.Prelude.{ℕ, ◌≡◌, ◌<◌, ◌≤◌, false, List, length, take}
+use Rattle.subdiv_model.specs.Table.{Table}
+use Rattle.subdiv_model.specs.TableText.{text_of_table}
+use Rattle.memory_streams.specs.Text.{count_of}
+use Rattle.mesh_arrays.specs.declared.arrays.MeshArrays.{MeshArrays}
+use Rattle.fault_record.specs.declared.record.FaultRecord.{FaultRecord}
+use Rattle.table_file.specs.Read.{TableRead}
+use Rattle.table_arrays.specs.Places as table
+use Rattle.table_arrays.specs.declared.places.TableCounts.{TableCounts}
+use Rattle.table_arrays.specs.declared.places.ExactPlaces.{ExactPlaces}
+use Rattle.stored_arrays.specs.Texts.{IsReadOf, IsRefusedFor, read_refusal}
+use Rattle.stored_arrays.specs.Rows.{AreRowsRefused, IsTableOf}
+use Rattle.stored_arrays.specs.Checked.{IsNotOwn, IsOwnText}
+use Rattle.stored_arrays.specs.declared.rows.ExactRows.{ExactRows}
+use Rattle.far_c.specs.Status.{IsStatus}
+
+-- the text begins with that of a table with these counts, which has so many bytes, and of which this holds
+pub record HasStored (text : List ℕ) (counts : TableCounts) (end : ℕ) (Holds : Table → Type 0) : Type 0 where
+  pub read : TableRead
+  pub is : IsReadOf text read
+  pub counted : counts ≡ table.counts_of read.table
+  pub ended : end ≡ read.end
+  pub holds : Holds read.table
+
+-- the table is written, or only its counts and the end of its text where an array is too short
+abbrev pub AnswersRead : List ℕ → ℕ → TableCounts → ℕ → ExactPlaces → ExactPlaces → FaultRecord → Type 0
+AnswersRead text status counts end old new fault =
+    IsStatus status
+    (HasStored text counts end (λ t. table.IsExactWritten t new))
+    (HasStored text counts end (λ t. (table.are_exact_long_enough (table.counts_of t) old ≡ false) × (new ≡ old)))
+    (λ found. IsRefusedFor (read_refusal text) found × (new ≡ old)) fault
+
+-- the rows are those of a table, of whose text this holds
+pub record HasText (rows : ExactRows) (Holds : List ℕ → Type 0) : Type 0 where
+  pub made : Table
+  pub is : IsTableOf rows made
+  pub holds : Holds (text_of_table made)
+
+-- the bytes begin with the text, which has so many bytes
+pub record IsWritten (text new : List ℕ) (written : ℕ) : Type 0 where
+  pub fits : length text ≤ length new
+  pub front : take (length text) new ≡ text
+  pub counted : written ≡ length text
+
+-- the bytes are the beginning of the text, which is longer
+pub record IsCut (text new : List ℕ) (written : ℕ) : Type 0 where
+  pub longer : length new < length text
+  pub front : new ≡ take (length new) text
+  pub counted : written ≡ count_of text
+
+-- the text is written, or as much of it as fits
+abbrev pub AnswersWrite : ExactRows → ℕ → ℕ → List ℕ → List ℕ → FaultRecord → Type 0
+AnswersWrite rows status written old new fault =
+    IsStatus status (HasText rows (λ text. IsWritten text new written)) (HasText rows (λ text. IsCut text new written)) (λ found. AreRowsRefused rows found × (new ≡ old)) fault
+
+-- the text is that of the table of the mesh at the depth, or why it is not
+abbrev pub AnswersCheck : MeshArrays → ℕ → List ℕ → ℕ → FaultRecord → Type 0
+AnswersCheck mesh depth text status fault = IsStatus status ((rows : ℕ) × IsOwnText mesh depth text rows) ⊥ (IsNotOwn mesh depth text) fault

@@ -1,0 +1,35 @@
+//! The faults of a mesh.
+
+ghost use Rattle.std.specs.Prelude.{◌≡◌, length};
+ghost use Rattle.far_c.specs.Faults.{AnswersFaults};
+
+use crate::status::written;
+use array_answers::faults_of_arrays;
+use fault_record::{FaultRecord, put_mesh_faults};
+use mesh_arrays::MeshArrays;
+use std::alloc::Global;
+
+/// Writes the records of all faults of a mesh into the first places of an array, and how many there are. A manifold has none.
+#[unsafe(no_mangle)]
+pub extern "C" fn far_mesh_faults(
+    alloc: Global,
+    mesh: &MeshArrays,
+    count: &mut u64,
+    out: &mut [FaultRecord],
+    fault: &mut FaultRecord,
+) -> u32
+    ensures answer { AnswersFaults mesh.now result count.new out.old out.new fault.new }
+    ensures len { length out.new ≡ length out.old }
+{
+    match faults_of_arrays(alloc, mesh) {
+        Ok(faults) => {
+            *count = faults.len() as u64;
+            let done = put_mesh_faults(&faults, out);
+            written(done)
+        }
+        Err(found) => {
+            *fault = found;
+            found.status
+        }
+    }
+}

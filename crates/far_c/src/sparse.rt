@@ -1,0 +1,40 @@
+//! Sparse levels of a mesh.
+
+ghost use Rattle.std.specs.Prelude.{◌≡◌};
+ghost use Rattle.sparse_arrays.specs.Places.{AreSamePlaces};
+ghost use Rattle.far_c.specs.Sparse.{AnswersSparse};
+
+use crate::status::written;
+use array_answers::{SparseRequest, sparse_of_arrays};
+use fault_record::FaultRecord;
+use mesh_arrays::MeshArrays;
+use sparse_arrays::{SparseCounts, SparsePlaces, counts_of, put_sparse};
+use std::alloc::Global;
+
+/// Writes the sparse levels of a mesh that a request asks for, with their points, and how much they have of each kind.
+#[unsafe(no_mangle)]
+pub extern "C" fn far_sparse(
+    alloc: Global,
+    mesh: &MeshArrays,
+    request: &SparseRequest,
+    counts: &mut SparseCounts,
+    places: &mut SparsePlaces,
+    fault: &mut FaultRecord,
+) -> u32
+    ensures answer { AnswersSparse mesh.now request.now result counts.new places.old places.new fault.new }
+    ensures places { AreSamePlaces places.old places.new }
+{
+    match sparse_of_arrays(alloc, mesh, request) {
+        Ok(sparse) => {
+            *counts = counts_of(&sparse.levels);
+            let done = put_sparse(&sparse.levels, sparse.common, places);
+            // The prover proves a drop by name once for its type.
+            drop(sparse);
+            written(done)
+        }
+        Err(found) => {
+            *fault = found;
+            found.status
+        }
+    }
+}

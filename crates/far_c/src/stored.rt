@@ -1,0 +1,90 @@
+//! Stored tables.
+
+ghost use Rattle.std.specs.Prelude.{◌≡◌, length};
+ghost use Rattle.flat_arrays.specs.Places.{IsSameArray};
+ghost use Rattle.far_c.specs.Stored.{AnswersCheck, AnswersRead, AnswersWrite};
+
+use crate::status;
+use fault_record::{DONE, FaultRecord};
+use mesh_arrays::MeshArrays;
+use std::alloc::Global;
+use stored_arrays::{ExactRows, check_stored, read_stored, table_of_rows, write_stored};
+use table_arrays::{ExactPlaces, TableCounts, counts_of, put_exact_table};
+
+/// Writes the table whose text these bytes begin with into arrays, with its counts, and how many bytes its text has.
+#[unsafe(no_mangle)]
+pub extern "C" fn far_table_read(
+    alloc: Global,
+    text: &[u8],
+    counts: &mut TableCounts,
+    places: &mut ExactPlaces,
+    end: &mut u64,
+    fault: &mut FaultRecord,
+) -> u32
+    ensures answer { AnswersRead text.now result counts.new end.new places.old places.new fault.new }
+    ensures starts { IsSameArray places.old.starts places.new.starts }
+    ensures indices { IsSameArray places.old.indices places.new.indices }
+    ensures numerators { IsSameArray places.old.numerators places.new.numerators }
+    ensures denominators { IsSameArray places.old.denominators places.new.denominators }
+{
+    match read_stored(alloc, text) {
+        Ok(read) => {
+            *counts = counts_of(read.table());
+            *end = read.end() as u64;
+            let done = put_exact_table(read.table(), places);
+            // The prover proves a drop by name once for its type.
+            drop(read);
+            status::written(done)
+        }
+        Err(found) => {
+            *fault = found;
+            found.status
+        }
+    }
+}
+
+/// Writes the text of the table of the rows as far as it fits, and how many bytes the whole text has. The status is 1 where it does not fit.
+#[unsafe(no_mangle)]
+pub extern "C" fn far_table_write(
+    alloc: Global,
+    rows: &ExactRows,
+    written: &mut u64,
+    out: &mut [u8],
+    fault: &mut FaultRecord,
+) -> u32
+    ensures answer { AnswersWrite rows.now result written.new out.old out.new fault.new }
+    ensures len { length out.new ≡ length out.old }
+{
+    match table_of_rows(alloc, rows) {
+        Ok(table) => {
+            *written = write_stored(&table, out);
+            // The prover proves a drop by name once for its type.
+            drop(table);
+            status::written(*written <= out.len() as u64)
+        }
+        Err(found) => {
+            *fault = found;
+            found.status
+        }
+    }
+}
+
+/// Says whether the bytes are the text of the table of a mesh at a depth, and no others.
+#[unsafe(no_mangle)]
+pub extern "C" fn far_table_check(
+    alloc: Global,
+    mesh: &MeshArrays,
+    depth: u32,
+    text: &[u8],
+    fault: &mut FaultRecord,
+) -> u32
+    ensures { AnswersCheck mesh.now depth text.now result fault.new }
+{
+    match check_stored(alloc, mesh, depth, text) {
+        Ok(_) => DONE,
+        Err(found) => {
+            *fault = found;
+            found.status
+        }
+    }
+}

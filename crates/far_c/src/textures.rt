@@ -1,0 +1,99 @@
+//! The texture of a mesh.
+
+ghost use Rattle.std.specs.Prelude.{◌≡◌, ◌*◌, length, nat_le, map, take, true, false};
+ghost use Rattle.flat_arrays.specs.Places.{IsSameArray};
+ghost use Rattle.flat_arrays.specs.Words.{integer_of};
+ghost use Rattle.point_arrays.specs.Values.{all_value_numerators};
+ghost use Rattle.far_c.specs.Textures.{AnswersTextureLevel, AnswersTextureValues};
+
+use crate::status::written;
+use array_answers::{TextureArrays, texture_of_arrays};
+use fault_record::FaultRecord;
+use flat_arrays::Wide;
+use level_arrays::{LevelCounts, LevelPlaces, counts_of, put_level};
+use mesh_arrays::MeshArrays;
+use point_arrays::put_exact_values;
+use std::alloc::Global;
+
+// How many points the cut mesh has.
+fn count_of(found: &TextureArrays) -> u64
+    ensures { result ≡ length found.now.texture.values.items }
+{
+    found.texture.values.len() as u64
+}
+
+// Writes the values of the points of the cut mesh, where the array is long enough, and returns whether it did.
+fn put_values(found: &TextureArrays, out: &mut [Wide]) -> bool
+    ensures long_enough { result ≡ nat_le (2 * length found.now.texture.values.items) (length out.old) }
+    ensures written { result ≡ true → map integer_of (take (2 * length found.now.texture.values.items) out.new) ≡ all_value_numerators found.now.texture.values.items }
+    ensures kept { result ≡ false → out.new ≡ out.old }
+    ensures len { length out.new ≡ length out.old }
+{
+    let values = found.texture.values.as_slice();
+    if out.len() / 2 < values.len() {
+        return false;
+    }
+    put_exact_values(values, out);
+    true
+}
+
+/// Writes the faces and the edges of the level of the cut mesh of a mesh at a depth, and its counts.
+#[unsafe(no_mangle)]
+pub extern "C" fn far_texture_level(
+    alloc: Global,
+    mesh: &MeshArrays,
+    seams: u32,
+    depth: u32,
+    counts: &mut LevelCounts,
+    places: &mut LevelPlaces,
+    fault: &mut FaultRecord,
+) -> u32
+    ensures answer { AnswersTextureLevel mesh.now seams depth result counts.new places.old places.new fault.new }
+    ensures face_sizes { IsSameArray places.old.face_sizes places.new.face_sizes }
+    ensures corners { IsSameArray places.old.corners places.new.corners }
+    ensures edges { IsSameArray places.old.edges places.new.edges }
+    ensures holes { IsSameArray places.old.holes places.new.holes }
+{
+    match texture_of_arrays(alloc, mesh, seams, depth) {
+        Ok(found) => {
+            *counts = counts_of(&found.texture.level);
+            let done = put_level(&found.texture.level, places);
+            // The prover proves a drop by name once for its type.
+            drop(found);
+            written(done)
+        }
+        Err(refused) => {
+            *fault = refused;
+            refused.status
+        }
+    }
+}
+
+/// Writes the values of the points of the cut mesh of a mesh, two numerators each over the common denominator of the texture, and how
+/// many points there are. They come in the order of the controls of the table of its texture points.
+#[unsafe(no_mangle)]
+pub extern "C" fn far_texture_values(
+    alloc: Global,
+    mesh: &MeshArrays,
+    seams: u32,
+    count: &mut u64,
+    out: &mut [Wide],
+    fault: &mut FaultRecord,
+) -> u32
+    ensures answer { AnswersTextureValues mesh.now seams result count.new out.old out.new fault.new }
+    ensures len { length out.new ≡ length out.old }
+{
+    match texture_of_arrays(alloc, mesh, seams, 0) {
+        Ok(found) => {
+            *count = count_of(&found);
+            let done = put_values(&found, out);
+            // The prover proves a drop by name once for its type.
+            drop(found);
+            written(done)
+        }
+        Err(refused) => {
+            *fault = refused;
+            refused.status
+        }
+    }
+}
