@@ -149,6 +149,18 @@ public:
     }
     outcome check() const { return outcome(drillolive_mesh_check(get())); }
 
+    /* All faults of a mesh that is no manifold. */
+    result<std::vector<drillolive_fault>> faults() const {
+        std::vector<drillolive_fault> list;
+        std::size_t count = 0;
+        drillolive_fault fault = drillolive_mesh_faults(get(), nullptr, 0, &count);
+        if (fault.status == DRILLOLIVE_DONE && count) {
+            list.resize(count);
+            fault = drillolive_mesh_faults(get(), list.data(), count, &count);
+        }
+        return {fault, std::move(list)};
+    }
+
     drillolive_mesh_counts counts() const {
         drillolive_mesh_counts counts = {};
         drillolive_mesh_count(get(), &counts);
@@ -180,6 +192,31 @@ public:
     static result<table> of_exact(const mesh &cage, std::uint32_t depth) {
         return detail::made<table, drillolive_table>(drillolive_table_new_exact, cage.get(), depth);
     }
+    static result<table> of_limit(const mesh &cage, std::uint32_t depth, drillolive_form form = DRILLOLIVE_DOUBLES) {
+        return detail::made<table, drillolive_table>(drillolive_table_new_limit, cage.get(), depth, form);
+    }
+    static result<table> of_patch(const mesh &cage, std::uint32_t depth, std::uint32_t face, std::uint32_t grid,
+                                  drillolive_form form = DRILLOLIVE_DOUBLES) {
+        return detail::made<table, drillolive_table>(drillolive_table_new_patch, cage.get(), depth, face, grid, form);
+    }
+    static result<table> of_texture(const mesh &cage, std::uint32_t depth, drillolive_seams seams, drillolive_form form = DRILLOLIVE_DOUBLES) {
+        return detail::made<table, drillolive_table>(drillolive_table_new_texture, cage.get(), depth, seams, form);
+    }
+    /* The exact table of the text of a stored one, which the bytes begin with. */
+    static result<table> of_stored(const std::string &text) {
+        drillolive_table *handle = nullptr;
+        std::size_t used = 0;
+        drillolive_fault fault = drillolive_table_new_stored(text.data(), text.size(), &used, &handle);
+        return result<table>(fault, table(handle));
+    }
+    result<std::string> text() const {
+        drillolive_output *output = nullptr;
+        drillolive_fault fault = drillolive_table_write(get(), &output);
+        detail::owner<drillolive_output, drillolive_output_free> held_output(output);
+        std::size_t length = 0;
+        const char *bytes = drillolive_output_text(output, &length);
+        return {fault, bytes ? std::string(bytes, length) : std::string()};
+    }
 
     drillolive_table_counts counts() const {
         drillolive_table_counts counts = {};
@@ -204,6 +241,13 @@ public:
         std::vector<float> out(counts().rows * components);
         drillolive_fault fault = drillolive_table_apply_floats(get(), controls.data(), count_of(controls.size(), components), components, 0,
                                                                counts().rows, out.data());
+        return {fault, std::move(out)};
+    }
+    /* Evaluates all rows of an exact table over numerators. */
+    result<std::vector<wide>> apply(view<wide> controls, std::size_t components) const {
+        std::vector<wide> out(counts().rows * components);
+        drillolive_fault fault = drillolive_table_apply_exact(get(), controls.data(), count_of(controls.size(), components), components, 0,
+                                                              counts().rows, out.data());
         return {fault, std::move(out)};
     }
     /* Evaluates a range of rows into the caller's array. */
@@ -234,11 +278,22 @@ public:
     static result<points> of_exact(const mesh &cage, std::uint32_t depth) {
         return detail::made<points, drillolive_points>(drillolive_refine_exact, cage.get(), depth);
     }
+    static result<points> of_limit(const mesh &cage, std::uint32_t depth, drillolive_form form = DRILLOLIVE_DOUBLES) {
+        return detail::made<points, drillolive_points>(drillolive_points_new_limit, cage.get(), depth, form);
+    }
+    static result<points> of_patch(const mesh &cage, std::uint32_t depth, std::uint32_t face, std::uint32_t grid,
+                                   drillolive_form form = DRILLOLIVE_DOUBLES) {
+        return detail::made<points, drillolive_points>(drillolive_points_new_patch, cage.get(), depth, face, grid, form);
+    }
+    static result<points> of_texture(const mesh &cage, std::uint32_t depth, drillolive_seams seams, drillolive_form form = DRILLOLIVE_DOUBLES) {
+        return detail::made<points, drillolive_points>(drillolive_points_new_texture, cage.get(), depth, seams, form);
+    }
 
     std::size_t count() const { return drillolive_points_count(get()); }
-    view<double> doubles() const { return {drillolive_points_doubles(get()), 3 * count()}; }
-    view<float> floats() const { return {drillolive_points_floats(get()), 3 * count()}; }
-    view<wide> numerators() const { return {drillolive_points_numerators(get()), 3 * count()}; }
+    std::size_t components() const { return drillolive_points_components(get()); }
+    view<double> doubles() const { return {drillolive_points_doubles(get()), components() * count()}; }
+    view<float> floats() const { return {drillolive_points_floats(get()), components() * count()}; }
+    view<wide> numerators() const { return {drillolive_points_numerators(get()), components() * count()}; }
     view<wide> denominators() const { return {drillolive_points_denominators(get()), count()}; }
 
 private:
@@ -253,6 +308,9 @@ public:
 
     static result<level> of(const mesh &cage, std::uint32_t depth) {
         return detail::made<level, drillolive_level>(drillolive_level_new, cage.get(), depth);
+    }
+    static result<level> of_texture(const mesh &cage, std::uint32_t depth, drillolive_seams seams) {
+        return detail::made<level, drillolive_level>(drillolive_level_new_texture, cage.get(), depth, seams);
     }
 
     drillolive_level_counts counts() const {
@@ -272,6 +330,97 @@ public:
 
 private:
     detail::owner<drillolive_level, drillolive_level_free> held;
+};
+
+/* Where the points and the faces of a level come from in the mesh. */
+class origins {
+public:
+    origins() = default;
+    explicit origins(drillolive_origins *handle) : held(handle) {}
+    const drillolive_origins *get() const { return held.get(); }
+
+    static result<origins> of(const mesh &cage, std::uint32_t depth) {
+        return detail::made<origins, drillolive_origins>(drillolive_origins_new, cage.get(), depth);
+    }
+
+    view<std::uint8_t> kinds() const { return {drillolive_origins_kinds(get()), drillolive_origins_points(get())}; }
+    view<std::uint32_t> numbers() const { return {drillolive_origins_numbers(get()), drillolive_origins_points(get())}; }
+    view<std::uint32_t> face_parents() const { return {drillolive_origins_face_parents(get()), drillolive_origins_faces(get())}; }
+
+private:
+    detail::owner<drillolive_origins, drillolive_origins_free> held;
+};
+
+class sparse {
+public:
+    sparse() = default;
+    explicit sparse(drillolive_sparse *handle) : held(handle) {}
+    const drillolive_sparse *get() const { return held.get(); }
+
+    static result<sparse> of(const mesh &cage, std::uint32_t depth, drillolive_select select = DRILLOLIVE_SELECT_FEATURES,
+                             drillolive_form form = DRILLOLIVE_DOUBLES) {
+        return detail::made<sparse, drillolive_sparse>(drillolive_sparse_new, cage.get(), depth, select, form);
+    }
+
+    drillolive_sparse_counts counts() const {
+        drillolive_sparse_counts counts = {};
+        drillolive_sparse_count(get(), &counts);
+        return counts;
+    }
+    view<std::uint32_t> level_points() const { return {drillolive_sparse_level_points(get()), counts().levels}; }
+    view<std::uint32_t> level_faces() const { return {drillolive_sparse_level_faces(get()), counts().levels}; }
+    view<std::uint8_t> kinds() const { return {drillolive_sparse_kinds(get()), counts().faces}; }
+    view<std::uint64_t> numbers() const { return {drillolive_sparse_numbers(get()), counts().faces}; }
+    view<std::uint32_t> face_sizes() const { return {drillolive_sparse_face_sizes(get()), counts().faces}; }
+    view<std::uint32_t> corners() const { return {drillolive_sparse_corners(get()), counts().corners}; }
+    view<double> doubles() const { return {drillolive_sparse_doubles(get()), 3 * counts().points}; }
+    view<float> floats() const { return {drillolive_sparse_floats(get()), 3 * counts().points}; }
+    view<wide> numerators() const { return {drillolive_sparse_numerators(get()), 3 * counts().points}; }
+    view<wide> denominators() const { return {drillolive_sparse_denominators(get()), counts().points}; }
+
+private:
+    detail::owner<drillolive_sparse, drillolive_sparse_free> held;
+};
+
+class session {
+public:
+    session() = default;
+    explicit session(drillolive_session *handle) : held(handle) {}
+    const drillolive_session *get() const { return held.get(); }
+
+    static result<session> of(const mesh &cage, std::uint32_t depth, std::uint32_t finer_bits = 0) {
+        return detail::made<session, drillolive_session>(drillolive_session_new, cage.get(), depth, finer_bits);
+    }
+
+    std::size_t controls() const { return drillolive_session_controls(get()); }
+    std::size_t points() const { return drillolive_session_points(get()); }
+    wide denominator() const { return drillolive_session_denominator(get()); }
+
+    /* Three numbers for each control. The lesser number counts. */
+    outcome move(view<std::uint32_t> controls, view<double> xyz, std::uint64_t *rounded = nullptr) {
+        return outcome(drillolive_session_move_doubles(held.get(), controls.data(), xyz.data(), std::min(controls.size(), xyz.size() / 3), rounded));
+    }
+    outcome move(view<std::uint32_t> controls, view<wide> numerators) {
+        return outcome(drillolive_session_move_exact(held.get(), controls.data(), numerators.data(), std::min(controls.size(), numerators.size() / 3)));
+    }
+    std::vector<std::uint32_t> take_changed() {
+        std::size_t count = 0;
+        const std::uint32_t *list = drillolive_session_take_changed(held.get(), &count);
+        return list ? std::vector<std::uint32_t>(list, list + count) : std::vector<std::uint32_t>();
+    }
+    result<std::vector<double>> read(view<std::uint32_t> points) const {
+        std::vector<double> out(3 * points.size());
+        drillolive_fault fault = drillolive_session_read_doubles(get(), points.data(), points.size(), out.data());
+        return {fault, std::move(out)};
+    }
+    result<std::vector<double>> read() const {
+        std::vector<double> out(3 * points());
+        drillolive_fault fault = drillolive_session_read_doubles(get(), nullptr, points(), out.data());
+        return {fault, std::move(out)};
+    }
+
+private:
+    detail::owner<drillolive_session, drillolive_session_free> held;
 };
 
 /* The answer of a run of the program. */
