@@ -84,6 +84,14 @@ void make_floats(void *bits, size_t count) {
     }
 }
 
+size_t size_of(enum form form) {
+    return form == DOUBLES ? sizeof(double) : form == FLOATS ? sizeof(float) : sizeof(struct far_wide);
+}
+
+bool is_form(enum drillolive_form form) {
+    return (uint32_t)form <= DRILLOLIVE_EXACT;
+}
+
 /* The word is cleared by a volatile store, since a compiler drops one before a free. */
 void release(void *handle) {
     *(volatile uint64_t *)handle = 0;
@@ -93,6 +101,13 @@ void release(void *handle) {
 void *address_of(const void *array) {
     static _Alignas(16) uint8_t nothing[16];
     return array ? (void *)array : nothing;
+}
+
+struct far_wide product_of(struct far_wide a, struct far_wide b) {
+    uint64_t a_low = a.low & UINT32_MAX, a_high = a.low >> 32, b_low = b.low & UINT32_MAX, b_high = b.low >> 32;
+    uint64_t middle = a_low * b_high, other = a_high * b_low, sum = (a_low * b_low >> 32) + (middle & UINT32_MAX) + (other & UINT32_MAX);
+    struct far_wide product = {a.low * b.low, a_high * b_high + (middle >> 32) + (other >> 32) + (sum >> 32) + a.low * b.high + a.high * b.low};
+    return product;
 }
 
 struct far_mesh view_of(const drillolive_mesh *mesh) {
@@ -115,10 +130,10 @@ struct far_mesh view_of(const drillolive_mesh *mesh) {
 
 /* A step makes a point of each point, edge and face, and a face of each corner. It makes two edges of each edge, and one of each corner. A mesh
    has at most as many edges as corners. */
-struct level_bound bound_of_level(const drillolive_mesh *mesh, uint32_t depth) {
+struct level_bound bound_of_level(const struct far_mesh *mesh, uint32_t depth) {
     const struct level_bound none = {0, 0, 0, 0};
-    size_t corners = mesh->of.corners_len;
-    struct level_bound level = {mesh->of.points_len, corners, mesh->of.face_sizes_len, corners};
+    size_t corners = mesh->corners_len;
+    struct level_bound level = {mesh->points_len, corners, mesh->face_sizes_len, corners};
     if (depth > DEPTH_LIMIT || level.points > POINT_LIMIT || level.faces > FACE_LIMIT || corners > PTRDIFF_MAX / 64) return none;
     for (uint32_t step = 0; step < depth; step++) {
         if (level.corners > LEVEL_FACE_LIMIT) return none;
@@ -135,13 +150,14 @@ static void write_own_line(drillolive_fault fault, char *out) {
     static const char *const parts[] = {
         "point denominator", "texture denominator", "coordinate of point", "texture value", "face count", "corner count", "sum of face sizes",
         "texture corner count", "corner", "texture corner", "crease", "corner tag", "hole", "boundary mode", "method", "crease sharpness",
-        "corner tag sharpness",
+        "corner tag sharpness", "row", "denominator",
     };
     static const char *const ranges[] = {"length of argument", "index", "sharpness", "number of components"};
     unsigned long long first = fault.first;
     switch (fault.status) {
     case DRILLOLIVE_DONE: out[0] = 0; return;
     case DRILLOLIVE_TOO_SHORT: snprintf(out, LINE_ROOM, "far: an array is too short"); return;
+    case DRILLOLIVE_OVERFLOW: snprintf(out, LINE_ROOM, "far: the sum of row %llu has more than 128 bits", first); return;
     case DRILLOLIVE_BAD_ARRAYS:
         if (fault.kind >= sizeof parts / sizeof *parts) break;
         snprintf(out, LINE_ROOM, "far: bad %s at %llu", parts[fault.kind], first);

@@ -1,107 +1,10 @@
-/* Levels and their points. */
+/* Levels: their faces and edges, and where their points and faces come from. */
 #include "private.h"
 
 #include <stdlib.h>
 
-static const size_t NUMBER_SIZES[] = {sizeof(double), sizeof(float), sizeof(struct far_wide)};
-
-void drillolive_points_free(drillolive_points *points) {
-    if (!is_handle(points, POINTS_WORD)) return;
-    free(points->numbers);
-    free(points->denominators);
-    release(points);
-}
-
-/* A handle with room for so many points, or NULL. */
-static drillolive_points *take_points(enum form form, size_t count) {
-    drillolive_points *points = count <= SIZE_MAX / 3 ? take(1, sizeof *points) : NULL;
-    if (!points) return NULL;
-    *points = (drillolive_points){.word = POINTS_WORD, .form = form, .count = count};
-    points->numbers = take(3 * count, NUMBER_SIZES[form]);
-    points->denominators = form == EXACT ? take(count, sizeof *points->denominators) : NULL;
-    if (points->numbers && (form != EXACT || points->denominators)) return points;
-    drillolive_points_free(points);
-    return NULL;
-}
-
-static uint32_t fill_points(drillolive_points *points, const struct far_mesh *mesh, uint32_t depth, uint64_t *count, struct far_fault *held) {
-    size_t room = 3 * points->count;
-    if (points->form == DOUBLES) return far_points_doubles(mesh, depth, count, points->numbers, room, held);
-    if (points->form == FLOATS) return far_points_floats(mesh, depth, count, points->numbers, room, held);
-    return far_points_exact(mesh, depth, count, points->numbers, room, points->denominators, points->count, held);
-}
-
-/* Gives back the room that is not needed, and makes numbers of the bits. */
-static void fit_points(drillolive_points *points, size_t count) {
-    points->count = count;
-    points->numbers = shrink(points->numbers, 3 * count, NUMBER_SIZES[points->form]);
-    if (points->form == DOUBLES) make_doubles(points->numbers, 3 * count);
-    if (points->form == FLOATS) make_floats(points->numbers, 3 * count);
-    if (points->form == EXACT) points->denominators = shrink(points->denominators, count, sizeof *points->denominators);
-}
-
-static drillolive_fault refine_once(const drillolive_mesh *mesh, uint32_t depth, enum form form, uint64_t *count, drillolive_points **out) {
-    struct far_fault held = {0, 0, 0, 0};
-    struct far_mesh view = view_of(mesh);
-    drillolive_points *points = take_points(form, (size_t)*count);
-    if (!points) return memory_fault();
-    drillolive_fault fault = fault_of_export(fill_points(points, &view, depth, count, &held), &held);
-    if (fault.status) {
-        drillolive_points_free(points);
-        return fault;
-    }
-    fit_points(points, (size_t)*count);
-    *out = points;
-    return fault;
-}
-
-static drillolive_fault refine(const drillolive_mesh *mesh, uint32_t depth, enum form form, drillolive_points **out) {
-    if (!out) return fault_of(DRILLOLIVE_NULL, 0, 2, 0);
-    *out = NULL;
-    drillolive_fault fault = check_handle(mesh, MESH_WORD, 0);
-    if (fault.status) return fault;
-    uint64_t count = bound_of_level(mesh, depth).points;
-    fault = refine_once(mesh, depth, form, &count, out);
-    return fault.status == DRILLOLIVE_TOO_SHORT ? refine_once(mesh, depth, form, &count, out) : fault;
-}
-
-drillolive_fault drillolive_refine_doubles(const drillolive_mesh *mesh, uint32_t depth, drillolive_points **out) {
-    return refine(mesh, depth, DOUBLES, out);
-}
-
-drillolive_fault drillolive_refine_floats(const drillolive_mesh *mesh, uint32_t depth, drillolive_points **out) {
-    return refine(mesh, depth, FLOATS, out);
-}
-
-drillolive_fault drillolive_refine_exact(const drillolive_mesh *mesh, uint32_t depth, drillolive_points **out) {
-    return refine(mesh, depth, EXACT, out);
-}
-
-size_t drillolive_points_count(const drillolive_points *points) {
-    return is_handle(points, POINTS_WORD) ? points->count : 0;
-}
-
-static bool has_form(const drillolive_points *points, enum form form) {
-    return is_handle(points, POINTS_WORD) && points->form == form;
-}
-
-const double *drillolive_points_doubles(const drillolive_points *points) {
-    return has_form(points, DOUBLES) ? points->numbers : NULL;
-}
-
-const float *drillolive_points_floats(const drillolive_points *points) {
-    return has_form(points, FLOATS) ? points->numbers : NULL;
-}
-
-const drillolive_wide *drillolive_points_numerators(const drillolive_points *points) {
-    return has_form(points, EXACT) ? points->numbers : NULL;
-}
-
-const drillolive_wide *drillolive_points_denominators(const drillolive_points *points) {
-    return has_form(points, EXACT) ? (const drillolive_wide *)points->denominators : NULL;
-}
-
-/* ---- Levels ---- */
+/* The level is that of the mesh itself, and of no texture. */
+enum { NO_SEAMS = UINT8_MAX };
 
 void drillolive_level_free(drillolive_level *level) {
     if (!is_handle(level, LEVEL_WORD)) return;
@@ -114,18 +17,18 @@ void drillolive_level_free(drillolive_level *level) {
 }
 
 /* Notes where the corners of each face of the mesh begin. */
-static bool take_cage(drillolive_level *level, const drillolive_mesh *mesh) {
-    size_t faces = mesh->of.face_sizes_len;
+static bool take_cage(drillolive_level *level, const struct far_mesh *mesh) {
+    size_t faces = mesh->face_sizes_len;
     level->cage_faces = faces;
     level->cage_starts = take(faces + 1, sizeof *level->cage_starts);
     if (!level->cage_starts) return false;
     level->cage_starts[0] = 0;
-    for (size_t face = 0; face < faces; face++) level->cage_starts[face + 1] = level->cage_starts[face] + mesh->of.face_sizes[face];
+    for (size_t face = 0; face < faces; face++) level->cage_starts[face + 1] = level->cage_starts[face] + mesh->face_sizes[face];
     return true;
 }
 
 /* A level with room for so many items, or NULL. */
-static drillolive_level *take_level(const drillolive_mesh *mesh, uint32_t depth, struct level_bound room) {
+static drillolive_level *take_level(const struct far_mesh *mesh, uint32_t depth, struct level_bound room) {
     drillolive_level *level = room.edges <= SIZE_MAX / 2 ? take(1, sizeof *level) : NULL;
     if (!level) return NULL;
     *level = (drillolive_level){.word = LEVEL_WORD, .depth = depth};
@@ -153,13 +56,18 @@ static void fit_level(drillolive_level *level, const struct far_level_counts *co
     of->holes = shrink(of->holes, of->holes_len, sizeof *of->holes);
 }
 
-static drillolive_fault make_level(const drillolive_mesh *mesh, uint32_t depth, struct level_bound *room, drillolive_level **out) {
+static uint32_t fill_level(drillolive_level *level, const struct far_mesh *mesh, uint32_t seams, struct far_level_counts *counts,
+                           struct far_fault *held) {
+    if (seams == NO_SEAMS) return far_level(mesh, level->depth, counts, &level->of, held);
+    return far_texture_level(mesh, seams, level->depth, counts, &level->of, held);
+}
+
+static drillolive_fault make_level(const struct far_mesh *mesh, uint32_t seams, uint32_t depth, struct level_bound *room, drillolive_level **out) {
     struct far_fault held = {0, 0, 0, 0};
     struct far_level_counts counts = {0, 0, 0, 0};
-    struct far_mesh view = view_of(mesh);
     drillolive_level *level = take_level(mesh, depth, *room);
     if (!level) return memory_fault();
-    drillolive_fault fault = fault_of_export(far_level(&view, depth, &counts, &level->of, &held), &held);
+    drillolive_fault fault = fault_of_export(fill_level(level, mesh, seams, &counts, &held), &held);
     if (fault.status) {
         drillolive_level_free(level);
         *room = (struct level_bound){counts.points, counts.edges, counts.faces, counts.corners};
@@ -170,14 +78,25 @@ static drillolive_fault make_level(const drillolive_mesh *mesh, uint32_t depth, 
     return fault;
 }
 
-drillolive_fault drillolive_level_new(const drillolive_mesh *mesh, uint32_t depth, drillolive_level **out) {
-    if (!out) return fault_of(DRILLOLIVE_NULL, 0, 2, 0);
+static drillolive_fault new_level(const drillolive_mesh *mesh, uint32_t seams, uint32_t depth, drillolive_level **out) {
     *out = NULL;
     drillolive_fault fault = check_handle(mesh, MESH_WORD, 0);
     if (fault.status) return fault;
-    struct level_bound room = bound_of_level(mesh, depth);
-    fault = make_level(mesh, depth, &room, out);
-    return fault.status == DRILLOLIVE_TOO_SHORT ? make_level(mesh, depth, &room, out) : fault;
+    struct far_mesh view = view_of(mesh);
+    struct level_bound room = bound_of_level(&view, depth);
+    fault = make_level(&view, seams, depth, &room, out);
+    return fault.status == DRILLOLIVE_TOO_SHORT ? make_level(&view, seams, depth, &room, out) : fault;
+}
+
+drillolive_fault drillolive_level_new(const drillolive_mesh *mesh, uint32_t depth, drillolive_level **out) {
+    return out ? new_level(mesh, NO_SEAMS, depth, out) : fault_of(DRILLOLIVE_NULL, 0, 2, 0);
+}
+
+drillolive_fault drillolive_level_new_texture(const drillolive_mesh *mesh, uint32_t depth, enum drillolive_seams seams, drillolive_level **out) {
+    if (!out) return fault_of(DRILLOLIVE_NULL, 0, 3, 0);
+    *out = NULL;
+    if ((uint32_t)seams > DRILLOLIVE_SEAMS_LINEAR) return fault_of(DRILLOLIVE_BAD_ARGUMENT, 0, 0, 0);
+    return new_level(mesh, (uint32_t)seams, depth, out);
 }
 
 /* Level 0 without room for anything: what is wrong with the mesh comes first, and else the want of room. */
@@ -237,4 +156,84 @@ drillolive_fault drillolive_level_face_parent(const drillolive_level *level, siz
     if (face >= level->of.face_sizes_len) return fault_of(DRILLOLIVE_RANGE, DRILLOLIVE_RANGE_INDEX, face, level->of.face_sizes_len);
     *out = level->depth == 0 ? face : face_of_corner(level, face >> 2 * (level->depth - 1));
     return fault;
+}
+
+/* ---- Origins ---- */
+
+void drillolive_origins_free(drillolive_origins *origins) {
+    if (!is_handle(origins, ORIGINS_WORD)) return;
+    free(origins->of.kinds);
+    free(origins->of.numbers);
+    free(origins->of.faces);
+    release(origins);
+}
+
+/* Origins with room for so many points and faces, or NULL. */
+static drillolive_origins *take_origins(const struct far_origin_counts *room) {
+    drillolive_origins *origins = take(1, sizeof *origins);
+    if (!origins) return NULL;
+    *origins = (drillolive_origins){.word = ORIGINS_WORD};
+    origins->of = (struct far_origin_places){
+        take(room->points, sizeof *origins->of.kinds), room->points,
+        take(room->points, sizeof *origins->of.numbers), room->points,
+        take(room->faces, sizeof *origins->of.faces), room->faces,
+    };
+    if (origins->of.kinds && origins->of.numbers && origins->of.faces) return origins;
+    drillolive_origins_free(origins);
+    return NULL;
+}
+
+static void fit_origins(drillolive_origins *origins, const struct far_origin_counts *counts) {
+    struct far_origin_places *of = &origins->of;
+    of->kinds_len = of->numbers_len = counts->points;
+    of->faces_len = counts->faces;
+    of->kinds = shrink(of->kinds, of->kinds_len, sizeof *of->kinds);
+    of->numbers = shrink(of->numbers, of->numbers_len, sizeof *of->numbers);
+    of->faces = shrink(of->faces, of->faces_len, sizeof *of->faces);
+}
+
+static drillolive_fault make_origins(const struct far_mesh *mesh, uint32_t depth, struct far_origin_counts *counts, drillolive_origins **out) {
+    struct far_fault held = {0, 0, 0, 0};
+    drillolive_origins *origins = take_origins(counts);
+    if (!origins) return memory_fault();
+    drillolive_fault fault = fault_of_export(far_origins(mesh, depth, counts, &origins->of, &held), &held);
+    if (fault.status) {
+        drillolive_origins_free(origins);
+        return fault;
+    }
+    fit_origins(origins, counts);
+    *out = origins;
+    return fault;
+}
+
+drillolive_fault drillolive_origins_new(const drillolive_mesh *mesh, uint32_t depth, drillolive_origins **out) {
+    if (!out) return fault_of(DRILLOLIVE_NULL, 0, 2, 0);
+    *out = NULL;
+    drillolive_fault fault = check_handle(mesh, MESH_WORD, 0);
+    if (fault.status) return fault;
+    struct far_mesh view = view_of(mesh);
+    struct level_bound bound = bound_of_level(&view, depth);
+    struct far_origin_counts counts = {(uint32_t)bound.points, (uint32_t)bound.faces};
+    fault = make_origins(&view, depth, &counts, out);
+    return fault.status == DRILLOLIVE_TOO_SHORT ? make_origins(&view, depth, &counts, out) : fault;
+}
+
+size_t drillolive_origins_points(const drillolive_origins *origins) {
+    return is_handle(origins, ORIGINS_WORD) ? origins->of.kinds_len : 0;
+}
+
+size_t drillolive_origins_faces(const drillolive_origins *origins) {
+    return is_handle(origins, ORIGINS_WORD) ? origins->of.faces_len : 0;
+}
+
+const uint8_t *drillolive_origins_kinds(const drillolive_origins *origins) {
+    return is_handle(origins, ORIGINS_WORD) ? origins->of.kinds : NULL;
+}
+
+const uint32_t *drillolive_origins_numbers(const drillolive_origins *origins) {
+    return is_handle(origins, ORIGINS_WORD) ? origins->of.numbers : NULL;
+}
+
+const uint32_t *drillolive_origins_face_parents(const drillolive_origins *origins) {
+    return is_handle(origins, ORIGINS_WORD) ? origins->of.faces : NULL;
 }

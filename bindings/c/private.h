@@ -19,9 +19,15 @@ enum { COMPONENT_LIMIT = 16 };
 #define POINTS_WORD UINT64_C(0x6472696c706f696e)
 #define LEVEL_WORD UINT64_C(0x6472696c6c657665)
 #define OUTPUT_WORD UINT64_C(0x6472696c6f757470)
+#define ORIGINS_WORD UINT64_C(0x6472696c6f726967)
+#define SPARSE_WORD UINT64_C(0x6472696c73706172)
+#define SESSION_WORD UINT64_C(0x6472696c73657373)
 
 /* What the weights of a table, or the coordinates of points, are. */
-enum form { DOUBLES, FLOATS, EXACT };
+enum form { DOUBLES = DRILLOLIVE_DOUBLES, FLOATS = DRILLOLIVE_FLOATS, EXACT = DRILLOLIVE_EXACT };
+
+/* The kinds of rows. */
+enum rows { POINT_ROWS, LIMIT_ROWS, PATCH_ROWS, TEXTURE_ROWS };
 
 struct drillolive_mesh {
     uint64_t word;
@@ -41,8 +47,8 @@ struct drillolive_table {
 struct drillolive_points {
     uint64_t word;
     enum form form;
-    size_t count;
-    void *numbers; /* three doubles, floats or numerators each */
+    size_t count, components;
+    void *numbers; /* so many doubles, floats or numerators a point as there are components */
     struct far_wide *denominators;
 };
 
@@ -62,6 +68,32 @@ struct drillolive_output {
     size_t text_length, error_length;
 };
 
+struct drillolive_origins {
+    uint64_t word;
+    struct far_origin_places of;
+};
+
+struct drillolive_sparse {
+    uint64_t word;
+    enum form form;
+    struct far_sparse_places of;
+    void *rounded; /* doubles or floats, three a point; NULL where the points are exact */
+};
+
+struct drillolive_session {
+    uint64_t word;
+    drillolive_table *table; /* exact */
+    struct far_wide *controls, *points; /* three numerators each */
+    struct far_wide scale; /* the denominator of the controls */
+    uint32_t grid_bits; /* it is 2^grid_bits, or NO_GRID */
+    uint32_t *column_starts, *column_rows; /* for each control the rows that have it */
+    uint8_t *is_affected, *is_changed; /* of each row; no row is affected between calls */
+    uint32_t *changed; /* the marked rows, of which there is room for all */
+    size_t changed_count;
+};
+
+enum { NO_GRID = 128 };
+
 drillolive_fault fault_of(uint32_t status, uint32_t kind, uint64_t first, uint64_t second);
 
 /* The fault of an export that ended with this status. */
@@ -78,7 +110,7 @@ bool is_handle(const void *handle, uint64_t word);
 /* Room for so many items; NULL where there is none, or where their size has no number. It is not NULL for no item. */
 void *take(size_t count, size_t size);
 
-/* The same room for fewer items. It stays where it cannot be made smaller. */
+/* Room that was taken, for fewer items. It stays where it cannot be made smaller. */
 void *shrink(void *room, size_t count, size_t size);
 
 /* A copy of an array, or NULL. */
@@ -87,6 +119,38 @@ void *copy_of(const void *array, size_t count, size_t size);
 /* Makes doubles, or floats, of their bits, in their place. */
 void make_doubles(void *bits, size_t count);
 void make_floats(void *bits, size_t count);
+
+/* The size of a number of each form. */
+size_t size_of(enum form form);
+
+/* Whether this is a form. */
+bool is_form(enum drillolive_form form);
+
+/* Rounds numerators to the nearest doubles or floats. `out` has room for each. */
+drillolive_fault round_to(enum form form, const struct far_fraction_arrays *fractions, void *out);
+
+/* A table with room for so many rows and entries, or NULL; where an exact one is written; and what gives back the room that a table does not need, and
+   makes numbers of the bits. */
+drillolive_table *take_table(enum form form, size_t rows, size_t entries);
+struct far_exact_places places_of(drillolive_table *table);
+void fit_table(drillolive_table *table, const struct far_table_counts *counts);
+
+/* Evaluates the rows of a range of an exact table. All arguments fit. */
+drillolive_fault apply_exact(const drillolive_table *table, const struct far_wide *controls, size_t components, size_t from, size_t to,
+                             struct far_wide *out);
+
+/* Makes a table of the rows that are asked for. */
+drillolive_fault make_table(const struct far_mesh *mesh, const struct far_rows *request, enum form form, drillolive_table **out);
+
+/* An output with room for so many bytes and a zero byte behind each text, or NULL; and what gives back the room that it does not need. */
+drillolive_output *take_output(size_t text_room, size_t error_room);
+void fit_output(drillolive_output *output, struct far_ran ran);
+
+/* Points of so many components with room for so many, or NULL. */
+drillolive_points *take_points(enum form form, size_t count, size_t components);
+
+/* The product of two numbers without signs, modulo 2^128. */
+struct far_wide product_of(struct far_wide a, struct far_wide b);
 
 /* Frees a handle after its word is cleared. */
 void release(void *handle);
@@ -103,7 +167,7 @@ struct level_bound {
 };
 
 /* The bound of the level at this depth. All is 0 where the exports refuse the mesh or the depth. */
-struct level_bound bound_of_level(const drillolive_mesh *mesh, uint32_t depth);
+struct level_bound bound_of_level(const struct far_mesh *mesh, uint32_t depth);
 
 /* The advice on a fault, which is empty where there is none. */
 const char *advice_on(drillolive_fault fault);

@@ -13,8 +13,7 @@ void drillolive_output_free(drillolive_output *output) {
     release(output);
 }
 
-/* An output with room for so many bytes and a zero byte behind each text, or NULL. */
-static drillolive_output *take_output(size_t text_room, size_t error_room) {
+drillolive_output *take_output(size_t text_room, size_t error_room) {
     drillolive_output *output = take(1, sizeof *output);
     if (!output) return NULL;
     *output = (drillolive_output){.word = OUTPUT_WORD, .text_length = text_room, .error_length = error_room};
@@ -25,7 +24,7 @@ static drillolive_output *take_output(size_t text_room, size_t error_room) {
     return NULL;
 }
 
-static void fit_output(drillolive_output *output, struct far_ran ran) {
+void fit_output(drillolive_output *output, struct far_ran ran) {
     output->status = ran.status;
     output->text_length = (size_t)ran.written;
     output->error_length = (size_t)ran.reported;

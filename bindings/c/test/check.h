@@ -21,6 +21,7 @@ drillolive_faces cube_faces(void);
 drillolive_mesh *cube(void);
 
 void test_misuse(void);
+void test_rows(void);
 void test_refusals(void);
 void test_random(unsigned long sequences);
 

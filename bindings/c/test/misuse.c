@@ -170,6 +170,73 @@ static void misuse_apply(void) {
     drillolive_mesh_free(mesh);
 }
 
+static void misuse_rows(void) {
+    drillolive_mesh *mesh = cube();
+    drillolive_table *table = NULL, *none = NULL;
+    drillolive_points *points = NULL;
+    drillolive_wide wides[78] = {{0, 0}};
+    drillolive_output *output = NULL;
+    size_t used;
+    DONE(drillolive_table_new_doubles(mesh, 1, &table));
+    REFUSED(drillolive_table_new_limit(NULL, 1, DRILLOLIVE_EXACT, &none), DRILLOLIVE_NULL, 0, 0);
+    REFUSED(drillolive_table_new_limit(mesh, 1, DRILLOLIVE_EXACT, NULL), DRILLOLIVE_NULL, 0, 3);
+    REFUSED(drillolive_table_new_limit(mesh, 1, (enum drillolive_form)3, &none), DRILLOLIVE_BAD_ARGUMENT, 0, 0);
+    REFUSED(drillolive_table_new_patch(mesh, 1, 0, 1, DRILLOLIVE_EXACT, NULL), DRILLOLIVE_NULL, 0, 5);
+    REFUSED(drillolive_table_new_texture(mesh, 1, DRILLOLIVE_SEAMS_LINEAR, DRILLOLIVE_EXACT, NULL), DRILLOLIVE_NULL, 0, 4);
+    REFUSED(drillolive_points_new_limit((drillolive_mesh *)table, 1, DRILLOLIVE_EXACT, &points), DRILLOLIVE_KIND, 0, 0);
+    REFUSED(drillolive_points_new_limit(mesh, 1, (enum drillolive_form)3, &points), DRILLOLIVE_BAD_ARGUMENT, 0, 0);
+    REFUSED(drillolive_table_apply_exact(table, wides, 8, 3, 0, 26, wides), DRILLOLIVE_KIND, 0, 0);
+    REFUSED(drillolive_table_apply_exact(table, NULL, 8, 3, 0, 26, wides), DRILLOLIVE_NULL, 0, 1);
+    REFUSED(drillolive_table_write(table, &output), DRILLOLIVE_KIND, 0, 0);
+    REFUSED(drillolive_table_write(table, NULL), DRILLOLIVE_NULL, 0, 1);
+    REFUSED(drillolive_table_new_stored(NULL, 1, &used, &none), DRILLOLIVE_NULL, 0, 0);
+    REFUSED(drillolive_table_new_stored("", 0, NULL, &none), DRILLOLIVE_NULL, 0, 2);
+    REFUSED(drillolive_table_new_stored("", 0, &used, NULL), DRILLOLIVE_NULL, 0, 3);
+    REFUSED(drillolive_table_check(mesh, 1, NULL, 1), DRILLOLIVE_NULL, 0, 2);
+    REFUSED(drillolive_table_check(mesh, 11, "", 0), DRILLOLIVE_BAD_ARGUMENT, 0, 0);
+    drillolive_table_free(table);
+    drillolive_mesh_free(mesh);
+}
+
+static void misuse_parts(void) {
+    drillolive_mesh *mesh = cube();
+    drillolive_session *session = NULL;
+    drillolive_sparse *sparse = NULL;
+    drillolive_origins *origins = NULL;
+    drillolive_level *level = NULL;
+    static const uint32_t far_away = 26;
+    double numbers[78];
+    size_t count;
+    REFUSED(drillolive_origins_new(mesh, 1, NULL), DRILLOLIVE_NULL, 0, 2);
+    REFUSED(drillolive_origins_new(mesh, 11, &origins), DRILLOLIVE_BAD_ARGUMENT, 0, 0);
+    REFUSED(drillolive_sparse_new(mesh, 1, DRILLOLIVE_SELECT_ALL, DRILLOLIVE_EXACT, NULL), DRILLOLIVE_NULL, 0, 4);
+    REFUSED(drillolive_sparse_new(mesh, 1, DRILLOLIVE_SELECT_ALL, (enum drillolive_form)3, &sparse), DRILLOLIVE_BAD_ARGUMENT, 0, 0);
+    REFUSED(drillolive_level_new_texture(mesh, 1, DRILLOLIVE_SEAMS_SMOOTH, NULL), DRILLOLIVE_NULL, 0, 3);
+    REFUSED(drillolive_level_new_texture(mesh, 1, DRILLOLIVE_SEAMS_SMOOTH, &level), DRILLOLIVE_BAD_ARGUMENT, 0, 0);
+    REFUSED(drillolive_mesh_faults(mesh, NULL, 1, &count), DRILLOLIVE_NULL, 0, 1);
+    REFUSED(drillolive_mesh_faults(mesh, NULL, 0, NULL), DRILLOLIVE_NULL, 0, 3);
+    REFUSED(drillolive_session_new(mesh, 1, 0, NULL), DRILLOLIVE_NULL, 0, 3);
+    REFUSED(drillolive_session_new(mesh, 11, 0, &session), DRILLOLIVE_BAD_ARGUMENT, 0, 0);
+    DONE(drillolive_session_new(mesh, 1, 0, &session));
+    REFUSED(drillolive_session_move_doubles(NULL, NULL, NULL, 0, NULL), DRILLOLIVE_NULL, 0, 0);
+    REFUSED(drillolive_session_move_doubles(session, NULL, numbers, 1, NULL), DRILLOLIVE_NULL, 0, 1);
+    REFUSED(drillolive_session_move_doubles(session, &far_away, NULL, 1, NULL), DRILLOLIVE_NULL, 0, 2);
+    REFUSED(drillolive_session_read_doubles(session, NULL, 27, numbers), DRILLOLIVE_RANGE, DRILLOLIVE_RANGE_LENGTH, 2);
+    REFUSED(drillolive_session_read_doubles(session, &far_away, 1, numbers), DRILLOLIVE_RANGE, DRILLOLIVE_RANGE_INDEX, 26);
+    REFUSED(drillolive_session_read_doubles(session, NULL, 26, NULL), DRILLOLIVE_NULL, 0, 3);
+    CHECK(!drillolive_session_take_changed(session, NULL) && !drillolive_session_take_changed(NULL, &count));
+    CHECK(drillolive_session_points((drillolive_session *)mesh) == 0 && drillolive_session_denominator(NULL).low == 0);
+    CHECK(!drillolive_origins_kinds((drillolive_origins *)mesh) && !drillolive_sparse_kinds((drillolive_sparse *)mesh));
+    drillolive_session_free((drillolive_session *)mesh);
+    drillolive_sparse_free((drillolive_sparse *)mesh);
+    drillolive_origins_free((drillolive_origins *)mesh);
+    drillolive_sparse_free(NULL);
+    drillolive_origins_free(NULL);
+    drillolive_session_free(NULL);
+    drillolive_session_free(session);
+    drillolive_mesh_free(mesh);
+}
+
 /* Reading a freed handle is no promise of C, and AddressSanitizer refuses it; it is tried where memory is as the C library leaves it. */
 static void misuse_freed(void) {
 #if !defined(__SANITIZE_ADDRESS__) && !defined(__clang__)
@@ -187,5 +254,7 @@ void test_misuse(void) {
     misuse_handles();
     misuse_accessors();
     misuse_apply();
+    misuse_rows();
+    misuse_parts();
     misuse_freed();
 }

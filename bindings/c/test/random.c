@@ -21,6 +21,9 @@ static drillolive_table *tables[HANDLES];
 static drillolive_points *points[HANDLES];
 static drillolive_level *levels[HANDLES];
 static drillolive_output *outputs[HANDLES];
+static drillolive_origins *origins[HANDLES];
+static drillolive_sparse *sparses[HANDLES];
+static drillolive_session *sessions[HANDLES];
 
 static void judge(drillolive_fault fault) {
     char line[64];
@@ -131,12 +134,16 @@ static void apply(void) {
     size_t rows = to > from ? to - from : 0;
     double *controls = calloc(counts.controls * 17 + 1, sizeof *controls), *out = calloc(rows * 17 + 1, sizeof *out);
     float *float_controls = (float *)calloc(counts.controls * 17 + 1, sizeof *float_controls), *float_out = calloc(rows * 17 + 1, sizeof *float_out);
+    drillolive_wide *wide_controls = calloc(counts.controls * 17 + 1, sizeof *wide_controls), *wide_out = calloc(rows * 17 + 1, sizeof *wide_out);
     judge(drillolive_table_apply_doubles(table, controls, counts.controls, components, from, to, out));
     judge(drillolive_table_apply_floats(table, float_controls, counts.controls, components, from, to, float_out));
+    judge(drillolive_table_apply_exact(table, wide_controls, counts.controls, components, from, to, wide_out));
     free(controls);
     free(out);
     free(float_controls);
     free(float_out);
+    free(wide_controls);
+    free(wide_out);
 }
 
 static void refine(void) {
@@ -169,6 +176,84 @@ static void new_level(void) {
     if (counts.faces) CHECK(drillolive_level_holes(*level)[counts.faces - 1] <= 1);
 }
 
+static void new_rows(void) {
+    drillolive_mesh *mesh = meshes[below(HANDLES)];
+    drillolive_table **table = &tables[below(HANDLES)];
+    enum drillolive_form form = (enum drillolive_form)below(4);
+    drillolive_fault fault;
+    drillolive_table_free(*table);
+    switch (below(3)) {
+    case 0: fault = drillolive_table_new_limit(mesh, below(3), form, table); break;
+    case 1: fault = drillolive_table_new_patch(mesh, below(3), below(30), below(5), form, table); break;
+    default: fault = drillolive_table_new_texture(mesh, below(3), (enum drillolive_seams)below(5), form, table);
+    }
+    judge(fault);
+    CHECK((fault.status == DRILLOLIVE_DONE) == (*table != NULL));
+}
+
+static void new_row_points(void) {
+    drillolive_mesh *mesh = meshes[below(HANDLES)];
+    drillolive_points **at = &points[below(HANDLES)];
+    enum drillolive_form form = (enum drillolive_form)below(4);
+    drillolive_fault fault;
+    drillolive_points_free(*at);
+    switch (below(3)) {
+    case 0: fault = drillolive_points_new_limit(mesh, below(3), form, at); break;
+    case 1: fault = drillolive_points_new_patch(mesh, below(3), below(30), below(5), form, at); break;
+    default: fault = drillolive_points_new_texture(mesh, below(3), (enum drillolive_seams)below(5), form, at);
+    }
+    judge(fault);
+    CHECK((fault.status == DRILLOLIVE_DONE) == (*at != NULL));
+}
+
+static void new_parts(void) {
+    drillolive_mesh *mesh = meshes[below(HANDLES)];
+    drillolive_origins **origin = &origins[below(HANDLES)];
+    drillolive_sparse **sparse = &sparses[below(HANDLES)];
+    drillolive_fault list[4];
+    size_t count = 0;
+    drillolive_origins_free(*origin);
+    drillolive_sparse_free(*sparse);
+    judge(drillolive_origins_new(mesh, below(3), origin));
+    judge(drillolive_sparse_new(mesh, below(4), (enum drillolive_select)below(3), (enum drillolive_form)below(4), sparse));
+    judge(drillolive_mesh_faults(mesh, list, below(5), &count));
+    size_t all = drillolive_origins_points(*origin);
+    if (all) CHECK(drillolive_origins_kinds(*origin)[all - 1] <= DRILLOLIVE_ON_FACE);
+    drillolive_sparse_counts counts = {0, 0, 0, 0};
+    judge(drillolive_sparse_count(*sparse, &counts));
+    if (counts.faces) CHECK(drillolive_sparse_kinds(*sparse)[counts.faces - 1] <= DRILLOLIVE_KIND_LEAF);
+}
+
+static void use_session(void) {
+    drillolive_session **session = &sessions[below(HANDLES)];
+    double read[3 * MOST_POINTS];
+    size_t count;
+    if (below(3) == 0) {
+        drillolive_session_free(*session);
+        drillolive_fault fault = drillolive_session_new(meshes[below(HANDLES)], below(3), below(20) ? below(8) : below(140), session);
+        judge(fault);
+        CHECK((fault.status == DRILLOLIVE_DONE) == (*session != NULL));
+    }
+    judge(drillolive_session_move_doubles(*session, any_indices(MOST_POINTS), any_numbers(), below(MOST_POINTS), NULL));
+    judge(drillolive_session_read_doubles(*session, any_indices(20), below(MOST_POINTS), read));
+    const uint32_t *changed = drillolive_session_take_changed(*session, &count);
+    if (count) CHECK(changed[count - 1] < drillolive_session_points(*session));
+}
+
+static void store_table(void) {
+    const drillolive_table *table = tables[below(HANDLES)];
+    drillolive_output **output = &outputs[below(HANDLES)];
+    drillolive_table *read = NULL;
+    size_t length, used;
+    drillolive_output_free(*output);
+    judge(drillolive_table_write(table, output));
+    const char *text = drillolive_output_text(*output, &length);
+    if (text && below(4) == 0 && length) length -= below((uint32_t)length);
+    judge(drillolive_table_new_stored(text, length, &used, &read));
+    judge(drillolive_table_check(meshes[below(HANDLES)], below(3), text, length));
+    drillolive_table_free(read);
+}
+
 static void run(void) {
     static const char *const words[] = {"refine", "depth=1", "levels", "depth=2", "help", "tags=yes"};
     const char *given[3] = {words[below(6)], words[below(6)], words[below(6)]};
@@ -182,10 +267,12 @@ static void run(void) {
 }
 
 void test_random(unsigned long sequences) {
-    static void (*const calls[])(void) = {new_mesh, set_mesh, new_table, apply, refine, new_level, run};
+    static void (*const calls[])(void) = {
+        new_mesh, set_mesh, new_table, apply, refine, new_level, new_rows, new_row_points, new_parts, use_session, store_table, run,
+    };
     for (unsigned long i = 0; i < sequences; i++) {
         new_mesh();
-        for (uint32_t length = below(8); length > 0; length--) calls[below(below(8) ? 6 : 7)]();
+        for (uint32_t length = below(8); length > 0; length--) calls[below(below(8) ? 11 : 12)]();
     }
     for (int i = 0; i < HANDLES; i++) {
         drillolive_mesh_free(meshes[i]);
@@ -193,5 +280,8 @@ void test_random(unsigned long sequences) {
         drillolive_points_free(points[i]);
         drillolive_level_free(levels[i]);
         drillolive_output_free(outputs[i]);
+        drillolive_origins_free(origins[i]);
+        drillolive_sparse_free(sparses[i]);
+        drillolive_session_free(sessions[i]);
     }
 }

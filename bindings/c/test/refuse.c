@@ -127,6 +127,86 @@ static drillolive_fault make_level(void) {
     return fault;
 }
 
+static drillolive_fault make_limit_table(void) {
+    drillolive_table *table;
+    drillolive_fault fault = drillolive_table_new_limit(mesh, 2, DRILLOLIVE_FLOATS, &table);
+    CHECK((fault.status == 0) == (table != NULL));
+    drillolive_table_free(table);
+    return fault;
+}
+
+static drillolive_fault make_limit_points(void) {
+    drillolive_points *points;
+    drillolive_fault fault = drillolive_points_new_limit(mesh, 2, DRILLOLIVE_DOUBLES, &points);
+    CHECK((fault.status == 0) == (points != NULL));
+    drillolive_points_free(points);
+    return fault;
+}
+
+static drillolive_fault make_texture_points(void) {
+    drillolive_points *points;
+    drillolive_fault fault = drillolive_points_new_texture(mesh, 1, DRILLOLIVE_SEAMS_CORNERS, DRILLOLIVE_EXACT, &points);
+    CHECK((fault.status == 0) == (points != NULL));
+    drillolive_points_free(points);
+    return fault;
+}
+
+static drillolive_fault make_texture_level(void) {
+    drillolive_level *level;
+    drillolive_fault fault = drillolive_level_new_texture(mesh, 1, DRILLOLIVE_SEAMS_SMOOTH, &level);
+    CHECK((fault.status == 0) == (level != NULL));
+    drillolive_level_free(level);
+    return fault;
+}
+
+static drillolive_fault make_origins(void) {
+    drillolive_origins *origins;
+    drillolive_fault fault = drillolive_origins_new(mesh, 2, &origins);
+    CHECK((fault.status == 0) == (origins != NULL));
+    drillolive_origins_free(origins);
+    return fault;
+}
+
+static drillolive_fault make_sparse(void) {
+    drillolive_sparse *sparse;
+    drillolive_fault fault = drillolive_sparse_new(mesh, 2, DRILLOLIVE_SELECT_FEATURES, DRILLOLIVE_DOUBLES, &sparse);
+    CHECK((fault.status == 0) == (sparse != NULL));
+    drillolive_sparse_free(sparse);
+    return fault;
+}
+
+/* A session, a move of it and a read; none of them keeps anything where memory runs out. */
+static drillolive_fault use_session(void) {
+    drillolive_session *session;
+    double read[3];
+    drillolive_fault fault = drillolive_session_new(mesh, 1, 4, &session);
+    CHECK((fault.status == 0) == (session != NULL));
+    if (!fault.status) fault = drillolive_session_move_doubles(session, INDICES, NUMBERS, 1, NULL);
+    if (!fault.status) fault = drillolive_session_read_doubles(session, INDICES, 1, read);
+    drillolive_session_free(session);
+    return fault;
+}
+
+static drillolive_fault list_faults(void) {
+    size_t count;
+    return drillolive_mesh_faults(mesh, NULL, 0, &count);
+}
+
+static drillolive_fault write_and_read_table(void) {
+    drillolive_table *table, *read = NULL;
+    drillolive_output *output = NULL;
+    size_t length, used;
+    drillolive_fault fault = drillolive_table_new_exact(mesh, 1, &table);
+    if (!fault.status) fault = drillolive_table_write(table, &output);
+    const char *text = drillolive_output_text(output, &length);
+    if (!fault.status) fault = drillolive_table_new_stored(text, length, &used, &read);
+    if (!fault.status) fault = drillolive_table_check(mesh, 1, text, length);
+    drillolive_table_free(table);
+    drillolive_table_free(read);
+    drillolive_output_free(output);
+    return fault;
+}
+
 /* A run that cannot have memory answers that in its own line. */
 static drillolive_fault run_program(void) {
     static const char *const words[] = {"refine", "depth=1"};
@@ -157,11 +237,12 @@ static unsigned long refused_in_turn(drillolive_fault (*call)(void)) {
 void test_refusals(void) {
     static drillolive_fault (*const calls[])(void) = {
         make_doubles_mesh, make_grid_mesh, make_exact_mesh, make_obj_mesh, set_creases, set_corner_tags, set_holes, set_texture,
-        check_mesh, make_table, make_exact_table, make_points, make_level, run_program,
+        check_mesh, make_table, make_exact_table, make_points, make_level, make_limit_table, make_limit_points, make_texture_points,
+        make_texture_level, make_origins, make_sparse, use_session, list_faults, write_and_read_table, run_program,
     };
     unsigned long all = 0;
     mesh = cube();
     for (size_t i = 0; i < sizeof calls / sizeof *calls; i++) all += refused_in_turn(calls[i]);
-    CHECK(all > 60);
+    CHECK(all > 200);
     drillolive_mesh_free(mesh);
 }

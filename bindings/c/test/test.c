@@ -385,8 +385,8 @@ static void test_long_rows(void) {
 
 static void test_faults(void) {
     static const drillolive_fault known[] = {
-        {1, 0, 0, 0}, {5, 2, 7, 0}, {6, 0, 3, 0}, {7, 0, 9, 0}, {8, 3, 1, 0}, {11, 0, 0, 0}, {17, 8, 4, 0}, {18, 0, 5, 0},
-        {18, 1, 5, 0}, {19, 0, 0, 0}, {20, 0, 1, 0}, {21, 0, 1, 0}, {22, 0, 1, 9}, {22, 1, 9, 8}, {22, 2, 0, 0}, {22, 3, 17, 0},
+        {1, 0, 0, 0}, {5, 2, 7, 0}, {6, 0, 3, 0}, {7, 0, 9, 0}, {8, 3, 1, 0}, {11, 0, 0, 0}, {17, 8, 4, 0}, {17, 18, 4, 0}, {18, 0, 5, 0},
+        {18, 1, 5, 0}, {8, 16, 5, 0}, {19, 0, 0, 0}, {19, 1, 0, 0}, {20, 0, 1, 0}, {21, 0, 1, 0}, {22, 0, 1, 9}, {22, 1, 9, 8}, {22, 2, 0, 0}, {22, 3, 17, 0},
     };
     char line[200], cut[9];
     for (size_t i = 0; i < sizeof known / sizeof *known; i++) {
@@ -457,7 +457,8 @@ static void test_program(const char *program) {
 int main(int count, char **words) {
     static void (*const tests[])(void) = {
         test_cube_table, test_forms_of_tables, test_points, test_creases, test_obj, test_exact_and_grid, test_level, test_parents, test_apply,
-        test_apply_floats, test_texture, test_empty, test_long_rows, test_faults, test_run, test_long_run, test_misuse, test_refusals,
+        test_apply_floats, test_texture, test_empty, test_long_rows, test_faults, test_run, test_long_run, test_rows, test_misuse,
+        test_refusals,
     };
     for (size_t i = 0; i < sizeof tests / sizeof *tests; i++) tests[i]();
     if (count > 2) test_program(words[2]);

@@ -56,7 +56,39 @@ static void test_mesh() {
     CHECK(level.value().face_parent(24).fault().status == DRILLOLIVE_RANGE);
 }
 
+static void test_rows() {
+    auto cube = drillolive::mesh::of_doubles(POINTS, SIZES, CORNERS);
+    drillolive::mesh &mesh = cube.value();
+    CHECK(drillolive::table::of_limit(mesh, 2).value().counts().rows == 98 && !drillolive::table::of_limit(mesh, 0));
+    auto exact = drillolive::table::of_exact(mesh, 1);
+    auto stored = drillolive::table::of_stored(exact.value().text().value());
+    CHECK(bool(stored) && stored.value().counts().entries == 152 && stored.value().text().value() == exact.value().text().value());
+    std::vector<drillolive::wide> ones(8, drillolive::wide{1, 0});
+    auto sums = exact.value().apply(ones, 1);
+    CHECK(bool(sums) && sums.value()[0].low == exact.value().denominators()[0].low);
+    CHECK(drillolive::points::of_limit(mesh, 1).value().doubles().size() == 78);
+    CHECK(drillolive::points::of_patch(mesh, 3, 5, 1).fault().status == DRILLOLIVE_DONE);
+    CHECK(!drillolive::points::of_texture(mesh, 1, DRILLOLIVE_SEAMS_SMOOTH) && !drillolive::level::of_texture(mesh, 1, DRILLOLIVE_SEAMS_SMOOTH));
+    auto origins = drillolive::origins::of(mesh, 1);
+    CHECK(origins.value().kinds()[8] == DRILLOLIVE_ON_FACE && origins.value().numbers()[14] == 0 && origins.value().face_parents()[23] == 5);
+    auto sparse = drillolive::sparse::of(mesh, 2);
+    CHECK(bool(sparse) && sparse.value().counts().levels == 3 && sparse.value().level_faces()[0] == 6 && sparse.value().doubles()[0] == -1);
+}
+
+static void test_session() {
+    auto cube = drillolive::mesh::of_doubles(POINTS, SIZES, CORNERS);
+    auto made = drillolive::session::of(cube.value(), 1, 20);
+    drillolive::session &session = made.value();
+    CHECK(bool(session.move(std::vector<std::uint32_t>{0}, std::vector<double>{-1, -1, 1.5})) && session.denominator().low == 1 << 20);
+    CHECK(session.take_changed().size() == 19 && session.take_changed().empty());
+    CHECK(session.read().value().size() == 78 && session.read(std::vector<std::uint32_t>{0}).value()[2] == session.read().value()[2]);
+    CHECK(!session.move(std::vector<std::uint32_t>{8}, std::vector<double>{0, 0, 0}));
+}
+
 static void test_faults() {
+    const std::vector<std::uint32_t> small = {2, 4};
+    auto broken = drillolive::mesh::of_doubles(POINTS, small, std::vector<std::uint32_t>{0, 1, 0, 1, 3, 1});
+    CHECK(broken.value().faults().value().size() == 4 && broken.value().faults().value()[1].kind == 1);
     auto bad = drillolive::mesh::of_obj("v 0 0 0\nq\n");
     CHECK(!bad && bad.fault().status == DRILLOLIVE_OBJ && bad.fault().first == 2 && !bad.line().empty() && bad.advice()[0]);
 #ifdef DRILLOLIVE_EXCEPTIONS
@@ -75,6 +107,8 @@ static void test_faults() {
 int main() {
     test_table();
     test_mesh();
+    test_rows();
+    test_session();
     test_faults();
     if (failed) return 1;
     std::printf("the C++ wrappers: %d checks passed\n", passed);
