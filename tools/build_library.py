@@ -6,7 +6,7 @@
     tools/build_library.py --after-gate --test
 
 `rt lib` proves the exports of crates/far_c first, with all crates below, and builds their archive. With `--after-gate` the crates below are the libraries that
-`.ci/run` proved and left in this checkout. The C code of bindings/c over them is compiled, and joined with
+`.ci/run` proved and left in this checkout. With `--archive FILE` the archive is the caller's, and the libraries go to build/given. The C code of bindings/c over them is compiled, and joined with
 the archive and with the toolchain's code of the heap. All symbols are hidden but `drillolive_*`, in both libraries.
 
 With `--test` the tests of bindings/c/test run: in C on the static library, and anew under AddressSanitizer and the sanitizer of undefined behaviour; in
@@ -35,7 +35,7 @@ CXX = ["-std=c++17", "-Wall", "-Wextra", "-Werror", f"-I{TOP / 'include'}"]
 OPTIMISED = ["-O3", "-fPIC"]
 SANITIZED = ["-g", "-O1", "-fsanitize=address,undefined", "-fno-sanitize-recover=all"]
 WRAPPED = ["-Wl,--wrap=malloc,--wrap=realloc"]
-TEST_FILES = ["test.c", "misuse.c", "refuse.c", "random.c"]
+TEST_FILES = ["test.c", "rows.c", "misuse.c", "refuse.c", "random.c"]
 
 
 class Failed(Exception):
@@ -125,9 +125,11 @@ def heap_of_toolchain():
 class Library:
     """The builds of the library, and the programs that passed on it."""
 
-    def __init__(self, archive, heap, cc, cxx, sequences):
+    def __init__(self, archive, proved, heap, cc, cxx, sequences):
         self.archive, self.heap, self.cc, self.cxx, self.sequences = archive, heap, cc, cxx, sequences
-        self.objects, self.folder, self.programs = BUILD / "obj", BUILD / "lib", BUILD / "test"
+        self.objects, self.programs = BUILD / "obj", BUILD / "test"
+        # What is installed is the library of exports that were proved here.
+        self.folder = BUILD / ("lib" if proved else "given")
         self.static, self.shared = self.folder / "libdrillolive.a", self.folder / "libdrillolive.so"
         self.passed = 0
         for folder in (self.objects, self.folder, self.programs):
@@ -227,7 +229,7 @@ def main():
         return 0
     try:
         archive = given.archive.resolve() if given.archive else prove_over_libraries() if given.after_gate else prove_exports()
-        library = Library(archive, heap_of_toolchain(), cc, compiler("CXX", "c++"), given.sequences)
+        library = Library(archive, not given.archive, heap_of_toolchain(), cc, compiler("CXX", "c++"), given.sequences)
         library.build()
         if given.test:
             library.test_c()

@@ -19,10 +19,12 @@ import re
 import shutil
 import subprocess
 import sys
+import tarfile
 import tempfile
 from concurrent.futures import ThreadPoolExecutor
 from pathlib import Path
 
+from release import FACTS, make_release
 from run_reference import OPTIONS, Numbers
 from tracked_files import PROGRAM, TOP, copy_files, put_program, tracked_files
 
@@ -213,6 +215,7 @@ class Launcher:
     def check_refused_install(self, prefix):
         """Checks that nothing is installed where the program or the library cannot be built, or no folder is named."""
         for what, folder in (("rt that fails", self.refusing), ("no rt", self.plain), ("no C compiler", self.lacking)):
+            os.utime(self.source)
             ended = self.install("--install", prefix, folder)
             last = ended[2].splitlines()[-1:]
             self.check(f"--install with {what}", ended[:2] == (1, b"") and last and last[0].startswith(b"./far: "), ended)
@@ -224,14 +227,15 @@ class Launcher:
         self.check("--uninstall of nothing", ended[:2] == (1, b"") and b"nothing is installed" in ended[2], ended)
 
     def check_install(self):
-        """Checks that `./far --install` proves and then installs what it lists, also over itself, and nothing else."""
+        """Checks that `./far --install` proves what does not stand, and installs what it lists, also over itself, and nothing else."""
         prefix = self.copy.parent / "a prefix"
         self.check_refused_install(prefix)
         (self.agreeing / "rt.called").unlink()
-        for time in ("first", "second"):
+        os.utime(self.source)
+        for time, said in (("first", b"proving\n"), ("second", b"")):
             ended = self.install("--install", prefix, self.agreeing)
             listed = (prefix / MANIFEST).read_text().splitlines() if (prefix / MANIFEST).is_file() else []
-            self.check(f"{time} --install", ended == (0, b"", b"proving\n") and listed == INSTALLED, ended)
+            self.check(f"{time} --install", ended == (0, b"", said) and listed == INSTALLED, ended)
             found = sorted(str(path.relative_to(prefix)) for path in prefix.rglob("*") if path.is_file())
             self.check(f"{time} --install made {found}", found == sorted([*INSTALLED, MANIFEST]), ended)
         self.check("--install proves", (self.agreeing / "rt.called").read_text().startswith(f"{self.copy}/crates/far_cli\nrun\n"), ended)
@@ -239,7 +243,25 @@ class Launcher:
         self.check("the installed program is the proved one", same, ended)
         described = (prefix / "lib/pkgconfig/drillolive.pc").read_text()
         self.check("drillolive.pc", f"prefix={prefix}\n" in described and re.search(r"^Version: \d+\.\d+\.\d+$", described, re.M), ended)
+        self.check_release(prefix)
         self.check_uninstall(prefix)
+
+    def check_release(self, prefix):
+        """Checks that the tar of a release has what is installed and what was said of it, and is the same twice."""
+        packed = []
+        for time in ("first", "second"):
+            release = self.copy.parent / f"{time} release"
+            shutil.copytree(prefix, release)
+            facts = ["version 1.2.3", "gate 7 passed, 0 failed"]
+            packed.append(make_release(release, facts, 1234567890, release.parent / f"{time} folder"))
+        with tarfile.open(packed[0]) as tar:
+            names = sorted(entry.name for entry in tar.getmembers() if entry.isfile())
+            said = tar.extractfile(f"drillolive-1.2.3-x86_64-linux/{FACTS}").read().decode().splitlines()
+        wanted = sorted(f"drillolive-1.2.3-x86_64-linux/{name}" for name in [*INSTALLED, MANIFEST, FACTS])
+        self.check(f"a release has {names}", names == wanted, (0, b"", b""))
+        sums = [line for line in said if line.startswith("sha256 ")]
+        self.check("a release says its sums", said[:2] == facts and len(sums) == len(INSTALLED) + 1, (0, b"", b""))
+        self.check("a release is the same twice", packed[0].read_bytes() == packed[1].read_bytes(), (0, b"", b""))
 
     def check_uninstall(self, prefix):
         """Checks that `./far --uninstall` removes what was installed, keeps all else, and names no file outside of the folder."""
