@@ -2,7 +2,9 @@ pub mod UnitLemmas
 pub mod NearLemmas
 pub mod RoundLemmas
 pub mod DivideLemmas
+pub mod ShiftLemmas
 pub mod ScaleLemmas
+pub mod WholeLemmas
 pub mod DistanceLemmas
 pub mod LastLemmas
 pub mod FormatLemmas

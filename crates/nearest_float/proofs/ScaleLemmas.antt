@@ -15,7 +15,7 @@ log-few a k from fits = by-cases (cases_lt 126 k)
     by-cases (inr few) = few
 
 -- shifted, a number has 127 bits
-shifted-low : (a k : ℕ) → 2 ^ k ≤ a → a < 2 ^ 127 → 2 ^ 126 ≤ a * 2 ^ (126 - k)
+pub shifted-low : (a k : ℕ) → 2 ^ k ≤ a → a < 2 ^ 127 → 2 ^ 126 ≤ a * 2 ^ (126 - k)
 shifted-low a k from fits =
     let few = log-few a k from fits in
     let sum : k + (126 - k) ≡ 126 = omega arith in
@@ -23,7 +23,7 @@ shifted-low a k from fits =
     let least : 2 ^ k * 2 ^ (126 - k) ≤ a * 2 ^ (126 - k) = mul-le-mul_right (2 ^ (126 - k)) from in
     omega (arith, whole, least)
 
-shifted-high : (a k : ℕ) → 2 ^ k ≤ a → a < 2 ^ 127 → a < 2 * 2 ^ k → a * 2 ^ (126 - k) < 2 ^ 127
+pub shifted-high : (a k : ℕ) → 2 ^ k ≤ a → a < 2 ^ 127 → a < 2 * 2 ^ k → a * 2 ^ (126 - k) < 2 ^ 127
 shifted-high a k from fits to =
     let few = log-few a k from fits in
     let sum : k + (126 - k) ≡ 126 = omega arith in

@@ -1,4 +1,4 @@
-ghost use Rattle.std.specs.Prelude.{◌≡◌, ℕ, ◌+◌, ◌-◌, ◌*◌, ◌^◌, ◌<◌, ◌≤◌};
+ghost use Rattle.std.specs.Prelude.{◌≡◌, ℕ, ◌+◌, ◌-◌, ◌*◌, ◌^◌, ◌<◌, ◌≤◌, IfSome};
 ghost use Rattle.nearest_float.specs.Scaled.{IsScaled, IsNearestSize, rounded_half_even};
 
 // A fraction as a quotient from 1 up to 2, and how often a unit times the quotient is doubled.
@@ -40,6 +40,22 @@ fn widen(amount: u128, den: u128, unit_bits: u32) -> WideFraction
     }
 }
 
+// The least denominator with 127 bits, which powers of two become.
+const LEAST_WIDE: u128 = 0x4000_0000_0000_0000_0000_0000_0000_0000;
+
+// The whole quotient of top * 2^shift by 2^126, and the rest, without a division.
+fn shifted_quotient(top: u128, shift: u32) -> (u64, u128)
+    requires fits { top < 2 ^ 127 }
+    requires short { shift ≤ 52 }
+    ensures whole { top * 2 ^ shift ≡ result.0 * 2 ^ 126 + result.1 }
+    ensures rest { result.1 < 2 ^ 126 }
+    ensures few { result.0 < 2 ^ 53 }
+{
+    let quotient = top >> (126 - shift);
+    let rest = top - (quotient << (126 - shift));
+    (quotient as u64, rest << shift)
+}
+
 // The whole quotient of top * 2^shift by bottom, and the rest. The quotient by the upper half of bottom, rounded up, is
 // at most 1 too small.
 fn long_quotient(top: u128, bottom: u128, shift: u32) -> (u64, u128)
@@ -51,6 +67,9 @@ fn long_quotient(top: u128, bottom: u128, shift: u32) -> (u64, u128)
     ensures rest { result.1 < bottom }
     ensures few { result.0 < 2 ^ 53 }
 {
+    if bottom == LEAST_WIDE {
+        return shifted_quotient(top, shift);
+    }
     let guess = (top >> (64 - shift)) / ((bottom >> 64) + 1);
     let rest = (top << shift).wrapping_sub(guess.wrapping_mul(bottom));
     if rest < bottom {
@@ -87,6 +106,44 @@ fn size_from(doublings: u64, significand: u64, fraction_bits: u32) -> u64
     (doublings << fraction_bits) + significand
 }
 
+// The size of the number that is the fraction itself, where the amount fits a significand and the denominator is a power of two.
+fn exact_size(amount: u64, den: u64, fraction_bits: u32, unit_bits: u32) -> Option<u64>
+    requires amount { 0 < amount }
+    requires den { 0 < den }
+    requires some { 0 < fraction_bits }
+    requires short { fraction_bits ≤ 52 }
+    requires fine { 127 ≤ unit_bits }
+    requires unit_fits { unit_bits ≤ 1074 }
+    ensures nearest { IfSome result (λ size. IsNearestSize fraction_bits (amount * 2 ^ unit_bits) den size) }
+    ensures within { IfSome result (λ size. size ≤ (unit_bits + 128 - fraction_bits) * 2 ^ fraction_bits) }
+{
+    let bits = amount.ilog2();
+    let den_bits = den.ilog2();
+    if fraction_bits < bits || den != 1 << den_bits {
+        return None;
+    }
+    let doublings = unit_bits + bits - den_bits - fraction_bits;
+    let significand = amount << (fraction_bits - bits);
+    Some(size_from(doublings as u64, significand, fraction_bits))
+}
+
+// The size of the number that is the fraction itself, where both terms have 64 bits at most and [`exact_size`] finds it.
+fn short_size(amount: u128, den: u128, fraction_bits: u32, unit_bits: u32) -> Option<u64>
+    requires amount { 0 < amount }
+    requires den { 0 < den }
+    requires some { 0 < fraction_bits }
+    requires short { fraction_bits ≤ 52 }
+    requires fine { 127 ≤ unit_bits }
+    requires unit_fits { unit_bits ≤ 1074 }
+    ensures nearest { IfSome result (λ size. IsNearestSize fraction_bits (amount * 2 ^ unit_bits) den size) }
+    ensures within { IfSome result (λ size. size ≤ (unit_bits + 128 - fraction_bits) * 2 ^ fraction_bits) }
+{
+    if amount > u64::MAX as u128 || den > u64::MAX as u128 {
+        return None;
+    }
+    exact_size(amount as u64, den as u64, fraction_bits, unit_bits)
+}
+
 // The size of the nearest number, in a format without a greatest exponent.
 pub(crate) fn nearest_size(amount: u128, den: u128, fraction_bits: u32, unit_bits: u32) -> u64
     requires amount_fits { amount < 2 ^ 127 }
@@ -101,6 +158,9 @@ pub(crate) fn nearest_size(amount: u128, den: u128, fraction_bits: u32, unit_bit
 {
     if amount == 0 {
         return 0;
+    }
+    if let Some(size) = short_size(amount, den, fraction_bits, unit_bits) {
+        return size;
     }
     let fraction = widen(amount, den, unit_bits);
     let shift = fraction_bits.min(fraction.doublings);
