@@ -1,10 +1,10 @@
 -- Factors of two: what is left of a number without them, and that a common divisor may be found without them.
-use Rattle.std.proofs.Common.{◌≡◌, ◌≢◌, ◌⊎◌, ℕ, zero, suc, ◌+◌, ◌-◌, ◌*◌, ◌/◌, ◌%◌, ◌^◌, ◌<◌, ◌≤◌, min, inl, inr, arith, subst, sym, ap, ◌∙◌}
+use Rattle.std.proofs.Common.{◌≡◌, ◌≢◌, ◌⊎◌, ℕ, zero, suc, ◌+◌, ◌-◌, ◌*◌, ◌/◌, ◌%◌, ◌^◌, ◌<◌, ◌≤◌, max, min, inl, inr, arith, subst, sym, ap, ◌∙◌}
 use Rattle.std.specs.Int.{IsGcd, ◌∣◌, bit_at, w64, w128, trailing_zeros}
 use Rattle.std.proofs.lemmas.Bool.{cases_lt}
 use Rattle.std.proofs.lemmas.Nat.{pow_pos, pow-add, shr-shr}
 use Rattle.std.proofs.lemmas.Nat.Bits.{bit_at-suc, bit_at_lowest, bit_at-trailing_zeros}
-use Rattle.std.proofs.lemmas.Nat.Gcd.{dvd_trans, dvd_of_mod-eq-zero, mod-eq-zero_of_dvd, le_of_dvd, IsGcd-swap}
+use Rattle.std.proofs.lemmas.Nat.Gcd.{dvd_refl, dvd_trans, dvd_of_mod-eq-zero, mod-eq-zero_of_dvd, le_of_dvd, IsGcd-swap, IsGcd-from_sub}
 use Rattle.std.proofs.Math.Nat.{mul_comm, mul_assoc, div-div-eq-div-mul, dvd-mul_left, dvd-mul_right, dvd-sub, pow-suc, mul-one, div-one, min-eq_left, min-eq_right}
 use Rattle.ratio128.proofs.LcmLemmas.{IsGcd-scaled}
 
@@ -25,6 +25,12 @@ whole-multiple (suc k) n low =
 -- the number without its factors of two is odd, and with them it is the number
 pub odd-part : (n : ℕ) → 0 < n → n < 2 ^ 128 → n / 2 ^ trailing_zeros w128 n % 2 ≡ 1
 odd-part n some fits = (bit_at-trailing_zeros w128 n some fits).1
+
+pub odd-word : (n : ℕ) → 0 < n → n < 2 ^ 64 → n / 2 ^ trailing_zeros w64 n % 2 ≡ 1
+odd-word n some fits = (bit_at-trailing_zeros w64 n some fits).1
+
+pub odd-word-whole : (n : ℕ) → 0 < n → n < 2 ^ 64 → n / 2 ^ trailing_zeros w64 n * 2 ^ trailing_zeros w64 n ≡ n
+odd-word-whole n some fits = whole-multiple (trailing_zeros w64 n) n (bit_at-trailing_zeros w64 n some fits).2
 
 pub odd-part-whole : (n : ℕ) → 0 < n → n < 2 ^ 128 → n / 2 ^ trailing_zeros w128 n * 2 ^ trailing_zeros w128 n ≡ n
 odd-part-whole n some fits = whole-multiple (trailing_zeros w128 n) n (bit_at-trailing_zeros w128 n some fits).2
@@ -60,6 +66,31 @@ gcd-twos k p q g odd is = (
   dvd_trans g is.1 (dvd-mul_right q (2 ^ k)),
   λ d u v. is.2 d u (halved k d q (odd-divisor p d odd u) v),
 )
+
+-- a divisor of an odd number and of the odd part of another is that of the number itself
+pub gcd-of-odd-part : (p n q k g : ℕ) → p % 2 ≡ 1 → q * 2 ^ k ≡ n → IsGcd p q g → IsGcd p n g
+gcd-of-odd-part p n q k g odd whole is = subst (λ (m : ℕ). IsGcd p m g) whole (gcd-twos k p q g odd is)
+
+-- a number and itself
+pub gcd-of-same : (x y : ℕ) → x ≡ y → IsGcd x y x
+gcd-of-same x y same = (dvd_refl x, (let P : ℕ → Type 0 = λ m. x ∣ m in subst P same (dvd_refl x)), λ d u v. u)
+
+-- one step by a difference without its factors of two
+pub gcd-of-difference : (x y q k g : ℕ) → x % 2 ≡ 1 → y % 2 ≡ 1 → q * 2 ^ k ≡ max x y - min x y → IsGcd (min x y) q g → IsGcd x y g
+gcd-of-difference x y q k g one two whole is = by (cases_lt x y)
+  where
+    by : (x < y) ⊎ (y ≤ x) → IsGcd x y g
+    by (inl below) =
+        let h : x ≤ y = omega arith in
+        let least : min x y ≡ x = min-eq_left h in
+        let apart : max x y - min x y ≡ y - x = omega (arith, least, below) in
+        let rest : IsGcd x (y - x) g = gcd-of-odd-part x (y - x) q k g one (whole ∙ apart) (subst (λ (m : ℕ). IsGcd m q g) least is) in
+        IsGcd-swap y x g (IsGcd-from_sub y x g h (IsGcd-swap x (y - x) g rest))
+    by (inr above) =
+        let least : min x y ≡ y = min-eq_right above in
+        let apart : max x y - min x y ≡ x - y = omega (arith, least, above) in
+        let rest : IsGcd y (x - y) g = gcd-of-odd-part y (x - y) q k g two (whole ∙ apart) (subst (λ (m : ℕ). IsGcd m q g) least is) in
+        IsGcd-from_sub x y g above (IsGcd-swap y (x - y) g rest)
 
 -- of two numbers with factors of two, the lesser power is common
 gcd-parts : (i j p q g : ℕ) → i ≤ j → p % 2 ≡ 1 → IsGcd p q g → IsGcd (p * 2 ^ i) (q * 2 ^ j) (g * 2 ^ i)
@@ -110,6 +141,6 @@ odd-part-positive b some fits = let odd = odd-part b some fits in omega (arith, 
 pub power-quotient : (a b : ℕ) → 0 < b → b < 2 ^ 64 → b / 2 ^ trailing_zeros w64 b ≡ 1 → a / 2 ^ trailing_zeros w64 b ≡ a / b
 power-quotient a b some fits one =
     let twos = trailing_zeros w64 b in
-    let whole : b / 2 ^ twos * 2 ^ twos ≡ b = whole-multiple twos b (bit_at-trailing_zeros w64 b some fits).2 in
+    let whole : b / 2 ^ twos * 2 ^ twos ≡ b = odd-word-whole b some fits in
     let once : 2 ^ twos ≡ 1 * 2 ^ twos = omega arith in
     ap (λ n. a / n) (once ∙ ap (λ n. n * 2 ^ twos) (sym one) ∙ whole)

@@ -2,7 +2,7 @@ ghost use Rattle.std.specs.Prelude.{◌≡◌, ℕ, ◌<◌, ◌^◌, ℤ, pos, 
 ghost use Rattle.std.specs.Int.{IsGcd};
 ghost use Rattle.ratio128.specs.Ratio.{signed_like};
 
-use crate::euclid::{gcd_of_wide, odd_part};
+use crate::euclid::{gcd_of_odds, odd_part};
 use crate::quotient;
 
 /// The greatest common divisor: the one that every common divisor divides. It is 0 for two zeros.
@@ -16,7 +16,7 @@ pub fn gcd(a: u128, b: u128) -> u128
         return a;
     }
     let twos = a.trailing_zeros().min(b.trailing_zeros());
-    gcd_of_wide(odd_part(a), odd_part(b)) << twos
+    gcd_of_odds(odd_part(a), odd_part(b)) << twos
 }
 
 /// A whole numerator over a whole denominator, just as given; `lowest` makes one in lowest terms.

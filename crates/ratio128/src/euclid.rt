@@ -1,36 +1,5 @@
 ghost use Rattle.std.specs.Prelude.{◌≡◌, ℕ, ◌*◌, ◌%◌, ◌<◌, ◌^◌};
-ghost use Rattle.std.specs.Int.{IsGcd, trailing_zeros, w128};
-
-// Euclid's algorithm on words of 64 bits, which divide much faster than those of 128.
-fn gcd_of_words(a: u64, b: u64) -> u64
-    ensures { IsGcd a b result }
-{
-    let mut x = a;
-    let mut y = b;
-    while y != 0 {
-        let rest = x % y;
-        x = y;
-        y = rest;
-    }
-    x
-}
-
-// Euclid's algorithm, which goes on in words of 64 bits once the lesser number fits into one.
-pub(crate) fn gcd_of_wide(a: u128, b: u128) -> u128
-    ensures { IsGcd a b result }
-{
-    let mut left = a;
-    let mut right = b;
-    while right > u64::MAX as u128 {
-        let rest = left % right;
-        left = right;
-        right = rest;
-    }
-    if right == 0 {
-        return left;
-    }
-    gcd_of_words(right as u64, (left % right) as u64) as u128
-}
+ghost use Rattle.std.specs.Int.{IsGcd, trailing_zeros, w64, w128};
 
 // What is left of a number above 0 when its factors of two are taken out: an odd number.
 pub(crate) fn odd_part(n: u128) -> u128
@@ -39,4 +8,54 @@ pub(crate) fn odd_part(n: u128) -> u128
     ensures whole { result * 2 ^ trailing_zeros w128 n ≡ n }
 {
     n >> n.trailing_zeros()
+}
+
+// What is left of a word above 0 when its factors of two are taken out: an odd number.
+fn odd_word(n: u64) -> u64
+    requires { 0 < n }
+    ensures odd { result % 2 ≡ 1 }
+    ensures whole { result * 2 ^ trailing_zeros w64 n ≡ n }
+{
+    n >> n.trailing_zeros()
+}
+
+// The greatest common divisor of odd words, by differences without their factors of two: each step takes a shift and no division.
+fn gcd_of_odd_words(a: u64, b: u64) -> u64
+    requires left { a % 2 ≡ 1 }
+    requires right { b % 2 ≡ 1 }
+    ensures { IsGcd a b result }
+{
+    let mut x = a;
+    let mut y = b;
+    while x != y {
+        let difference = x.max(y) - x.min(y);
+        x = x.min(y);
+        y = odd_word(difference);
+    }
+    x
+}
+
+// The greatest common divisor of odd numbers: by Euclid's algorithm until the lesser one fits a word of 64 bits, and then of words. A
+// rest gives up its factors of two, which no odd number has.
+pub(crate) fn gcd_of_odds(a: u128, b: u128) -> u128
+    requires left { a % 2 ≡ 1 }
+    requires right { b % 2 ≡ 1 }
+    ensures { IsGcd a b result }
+{
+    let mut left = a;
+    let mut right = b;
+    while right > u64::MAX as u128 {
+        let rest = left % right;
+        if rest == 0 {
+            return right;
+        }
+        left = right;
+        right = odd_part(rest);
+    }
+    let word = right as u64;
+    let rest = (left % right) as u64;
+    if rest == 0 {
+        return right;
+    }
+    gcd_of_odd_words(word, odd_word(rest)) as u128
 }

@@ -12,4 +12,4 @@ returns-then-b-eq0 c = IsGcd-from_zero _ _ (omega arith)
 pub returns : goal.returns
 returns c =
     gcd-from-odds c.args.a c.args.b _ _ _ _ _ _ (omega arith) c.ranges.a.fits c.odd_part.ensures.odd c.odd_part-2.ensures.odd c.odd_part.ensures.whole
-    c.odd_part-2.ensures.whole c.gcd_of_wide.ensures c.min-twos.ensures
+    c.odd_part-2.ensures.whole c.gcd_of_odds.ensures c.min-twos.ensures
