@@ -1,5 +1,5 @@
 -- The format and the bits of some numbers.
-use Rattle.std.specs.Prelude.{ℕ, List}
+use Rattle.std.specs.Prelude.{ℕ, List, get_or}
 use Rattle.nearest_float.specs.Binary.{Format, binary32, binary64}
 use Rattle.exact_arrays.specs.declared.floats.Floats.{Floats}
 use Rattle.exact_arrays.specs.declared.floats.Floats.TheVariants.{Doubles, Singles}
@@ -11,3 +11,7 @@ format_of (Singles bits) = binary32
 abbrev pub bits_of : Floats → List ℕ
 bits_of (Doubles bits) = bits.now
 bits_of (Singles bits) = bits.now
+
+-- the bits of the number at a place
+abbrev pub bits_at : Floats → ℕ → ℕ
+bits_at numbers place = get_or (bits_of numbers) place 0

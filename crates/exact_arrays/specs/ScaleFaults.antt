@@ -31,6 +31,9 @@ pub record IsFirstLarge (f : Format) (bits : List ℕ) (scale place : ℕ) : Typ
   pub large : IsLarge f scale (get_or bits place 0)
   pub before : All (IsSmall f scale) (take place bits)
 
+abbrev pub IsLargeFault : Format → List ℕ → ℕ → NumberFault → Type 0
+IsLargeFault f bits scale x = IsFirstLarge f bits scale x.place × (x.fault ≡ TooWide)
+
 -- all numbers have exact fractions, and over their least common denominator a numerator is too large
 pub record IsLargeOverAll (f : Format) (bits : List ℕ) (place : ℕ) (fault : FloatFault) : Type 0 where
   pub wide : fault ≡ TooWide

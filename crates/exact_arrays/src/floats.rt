@@ -4,7 +4,7 @@ ghost use Rattle.std.specs.Prelude.{◌≡◌, ◌<◌, length, get_or, MatchRes
 ghost use Rattle.nearest_float.specs.Binary.{binary32, binary64};
 ghost use Rattle.nearest_float.specs.Exact.{IsExact};
 ghost use Rattle.nearest_float.specs.Faults.{IsRefused};
-ghost use Rattle.exact_arrays.specs.Floats.{bits_of, format_of};
+ghost use Rattle.exact_arrays.specs.Floats.{bits_at, bits_of, format_of};
 
 use nearest_float::{FloatFault, exact_binary32, exact_binary64};
 use ratio128::Frac;
@@ -43,7 +43,7 @@ impl Floats<'_> {
     // The exact fraction of the number at a place.
     pub(crate) fn exact(&self, place: usize) -> Result<Frac, FloatFault>
         requires { place < length (bits_of self.now) }
-        ensures { MatchResult result (λ x. IsExact (format_of self.now) (get_or (bits_of self.now) place 0) x.num x.den) (λ fault. IsRefused (format_of self.now) (get_or (bits_of self.now) place 0) fault) }
+        ensures { MatchResult result (λ x. IsExact (format_of self.now) (bits_at self.now place) x.num x.den) (λ fault. IsRefused (format_of self.now) (bits_at self.now place) fault) }
     {
         match self {
             Floats::Doubles(bits) => exact_double(bits, place),

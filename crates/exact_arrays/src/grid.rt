@@ -3,7 +3,7 @@
 ghost use Rattle.std.specs.Prelude.{◌≡◌, ◌+◌, ◌≤◌, ◌<◌, length, get_or, map, take, drop, MatchResult};
 ghost use Rattle.nearest_float.specs.Binary.{binary32, binary64};
 ghost use Rattle.flat_arrays.specs.Words.{integer_of};
-ghost use Rattle.exact_arrays.specs.Floats.{bits_of, format_of};
+ghost use Rattle.exact_arrays.specs.Floats.{bits_at, bits_of, format_of};
 ghost use Rattle.exact_arrays.specs.Grid.{AreRounded, IsRoundFault, IsRoundedTo, IsUnroundedHere, IsRoundRefused};
 
 use crate::NumberFault;
@@ -68,7 +68,7 @@ fn rounded_single(bits: &[u32], place: usize, grid_bits: u32) -> Result<GridNumb
 fn rounded_float(numbers: &Floats, place: usize, grid_bits: u32) -> Result<GridNumber, FloatFault>
     requires inside { place < length (bits_of numbers.now) }
     requires grid_fits { grid_bits ≤ 126 }
-    ensures { MatchResult result (λ x. IsRoundedTo (format_of numbers.now) grid_bits (get_or (bits_of numbers.now) place 0) x) (λ fault. IsRoundRefused (format_of numbers.now) grid_bits (get_or (bits_of numbers.now) place 0) fault) }
+    ensures { MatchResult result (IsRoundedTo (format_of numbers.now) grid_bits (bits_at numbers.now place)) (IsRoundRefused (format_of numbers.now) grid_bits (bits_at numbers.now place)) }
 {
     match numbers {
         Floats::Doubles(bits) => rounded_double(bits, place, grid_bits),
@@ -80,7 +80,7 @@ fn rounded_float(numbers: &Floats, place: usize, grid_bits: u32) -> Result<GridN
 fn rounded_at(numbers: &Floats, place: usize, grid_bits: u32) -> Result<GridNumber, NumberFault>
     requires inside { place < length (bits_of numbers.now) }
     requires grid_fits { grid_bits ≤ 126 }
-    ensures { MatchResult result (λ x. IsRoundedTo (format_of numbers.now) grid_bits (get_or (bits_of numbers.now) place 0) x) (λ x. IsUnroundedHere (format_of numbers.now) grid_bits (get_or (bits_of numbers.now) place 0) place x) }
+    ensures { MatchResult result (IsRoundedTo (format_of numbers.now) grid_bits (bits_at numbers.now place)) (IsUnroundedHere (format_of numbers.now) grid_bits (bits_at numbers.now place) place) }
 {
     match rounded_float(numbers, place, grid_bits) {
         Ok(number) => Ok(number),
@@ -92,7 +92,7 @@ fn rounded_at(numbers: &Floats, place: usize, grid_bits: u32) -> Result<GridNumb
 fn round_all(numbers: &Floats, grid_bits: u32, out: &mut [Wide]) -> Result<u64, NumberFault>
     requires equal { length out.old ≡ length (bits_of numbers.now) }
     requires grid_fits { grid_bits ≤ 126 }
-    ensures rounded { MatchResult result (λ changed. AreRounded (format_of numbers.now) grid_bits (bits_of numbers.now) changed (map integer_of out.new)) (λ x. IsRoundFault (format_of numbers.now) grid_bits (bits_of numbers.now) x) }
+    ensures rounded { MatchResult result (λ changed. AreRounded (format_of numbers.now) grid_bits (bits_of numbers.now) changed (map integer_of out.new)) (IsRoundFault (format_of numbers.now) grid_bits (bits_of numbers.now)) }
     ensures len { length out.new ≡ length out.old }
 {
     let mut changed: u64 = 0;
@@ -117,7 +117,7 @@ fn round_all(numbers: &Floats, grid_bits: u32, out: &mut [Wide]) -> Result<u64, 
 pub fn round_binary64s(bits: &[u64], grid_bits: u32, out: &mut [Wide]) -> Result<u64, NumberFault>
     requires fits { length bits.now ≤ length out.old }
     requires grid_fits { grid_bits ≤ 126 }
-    ensures rounded { MatchResult result (λ changed. AreRounded binary64 grid_bits bits.now changed (map integer_of (take (length bits.now) out.new))) (λ x. IsRoundFault binary64 grid_bits bits.now x) }
+    ensures rounded { MatchResult result (λ changed. AreRounded binary64 grid_bits bits.now changed (map integer_of (take (length bits.now) out.new))) (IsRoundFault binary64 grid_bits bits.now) }
     ensures rest { drop (length bits.now) out.new ≡ drop (length bits.now) out.old }
     ensures len { length out.new ≡ length out.old }
 {
@@ -137,7 +137,7 @@ pub fn round_binary64s(bits: &[u64], grid_bits: u32, out: &mut [Wide]) -> Result
 pub fn round_binary32s(bits: &[u32], grid_bits: u32, out: &mut [Wide]) -> Result<u64, NumberFault>
     requires fits { length bits.now ≤ length out.old }
     requires grid_fits { grid_bits ≤ 126 }
-    ensures rounded { MatchResult result (λ changed. AreRounded binary32 grid_bits bits.now changed (map integer_of (take (length bits.now) out.new))) (λ x. IsRoundFault binary32 grid_bits bits.now x) }
+    ensures rounded { MatchResult result (λ changed. AreRounded binary32 grid_bits bits.now changed (map integer_of (take (length bits.now) out.new))) (IsRoundFault binary32 grid_bits bits.now) }
     ensures rest { drop (length bits.now) out.new ≡ drop (length bits.now) out.old }
     ensures len { length out.new ≡ length out.old }
 {

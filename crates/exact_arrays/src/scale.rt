@@ -1,13 +1,12 @@
 //! Numbers over their least common denominator.
 
-ghost use Rattle.std.specs.Prelude.{◌≡◌, ◌+◌, ◌*◌, ◌^◌, ◌<◌, ◌≤◌, ℤ, length, get_or, map, take, drop, pos, neg_ℤ, int_lt, if◌then◌else◌, MatchResult, MatchOption};
+ghost use Rattle.std.specs.Prelude.{◌≡◌, ◌+◌, ◌*◌, ◌^◌, ◌<◌, ◌≤◌, ℤ, length, map, take, drop, pos, neg_ℤ, int_lt, if◌then◌else◌, MatchResult, MatchOption};
 ghost use Rattle.std.specs.List.{AllZip};
 ghost use Rattle.nearest_float.specs.Binary.{binary32, binary64};
-ghost use Rattle.nearest_float.specs.declared.fault.FloatFault.TheVariants.{TooWide};
 ghost use Rattle.flat_arrays.specs.Words.{integer_of};
-ghost use Rattle.exact_arrays.specs.Floats.{bits_of, format_of};
+ghost use Rattle.exact_arrays.specs.Floats.{bits_at, bits_of, format_of};
 ghost use Rattle.exact_arrays.specs.Scale.{IsScaleWith, IsLeastScale, IsNumerator, HasFraction, HasNumerator, AreScaled};
-ghost use Rattle.exact_arrays.specs.ScaleFaults.{IsFirstRefused, IsRefusedHere, IsLarge, IsFirstLarge, IsScaleFault};
+ghost use Rattle.exact_arrays.specs.ScaleFaults.{IsFirstRefused, IsRefusedHere, IsLarge, IsLargeFault, IsScaleFault};
 
 use crate::NumberFault;
 use crate::floats::Floats;
@@ -20,7 +19,7 @@ const MOST: u128 = (1 << 127) - 1;
 // The greater of a scale and the denominator of the number at a place.
 fn scale_with(numbers: &Floats, place: usize, scale: u128) -> Result<u128, NumberFault>
     requires { place < length (bits_of numbers.now) }
-    ensures { MatchResult result (λ next. IsScaleWith (format_of numbers.now) (get_or (bits_of numbers.now) place 0) scale next) (λ x. IsRefusedHere (format_of numbers.now) (get_or (bits_of numbers.now) place 0) place x) }
+    ensures { MatchResult result (IsScaleWith (format_of numbers.now) (bits_at numbers.now place) scale) (IsRefusedHere (format_of numbers.now) (bits_at numbers.now place) place) }
 {
     match numbers.exact(place) {
         Ok(fraction) => Ok(scale.max(fraction.den)),
@@ -52,9 +51,9 @@ fn signed(negative: bool, amount: u128) -> i128
 fn numerator_at(numbers: &Floats, place: usize, scale: u128) -> Option<i128>
     requires inside { place < length (bits_of numbers.now) }
     requires positive { 0 < scale }
-    requires exact { HasFraction (format_of numbers.now) (get_or (bits_of numbers.now) place 0) }
-    requires common { HasNumerator (format_of numbers.now) scale (get_or (bits_of numbers.now) place 0) }
-    ensures { MatchOption result (IsLarge (format_of numbers.now) scale (get_or (bits_of numbers.now) place 0)) (λ n. IsNumerator (format_of numbers.now) scale (get_or (bits_of numbers.now) place 0) n) }
+    requires exact { HasFraction (format_of numbers.now) (bits_at numbers.now place) }
+    requires common { HasNumerator (format_of numbers.now) scale (bits_at numbers.now place) }
+    ensures { MatchOption result (IsLarge (format_of numbers.now) scale (bits_at numbers.now place)) (λ n. IsNumerator (format_of numbers.now) scale (bits_at numbers.now place) n) }
 {
     match numbers.exact(place) {
         Ok(fraction) => {
@@ -71,7 +70,7 @@ fn numerator_at(numbers: &Floats, place: usize, scale: u128) -> Option<i128>
 fn put_numerators(numbers: &Floats, scale: u128, out: &mut [Wide]) -> Result<(), NumberFault>
     requires equal { length out.old ≡ length (bits_of numbers.now) }
     requires least { IsLeastScale (format_of numbers.now) (bits_of numbers.now) scale }
-    ensures put { MatchResult result (λ _. AllZip (IsNumerator (format_of numbers.now) scale) (bits_of numbers.now) (map integer_of out.new)) (λ x. IsFirstLarge (format_of numbers.now) (bits_of numbers.now) scale x.place × (x.fault ≡ TooWide)) }
+    ensures put { MatchResult result (λ _. AllZip (IsNumerator (format_of numbers.now) scale) (bits_of numbers.now) (map integer_of out.new)) (IsLargeFault (format_of numbers.now) (bits_of numbers.now) scale) }
     ensures len { length out.new ≡ length out.old }
 {
     for place in 0..numbers.len() {
@@ -91,7 +90,7 @@ fn put_numerators(numbers: &Floats, scale: u128, out: &mut [Wide]) -> Result<(),
 // The least common denominator, with the numerators over it in the array.
 fn scale_all(numbers: &Floats, out: &mut [Wide]) -> Result<u128, NumberFault>
     requires equal { length out.old ≡ length (bits_of numbers.now) }
-    ensures scaled { MatchResult result (λ scale. AreScaled (format_of numbers.now) (bits_of numbers.now) scale (map integer_of out.new)) (λ x. IsScaleFault (format_of numbers.now) (bits_of numbers.now) x) }
+    ensures scaled { MatchResult result (λ scale. AreScaled (format_of numbers.now) (bits_of numbers.now) scale (map integer_of out.new)) (IsScaleFault (format_of numbers.now) (bits_of numbers.now)) }
     ensures len { length out.new ≡ length out.old }
 {
     let scale = least_scale(numbers)?;
@@ -110,7 +109,7 @@ fn scale_all(numbers: &Floats, out: &mut [Wide]) -> Result<u128, NumberFault>
 /// with the place of the first whose numerator over the scale is 2^127 or more in amount. The places of the numbers then have any items.
 pub fn scale_binary64s(bits: &[u64], out: &mut [Wide]) -> Result<u128, NumberFault>
     requires fits { length bits.now ≤ length out.old }
-    ensures scaled { MatchResult result (λ scale. AreScaled binary64 bits.now scale (map integer_of (take (length bits.now) out.new))) (λ x. IsScaleFault binary64 bits.now x) }
+    ensures scaled { MatchResult result (λ scale. AreScaled binary64 bits.now scale (map integer_of (take (length bits.now) out.new))) (IsScaleFault binary64 bits.now) }
     ensures rest { drop (length bits.now) out.new ≡ drop (length bits.now) out.old }
     ensures len { length out.new ≡ length out.old }
 {
@@ -128,7 +127,7 @@ pub fn scale_binary64s(bits: &[u64], out: &mut [Wide]) -> Result<u128, NumberFau
 /// with the place of the first whose numerator over the scale is 2^127 or more in amount. The places of the numbers then have any items.
 pub fn scale_binary32s(bits: &[u32], out: &mut [Wide]) -> Result<u128, NumberFault>
     requires fits { length bits.now ≤ length out.old }
-    ensures scaled { MatchResult result (λ scale. AreScaled binary32 bits.now scale (map integer_of (take (length bits.now) out.new))) (λ x. IsScaleFault binary32 bits.now x) }
+    ensures scaled { MatchResult result (λ scale. AreScaled binary32 bits.now scale (map integer_of (take (length bits.now) out.new))) (IsScaleFault binary32 bits.now) }
     ensures rest { drop (length bits.now) out.new ≡ drop (length bits.now) out.old }
     ensures len { length out.new ≡ length out.old }
 {
