@@ -2,6 +2,7 @@
 
 ghost use Rattle.std.specs.Prelude.{◌≡◌, length};
 ghost use Rattle.far_c.specs.Faults.{AnswersFaults};
+ghost use Rattle.far_c.specs.Status.{IsKeptUnlessRefused, IsKeptIfRefused};
 
 use crate::status::written;
 use array_answers::faults_of_arrays;
@@ -20,6 +21,7 @@ pub extern "C" fn far_mesh_faults(
 ) -> u32
     ensures answer { AnswersFaults mesh.now result count.new out.old out.new fault.new }
     ensures len { length out.new ≡ length out.old }
+    ensures stays { IsKeptIfRefused result count.old count.new × IsKeptUnlessRefused result fault.old fault.new }
 {
     match faults_of_arrays(alloc, mesh) {
         Ok(faults) => {

@@ -3,6 +3,7 @@
 ghost use Rattle.std.specs.Prelude.{◌≡◌, length, drop};
 ghost use Rattle.nearest_float.specs.Binary.{binary32, binary64};
 ghost use Rattle.far_c.specs.Fractions.{AnswersFractions, record_of_fraction_fault};
+ghost use Rattle.far_c.specs.Status.{IsKeptUnlessRefused};
 
 use crate::status::record;
 use fault_record::{BAD_ARRAYS, BAD_NUMBER, DONE, FaultRecord, TOO_SHORT};
@@ -29,6 +30,7 @@ pub extern "C" fn far_nearest_doubles(
     ensures answer { AnswersFractions binary64 fractions.now result out.old out.new fault.new }
     ensures rest { drop (length fractions.now.numerators.now) out.new ≡ drop (length fractions.now.numerators.now) out.old }
     ensures len { length out.new ≡ length out.old }
+    ensures stays { IsKeptUnlessRefused result fault.old fault.new }
 {
     match round_fractions64(fractions, out) {
         Ok(()) => DONE,
@@ -49,6 +51,7 @@ pub extern "C" fn far_nearest_floats(
     ensures answer { AnswersFractions binary32 fractions.now result out.old out.new fault.new }
     ensures rest { drop (length fractions.now.numerators.now) out.new ≡ drop (length fractions.now.numerators.now) out.old }
     ensures len { length out.new ≡ length out.old }
+    ensures stays { IsKeptUnlessRefused result fault.old fault.new }
 {
     match round_fractions32(fractions, out) {
         Ok(()) => DONE,

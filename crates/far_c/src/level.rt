@@ -3,6 +3,7 @@
 ghost use Rattle.std.specs.Prelude.{◌≡◌};
 ghost use Rattle.flat_arrays.specs.Places.{IsSameArray};
 ghost use Rattle.far_c.specs.Answers.{AnswersLevel};
+ghost use Rattle.far_c.specs.Status.{IsKeptUnlessRefused, IsKeptIfRefused};
 
 use crate::status::written;
 use array_answers::refine_arrays;
@@ -26,6 +27,7 @@ pub extern "C" fn far_level(
     ensures corners { IsSameArray places.old.corners places.new.corners }
     ensures edges { IsSameArray places.old.edges places.new.edges }
     ensures holes { IsSameArray places.old.holes places.new.holes }
+    ensures stays { IsKeptIfRefused result counts.old counts.new × IsKeptUnlessRefused result fault.old fault.new }
 {
     match refine_arrays(alloc, mesh, depth) {
         Ok(refined) => {

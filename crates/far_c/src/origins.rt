@@ -3,6 +3,7 @@
 ghost use Rattle.std.specs.Prelude.{◌≡◌};
 ghost use Rattle.flat_arrays.specs.Places.{IsSameArray};
 ghost use Rattle.far_c.specs.Origins.{AnswersOrigins};
+ghost use Rattle.far_c.specs.Status.{IsKeptUnlessRefused, IsKeptIfRefused};
 
 use crate::status::written;
 use array_answers::origins_of_arrays;
@@ -26,6 +27,7 @@ pub extern "C" fn far_origins(
     ensures kinds { IsSameArray places.old.kinds places.new.kinds }
     ensures numbers { IsSameArray places.old.numbers places.new.numbers }
     ensures faces { IsSameArray places.old.faces places.new.faces }
+    ensures stays { IsKeptIfRefused result counts.old counts.new × IsKeptUnlessRefused result fault.old fault.new }
 {
     match origins_of_arrays(alloc, mesh, depth) {
         Ok(origins) => {

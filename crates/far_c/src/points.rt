@@ -6,6 +6,7 @@ ghost use Rattle.nearest_float.specs.Binary.{binary32, binary64};
 ghost use Rattle.nearest_arrays.specs.Nearest.{AreNearest};
 ghost use Rattle.point_arrays.specs.Points.{CanBePut, coordinates};
 ghost use Rattle.far_c.specs.Answers.{AnswersExactPoints, AnswersPoints, AreExactPoints, are_exact_long_enough};
+ghost use Rattle.far_c.specs.Status.{IsKeptUnlessRefused, IsKeptIfRefused};
 
 use crate::status::written;
 use array_answers::{RefinedPoints, refine_points};
@@ -85,6 +86,7 @@ pub extern "C" fn far_points_exact(
     ensures answer { AnswersExactPoints mesh.now depth result count.new numerators.old numerators.new denominators.old denominators.new fault.new }
     ensures len { length numerators.new ≡ length numerators.old }
     ensures dens_len { length denominators.new ≡ length denominators.old }
+    ensures stays { IsKeptIfRefused result count.old count.new × IsKeptUnlessRefused result fault.old fault.new }
 {
     match refine_points(alloc, mesh, depth) {
         Ok(refined) => {
@@ -113,6 +115,7 @@ pub extern "C" fn far_points_doubles(
 ) -> u32
     ensures answer { AnswersPoints binary64 mesh.now depth result count.new out.old out.new fault.new }
     ensures len { length out.new ≡ length out.old }
+    ensures stays { IsKeptIfRefused result count.old count.new × IsKeptUnlessRefused result fault.old fault.new }
 {
     match refine_points(alloc, mesh, depth) {
         Ok(refined) => {
@@ -141,6 +144,7 @@ pub extern "C" fn far_points_floats(
 ) -> u32
     ensures answer { AnswersPoints binary32 mesh.now depth result count.new out.old out.new fault.new }
     ensures len { length out.new ≡ length out.old }
+    ensures stays { IsKeptIfRefused result count.old count.new × IsKeptUnlessRefused result fault.old fault.new }
 {
     match refine_points(alloc, mesh, depth) {
         Ok(refined) => {

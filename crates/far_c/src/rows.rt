@@ -2,7 +2,7 @@
 
 ghost use Rattle.std.specs.Prelude.{◌≡◌, length};
 ghost use Rattle.row_arrays.specs.Rows.{ArePut, apply_fault, sums_written};
-ghost use Rattle.far_c.specs.Status.{AnswersFault};
+ghost use Rattle.far_c.specs.Status.{AnswersFault, IsKeptUnlessRefused};
 ghost use Rattle.far_c.specs.Rows.{record_of_row_fault};
 
 use crate::status::record;
@@ -37,6 +37,7 @@ pub extern "C" fn far_apply_rows(
     ensures answer { AnswersFault record_of_row_fault (apply_fault rows.now controls.now range.now (length out.old)) result fault.new }
     ensures put { ArePut (sums_written rows.now controls.now range.now (length out.old)) out.old out.new }
     ensures len { length out.new ≡ length out.old }
+    ensures stays { IsKeptUnlessRefused result fault.old fault.new }
 {
     match apply_rows(rows, controls, range, out) {
         Ok(()) => DONE,

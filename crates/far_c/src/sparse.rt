@@ -3,6 +3,7 @@
 ghost use Rattle.std.specs.Prelude.{◌≡◌};
 ghost use Rattle.sparse_arrays.specs.Places.{AreSamePlaces};
 ghost use Rattle.far_c.specs.Sparse.{AnswersSparse};
+ghost use Rattle.far_c.specs.Status.{IsKeptUnlessRefused, IsKeptIfRefused};
 
 use crate::status::written;
 use array_answers::{SparseRequest, sparse_of_arrays};
@@ -23,6 +24,7 @@ pub extern "C" fn far_sparse(
 ) -> u32
     ensures answer { AnswersSparse mesh.now request.now result counts.new places.old places.new fault.new }
     ensures places { AreSamePlaces places.old places.new }
+    ensures stays { IsKeptIfRefused result counts.old counts.new × IsKeptUnlessRefused result fault.old fault.new }
 {
     match sparse_of_arrays(alloc, mesh, request) {
         Ok(sparse) => {

@@ -3,6 +3,7 @@
 ghost use Rattle.std.specs.Prelude.{◌≡◌, length};
 ghost use Rattle.flat_arrays.specs.Places.{IsSameArray};
 ghost use Rattle.far_c.specs.Stored.{AnswersCheck, AnswersRead, AnswersWrite};
+ghost use Rattle.far_c.specs.Status.{IsKeptUnlessRefused, IsKeptIfRefused};
 
 use crate::status;
 use fault_record::{DONE, FaultRecord};
@@ -26,6 +27,7 @@ pub extern "C" fn far_table_read(
     ensures indices { IsSameArray places.old.indices places.new.indices }
     ensures numerators { IsSameArray places.old.numerators places.new.numerators }
     ensures denominators { IsSameArray places.old.denominators places.new.denominators }
+    ensures stays { IsKeptIfRefused result counts.old counts.new × IsKeptIfRefused result end.old end.new × IsKeptUnlessRefused result fault.old fault.new }
 {
     match read_stored(alloc, text) {
         Ok(read) => {
@@ -54,6 +56,7 @@ pub extern "C" fn far_table_write(
 ) -> u32
     ensures answer { AnswersWrite rows.now result written.new out.old out.new fault.new }
     ensures len { length out.new ≡ length out.old }
+    ensures stays { IsKeptIfRefused result written.old written.new × IsKeptUnlessRefused result fault.old fault.new }
 {
     match table_of_rows(alloc, rows) {
         Ok(table) => {
@@ -78,7 +81,8 @@ pub extern "C" fn far_table_check(
     text: &[u8],
     fault: &mut FaultRecord,
 ) -> u32
-    ensures { AnswersCheck mesh.now depth text.now result fault.new }
+    ensures answer { AnswersCheck mesh.now depth text.now result fault.new }
+    ensures stays { IsKeptUnlessRefused result fault.old fault.new }
 {
     match check_stored(alloc, mesh, depth, text) {
         Ok(_) => DONE,

@@ -4,6 +4,7 @@ ghost use Rattle.std.specs.Prelude.{◌≡◌};
 ghost use Rattle.flat_arrays.specs.Places.{IsSameArray};
 ghost use Rattle.table_arrays.specs.Places as table;
 ghost use Rattle.far_c.specs.Answers.{AnswersTable};
+ghost use Rattle.far_c.specs.Status.{IsKeptUnlessRefused, IsKeptIfRefused};
 
 use crate::status::written;
 use array_answers::{RowRequest, rows_of_arrays};
@@ -30,6 +31,7 @@ pub extern "C" fn far_table_exact(
     ensures indices { IsSameArray places.old.indices places.new.indices }
     ensures numerators { IsSameArray places.old.numerators places.new.numerators }
     ensures denominators { IsSameArray places.old.denominators places.new.denominators }
+    ensures stays { IsKeptIfRefused result counts.old counts.new × IsKeptUnlessRefused result fault.old fault.new }
 {
     match rows_of_arrays(alloc, mesh, request) {
         Ok(rows) => {
@@ -60,6 +62,7 @@ pub extern "C" fn far_table_doubles(
     ensures starts { IsSameArray places.old.starts places.new.starts }
     ensures indices { IsSameArray places.old.indices places.new.indices }
     ensures weights { IsSameArray places.old.weights places.new.weights }
+    ensures stays { IsKeptIfRefused result counts.old counts.new × IsKeptUnlessRefused result fault.old fault.new }
 {
     match rows_of_arrays(alloc, mesh, request) {
         Ok(rows) => {
@@ -90,6 +93,7 @@ pub extern "C" fn far_table_floats(
     ensures starts { IsSameArray places.old.starts places.new.starts }
     ensures indices { IsSameArray places.old.indices places.new.indices }
     ensures weights { IsSameArray places.old.weights places.new.weights }
+    ensures stays { IsKeptIfRefused result counts.old counts.new × IsKeptUnlessRefused result fault.old fault.new }
 {
     match rows_of_arrays(alloc, mesh, request) {
         Ok(rows) => {

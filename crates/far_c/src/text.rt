@@ -3,6 +3,7 @@
 ghost use Rattle.std.specs.Prelude.{◌≡◌};
 ghost use Rattle.mesh_arrays.specs.Written.{AreSamePlaces};
 ghost use Rattle.far_c.specs.Texts.{AnswersText};
+ghost use Rattle.far_c.specs.Status.{IsKeptUnlessRefused, IsKeptIfRefused};
 
 use far_fault::FarFault;
 use fault_record::{DONE, FaultRecord, TOO_SHORT, record_of};
@@ -26,6 +27,7 @@ pub extern "C" fn far_read_obj(
 ) -> u32
     ensures answer { AnswersText text.now result counts.new options.new places.old places.new fault.new }
     ensures places { AreSamePlaces places.old places.new }
+    ensures stays { IsKeptIfRefused result counts.old counts.new × IsKeptIfRefused result options.old options.new × IsKeptUnlessRefused result fault.old fault.new }
 {
     if text.len() > TEXT_LIMIT {
         *fault = record_of(&FarFault::Long);

@@ -5,6 +5,7 @@ ghost use Rattle.flat_arrays.specs.Places.{IsSameArray};
 ghost use Rattle.flat_arrays.specs.Words.{integer_of};
 ghost use Rattle.point_arrays.specs.Values.{all_value_numerators};
 ghost use Rattle.far_c.specs.Textures.{AnswersTextureLevel, AnswersTextureValues};
+ghost use Rattle.far_c.specs.Status.{IsKeptUnlessRefused, IsKeptIfRefused};
 
 use crate::status::written;
 use array_answers::{TextureArrays, texture_of_arrays};
@@ -53,6 +54,7 @@ pub extern "C" fn far_texture_level(
     ensures corners { IsSameArray places.old.corners places.new.corners }
     ensures edges { IsSameArray places.old.edges places.new.edges }
     ensures holes { IsSameArray places.old.holes places.new.holes }
+    ensures stays { IsKeptIfRefused result counts.old counts.new × IsKeptUnlessRefused result fault.old fault.new }
 {
     match texture_of_arrays(alloc, mesh, seams, depth) {
         Ok(found) => {
@@ -82,6 +84,7 @@ pub extern "C" fn far_texture_values(
 ) -> u32
     ensures answer { AnswersTextureValues mesh.now seams result count.new out.old out.new fault.new }
     ensures len { length out.new ≡ length out.old }
+    ensures stays { IsKeptIfRefused result count.old count.new × IsKeptUnlessRefused result fault.old fault.new }
 {
     match texture_of_arrays(alloc, mesh, seams, 0) {
         Ok(found) => {
