@@ -124,7 +124,8 @@ typedef struct drillolive_faces {
 /* Makes a mesh. `xyz` has three numbers for each of `point_count` points. The mesh has no tags, the boundary mode edge only, and the method normal.
 
    Doubles and floats are taken exactly. DRILLOLIVE_BAD_NUMBER: a number is not finite, or the numbers have no common denominator of at most 2^126, as
-   where 1e30 stands beside 1e-30; a grid helps. A place counts numbers: point i has the places 3i to 3i + 2. */
+   where 1e30 stands beside 1e-30; a grid helps. A place counts numbers: point i has the places 3i to 3i + 2. A common denominator above 2^122 is
+   DRILLOLIVE_BAD_ARRAYS when the mesh is checked or refined, and a grid helps there too. */
 drillolive_fault drillolive_mesh_new_doubles(const double *xyz, size_t point_count, drillolive_faces faces, drillolive_mesh **out);
 drillolive_fault drillolive_mesh_new_floats(const float *xyz, size_t point_count, drillolive_faces faces, drillolive_mesh **out);
 
