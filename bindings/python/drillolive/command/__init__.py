@@ -1,0 +1,1 @@
+"""The command `drillolive`: refines meshes in files, and looks for their faults."""
