@@ -1,5 +1,5 @@
 #!/usr/bin/env python3
-"""Makes a tar of the program and of the library for C, for machines without the toolchain.
+"""Makes a tar of the program, of the library for C, and of the Python package, for machines without the toolchain.
 
     tools/release.py FOLDER
 

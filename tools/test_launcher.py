@@ -4,9 +4,10 @@
 In a copy of the tracked files each of some runs is made by the proved program itself, by `./far` while no program is
 proved, and by `./far` once the proved program stands where the launcher looks for it. All have to end alike, but for
 the one line on standard error by which `./far` says that a run is not proved. Beside these runs it tries what the
-launcher does by itself: its help, a source that is newer than a program, a toolchain that is missing or fails, and
-`./far --build`, `./far --install` and `./far --uninstall`. There stand-ins of `rt`, and of `python3` with the builder of the
-library, are called in the place of the toolchain, since proving takes an hour.
+launcher does by itself: its help and version, its advice on terminals, a source that is newer than a program, a
+toolchain that is missing or fails, and `./far --build`, `./far --install` and `./far --uninstall`. There stand-ins
+of `rt`, and of `python3` with the builder of the library, are called in the place of the toolchain, since proving
+takes an hour.
 
 It builds the program unproved once, which takes half a minute where a processor is free. Its one line is
 `the launcher: N checks passed`, and the exit status 0. It is 1 where a check fails, which is printed, and 2 where
@@ -24,6 +25,8 @@ import tempfile
 from concurrent.futures import ThreadPoolExecutor
 from pathlib import Path
 
+from launcher_advice import MOVES, check_terminals
+from outcomes import outcome, shown
 from release import FACTS, make_release
 from run_reference import OPTIONS, Numbers
 from tracked_files import PROGRAM, TOP, copy_files, put_program, tracked_files
@@ -31,13 +34,18 @@ from tracked_files import PROGRAM, TOP, copy_files, put_program, tracked_files
 NOT_PROVED = re.compile(rb"\./far: this run is not proved[^\n]*\n")
 COMMANDS_OF_THE_LAUNCHER = "bash cat cmp date dirname find flock install ln mkdir mktemp mv readlink rm rmdir sed sleep touch"
 CLOSED_INPUT, FULL_OUTPUT = 'exec "$@" <&-', 'exec "$@" > /dev/full'
-SECONDS = 1200
-MOVES = b"frames\nmove 0 2 2 2\ngo\n"
 MANIFEST = "share/drillolive/manifest"
-INSTALLED = (
+FIXED_FILES = (
     "bin/far lib/libdrillolive.a lib/libdrillolive.so lib/pkgconfig/drillolive.pc include/drillolive.h include/drillolive.hpp "
-    "share/man/man1/far.1"
+    "share/man/man1/far.1 bin/drillolive"
 ).split()
+SOURCE_OF_PACKAGE, PACKAGE = "bindings/python/drillolive/", "share/drillolive/python/drillolive/"
+
+
+def installed():
+    """The files that are installed, below the folder: the Python package as it is tracked, and the others."""
+    modules = [name[len(SOURCE_OF_PACKAGE) :] for name in tracked_files() if name.startswith(SOURCE_OF_PACKAGE)]
+    return sorted([*FIXED_FILES, *(PACKAGE + name for name in modules)])
 
 
 def content(path):
@@ -82,22 +90,6 @@ def runs():
     yield [""], cube
     yield ["refine", "depth=1"], cube, CLOSED_INPUT
     yield ["refine", "depth=1"], cube, FULL_OUTPUT
-
-
-def outcome(program, words, data=b"", how='exec "$@"', path=None, folder="/"):
-    """The status with which a program ends, None where it does not end in time, and what it writes on both outputs."""
-    names = os.environ if path is None else {**os.environ, "PATH": path}
-    command = [shutil.which("bash"), "-c", how, "bash", program, *words]
-    try:
-        done = subprocess.run(command, input=data, capture_output=True, env=names, cwd=folder, timeout=SECONDS)
-    except subprocess.TimeoutExpired:
-        return None, b"", b""
-    return done.returncode, done.stdout, done.stderr
-
-
-def shown(ended):
-    """An outcome in a line, cut where it is long."""
-    return "status {}, output {}, error {}".format(*(repr(part)[:200] for part in ended))
 
 
 class Launcher:
@@ -170,8 +162,24 @@ class Launcher:
                 names = numbers or [value.decode() for value in values]
                 lacking = [it for it in [f"{name.decode()}=", *names] if not re.search(rf"\b{it}", part[0])]
                 self.check(f"help of {command.decode()} lacks {lacking}", not lacking, ended)
+            self.check_part_of_help(command.decode(), text)
             ended = outcome("bash", ["-c", part[2].partition("\n")[0]], folder=self.copy)
             self.check(f"example of {command.decode()}", ended[0] == 0 and ended[1] and not ended[2], ended)
+
+    def check_part_of_help(self, command, text):
+        """Checks that the help on one command is the part of the whole help that has its line and its example."""
+        ended = outcome(self.far, ["help", command])
+        part = ended[1].decode()
+        whole = f"\n\n{part}\n" in text and part.startswith(f"  ./far {command}") and part.count("Example: ") == 1
+        self.check(f"help on {command}", ended[0] == 0 and whole and not ended[2], ended)
+        self.check(f"{command} --help", outcome(self.far, [command, "--help"]) == ended, ended)
+
+    def check_version(self, state):
+        """Checks that the version of the header is printed, and whether the program is proved."""
+        version = re.search(r'#define DRILLOLIVE_VERSION "(.*)"', content("include/drillolive.h").decode())[1]
+        ended = outcome(self.far, ["--version"], path=str(self.plain))
+        line = rf"far {re.escape(version)}, {state}\n"
+        self.check(f"--version, {state}", ended[0] == 0 and re.fullmatch(line, ended[1].decode()) and not ended[2], ended)
 
     def check_link(self):
         """Checks that the launcher finds its repository through a link, from another folder."""
@@ -188,6 +196,7 @@ class Launcher:
         ended = outcome(self.far, ["refine", "depth=2"], content("examples/cube.obj"))
         line = NOT_PROVED.fullmatch(ended[2])
         self.check("a source newer than the proved program", line and ended[:2] == wanted[0][:2], ended)
+        self.check_version("not proved, since sources are newer than the proved program")
         os.utime(self.source, (latest + 3, latest + 3))
         self.ends_without_program("a source newer than both programs", self.refusing, b"could not be built unproved")
         self.ends_without_program("a newer source without rt", self.plain, b"README.md")
@@ -206,7 +215,6 @@ class Launcher:
         self.check(f"--build called {called!r}", ended == (0, b"", b"proving\n") and called == wanted, ended)
         ended = outcome(self.far, ["gen", "seed=0", "size=1", "depth=1"])
         self.check("a run after --build", ended[0] == 0 and ended[1] and not ended[2], ended)
-
 
     def install(self, word, prefix, folder):
         """How `./far --install` or `./far --uninstall` of a folder ends, under the commands of another folder."""
@@ -228,16 +236,18 @@ class Launcher:
 
     def check_install(self):
         """Checks that `./far --install` proves what does not stand, and installs what it lists, also over itself, and nothing else."""
-        prefix = self.copy.parent / "a prefix"
+        prefix, wanted = self.copy.parent / "a prefix", installed()
+        (self.copy / SOURCE_OF_PACKAGE / "__pycache__").mkdir(exist_ok=True)
+        (self.copy / SOURCE_OF_PACKAGE / "__pycache__/mesh.cpython-39.pyc").write_text("")
         self.check_refused_install(prefix)
         (self.agreeing / "rt.called").unlink()
         os.utime(self.source)
         for time, said in (("first", b"proving\n"), ("second", b"")):
             ended = self.install("--install", prefix, self.agreeing)
             listed = (prefix / MANIFEST).read_text().splitlines() if (prefix / MANIFEST).is_file() else []
-            self.check(f"{time} --install", ended == (0, b"", said) and listed == INSTALLED, ended)
+            self.check(f"{time} --install", ended == (0, b"", said) and sorted(listed) == wanted, ended)
             found = sorted(str(path.relative_to(prefix)) for path in prefix.rglob("*") if path.is_file())
-            self.check(f"{time} --install made {found}", found == sorted([*INSTALLED, MANIFEST]), ended)
+            self.check(f"{time} --install made {found}", found == sorted([*wanted, MANIFEST]), ended)
         self.check("--install proves", (self.agreeing / "rt.called").read_text().startswith(f"{self.copy}/crates/far_cli\nrun\n"), ended)
         same = (prefix / "bin/far").read_bytes() == (self.copy / PROGRAM).read_bytes() and os.access(prefix / "bin/far", os.X_OK)
         self.check("the installed program is the proved one", same, ended)
@@ -257,19 +267,27 @@ class Launcher:
         with tarfile.open(packed[0]) as tar:
             names = sorted(entry.name for entry in tar.getmembers() if entry.isfile())
             said = tar.extractfile(f"drillolive-1.2.3-x86_64-linux/{FACTS}").read().decode().splitlines()
-        wanted = sorted(f"drillolive-1.2.3-x86_64-linux/{name}" for name in [*INSTALLED, MANIFEST, FACTS])
+        wanted = sorted(f"drillolive-1.2.3-x86_64-linux/{name}" for name in [*installed(), MANIFEST, FACTS])
         self.check(f"a release has {names}", names == wanted, (0, b"", b""))
         sums = [line for line in said if line.startswith("sha256 ")]
-        self.check("a release says its sums", said[:2] == facts and len(sums) == len(INSTALLED) + 1, (0, b"", b""))
+        self.check("a release says its sums", said[:2] == facts and len(sums) == len(installed()) + 1, (0, b"", b""))
         self.check("a release is the same twice", packed[0].read_bytes() == packed[1].read_bytes(), (0, b"", b""))
 
     def check_uninstall(self, prefix):
         """Checks that `./far --uninstall` removes what was installed, keeps all else, and names no file outside of the folder."""
-        kept = prefix / "lib/other"
-        kept.write_text("")
+        kept = ["lib/other", PACKAGE + "other/__pycache__/other.pyc"]
+        compiled = [PACKAGE + "__pycache__/__init__.cpython-311.pyc", PACKAGE + "command/__pycache__/main.cpython-39.opt-1.pyc"]
+        for name in (*kept, *compiled):
+            (prefix / name).parent.mkdir(parents=True, exist_ok=True)
+            (prefix / name).write_text("")
+        ended = outcome(prefix / "bin/drillolive", ["--help"])
+        self.check("the installed command", ended[0] == 0 and b"drillolive COMMAND" in ended[1] and not ended[2], ended)
         ended = self.install("--uninstall", prefix, self.plain)
         left = sorted(str(path.relative_to(prefix)) for path in prefix.rglob("*") if path.is_file())
-        self.check(f"--uninstall leaves {left}", ended == (0, b"", b"") and left == ["lib/other"], ended)
+        self.check(f"--uninstall leaves {left}", ended == (0, b"", b"") and left == sorted(kept), ended)
+        folders = sorted(path.name for path in (prefix / PACKAGE).rglob("*") if path.is_dir())
+        self.check(f"--uninstall leaves the folders {folders}", folders == ["__pycache__", "other"], ended)
+        shutil.rmtree(prefix / "share")
         (prefix / MANIFEST).parent.mkdir(parents=True)
         for name in ("../outside", "/outside", "lib/../../outside"):
             (self.copy.parent / "outside").write_text("")
@@ -284,9 +302,12 @@ def test(launcher):
     launcher.ends_without_program("no rt", launcher.plain, b"README.md")
     launcher.ends_without_program("an rt that fails", launcher.refusing, b"could not be built unproved")
     launcher.compare_runs("unproved", wanted, is_proved=False)
+    launcher.check_version("not proved, since no program is proved and built yet")
     put_program(launcher.program, launcher.copy)
     launcher.compare_runs("proved", wanted, is_proved=True)
+    launcher.check_version("proved")
     launcher.check_help()
+    check_terminals(launcher)
     launcher.check_link()
     launcher.check_newer_source(wanted)
     launcher.check_build()
