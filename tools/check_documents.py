@@ -11,7 +11,9 @@ In a document, that is in each Markdown file of the repository, a block that is 
 A line that begins with `$ ` is a command, and goes on where it ends with a backslash. The lines up to the next
 command are what it prints on both outputs together; a line `..` stands for any number of lines, also for none.
 Commands run by bash, those of a document one after another, at the top of a copy of the tracked files in which
-`./far` runs the proved program. Where one writes a picture with `-o docs/NAME`, that has to be the file of the repository.
+`./far` runs the proved program, and `drillolive` the command over the library of build/lib. Where one writes a picture with
+`-o docs/NAME`, that has to be the file of the repository. A block that is fenced with ```python runs there too, by this Python, and
+has to end without an error. What needs the library is left out where there is none, and a line says so.
 
 Commands that are not run stand in blocks that are fenced with ```sh, and in NOT_RUN here with the reason. Any other
 command there, and one in another block, is a fault.
@@ -24,6 +26,7 @@ import argparse
 import difflib
 import os
 import re
+import shlex
 import signal
 import subprocess
 import sys
@@ -39,12 +42,17 @@ MOST_LINES = 40
 ANY_LINES = ".."
 FENCE = re.compile(r"( *)```+ *(\w*)")
 PICTURE = re.compile(r" -o +(docs/\S+)")
-LOOKS_LIKE_A_COMMAND = re.compile(r"\$ |\./far\b|tools/|rt ")
+LOOKS_LIKE_A_COMMAND = re.compile(r"\$ |\./far\b|tools/|rt |drillolive ")
+NEEDS_THE_LIBRARY = re.compile(r"\bdrillolive\b")
+LIBRARY = TOP / "build/lib/libdrillolive.so"
 
 # Patterns of the commands that are not run, each with the reason.
 NOT_RUN = {
     ".ci/run": "it runs this check, and takes an hour from nothing",
     "./far --install *": "it proves all, and tools/test_launcher.py runs it over a stand-in of rt",
+    "bindings/blender/build_addon.py*": "tools/test_blender.py makes the zip and installs it",
+    "blender *": "it needs Blender, and draws a picture for a document",
+    "pip *": "it installs, and bindings/python/tests tries it in a folder of its own",
     "cc *": "tools/build_library.py compiles the examples and the tests",
     "./far --build": "it proves the program, which takes an hour from nothing",
     "git *": "it is for a machine without the repository, or changes it",
@@ -98,6 +106,11 @@ def commands_of(first, lines):
     return found
 
 
+def python_of(first, lines):
+    """The command that runs a block of Python, which prints nothing."""
+    return Command(first, f"{shlex.quote(sys.executable)} - <<'END_OF_BLOCK'\n" + "\n".join(lines) + "\nEND_OF_BLOCK")
+
+
 def is_not_run(command):
     return any(fnmatch(command, pattern) for pattern in NOT_RUN)
 
@@ -119,6 +132,8 @@ def read_document(name):
     for kind, first, lines in blocks((TOP / name).read_text(encoding="utf-8")):
         if kind == "console":
             commands += commands_of(first, lines)
+        elif kind == "python":
+            commands.append(python_of(first, lines))
         else:
             faults += [f"{name}:{at}: is not checked: {text}" for at, text in unchecked(kind, first, lines)]
     return commands, faults
@@ -168,10 +183,16 @@ def wrong_pictures(command, copy):
             yield f"the file {name} that it writes is not the one of the repository"
 
 
+def environment(copy):
+    """The environment of commands: `drillolive` is that of the copy, and so is the package of Python, over the library that is built."""
+    paths = {"PATH": f"{copy}:{os.environ['PATH']}", "PYTHONPATH": str(copy / "bindings/python")}
+    return {**os.environ, **paths, "DRILLOLIVE_LIBRARY": str(LIBRARY), "PYTHONDONTWRITEBYTECODE": "1"}
+
+
 def lines_written(text, copy):
     """The lines that bash writes on both outputs when it runs the text in the copy; None where it does not end in time."""
     how = {"stdin": subprocess.DEVNULL, "stdout": subprocess.PIPE, "stderr": subprocess.STDOUT, "start_new_session": True}
-    with subprocess.Popen(["bash", "-c", text], cwd=copy, **how) as started:
+    with subprocess.Popen(["bash", "-c", text], cwd=copy, env=environment(copy), **how) as started:
         try:
             written = started.communicate(timeout=SECONDS)[0]
         except subprocess.TimeoutExpired:
@@ -197,6 +218,8 @@ def run_command(command, copy):
 def check_document(name, names, program):
     """How many commands of the document were run, and what is wrong with it."""
     commands, faults = read_document(name)
+    if not LIBRARY.is_file():
+        commands = [command for command in commands if not NEEDS_THE_LIBRARY.search(command.text)]
     if not commands:
         return 0, faults
     with tempfile.TemporaryDirectory(prefix="documents-") as room:
@@ -228,6 +251,8 @@ def main():
     if faults:
         print("\n".join(faults))
         return 1
+    if not LIBRARY.is_file():
+        print("there is no library in build/lib: commands of drillolive and blocks of Python are skipped")
     counts = [count for count, _ in outcomes if count]
     print(f"{sum(counts)} commands of {len(counts)} documents: as told")
     return 0

@@ -170,7 +170,7 @@ def add_words(names, tree):
     for path in tree.matching(MODEL):
         for text in CODES.findall(tree.text(path)):
             names.add(re.findall(r"[\w-]+", text.replace("\\n", " ")))
-    for path in tree.matching(r"tools/\w+\.py"):
+    for path in tree.matching(r"(?:tools|bindings/python)/.*\.py"):
         names.add(name for pair in PYTHON_NAMES.findall(tree.text(path)) for name in pair if name)
     for path in tree.matching(r"[^/]*|tools/.*|crates/\w+/must-fail/.*|crates/\w+/[^/]*"):
         names.add([Path(path).stem, Path(path).name])
