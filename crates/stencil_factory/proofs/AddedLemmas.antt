@@ -30,45 +30,45 @@ none-left (x ∷ xs) none = absurd (omega arith)
 pub added-one : (place amount : ℕ) (sums : List ℕ) → added_shares 1 ((place, amount) ∷ []) sums ≡ added_at place amount sums
 added-one place amount sums = let once : 1 * amount ≡ amount = omega arith in ap (λ n. added_at place n sums) once
 
--- the share of a point, by what was read and divided
+-- The share of a point equals the amount that the body computes.
 point-amount : (dens : List ℕ) (m weight v amount : ℕ) → v < length dens → amount ≡ weight * (m / get_or dens v 0) → weight * (m / get_or dens v 1) ≡ amount
 point-amount dens m weight v amount inside is = ap (λ den. weight * (m / den)) (get_or_default dens v 1 0 inside) ∙ sym is
 
--- A term whose weight can be kept, by where it stands.
+-- A term whose weight is within the bound, by its source.
 module _ (level : Level) (dens faces : List ℕ) (m : ℕ) (term : Term) (weigh : CanWeigh level dens faces m term.weight (source_of term.at)) where
   abbrev shares : At → List Share
   shares at = source_shares level dens faces m term.weight (source_of at)
 
-  -- a point has a denominator, and the weight over it is short
+  -- A point source has a denominator, and its weight is within the bound.
   pub weigh-point : (v : ℕ) → term.at ≡ Point v → (v < length dens) × (term.weight * (m / get_or dens v 0) ≤ number_bound)
   weigh-point v is =
       let own : CanWeigh level dens faces m term.weight (source_of (Point v)) = subst (λ at. CanWeigh level dens faces m term.weight (source_of at)) is weigh in
       (own.0, subst (λ den. term.weight * (m / den) ≤ number_bound) (get_or_default dens v 1 0 own.0) own.1)
 
-  -- and so has a face
+  -- A face source has a denominator, and its weight is within the bound.
   pub weigh-face : (f : ℕ) → term.at ≡ FacePoint f → (f < length level.polygons) × (f < length faces) × (0 < get_or faces f 0) × (term.weight * (m / get_or faces f 0) ≤ number_bound)
   weigh-face f is =
       let own : CanWeigh level dens faces m term.weight (source_of (FacePoint f)) = subst (λ at. CanWeigh level dens faces m term.weight (source_of at)) is weigh in
       let den : get_or faces f 1 ≡ get_or faces f 0 = get_or_default faces f 1 0 own.1 in
       (own.0, own.1, subst (λ n. 0 < n) den own.2, subst (λ n. term.weight * (m / n) ≤ number_bound) den own.3)
 
-  -- at a point
+  -- The source is a point.
   module _ (v amount : ℕ) (is : term.at ≡ Point v) (by : amount ≡ term.weight * (m / get_or dens v 0)) where
     -- the term adds one amount
     point-shares : shares term.at ≡ (v, amount) ∷ []
     point-shares = ap shares is ∙ ap (λ n. (v, n) ∷ []) (point-amount dens m term.weight v amount (weigh-point v is).0 by)
 
-    -- there is room for it
+    -- The amount stays within the width.
     pub point-can : (most : ℕ) (sums : List ℕ) → CanAddAll most (shares term.at) sums → (v < length sums) × (0 < amount) × (sum_of sums + amount ≤ most)
     point-can most sums can =
         let own : CanAddAll most ((v, amount) ∷ []) sums = subst (λ l. CanAddAll most l sums) point-shares can in
         (own.inside.0, own.each.0, omega (arith, own.fits))
 
-    -- and it is all that the term adds
+    -- The term adds only this amount.
     pub point-added : (sums new : List ℕ) → new ≡ added_at v amount sums → new ≡ added_shares 1 (shares term.at) sums
     point-added sums new added = added ∙ sym (added-one v amount sums) ∙ ap (λ l. added_shares 1 l sums) (sym point-shares)
 
-  -- at a face point it adds amounts at the corners, by what was read and divided
+  -- The source is a face. The term adds the amounts that the body computes at the corners.
   pub face-shares : (f factor multiple : ℕ) (corners : List ℕ) → term.at ≡ FacePoint f → corners ≡ polygon_at level.polygons f
       → factor ≡ term.weight * (m / get_or faces f 0) → multiple ≡ get_or faces f 0 / length corners → shares term.at ≡ corner_shares dens factor multiple corners
   face-shares f factor multiple corners at is by over =

@@ -1,5 +1,5 @@
 -- The rows of masks, one after another.
-use Rattle.std.proofs.Common.{◌≡◌, ℕ, zero, suc, ◌+◌, ◌^◌, ◌<◌, ◌≤◌, ℤ, pos, ◌*ℤ◌, List, [], ◌∷◌, ◌++◌, length, map, get_or, take, arith, refl, ap, sym, ◌∙◌, subst}
+use Rattle.std.proofs.Common.{◌≡◌, ℕ, zero, suc, ◌+◌, ◌^◌, ◌<◌, ◌≤◌, ℤ, pos, ◌*ℤ◌, inl, inr, List, [], ◌∷◌, ◌++◌, length, map, get_or, take, arith, refl, ap, sym, ◌∙◌, subst}
 use Rattle.std.specs.List.{All, sum_by, take-map}
 use Rattle.std.proofs.Math.IntN.{*ℤ_comm}
 use Rattle.std.proofs.lemmas.List.{length-map, get_or-map, map-append, take_more, take_all}
@@ -13,7 +13,7 @@ use Rattle.mask_laws.proofs.SumLemmas.{IsOver}
 use Rattle.subdiv_model.specs.Channel.{number_bound}
 use Rattle.stencil_apply.specs.Table.{Share, Row, Table, total_of, entries_of}
 use Rattle.stencil_factory.specs.Rows.{support_of, supports_of, dens_of, share_sum, row_values, AreSameValues}
-use Rattle.stencil_factory.specs.MaskRows.{no_mask, mask_at, mask_entries, AreRowDenominators, AreMaskRows}
+use Rattle.stencil_factory.specs.MaskRows.{no_mask, mask_at, mask_entries, AreFew, AreRowDenominators, AreMaskRows}
 use Rattle.stencil_factory.specs.Composing.{IsComposedRow, AreComposedRows}
 
 -- the entries with a row more
@@ -29,7 +29,7 @@ row-some level table mask row is = some row.shares (omega (arith, is.is.positive
     some [] h = absurd (omega (arith, h))
     some (share ∷ shares) h = omega arith
 
--- what was found of a row
+-- The denominator that was found for a row.
 module _ (level : Level) (table : Table) (masks : List Mask) (dens : List ℕ) (found : AreRowDenominators level table masks dens) where
   found-count : length dens ≡ length masks
   found-count = ap length found.each ∙ length-map masks (mask_denominator (source_denominator level (dens_of table)))
@@ -38,7 +38,7 @@ module _ (level : Level) (table : Table) (masks : List Mask) (dens : List ℕ) (
     pub found-inside : p < length dens
     found-inside = subst (λ n. p < n) (sym found-count) inside
 
-    -- its denominator is that of its mask, above 0 and within its bound
+    -- The denominator of a row is that of its mask, above 0 and within its bound.
     module _ (den : ℕ) (read : den ≡ get_or dens p den) where
       pub read-den : den ≡ mask_denominator (source_denominator level (dens_of table)) (mask_at masks p)
       read-den = read ∙ ap (λ l. get_or l p den) found.each ∙ get_or-map (mask_denominator (source_denominator level (dens_of table))) masks p no_mask den inside
@@ -49,7 +49,7 @@ module _ (level : Level) (table : Table) (masks : List Mask) (dens : List ℕ) (
       pub read-short : den ≤ number_bound
       read-short = subst (λ n. n ≤ number_bound) (sym read) (found.short p den found-inside)
 
-      -- and within each other bound of all
+      -- A bound of all denominators bounds this one.
       pub read-fits : (most : ℕ) → All (λ d. d ≤ most) dens → den ≤ most
       read-fits most fits = subst (λ n. n ≤ most) (sym read) (fits p den found-inside)
 
@@ -95,7 +95,7 @@ module _ (level : Level) (table : Table) where
       each (r ∷ rows) =
           omega (arith, sum_by-cons (λ (row : Row). length row.shares) r rows, sum_by-cons length (support_of r.shares) (map (λ (row : Row). support_of row.shares) rows), length-map r.shares (λ (share : Share). share.0), each rows)
 
-  -- and there are no fewer than rows
+  -- There are at least as many entries as rows.
   rows-few : (masks : List Mask) (rows : List Row) → AreComposedRows level table masks rows → length rows ≤ entries_of rows
   rows-few [] [] are = omega arith
   rows-few [] (r ∷ rows) are = absurd are
@@ -103,7 +103,7 @@ module _ (level : Level) (table : Table) where
   rows-few (m ∷ masks) (r ∷ rows) are =
       omega (arith, sum_by-cons (λ (row : Row). length row.shares) r rows, row-some level table m r are.0, rows-few masks rows are.1)
 
-  -- the values that the rows make
+  -- The values that the rows give.
   abbrev value_of : List ℤ → Row → Value
   value_of numbers row = record { num = share_sum numbers row.shares; den = row.den }
 
@@ -124,7 +124,7 @@ module _ (level : Level) (table : Table) where
     pub entries-less : (n : ℕ) → mask_entries level table (take n masks) ≤ mask_entries level table masks
     entries-less n = subst (λ lists. sum_by length lists ≤ mask_entries level table masks) (take-map support n masks) (sum_by-take-le length (map support masks) n)
 
-    -- and one row more is its support more
+    -- A further row adds its control points to the entries.
     pub entries-more : (p : ℕ) → p < length masks → mask_entries level table (take (p + 1) masks) ≡ mask_entries level table (take p masks) + length (support (mask_at masks p))
     entries-more p inside =
         let own = mask_at masks p in
@@ -137,15 +137,18 @@ module _ (level : Level) (table : Table) where
       pub next-rows : AreComposedRows level table (take (p + 1) masks) (rows ++ row ∷ [])
       next-rows = subst (λ list. AreComposedRows level table list (rows ++ row ∷ [])) (sym (take_more masks p no_mask inside)) (rows-more (take p masks) rows _ row are is)
 
-      -- there is room for it
+      -- If all rows have at most 2^27 entries, so do the first rows with this row.
       pub next-entries : mask_entries level table masks ≤ 2 ^ 27 → entries_of rows + length row.shares ≤ 2 ^ 27
       next-entries few =
           omega (arith, few, entries-less (p + 1), rows-entries (take (p + 1) masks) (rows ++ row ∷ []) next-rows, sum_by-append (λ (r : Row). length r.shares) rows (row ∷ []))
 
-      pub next-count : mask_entries level table masks ≤ 2 ^ 27 → length rows < 2 ^ 27
-      next-count few = omega (arith, next-entries few, row-some level table _ row is, rows-few (take p masks) rows are)
+      -- If `AreFew` holds after this row, the first rows with this row have at most 2^27 entries.
+      pub few-entries : (count room : ℕ) → count ≡ length row.shares → AreFew (mask_entries level table masks) (entries_of rows + count) room
+          → entries_of rows + length row.shares ≤ 2 ^ 27
+      few-entries count room same (inl within) = omega (arith, same, within)
+      few-entries count room same (inr few) = next-entries few
 
-      -- where there is room for its entries there is room for the row
+      -- If the first rows with this row have at most 2^27 entries, the first rows are fewer than 2^27.
       pub room-count : entries_of rows + length row.shares ≤ 2 ^ 27 → length rows < 2 ^ 27
       room-count few = omega (arith, few, row-some level table _ row is, rows-few (take p masks) rows are)
 

@@ -23,12 +23,12 @@ module _ (factor most : ℕ) (indices numerators : List ℕ) (equal : length num
   left-total : (i : ℕ) → i < length indices → factor * total_of (left i) ≡ factor * get_or numerators i 0 + factor * total_of (left (i + 1))
   left-total i h = ap (λ ss. factor * total_of ss) (left-more i h) ∙ total-first factor (get_or indices i 0, get_or numerators i 0) (left (i + 1))
 
-  -- what is still to come fits with what is there
+  -- The sums with the remaining shares stay within the bound.
   pub left-fits : (i : ℕ) (sums after : List ℕ) → i < length indices → get_or indices i 0 < length sums → after ≡ added_at (get_or indices i 0) (factor * get_or numerators i 0) sums → sum_of sums + factor * total_of (left i) ≤ most → sum_of after + factor * total_of (left (i + 1)) ≤ most
   left-fits i sums after h inside is fits =
       omega (arith, ap sum_of is, sum-added_at (get_or indices i 0) (factor * get_or numerators i 0) sums inside, left-total i h, fits)
 
-  -- and so does the next share
+  -- The sums with the next share stay within the bound.
   pub next-fits : (i : ℕ) (sums : List ℕ) → i < length indices → sum_of sums + factor * total_of (left i) ≤ most → sum_of sums + factor * get_or numerators i 0 ≤ most
   next-fits i sums h fits = omega (arith, left-total i h, fits)
 
@@ -40,7 +40,7 @@ module _ (factor most : ℕ) (indices numerators : List ℕ) (equal : length num
       grows zero n some = absurd (omega (arith, some))
       grows (suc f) n some = omega arith
 
-  -- at the end all are added
+  -- After the last round no share remains.
   pub left-none : (i : ℕ) (sums whole : List ℕ) → length indices ≤ i → added_shares factor (left i) sums ≡ whole → sums ≡ whole
   left-none i sums whole h e = sym (at_drop_all (λ xs. added_shares factor (zip xs (drop i numerators)) sums) indices i h) ∙ e
 

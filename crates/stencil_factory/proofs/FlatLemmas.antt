@@ -1,4 +1,4 @@
--- The amounts of a term: where they stand, what they sum to, and which value they make.
+-- The amounts of a term: their points, their sum, and the value they give.
 use Rattle.std.proofs.Common.{◌≡◌, ℕ, suc, ◌+◌, ◌*◌, ◌/◌, ◌<◌, ◌≤◌, nat_eq, false, ◌||◌, ℤ, pos, ◌+ℤ◌, ◌*ℤ◌, List, [], ◌∷◌, length, map, get_or, arith, refl, ap, sym, ◌∙◌, subst}
 use Rattle.std.specs.List.{AllByRecursion, sum_by}
 use Rattle.std.specs.Int.{◌∣◌}
@@ -66,7 +66,7 @@ over-positive d m some divides = (factors-positive (m / d) d (subst (λ n. 0 < n
 over-times : (w m d : ℕ) → d ∣ m → w * (m / d) * d ≡ w * m
 over-times w m d divides = mul_assoc w (m / d) d ∙ ap (λ n. w * n) (div-mul_cancel d divides)
 
--- and it is not more than the amount itself
+-- The amount over a divisor is at most the amount.
 below : (w m d : ℕ) → w * m ≤ number_bound → w * (m / d) ≤ number_bound
 below w m d short = le_trans (mul-le-mul_left w (div-le_self m d)) short
 
@@ -169,7 +169,7 @@ module _ (level : Level) (dens faces : List ℕ) (m : ℕ) (above : 0 < m) where
   source-inside w (OfFace f) is =
       corners-inside dens (over level dens faces f is.0) (w * (m / get_or faces f 1)) (polygon_at level.polygons f) (face-corners level dens faces f is.0)
 
-  -- and above 0
+  -- Each amount is above 0.
   pub source-each : (w : ℕ) (s : SourcePoint) → 0 < w → IsPart level dens faces m s → AllByRecursion (λ share. 0 < share.1) (source_shares level dens faces m w s)
   source-each w (OfPoint v) some is = (product-positive w _ some (over-positive (get_or dens v 1) m above is.1), tt)
   source-each w (OfFace f) some is =
@@ -197,14 +197,14 @@ module _ (level : Level) (dens faces : List ℕ) (m : ℕ) (above : 0 < m) where
       corners-value dens (get_or faces f 1 / length (polygon_at level.polygons f)) numbers (w * (m / get_or faces f 1)) (polygon_at level.polygons f)
       ∙ sym (pos-assoc w (m / get_or faces f 1) _)
 
-  -- which stands for the value of the source
+  -- The number of the source over `m` is the value of the source.
   pub source-over : (numbers : List ℤ) (values : List Value) → ((v : ℕ) → v < length dens → IsOver (get_or dens v 1) (point_value values v) (get_or numbers v (pos 0)))
       → (s : SourcePoint) → IsPart level dens faces m s → IsOver m (source_value level values s) (source_number level dens faces numbers m s)
   source-over numbers values each (OfPoint v) is = over-multiple (get_or dens v 1) m (point_value values v) (get_or numbers v (pos 0)) is.1 (each v is.0)
   source-over numbers values each (OfFace f) is =
       over-multiple (get_or faces f 1) m (source_value level values (OfFace f)) _ is.1 (face-over level dens faces f is.0 numbers values each)
 
-  -- they name the points that the source names
+  -- The amounts name the points that the source names.
   pub source-named : (v w : ℕ) (s : SourcePoint) → is_among (support_of (source_shares level dens faces m w s)) v ≡ names_point level v s
   source-named v w (OfPoint u) = turned v u
     where
@@ -213,7 +213,7 @@ module _ (level : Level) (dens faces : List ℕ) (m : ℕ) (above : 0 < m) where
   source-named v w (OfFace f) =
       ap (λ l. is_among l v) (corners-support dens (w * (m / get_or faces f 1)) (get_or faces f 1 / length (polygon_at level.polygons f)) (polygon_at level.polygons f))
 
-  -- the weight over m can be kept
+  -- The weight over `m` is within the bound.
   pub source-can : (w : ℕ) (s : SourcePoint) → w * m ≤ number_bound → IsPart level dens faces m s → CanWeigh level dens faces m w s
   source-can w (OfPoint v) short is = (is.0, below w m (get_or dens v 1) short)
   source-can w (OfFace f) short is =

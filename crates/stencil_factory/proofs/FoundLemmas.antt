@@ -32,7 +32,7 @@ module _ (dens : List ℕ) (positive : All (λ den. 0 < den) dens) where
   read-positive [] = tt
   read-positive (v ∷ points) = (dens-positive dens positive v, read-positive points)
 
-  -- of the points that weigh something
+  -- The denominators of the points with a weight above 0.
   abbrev kept : List Share → List ℕ
   kept weights = read (support_of (weighing weights))
 
@@ -73,7 +73,7 @@ module _ (dens : List ℕ) (positive : All (λ den. 0 < den) dens) where
       (nat_lt 0 (get_or weights i (0, 0)).1) refl
       ∙ ap within_bound (sym (ap (fold lcm_of 1) (kept-more weights i below) ∙ fold-append lcm_of 1 (kept (take i weights)) (kept (get_or weights i (0, 0) ∷ []))))
 
-  -- and with all
+  -- The least common multiple after all weights.
   pub weights-all : (weights : List Share) (i m : ℕ) → length weights ≤ i → m ≡ within_bound (fold lcm_of 1 (kept (take i weights))) → m ≡ within_bound (lcm_of_all (kept weights))
   weights-all weights i m past h =
       joined-all (kept weights) (length (kept weights)) m (read-positive (support_of (weighing weights))) (omega arith)
@@ -82,7 +82,7 @@ module _ (dens : List ℕ) (positive : All (λ den. 0 < den) dens) where
   pub common-positive : (points : List ℕ) → 0 < lcm_of_all (read points)
   common-positive points = lcm_of_all-positive (read points) (read-positive points)
 
--- what is not 0 is within its bound
+-- A number that `within_bound` returns is at most the bound.
 within-short : (a : ℕ) → within_bound a ≤ number_bound
 within-short a = grind (arith, nat_tests)
 
@@ -90,7 +90,7 @@ module _ (level : Level) (table : Table) (masks : List Mask) where
   abbrev own : Mask → ℕ
   own = mask_denominator (source_denominator level (dens_of table))
 
-  -- of no row
+  -- The denominators of no row.
   pub rows-start : (found : List ℕ) → found ≡ [] → AreRowDenominators level table [] found
   rows-start found none = subst (AreRowDenominators level table []) (sym none) (record {
     each = refl;
@@ -98,13 +98,13 @@ module _ (level : Level) (table : Table) (masks : List Mask) where
     short = λ i d below. absurd (omega (arith, below));
   })
 
-  -- of all
+  -- The denominators of all rows.
   pub rows-end : (row : ℕ) (found : List ℕ) → length masks ≤ row → AreRowDenominators level table (take row masks) found → AreRowDenominators level table masks found
   rows-end row found past are = subst (λ list. AreRowDenominators level table list found) (take_all row masks past) are
 
   module _ (row : ℕ) (below : row < length masks) (found : List ℕ) (are : AreRowDenominators level table (take row masks) found)
       (den : ℕ) (some : 0 < own (mask_at masks row)) (den_is : den ≡ within_bound (own (mask_at masks row))) where
-    -- of one row more
+    -- The denominators of one further row.
     pub rows-next : (den ≡ 0 → ⊥) → (new : List ℕ) → new ≡ found ++ den ∷ [] → AreRowDenominators level table (take (row + 1) masks) new
     rows-next other new added =
         let positive : 0 < den = above den other in
@@ -124,7 +124,7 @@ module _ (level : Level) (table : Table) (masks : List Mask) where
         above zero h = absurd (h refl)
         above (suc n) h = omega arith
 
-    -- or the first whose denominator is too great
+    -- The first row whose denominator is above the bound.
     pub rows-fault : den ≡ 0 → IsFirstDenominator (mask_dens level table masks) row
     rows-fault none = record {
       exists = subst (λ n. row < n) (sym (length-map masks own)) below;

@@ -60,7 +60,7 @@ module _ (rest : List Share) (some : 1 ≤ length rest) (sums : List ℕ) (insid
     pub weights-fit : (most : ℕ) → sum_of sums + total_of rest ≤ most → sum_of new + total_of others ≤ most
     weights-fit most fits = omega (arith, fits, total, ap sum_of added, sum-added_at first.0 first.1 sums here.0)
 
--- the weight of a point in what is added, by its place
+-- The sum at a place grows by the weight of its point in the added shares.
 pub place-weight : (v : ℕ) (shares : List Share) (sums : List ℕ) → AllByRecursion (λ share. share.0 < length sums) shares
     → get_or (added_shares 1 shares sums) v 0 ≡ get_or sums v 0 + weight_in (terms_of_shares shares) (OfPoint v)
 place-weight v [] sums h = omega arith
@@ -134,14 +134,14 @@ sum-weight (suc k) place (suc n ∷ sums) =
     later : (a b : ℕ) → b < a → nat_eq a b ≡ false
     later a b h = grind (arith, nat_tests, h)
 
--- each place stands once
+-- Each place occurs once.
 once : (place : ℕ) (sums : List ℕ) → has_distinct_sources (terms_of_shares (shares_from place sums)) ≡ true
 once place [] = refl
 once place (zero ∷ sums) = once (place + 1) sums
 once place (suc n ∷ sums) =
     ap (λ b. not b && has_distinct_sources (terms_of_shares (shares_from (place + 1) sums))) (none-has place (place + 1) sums (omega arith)) ∙ once (place + 1) sums
 
--- and no share is 0
+-- No share is 0.
 above : (place : ℕ) (sums : List ℕ) → list_all (λ t. nat_lt 0 t.weight) (terms_of_shares (shares_from place sums)) ≡ true
 above place [] = refl
 above place (zero ∷ sums) = above (place + 1) sums
@@ -150,7 +150,7 @@ above place (suc n ∷ sums) = ap (λ b. b && list_all (λ t. nat_lt 0 t.weight)
     some : (n : ℕ) → nat_lt 0 (suc n) ≡ true
     some n = grind (arith, nat_tests)
 
--- Weights that are told, each added at its point.
+-- The weights that a caller gave, each added at its point.
 module _ (count : ℕ) (mask told : Mask) (are : AreWeightsOf count mask told) (raw : List Share) (raw_are : terms_of_shares raw ≡ told.terms) where
   -- each has a place
   pub told-inside : AllByRecursion (λ share. share.0 < count) raw
@@ -160,7 +160,7 @@ module _ (count : ℕ) (mask told : Mask) (are : AreWeightsOf count mask told) (
       each [] h = tt
       each (share ∷ shares) h = (h.0, each shares h.1)
 
-  -- and they sum to the denominator
+  -- The weights sum to the denominator.
   pub told-total : total_of raw ≡ told.denominator
   told-total = each raw ∙ ap total_weight raw_are ∙ are.total
     where

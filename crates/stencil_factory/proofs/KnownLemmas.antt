@@ -1,4 +1,4 @@
--- What a level and a survey tell of the sources of a mask, and that the code's masks have the weights of the defined ones.
+-- The sources of a mask have denominators by a level and its survey. The masks of the code have the weights of the defined masks.
 use Rattle.std.proofs.Common.{◌≡◌, ℕ, ◌*◌, ◌/◌, ◌<◌, ◌≤◌, true, List, [], ◌∷◌, length, get_or, replicate, refl, ap, sym, ◌∙◌, subst, Result, Ok, Err, OnOk}
 use Rattle.std.specs.List.{AllByRecursion, list_all}
 use Rattle.std.specs.Int.{◌∣◌}
@@ -65,7 +65,7 @@ module _ (t : Topology) (is : IsTopology t) (dens faces : List ℕ) (points : Ar
             ),
       )
 
-  -- so each source of a mask of the code is
+  -- Each source of a mask of the code is known.
   known-sources : (mask defined : Mask) → IsMask mask defined → is_joined defined ≡ true → list_all (λ s. is_source_of t.level s.source) defined.terms ≡ true
       → AllByRecursion (λ s. IsKnown t.level dens faces s.source) mask.terms
   known-sources mask defined same joined sources =
@@ -79,7 +79,7 @@ module _ (t : Topology) (is : IsTopology t) (dens faces : List ℕ) (points : Ar
       each [] h = tt
       each (s ∷ terms) h = (known-source s.source h.0, each terms h.1)
 
--- the corners of a face are
+-- The corners of a face are known.
 pub known-corners : (level : Level) (dens faces : List ℕ) → ArePointDenominators level dens → (corners : List ℕ) → AllByRecursion (λ v. v < length dens) corners
     → AllByRecursion (λ s. IsKnown level dens faces s.source) (weigh_points 1 corners)
 known-corners level dens faces points [] h = tt
@@ -142,7 +142,7 @@ module _ (level : Level) (dens faces : List ℕ) (points : ArePointDenominators 
         (subst (λ l. CanAddAll most l (replicate level.point_count 0)) flat-here
         (mask-can level dens faces points mask is.mean known short-here most (subst (λ n. n ≤ most) (den_is ∙ sym same-den) fits)))
 
-    -- and what comes are the weights of the defined mask
+    -- The sums are the weights of the defined mask.
     pub given-weighed : (new : List ℕ) → new ≡ added_shares 1 (flat_shares level dens faces m terms) start → IsWeighed level dens defined new
     given-weighed new added =
         let weighed = mask-weighed level dens faces points mask is.mean known short-here in
@@ -150,7 +150,7 @@ module _ (level : Level) (dens faces : List ℕ) (points : ArePointDenominators 
         (ap (λ l. added_shares 1 l (replicate level.point_count 0)) flat-here ∙ ap (added_shares 1 (flat_shares level dens faces m terms)) (sym clear) ∙ sym added)
         (record { count = weighed.count; weights = λ shares of. same-weights shares (weighed.weights shares of) })
 
--- The same for the mask of a part of a level.
+-- The mask of a vertex, edge or face of a level, over its common denominator.
 module _ (t : Topology) (is : IsTopology t) (scheme : Scheme) (origin : PointOrigin)
     (below : IsOriginWithin t.level.point_count (length t.level.polygons) (length (edges_of t.level.polygons)) origin)
     (dens faces : List ℕ) (points : ArePointDenominators t.level dens) (found : AreFaceDenominators t.level dens faces)
@@ -169,11 +169,11 @@ module _ (t : Topology) (is : IsTopology t) (scheme : Scheme) (origin : PointOri
   pub part-can : (most : ℕ) → den ≤ most → CanAddAll most (flat_shares t.level dens faces m terms) start
   part-can = given-can t.level dens faces points mask (mask_from t.level scheme origin) same joined known den den_is short terms terms_are q m q_is m_is start clear
 
-  -- and what comes are the weights
+  -- The sums are the weights of the mask.
   pub part-weighed : (new : List ℕ) → new ≡ added_shares 1 (flat_shares t.level dens faces m terms) start → IsWeighed t.level dens (mask_from t.level scheme origin) new
   part-weighed = given-weighed t.level dens faces points mask (mask_from t.level scheme origin) same joined known den den_is short terms terms_are q m q_is m_is start clear
 
--- what follows from what an outcome says
+-- A weaker claim on an `Ok` follows from a stronger one.
 pub ok-weaker : {X E : Type 0} (r : Result X E) (P Q : Type 0) → (P → Q) → OnOk r P → OnOk r Q
 ok-weaker (Ok x) P Q f h = f h
 ok-weaker (Err e) P Q f h = h

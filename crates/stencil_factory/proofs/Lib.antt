@@ -22,6 +22,5 @@ pub mod WeighingLemmas
 pub mod PointLemmas
 pub mod FoundLemmas
 pub mod PutLemmas
-pub mod BoundLemmas
 pub mod WeightedRowLemmas
 pub mod NarrowLemmas

@@ -169,7 +169,7 @@ module _ (table : Table) (is : IsTable table) where
         let sized = ap (λ n. length (filter (λ control. list_any (λ list. is_among list control) lists) (range_with_len 0 n))) long in
         omega (arith, fresh, none-marked most old old-below, ap (count_by (nat_eq (most + 1))) e, kept, sized)
 
--- the points that a mask names, as they are read
+-- The points that the body reads from the set are the points that the mask names.
 pub read-named : (level : Level) (mask : Mask) (met read : List ℕ) → read ≡ met → ((v : ℕ) → is_among met v ≡ is_named level mask v) → (v : ℕ) → is_among read v ≡ is_named level mask v
 read-named level mask met read e named v = ap (λ l. is_among l v) e ∙ named v
 

@@ -1,4 +1,4 @@
--- Places that are met: one more, some more, and a new start.
+-- The set of places: a further member, further members, and an empty set with a new mark.
 use Rattle.std.proofs.Common.{◌≡◌, ℕ, zero, suc, ◌+◌, ◌<◌, ◌≤◌, Bool, true, false, ◌||◌, nat_eq, List, [], ◌∷◌, ◌++◌, length, get_or, set, replicate, if◌then◌else◌, arith, refl, ap, sym, ◌∙◌, subst}
 use Rattle.std.specs.List.{All, AllByRecursion}
 use Rattle.std.proofs.Math.Bool.{or_assoc, or-false}
@@ -15,7 +15,7 @@ use Rattle.stencil_factory.proofs.MarkLemmas.{set-at, All-set, at-none}
 turned : (a b : ℕ) → nat_eq a b ≡ nat_eq b a
 turned a b = grind (arith, nat_tests)
 
--- what is among already, and what comes behind
+-- A place that is in the first list is in the joined list.
 within : (b c : Bool) → (b ≡ true → c ≡ true) → c ≡ (c || b)
 within true true h = refl
 within true false h = h refl
@@ -27,7 +27,7 @@ again true b = refl
 again false true = refl
 again false false = refl
 
--- a place more, by its own mark
+-- Adding a place by its mark adds it to the set.
 met-added : (mark place : ℕ) (met marks : List ℕ) → place < length marks → AreMet mark met marks → AreMet mark (noted_with place (get_or marks place 0) mark met) (set marks place mark)
 met-added mark place met marks h is = record {
   some = is.some;
@@ -58,7 +58,7 @@ met-places mark place own met noted marks old h at is before same =
     made : {n k : ℕ} {xs ys : List ℕ} → n ≡ k → xs ≡ ys → ◌≡◌ {A = Places} (record { count = n; mark = mark; met = xs }) (record { count = k; mark = mark; met = ys })
     made {n} {k} {xs} {ys} e f = ap (λ c. record { count = c; mark = mark; met = xs }) e ∙ ap (λ l. record { count = k; mark = mark; met = l }) f
 
--- a new start, with a mark that no place has
+-- An empty set with a mark that no place has.
 pub met-none : (mark : ℕ) (met marks : List ℕ) → AreMet mark met marks → AreMet (mark + 1) [] marks
 met-none mark met marks is = record {
   some = omega arith;
@@ -88,7 +88,7 @@ met-zeros n = record {
 pub met-start : (met marks : List ℕ) (n : ℕ) → met ≡ [] → marks ≡ replicate n 0 → AreMet 1 met marks
 met-start met marks n none zeros = subst (λ l. AreMet 1 l marks) (sym none) (subst (AreMet 1 []) (sym zeros) (met-zeros n))
 
--- each place that is met is one of the places
+-- Each member is one of the places.
 met-inside : (mark : ℕ) (met marks : List ℕ) → AreMet mark met marks → All (λ v. v < length marks) met
 met-inside mark met marks is = All-from_get_or (λ v. v < length marks) met 0 (λ i h. inside (get_or met i 0) (among-place (get_or met i 0) met i h refl))
   where
@@ -102,7 +102,7 @@ met-inside mark met marks is = All-from_get_or (λ v. v < length marks) met 0 (�
 pub met-read : (mark : ℕ) (met read marks : List ℕ) (count : ℕ) → AreMet mark met marks → read ≡ met → length marks ≡ count → All (λ v. v < count) read
 met-read mark met read marks count is e long = subst (λ n. All (λ v. v < n) read) long (subst (All (λ v. v < length marks)) (sym e) (met-inside mark met marks is))
 
--- some more places
+-- Adding several places.
 pub count-places : (more : List ℕ) (places : Places) → (with_places more places).count ≡ places.count
 count-places [] places = refl
 count-places (v ∷ more) places = count-places more (with_place v places)

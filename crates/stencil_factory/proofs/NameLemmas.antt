@@ -1,4 +1,4 @@
--- The points that the terms of a mask name, met one after another.
+-- The points that the terms of a mask name, added to the set one after another.
 use Rattle.std.proofs.Common.{◌≡◌, ℕ, ◌+◌, ◌-◌, ◌<◌, ◌≤◌, true, false, ◌||◌, nat_eq, nat_lt, List, [], ◌∷◌, length, get_or, take, drop, Result, OnOk, refl, ap, sym, ◌∙◌, subst, arith}
 use Rattle.std.specs.List.{All, AllByRecursion, list_all, list_any}
 use Rattle.std.proofs.Math.Bool.{or_assoc, or-false}
@@ -80,12 +80,12 @@ among-terms level v (t ∷ terms) places =
     ∙ ap (λ b. b || rest) (among-places v (points_of level t.source) places ∙ ap (λ b. is_among places.met v || b) (source-among level v t.source))
     ∙ or_assoc (is_among places.met v) (names_point level v t.source) rest
 
--- a mask of the code names what the defined one does
+-- A mask of the code names the points that the defined mask names.
 pub names-same : (level : Level) (mask defined : Mask) (v : ℕ) → IsMask mask defined → is_joined defined ≡ true → is_named level mask v ≡ is_named level defined v
 names-same level mask defined v is joined =
     list_any-IsPermutation (λ (t : model.Term). names_point level v t.source) mask.terms defined.terms (same_weights-permuted mask defined is.joined joined is.same)
 
--- from no place on
+-- An empty set has no member.
 pub none-before : (places : Places) (v : ℕ) → places.met ≡ [] → is_among places.met v ≡ false
 none-before places v none = ap (λ l. is_among l v) none
 
@@ -133,7 +133,7 @@ module _ (t : Topology) (is : IsTopology t) where
   source-can (OfPoint v) h = ltb-true _ _ h
   source-can (OfFace f) h = let below : f < length t.level.polygons = ltb-true _ _ h in (below, corners-within f below)
 
-  -- and of all terms of the mask of a part of it
+  -- The points of all terms of the mask of a vertex, edge or face of the level.
   pub terms-can-name : (scheme : Scheme) (origin : PointOrigin) → IsOriginWithin t.level.point_count (length t.level.polygons) (length (edges_of t.level.polygons)) origin
       → (mask : Mask) → IsMask mask (mask_from t.level scheme origin) → is_joined (mask_from t.level scheme origin) ≡ true → (terms : List model.Term) → terms ≡ mask.terms
       → (count : ℕ) → count ≡ t.level.point_count → AllByRecursion (CanNameTerm t.level count) terms
@@ -152,7 +152,7 @@ module _ (t : Topology) (is : IsTopology t) where
       each [] h = tt
       each (s ∷ terms) h = (source-can s.source h.0, each terms h.1)
 
--- what the mask of a part names after a start is what the mask of the point names
+-- The set that the mask of an origin gives is the set of the child point with that origin.
 pub named-since : {E : Type 0} (r : Result (Unit {0}) E) (level : Level) (scheme : Scheme) (origin own : PointOrigin) → origin ≡ own
     → (old start : Places) → start ≡ record { count = old.count; mark = old.mark + 1; met = [] } → (new : Places)
     → OnOk r (AreNamed level (mask_from level scheme origin) start.mark new) → OnOk r (AreNamed level (mask_from level scheme own) (old.mark + 1) new)

@@ -1,4 +1,4 @@
--- The row of a mask from the weights that were put for it, where its denominator was found to be within a bound.
+-- The row of a mask from the weights that a caller gave for it, if its denominator is within a bound.
 use Rattle.std.proofs.Common.{◌≡◌, ℕ, zero, suc, ◌*◌, ◌/◌, ◌<◌, ◌≤◌, List, length, map, get_or, replicate, arith, refl, ap, sym, ◌∙◌, subst, Option, Some, None, unwrap_or, IfSome}
 use Rattle.std.proofs.Math.Nat.{mul-div_cancel_left}
 use Rattle.subdiv_model.specs.Level.{Level}
@@ -20,7 +20,7 @@ use Rattle.stencil_factory.proofs.SurveyLemmas.{point-dens}
 use Rattle.stencil_factory.proofs.RowLemmas.{can-add, composed}
 use Rattle.stencil_factory.proofs.PutLemmas.{put-positive, put-den, put-amounts}
 
--- a product that was found within a bound, and is not 0
+-- A product that a call returned as within its bound, above 0.
 pub found-product : (o : Option ℕ) (den a b bound : ℕ) → den ≡ unwrap_or o 0 → IfSome o (λ p. p ≡ a * b) → IfSome o (λ p. p ≤ bound) → (den ≡ 0 → ⊥)
     → (0 < den) × (den ≡ a * b) × (den ≤ bound)
 found-product (Some p) den a b bound e h k some = (omega (arith, some), e ∙ h, subst (λ n. n ≤ bound) (sym e) k)
@@ -62,7 +62,7 @@ module _ (level : Level) (mask put : Mask) (are : AreWeightsOf level.point_count
   pub narrow-can : (most : ℕ) → den ≤ most → CanAddRows most table amounts (replicate table.controls 0)
   narrow-can most fits = can-add level table mask amounts is each weights own-short most (subst (λ n. n ≤ most) den-is fits)
 
-  -- and what comes is the row of the mask
+  -- The sums give the row of the mask.
   pub narrow-row : (start sums : List ℕ) (shares : List Share) → start ≡ replicate table.controls 0 → sums ≡ added_rows table amounts start → shares ≡ shares_from 0 sums
       → IsComposedRow level table mask (record { den = den; shares = shares })
   narrow-row start sums shares clear added taken =

@@ -32,7 +32,7 @@ seconds (place ∷ places) [] e = absurd (omega (arith, e))
 seconds (place ∷ places) (n ∷ numbers) e = ap (λ rest. n ∷ rest) (seconds places numbers (omega (arith, e)))
 
 module _ {T : Type 0} (value : T → ℕ) where
-  -- what is read of the places and of the numbers
+  -- The places and the numbers that a body reads.
   module _ (places : List ℕ) (numbers : List T) (equal : length numbers ≡ length places) (shares : List Share) (view : zip places (map value numbers) ≡ shares) where
     long : length (map value numbers) ≡ length places
     long = length-map numbers value ∙ equal

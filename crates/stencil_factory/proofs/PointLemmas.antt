@@ -1,4 +1,4 @@
--- Joined weights of points as the mask of a row: what they name, and what they weigh.
+-- Joined weights of points as the mask of a row: the points they name, and their amounts.
 use Rattle.std.proofs.Common.{◌≡◌, ℕ, ◌+◌, ◌*◌, ◌/◌, ◌<◌, ◌≤◌, ◌||◌, nat_eq, List, [], ◌∷◌, length, map, get_or, replicate, arith, refl, ap, sym, ◌∙◌, subst}
 use Rattle.std.specs.List.{AllByRecursion, list_any}
 use Rattle.std.proofs.lemmas.Bool.Decides.{nat_tests}
@@ -45,11 +45,11 @@ dens-read level dens [] = refl
 dens-read level dens (share ∷ shares) = ap (λ l. get_or dens share.0 1 ∷ l) (dens-read level dens shares)
 
 module _ (level : Level) (mask : Mask) (q : ℕ) (shares : List Share) (are : AreJoined level.point_count mask q shares) where
-  -- they are the points that the mask names
+  -- The points of the joined weights are the points that the mask names.
   pub joined-names : (v : ℕ) → is_among (support_of shares) v ≡ is_named level mask v
   joined-names v = points-named level v shares ∙ names-same level (mask_of_shares q shares) mask v are.same are.joined
 
-  -- what is met once all points of the weights are
+  -- The set after all points of the weights were added.
   pub joined-named : (points : List ℕ) → ((v : ℕ) → is_among points v ≡ is_among (support_of shares) v) → (old start new : Places) → old.count ≡ level.point_count → start ≡ record { count = old.count; mark = old.mark + 1; met = [] }
       → new ≡ with_places points start → AreNamed level mask (old.mark + 1) new
   joined-named points points_are old start new count started added = record {
@@ -61,7 +61,7 @@ module _ (level : Level) (mask : Mask) (q : ℕ) (shares : List Share) (are : Ar
         ∙ points_are v ∙ joined-names v;
   }
 
-  -- the common denominator, by the points alone, in any order and however often
+  -- The common denominator depends only on the set of the points.
   pub joined-den : (dens : List ℕ) → ((v : ℕ) → 0 < get_or dens v 1) → (points : List ℕ) → ((v : ℕ) → is_among points v ≡ is_among (support_of shares) v)
       → q * lcm_of_all (map (λ v. get_or dens v 1) points) ≡ mask_denominator (source_denominator level dens) mask
   joined-den dens positive points points_are =

@@ -1,6 +1,6 @@
--- The weights that were put for a mask: what they name, what they have in common, and what they weigh.
+-- The weights that a caller gave for a mask: the points they name, their common denominator, and their amounts.
 use Rattle.std.proofs.Common.{◌≡◌, ℕ, zero, suc, ◌+◌, ◌-◌, ◌*◌, ◌/◌, ◌<◌, ◌≤◌, Bool, true, false, ◌||◌, nat_eq, nat_lt, List, [], ◌∷◌, ◌++◌, length, map, get_or, take, drop, replicate, arith, refl, ap, sym, ◌∙◌, subst}
-use Rattle.std.specs.List.{All, AllByRecursion, sum_by}
+use Rattle.std.specs.List.{All, AllByRecursion}
 use Rattle.std.proofs.lemmas.Bool.Decides.{nat_tests}
 use Rattle.std.proofs.lemmas.List.{length-replicate, map-append}
 use Rattle.std.proofs.lemmas.List.Elements.{All-from_recursion, recursion_from_All, filter-append}
@@ -9,19 +9,18 @@ use Rattle.subdiv_model.specs.Level.{Level}
 use Rattle.subdiv_model.specs.Multiples.{lcm_of_all}
 use Rattle.subdiv_model.specs.Mask.{OfPoint, Mask, weight_in}
 use Rattle.subdiv_model.specs.Refined.{mask_denominator, source_denominator}
-use Rattle.subdiv_model.specs.Support.{mask_support, source_support}
 use Rattle.subdiv_model.specs.Channel.{number_bound}
 use Rattle.number_laws.proofs.MultipleLemmas.{product-positive}
 use Rattle.child_masks.specs.Found.{ArePointDenominators}
 use Rattle.child_masks.proofs.DenLemmas.{dens-positive}
-use Rattle.stencil_apply.specs.Table.{Share, Table, total_of}
-use Rattle.stencil_factory.specs.Rows.{support_of, supports_of}
+use Rattle.stencil_apply.specs.Table.{Share, total_of}
+use Rattle.stencil_factory.specs.Rows.{support_of}
 use Rattle.stencil_factory.specs.Scratch.{added_shares, shares_from, sum_of, AreSharesOf}
 use Rattle.stencil_factory.specs.Flat.{CanAddAll, IsWeighed}
 use Rattle.stencil_factory.specs.Met.{Places, with_places}
 use Rattle.stencil_factory.specs.Named.{AreNamed}
 use Rattle.stencil_factory.specs.MaskRows.{AreWeightsOf}
-use Rattle.stencil_factory.specs.Joined.{terms_of_shares, amounts_of, entries_at, weighing, AreJoined}
+use Rattle.stencil_factory.specs.Joined.{terms_of_shares, amounts_of, weighing, AreJoined}
 use Rattle.stencil_factory.specs.Weights.{is_named, AreWeights}
 use Rattle.stencil_factory.proofs.AddedLemmas.{first-and-others, can-first, can-next, same-next}
 use Rattle.stencil_factory.proofs.ScratchLemmas.{sum-added_shares, some-added_shares}
@@ -31,7 +30,6 @@ use Rattle.stencil_factory.proofs.JoinLemmas.{told-inside, are-joined, place-wei
 use Rattle.stencil_factory.proofs.WeighingLemmas.{weighing-above, weighing-all, weighing-added, among-sums, same-added, weighing-some, weighing-none}
 use Rattle.stencil_factory.proofs.PointLemmas.{joined-names, joined-named, joined-den, joined-positive, joined-can, joined-weighed}
 use Rattle.stencil_factory.proofs.FoundLemmas.{common-positive}
-use Rattle.stencil_factory.proofs.BoundLemmas.{support-bound}
 
 -- Amounts above 0.
 module _ (dens : List ℕ) (m : ℕ) where
@@ -108,7 +106,7 @@ module _ (level : Level) (mask put : Mask) (are : AreWeightsOf level.point_count
       weighing-all (λ (share : Share). share.0 < length zeros) raw
       (subst (λ n. AllByRecursion (λ (share : Share). share.0 < n) raw) (sym (length-replicate count 0)) raw-inside)
 
-  -- the points that weigh something are those of the joined weights
+  -- The points with a weight above 0 are the points of the joined weights.
   among : (v : ℕ) → is_among (support_of (weighing raw)) v ≡ is_among (support_of joined) v
   among v =
       let none : get_or zeros v 0 ≡ 0 = zero-at count v in
@@ -118,15 +116,11 @@ module _ (level : Level) (mask put : Mask) (are : AreWeightsOf level.point_count
       ∙ ap (λ l. nat_lt 0 (get_or l v 0)) (weighing-added raw zeros)
       ∙ sym (among-sums 0 v sums) ∙ ap (is_among (support_of joined)) from
 
-  -- they are those that the mask names
+  -- The points with a weight above 0 are the points that the mask names.
   put-names : (v : ℕ) → is_among (support_of (weighing raw)) v ≡ is_named level mask v
   put-names v = among v ∙ joined-names level mask put.denominator joined is-joined v
 
-  -- a row of the mask has no more entries than the rows of these points
-  pub put-few : (table : Table) → length (mask_support table.controls (source_support table.controls level (supports_of table)) mask) ≤ sum_by (entries_at table) (support_of (weighing raw))
-  put-few table = support-bound table level mask (support_of (weighing raw)) put-names
-
-  -- what is met once all points of the weights are
+  -- The set after all points of the weights were added.
   pub put-named : (old start new : Places) → old.count ≡ count → start ≡ record { count = old.count; mark = old.mark + 1; met = [] }
       → new ≡ with_places (support_of (weighing raw)) start → AreNamed level mask (old.mark + 1) new
   put-named = joined-named level mask put.denominator joined is-joined (support_of (weighing raw)) among
@@ -148,7 +142,7 @@ module _ (level : Level) (mask put : Mask) (are : AreWeightsOf level.point_count
     pub den-positive : 0 < mask_denominator (source_denominator level dens) mask
     den-positive = subst (λ n. 0 < n) put-den (product-positive put.denominator multiple put-positive multiple-positive)
 
-    -- weights over it
+    -- The weights over the common denominator.
     module _ (den : ℕ) (den_is : den ≡ mask_denominator (source_denominator level dens) mask) (short : den ≤ number_bound)
         (m : ℕ) (m_is : m ≡ den / put.denominator) (start : List ℕ) (clear : start ≡ zeros) where
       weights : (v : ℕ) → weight_in (terms_of_shares (weighing raw)) (OfPoint v) ≡ weight_in (terms_of_shares joined) (OfPoint v)
@@ -214,7 +208,7 @@ module _ (rest : List Share) (some : 1 ≤ length rest) where
   pub support-split : support_of (weighing rest) ≡ support_of (weighing (first ∷ [])) ++ support_of (weighing others)
   support-split = ap support_of weighing-split ∙ map-append (λ (share : Share). share.0) (weighing (first ∷ [])) (weighing others)
 
-  -- the others have places too
+  -- The remaining weights have places.
   pub others-inside : (n : ℕ) → All (λ share. share.0 < n) rest → All (λ share. share.0 < n) others
   others-inside n h =
       All-from_recursion (λ (share : Share). share.0 < n) others

@@ -22,7 +22,7 @@ use Rattle.stencil_factory.proofs.ScratchLemmas.{replicate-sum, shares-ascending
 use Rattle.stencil_factory.proofs.RowSumLemmas.{row_numbers, row-total, sum-added_rows, length-added_rows, some-added_rows, dense-added_rows}
 use Rattle.stencil_factory.proofs.SupportLemmas.{sources-have, shares-kept}
 
--- what the rows make of numbers, over their denominators
+-- The values of the rows are their numbers over their denominators.
 values-over : (table : Table) (numbers : List ℤ) → values_over (dens_of table) (row_numbers table numbers) ≡ row_values table numbers
 values-over table numbers = each table.rows
   where
@@ -30,7 +30,7 @@ values-over table numbers = each table.rows
     each [] = refl
     each (row ∷ rows) = ap (λ (rest : List Value). record { num = share_sum numbers row.shares; den = row.den } ∷ rest) (each rows)
 
--- zeros all stand at 0
+-- Each place of a list of zeros has 0.
 pub zero-at : (n v : ℕ) → ◌≡◌ {A = ℕ} (get_or (replicate n 0) v 0) 0
 zero-at zero v = refl
 zero-at (suc n) zero = refl

@@ -22,7 +22,7 @@ use Rattle.stencil_factory.proofs.ScratchLemmas.{length-added_shares, sum-added_
 abbrev pub row_numbers : Table → List ℤ → List ℤ
 row_numbers table numbers = map (λ row. share_sum numbers row.shares) table.rows
 
--- what a row makes of numbers
+-- The number that a row gives for control numbers.
 number-at : (table : Table) (numbers : List ℤ) (u : ℕ) → get_or (row_numbers table numbers) u (pos 0) ≡ share_sum numbers (row_at table u).shares
 number-at table numbers u = get_or-map (λ (row : Row). share_sum numbers row.shares) table.rows u (record { den = 1; shares = [] })
 
@@ -80,7 +80,7 @@ module _ (table : Table) (is : IsTable table) where
       (some-added_shares weight.1 v shares sums can.each.0 (row-inside weight.0 sums can.inside.0 can.places) (recursion_from_All (λ (share : Share). 0 < share.1) shares (row-is weight.0 can.inside.0).each))
       ∙ or_assoc (nat_lt 0 (get_or sums v 0)) (is_among (support_of shares) v) (list_any (λ w. is_among (support_of (row_at table w.0).shares) v) weights)
 
-  -- what the sums make of numbers
+  -- The sums times control numbers, after the rows were added.
   pub dense-added_rows : (most : ℕ) (numbers : List ℤ) (weights : List Share) (sums : List ℕ) → CanAddRows most table weights sums
       → dense_sum numbers (added_rows table weights sums) ≡ dense_sum numbers sums +ℤ share_sum (row_numbers table numbers) weights
   dense-added_rows most numbers [] sums can = sym (+ℤ_idr (dense_sum numbers sums))
@@ -92,7 +92,7 @@ module _ (table : Table) (is : IsTable table) where
       ∙ +ℤ_assoc (dense_sum numbers sums) (pos weight.1 *ℤ share_sum numbers shares) rest
       ∙ ap (λ z. dense_sum numbers sums +ℤ (pos weight.1 *ℤ z +ℤ rest)) (sym (number-at table numbers weight.0))
 
-  -- a round of the loop over the weights, of which the points and the factors are read
+  -- One round of the loop over the weights. The body reads the point and the factor from two lists.
   module _ {T : Type 0} (value : T → ℕ) (most : ℕ) (weights : List Share) (points : List ℕ) (factors : List T)
       (points_are : points ≡ map (λ share. share.0) weights) (factors_are : map value factors ≡ map (λ share. share.1) weights)
       (i : ℕ) (sums : List ℕ) (inside : i < length points) (factor : T) (read : factor ≡ get_or factors i factor) (can : CanAddRows most table (drop i weights) sums) where
@@ -138,7 +138,7 @@ module _ (table : Table) (is : IsTable table) where
       pub round-can : CanAddRows most table (drop (i + 1) weights) after
       round-can = subst (CanAddRows most table (drop (i + 1) weights)) (sym is-added) (can-more most weight (drop (i + 1) weights) sums here)
 
--- a row as it is read, added to sums
+-- The body reads a row as two lists and adds it to the sums.
 module _ (table : Table) (is : IsTable table) (point : ℕ) (known : point < length table.rows) (indices numerators : List ℕ)
     (indices_are : indices ≡ map (λ share. share.0) (row_at table point).shares) (numerators_are : numerators ≡ map (λ share. share.1) (row_at table point).shares) where
   pub read-inside : (places : ℕ) → places ≡ table.controls → All (λ index. index < places) indices

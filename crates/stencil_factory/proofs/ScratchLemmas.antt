@@ -1,4 +1,4 @@
--- Sums by place: what an addition changes, and what stands in the shares that are taken of them.
+-- Sums by place: what an addition changes, and the shares that are read from the sums.
 use Rattle.std.proofs.Common.{◌≡◌, ℕ, zero, suc, ◌+◌, ◌*◌, ◌<◌, ◌≤◌, Bool, true, false, ◌||◌, nat_eq, nat_lt, if◌then◌else◌, ℤ, pos, ◌+ℤ◌, ◌*ℤ◌, List, [], ◌∷◌, length, get_or, replicate, arith, refl, ap, sym, ◌∙◌, subst}
 use Rattle.std.specs.List.{AllByRecursion}
 use Rattle.std.specs.List.Sorted.{IsStrictlyIncreasing}
@@ -35,7 +35,7 @@ sum-added_at zero amount (sum ∷ sums) h = omega (arith, sum-first sum sums, su
 sum-added_at (suc place) amount (sum ∷ sums) h =
     omega (arith, sum-first sum sums, sum-first sum (added_at place amount sums), sum-added_at place amount sums (omega arith))
 
--- what is said of places below the length stays
+-- An addition keeps the number of places, so shares keep their places.
 inside-added : (place amount : ℕ) (shares : List Share) (sums : List ℕ) → AllByRecursion (λ share. share.0 < length sums) shares → AllByRecursion (λ share. share.0 < length (added_at place amount sums)) shares
 inside-added place amount shares sums inside = subst (λ n. AllByRecursion (λ share. share.0 < n) shares) (sym (length-added_at place amount sums)) inside
 
@@ -43,7 +43,7 @@ inside-added place amount shares sums inside = subst (λ n. AllByRecursion (λ s
 pub total-first : (factor : ℕ) (share : Share) (shares : List Share) → factor * total_of (share ∷ shares) ≡ factor * share.1 + factor * total_of shares
 total-first factor share shares = let first = sum_by-cons (λ (s : Share). s.1) share shares in ap (λ n. factor * n) first ∙ omega arith
 
--- and by the factor times all shares together
+-- Adding shares raises the total by the factor times the total of the shares.
 pub sum-added_shares : (factor : ℕ) (shares : List Share) (sums : List ℕ) → AllByRecursion (λ share. share.0 < length sums) shares → sum_of (added_shares factor shares sums) ≡ sum_of sums + factor * total_of shares
 sum-added_shares factor [] sums inside = omega arith
 sum-added_shares factor (share ∷ shares) sums inside =
@@ -93,7 +93,7 @@ first-above place [] some = absurd (omega arith)
 first-above place (zero ∷ sums) some = omega (arith, first-above (place + 1) sums some)
 first-above place (suc n ∷ sums) some = omega arith
 
--- the shares stand in the order of their places
+-- The shares ascend by place.
 pub shares-ascending : (place : ℕ) (sums : List ℕ) → IsStrictlyIncreasing (support_of (shares_from place sums))
 shares-ascending place [] k h = absurd (omega arith)
 shares-ascending place (zero ∷ sums) k h = shares-ascending (place + 1) sums k h
@@ -112,7 +112,7 @@ inside-next : (place count : ℕ) (shares : List Share) → AllByRecursion (λ s
 inside-next place count [] inside = tt
 inside-next place count (share ∷ shares) inside = let first = inside.0 in ((omega (arith, first.0), omega (arith, first.1)), inside-next place count shares inside.1)
 
--- each share stands at a place of the sums
+-- Each share has a place of the sums.
 pub shares-inside : (place : ℕ) (sums : List ℕ) → AllByRecursion (λ share. (place ≤ share.0) × (share.0 < place + length sums)) (shares_from place sums)
 shares-inside place [] = tt
 shares-inside place (zero ∷ sums) = inside-next place (length sums) (shares_from (place + 1) sums) (shares-inside (place + 1) sums)
@@ -161,7 +161,7 @@ module _ (numbers : List ℤ) where
       let same : 0 + place ≡ place = omega arith in
       dense-added 0 place amount sums h ∙ ap (λ p. dense_sum numbers sums +ℤ pos amount *ℤ get_or numbers p (pos 0)) same
 
-  -- and so are shares times a factor
+  -- Shares times a factor add the factor times their sum with numbers.
   pub dense_sum-added_shares : (factor : ℕ) (shares : List Share) (sums : List ℕ) → AllByRecursion (λ share. share.0 < length sums) shares → dense_sum numbers (added_shares factor shares sums) ≡ dense_sum numbers sums +ℤ pos factor *ℤ share_sum numbers shares
   dense_sum-added_shares factor [] sums inside = sym (ap (λ z. dense_sum numbers sums +ℤ z) (*ℤ-zero (pos factor)) ∙ +ℤ_idr (dense_sum numbers sums))
   dense_sum-added_shares factor (share ∷ shares) sums inside =

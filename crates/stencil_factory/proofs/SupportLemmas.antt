@@ -1,4 +1,4 @@
--- Where a control point stands in the row of a mask: in the row of some point that the mask names.
+-- The row of a mask has a control point if the row of a point that the mask names has it.
 use Rattle.std.proofs.Common.{◌≡◌, ℕ, zero, suc, ◌+◌, ◌<◌, Bool, true, false, ◌||◌, nat_eq, nat_lt, List, [], ◌∷◌, length, map, get_or, if◌then◌else◌, arith, refl, ap, sym, ◌∙◌}
 use Rattle.std.specs.List.{AllByRecursion, count_by, filter, list_any, range_with_len}
 use Rattle.std.proofs.Math.ListN.{get_or-map}
@@ -35,7 +35,7 @@ any-same : {X : Type 0} (p q : X → Bool) (xs : List X) → ((x : X) → p x �
 any-same p q [] h = refl
 any-same p q (x ∷ xs) h = ap (λ b. b || list_any p xs) (h x) ∙ ap (λ b. q x || b) (any-same p q xs h)
 
--- what no element passes
+-- A test that no element passes.
 any-none : {X : Type 0} (test : X → Bool) (xs : List X) → AllByRecursion (λ x. test x ≡ false) xs → list_any test xs ≡ false
 any-none test [] h = refl
 any-none test (x ∷ xs) h = ap (λ b. b || list_any test xs) h.0 ∙ any-none test xs h.1
@@ -49,7 +49,7 @@ none-any test (x ∷ xs) h = here (λ k. none-any test xs k) (test x) refl
     here rest false e = (e, rest (sym (ap (λ b. b || list_any test xs) e) ∙ h))
 
 module _ (level : Level) (passes : ℕ → Bool) where
-  -- the point passes, and the new point of a face where one of its corners does
+  -- A point source passes if the point does. A face source passes if one of its corners does.
   abbrev at_corner : SourcePoint → Bool
   at_corner (OfPoint u) = passes u
   at_corner (OfFace f) = false
@@ -73,7 +73,7 @@ module _ (level : Level) (passes : ℕ → Bool) where
           let more = weight_in-cons (weigh 1 (OfPoint w)) (weigh_points 1 polygon) (OfPoint u) in
           omega (arith, more, behind rest)
 
-  -- a source with a weight stands in some term
+  -- A source with a weight occurs in a term.
   weight-place : (terms : List Term) (s : SourcePoint) → 0 < weight_in terms s → has_source terms s ≡ true
   weight-place [] s h = absurd (omega (arith, h))
   weight-place (t ∷ terms) s h = here (λ k. weight-place terms s k) (same_source s t.source) refl
@@ -121,7 +121,7 @@ module _ (level : Level) (passes : ℕ → Bool) where
   passes-named (OfPoint u) h = (u, h, eq-eqb u u refl)
   passes-named (OfFace f) h = any-number passes (polygon_at level.polygons f) h
 
-  -- one of the named points passes where one of the sources does
+  -- A named point passes exactly if a source passes.
   pub named-any : (mask : Mask) (numbers : List ℕ) → ((v : ℕ) → is_among numbers v ≡ is_named level mask v) → list_any passes numbers ≡ list_any (λ t. at_source t.source) mask.terms
   named-any mask numbers named = same-answer _ _ forward back
     where
@@ -159,7 +159,7 @@ module _ (level : Level) (table : Table) (mask : Mask) (n v : ℕ) (inside : v <
       ∙ any-same (λ (t : Term). is_among (corner_support (supports_of table) t.source) v) (λ t. at_corner level (has_control table v) t.source) (face_mask level f).terms (λ t. corner-has t.source)
       ∙ corners-any level (has_control table v) f
 
-  -- some source of the mask has the control where the row of some point does that it names
+  -- A source of the mask has the control point exactly if the row of a point that the mask names has it.
   pub points-have : (points : List ℕ) → ((u : ℕ) → is_among points u ≡ is_named level mask u)
       → list_any (λ list. is_among list v) (map (λ t. source_support n level (supports_of table) t.source) mask.terms) ≡ list_any (has_control table v) points
   points-have points named =
@@ -167,12 +167,12 @@ module _ (level : Level) (table : Table) (mask : Mask) (n v : ℕ) (inside : v <
       ∙ any-same (λ (t : Term). is_among (source_support n level (supports_of table) t.source) v) (λ t. at_source level (has_control table v) t.source) mask.terms (λ t. source-has t.source)
       ∙ sym (named-any level (has_control table v) mask points named)
 
-  -- and so where that of some weight does
+  -- A source of the mask has the control point exactly if the row of a weighted point has it.
   pub sources-have : (weights : List Share) → ((u : ℕ) → is_among (support_of weights) u ≡ is_named level mask u)
       → list_any (λ list. is_among list v) (map (λ t. source_support n level (supports_of table) t.source) mask.terms) ≡ list_any (λ w. is_among (support_of (row_at table w.0).shares) v) weights
   sources-have weights named = points-have (support_of weights) named ∙ any-map (has_control table v) (λ (w : Share). w.0) weights
 
--- the shares of sums stand where the test passes
+-- The shares of the sums have the places that pass the test.
 pub shares-kept : (test : ℕ → Bool) (a : ℕ) (sums : List ℕ) → ((k : ℕ) → k < length sums → test (a + k) ≡ nat_lt 0 (get_or sums k 0)) → support_of (shares_from a sums) ≡ filter test (range_with_len a (length sums))
 shares-kept test a [] h = refl
 shares-kept test a (zero ∷ sums) h =
@@ -197,7 +197,7 @@ shares-kept test a (suc n ∷ sums) h =
     some : (n : ℕ) → nat_lt 0 (suc n) ≡ true
     some n = grind (arith, nat_tests)
 
--- as many numbers pass as stand where the test does
+-- As many numbers pass as places do.
 pub count-kept : (p test : ℕ → Bool) (a : ℕ) (xs : List ℕ) → ((k : ℕ) → k < length xs → test (a + k) ≡ p (get_or xs k 0)) → count_by p xs ≡ length (filter test (range_with_len a (length xs)))
 count-kept p test a [] h = refl
 count-kept p test a (x ∷ xs) h = here (count-kept p test (a + 1) xs (λ k inside. ap test (next a k) ∙ h (suc k) (omega arith))) (p x) refl

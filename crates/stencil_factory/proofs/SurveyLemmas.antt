@@ -1,4 +1,4 @@
--- What a survey over the denominators of a table tells.
+-- The denominators that a survey over a table finds.
 use Rattle.std.proofs.Common.{◌≡◌, ℕ, ◌<◌, ◌≤◌, List, [], length, get_or, ap, sym, ◌∙◌, subst}
 use Rattle.std.specs.List.{All}
 use Rattle.std.proofs.lemmas.List.{length-map, get_or-map}
@@ -38,7 +38,7 @@ module _ (parent : Topology) (scheme : Scheme) (origins : List PointOrigin) (den
   pub found-inside : (p : ℕ) → p < length origins → p < length survey.dens.items
   found-inside p inside = subst (λ n. p < n) (sym found-count) inside
 
-  -- which is that of its mask
+  -- The denominator of a point is that of its mask.
   found-at : (p d : ℕ) → p < length origins → get_or survey.dens.items p d ≡ own p
   found-at p d inside =
       let none : Mask = record { terms = []; denominator = 0 } in
@@ -51,11 +51,11 @@ module _ (parent : Topology) (scheme : Scheme) (origins : List PointOrigin) (den
   pub all-short : All (λ den. den ≤ number_bound) survey.dens.items
   all-short = subst (All (λ den. den ≤ number_bound)) (sym is.dens) is.short
 
-  -- the faces have theirs
+  -- Each face has its denominator.
   pub found-faces : AreFaceDenominators parent.level dens survey.faces.items
   found-faces = record { count = is.face_count; each = is.faces }
 
--- so it has the denominators of the rows of the masks
+-- The survey has the denominators of the rows of the masks.
 module _ (parent : Topology) (child : ChildTopology) (scheme : Scheme) (table : Table) (survey : Survey) (is : IsTopology parent) (has : HasParent child) (can : CanRefine parent child scheme)
     (whole : IsTable table) (count : length table.rows ≡ parent.level.point_count) (found : IsSurvey parent scheme child.origins (dens_of table) survey) where
   pub survey-dens : (dens : List ℕ) → dens ≡ survey.dens.items → AreRowDenominators parent.level table (masks_from parent.level scheme child.origins) dens

@@ -71,7 +71,7 @@ set-added place amount [] h = absurd (omega arith)
 set-added zero amount (sum ∷ sums) h = refl
 set-added (suc place) amount (sum ∷ sums) h = ap (λ rest. sum ∷ rest) (set-added place amount sums (omega arith))
 
--- the order of the places is no matter
+-- A permutation of the places lists the same places.
 pub touched-permutation : (xs ys sums : List ℕ) → IsPermutation xs ys → AreTouched xs sums → AreTouched ys sums
 touched-permutation xs ys sums moved is = record {
   once = distinct-permutation xs ys moved is.once;
@@ -83,14 +83,14 @@ zero-there zero v = refl
 zero-there (suc n) zero = refl
 zero-there (suc n) (suc v) = zero-there n v
 
--- of zeros no place is noted
+-- For zeros the list of places is empty.
 pub touched-zeros : (n : ℕ) → AreTouched [] (replicate n 0)
 touched-zeros n = record {
   once = refl;
   named = λ v. sym (ap (nat_lt 0) (zero-there n v));
 }
 
--- each noted place is one of the sums'
+-- Each listed place is a place of the sums.
 pub touched-inside : (touched sums : List ℕ) → AreTouched touched sums → All (λ place. place < length sums) touched
 touched-inside touched sums is = All-from_get_or (λ place. place < length sums) touched 0 (λ i h. inside (get_or touched i 0) (among-place (get_or touched i 0) touched i h refl))
   where
@@ -165,7 +165,7 @@ added-back place [] h = absurd (omega (arith, h))
 added-back zero (sum ∷ sums) h = let all : 0 + sum ≡ sum = omega arith in ap (λ n. n ∷ sums) all
 added-back (suc place) (sum ∷ sums) h = ap (λ rest. sum ∷ rest) (added-back place sums (omega (arith, h)))
 
--- what is taken and what is left, times numbers, are the sums times numbers
+-- The sums that were read and those that remain, times numbers, equal the old sums times numbers.
 moved-value : (numbers : List ℤ) (places sums : List ℕ) → AllByRecursion (λ place. place < length sums) places
     → share_sum numbers (moved places sums) +ℤ dense_sum numbers (cleared places sums) ≡ dense_sum numbers sums
 moved-value numbers [] sums inside = +ℤ_idl (dense_sum numbers sums)
@@ -295,7 +295,7 @@ module _ {T : Type 0} (value : T → ℕ) (place : ℕ) (sum : T) (sums : List T
   long : place < length sums
   long = omega (arith, inside, length-map sums value, ap length view)
 
-  -- what was read is the sum at the place
+  -- The body reads the sum at the place.
   here : value sum ≡ get_or (map value sums) place 0
   here = number-there value sums place sum long at
 
@@ -308,7 +308,7 @@ module _ {T : Type 0} (value : T → ℕ) (place : ℕ) (sum : T) (sums : List T
         map-set value sums place after ∙ ap (set (map value sums) place) (more ∙ ap (λ n. n + amount) here)
         ∙ set-added place amount (map value sums) (omega (arith, long, length-map sums value))
 
-    -- what is noted, and the sums
+    -- The list of places after the addition fits the new sums.
     pub touched-step : (read : ℕ) (touched noted : List ℕ) → 0 < amount → read ≡ value sum → noted ≡ touched_with place read touched → AreTouched touched (map value sums) → AreTouched noted (map value (set sums place after))
     touched-step read touched noted some of is before =
         subst (AreTouched noted) (sym put)
@@ -327,7 +327,7 @@ module _ {T : Type 0} (value : T → ℕ) (places : List ℕ) (sums : List T) (t
   taken-inside = subst (λ n. All (λ place. place < n) places) (length-map sums value) (touched-inside places (map value sums) touched)
 
   module _ {A E : Type 0} (r : Result A E) (new : List T) (zeros : OnOk r (map value new ≡ cleared places (map value sums))) where
-    -- zeros are left and no places, or all is as it was
+    -- After `Ok` all sums are 0 and the list is empty. After an error nothing changed.
     pub taken-touched : (left : List ℕ) → OnOk r (left ≡ []) → OnErr r (new ≡ sums) → OnErr r (left ≡ places) → AreTouched left (map value new)
     taken-touched left none same_sums same_places = by_result r zeros none same_sums same_places
       where
@@ -346,6 +346,6 @@ module _ {T : Type 0} (value : T → ℕ) (places : List ℕ) (sums : List T) (t
     taken-any =
         on_ok_weaker r (λ e. subst (λ l. AreSharesOf l entries) view (subst (AreSharesOf (map value sums)) (sym e) (moved-any places (map value sums) touched))) is
 
-    -- which ascend where the places do
+    -- The entries ascend if the places do.
     pub taken-sorted : IsNonDecreasing places → OnOk r (entries ≡ shares_from 0 old)
     taken-sorted rise = on_ok_weaker r (λ e. e ∙ moved-shares places (map value sums) rise touched ∙ ap (shares_from 0) view) is

@@ -27,7 +27,7 @@ weighing-some share shares h = ap (λ b. if b then share ∷ weighing shares els
 pub weighing-none : (share : Share) (shares : List Share) → nat_lt 0 share.1 ≡ false → weighing (share ∷ shares) ≡ weighing shares
 weighing-none share shares h = ap (λ b. if b then share ∷ weighing shares else weighing shares) h
 
--- what is kept is above 0
+-- Each share that remains is above 0.
 pub weighing-above : (shares : List Share) → AllByRecursion (λ share. 0 < share.1) (weighing shares)
 weighing-above [] = tt
 weighing-above (share ∷ shares) = step (nat_lt 0 share.1) refl (weighing-above shares)
@@ -39,7 +39,7 @@ weighing-above (share ∷ shares) = step (nat_lt 0 share.1) refl (weighing-above
     step true h rest = subst (AllByRecursion (λ (s : Share). 0 < s.1)) (sym (weighing-some share shares (sym h))) (above share.1 h, rest)
     step false h rest = subst (AllByRecursion (λ (s : Share). 0 < s.1)) (sym (weighing-none share shares (sym h))) rest
 
--- and has what all have
+-- A property of all shares holds for those that remain.
 pub weighing-all : (P : Share → Type 0) (shares : List Share) → AllByRecursion P shares → AllByRecursion P (weighing shares)
 weighing-all P [] h = tt
 weighing-all P (share ∷ shares) h = step (nat_lt 0 share.1) refl (weighing-all P shares h.1)
@@ -156,7 +156,7 @@ module _ (dens : List ℕ) (m : ℕ) where
           let whole : all * factor v ≡ z * factor v = ap (λ n. n * factor v) (l' ∙ zs) in
           omega (arith, h, k', whole)
 
-  -- weights that each point has alike add the same
+  -- Two lists that give each point the same weight add the same sums.
   pub same-added : (some others : List Share) (sums : List ℕ) → AllByRecursion (λ share. share.0 < length sums) some → AllByRecursion (λ share. share.0 < length sums) others
       → ((v : ℕ) → weight_in (terms_of_shares some) (OfPoint v) ≡ weight_in (terms_of_shares others) (OfPoint v))
       → added_shares 1 (amounts_of dens m some) sums ≡ added_shares 1 (amounts_of dens m others) sums

@@ -151,7 +151,7 @@ module _ (n : ℕ) (shares : List Share) (inside : AllByRecursion (λ share. sha
   placed : AllByRecursion (λ share. share.0 < length zeros) shares
   placed = subst (λ k. AllByRecursion (λ share. share.0 < k) shares) (sym (length-replicate n 0)) inside
 
-  -- what is taken of the sums, times numbers, are the shares times numbers
+  -- The shares of the sums, times numbers, equal the added shares times numbers.
   sums-value : (made : List Share) → AreSharesOf sums made → (numbers : List ℤ) → share_sum numbers made ≡ share_sum numbers shares
   sums-value made of numbers =
       of.value numbers
@@ -161,13 +161,13 @@ module _ (n : ℕ) (shares : List Share) (inside : AllByRecursion (λ share. sha
       ∙ *ℤ_comm (pos 1) (share_sum numbers shares)
       ∙ times-one (share_sum numbers shares)
 
-  -- it stands where the shares stand
+  -- The shares of the sums have the places of the added shares.
   sums-among : (made : List Share) → AreSharesOf sums made → (v : ℕ) → is_among (support_of made) v ≡ is_among (support_of shares) v
   sums-among made of v =
       of.named v ∙ some-added_shares 1 v shares zeros (omega arith) placed each
       ∙ ap (λ b. b || is_among (support_of shares) v) (zero-place n v)
 
-  -- they are what is taken of the sums themselves
+  -- The added shares are shares of the sums.
   pub sums-themselves : AreSharesOf sums shares
   sums-themselves = record {
     inside = subst (λ k. AllByRecursion (λ share. share.0 < k) shares) (sym count) inside;
@@ -184,7 +184,7 @@ module _ (n : ℕ) (shares : List Share) (inside : AllByRecursion (λ share. sha
         );
   }
 
-  -- inside
+  -- Each share of the sums has a place below `n`.
   sums-inside : (made : List Share) → AreSharesOf sums made → AllByRecursion (λ share. share.0 < n) made
   sums-inside made of = subst (λ k. AllByRecursion (λ share. share.0 < k) made) count of.inside
 
@@ -219,7 +219,7 @@ IsKnown level dens faces s =
 -- a mask over the common denominator of its sources
 module _ (level : Level) (dens faces : List ℕ) (points : ArePointDenominators level dens) (mask : Mask) (mean : IsTrue (is_mean mask))
     (known : AllByRecursion (λ t. IsKnown level dens faces t.source) mask.terms) (short : mask_denominator (source_denominator level dens) mask ≤ number_bound) where
-  -- what the denominators have in common
+  -- The common multiple of the denominators.
   abbrev pub common : ℕ
   common = lcm_of_all (map (λ t. source_denominator level dens t.source) mask.terms)
 
@@ -282,7 +282,7 @@ module _ (level : Level) (dens faces : List ℕ) (points : ArePointDenominators 
     fits = omega (arith, replicate-sum level.point_count, total-below dens points.positive all all-inside, all-weight, fits);
   }
 
-  -- what is taken of the sums
+  -- The shares of the sums.
   module _ (made : List Share) (of : AreSharesOf (added_shares 1 all (replicate level.point_count 0)) made) where
     made-placed : AllByRecursion (λ share. share.0 < level.point_count) made
     made-placed = sums-inside level.point_count all all-placed all-each made of
@@ -309,7 +309,7 @@ module _ (level : Level) (dens faces : List ℕ) (points : ArePointDenominators 
           (flat-over level dens faces common above numbers values (values-over dens numbers values long same) mask.terms parts));
     }
 
-  -- are the weights of the mask
+  -- The shares of the sums are the weights of the mask.
   pub mask-weighed : IsWeighed level dens mask (added_shares 1 all (replicate level.point_count 0))
   mask-weighed = record {
     count = count level.point_count all all-placed all-each;

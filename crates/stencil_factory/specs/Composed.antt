@@ -1,5 +1,5 @@
--- One step of a table: the rows of the points of a child, each by the mask of the part of the level that it comes from.
--- Source: this profile; the words are those of OpenSubdiv's Far layer.
+-- What `compose_level` returns: the table of a refinement step, one row for each point of the child, or the first fault.
+-- Source: stencil tables of OpenSubdiv's Far layer, with exact weights.
 use Rattle.std.specs.Prelude.{ℕ, ◌≡◌, ◌<◌, ◌≤◌, ℤ, List, [], ◌∷◌, length, map, Result, MatchResult}
 use Rattle.std.specs.List.{All, sum_by, range_with_len}
 use Rattle.subdiv_model.specs.Level.{Level}
@@ -14,25 +14,26 @@ use Rattle.stencil_factory.specs.Rows.{supports_of, dens_of, row_values, AreSame
 use Rattle.stencil_factory.specs.declared.fault.TableFault.{TableFault}
 use Rattle.stencil_factory.specs.declared.fault.TableFault.TheVariants.{Transition, Denominator, TooManyEntries, Memory}
 
--- each point is itself, 1 over 1
+-- The table of the control points: each row is its own control point, 1 over 1.
 abbrev pub identity_table : ℕ → Table
 identity_table points = record {
   controls = points;
   rows = map (λ v. record { den = 1; shares = (v, 1) ∷ [] }) (range_with_len 0 points);
 }
 
--- the controls of the points, from those of the level's
+-- The control points that each child point depends on, from those that each point of the level depends on.
 abbrev pub supports_from : ℕ → Level → Scheme → List (List ℕ) → List PointOrigin → List (List ℕ)
 supports_from controls level scheme supports origins =
     map (mask_support controls (source_support controls level supports)) (masks_from level scheme origins)
 
--- how many entries the rows of the points have
+-- The number of entries of all rows of the child.
 abbrev pub entries_from : Level → Scheme → List PointOrigin → Table → ℕ
 entries_from level scheme origins table =
     sum_by length (supports_from table.controls level scheme (supports_of table) origins)
 
--- Each row has the controls of its point and the point's common denominator, and makes the point's value of all controls: of
--- those values of the level that the rows of the table make of the same controls. No weight is refused.
+-- `composed` is the table of the child. Each row has its point's common denominator and the control points that the point depends
+-- on. For all control numbers a row gives the value that the point's mask gives from the values of the rows of `table`. No vertex has
+-- a transition weight whose denominator is too great.
 pub record IsComposed (level : Level) (scheme : Scheme) (origins : List PointOrigin) (table composed : Table) : Type 0 where
   pub controls : composed.controls ≡ table.controls
   pub dens : dens_of composed ≡ dens_from level scheme (dens_of table) origins
@@ -41,7 +42,7 @@ pub record IsComposed (level : Level) (scheme : Scheme) (origins : List PointOri
       → AreSameValues (values_from level scheme origins values) (row_values composed numbers)
   pub fine : HasNoTransition level scheme origins
 
--- the first fault of the step, each kind over the whole level; memory may run out at any step
+-- The fault of the step. A later variant holds only if the whole level has no earlier fault. `Memory` claims nothing.
 abbrev pub IsTableFault : Level → Scheme → List PointOrigin → Table → TableFault → Type 0
 IsTableFault level scheme origins table (Transition point) = IsFirstTransition level scheme origins point
 IsTableFault level scheme origins table (Denominator point) =
@@ -51,7 +52,7 @@ IsTableFault level scheme origins table TooManyEntries =
     × (entry_bound < entries_from level scheme origins table)
 IsTableFault level scheme origins table Memory = Unit {0}
 
--- the table of the points from that of the level's, or the first fault of the step
+-- The result is the table of the child, or the first fault of the step.
 abbrev pub IsTableComposition : Level → Scheme → List PointOrigin → Table → Result Table TableFault → Type 0
 IsTableComposition level scheme origins table result =
     MatchResult result (λ composed. IsComposed level scheme origins table composed) (λ fault. IsTableFault level scheme origins table fault)

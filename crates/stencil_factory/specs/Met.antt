@@ -1,19 +1,19 @@
--- Places that are met, each of which is listed once.
+-- A set of places that lists each of its members once.
 use Rattle.std.specs.Prelude.{ℕ, ◌≡◌, ◌<◌, ◌≤◌, nat_eq, List, [], ◌∷◌, ◌++◌, get_or, if◌then◌else◌}
 use Rattle.std.specs.List.{AllByRecursion}
 use Rattle.subdiv_model.specs.Polygons.{is_among}
 
--- how many places there are, the mark of those that are met, and which these are
+-- The set: its members are below `count` and have the mark `mark`, and `met` lists them in the order they came.
 pub record Places : Type 0 where
   pub count : ℕ
   pub mark : ℕ
   pub met : List ℕ
 
--- a place more, unless it has the mark
+-- The list with a further place, unless the place's mark `own` is the current mark.
 abbrev pub noted_with : ℕ → ℕ → ℕ → List ℕ → List ℕ
 noted_with place own mark met = if nat_eq own mark then met else met ++ place ∷ []
 
--- a place is met, and places one after another
+-- The set with a further member.
 abbrev pub with_place : ℕ → Places → Places
 with_place place places = record {
   count = places.count;
@@ -21,11 +21,12 @@ with_place place places = record {
   met = if is_among places.met place then places.met else places.met ++ place ∷ [];
 }
 
+-- The set with further members.
 abbrev pub with_places : List ℕ → Places → Places
 with_places [] places = places
 with_places (place ∷ more) places = with_places more (with_place place places)
 
--- those are met that have the mark, which is above 0 and not below any other
+-- The members are the places with the current mark. That mark is above 0, and no place has a greater one.
 pub record AreMet (mark : ℕ) (met marks : List ℕ) : Type 0 where
   pub some : 0 < mark
   pub below : AllByRecursion (λ own. own ≤ mark) marks

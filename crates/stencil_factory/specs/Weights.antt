@@ -1,4 +1,4 @@
--- A child point as weights of the level's points alone: the new points of faces are taken apart into their corners.
+-- A mask as weights of the level's points. A face point becomes weights of the corners of its face.
 use Rattle.std.specs.Prelude.{ℕ, ◌≡◌, ◌*◌, ◌<◌, ℤ, nat_eq, Bool, List, length}
 use Rattle.std.specs.List.{All, list_any, sum_by}
 use Rattle.std.specs.Prelude.{get_or}
@@ -11,18 +11,18 @@ use Rattle.mask_laws.proofs.SumLemmas.{IsOver}
 use Rattle.stencil_apply.specs.Table.{Share}
 use Rattle.stencil_factory.specs.Rows.{support_of, share_sum, values_over, AreSameValues}
 
--- the point is the source, or a corner of the face whose new point it is
+-- Whether the source names point `v`: the source is the point, or a face with the point as a corner.
 abbrev pub names_point : Level → ℕ → SourcePoint → Bool
 names_point level v (OfPoint u) = nat_eq u v
 names_point level v (OfFace f) = is_among (polygon_at level.polygons f) v
 
--- some source of the mask names the point
+-- Whether a source of the mask names point `v`.
 abbrev pub is_named : Level → Mask → ℕ → Bool
 is_named level mask v = list_any (λ t. names_point level v t.source) mask.terms
 
--- The points are those that the mask names, each with a weight above 0, in any order. The weights times the numerators of the points
--- sum to that of the mask's value over its common denominator, whatever values the points have; so the weights times the
--- denominators sum to that denominator.
+-- The shares are the points that the mask names, each with a weight above 0, in any order. For all values of the points, the weights
+-- times the numerators of these values sum to the mask's value over its common denominator. The weights times the denominators of
+-- the points sum to that common denominator.
 pub record AreWeights (level : Level) (dens : List ℕ) (mask : Mask) (shares : List Share) : Type 0 where
   pub inside : All (λ share. share.0 < level.point_count) shares
   pub each : All (λ share. 0 < share.1) shares

@@ -1,4 +1,4 @@
-//! The masks of the points of a child as rows.
+//! Implements `RowMasks` for a refinement step: one mask for each point of the child.
 
 use crate::met::Met;
 use crate::name::name_point;
@@ -12,7 +12,7 @@ use number_width::Natural;
 use ratio128::Memory;
 use std::alloc::Global;
 
-/// The points of a child of a level, and what a survey found of their masks.
+/// A refinement step: the parent, its child, the scheme, and the survey with the masks and denominators of the child's points.
 #[derive(Drop)]
 pub(crate) struct ChildRows<'a> {
     pub(crate) parent: &'a Level,

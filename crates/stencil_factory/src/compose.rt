@@ -1,6 +1,6 @@
-//! The rows of a table, composed from those of the points of a level.
+//! Composes the rows of a table: each is a sum of rows of the table of a level's points.
 
-ghost use Rattle.std.specs.Prelude.{◌≡◌, ◌+◌, ◌-◌, ◌*◌, ◌^◌, ◌<◌, ◌≤◌, List, length, max, replicate, take, IfOk, OnOk};
+ghost use Rattle.std.specs.Prelude.{◌≡◌, ◌+◌, ◌-◌, ◌*◌, ◌^◌, ◌<◌, ◌≤◌, List, length, max, replicate, take, true, false, IfOk, OnOk};
 ghost use Rattle.std.specs.List.{All, fold};
 ghost use Rattle.number_width.specs.Numbers.{width_for, most_of};
 ghost use Rattle.subdiv_model.specs.Refined.{mask_denominator, source_denominator};
@@ -10,7 +10,7 @@ ghost use Rattle.stencil_apply.specs.Built.{no_rows, with_row};
 ghost use Rattle.stencil_factory.specs.Rows.{dens_of};
 ghost use Rattle.stencil_factory.specs.Scratch.{added_shares, shares_from, sum_of};
 ghost use Rattle.stencil_factory.specs.Composing.{added_rows, CanAddRows, IsComposedRow, AreComposedRows};
-ghost use Rattle.stencil_factory.specs.MaskRows.{mask_at, mask_entries, AreRowDenominators, AreMaskRows, IsRowComposition};
+ghost use Rattle.stencil_factory.specs.MaskRows.{mask_at, mask_entries, AreFew, AreRowDenominators, AreAdded, IsRowComposition};
 
 use crate::count::count_entries;
 use crate::entries::Entries;
@@ -23,7 +23,8 @@ use ratio128::limits::ENTRY_BOUND;
 use std::alloc::Global;
 use stencil_apply::{StencilTable, TableBuilder};
 
-// Where rows are composed: the mask of a row, the weights of a level's points, and from them the entries of control points.
+// The buffers for one row: its mask, the weights of the level's points, and the entries of the control points.
+// `counted` is true once the entries of all rows were counted and are at most 2^27.
 #[derive(Drop)]
 struct Room<T: Natural, M> {
     mask: M,
@@ -31,12 +32,14 @@ struct Room<T: Natural, M> {
     weights: Entries<T>,
     controls: Scratch<T>,
     entries: Entries<T>,
+    counted: bool,
 }
 
 impl<T: Natural, M: Drop> Room<T, M> {
-    // Room for a level of so many points over so many control points.
+    // Returns buffers for a level with `points` points over `controls` control points. All sums are 0.
     fn new(alloc: Global, mask: M, points: u32, controls: u32) -> Result<Room<T, M>, Memory>
-        ensures { IfOk result (λ room. (room.mask ≡ mask) × (room.points ≡ replicate points 0) × (room.controls ≡ replicate controls 0)) }
+        ensures buffers { IfOk result (λ room. (room.mask ≡ mask) × (room.points ≡ replicate points 0) × (room.controls ≡ replicate controls 0)) }
+        ensures counted { IfOk result (λ room. room.counted ≡ false) }
     {
         Ok(Room {
             mask,
@@ -44,11 +47,12 @@ impl<T: Natural, M: Drop> Room<T, M> {
             weights: Entries::new(alloc),
             controls: Scratch::new(alloc, controls)?,
             entries: Entries::new(alloc),
+            counted: false,
         })
     }
 }
 
-/// Adds the row of a point, times a factor, to the sums.
+/// Adds the row of `point`, times `factor`, to the sums of the control points.
 #[inline(always)]
 pub(crate) fn add_row<T: Natural>(
     table: &StencilTable,
@@ -70,7 +74,7 @@ pub(crate) fn add_row<T: Natural>(
     }
 }
 
-// Adds the rows of the weights' points, each times its weight, to the sums.
+// Adds the row of each point in `weights`, times its weight, to the sums of the control points.
 fn add_rows<T: Natural>(
     table: &StencilTable,
     weights: &Entries<T>,
@@ -89,7 +93,7 @@ fn add_rows<T: Natural>(
     Ok(())
 }
 
-// Puts the sum of these rows in the place of the entries.
+// Replaces `entries` by the weighted sum of rows, ascending by control point. All sums are 0 again afterwards.
 fn sum_rows<T: Natural>(
     table: &StencilTable,
     weights: &Entries<T>,
@@ -106,7 +110,7 @@ fn sum_rows<T: Natural>(
     Ok(())
 }
 
-// Puts the entries of a row in their place.
+// Replaces `room.entries` by the entries of row `row`, over the denominator `den`.
 fn compose_row<T: Natural, R: RowMasks>(
     table: &StencilTable,
     rows: &R,
@@ -128,6 +132,7 @@ fn compose_row<T: Natural, R: RowMasks>(
     ensures clear { OnOk result (R.IsClear rows.now room.new.mask) }
     ensures points { OnOk result (room.new.points ≡ replicate (R.level rows.now).point_count 0) }
     ensures controls { OnOk result (room.new.controls ≡ replicate table.now.controls 0) }
+    ensures counted { OnOk result (room.new.counted ≡ room.old.counted) }
     ensures row { OnOk result (IsComposedRow (R.level rows.now) table.now (mask_at (R.masks rows.now) row) (record { den = den; shares = room.new.entries })) }
 {
     table.facts();
@@ -137,7 +142,7 @@ fn compose_row<T: Natural, R: RowMasks>(
     sum_rows(table, &room.weights, &mut room.controls, &mut room.entries)
 }
 
-/// Puts a row of entries over a denominator after the others.
+/// Appends a row with these entries over the denominator `den`.
 #[inline]
 pub(crate) fn put_entries<T: Natural>(
     den: u128,
@@ -153,15 +158,48 @@ pub(crate) fn put_entries<T: Natural>(
     builder.add_parts(den, entries.indices(), entries.numerators())
 }
 
-// Puts the row of a mask after those of the masks before it.
+// Returns whether a row of `count` entries can be added. If the table lacks capacity for it, this counts the entries of all rows, once.
+// It returns `false` if all rows together have more than 2^27 entries.
+fn can_add<R: RowMasks>(
+    alloc: Global,
+    table: &StencilTable,
+    rows: &R,
+    builder: &TableBuilder,
+    count: u64,
+    counted: &mut bool,
+) -> Result<bool, Memory>
+    requires ready { R.IsReady rows.now }
+    requires each { length table.now.rows ≡ (R.level rows.now).point_count }
+    requires few { AreFew (mask_entries (R.level rows.now) table.now (R.masks rows.now)) (entries_of builder.now.table.rows) builder.now.room_entries }
+    requires counted { counted.old ≡ true → mask_entries (R.level rows.now) table.now (R.masks rows.now) ≤ entry_bound }
+    ensures few { IfOk result (λ can. can ≡ true → AreFew (mask_entries (R.level rows.now) table.now (R.masks rows.now))
+        (entries_of builder.now.table.rows + count) (builder.now.room_entries - count)) }
+    ensures many { IfOk result (λ can. can ≡ false → entry_bound < mask_entries (R.level rows.now) table.now (R.masks rows.now)) }
+    ensures counted { OnOk result (counted.new ≡ true → mask_entries (R.level rows.now) table.now (R.masks rows.now) ≤ entry_bound) }
+{
+    let (_, left) = builder.room();
+    if *counted || count <= left {
+        return Ok(true);
+    }
+    match count_entries(alloc, table, rows)? {
+        Some(_) => {
+            *counted = true;
+            Ok(true)
+        }
+        None => Ok(false),
+    }
+}
+
+// Composes row `row` and appends it. Returns `false`, without the row, if all rows together have more than 2^27 entries.
 fn put_row<T: Natural, R: RowMasks>(
+    alloc: Global,
     table: &StencilTable,
     rows: &R,
     row: u32,
     den: u128,
     room: &mut Room<T, R::Room>,
     builder: &mut TableBuilder,
-) -> Result<(), Memory>
+) -> Result<bool, Memory>
     requires ready { R.IsReady rows.now }
     requires found { R.IsFound rows.now (dens_of table.now) }
     requires each { length table.now.rows ≡ (R.level rows.now).point_count }
@@ -170,7 +208,8 @@ fn put_row<T: Natural, R: RowMasks>(
     requires positive { 0 < den }
     requires short { den ≤ number_bound }
     requires fits { den ≤ T.most }
-    requires few { mask_entries (R.level rows.now) table.now (R.masks rows.now) ≤ entry_bound }
+    requires few { AreFew (mask_entries (R.level rows.now) table.now (R.masks rows.now)) (entries_of builder.old.table.rows) builder.old.room_entries }
+    requires counted { room.old.counted ≡ true → mask_entries (R.level rows.now) table.now (R.masks rows.now) ≤ entry_bound }
     requires clear { R.IsClear rows.now room.old.mask }
     requires points { room.old.points ≡ replicate (R.level rows.now).point_count 0 }
     requires controls { room.old.controls ≡ replicate table.now.controls 0 }
@@ -179,63 +218,76 @@ fn put_row<T: Natural, R: RowMasks>(
     ensures clear { OnOk result (R.IsClear rows.now room.new.mask) }
     ensures points { OnOk result (room.new.points ≡ replicate (R.level rows.now).point_count 0) }
     ensures controls { OnOk result (room.new.controls ≡ replicate table.now.controls 0) }
+    ensures counted { OnOk result (room.new.counted ≡ true → mask_entries (R.level rows.now) table.now (R.masks rows.now) ≤ entry_bound) }
     ensures same { OnOk result (builder.new.table.controls ≡ table.now.controls) }
-    ensures done { OnOk result (AreComposedRows (R.level rows.now) table.now (take (row + 1) (R.masks rows.now)) builder.new.table.rows) }
+    ensures few { IfOk result (λ put. put ≡ true → AreFew (mask_entries (R.level rows.now) table.now (R.masks rows.now)) (entries_of builder.new.table.rows) builder.new.room_entries) }
+    ensures done { IfOk result (λ put. put ≡ true → AreComposedRows (R.level rows.now) table.now (take (row + 1) (R.masks rows.now)) builder.new.table.rows) }
+    ensures many { IfOk result (λ put. put ≡ false → entry_bound < mask_entries (R.level rows.now) table.now (R.masks rows.now)) }
 {
     compose_row(table, rows, row, den, room)?;
-    put_entries(den, &room.entries, builder)
+    let count = room.entries.indices().len() as u64;
+    if !can_add(alloc, table, rows, builder, count, &mut room.counted)? {
+        return Ok(false);
+    }
+    put_entries(den, &room.entries, builder)?;
+    Ok(true)
 }
 
-// Puts all rows.
+// Composes and appends all rows. Returns `false` if they have more than 2^27 entries together.
 fn put_rows<T: Natural, R: RowMasks>(
+    alloc: Global,
     table: &StencilTable,
     rows: &R,
     dens: &[u128],
     room: &mut Room<T, R::Room>,
     builder: &mut TableBuilder,
-) -> Result<(), Memory>
+) -> Result<bool, Memory>
     requires ready { R.IsReady rows.now }
     requires found { R.IsFound rows.now (dens_of table.now) }
     requires each { length table.now.rows ≡ (R.level rows.now).point_count }
     requires dens { AreRowDenominators (R.level rows.now) table.now (R.masks rows.now) dens.now }
-    requires few { mask_entries (R.level rows.now) table.now (R.masks rows.now) ≤ entry_bound }
     requires fits { All (λ den. den ≤ T.most) dens.now }
     requires clear { R.IsClear rows.now room.old.mask }
     requires points { room.old.points ≡ replicate (R.level rows.now).point_count 0 }
     requires controls { room.old.controls ≡ replicate table.now.controls 0 }
+    requires counted { room.old.counted ≡ false }
     requires none { builder.old.table ≡ no_rows table.now.controls }
-    ensures { OnOk result (AreMaskRows (R.level rows.now) (R.masks rows.now) table.now builder.new.table) }
+    requires room { builder.old.room_entries ≤ entry_bound }
+    ensures { IfOk result (AreAdded (R.level rows.now) (R.masks rows.now) table.now builder.new.table) }
 {
     for row in 0..rows.count() {
         let den = dens[row as usize];
-        put_row(table, rows, row, den, room, builder)?;
+        if !put_row(alloc, table, rows, row, den, room, builder)? {
+            return Ok(false);
+        }
     }
-    Ok(())
+    Ok(true)
 }
 
-// Puts all rows, composed in numbers of one type.
+// Composes and appends all rows, with sums of type `T`. Returns `false` if they have more than 2^27 entries together.
 fn put_rows_as<T: Natural, R: RowMasks>(
     alloc: Global,
     table: &StencilTable,
     rows: &R,
     dens: &[u128],
     builder: &mut TableBuilder,
-) -> Result<(), Memory>
+) -> Result<bool, Memory>
     requires ready { R.IsReady rows.now }
     requires found { R.IsFound rows.now (dens_of table.now) }
     requires each { length table.now.rows ≡ (R.level rows.now).point_count }
     requires dens { AreRowDenominators (R.level rows.now) table.now (R.masks rows.now) dens.now }
-    requires few { mask_entries (R.level rows.now) table.now (R.masks rows.now) ≤ entry_bound }
     requires fits { All (λ den. den ≤ T.most) dens.now }
     requires none { builder.old.table ≡ no_rows table.now.controls }
-    ensures { OnOk result (AreMaskRows (R.level rows.now) (R.masks rows.now) table.now builder.new.table) }
+    requires room { builder.old.room_entries ≤ entry_bound }
+    ensures { IfOk result (AreAdded (R.level rows.now) (R.masks rows.now) table.now builder.new.table) }
 {
     let made = rows.room(alloc)?;
     let mut room = Room::<T, R::Room>::new(alloc, made, table.rows(), table.controls())?;
-    put_rows(table, rows, dens, &mut room, builder)
+    put_rows(alloc, table, rows, dens, &mut room, builder)
 }
 
-// Puts all rows, composed in a width that has their denominators.
+// Composes and appends all rows, with sums of the given width, which holds each denominator.
+// Returns `false` if the rows have more than 2^27 entries together.
 fn put_rows_in<R: RowMasks>(
     alloc: Global,
     table: &StencilTable,
@@ -243,15 +295,15 @@ fn put_rows_in<R: RowMasks>(
     dens: &[u128],
     width: Width,
     builder: &mut TableBuilder,
-) -> Result<(), Memory>
+) -> Result<bool, Memory>
     requires ready { R.IsReady rows.now }
     requires found { R.IsFound rows.now (dens_of table.now) }
     requires each { length table.now.rows ≡ (R.level rows.now).point_count }
     requires dens { AreRowDenominators (R.level rows.now) table.now (R.masks rows.now) dens.now }
-    requires few { mask_entries (R.level rows.now) table.now (R.masks rows.now) ≤ entry_bound }
     requires fits { All (λ den. den ≤ most_of width) dens.now }
     requires none { builder.old.table ≡ no_rows table.now.controls }
-    ensures { OnOk result (AreMaskRows (R.level rows.now) (R.masks rows.now) table.now builder.new.table) }
+    requires room { builder.old.room_entries ≤ entry_bound }
+    ensures { IfOk result (AreAdded (R.level rows.now) (R.masks rows.now) table.now builder.new.table) }
 {
     match width {
         Width::Narrow => put_rows_as::<u64, R>(alloc, table, rows, dens, builder),
@@ -259,7 +311,7 @@ fn put_rows_in<R: RowMasks>(
     }
 }
 
-// The greatest of some denominators, and 1 of none.
+// Returns the greatest denominator, or 1 for an empty list.
 fn greatest_denominator(dens: &[u128]) -> u128
     ensures { result ≡ fold max 1 dens.now }
 {
@@ -270,56 +322,38 @@ fn greatest_denominator(dens: &[u128]) -> u128
     greatest
 }
 
-// The narrowest width that has all these denominators.
+// Returns the narrowest width that holds every denominator.
 fn width_of_rows(dens: &[u128]) -> Width
     ensures { result ≡ width_for (fold max 1 dens.now) }
 {
     width_of(greatest_denominator(dens))
 }
 
-/// All rows, in a table that has room for so many entries at first.
+/// Returns the table of the rows, whose common denominators are `dens`. The table starts with capacity for `room` entries.
+///
+/// If the rows need more, this counts the entries of all rows once, and the table grows. The error is
+/// [`RowFault::TooManyEntries`] if they have more than 2^27 entries together, or [`RowFault::Memory`].
 pub(crate) fn compose_rows<R: RowMasks>(
     alloc: Global,
     table: &StencilTable,
     rows: &R,
     dens: &[u128],
     room: u64,
-) -> Result<StencilTable, Memory>
-    requires ready { R.IsReady rows.now }
-    requires found { R.IsFound rows.now (dens_of table.now) }
-    requires each { length table.now.rows ≡ (R.level rows.now).point_count }
-    requires dens { AreRowDenominators (R.level rows.now) table.now (R.masks rows.now) dens.now }
-    requires few { mask_entries (R.level rows.now) table.now (R.masks rows.now) ≤ entry_bound }
-    requires room { room ≤ entry_bound }
-    ensures { IfOk result (λ composed. AreMaskRows (R.level rows.now) (R.masks rows.now) table.now composed) }
-{
-    table.facts();
-    let width = width_of_rows(dens);
-    // Each row has an entry, so that there are no more rows.
-    let most = rows.count().min(ENTRY_BOUND as u32);
-    let mut builder = TableBuilder::with_room(alloc, table.controls(), most, room, width)?;
-    put_rows_in(alloc, table, rows, dens, width, &mut builder)?;
-    Ok(builder.finish())
-}
-
-/// The table of rows whose common denominators were found.
-pub(crate) fn compose_found<R: RowMasks>(
-    alloc: Global,
-    table: &StencilTable,
-    rows: &R,
-    dens: &[u128],
 ) -> Result<StencilTable, RowFault>
     requires ready { R.IsReady rows.now }
     requires found { R.IsFound rows.now (dens_of table.now) }
     requires each { length table.now.rows ≡ (R.level rows.now).point_count }
     requires dens { AreRowDenominators (R.level rows.now) table.now (R.masks rows.now) dens.now }
+    requires room { room ≤ entry_bound }
     ensures { IsRowComposition (R.level rows.now) (R.masks rows.now) table.now result }
 {
-    match count_entries(alloc, table, rows)? {
-        Some(entries) => {
-            let composed = compose_rows(alloc, table, rows, dens, entries)?;
-            Ok(composed)
-        }
-        None => Err(RowFault::TooManyEntries),
+    table.facts();
+    let width = width_of_rows(dens);
+    // Each row has at least one entry, so a table within its bound has at most 2^27 rows.
+    let most = rows.count().min(ENTRY_BOUND as u32);
+    let mut builder = TableBuilder::with_room(alloc, table.controls(), most, room, width)?;
+    if !put_rows_in(alloc, table, rows, dens, width, &mut builder)? {
+        return Err(RowFault::TooManyEntries);
     }
+    Ok(builder.finish())
 }

@@ -1,4 +1,4 @@
-//! The table of the control points themselves.
+//! Builds the table of the control points: each row is one control point.
 
 ghost use Rattle.std.specs.Prelude.{◌≡◌, ◌≤◌, ◌^◌, IfOk};
 ghost use Rattle.stencil_factory.specs.Composed.{identity_table};
@@ -8,7 +8,9 @@ use ratio128::Memory;
 use std::alloc::Global;
 use stencil_apply::{Entry, StencilTable, TableBuilder};
 
-/// The table whose rows are the control points themselves, at most 2^27: each has its own point alone, 1 over 1.
+/// Returns the table of the control points: row `v` has one entry, control point `v` with numerator 1 over the denominator 1.
+///
+/// `points` is at most 2^27. The error is `Memory`: memory ran out.
 pub fn identity(alloc: Global, points: u32) -> Result<StencilTable, Memory>
     requires { points ≤ 2 ^ 27 }
     ensures { IfOk result (λ table. table ≡ identity_table points) }

@@ -1,4 +1,4 @@
-//! How many entries the rows of a step have, without their numerators.
+//! Counts the entries of composed rows without computing their numerators.
 
 ghost use Rattle.std.specs.Prelude.{◌≡◌, ◌+◌, ◌^◌, ◌<◌, ◌≤◌, [], nat_eq, length, replicate, set, IfOk, OnOk, MatchOption};
 ghost use Rattle.std.specs.List.{All, count_by};
@@ -15,8 +15,8 @@ use ratio128::limits::ENTRY_BOUND;
 use std::alloc::Global;
 use stencil_apply::StencilTable;
 
-// Where rows are counted: the mask of a row, the points of a level that it names, and a mark for each control point, that of
-// the last row that met it.
+// The buffers for counting: the mask of a row, the points of the level that it names, and a mark for each control point.
+// A control point's mark is 1 more than the last row that depends on it, or 0.
 #[derive(Drop)]
 struct Marks<M> {
     mask: M,
@@ -25,7 +25,7 @@ struct Marks<M> {
 }
 
 impl<M: Drop> Marks<M> {
-    // Marks of 0 for so many control points, and so many points that are not met.
+    // Returns buffers with `controls` marks of 0 and an empty set of the `points` points of the level.
     fn new(alloc: Global, mask: M, points: u32, controls: u32) -> Result<Marks<M>, Memory>
         ensures { IfOk result (λ room. (room.mask ≡ mask) × (room.points ≡ record { count = points; mark = 1; met = [] }) × (room.marks.items ≡ replicate controls 0)) }
     {
@@ -37,7 +37,7 @@ impl<M: Drop> Marks<M> {
     }
 }
 
-// Puts a mark at a place, and answers 1 where another was there.
+// Writes `mark` at a place. Returns 1 if that changed the place's mark, and 0 otherwise.
 fn put_mark(marks: &mut Vec<u32>, place: u32, mark: u32) -> u64
     requires { place < length marks.old.items }
     ensures marked { marks.new.items ≡ set marks.old.items place mark }
@@ -48,7 +48,7 @@ fn put_mark(marks: &mut Vec<u32>, place: u32, mark: u32) -> u64
     u64::from(fresh)
 }
 
-// Puts a mark at each of these places, and counts those where another was.
+// Writes `mark` at each of the places. Returns how many places changed their mark.
 fn mark_all(marks: &mut Vec<u32>, places: &[u32], mark: u32) -> u64
     requires { All (λ place. place < length marks.old.items) places.now }
     ensures marked { marks.new.items ≡ marked_all mark places.now marks.old.items }
@@ -63,7 +63,7 @@ fn mark_all(marks: &mut Vec<u32>, places: &[u32], mark: u32) -> u64
     fresh
 }
 
-// The same for the control points of the rows of these points.
+// Writes `mark` at each control point in the rows of the points. Returns how many control points changed their mark.
 fn mark_rows(table: &StencilTable, points: &[u32], marks: &mut Vec<u32>, mark: u32) -> u64
     requires inside { All (λ point. point < length table.now.rows) points.now }
     requires each { length marks.old.items ≡ table.now.controls }
@@ -80,7 +80,7 @@ fn mark_rows(table: &StencilTable, points: &[u32], marks: &mut Vec<u32>, mark: u
     fresh
 }
 
-// How many entries a row has.
+// Returns how many entries row `row` has.
 fn count_row<R: RowMasks>(
     table: &StencilTable,
     rows: &R,
@@ -108,7 +108,7 @@ fn count_row<R: RowMasks>(
     Ok(mark_rows(table, points, &mut room.marks, row + 1))
 }
 
-/// How many entries all rows have, where they are at most 2^27.
+/// Returns how many entries all rows have together, or `None` if these are more than 2^27.
 pub(crate) fn count_entries<R: RowMasks>(
     alloc: Global,
     table: &StencilTable,

@@ -1,4 +1,4 @@
-//! The entries of a row: places, and a number for each.
+//! The entries of a row: a list of places with a number for each.
 
 ghost use Rattle.std.specs.Prelude.{◌≡◌, ◌+◌, ◌<◌, ◌≤◌, [], ◌++◌, length, map, get_or, set, OnOk, OnErr};
 ghost use Rattle.std.specs.List.{All};
@@ -11,7 +11,7 @@ use std::alloc::Global;
 use std::marker::Model;
 use std::mem::swap;
 
-/// Places, and a number for each.
+/// A list of places with a number for each: points with weights, or control points with numerators.
 #[derive(Drop)]
 pub(crate) struct Entries<T: Natural> {
     indices: Vec<u32>,
@@ -30,7 +30,7 @@ impl<T: Natural> Model for Entries<T> {
     ghost invariant = { λ e. length e.numerators.items ≡ length e.indices.items };
 }
 
-// Takes the sum of a place, and leaves 0 there.
+// Returns the sum at a place and writes 0 there.
 fn take_sum<T: Natural>(sums: &mut Vec<T>, place: u32) -> T
     requires { place < length sums.old.items }
     ensures sum { T.value result ≡ get_or (map T.value sums.old.items) place 0 }
@@ -42,7 +42,7 @@ fn take_sum<T: Natural>(sums: &mut Vec<T>, place: u32) -> T
     sum
 }
 
-// Puts the sums of places behind the numbers, and leaves zeros there. There is capacity, so this takes no memory.
+// Appends the sum of each place to the numbers and writes 0 there. The numbers have the capacity, so this takes no memory.
 fn move_sums<T: Natural>(sums: &mut Vec<T>, places: &[u32], numbers: &mut Vec<T>)
     requires inside { All (λ place. place < length sums.old.items) places.now }
     requires space { length numbers.old.items + length places.now ≤ vec_capacity numbers.old }
@@ -55,7 +55,7 @@ fn move_sums<T: Natural>(sums: &mut Vec<T>, places: &[u32], numbers: &mut Vec<T>
 }
 
 impl<T: Natural> Entries<T> {
-    /// No entries.
+    /// Returns an empty list.
     pub(crate) fn new(alloc: Global) -> Entries<T>
         ensures { result ≡ [] }
     {
@@ -65,22 +65,23 @@ impl<T: Natural> Entries<T> {
         }
     }
 
-    /// The places, in their order.
+    /// Returns the places, in the order of the entries.
     pub(crate) fn indices(&self) -> &[u32]
         ensures { result.now ≡ map (λ share. share.0) self.now }
     {
         &self.indices
     }
 
-    /// The numbers, in the order of their places.
+    /// Returns the numbers, in the order of the entries.
     pub(crate) fn numerators(&self) -> &[T]
         ensures { map T.value result.now ≡ map (λ share. share.1) self.now }
     {
         &self.numerators
     }
 
-    /// Puts these places and their sums in the place of the entries. It leaves zeros there, and no places. After an error the
-    /// places and the sums are as they were.
+    /// Replaces the entries by the places and their sums. The sums of these places become 0, and `places` becomes empty.
+    ///
+    /// The error is `Memory`. After an error the places and the sums are unchanged.
     pub(crate) fn replace(&mut self, places: &mut Vec<u32>, sums: &mut Vec<T>) -> Result<(), Memory>
         requires inside { All (λ place. place < length sums.old.items) places.old.items }
         ensures entries { OnOk result (self.new ≡ moved places.old.items (map T.value sums.old.items)) }

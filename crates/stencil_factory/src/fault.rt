@@ -1,15 +1,18 @@
-//! Why a step has no table.
+//! The faults of `compose_level`.
 
 use ratio128::Memory;
 
-/// Why the points of a child have no rows: the first reason, each looked for over the whole level.
+/// The reason why [`compose_level`](crate::compose_level) returned no table.
+///
+/// A later variant is only reported if the whole level has none of the earlier faults. `Memory` can occur at any time.
 #[derive(Clone, Copy, Debug, PartialEq, Eq)]
 pub enum TableFault {
-    /// The denominator of the weight between the two rules of a vertex of the parent passes 2^60: the least such vertex.
+    /// At a vertex of the parent, the weight between the rules of two levels has a denominator above 2^60. `point` is the least such
+    /// vertex among those with a child point.
     Transition { point: u32 },
-    /// The common denominator of a point passes 2^126 - 1: the least such point of the child.
+    /// The common denominator of a child point is above 2^126 - 1. `point` is the least such point of the child.
     Denominator { point: u32 },
-    /// The rows would have more than 2^27 entries.
+    /// The rows of the child would have more than 2^27 entries together.
     TooManyEntries,
     /// Memory ran out.
     Memory,

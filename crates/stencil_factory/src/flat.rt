@@ -1,4 +1,4 @@
-//! The terms of a mask, added as amounts at points of the level: the new points of faces are taken apart into their corners.
+//! Adds the terms of a mask as weights of the level's points. A face point becomes equal weights of the corners of its face.
 
 ghost use Rattle.std.specs.Prelude.{◌≡◌, ◌*◌, ◌/◌, ◌<◌, ◌≤◌, [], ◌∷◌, length, get_or, OnOk};
 ghost use Rattle.std.specs.List.{All, AllByRecursion};
@@ -14,7 +14,7 @@ use mask_rules::{At, Term};
 use number_width::Natural;
 use ratio128::{Memory, quotient};
 
-/// A weight over a multiple of a denominator. Where both are one number nothing is divided.
+/// Returns `weight * (multiple / den)`. It skips the division if `den` equals `multiple`.
 pub(crate) fn weight_over(weight: u128, multiple: u128, den: u128) -> u128
     requires positive { 0 < den }
     requires small { weight * (multiple / den) ≤ number_bound }
@@ -26,7 +26,7 @@ pub(crate) fn weight_over(weight: u128, multiple: u128, den: u128) -> u128
     weight * quotient(multiple, den)
 }
 
-/// Adds a factor at each corner, over a multiple of the corners' denominators.
+/// Adds `factor * (multiple / den)` at each corner, where `den` is the corner's denominator.
 pub(crate) fn add_corners<T: Natural>(
     scratch: &mut Scratch<T>,
     corners: &[u32],
@@ -48,7 +48,7 @@ pub(crate) fn add_corners<T: Natural>(
     Ok(())
 }
 
-/// Adds a weight of a point over a multiple of its denominator.
+/// Adds `weight * (multiple / den)` at a point, where `den` is the point's denominator.
 pub(crate) fn add_point<T: Natural>(
     scratch: &mut Scratch<T>,
     point: u32,
@@ -65,7 +65,7 @@ pub(crate) fn add_point<T: Natural>(
     scratch.add(point, T::of(amount))
 }
 
-// Adds a term over a multiple of its source's denominator.
+// Adds one term of a mask, over `multiple`, a multiple of the denominator of the term's source.
 fn add_term<T: Natural>(
     scratch: &mut Scratch<T>,
     parent: &Level,
@@ -100,7 +100,7 @@ fn add_term<T: Natural>(
     }
 }
 
-/// Adds the terms of a mask over a multiple of the denominators of all their sources.
+/// Adds all terms of a mask, over `multiple`, a common multiple of the denominators of their sources.
 pub(crate) fn add_terms<T: Natural>(
     scratch: &mut Scratch<T>,
     parent: &Level,

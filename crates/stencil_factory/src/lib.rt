@@ -1,6 +1,9 @@
-//! Tables of stencils: composed from the masks of a step, and the table of the control points themselves.
+//! Composes stencil tables: of a refinement step, of masks that the caller supplies, or of the control points themselves.
 //!
-//! Source: OpenSubdiv's Far layer for stencil tables; exact numerators over a common denominator are this profile's.
+//! A new table has the control points of the given table. A row gives its common denominator, then the control points it depends
+//! on, ascending, each with its numerator above 0. A table has at most 2^27 entries. Points and rows are counted from 0.
+//!
+//! Source: stencil tables of OpenSubdiv's Far layer, with exact weights.
 #![tactic(auto)]
 
 mod child_rows;

@@ -1,4 +1,4 @@
-//! Places that are met, each of which is listed once.
+//! A set of places that lists each of its members once and empties without clearing its marks.
 
 ghost use Rattle.std.specs.Prelude.{◌≡◌, ◌+◌, ◌^◌, ◌<◌, [], length, IfOk, OnOk, OnErr};
 ghost use Rattle.std.specs.List.{All};
@@ -8,7 +8,7 @@ use ratio128::Memory;
 use std::alloc::Global;
 use std::marker::Model;
 
-/// The places that were met since the last start, and for each place the number of the last start since which it was met.
+/// A set of places. A place is a member if its mark equals the current mark; `places` lists the members in the order they came.
 #[derive(Drop)]
 pub(crate) struct Met {
     marks: Vec<u32>,
@@ -27,7 +27,7 @@ impl Model for Met {
     ghost invariant = { λ m. AreMet m.mark m.places.items m.marks.items };
 }
 
-// Notes a place, unless its mark is the last one.
+// Appends a place to the list, unless its mark `own` is the current mark.
 fn note(places: &mut Vec<u32>, place: u32, own: u32, mark: u32) -> Result<(), Memory>
     ensures noted { OnOk result (places.new.items ≡ noted_with place own mark places.old.items) }
     ensures same { OnErr result (places.new.items ≡ places.old.items) }
@@ -39,7 +39,7 @@ fn note(places: &mut Vec<u32>, place: u32, own: u32, mark: u32) -> Result<(), Me
 }
 
 impl Met {
-    /// So many places, of which none is met.
+    /// Returns an empty set of places below `count`.
     pub(crate) fn new(alloc: Global, count: u32) -> Result<Met, Memory>
         ensures { IfOk result (λ met. met ≡ record { count = count; mark = 1; met = [] }) }
     {
@@ -50,7 +50,7 @@ impl Met {
         })
     }
 
-    /// From here on no place is met.
+    /// Empties the set, with a new mark.
     pub(crate) fn start(&mut self)
         requires { self.old.mark + 1 < 2 ^ 32 }
         ensures { self.new ≡ record { count = self.old.count; mark = self.old.mark + 1; met = [] } }
@@ -59,7 +59,7 @@ impl Met {
         self.places.clear();
     }
 
-    /// The place is met.
+    /// Adds a place to the set. The error is `Memory`.
     pub(crate) fn add(&mut self, place: u32) -> Result<(), Memory>
         requires { place < self.old.count }
         ensures { OnOk result (self.new ≡ with_place place self.old) }
@@ -71,7 +71,7 @@ impl Met {
         Ok(())
     }
 
-    /// These places are met.
+    /// Adds several places to the set. The error is `Memory`.
     pub(crate) fn add_all(&mut self, places: &[u32]) -> Result<(), Memory>
         requires { All (λ place. place < self.old.count) places.now }
         ensures { OnOk result (self.new ≡ with_places places.now self.old) }
@@ -84,7 +84,7 @@ impl Met {
         Ok(())
     }
 
-    /// The places that are met, each once.
+    /// Returns the members, each once, in the order they came.
     pub(crate) fn places(&self) -> &[u32]
         ensures places { result.now ≡ self.now.met }
         ensures inside { All (λ place. place < self.now.count) result.now }

@@ -1,4 +1,4 @@
-//! The points of a level that the mask of a child point names. A new point of a face names the corners.
+//! Finds the points of a level that the mask of a child point names. A face point names the corners of its face.
 
 ghost use Rattle.std.specs.Prelude.{◌≡◌, ◌+◌, ◌^◌, ◌<◌, length, get_or, OnOk};
 ghost use Rattle.std.specs.List.{AllByRecursion};
@@ -15,7 +15,7 @@ use level_topology::{Child, Level};
 use mask_rules::{At, MadeMask, Scheme, Term};
 use ratio128::Memory;
 
-// Meets the points that a term names.
+// Adds the points that a term names to the set.
 fn name_term(met: &mut Met, parent: &Level, term: &Term) -> Result<(), Memory>
     requires { CanName parent.now.level met.old.count (source_of term.now.at) }
     ensures { OnOk result (met.new ≡ with_places (points_of parent.now.level (source_of term.now.at)) met.old) }
@@ -26,7 +26,7 @@ fn name_term(met: &mut Met, parent: &Level, term: &Term) -> Result<(), Memory>
     }
 }
 
-// Meets those that the terms name.
+// Adds the points that the terms name to the set.
 fn name_terms(met: &mut Met, parent: &Level, terms: &[Term]) -> Result<(), Memory>
     requires { AllByRecursion (CanNameTerm parent.now.level met.old.count) (terms_of terms.now) }
     ensures { OnOk result (met.new ≡ with_terms parent.now.level (terms_of terms.now) met.old) }
@@ -39,7 +39,7 @@ fn name_terms(met: &mut Met, parent: &Level, terms: &[Term]) -> Result<(), Memor
     Ok(())
 }
 
-/// Meets the points of a level that the mask of a child point names, and no others.
+/// Empties the set, then adds the points of the level that the mask of child point `p` names.
 pub(crate) fn name_point(
     parent: &Level,
     child: &Child,

@@ -1,4 +1,4 @@
-//! The table of masks over the points of a level, in one visit of the masks and in numerators of 64 bits.
+//! Composes the table of masks in one visit, with numerators of 64 bits.
 
 ghost use Rattle.std.specs.Prelude.{◌≡◌, ◌+◌, ◌^◌, ◌<◌, ◌≤◌, length, replicate, take, true, IfOk, OnOk, IfSome};
 ghost use Rattle.stencil_apply.specs.Table.{entries_of};
@@ -18,10 +18,10 @@ use ratio128::{Memory, times_within};
 use std::alloc::Global;
 use stencil_apply::{StencilTable, TableBuilder};
 
-// The greatest denominator of 64 bits.
+// The greatest number of 64 bits, the bound of denominators here.
 const WORD_BOUND: u128 = u64::MAX as u128;
 
-// Where rows are composed: the weights of a row, and from them the entries of control points.
+// The buffers for one row: the weights of the level's points and the entries of the control points.
 #[derive(Drop)]
 struct NarrowRoom {
     weights: PointWeights,
@@ -30,7 +30,7 @@ struct NarrowRoom {
 }
 
 impl NarrowRoom {
-    // Room for rows over so many control points.
+    // Returns buffers for rows over `controls` control points. All sums are 0.
     fn new(alloc: Global, controls: u32) -> Result<NarrowRoom, Memory>
         ensures { IfOk result (λ room. room.controls ≡ replicate controls 0) }
     {
@@ -42,7 +42,7 @@ impl NarrowRoom {
     }
 }
 
-// Puts the entries of a row in their place, and returns its denominator, or 0 where that has more than 64 bits.
+// Replaces `room.entries` by the entries of row `row`. Returns the row's denominator, or 0 if it has more than 64 bits.
 fn compose_row<M: PointMasks>(
     table: &StencilTable,
     masks: &M,
@@ -68,7 +68,7 @@ fn compose_row<M: PointMasks>(
     Ok(den)
 }
 
-// Puts the row of a mask after those of the masks before it, and returns whether it has 64 bits and there is room for its entries.
+// Composes row `row` and appends it. Returns `false`, without the row, if its denominator has more than 64 bits or the table is full.
 fn put_row<M: PointMasks>(
     table: &StencilTable,
     masks: &M,
@@ -96,7 +96,7 @@ fn put_row<M: PointMasks>(
     Ok(true)
 }
 
-// Puts all rows, and returns whether each has 64 bits and there is room for all entries.
+// Composes and appends all rows. Returns `false` if a denominator has more than 64 bits or the table is full.
 fn put_rows<M: PointMasks>(
     table: &StencilTable,
     masks: &M,
@@ -117,7 +117,7 @@ fn put_rows<M: PointMasks>(
     Ok(true)
 }
 
-// Puts all rows into a table that has room for so many entries.
+// Allocates the buffers, then composes and appends all rows. Returns `false` if a denominator has more than 64 bits or the table is full.
 fn put_in_room<M: PointMasks>(
     alloc: Global,
     table: &StencilTable,
@@ -133,8 +133,10 @@ fn put_in_room<M: PointMasks>(
     put_rows(table, masks, &mut room, builder)
 }
 
-/// The table of the masks, where each common denominator has 64 bits and the rows have at most three times as many entries as the table
-/// of the points. It is made in one visit of the masks. Where it is not made the rows up to the first that does not fit were composed.
+/// Returns the table of the masks, made in one visit of the masks.
+///
+/// It returns `None` if a common denominator has more than 64 bits, or if the rows have too many entries: more than three times those
+/// of `table`, or more than 2^27. It composes rows until it finds that out.
 pub(crate) fn compose_narrow<M: PointMasks>(
     alloc: Global,
     table: &StencilTable,

@@ -1,4 +1,4 @@
-//! Masks over the points of a level, as a caller tells them.
+//! The trait by which a caller supplies masks over the points of a level.
 
 ghost use Rattle.std.specs.Prelude.{◌≡◌, ◌-◌, ◌^◌, ◌<◌, ◌≤◌, [], ◌++◌, ◌∷◌, List, length, OnOk};
 ghost use Rattle.subdiv_model.specs.Mask.{OfPoint, weigh};
@@ -9,7 +9,7 @@ use ratio128::Memory;
 use std::alloc::Global;
 use std::marker::Model;
 
-/// Weights of points over a denominator, put one after another.
+/// The mask of one row: a list of points with their weights, over one denominator.
 #[derive(Drop)]
 pub struct PointWeights {
     weights: Vec<(u32, u128)>,
@@ -29,7 +29,7 @@ impl Model for PointWeights {
 }
 
 impl PointWeights {
-    /// No weight over 0.
+    /// Returns an empty list over the denominator 0.
     pub(crate) fn new(alloc: Global) -> PointWeights
         ensures { result ≡ record { terms = []; denominator = 0 } }
     {
@@ -39,7 +39,7 @@ impl PointWeights {
         }
     }
 
-    /// No weight over a denominator.
+    /// Removes all weights and sets the denominator.
     pub fn start(&mut self, denominator: u128)
         ensures { self.new ≡ record { terms = []; denominator = denominator } }
     {
@@ -47,7 +47,9 @@ impl PointWeights {
         self.denominator = denominator;
     }
 
-    /// A weight more. A point may be named more than once, and a weight may be 0.
+    /// Appends a point with its weight. A point may occur more than once: its weights add up. A weight may be 0.
+    ///
+    /// The error is `Memory`: memory ran out.
     pub fn put(&mut self, point: u32, weight: u128) -> Result<(), Memory>
         ensures { OnOk result (self.new ≡ record { terms = self.old.terms ++ weigh weight (OfPoint point) ∷ []; denominator = self.old.denominator }) }
     {
@@ -55,7 +57,7 @@ impl PointWeights {
         Ok(())
     }
 
-    /// The weights, as they were put.
+    /// Returns the points with their weights, in the order they came.
     pub(crate) fn weights(&self) -> &[(u32, u128)]
         ensures terms { terms_of_shares result.now ≡ self.now.terms }
         ensures short { self.now.denominator ≤ 2 ^ 128 - 1 }
@@ -63,7 +65,7 @@ impl PointWeights {
         &self.weights
     }
 
-    /// The denominator.
+    /// Returns the denominator.
     pub(crate) fn denominator(&self) -> u128
         ensures { result ≡ self.now.denominator }
     {
@@ -71,24 +73,26 @@ impl PointWeights {
     }
 }
 
-/// Masks over the points of a level, one for each row of a table that is composed from the table of these points.
+/// Masks over the points of a level. [`compose_masks`](crate::compose_masks) makes one row of each mask.
 pub trait PointMasks {
     ghost use Rattle.std.specs.Prelude.{List};
     ghost use Rattle.subdiv_model.specs.Level.{Level};
     ghost use Rattle.subdiv_model.specs.Mask.{Mask};
 
-    /// The level.
+    /// The level whose points the masks use.
     ghost level: { Self → Level };
 
     /// The masks, in the order of the rows.
     ghost masks: { Self → List Mask };
 
-    /// How many masks there are, at most 2^30.
+    /// Returns the number of masks, at most 2^30.
     fn count(&self) -> u32
         ensures count { result ≡ length (masks self.now) }
         ensures few { result ≤ 2 ^ 30 };
 
-    /// Puts the weights of a mask in the place of those of the one before. Masks are counted from 0.
+    /// Replaces `weights` by the weights of mask `row`, counted from 0. Call [`PointWeights::start`], then [`PointWeights::put`].
+    ///
+    /// Every point is a point of the level. The weights sum to the denominator, which is above 0. The error is `Memory`.
     fn put(&self, row: u32, weights: &mut PointWeights) -> Result<(), Memory>
         requires { row < length (masks self.now) }
         ensures { OnOk result (AreWeightsOf (level self.now).point_count (mask_at (masks self.now) row) weights.new) };

@@ -1,4 +1,4 @@
-//! Masks over the points of a level, as rows.
+//! Implements `RowMasks` for masks that the caller supplies.
 
 use crate::met::Met;
 use crate::point_masks::{PointMasks, PointWeights};
@@ -9,7 +9,7 @@ use number_width::Natural;
 use ratio128::{Memory, quotient};
 use std::alloc::Global;
 
-/// Masks over the points of a level.
+/// The masks that the caller supplies.
 #[derive(Drop)]
 pub(crate) struct PointRows<'a, M> {
     pub(crate) masks: &'a M,

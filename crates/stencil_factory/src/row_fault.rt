@@ -1,13 +1,15 @@
-//! Why rows of masks have no table.
+//! The faults of `compose_masks`.
 
 use ratio128::Memory;
 
-/// Why rows of masks have no table: the first reason, each looked for over all rows.
+/// The reason why [`compose_masks`](crate::compose_masks) returned no table.
+///
+/// A later variant is only reported if no row has an earlier fault. `Memory` can occur at any time.
 #[derive(Clone, Copy, Debug, PartialEq, Eq)]
 pub enum RowFault {
-    /// The common denominator of a row passes 2^126 - 1: the least such row. Rows are counted from 0.
+    /// The common denominator of a row is above 2^126 - 1. `row` is the least such row, counted from 0.
     Denominator { row: u32 },
-    /// The rows would have more than 2^27 entries.
+    /// The rows would have more than 2^27 entries together.
     TooManyEntries,
     /// Memory ran out.
     Memory,

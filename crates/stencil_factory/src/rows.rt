@@ -1,4 +1,4 @@
-//! What composing asks of the masks of rows.
+//! The trait of masks that the crate composes rows from: those of a child, or those of the caller.
 
 ghost use Rattle.std.specs.Prelude.{◌≡◌, ◌+◌, ◌^◌, ◌<◌, ◌≤◌, ℕ, List, length, replicate, IfOk, OnOk};
 ghost use Rattle.subdiv_model.specs.Refined.{mask_denominator, source_denominator};
@@ -16,40 +16,40 @@ use std::alloc::Global;
 
 /// Masks over the points of a level, one for each row.
 pub(crate) trait RowMasks {
-    /// Where the mask of a row is made.
+    /// The buffer for the mask of one row.
     type Room: Drop;
 
     ghost use Rattle.std.specs.Prelude.{List};
     ghost use Rattle.subdiv_model.specs.Level.{Level};
     ghost use Rattle.subdiv_model.specs.Mask.{Mask};
 
-    /// The level.
+    /// The level whose points the masks use.
     ghost level: { Self → Level };
 
     /// The masks, in the order of the rows.
     ghost masks: { Self → List Mask };
 
-    /// Each mask can be had.
+    /// The calls below can be made.
     ghost IsReady: { Self → Type 0 };
 
-    /// What is known of the masks is over these denominators of the points.
+    /// The value was prepared with these denominators of the level's points.
     ghost IsFound: { Self → List ℕ → Type 0 };
 
-    /// A room in which nothing of a mask is left.
+    /// The buffer can take the mask of another row.
     ghost IsClear: { Self → Self.Room → Type 0 };
 
-    /// Room for the masks.
+    /// Returns a buffer for the mask of one row.
     fn room(&self, alloc: Global) -> Result<Self::Room, Memory>
         requires { IsReady self.now }
         ensures { IfOk result (λ room. IsClear self.now room) };
 
-    /// How many masks there are.
+    /// Returns the number of masks, at most 2^30.
     fn count(&self) -> u32
         requires { IsReady self.now }
         ensures count { result ≡ length (masks self.now) }
         ensures few { result ≤ 2 ^ 30 };
 
-    /// Meets the points that a mask names, and no others.
+    /// Empties the set `met`, then adds the points that mask `row` names.
     fn name(&self, row: u32, room: &mut Self::Room, met: &mut Met) -> Result<(), Memory>
         requires ready { IsReady self.now }
         requires known { row < length (masks self.now) }
@@ -59,8 +59,8 @@ pub(crate) trait RowMasks {
         ensures named { OnOk result (AreNamed (level self.now) (mask_at (masks self.now) row) (met.old.mark + 1) met.new) }
         ensures clear { OnOk result (IsClear self.now room.new) };
 
-    /// Adds the weights of a mask to zeros, one for each point of the level, by the mask's common denominator and those of the
-    /// points.
+    /// Adds the weights of mask `row` to `scratch`, which has a 0 for each point of the level. `den` is the mask's common
+    /// denominator, and `dens` are the denominators of the points. Each weight is the factor for the row of its point.
     fn weigh<T: Natural>(
         &self,
         row: u32,

@@ -1,4 +1,4 @@
-//! Sums by place, of which only those that were touched are cleared.
+//! A sum for each place. Clearing the sums visits only the places that changed.
 
 ghost use Rattle.std.specs.Prelude.{◌≡◌, ◌+◌, ◌*◌, ◌<◌, ◌≤◌, length, map, replicate, IfOk, OnOk, OnErr};
 ghost use Rattle.std.specs.List.{All, zip};
@@ -12,7 +12,7 @@ use ratio128::Memory;
 use std::alloc::Global;
 use std::marker::Model;
 
-/// A sum for each place, and the places whose sum is not 0.
+/// A sum for each place, with a list of the places whose sum is not 0.
 #[derive(Drop)]
 pub(crate) struct Scratch<T: Natural> {
     sums: Vec<T>,
@@ -30,7 +30,7 @@ impl<T: Natural> Model for Scratch<T> {
     ghost invariant = { λ s. AreTouched s.touched.items (map T.value s.sums.items) };
 }
 
-// Notes a place whose sum was 0 until now.
+// Appends a place to the list if its sum was 0.
 fn touch(touched: &mut Vec<u32>, place: u32, sum: u128) -> Result<(), Memory>
     ensures noted { OnOk result (touched.new.items ≡ touched_with place sum touched.old.items) }
     ensures same { OnErr result (touched.new.items ≡ touched.old.items) }
@@ -41,7 +41,7 @@ fn touch(touched: &mut Vec<u32>, place: u32, sum: u128) -> Result<(), Memory>
     Ok(())
 }
 
-// So many zeros.
+// Returns a list of `count` zeros.
 fn zeros<T: Natural>(alloc: Global, count: u32) -> Result<Vec<T>, Memory>
     ensures { IfOk result (λ zeros. map T.value zeros.items ≡ replicate count 0) }
 {
@@ -53,7 +53,7 @@ fn zeros<T: Natural>(alloc: Global, count: u32) -> Result<Vec<T>, Memory>
 }
 
 impl<T: Natural> Scratch<T> {
-    /// Zeros at so many places.
+    /// Returns the sums of `places` places, all 0.
     pub(crate) fn new(alloc: Global, places: u32) -> Result<Scratch<T>, Memory>
         ensures { IfOk result (λ scratch. scratch ≡ replicate places 0) }
     {
@@ -63,7 +63,7 @@ impl<T: Natural> Scratch<T> {
         })
     }
 
-    // Adds a product above 0 at a place. All sums together stay within the width.
+    // Adds a product above 0 at a place. All sums together stay within the width of `T`.
     fn add_product(&mut self, place: u32, factor: T, other: T) -> Result<(), Memory>
         requires inside { place < length self.old }
         requires some { 0 < T.value factor * T.value other }
@@ -77,7 +77,7 @@ impl<T: Natural> Scratch<T> {
         Ok(())
     }
 
-    /// Adds an amount above 0 at a place. All sums together stay within the width.
+    /// Adds an amount above 0 at a place. All sums together stay within the width of `T`.
     pub(crate) fn add(&mut self, place: u32, amount: T) -> Result<(), Memory>
         requires inside { place < length self.old }
         requires some { 0 < T.value amount }
@@ -87,7 +87,7 @@ impl<T: Natural> Scratch<T> {
         self.add_product(place, amount, T::of(1))
     }
 
-    /// Adds numerators of any width times a factor, each at the place of its index. All sums together stay within the width.
+    /// Adds `factor` times each numerator at the place of its index. All sums together stay within the width of `T`.
     pub(crate) fn add_shares<S: Natural>(
         &mut self,
         factor: T,
@@ -108,7 +108,7 @@ impl<T: Natural> Scratch<T> {
         Ok(())
     }
 
-    /// Puts what is not 0 in the place of the entries, in any order, and leaves zeros.
+    /// Replaces the entries by the sums that are not 0, in any order. All sums become 0.
     pub(crate) fn take_unsorted(&mut self, entries: &mut Entries<T>) -> Result<(), Memory>
         ensures zeros { OnOk result (self.new ≡ replicate (length self.old) 0) }
         ensures entries { OnOk result (AreSharesOf self.old entries.new) }
@@ -116,7 +116,7 @@ impl<T: Natural> Scratch<T> {
         entries.replace(&mut self.touched, &mut self.sums)
     }
 
-    /// Puts what is not 0 in the place of the entries, ascending by place, and leaves zeros.
+    /// Replaces the entries by the sums that are not 0, ascending by place. All sums become 0.
     pub(crate) fn take(&mut self, entries: &mut Entries<T>) -> Result<(), Memory>
         ensures zeros { OnOk result (self.new ≡ replicate (length self.old) 0) }
         ensures entries { OnOk result (entries.new ≡ shares_from 0 self.old) }

@@ -1,8 +1,9 @@
-//! One step of a table.
+//! Composes the table of a refinement step.
 
-ghost use Rattle.std.specs.Prelude.{◌≡◌, List, length};
+ghost use Rattle.std.specs.Prelude.{◌≡◌, ◌≤◌, List, length};
 ghost use Rattle.subdiv_model.specs.Level as model_level;
 ghost use Rattle.subdiv_model.specs.Mask as model;
+ghost use Rattle.subdiv_model.specs.Channel.{entry_bound};
 ghost use Rattle.level_topology.specs.Child.{PointOrigin};
 ghost use Rattle.mask_rules.specs.View.{scheme_of};
 ghost use Rattle.child_masks.specs.Masks.{CanRefine, HasNoTransition, masks_from};
@@ -13,16 +14,17 @@ ghost use Rattle.stencil_factory.specs.MaskRows.{IsRowFault};
 ghost use Rattle.stencil_factory.specs.Composed.{IsTableComposition, IsTableFault};
 
 use crate::child_rows::ChildRows;
-use crate::compose::compose_found;
+use crate::compose::compose_rows;
 use crate::fault::TableFault;
 use crate::row_fault::RowFault;
 use child_masks::{Survey, SurveyFault, survey_over};
 use level_topology::{Child, Level};
 use mask_rules::Scheme;
+use ratio128::limits::ENTRY_BOUND;
 use std::alloc::Global;
 use stencil_apply::StencilTable;
 
-// The fault of a step whose survey has one.
+// Translates a fault of the survey.
 fn table_fault(fault: SurveyFault) -> TableFault
     ensures { (level : model_level.Level) (scheme : model.Scheme) (origins : List PointOrigin) (table : Table) → IsSurveyFault level scheme origins (dens_of table) fault → IsTableFault level scheme origins table result }
 {
@@ -33,7 +35,7 @@ fn table_fault(fault: SurveyFault) -> TableFault
     }
 }
 
-// The fault of a step whose rows have one.
+// Translates a fault of the rows. Row `p` is point `p` of the child.
 fn fault_of_rows(fault: RowFault) -> TableFault
     ensures { (level : model_level.Level) (scheme : model.Scheme) (origins : List PointOrigin) (table : Table) → HasNoTransition level scheme origins
         → IsRowFault level (masks_from level scheme origins) table fault → IsTableFault level scheme origins table result }
@@ -45,7 +47,15 @@ fn fault_of_rows(fault: RowFault) -> TableFault
     }
 }
 
-// The table of a step in which a survey found no fault.
+// Returns the capacity to start with: 16 entries a row, or `controls` if that is fewer, at most 2^27 in all. In a mesh of quads with
+// four edges at each vertex a point depends on at most 16 control points.
+fn room_for(rows: u32, controls: u32) -> u64
+    ensures { result ≤ entry_bound }
+{
+    (u64::from(rows) * u64::from(controls.min(16))).min(ENTRY_BOUND)
+}
+
+// Returns the table of a step whose survey found no fault.
 fn compose_surveyed(
     alloc: Global,
     table: &StencilTable,
@@ -68,17 +78,21 @@ fn compose_surveyed(
         scheme,
         survey,
     };
-    match compose_found(alloc, table, &rows, &survey.dens) {
+    let room = room_for(child.level().points(), table.controls());
+    match compose_rows(alloc, table, &rows, &survey.dens, room) {
         Ok(composed) => Ok(composed),
         Err(fault) => Err(fault_of_rows(fault)),
     }
 }
 
-/// The table of the points of a child of a level, from that of the level's points, both over the same control points: each row
-/// has the control points that its point depends on, ascending, over the common denominator of the point.
+/// Returns the table of the points of `child`, one row for each point, over the control points of `table`.
 ///
-/// There is a row for each point of the level. The faults are looked for in the order of the variants of [`TableFault`], each
-/// over the whole level. The entries are counted before any is composed, and all memory of the table is taken before that.
+/// `table` has one row for each point of `parent`. A new row gives the control points that its point depends on, ascending, over
+/// the point's common denominator.
+///
+/// The errors are those of [`TableFault`], checked in the order of its variants.
+///
+/// The table starts with memory for 16 entries a row. If the rows need more, this counts all entries before the table grows.
 pub fn compose_level(
     alloc: Global,
     table: &StencilTable,

@@ -1,4 +1,4 @@
-//! A child point as weights of the level's points alone.
+//! Gives a child point as weights of the level's points.
 
 ghost use Rattle.std.specs.Prelude.{◌≡◌, ◌<◌, ◌≤◌, length, get_or, replicate, OnOk};
 ghost use Rattle.subdiv_model.specs.Mask.{face_mask};
@@ -19,7 +19,7 @@ use mask_rules::{MadeMask, Scheme, face_mask};
 use number_width::Natural;
 use ratio128::{Memory, quotient};
 
-// Adds the weights of the new point of a face.
+// Adds the weights of the face point of face `f`: one weight for each corner.
 fn weigh_face<T: Natural>(
     parent: &Level,
     f: u32,
@@ -41,8 +41,8 @@ fn weigh_face<T: Natural>(
     add_corners(scratch, parent.face_vertices(f), 1, multiple, dens)
 }
 
-/// Adds the weights of the points of a level in a child point to zeros, one for each of these points, by the common denominator of
-/// the child point and those of the points.
+/// Adds the weights of child point `p` to `scratch`, which has a 0 for each point of the level. `den` is the common denominator of
+/// the child point, and `dens` are the denominators of the level's points. Each weight is the factor for the row of its point.
 pub(crate) fn weigh_mask<T: Natural>(
     parent: &Level,
     child: &Child,

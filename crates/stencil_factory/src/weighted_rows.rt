@@ -1,4 +1,4 @@
-//! The rows of points, each times the weight of its point, as they are told. A weight of 0 is passed over.
+//! Adds rows of points, each times the weight of its point. It skips weights of 0.
 
 ghost use Rattle.std.specs.Prelude.{◌≡◌, ◌<◌, [], ◌∷◌, length, OnOk};
 ghost use Rattle.std.specs.List.{All};
@@ -14,7 +14,7 @@ use number_width::Natural;
 use ratio128::Memory;
 use stencil_apply::StencilTable;
 
-// Adds the row of a point, times a weight over a multiple of the point's denominator.
+// Adds the row of a point times `weight * (multiple / den)`, where `den` is the point's denominator.
 fn add_weighted_row<T: Natural>(
     table: &StencilTable,
     weight: &(u32, u128),
@@ -35,7 +35,7 @@ fn add_weighted_row<T: Natural>(
     add_row(table, weight.0, T::of(amount), sums)
 }
 
-/// Adds the rows of the weights' points, each times its weight over a multiple of the denominators of all these points.
+/// Adds the row of each point times `weight * (multiple / den)`, where `den` is the point's denominator.
 pub(crate) fn add_weighted_rows<T: Natural>(
     table: &StencilTable,
     weights: &[(u32, u128)],

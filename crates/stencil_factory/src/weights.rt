@@ -1,16 +1,16 @@
-//! Weights of points as they are put: the multiple of their denominators, the points that they name, and the amounts that they add. A
-//! weight of 0 is passed over.
+//! Works on the weights that a caller gave for a mask: finds the common multiple of their denominators, the points they name, and
+//! the amounts they add. It skips weights of 0.
 
-ghost use Rattle.std.specs.Prelude.{◌≡◌, ℕ, ◌+◌, ◌*◌, ◌/◌, ◌<◌, ◌≤◌, [], ◌∷◌, length, map, get_or, OnOk};
-ghost use Rattle.std.specs.List.{All, sum_by};
+ghost use Rattle.std.specs.Prelude.{◌≡◌, ℕ, ◌*◌, ◌/◌, ◌<◌, ◌≤◌, [], ◌∷◌, length, map, get_or, OnOk};
+ghost use Rattle.std.specs.List.{All};
 ghost use Rattle.subdiv_model.specs.Multiples.{lcm_of, lcm_of_all};
-ghost use Rattle.subdiv_model.specs.Channel.{entry_bound, number_bound};
+ghost use Rattle.subdiv_model.specs.Channel.{number_bound};
 ghost use Rattle.child_masks.specs.Survey.{within_bound};
 ghost use Rattle.stencil_factory.specs.Rows.{support_of};
 ghost use Rattle.stencil_factory.specs.Scratch.{added_shares};
 ghost use Rattle.stencil_factory.specs.Flat.{CanAddAll};
 ghost use Rattle.stencil_factory.specs.Met.{with_places};
-ghost use Rattle.stencil_factory.specs.Joined.{amounts_of, entries_at, weighing};
+ghost use Rattle.stencil_factory.specs.Joined.{amounts_of, weighing};
 
 use crate::flat::add_point;
 use crate::met::Met;
@@ -18,9 +18,9 @@ use crate::scratch::Scratch;
 use child_masks::common_multiple;
 use number_width::Natural;
 use ratio128::Memory;
-use stencil_apply::StencilTable;
 
-// The least common multiple with the denominator of a point, where its weight is above 0.
+// Returns the least common multiple of `multiple` and the point's denominator, or 0 if it is above 2^126 - 1.
+// A weight of 0 leaves `multiple` unchanged.
 fn multiple_with(multiple: u128, weight: &(u32, u128), dens: &[u128]) -> u128
     requires { weight.now.0 < length dens.now }
     ensures none { weight.now.1 ≡ 0 → result ≡ multiple }
@@ -32,7 +32,7 @@ fn multiple_with(multiple: u128, weight: &(u32, u128), dens: &[u128]) -> u128
     common_multiple(multiple, dens[weight.0 as usize])
 }
 
-/// The least common multiple of the denominators of the points that have a weight above 0, and 0 where it passes the bound.
+/// Returns the least common multiple of the denominators of the points with a weight above 0, or 0 if it is above 2^126 - 1.
 pub(crate) fn multiple_of_weights(weights: &[(u32, u128)], dens: &[u128]) -> u128
     requires inside { All (λ share. share.0 < length dens.now) weights.now }
     requires positive { All (λ den. 0 < den) dens.now }
@@ -46,30 +46,7 @@ pub(crate) fn multiple_of_weights(weights: &[(u32, u128)], dens: &[u128]) -> u12
     multiple
 }
 
-// So many entries, and those of the row of a point, where its weight is above 0. They stay within 64 bits.
-fn entries_with(table: &StencilTable, entries: u64, weight: &(u32, u128)) -> u64
-    requires { weight.now.0 < length table.now.rows }
-    ensures { result ≤ entry_bound → (entries ≤ entry_bound) × (entries + sum_by (entries_at table.now) (support_of (weighing (weight.now ∷ []))) ≤ result) }
-{
-    if weight.1 == 0 {
-        return entries;
-    }
-    entries.saturating_add(u64::from(table.row_len(weight.0)))
-}
-
-/// How many entries the rows of the points have together that have a weight above 0, up to the greatest number of 64 bits.
-pub(crate) fn entries_of_weights(table: &StencilTable, weights: &[(u32, u128)]) -> u64
-    requires { All (λ share. share.0 < length table.now.rows) weights.now }
-    ensures { result ≤ entry_bound → sum_by (entries_at table.now) (support_of (weighing weights.now)) ≤ result }
-{
-    let mut entries = 0;
-    for weight in weights {
-        entries = entries_with(table, entries, weight);
-    }
-    entries
-}
-
-// Meets the point of a weight above 0.
+// Adds the point of a weight to the set if the weight is above 0.
 fn meet_weight(met: &mut Met, weight: &(u32, u128)) -> Result<(), Memory>
     requires { weight.now.0 < met.old.count }
     ensures { OnOk result (met.new ≡ with_places (support_of (weighing (weight.now ∷ []))) met.old) }
@@ -80,7 +57,7 @@ fn meet_weight(met: &mut Met, weight: &(u32, u128)) -> Result<(), Memory>
     met.add(weight.0)
 }
 
-/// Meets the points that have a weight above 0, one after another.
+/// Adds the points that have a weight above 0 to the set.
 pub(crate) fn meet_weights(met: &mut Met, weights: &[(u32, u128)]) -> Result<(), Memory>
     requires { All (λ share. share.0 < met.old.count) weights.now }
     ensures { OnOk result (met.new ≡ with_places (support_of (weighing weights.now)) met.old) }
@@ -93,7 +70,7 @@ pub(crate) fn meet_weights(met: &mut Met, weights: &[(u32, u128)]) -> Result<(),
     Ok(())
 }
 
-// Adds a weight above 0 over a multiple of its point's denominator.
+// Adds `weight * (multiple / den)` at a point, where `den` is the point's denominator. It skips a weight of 0.
 fn add_weight<T: Natural>(
     scratch: &mut Scratch<T>,
     weight: &(u32, u128),
@@ -111,7 +88,7 @@ fn add_weight<T: Natural>(
     add_point(scratch, weight.0, weight.1, multiple, dens)
 }
 
-/// Adds the weights over a multiple of their points' denominators.
+/// Adds `weight * (multiple / den)` at the point of each weight, where `den` is the point's denominator. It skips weights of 0.
 pub(crate) fn add_weights<T: Natural>(
     scratch: &mut Scratch<T>,
     weights: &[(u32, u128)],

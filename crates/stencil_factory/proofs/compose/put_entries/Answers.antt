@@ -8,7 +8,7 @@ use Rattle.stencil_factory.proofs.PairLemmas.{zip-parts, parts-count}
 use Rattle.stencil_factory.proofs.compose.put_entries.Given as given
 use Rattle.stencil_factory.proofs.compose.put_entries.Goals as goal
 
--- the entries as they are read
+-- The places and numbers that the body reads are the entries.
 read : (g : given.Over) (c : goal.After-numerators g) → zip c.indices.result.now (map g.T.Natural.value c.numerators.result.now) ≡ c.args.entries.now
 read g c = zip-parts c.args.entries.now c.indices.result.now (map g.T.Natural.value c.numerators.result.now) c.indices.ensures c.numerators.ensures
 

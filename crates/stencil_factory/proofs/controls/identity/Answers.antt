@@ -12,6 +12,6 @@ add_row-requires-clause-entries c = omega (arith, entries-count 0 c.loop-v.v, ap
 pub loop-v-preserved : goal.loop-v-preserved
 loop-v-preserved c = c.in_ok-add_row.ensures.added ∙ rows-more c.args.points c.loop-v.v c.loop-v.builder.table c.loop-v.invariant
 
--- asked for by name, so that a body that breaks it is refused at once
+-- The proof is given here by name, so that a wrong body is refused at once.
 pub returns : goal.returns
 returns c = search rules

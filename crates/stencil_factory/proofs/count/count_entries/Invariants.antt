@@ -4,7 +4,7 @@ use Rattle.stencil_factory.specs.Marks.{AreMarks}
 use Rattle.stencil_factory.specs.MaskRows.{mask_entries}
 use Rattle.stencil_factory.proofs.count.count_entries.Given as goal
 
--- the entries of the rows so far
+-- `count` is the number of entries of the first `row` rows.
 abbrev pub invariant-loop-row : goal.invariant-loop-row
 invariant-loop-row g l = record {
   clear : g.R.RowMasks.IsClear l.rows l.room.mask;

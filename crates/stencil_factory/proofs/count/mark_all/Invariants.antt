@@ -3,7 +3,7 @@ use Rattle.std.specs.List.{All, count_by}
 use Rattle.stencil_factory.specs.Marks.{marked_all}
 use Rattle.stencil_factory.proofs.count.mark_all.Given as goal
 
--- what is marked, and what is marked from here on, is all; each fresh mark is counted
+-- Writing the remaining marks gives the same as writing all of them. `fresh` counts the marks that changed.
 abbrev pub invariant-loop-rest : goal.invariant-loop-rest
 invariant-loop-rest l = record {
   all : marked_all l.mark l.rest l.marks.items ≡ marked_all l.mark l.places l.fn.marks.items;

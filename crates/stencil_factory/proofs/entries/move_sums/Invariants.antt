@@ -3,7 +3,7 @@ use Rattle.std.specs.Vec.{vec_capacity}
 use Rattle.stencil_factory.specs.Touched.{moved, cleared}
 use Rattle.stencil_factory.proofs.entries.move_sums.Given as goal
 
--- what is there, and what is moved of the places from here on, are all
+-- The present numbers, then the sums of the remaining places, are the numbers for all places.
 abbrev pub invariant-loop-place : goal.invariant-loop-place
 invariant-loop-place g l = record {
   numbers : map g.T.Natural.value l.numbers.items ++ map (λ share. share.1) (moved (drop l.place-index l.places) (map g.T.Natural.value l.sums.items))

@@ -4,7 +4,7 @@ use Rattle.stencil_factory.specs.Scratch.{added_shares}
 use Rattle.stencil_factory.specs.Flat.{corner_shares, CanAddAll}
 use Rattle.stencil_factory.proofs.flat.add_corners.Given as goal
 
--- the corners from here on, added to what is there, are all corners added to what was there
+-- Adding the remaining corners to the present sums gives the same as adding all corners to the first sums.
 abbrev pub invariant-loop-rest : goal.invariant-loop-rest
 invariant-loop-rest g l = record {
   within : All (λ v. v < length l.dens) l.rest;

@@ -5,7 +5,7 @@ use Rattle.stencil_factory.specs.Scratch.{added_shares}
 use Rattle.stencil_factory.specs.Flat.{flat_shares, CanAddAll, CanWeighTerm}
 use Rattle.stencil_factory.proofs.flat.add_terms.Given as goal
 
--- the terms from here on, added to what is there, are all terms added to what was there
+-- Adding the remaining terms to the present sums gives the same as adding all terms to the first sums.
 abbrev pub invariant-loop-rest : goal.invariant-loop-rest
 invariant-loop-rest g l = record {
   weigh : AllByRecursion (CanWeighTerm l.parent.level l.dens l.faces l.multiple) (terms_of l.rest);

@@ -4,7 +4,7 @@ use Rattle.mask_rules.specs.View.{terms_of}
 use Rattle.stencil_factory.specs.Named.{with_terms, CanNameTerm}
 use Rattle.stencil_factory.proofs.name.name_terms.Given as goal
 
--- what is met, and what the terms from here on name, is all
+-- Adding the points of the remaining terms to the set gives the set for all terms.
 abbrev pub invariant-loop-rest : goal.invariant-loop-rest
 invariant-loop-rest l = record {
   can : AllByRecursion (CanNameTerm l.parent.level l.met.count) (terms_of l.rest);

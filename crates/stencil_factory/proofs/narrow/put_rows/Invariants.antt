@@ -3,7 +3,7 @@ use Rattle.stencil_apply.specs.Table.{entries_of}
 use Rattle.stencil_factory.specs.Composing.{AreComposedRows}
 use Rattle.stencil_factory.proofs.narrow.put_rows.Given as goal
 
--- the rows so far, and the entries that there is room for
+-- The table has the rows of the first masks, and at most 2^27 entries including its spare capacity.
 abbrev pub invariant-loop-row : goal.invariant-loop-row
 invariant-loop-row g l = record {
   clear : l.room.controls ≡ replicate l.table.controls 0;

@@ -2,7 +2,7 @@ use Rattle.std.proofs.Common.{◌≡◌, ◌≤◌, length, map, replicate}
 use Rattle.std.specs.Vec.{vec_capacity}
 use Rattle.stencil_factory.proofs.scratch.zeros.Given as goal
 
--- the zeros so far
+-- The list has one 0 for each round.
 abbrev pub invariant-loop : goal.invariant-loop
 invariant-loop g l = record {
   zeros : map g.T.Natural.value l.zeros.items ≡ replicate l.counter 0;

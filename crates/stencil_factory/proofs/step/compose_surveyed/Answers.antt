@@ -2,8 +2,8 @@ use Rattle.mask_rules.specs.View.{scheme_of}
 use Rattle.stencil_factory.proofs.SurveyLemmas.{survey-dens}
 use Rattle.stencil_factory.proofs.step.compose_surveyed.Goals as goal
 
-pub compose_found-requires-clause-dens : goal.compose_found-requires-clause-dens
-compose_found-requires-clause-dens c =
+pub compose_rows-requires-clause-dens : goal.compose_rows-requires-clause-dens
+compose_rows-requires-clause-dens c =
     survey-dens c.args.parent.now c.args.child.now (scheme_of c.args.scheme) c.args.table.now c.args.survey.now c.facts.ensures c.facts-2.ensures c.requires.child c.facts-3.ensures c.requires.each c.requires.survey
     c.deref.result.now c.deref.ensures.value
 

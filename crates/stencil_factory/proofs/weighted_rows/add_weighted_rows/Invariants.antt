@@ -6,7 +6,7 @@ use Rattle.stencil_factory.specs.Composing.{added_rows, CanAddRows}
 use Rattle.stencil_factory.specs.Joined.{amounts_of, weighing}
 use Rattle.stencil_factory.proofs.weighted_rows.add_weighted_rows.Given as goal
 
--- the rows from here on, added to what is there, are all rows added to what was there
+-- Adding the remaining rows to the present sums gives the same as adding all rows to the first sums.
 abbrev pub invariant-loop-rest : goal.invariant-loop-rest
 invariant-loop-rest g l = record {
   all : added_rows l.table (amounts_of (dens_of l.table) l.multiple (weighing l.rest)) l.sums ≡ added_rows l.table (amounts_of (dens_of l.table) l.multiple (weighing l.weights)) l.fn.sums;

@@ -5,7 +5,7 @@ use Rattle.stencil_factory.specs.Flat.{CanAddAll}
 use Rattle.stencil_factory.specs.Joined.{amounts_of, weighing}
 use Rattle.stencil_factory.proofs.weights.add_weights.Given as goal
 
--- the weights from here on, added to what is there, are all weights added to what was there
+-- Adding the remaining weights to the present sums gives the same as adding all weights to the first sums.
 abbrev pub invariant-loop-rest : goal.invariant-loop-rest
 invariant-loop-rest g l = record {
   all : added_shares 1 (amounts_of l.dens l.multiple (weighing l.rest)) l.scratch ≡ added_shares 1 (amounts_of l.dens l.multiple (weighing l.weights)) l.fn.scratch;

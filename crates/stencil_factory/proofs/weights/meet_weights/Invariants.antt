@@ -5,7 +5,7 @@ use Rattle.stencil_factory.specs.Met.{with_places}
 use Rattle.stencil_factory.specs.Joined.{weighing}
 use Rattle.stencil_factory.proofs.weights.meet_weights.Given as goal
 
--- what is met, and what is met from here on, is all
+-- Adding the points of the remaining weights to the set gives the set for all weights.
 abbrev pub invariant-loop-rest : goal.invariant-loop-rest
 invariant-loop-rest l = record {
   all : with_places (support_of (weighing l.rest)) l.met ≡ with_places (support_of (weighing l.weights)) l.fn.met;

@@ -6,6 +6,6 @@ use Rattle.stencil_factory.specs.Rows.{support_of}
 use Rattle.stencil_factory.specs.Joined.{weighing}
 use Rattle.stencil_factory.proofs.weights.multiple_of_weights.Given as goal
 
--- the least common multiple of those so far
+-- `multiple` is the least common multiple for the weights before this one.
 abbrev pub invariant-loop-weight : goal.invariant-loop-weight
 invariant-loop-weight l = l.multiple ≡ within_bound (fold lcm_of 1 (map (λ v. get_or l.dens v 1) (support_of (weighing (take l.weight-index l.weights)))))

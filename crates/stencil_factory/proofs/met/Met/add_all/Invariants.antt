@@ -3,7 +3,7 @@ use Rattle.std.specs.List.{All}
 use Rattle.stencil_factory.specs.Met.{with_places}
 use Rattle.stencil_factory.proofs.met.Met.add_all.Given as goal
 
--- what is met, and what is met from here on, is all
+-- Adding the remaining places to the set gives the set for all places.
 abbrev pub invariant-loop-rest : goal.invariant-loop-rest
 invariant-loop-rest l = record {
   all : with_places l.rest l.self ≡ with_places l.places l.fn.self;

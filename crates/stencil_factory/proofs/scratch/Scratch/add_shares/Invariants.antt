@@ -4,7 +4,7 @@ use Rattle.stencil_apply.specs.Table.{total_of}
 use Rattle.stencil_factory.specs.Scratch.{added_shares, sum_of}
 use Rattle.stencil_factory.proofs.scratch.Scratch.add_shares.Given as goal
 
--- the sums so far with the shares from here on are those with all shares
+-- Adding the remaining shares to the present sums gives the same as adding all shares to the first sums.
 abbrev pub invariant-loop-i : goal.invariant-loop-i
 invariant-loop-i g l = record {
   sums : added_shares (g.T.Natural.value l.factor) (zip (drop l.i l.indices) (drop l.i (map g.S.Natural.value l.numerators))) l.self

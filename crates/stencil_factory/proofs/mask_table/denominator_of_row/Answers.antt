@@ -1,17 +1,15 @@
-use Rattle.std.proofs.Common.{◌*◌, arith, ap, sym, subst, ◌∙◌, [], map, get_or, length}
-use Rattle.std.proofs.lemmas.List.Sums.{sum_by-cons}
+use Rattle.std.proofs.Common.{◌*◌, ap, sym, subst, ◌∙◌, map, get_or, length}
 use Rattle.subdiv_model.specs.Multiples.{lcm_of_all}
 use Rattle.subdiv_model.specs.Refined.{mask_denominator, source_denominator}
-use Rattle.subdiv_model.specs.Support.{mask_support, source_support}
 use Rattle.child_masks.specs.Survey.{within_bound}
 use Rattle.child_masks.specs.Found.{ArePointDenominators}
 use Rattle.child_masks.proofs.WithinLemmas.{scaled-within}
-use Rattle.stencil_factory.specs.Rows.{support_of, supports_of}
+use Rattle.stencil_factory.specs.Rows.{support_of}
 use Rattle.stencil_factory.specs.MaskRows.{mask_at}
 use Rattle.stencil_factory.specs.Joined.{weighing}
 use Rattle.stencil_factory.proofs.SurveyLemmas.{point-dens}
-use Rattle.stencil_factory.proofs.PutLemmas.{put-inside, put-positive, put-den, put-few, multiple-positive, den-positive}
-use Rattle.stencil_factory.proofs.mask_table.survey_row.Goals as goal
+use Rattle.stencil_factory.proofs.PutLemmas.{put-inside, put-positive, put-den, multiple-positive, den-positive}
+use Rattle.stencil_factory.proofs.mask_table.denominator_of_row.Goals as goal
 
 pub multiple_of_weights-multiple-requires-clause-inside : goal.multiple_of_weights-multiple-requires-clause-inside
 multiple_of_weights-multiple-requires-clause-inside g c =
@@ -28,11 +26,6 @@ pub multiple_of_weights-multiple-requires-clause-short : goal.multiple_of_weight
 multiple_of_weights-multiple-requires-clause-short g c =
     let level = g.M.PointMasks.level c.args.masks.now in
     (subst (ArePointDenominators level) (sym c.denominators.ensures) (point-dens c.args.table.now level c.facts.ensures c.requires.each)).short
-
-pub entries_of_weights-entries-requires : goal.entries_of_weights-entries-requires
-entries_of_weights-entries-requires g c =
-    put-inside (g.M.PointMasks.level c.args.masks.now) (mask_at (g.M.PointMasks.masks c.args.masks.now) c.args.row) _ c.in_ok-put.ensures
-    c.weights-2.result.now c.weights-2.ensures.terms _ c.requires.each
 
 pub returns-clause-positive : goal.returns-clause-positive
 returns-clause-positive g c =
@@ -55,11 +48,3 @@ returns-clause-den g c =
     ∙ ap within_bound
     (ap (λ q. q * lcm_of_all (map (λ v. get_or dens v 1) (support_of (weighing raw)))) c.denominator.ensures ∙ put-den level mask _ are raw c.weights.ensures.terms dens points
     ∙ ap (λ ds. mask_denominator (source_denominator level ds) mask) c.denominators.ensures)
-
-pub returns-clause-entries : goal.returns-clause-entries
-returns-clause-entries g c few =
-    let level = g.M.PointMasks.level c.args.masks.now in
-    let mask = mask_at (g.M.PointMasks.masks c.args.masks.now) c.args.row in
-    let table = c.args.table.now in
-    let own = put-few level mask _ c.in_ok-put.ensures c.weights-2.result.now c.weights-2.ensures.terms table in
-    omega (arith, own, c.entries_of_weights-entries.ensures few, sum_by-cons length (mask_support table.controls (source_support table.controls level (supports_of table)) mask) [])
