@@ -99,17 +99,17 @@ fault-back (Controls count) fits = ap Controls (low-small count fits)
 fault-back Write fits = refl
 fault-back Memory fits = refl
 
--- a record is that of one fault at most
+-- a record describes at most one fault
 pub one-fault : (held : FaultRecord) (a b : Fault) → IsRecordOf held a → IsRecordOf held b → a ≡ b
 one-fault held a b first second =
     sym (fault-back a first.range) ∙ ap fault_named (first.row ∙ sym second.row) ∙ fault-back b second.range
 
--- the fault that a record names has this record, where a fault has it
+-- the fault that a record names has this record, if any fault has it
 pub named-again : (held r : FaultRecord) (made : Fault) → made ≡ fault_named held → r ≡ record_of made → (fault : Fault) → IsRecordOf held fault → r ≡ held
 named-again held r made named row fault is =
     row ∙ ap record_of (named ∙ ap fault_named (sym is.row) ∙ fault-back fault is.range) ∙ is.row
 
--- what is given back for the record of a fault is the fault
+-- the fault of the record of a fault is that fault
 pub comes-back : (fault : Fault) (back : Option FarFault) → IsInRange fault → IsFaultOf (record_of fault) back → option_map fault_of back ≡ Some fault
 comes-back fault None fits is = absurd (is fault (record { row = refl; range = fits }))
 comes-back fault (Some found) fits is = ap Some (one-fault (record_of fault) (fault_of found) fault is (record { row = refl; range = fits }))

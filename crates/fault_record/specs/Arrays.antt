@@ -1,4 +1,4 @@
--- The record of each fault that no run of the program has: of arrays, and of floats.
+-- The records of refused arrays and floats, which no run of the program has.
 use Rattle.std.specs.Prelude.{ℕ}
 use Rattle.raw_mesh.specs.declared.fault.BadPart.{BadPart}
 use Rattle.raw_mesh.specs.declared.fault.BadPart.TheVariants.{PointScale, TextureScale, Point, TextureValue, FaceCount, CornerCount, FaceSizes, TextureCornerCount, Corner, TextureCorner, Crease, CornerTag, Hole}
@@ -10,7 +10,7 @@ use Rattle.fault_record.specs.declared.record.FaultRecord.{FaultRecord}
 abbrev pub row : ℕ → ℕ → ℕ → ℕ → FaultRecord
 row status kind first second = record { status = status; kind = kind; first = first; second = second }
 
--- a part of a mesh that is refused, with its place in its array
+-- a refused part of a mesh, with its place in its array
 abbrev pub record_of_bad_part : BadPart → FaultRecord
 record_of_bad_part PointScale = row 17 0 0 0
 record_of_bad_part TextureScale = row 17 1 0 0
@@ -26,7 +26,7 @@ record_of_bad_part (Crease place) = row 17 10 place 0
 record_of_bad_part (CornerTag place) = row 17 11 place 0
 record_of_bad_part (Hole place) = row 17 12 place 0
 
--- the float at a place of a list, which has no exact fraction that fits
+-- a float at a place of a list whose exact fraction does not exist or does not fit
 abbrev pub record_of_bad_number : ℕ → FloatFault → FaultRecord
 record_of_bad_number place NotFinite = row 18 0 place 0
 record_of_bad_number place TooWide = row 18 1 place 0

@@ -1,4 +1,4 @@
--- The fault of a record: what is given back where there is one, and where there is none.
+-- The fault of a record, if there is one.
 use Rattle.std.specs.Prelude.{◌≡◌, Option, Some, None}
 use Rattle.far_fault.specs.declared.fault.FarFault.{FarFault}
 use Rattle.far_fault.specs.View.{fault_of}
@@ -7,15 +7,16 @@ use Rattle.fault_record.specs.Range.{IsInRange}
 use Rattle.fault_record.specs.Table.{record_of}
 use Rattle.fault_record.specs.declared.record.FaultRecord.{FaultRecord}
 
--- the record is that of this fault, whose numbers the code holds
+-- the record describes this fault, whose numbers fit the code
 pub record IsRecordOf (held : FaultRecord) (fault : Fault) : Type 0 where
   pub row : record_of fault ≡ held
   pub range : IsInRange fault
 
+-- no fault that the code holds has the record
 abbrev pub IsOfNone : FaultRecord → Type 0
 IsOfNone held = (fault : Fault) → IsRecordOf held fault → ⊥
 
--- a fault that has the record, and none exactly where there is no such fault
+-- a fault that the record describes, or none exactly if there is no such fault
 abbrev pub IsFaultOf : FaultRecord → Option FarFault → Type 0
 IsFaultOf held None = IsOfNone held
 IsFaultOf held (Some fault) = IsRecordOf held (fault_of fault)

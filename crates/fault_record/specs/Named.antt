@@ -1,4 +1,4 @@
--- The fault whose record this is, if it is that of a fault. A record of no fault gives one too, with another record.
+-- The fault that a record describes. For a record of no fault it is a fault with another record.
 use Rattle.std.specs.Prelude.{ℕ, ◌/◌, ◌%◌, ◌^◌, nat_eq, if◌then◌else◌}
 use Rattle.subdiv_model.specs.ObjFault.{ObjCause, BadNumeral, NumberRange, UnknownKeyword, Continuation, ShortLine, BadCorner, IndexRange, BadTag, TagIndex, SharpnessRange, MoveIndex, TooFine, LongLine}
 use Rattle.subdiv_model.specs.MeshFault.{MeshFault, FaceTooSmall, RepeatedVertex, NonManifoldEdge, WindingClash, SplitVertex}
@@ -10,6 +10,7 @@ use Rattle.fault_record.specs.declared.record.FaultRecord.{FaultRecord}
 abbrev pub low : ℕ → ℕ
 low n = n % 2 ^ 32
 
+-- the cause with this number, for a line of a mesh text
 abbrev pub cause_named : ℕ → ObjCause
 cause_named kind =
     if nat_eq kind 0 then BadNumeral else (if nat_eq kind 1 then NumberRange else (if nat_eq kind 2 then UnknownKeyword
@@ -18,35 +19,43 @@ cause_named kind =
     else (if nat_eq kind 9 then SharpnessRange else (if nat_eq kind 10 then MoveIndex else (if nat_eq kind 11 then TooFine
     else LongLine)))))))))))
 
+-- the cause with this number, for a line of a stored table
 abbrev pub table_cause_named : ℕ → TableCause
 table_cause_named kind = if nat_eq kind 0 then Form else (if nat_eq kind 1 then Range else (if nat_eq kind 2 then Sum else Count))
 
+-- the track with this number
 abbrev pub track_named : ℕ → Track
 track_named n = if nat_eq n 0 then Positions else (if nat_eq n 1 then Texture else (if nat_eq n 2 then LimitRows else Patch))
 
+-- the kind of overflow with this number
 abbrev pub overflow_named : ℕ → OverflowKind
 overflow_named n =
     if nat_eq n 0 then ChaikinOverflow else (if nat_eq n 1 then TransitionOverflow else (if nat_eq n 2 then DenominatorOverflow else ValueOverflow))
 
+-- the fault of a mesh with this kind and these numbers
 abbrev pub mesh_fault_named : ℕ → ℕ → ℕ → MeshFault
 mesh_fault_named kind a b =
     if nat_eq kind 0 then FaceTooSmall a else (if nat_eq kind 1 then RepeatedVertex a else (if nat_eq kind 2 then NonManifoldEdge a b
     else (if nat_eq kind 3 then WindingClash a b else SplitVertex a)))
 
+-- the count with this kind and these numbers
 abbrev pub counted_named : ℕ → ℕ → ℕ → Counted
 counted_named kind number count =
     if nat_eq kind 0 then Points number else (if nat_eq kind 1 then Faces number else (if nat_eq kind 2 then FaceSize (low number) count
     else (if nat_eq kind 3 then Valence (low number) count else (if nat_eq kind 4 then LevelFaces (low number) count
     else (if nat_eq kind 5 then Entries (low number) else (if nat_eq kind 6 then LimitEntries else PatchEntries))))))
 
+-- the cause with this kind why a point has no limit point
 abbrev pub limit_cause_named : ℕ → ℕ → LimitCause
 limit_cause_named kind vertex = if nat_eq kind 0 then Dart vertex else SemiSharp vertex
 
+-- the fault of a place with this kind and this number
 abbrev pub place_fault_named : ℕ → ℕ → PlaceFault
 place_fault_named kind number =
     if nat_eq kind 0 then NoFace number else (if nat_eq kind 1 then NotRegular number
     else (if nat_eq kind 2 then NoCorner number else IsHole number))
 
+-- the fault that a record describes
 abbrev pub fault_named : FaultRecord → Fault
 fault_named r =
     if nat_eq r.status 2 then Usage (low r.first) else (if nat_eq r.status 3 then Read else (if nat_eq r.status 4 then Long

@@ -1,5 +1,5 @@
--- The record of each fault. A row has its status, its kind among the faults with that status, and the two numbers that it names. A fault
--- without a kind or without a number has 0 in its place.
+-- The record of each fault: its status, its kind among the faults with that status, and the two numbers that it names. A kind or number
+-- that the fault does not have is 0.
 use Rattle.std.specs.Prelude.{ℕ, ◌+◌, ◌*◌}
 use Rattle.subdiv_model.specs.ObjFault.{ObjCause, BadNumeral, NumberRange, UnknownKeyword, Continuation, ShortLine, BadCorner, IndexRange, BadTag, TagIndex, SharpnessRange, MoveIndex, TooFine, LongLine}
 use Rattle.subdiv_model.specs.MeshFault.{MeshFault, FaceTooSmall, RepeatedVertex, NonManifoldEdge, WindingClash, SplitVertex}
@@ -8,7 +8,7 @@ use Rattle.subdiv_model.specs.Fault.{Counted, Points, Faces, FaceSize, Valence, 
 use Rattle.fault_record.specs.Arrays.{row}
 use Rattle.fault_record.specs.declared.record.FaultRecord.{FaultRecord}
 
--- the kind of a refused line of a text
+-- the kind of a refused line of a mesh text
 abbrev pub cause_kind : ObjCause → ℕ
 cause_kind BadNumeral = 0
 cause_kind NumberRange = 1
@@ -31,19 +31,21 @@ table_cause_kind Range = 1
 table_cause_kind Sum = 2
 table_cause_kind Count = 3
 
--- an overflow is numbered by its track and what passes its bound
+-- the number of a track; the kind of an overflow comes from its track and its own kind
 abbrev pub track_number : Track → ℕ
 track_number Positions = 0
 track_number Texture = 1
 track_number LimitRows = 2
 track_number Patch = 3
 
+-- the number of a kind of overflow
 abbrev pub overflow_number : OverflowKind → ℕ
 overflow_number ChaikinOverflow = 0
 overflow_number TransitionOverflow = 1
 overflow_number DenominatorOverflow = 2
 overflow_number ValueOverflow = 3
 
+-- the record of a fault of a mesh
 abbrev pub mesh_record : MeshFault → FaultRecord
 mesh_record (FaceTooSmall face) = row 6 0 face 0
 mesh_record (RepeatedVertex face) = row 6 1 face 0
@@ -51,6 +53,7 @@ mesh_record (NonManifoldEdge a b) = row 6 2 a b
 mesh_record (WindingClash a b) = row 6 3 a b
 mesh_record (SplitVertex vertex) = row 6 4 vertex 0
 
+-- the record of a count that passes its limit
 abbrev pub counted_record : Counted → FaultRecord
 counted_record (Points count) = row 7 0 count 0
 counted_record (Faces count) = row 7 1 count 0
@@ -61,10 +64,12 @@ counted_record (Entries level) = row 7 5 level 0
 counted_record LimitEntries = row 7 6 0 0
 counted_record PatchEntries = row 7 7 0 0
 
+-- the record of a point without a limit point
 abbrev pub limit_record : LimitCause → FaultRecord
 limit_record (Dart vertex) = row 9 0 vertex 0
 limit_record (SemiSharp vertex) = row 9 1 vertex 0
 
+-- the record of a place without a patch or leaf
 abbrev pub place_record : PlaceFault → FaultRecord
 place_record (NoFace count) = row 13 0 count 0
 place_record (NotRegular face) = row 13 1 face 0

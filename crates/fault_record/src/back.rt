@@ -28,7 +28,7 @@ fn low(n: u64) -> u32
     (n % 0x1_0000_0000) as u32
 }
 
-// Returns the cause of a line of a text that has the number.
+// Returns the cause with this number, for a line of a mesh text.
 fn cause_named(kind: u32) -> ObjCause
     ensures { cause_of result ≡ named.cause_named kind }
 {
@@ -49,7 +49,7 @@ fn cause_named(kind: u32) -> ObjCause
     }
 }
 
-// Returns the cause of a line of a stored table that has the number.
+// Returns the cause with this number, for a line of a stored table.
 fn table_cause_named(kind: u32) -> TableCause
     ensures { file.cause_of result ≡ named.table_cause_named kind }
 {
@@ -61,7 +61,7 @@ fn table_cause_named(kind: u32) -> TableCause
     }
 }
 
-// Returns the track that has the number.
+// Returns the track with this number.
 fn track_named(n: u32) -> Track
     ensures { track_of result ≡ named.track_named n }
 {
@@ -73,7 +73,7 @@ fn track_named(n: u32) -> Track
     }
 }
 
-// Returns the kind of overflow that has the number.
+// Returns the kind of overflow with this number.
 fn overflow_named(n: u32) -> OverflowKind
     ensures { kind_of result ≡ named.overflow_named n }
 {
@@ -99,7 +99,7 @@ fn mesh_fault_named(kind: u32, a: u32, b: u32) -> MeshFault
     }
 }
 
-// Returns what there is too much of, with the kind and the numbers.
+// Returns the count that passes its limit, from the kind and the numbers.
 fn counted_named(kind: u32, number: u64, count: u64) -> Counted
     ensures row { counted_of result ≡ named.counted_named kind number count }
     ensures range { IsCountInRange (counted_of result) }
@@ -126,7 +126,7 @@ fn counted_named(kind: u32, number: u64, count: u64) -> Counted
     }
 }
 
-// Returns the cause, of the kind, that a point has no limit point.
+// Returns the cause of this kind why a point has no limit point.
 fn limit_cause_named(kind: u32, vertex: u32) -> LimitCause
     ensures row { limit_cause_of result ≡ named.limit_cause_named kind vertex }
     ensures range { IsLimitInRange (limit_cause_of result) }
@@ -150,7 +150,7 @@ fn place_fault_named(kind: u32, number: u32) -> PlaceFault
     }
 }
 
-// Returns the fault whose record this is, if it is that of a fault.
+// Returns the fault that a record describes. For a record of no fault it returns a fault with another record.
 fn fault_named(held: &FaultRecord) -> FarFault
     ensures row { fault_of result ≡ named.fault_named held.now }
     ensures range { IsInRange (fault_of result) }
@@ -185,8 +185,8 @@ fn fault_named(held: &FaultRecord) -> FarFault
     }
 }
 
-/// Returns the fault whose record this is, and `None` where it is the record of no fault: the status or the kind is that of none, a
-/// number does not fit, or there is a number above 0 where the fault names none.
+/// Returns the fault that a record describes, or `None` if no fault of a run has the record. Such a record has a status or kind that does
+/// not exist, a number that does not fit, or a number that its fault does not name. The statuses 17 to 19 give `None`.
 pub fn fault_of_record(held: &FaultRecord) -> Option<FarFault>
     ensures { IsFaultOf held.now result }
 {

@@ -1,4 +1,4 @@
-//! The records of the faults of a mesh in an array of a caller.
+//! The records of the faults of a mesh in a caller's array.
 
 ghost use Rattle.std.specs.Prelude.{◌≡◌, ◌≤◌, nat_le, true, false, length, map, take, drop};
 ghost use Rattle.mesh_check.specs.View.{mesh_fault_of};
@@ -21,8 +21,8 @@ fn put_records(faults: &[MeshFault], out: &mut [FaultRecord])
     }
 }
 
-/// Writes the record of each fault of a mesh into the first places of the array, in the order of the faults, where the array has a
-/// place for each. Returns whether it has. Else the array stays as it was, and so do the places behind the records.
+/// Writes the record of each fault of a mesh to the front of `out`, in the order of the faults, and returns true. If `out` is too short,
+/// it writes nothing and returns false. The records behind them stay as they are.
 pub fn put_mesh_faults(faults: &[MeshFault], out: &mut [FaultRecord]) -> bool
     ensures fits { result ≡ nat_le (length faults.now) (length out.old) }
     ensures written { result ≡ true → take (length faults.now) out.new ≡ records_of (map mesh_fault_of faults.now) }

@@ -1,4 +1,5 @@
-//! The faults of the library as flat records that C can hold, and back. No call takes memory.
+//! Turns the faults of the library into flat records that C can hold, and back. A [`FaultRecord`] has the layout of a C struct of four
+//! numbers. It covers the faults of a run, refused arrays and refused floats. No call takes memory.
 #![tactic(auto)]
 
 mod back;

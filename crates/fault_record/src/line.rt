@@ -1,4 +1,4 @@
-//! The line of a fault in bytes of a caller.
+//! The line of a fault in a caller's bytes.
 
 ghost use Rattle.std.specs.Prelude.{◌≡◌, ◌+◌, ◌≤◌, [], ◌++◌, codes, length, take, drop};
 ghost use Rattle.subdiv_model.specs.Fault.{Fault, fault_line};
@@ -14,7 +14,7 @@ use flat_arrays::put_items;
 use itoa::Buffer;
 use text_pieces::{Piece, Pieces};
 
-// Writes the text of a piece behind the first bytes, and returns where it ends.
+// Writes the text of a piece after the first `at` bytes, and returns its end.
 fn put_piece(line: &mut [u8], at: usize, piece: &Piece) -> usize
     requires { at + length (piece_text piece.now) ≤ length line.old }
     ensures written { take result line.new ≡ take at line.old ++ piece_text piece.now }
@@ -26,7 +26,7 @@ fn put_piece(line: &mut [u8], at: usize, piece: &Piece) -> usize
     at + text.len()
 }
 
-// Writes the pieces one after another behind the first bytes, and returns where they end.
+// Writes the pieces one after another after the first `at` bytes, and returns their end.
 fn put_pieces(line: &mut [u8], at: usize, pieces: &[Piece]) -> usize
     requires { at + length (pieces_text pieces.now) ≤ length line.old }
     ensures written { take result line.new ≡ take at line.old ++ pieces_text pieces.now }
@@ -41,7 +41,7 @@ fn put_pieces(line: &mut [u8], at: usize, pieces: &[Piece]) -> usize
     end
 }
 
-// Writes the pieces as a line of the program, and returns where it ends.
+// Writes the pieces as a line of the program, and returns its end.
 fn put_as_line(line: &mut [u8], pieces: &Pieces) -> usize
     requires { length (codes "far: " ++ (pieces.now ++ codes "\n")) ≤ length line.old }
     ensures written { take result line.new ≡ codes "far: " ++ (pieces.now ++ codes "\n") }
@@ -52,7 +52,7 @@ fn put_as_line(line: &mut [u8], pieces: &Pieces) -> usize
     put_piece(line, end, &Piece::Text("\n"))
 }
 
-// Writes as much of a text as fits, and leaves what is behind it.
+// Writes as much of a text as fits, and leaves the bytes behind it.
 fn put_front(text: &[u8], out: &mut [u8])
     ensures { out.new ≡ take (length out.old) text.now ++ drop (length text.now) out.old }
 {
@@ -60,7 +60,7 @@ fn put_front(text: &[u8], out: &mut [u8])
     out[..count].copy_from_slice(&text[..count]);
 }
 
-// Writes as much of the fault's line as fits, and returns how long the line is.
+// Writes as much of the line of a fault as fits, and returns the length of the whole line.
 fn put_fault_line(fault: &FarFault, out: &mut [u8]) -> u64
     requires { length (fault_line (fault_of fault.now)) ≤ 128 }
     ensures { IsPut (fault_line (fault_of fault.now)) out.old out.new result }
@@ -71,11 +71,11 @@ fn put_fault_line(fault: &FarFault, out: &mut [u8]) -> u64
     end as u64
 }
 
-/// Writes the line of the fault of the record into the bytes, and returns how long the line is. It is the line that a run with the fault
-/// writes on standard error: it begins with `far: ` and ends with LF, and has at most 128 bytes.
+/// Writes the line of a record's fault to the front of `out`, and returns the length of the whole line, at most 128 bytes. It is the line
+/// that a run writes on standard error, from `far: ` to the line feed.
 ///
-/// Where there are fewer bytes than the line has, its first bytes are written. Bytes behind the line stay. Where the record is that of
-/// no fault of a run, nothing is written, and 0 is returned.
+/// If `out` is shorter than the line, it gets the first bytes of the line. Bytes behind the line stay. If no fault of a run has the
+/// record, the call writes nothing and returns 0.
 pub fn put_line(held: &FaultRecord, out: &mut [u8]) -> u64
     ensures line { (fault : Fault) → IsRecordOf held.now fault → IsPut (fault_line fault) out.old out.new result }
     ensures none { IsOfNone held.now → IsPut [] out.old out.new result }

@@ -1,4 +1,4 @@
-//! The record, and the statuses that no run of the program has.
+//! The record of a fault, and the statuses that no run of the program has.
 
 ghost use Rattle.std.specs.Prelude.{◌≡◌};
 ghost use Rattle.fault_record.specs.Arrays as arrays;
@@ -6,41 +6,42 @@ ghost use Rattle.fault_record.specs.Arrays as arrays;
 use nearest_float::FloatFault;
 use raw_mesh::BadPart;
 
-/// The status of a call that did what it says.
+/// The status of a call that succeeded.
 pub const DONE: u32 = 0;
 
-/// The status of a call for which an array of the caller is too short. The counts that are needed are written.
+/// The status of a call with too short an array. The call has written the counts that it needs.
 pub const TOO_SHORT: u32 = 1;
 
-/// The status of arrays that are refused. For a mesh the kind is the place of the fault among the variants of `BadPart`, counted from 0, or
-/// from 13 to 16 for its options and tags. It is 17 for a row of a table, and 18 for a denominator. The first number is the place in the
-/// array, counted from 0, where the fault has one.
+/// The status of refused arrays. For a mesh the kind is the number of the variant of `BadPart`, counted from 0, or 13 to 16 for its
+/// options and tags. It is 17 for a row of a table and 18 for a denominator. The first number is the place in the array, counted from 0,
+/// if the fault has one.
 pub const BAD_ARRAYS: u32 = 17;
 
-/// The status of a list of numbers of which one is refused. The kind is 0 where it is no finite number, and 1 where its fraction is too
-/// wide. The first number is its place in the list, counted from 0.
+/// The status of a list with a refused number. The kind is 0 for a number that is not finite, and 1 for a fraction that is too wide. The
+/// first number is the place in the list, counted from 0.
 pub const BAD_NUMBER: u32 = 18;
 
-/// The status of a call with an option that is out of its range, or that asks a mesh for texture that it does not have. The kind is 1 for a
-/// range of rows, and else 0.
+/// The status of a call with an option out of its range, or that asks for the texture of a mesh without one. The kind is 1 for a range of
+/// rows, else 0.
 pub const BAD_ARGUMENT: u32 = 19;
 
-/// A fault as four numbers, as C holds it.
+/// A fault as four numbers, in the layout of a C struct. A kind or number that the fault does not have is 0.
 #[repr(C)]
 #[derive(Clone, Copy, Debug, PartialEq, Eq)]
 pub struct FaultRecord {
-    /// The exit status of a run with the fault, from 2 to 11 or from 13 to 16, or one of the other statuses of this crate.
+    /// The exit status of a run with this fault, 2 to 11 or 13 to 16, or one of the constants of this crate.
     pub status: u32,
-    /// Which of the faults with the status it is, counted from 0.
+    /// The kind of the fault among those with the same status, counted from 0. For status 8 it is 4 times the track plus the kind of
+    /// overflow, both in the order of their variants, or 16 for the sum of a row.
     pub kind: u32,
-    /// The first number that the fault names, and 0 where there is none.
+    /// The first number that the fault names. A count is the first number only if the fault names no face, vertex or level.
     pub first: u64,
-    /// The second number that the fault names, and 0 where there is none.
+    /// The second number that the fault names: the other end of an edge, or a count.
     pub second: u64,
 }
 
 impl FaultRecord {
-    /// Returns the record of a part of a mesh that is refused. Its status is `BAD_ARRAYS`.
+    /// Returns the record of a refused part of a mesh. Its status is `BAD_ARRAYS`.
     pub fn of_bad_part(bad: &BadPart) -> FaultRecord
         ensures { result ≡ arrays.record_of_bad_part bad.now }
     {
@@ -61,7 +62,7 @@ impl FaultRecord {
         }
     }
 
-    /// Returns the record of the float at a place of a list, counted from 0, that has no exact fraction. Its status is `BAD_NUMBER`.
+    /// Returns the record of a refused float. Its status is `BAD_NUMBER`; `place` is counted from 0.
     pub fn of_bad_number(place: usize, fault: FloatFault) -> FaultRecord
         ensures { result ≡ arrays.record_of_bad_number place fault }
     {
@@ -72,7 +73,7 @@ impl FaultRecord {
     }
 }
 
-// Returns the record of arrays that are refused.
+// Returns the record of refused arrays.
 fn bad_arrays(kind: u32, place: usize) -> FaultRecord
     ensures { result ≡ arrays.row 17 kind place 0 }
 {
@@ -84,7 +85,7 @@ fn bad_arrays(kind: u32, place: usize) -> FaultRecord
     }
 }
 
-// Returns the record of a float without a fraction.
+// Returns the record of a refused float.
 fn bad_number(kind: u32, place: usize) -> FaultRecord
     ensures { result ≡ arrays.row 18 kind place 0 }
 {

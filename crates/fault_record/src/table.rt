@@ -21,7 +21,7 @@ use mesh_check::MeshFault;
 use obj_tags::ObjCause;
 use table_file::TableCause;
 
-// Returns the number of a cause among those of a line of a text.
+// Returns the number of a cause for a line of a mesh text.
 fn cause_kind(cause: ObjCause) -> u32
     ensures { result ≡ spec.cause_kind (cause_of cause) }
 {
@@ -42,7 +42,7 @@ fn cause_kind(cause: ObjCause) -> u32
     }
 }
 
-// Returns the number of a cause among those of a line of a stored table.
+// Returns the number of a cause for a line of a stored table.
 fn table_cause_kind(cause: TableCause) -> u32
     ensures { result ≡ spec.table_cause_kind (file.cause_of cause) }
 {
@@ -54,7 +54,7 @@ fn table_cause_kind(cause: TableCause) -> u32
     }
 }
 
-// Returns the number of a track, and that of a kind of overflow in it.
+// Returns the kind of a record for an overflow: 4 times the track plus the kind of the overflow.
 fn overflow_kind(track: Track, kind: OverflowKind) -> u32
     ensures { result ≡ 4 * spec.track_number (track_of track) + spec.overflow_number (kind_of kind) }
 {
@@ -97,14 +97,14 @@ fn record(status: u32, kind: u32, first: u64, second: u64) -> FaultRecord
     }
 }
 
-// Returns the record of a fault that names one number of 32 bits.
+// Returns the record of a fault with one number of 32 bits.
 fn about(status: u32, kind: u32, number: u32) -> FaultRecord
     ensures { result ≡ row status kind number 0 }
 {
     record(status, kind, u64::from(number), 0)
 }
 
-// Returns the record of what is wrong with a mesh.
+// Returns the record of a fault of a mesh.
 pub(crate) fn mesh_record(fault: MeshFault) -> FaultRecord
     ensures row { result ≡ spec.mesh_record (mesh_fault_of fault) }
     ensures range { IsMeshInRange (mesh_fault_of fault) }
@@ -118,7 +118,7 @@ pub(crate) fn mesh_record(fault: MeshFault) -> FaultRecord
     }
 }
 
-// Returns the record of what there is too much of.
+// Returns the record of a count that passes its limit.
 fn counted_record(counted: Counted) -> FaultRecord
     ensures row { result ≡ spec.counted_record (counted_of counted) }
     ensures range { IsCountInRange (counted_of counted) }
@@ -135,7 +135,7 @@ fn counted_record(counted: Counted) -> FaultRecord
     }
 }
 
-// Returns the record of a point that has no limit point.
+// Returns the record of a point without a limit point.
 fn limit_record(cause: LimitCause) -> FaultRecord
     ensures row { result ≡ spec.limit_record (limit_cause_of cause) }
     ensures range { IsLimitInRange (limit_cause_of cause) }
@@ -146,7 +146,7 @@ fn limit_record(cause: LimitCause) -> FaultRecord
     }
 }
 
-// Returns the record of a place that has no answer.
+// Returns the record of a place without a patch or leaf.
 fn place_record(fault: PlaceFault) -> FaultRecord
     ensures row { result ≡ spec.place_record (place_fault_of fault) }
     ensures range { IsPlaceInRange (place_fault_of fault) }
@@ -160,7 +160,7 @@ fn place_record(fault: PlaceFault) -> FaultRecord
 }
 
 /// Returns the record of a fault: the exit status of a run with it, its kind among the faults with that status, and the numbers that it
-/// names. A fault without a kind or without a number has 0 there.
+/// names. The definition `record_of` in `crates/fault_record/specs/Table.antt` lists them all.
 pub fn record_of(fault: &FarFault) -> FaultRecord
     ensures numbers { IsRecordOf result (fault_of fault.now) }
     ensures status { result.status ≡ fault_status (fault_of fault.now) }

@@ -2,7 +2,7 @@ use Rattle.std.proofs.Common.{◌≡◌, ◌+◌, ◌++◌, length, take}
 use Rattle.text_pieces.specs.Text.{pieces_text}
 use Rattle.fault_record.proofs.line.put_pieces.Given as goal
 
--- what stands there and the rest make the whole text, which fits
+-- the bytes there and the rest make the whole text, which fits
 abbrev pub invariant-loop-rest : goal.invariant-loop-rest
 invariant-loop-rest l = record {
   written : take l.end l.line ++ pieces_text l.rest ≡ take l.fn.at l.fn.line ++ pieces_text l.fn.pieces;
