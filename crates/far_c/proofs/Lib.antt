@@ -1,3 +1,4 @@
+pub mod RefusalLemmas
 pub mod StatusLemmas
 mod StoredLemmas
 pub mod OriginLemmas

@@ -1,14 +1,18 @@
--- What a call answers that writes origins.
-use Rattle.std.proofs.Common.{◌≡◌, ℕ, inl, inr, Bool, true, false, refl, sym, if◌then◌else◌}
+-- The result of the call that writes origins.
+use Rattle.std.proofs.Common.{◌≡◌, ◌≤◌, ℕ, inl, inr, Bool, true, false, refl, sym, if◌then◌else◌}
+use Rattle.far_model.specs.Command.{Levels}
+use Rattle.far_model.specs.Answer.{command_faults}
 use Rattle.level_origins.specs.View.{seen_origins}
 use Rattle.level_origins.specs.Places as places
 use Rattle.level_origins.specs.declared.origin.Origins.{Origins}
 use Rattle.level_origins.specs.declared.places.OriginCounts.{OriginCounts}
 use Rattle.level_origins.specs.declared.places.OriginPlaces.{OriginPlaces}
+use Rattle.mesh_arrays.specs.Arrays.{mesh_of_arrays}
 use Rattle.mesh_arrays.specs.declared.arrays.MeshArrays.{MeshArrays}
 use Rattle.fault_record.specs.declared.record.FaultRecord.{FaultRecord}
 use Rattle.array_answers.specs.Origins.{AreOriginsOfArrays, IsLevelsRefusal}
 use Rattle.far_c.specs.Origins.{AnswersOrigins}
+use Rattle.far_c.proofs.RefusalLemmas.{refusal-status}
 
 module _ (mesh : MeshArrays) (depth : ℕ) (fault : FaultRecord) where
   -- origins are written, or an array is too short
@@ -21,5 +25,8 @@ module _ (mesh : MeshArrays) (depth : ℕ) (fault : FaultRecord) where
   origins-answered old new origins counts false status are counted enough written kept done =
       inr (inl (done, record { origins = origins; are = are; holds = (counted, sym enough, kept refl) }))
 
+  pub levels-status : IsLevelsRefusal mesh depth fault → 2 ≤ fault.status
+  levels-status is = refusal-status depth (command_faults (Levels depth) (mesh_of_arrays mesh)) mesh fault is
+
   pub origins-refused : (old : OriginPlaces) (counts : OriginCounts) → IsLevelsRefusal mesh depth fault → AnswersOrigins mesh depth fault.status counts old old fault
-  origins-refused old counts is = inr (inr (refl, (is, refl)))
+  origins-refused old counts is = inr (inr (levels-status is, refl, (is, refl)))

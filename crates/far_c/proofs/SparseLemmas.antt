@@ -1,4 +1,4 @@
--- What a call answers with sparse levels, by whether it wrote or was refused.
+-- The result of the call for sparse levels: it wrote, or it was refused.
 use Rattle.std.proofs.Common.{◌≡◌, ℕ, Bool, true, false, List, inl, inr, refl, ap, sym, subst, ◌∙◌, if◌then◌else◌}
 use Rattle.ratio128.specs.declared.point.Point3.{Point3}
 use Rattle.sparse_faces.specs.declared.values.SparseValues.{SparseValues}
@@ -11,6 +11,7 @@ use Rattle.array_answers.specs.Sparse.{AreSparseAsked, IsSparseRefused, sparse_a
 use Rattle.array_answers.specs.declared.sparse.SparseArrays.{SparseArrays}
 use Rattle.array_answers.specs.declared.sparse.SparseRequest.{SparseRequest}
 use Rattle.far_c.specs.Sparse.{AnswersSparse}
+use Rattle.far_c.proofs.RefusalLemmas.{sparse-status}
 
 module _ (mesh : MeshArrays) (request : SparseRequest) (fault : FaultRecord) where
   -- the levels are written, or an array is too short
@@ -33,4 +34,4 @@ module _ (mesh : MeshArrays) (request : SparseRequest) (fault : FaultRecord) whe
       (λ yes. subst (λ levels. IsWritten levels sparse.common old new) is_second (written yes)) kept done
 
   pub sparse-refused : (old : SparsePlaces) (counts : SparseCounts) → IsSparseRefused (sparse_asked request) mesh fault → AnswersSparse mesh request fault.status counts old old fault
-  sparse-refused old counts is = inr (inr (refl, (is, refl)))
+  sparse-refused old counts is = inr (inr (sparse-status (sparse_asked request) mesh fault is, refl, (is, refl)))

@@ -1,10 +1,12 @@
--- What a call answers, by whether it wrote or was refused.
-use Rattle.std.proofs.Common.{◌≡◌, ℕ, ◌*◌, Bool, true, false, nat_le, List, length, take, Option, Some, None, MatchOption, inl, inr, refl, ap, sym, ◌∙◌, subst, if◌then◌else◌}
+-- The result of a call: it wrote, or it was refused.
+use Rattle.std.proofs.Common.{◌≡◌, ◌≤◌, ℕ, ◌*◌, Bool, true, false, nat_le, List, length, take, Option, Some, None, MatchOption, inl, inr, refl, ap, sym, ◌∙◌, subst, if◌then◌else◌}
 use Rattle.std.proofs.lemmas.Bool.{leb-false}
 use Rattle.subdiv_model.specs.Table.{Table}
+use Rattle.far_model.specs.Answer.{table_faults}
 use Rattle.nearest_float.specs.Binary.{Format}
 use Rattle.nearest_arrays.specs.Nearest.{AreNearest}
 use Rattle.flat_arrays.specs.declared.wide.Wide.{Wide}
+use Rattle.mesh_arrays.specs.Arrays.{mesh_of_arrays}
 use Rattle.mesh_arrays.specs.declared.arrays.MeshArrays.{MeshArrays}
 use Rattle.fault_record.specs.declared.record.FaultRecord.{FaultRecord}
 use Rattle.table_arrays.specs.Places as table
@@ -23,6 +25,7 @@ use Rattle.row_arrays.specs.Fractions.{fraction_fault, fractions_of}
 use Rattle.row_arrays.specs.declared.fraction_fault.FractionFault.{FractionFault}
 use Rattle.row_arrays.specs.declared.fractions.FractionArrays.{FractionArrays}
 use Rattle.far_c.specs.Status.{AnswersFault}
+use Rattle.far_c.proofs.RefusalLemmas.{refusal-status, request-status}
 use Rattle.far_c.specs.Fractions.{AnswersFractions, record_of_fraction_fault}
 use Rattle.far_c.specs.Answers.{AnswersTable, AnswersLevel, AnswersPoints, AnswersExactPoints, AreExactPoints, are_exact_long_enough, IsRefusedAt}
 
@@ -32,10 +35,10 @@ none-answered record_of None held e = refl
 none-answered record_of (Some found) held e = cc
 
 -- there is this fault
-pub fault-answered : {F : Type 0} (record_of : F → FaultRecord) (fault : Option F) (found : F) (held : FaultRecord) → fault ≡ Some found → held ≡ record_of found
+pub fault-answered : {F : Type 0} (record_of : F → FaultRecord) (fault : Option F) (found : F) (held : FaultRecord) → fault ≡ Some found → held ≡ record_of found → 1 ≤ held.status
     → AnswersFault record_of fault held.status held
-fault-answered record_of None found held e is = cc
-fault-answered record_of (Some other) found held e is = (is ∙ ap record_of (some-same found other (sym e)), refl)
+fault-answered record_of None found held e is many = cc
+fault-answered record_of (Some other) found held e is many = (many, is ∙ ap record_of (some-same found other (sym e)), refl)
   where
     some-same : {F : Type 0} (a b : F) → Some a ≡ Some b → a ≡ b
     some-same a b e = cc
@@ -50,9 +53,9 @@ fractions-answered f fractions old new held none nearest = (none-answered record
     by (Some found) e = cc
 
 pub fractions-refused : (f : Format) (fractions : FractionArrays) (old new : List ℕ) (found : FractionFault) (held : FaultRecord) → fraction_fault fractions (length old) ≡ Some found
-    → held ≡ record_of_fraction_fault found → new ≡ old → AnswersFractions f fractions held.status old new held
-fractions-refused f fractions old new found held some is kept =
-    (fault-answered record_of_fraction_fault (fraction_fault fractions (length old)) found held some is, by (fraction_fault fractions (length old)) some)
+    → held ≡ record_of_fraction_fault found → 1 ≤ held.status → new ≡ old → AnswersFractions f fractions held.status old new held
+fractions-refused f fractions old new found held some is many kept =
+    (fault-answered record_of_fraction_fault (fraction_fault fractions (length old)) found held some is many, by (fraction_fault fractions (length old)) some)
   where
     by : (fault : Option FractionFault) → fault ≡ Some found → MatchOption fault (AreNearest f (fractions_of fractions) (take (length fractions.numerators.now) new)) (λ _. new ≡ old)
     by None e = cc
@@ -71,9 +74,12 @@ module _ (mesh : MeshArrays) (request : RowRequest) (fault : FaultRecord) where
 
   pub table-refused : {P : Type 0} (long_enough : TableCounts → P → Bool) (Written : Table → P → Type 0) (old : P) (counts : TableCounts) → IsRequestRefused (rows_asked request) mesh fault
       → AnswersTable long_enough Written mesh request fault.status counts old old fault
-  table-refused long_enough Written old counts is = inr (inr (refl, (is, refl)))
+  table-refused long_enough Written old counts is = inr (inr (request-status (rows_asked request) mesh fault is, refl, (is, refl)))
 
 module _ (mesh : MeshArrays) (depth : ℕ) (fault : FaultRecord) where
+  pub refused-at-status : IsRefusedAt mesh depth fault → 2 ≤ fault.status
+  refused-at-status is = refusal-status depth (table_faults depth (mesh_of_arrays mesh)) mesh fault is
+
   -- a level is written, or an array is too short
   pub level-answered : (old new : LevelPlaces) (refined : RefinedArrays) (counts : LevelCounts) (ok : Bool) (status : ℕ)
       → IsRefinedOf mesh depth refined → counts ≡ level.counts_of refined.composed.level → ok ≡ level.are_long_enough (level.counts_of refined.composed.level) old
@@ -85,7 +91,7 @@ module _ (mesh : MeshArrays) (depth : ℕ) (fault : FaultRecord) where
       inr (inl (done, record { refined = refined; is = is; holds = (counted, sym enough, kept refl) }))
 
   pub level-refused : (old : LevelPlaces) (counts : LevelCounts) → IsRefusedAt mesh depth fault → AnswersLevel mesh depth fault.status counts old old fault
-  level-refused old counts is = inr (inr (refl, (is, refl)))
+  level-refused old counts is = inr (inr (refused-at-status is, refl, (is, refl)))
 
   -- points are written, or the array is too short
   points-written : (f : Format) (old new : List ℕ) (refined : RefinedPoints) (ok : Bool) (status : ℕ)
@@ -105,7 +111,7 @@ module _ (mesh : MeshArrays) (depth : ℕ) (fault : FaultRecord) where
       subst (λ (n : ℕ). AnswersPoints f mesh depth status n old new fault) (sym counted) (points-written f old new refined ok status are enough written kept done)
 
   pub points-refused : (f : Format) (count : ℕ) (old : List ℕ) → IsRefusedAt mesh depth fault → AnswersPoints f mesh depth fault.status count old old fault
-  points-refused f count old is = inr (inr (refl, (is, refl)))
+  points-refused f count old is = inr (inr (refused-at-status is, refl, (is, refl)))
 
   exact-written : (old_nums nums old_dens dens : List Wide) (refined : RefinedPoints) (ok : Bool) (status : ℕ)
       → ArePointsOf mesh depth refined → ok ≡ are_exact_long_enough (length refined.points.items) old_nums old_dens
@@ -124,4 +130,4 @@ module _ (mesh : MeshArrays) (depth : ℕ) (fault : FaultRecord) where
       subst (λ (n : ℕ). AnswersExactPoints mesh depth status n old_nums nums old_dens dens fault) (sym counted) (exact-written old_nums nums old_dens dens refined ok status are enough written kept done)
 
   pub exact-refused : (count : ℕ) (nums dens : List Wide) → IsRefusedAt mesh depth fault → AnswersExactPoints mesh depth fault.status count nums nums dens dens fault
-  exact-refused count nums dens is = inr (inr (refl, (is, refl, refl)))
+  exact-refused count nums dens is = inr (inr (refused-at-status is, refl, (is, refl, refl)))

@@ -1,4 +1,4 @@
--- What is answered to the rows of a table, by whether their text fits.
+-- The result of writing the text of the rows of a table: it fits, or it is longer.
 use Rattle.std.proofs.Common.{◌≡◌, ℕ, ◌-◌, ◌^◌, ◌<◌, ◌≤◌, Bool, true, false, nat_le, List, length, inl, inr, arith, sym, ◌∙◌, leb-true, if◌then◌else◌}
 use Rattle.std.proofs.lemmas.Bool.{leb-false}
 use Rattle.std.proofs.lemmas.List.{take_all}

@@ -1,4 +1,4 @@
--- What a call answers of texture, by whether it wrote or was refused.
+-- The result of the calls for texture: they wrote, or they were refused.
 use Rattle.std.proofs.Common.{◌≡◌, ℕ, ◌*◌, Bool, true, false, nat_le, List, length, map, take, inl, inr, refl, sym, subst, if◌then◌else◌}
 use Rattle.std.proofs.lemmas.Bool.{leb-false}
 use Rattle.flat_arrays.specs.Words.{integer_of}
@@ -13,6 +13,7 @@ use Rattle.array_answers.specs.Asked.{texture_asked}
 use Rattle.array_answers.specs.Rows.{IsRequestRefused, IsTextureAsked}
 use Rattle.array_answers.specs.declared.textures.TextureArrays.{TextureArrays}
 use Rattle.far_c.specs.Textures.{AnswersTextureLevel, AnswersTextureValues}
+use Rattle.far_c.proofs.RefusalLemmas.{request-status}
 
 module _ (mesh : MeshArrays) (seams depth : ℕ) (fault : FaultRecord) where
   -- a level is written, or an array is too short
@@ -27,7 +28,7 @@ module _ (mesh : MeshArrays) (seams depth : ℕ) (fault : FaultRecord) where
 
   pub texture-level-refused : (old : LevelPlaces) (counts : LevelCounts) → IsRequestRefused (texture_asked seams depth) mesh fault
       → AnswersTextureLevel mesh seams depth fault.status counts old old fault
-  texture-level-refused old counts is = inr (inr (refl, (is, refl)))
+  texture-level-refused old counts is = inr (inr (request-status (texture_asked seams depth) mesh fault is, refl, (is, refl)))
 
 module _ (mesh : MeshArrays) (seams : ℕ) (fault : FaultRecord) where
   -- values are written, or the array is too short
@@ -50,4 +51,4 @@ module _ (mesh : MeshArrays) (seams : ℕ) (fault : FaultRecord) where
       subst (λ (n : ℕ). AnswersTextureValues mesh seams status n old new fault) (sym counted) (values-written old new found ok status is enough written kept done)
 
   pub values-refused : (count : ℕ) (old : List Wide) → IsRequestRefused (texture_asked seams 0) mesh fault → AnswersTextureValues mesh seams fault.status count old old fault
-  values-refused count old is = inr (inr (refl, (is, refl)))
+  values-refused count old is = inr (inr (request-status (texture_asked seams 0) mesh fault is, refl, (is, refl)))

@@ -1,4 +1,4 @@
--- What is answered to a mesh: its table, its points and its level at a depth.
+-- The results of calls for a mesh: its table, its points and its level at a depth.
 use Rattle.std.specs.Prelude.{ℕ, ◌≡◌, ◌<◌, ◌*◌, ◌&&◌, Bool, false, nat_le, List, length, map, take}
 use Rattle.subdiv_model.specs.Table.{Table}
 use Rattle.far_model.specs.Answer.{table_faults}
@@ -29,19 +29,19 @@ use Rattle.far_c.specs.Status.{IsStatus}
 abbrev pub IsRefusedAt : MeshArrays → ℕ → FaultRecord → Type 0
 IsRefusedAt mesh depth found = IsRefusal depth (table_faults depth (mesh_of_arrays mesh)) mesh found
 
--- the mesh has a level at the depth with a table, of which this holds
+-- the mesh has a level at the depth with a table, and `Holds` is true of both
 pub record HasLevel (mesh : MeshArrays) (depth : ℕ) (Holds : Topology → Table → Type 0) : Type 0 where
   pub refined : RefinedArrays
   pub is : IsRefinedOf mesh depth refined
   pub holds : Holds refined.composed.level refined.composed.table
 
--- the mesh has the rows that are asked for, and of their table this holds
+-- the mesh has the requested rows, and `Holds` is true of their table
 pub record HasRows (mesh : MeshArrays) (request : RowRequest) (Holds : Table → Type 0) : Type 0 where
   pub table : Table
   pub are : AreRowsAsked request mesh table
   pub holds : Holds table
 
--- their table is written, or only its counts where an array is too short
+-- the table of the rows is written, or only its counts if an array is too short
 abbrev pub AnswersTable : {P : Type 0} → (TableCounts → P → Bool) → (Table → P → Type 0) → MeshArrays → RowRequest → ℕ → TableCounts → P → P → FaultRecord → Type 0
 AnswersTable long_enough Written mesh request status counts old new fault =
     IsStatus status
@@ -49,7 +49,7 @@ AnswersTable long_enough Written mesh request status counts old new fault =
     (HasRows mesh request (λ t. (counts ≡ table.counts_of t) × (long_enough (table.counts_of t) old ≡ false) × (new ≡ old)))
     (λ found. IsRequestRefused (rows_asked request) mesh found × (new ≡ old)) fault
 
--- the faces and the edges of the level are written, or only its counts where an array is too short
+-- the faces and the edges of the level are written, or only its counts if an array is too short
 abbrev pub AnswersLevel : MeshArrays → ℕ → ℕ → LevelCounts → LevelPlaces → LevelPlaces → FaultRecord → Type 0
 AnswersLevel mesh depth status counts old new fault =
     IsStatus status
@@ -57,14 +57,14 @@ AnswersLevel mesh depth status counts old new fault =
     (HasLevel mesh depth (λ l t. (counts ≡ level.counts_of l) × (level.are_long_enough (level.counts_of l) old ≡ false) × (new ≡ old)))
     (λ found. IsRefusedAt mesh depth found × (new ≡ old)) fault
 
--- the mesh has points at the depth, so many, of which this holds
+-- the mesh has this number of points at the depth, and `Holds` is true of them
 pub record HasPoints (mesh : MeshArrays) (depth count : ℕ) (Holds : RefinedPoints → Type 0) : Type 0 where
   pub refined : RefinedPoints
   pub are : ArePointsOf mesh depth refined
   pub counted : count ≡ length refined.points.items
   pub holds : Holds refined
 
--- the numbers of a format nearest to the coordinates of the points are written, or only how many points there are
+-- the numbers of a format nearest to the coordinates are written, or only the number of points
 abbrev pub AnswersPoints : Format → MeshArrays → ℕ → ℕ → ℕ → List ℕ → List ℕ → FaultRecord → Type 0
 AnswersPoints f mesh depth status count old new fault =
     IsStatus status
@@ -72,7 +72,7 @@ AnswersPoints f mesh depth status count old new fault =
     (HasPoints mesh depth count (λ p. (length old < 3 * count) × (new ≡ old)))
     (λ found. IsRefusedAt mesh depth found × (new ≡ old)) fault
 
--- three numerators and a denominator for each of so many points have a place
+-- the arrays have places for three numerators and a denominator of each point
 abbrev pub are_exact_long_enough : ℕ → List Wide → List Wide → Bool
 are_exact_long_enough count numerators denominators = nat_le (3 * count) (length numerators) && nat_le count (length denominators)
 
@@ -81,7 +81,7 @@ pub record AreExactPoints (count : ℕ) (numerators denominators : List Wide) (r
   pub nums : map integer_of (take (3 * count) numerators) ≡ all_numerators refined.points.items
   pub dens : map natural_of (take count denominators) ≡ all_denominators refined.common refined.points.items
 
--- they are written, or only how many points there are
+-- the exact points are written, or only their number
 abbrev pub AnswersExactPoints : MeshArrays → ℕ → ℕ → ℕ → List Wide → List Wide → List Wide → List Wide → FaultRecord → Type 0
 AnswersExactPoints mesh depth status count old_nums nums old_dens dens fault =
     IsStatus status

@@ -1,4 +1,4 @@
--- What is answered to a mesh whose faults are asked for.
+-- The result of the call for all faults of a mesh.
 use Rattle.std.specs.Prelude.{ℕ, ◌≡◌, ◌<◌, List, ◌++◌, length, drop}
 use Rattle.subdiv_model.specs.MeshFault.{MeshFault}
 use Rattle.mesh_check.specs.Listed.{listed_faults}
@@ -14,13 +14,13 @@ use Rattle.far_c.specs.Status.{IsStatus}
 abbrev pub faults_of : MeshArrays → List MeshFault
 faults_of mesh = listed_faults (length (mesh_of_arrays mesh).points) (mesh_of_arrays mesh).faces
 
--- the arrays are a mesh with so many faults, and this holds
+-- the arrays are a mesh with this number of faults, and `Holds` is true
 pub record HasFaults (mesh : MeshArrays) (count : ℕ) (Holds : Type 0) : Type 0 where
   pub good : IsMeshOf mesh (mesh_of_arrays mesh)
   pub counted : count ≡ length (faults_of mesh)
   pub holds : Holds
 
--- the records of the faults are written into the first places, or only how many there are where the array is too short
+-- the records of the faults are written to the front, or only their number if the array is too short
 abbrev pub AnswersFaults : MeshArrays → ℕ → ℕ → List FaultRecord → List FaultRecord → FaultRecord → Type 0
 AnswersFaults mesh status count old new fault =
     IsStatus status

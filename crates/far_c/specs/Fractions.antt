@@ -1,4 +1,4 @@
--- What is answered to fractions: the nearest numbers of a format.
+-- The result of the calls for the nearest numbers of fractions.
 use Rattle.std.specs.Prelude.{ℕ, ◌≡◌, List, length, take, MatchOption}
 use Rattle.nearest_float.specs.Binary.{Format}
 use Rattle.nearest_arrays.specs.Nearest.{AreNearest}
@@ -16,7 +16,7 @@ record_of_fraction_fault Short = row 1 0 0 0
 record_of_fraction_fault (Denominator place) = row 17 18 place 0
 record_of_fraction_fault (Numerator place) = row 18 1 place 0
 
--- the nearest numbers are written, or the first fault is told and nothing is written
+-- the nearest numbers are written; or this is the record of the first fault, and nothing is written
 abbrev pub AnswersFractions : Format → FractionArrays → ℕ → List ℕ → List ℕ → FaultRecord → Type 0
 AnswersFractions f fractions status old new held =
     AnswersFault record_of_fraction_fault (fraction_fault fractions (length old)) status held

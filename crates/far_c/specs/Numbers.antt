@@ -1,4 +1,4 @@
--- What is answered to doubles and floats: their exact numerators.
+-- The result of the calls for the exact numerators of doubles and floats.
 use Rattle.std.specs.Prelude.{ℕ, ◌≡◌, ◌<◌, ◌⊎◌, List, length, map, take}
 use Rattle.nearest_float.specs.Binary.{Format}
 use Rattle.flat_arrays.specs.Words.{integer_of}
@@ -11,7 +11,7 @@ use Rattle.fault_record.specs.Arrays.{row, record_of_bad_number}
 use Rattle.fault_record.specs.declared.record.FaultRecord.{FaultRecord}
 use Rattle.far_c.specs.Status.{IsStatus}
 
--- a number is refused for this, and this is the record
+-- a number is refused for this fault, and this is the record
 pub record IsNumberRefused (Refused : NumberFault → Type 0) (found : FaultRecord) : Type 0 where
   pub fault : NumberFault
   pub is : Refused fault
@@ -21,11 +21,12 @@ pub record IsNumberRefused (Refused : NumberFault → Type 0) (found : FaultReco
 abbrev pub IsShort : List ℕ → List Wide → List Wide → Type 0
 IsShort bits old new = (length old < length bits) × (new ≡ old)
 
+-- the numerators over the least common denominator are written, or the fault of the first number without one
 abbrev pub AnswersScale : Format → List ℕ → ℕ → ℕ → List Wide → List Wide → FaultRecord → Type 0
 AnswersScale f bits status scale old new fault =
     IsStatus status (AreScaled f bits scale (map integer_of (take (length bits) new))) (IsShort bits old new) (IsNumberRefused (IsScaleFault f bits)) fault
 
--- a grid finer than 2^-126 is refused before all numbers
+-- a grid finer than 2^-126 is refused before any number
 abbrev pub AnswersRounding : Format → ℕ → List ℕ → ℕ → ℕ → List Wide → List Wide → FaultRecord → Type 0
 AnswersRounding f grid_bits bits status changed old new fault =
     IsStatus status (AreRounded f grid_bits bits changed (map integer_of (take (length bits) new))) (IsShort bits old new)

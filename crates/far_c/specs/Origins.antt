@@ -1,4 +1,4 @@
--- What is answered to a mesh: where its level at a depth lies on it.
+-- The result of the call for the origins of a level of a mesh.
 use Rattle.std.specs.Prelude.{ℕ, ◌≡◌, false}
 use Rattle.level_origins.specs.Origins as model
 use Rattle.level_origins.specs.View.{seen_origins}
@@ -11,13 +11,13 @@ use Rattle.fault_record.specs.declared.record.FaultRecord.{FaultRecord}
 use Rattle.array_answers.specs.Origins.{AreOriginsOfArrays, IsLevelsRefusal}
 use Rattle.far_c.specs.Status.{IsStatus}
 
--- the mesh has a level at the depth with these origins, of which this holds
+-- the mesh has a level at the depth with these origins, and `Holds` is true of them
 pub record HasOrigins (mesh : MeshArrays) (depth : ℕ) (Holds : model.Origins → Type 0) : Type 0 where
   pub origins : Origins
   pub are : AreOriginsOfArrays mesh depth origins
   pub holds : Holds (seen_origins origins)
 
--- the origins are written, or only their counts where an array is too short
+-- the origins are written, or only their counts if an array is too short
 abbrev pub AnswersOrigins : MeshArrays → ℕ → ℕ → OriginCounts → OriginPlaces → OriginPlaces → FaultRecord → Type 0
 AnswersOrigins mesh depth status counts old new fault =
     IsStatus status

@@ -4,7 +4,7 @@ use Rattle.row_arrays.specs.declared.rows.RowFault.TheVariants.{Range, Short, Ro
 use Rattle.fault_record.specs.Arrays.{row}
 use Rattle.fault_record.specs.declared.record.FaultRecord.{FaultRecord}
 
--- status, kind and first number; the number of a row is counted from 0
+-- status, kind and first number; a row is counted from 0
 abbrev pub record_of_row_fault : RowFault → FaultRecord
 record_of_row_fault Range = row 19 1 0 0
 record_of_row_fault Short = row 1 0 0 0

@@ -1,4 +1,4 @@
--- What is answered to a mesh: its sparse levels.
+-- The result of the call for the sparse levels of a mesh.
 use Rattle.std.specs.Prelude.{ℕ, ◌≡◌, false}
 use Rattle.mesh_arrays.specs.declared.arrays.MeshArrays.{MeshArrays}
 use Rattle.sparse_arrays.specs.Places.{counts_of, are_long_enough, IsWritten}
@@ -10,14 +10,14 @@ use Rattle.array_answers.specs.declared.sparse.SparseArrays.{SparseArrays}
 use Rattle.array_answers.specs.declared.sparse.SparseRequest.{SparseRequest}
 use Rattle.far_c.specs.Status.{IsStatus}
 
--- the mesh has the sparse levels that are asked for, so many, of which this holds
+-- the mesh has the requested sparse levels with these counts, and `Holds` is true of them
 pub record HasSparse (mesh : MeshArrays) (request : SparseRequest) (counts : SparseCounts) (Holds : SparseArrays → Type 0) : Type 0 where
   pub sparse : SparseArrays
   pub are : AreSparseAsked request mesh sparse
   pub counted : counts ≡ counts_of sparse.levels.items
   pub holds : Holds sparse
 
--- the levels are written, or only how much they have of each kind where an array is too short
+-- the levels are written, or only their counts if an array is too short
 abbrev pub AnswersSparse : MeshArrays → SparseRequest → ℕ → SparseCounts → SparsePlaces → SparsePlaces → FaultRecord → Type 0
 AnswersSparse mesh request status counts old new fault =
     IsStatus status

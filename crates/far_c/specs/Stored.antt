@@ -1,4 +1,4 @@
--- What is answered to stored tables: rows in arrays, a text, and whether a text is that of a mesh.
+-- The results of calls about stored tables: rows in arrays, a text, and the comparison of a text with a mesh.
 use Rattle.std.specs.Prelude.{ℕ, ◌≡◌, ◌<◌, ◌≤◌, false, List, length, take}
 use Rattle.subdiv_model.specs.Table.{Table}
 use Rattle.subdiv_model.specs.TableText.{text_of_table}
@@ -15,7 +15,7 @@ use Rattle.stored_arrays.specs.Checked.{IsNotOwn, IsOwnText}
 use Rattle.stored_arrays.specs.declared.rows.ExactRows.{ExactRows}
 use Rattle.far_c.specs.Status.{IsStatus}
 
--- the text begins with that of a table with these counts, which has so many bytes, and of which this holds
+-- the text begins with the text of a table with these counts, which has this length, and `Holds` is true of the table
 pub record HasStored (text : List ℕ) (counts : TableCounts) (end : ℕ) (Holds : Table → Type 0) : Type 0 where
   pub read : TableRead
   pub is : IsReadOf text read
@@ -23,7 +23,7 @@ pub record HasStored (text : List ℕ) (counts : TableCounts) (end : ℕ) (Holds
   pub ended : end ≡ read.end
   pub holds : Holds read.table
 
--- the table is written, or only its counts and the end of its text where an array is too short
+-- the table is written, or only its counts and the end of its text if an array is too short
 abbrev pub AnswersRead : List ℕ → ℕ → TableCounts → ℕ → ExactPlaces → ExactPlaces → FaultRecord → Type 0
 AnswersRead text status counts end old new fault =
     IsStatus status
@@ -31,13 +31,13 @@ AnswersRead text status counts end old new fault =
     (HasStored text counts end (λ t. (table.are_exact_long_enough (table.counts_of t) old ≡ false) × (new ≡ old)))
     (λ found. IsRefusedFor (read_refusal text) found × (new ≡ old)) fault
 
--- the rows are those of a table, of whose text this holds
+-- the rows are those of a table, and `Holds` is true of its text
 pub record HasText (rows : ExactRows) (Holds : List ℕ → Type 0) : Type 0 where
   pub made : Table
   pub is : IsTableOf rows made
   pub holds : Holds (text_of_table made)
 
--- the bytes begin with the text, which has so many bytes
+-- the bytes begin with the text, which has this length
 pub record IsWritten (text new : List ℕ) (written : ℕ) : Type 0 where
   pub fits : length text ≤ length new
   pub front : take (length text) new ≡ text
@@ -54,6 +54,6 @@ abbrev pub AnswersWrite : ExactRows → ℕ → ℕ → List ℕ → List ℕ �
 AnswersWrite rows status written old new fault =
     IsStatus status (HasText rows (λ text. IsWritten text new written)) (HasText rows (λ text. IsCut text new written)) (λ found. AreRowsRefused rows found × (new ≡ old)) fault
 
--- the text is that of the table of the mesh at the depth, or why it is not
+-- the text is that of the mesh's table at the depth, or the fault for which it is not
 abbrev pub AnswersCheck : MeshArrays → ℕ → List ℕ → ℕ → FaultRecord → Type 0
 AnswersCheck mesh depth text status fault = IsStatus status ((rows : ℕ) × IsOwnText mesh depth text rows) ⊥ (IsNotOwn mesh depth text) fault

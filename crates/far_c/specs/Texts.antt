@@ -1,4 +1,4 @@
--- What is answered to an OBJ text: its mesh in arrays.
+-- The result of the call for the mesh of an OBJ text.
 use Rattle.std.specs.Prelude.{ℕ, ◌≡◌, ◌<◌, ◌^◌, ◌⊎◌, false, List, length}
 use Rattle.subdiv_model.specs.Fault.{Fault, Long}
 use Rattle.subdiv_model.specs.ObjMesh.{ObjMesh}
@@ -11,7 +11,7 @@ use Rattle.fault_record.specs.Back.{IsRecordOf}
 use Rattle.fault_record.specs.declared.record.FaultRecord.{FaultRecord}
 use Rattle.far_c.specs.Status.{IsStatus}
 
--- the text has a mesh with these counts and options, of which this holds
+-- the text has a mesh with these counts and options, and `Holds` is true of it
 pub record HasMesh (text : List ℕ) (counts : MeshCounts) (options : MeshOptions) (Holds : ObjMesh → Type 0) : Type 0 where
   pub mesh : ObjMesh
   pub is : IsMeshText text 0 mesh
@@ -25,7 +25,7 @@ pub record IsTextRefused (text : List ℕ) (found : FaultRecord) : Type 0 where
   pub is : ((2 ^ 28 < length text) × (fault ≡ Long)) ⊎ IsTextFault text 0 fault
   pub recorded : IsRecordOf found fault
 
--- the mesh is written, or only its counts and options where an array is too short
+-- the mesh is written, or only its counts and options if an array is too short
 abbrev pub AnswersText : List ℕ → ℕ → MeshCounts → MeshOptions → MeshPlaces → MeshPlaces → FaultRecord → Type 0
 AnswersText text status counts options old new fault =
     IsStatus status

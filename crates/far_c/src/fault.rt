@@ -7,7 +7,8 @@ ghost use Rattle.fault_record.specs.Lines.{IsPut};
 
 use fault_record::{FaultRecord, put_line};
 
-/// Writes the line of a fault of a run, as far as it fits, and returns how long it is. A record of no such fault has no line.
+/// Writes as much of the line of a fault as fits into `out`, and returns the length of the whole line. It returns 0 for a record that no
+/// fault of a run has.
 #[unsafe(no_mangle)]
 pub extern "C" fn far_fault_line(fault: &FaultRecord, out: &mut [u8]) -> u64
     ensures line { (named : Fault) → IsRecordOf fault.now named → IsPut (fault_line named) out.old out.new result }

@@ -10,7 +10,8 @@ use fault_record::{FaultRecord, put_mesh_faults};
 use mesh_arrays::MeshArrays;
 use std::alloc::Global;
 
-/// Writes the records of all faults of a mesh into the first places of an array, and how many there are. A manifold has none.
+/// Writes the records of all faults of a mesh to the front of `out`, in their order, and their number to `count`. A manifold has none. If
+/// `out` is too short, it writes only the number.
 #[unsafe(no_mangle)]
 pub extern "C" fn far_mesh_faults(
     alloc: Global,

@@ -1,4 +1,4 @@
-//! Levels of a mesh.
+//! The faces and edges of a level of a mesh.
 
 ghost use Rattle.std.specs.Prelude.{◌≡◌};
 ghost use Rattle.flat_arrays.specs.Places.{IsSameArray};
@@ -12,7 +12,8 @@ use level_arrays::{LevelCounts, LevelPlaces, counts_of, put_level};
 use mesh_arrays::MeshArrays;
 use std::alloc::Global;
 
-/// Writes the faces and the edges of the level of a mesh at a depth, and its counts.
+/// Writes the level of a mesh at `depth`, at most 10, and its counts: the size and the corners of each face, the ends of each edge, the
+/// holes. If an array is too short, it writes only the counts.
 #[unsafe(no_mangle)]
 pub extern "C" fn far_level(
     alloc: Global,
@@ -33,7 +34,7 @@ pub extern "C" fn far_level(
         Ok(refined) => {
             *counts = counts_of(&refined.composed.level);
             let done = put_level(&refined.composed.level, places);
-            // The prover proves a drop by name once for its type.
+            // The prover proves a named drop once for each type.
             drop(refined);
             written(done)
         }

@@ -1,5 +1,8 @@
-//! The interface for C: calls over arrays that the caller owns. Each returns a status: 0 where it did what it says, 1 where an array is too short,
-//! and else that of the fault, whose record is written.
+//! The interface for C: calls over a caller's arrays. Each returns a status: 0 if it succeeded, 1 if an array is too short, else the
+//! status of the fault, whose record it writes. With status 1 it writes the counts, and of a text its beginning.
+//!
+//! The proofs do not cover what C passes. A pointer must not be null, and an array must have its stated length. An array that a call
+//! writes must not overlap another argument, nor belong to another thread's call.
 #![tactic(auto)]
 
 mod fault;

@@ -1,6 +1,6 @@
 //! Doubles and floats as exact numerators.
 
-ghost use Rattle.std.specs.Prelude.{◌≡◌, length};
+ghost use Rattle.std.specs.Prelude.{◌≡◌, ◌≤◌, length, drop};
 ghost use Rattle.nearest_float.specs.Binary.{binary32, binary64};
 ghost use Rattle.flat_arrays.specs.Words.{natural_of};
 ghost use Rattle.fault_record.specs.Arrays.{record_of_bad_number, row};
@@ -15,9 +15,10 @@ use flat_arrays::Wide;
 
 const FINEST_GRID: u32 = 126;
 
-// The record of a number that was refused.
+// The record of a refused number.
 fn record_of_number(fault: NumberFault) -> FaultRecord
-    ensures { result ≡ record_of_bad_number fault.place fault.fault }
+    ensures row { result ≡ record_of_bad_number fault.place fault.fault }
+    ensures status { 2 ≤ result.status }
 {
     FaultRecord::of_bad_number(fault.place, fault.fault)
 }
@@ -34,7 +35,8 @@ fn bad_grid() -> FaultRecord
     }
 }
 
-/// Writes the numerators of doubles over their least common denominator, and that denominator.
+/// Writes the numerators of doubles, given as bits, over their least common denominator, and that denominator. If `out` is too short, it
+/// writes nothing. The fault names the first double without an exact fraction.
 #[unsafe(no_mangle)]
 pub extern "C" fn far_scale_doubles(
     bits: &[u64],
@@ -43,6 +45,7 @@ pub extern "C" fn far_scale_doubles(
     fault: &mut FaultRecord,
 ) -> u32
     ensures answer { AnswersScale binary64 bits.now result (natural_of scale.new) out.old out.new fault.new }
+    ensures rest { drop (length bits.now) out.new ≡ drop (length bits.now) out.old }
     ensures len { length out.new ≡ length out.old }
     ensures stays { IsKeptIfRefused result scale.old scale.new × IsKeptUnlessRefused result fault.old fault.new }
 {
@@ -61,7 +64,8 @@ pub extern "C" fn far_scale_doubles(
     }
 }
 
-/// Writes the numerators of floats over their least common denominator, and that denominator.
+/// Writes the numerators of floats, given as bits, over their least common denominator, and that denominator. If `out` is too short, it
+/// writes nothing. The fault names the first float without an exact fraction.
 #[unsafe(no_mangle)]
 pub extern "C" fn far_scale_floats(
     bits: &[u32],
@@ -70,6 +74,7 @@ pub extern "C" fn far_scale_floats(
     fault: &mut FaultRecord,
 ) -> u32
     ensures answer { AnswersScale binary32 bits.now result (natural_of scale.new) out.old out.new fault.new }
+    ensures rest { drop (length bits.now) out.new ≡ drop (length bits.now) out.old }
     ensures len { length out.new ≡ length out.old }
     ensures stays { IsKeptIfRefused result scale.old scale.new × IsKeptUnlessRefused result fault.old fault.new }
 {
@@ -88,7 +93,8 @@ pub extern "C" fn far_scale_floats(
     }
 }
 
-/// Writes the numerators of doubles rounded to multiples of 2^-grid_bits, over 2^grid_bits, and how many have another value.
+/// Rounds doubles, given as bits, to multiples of 2^-grid_bits, ties to even. It writes their numerators over 2^grid_bits, and the number
+/// of doubles that changed. If `out` is too short, it writes nothing. It refuses `grid_bits` above 126 first.
 #[unsafe(no_mangle)]
 pub extern "C" fn far_round_doubles(
     bits: &[u64],
@@ -98,6 +104,7 @@ pub extern "C" fn far_round_doubles(
     fault: &mut FaultRecord,
 ) -> u32
     ensures answer { AnswersRounding binary64 grid_bits bits.now result changed.new out.old out.new fault.new }
+    ensures rest { drop (length bits.now) out.new ≡ drop (length bits.now) out.old }
     ensures len { length out.new ≡ length out.old }
     ensures stays { IsKeptIfRefused result changed.old changed.new × IsKeptUnlessRefused result fault.old fault.new }
 {
@@ -120,7 +127,8 @@ pub extern "C" fn far_round_doubles(
     }
 }
 
-/// Writes the numerators of floats rounded to multiples of 2^-grid_bits, over 2^grid_bits, and how many have another value.
+/// Rounds floats, given as bits, to multiples of 2^-grid_bits, ties to even. It writes their numerators over 2^grid_bits, and the number
+/// of floats that changed. If `out` is too short, it writes nothing. It refuses `grid_bits` above 126 first.
 #[unsafe(no_mangle)]
 pub extern "C" fn far_round_floats(
     bits: &[u32],
@@ -130,6 +138,7 @@ pub extern "C" fn far_round_floats(
     fault: &mut FaultRecord,
 ) -> u32
     ensures answer { AnswersRounding binary32 grid_bits bits.now result changed.new out.old out.new fault.new }
+    ensures rest { drop (length bits.now) out.new ≡ drop (length bits.now) out.old }
     ensures len { length out.new ≡ length out.old }
     ensures stays { IsKeptIfRefused result changed.old changed.new × IsKeptUnlessRefused result fault.old fault.new }
 {

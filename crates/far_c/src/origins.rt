@@ -1,4 +1,4 @@
-//! Where the points and the faces of a level of a mesh lie on the mesh.
+//! The parts of a mesh on which the points and faces of a level lie.
 
 ghost use Rattle.std.specs.Prelude.{◌≡◌};
 ghost use Rattle.flat_arrays.specs.Places.{IsSameArray};
@@ -12,8 +12,9 @@ use level_origins::{OriginCounts, OriginPlaces, counts_of, put_origins};
 use mesh_arrays::MeshArrays;
 use std::alloc::Global;
 
-/// Writes the part of the mesh that each point of its level at a depth lies on, and the face of the mesh that each face of the level is a
-/// part of, and how many points and faces the level has.
+/// Writes the parts of a mesh on which its level at `depth`, at most 10, lies. Each point gets the kind and the number of its part, each
+/// face the face of the mesh that contains it. The call also writes the numbers of points and faces; if an array is too short, it writes
+/// only these.
 #[unsafe(no_mangle)]
 pub extern "C" fn far_origins(
     alloc: Global,
@@ -33,7 +34,7 @@ pub extern "C" fn far_origins(
         Ok(origins) => {
             *counts = counts_of(&origins);
             let done = put_origins(&origins, places);
-            // The prover proves a drop by name once for its type.
+            // The prover proves a named drop once for each type.
             drop(origins);
             written(done)
         }

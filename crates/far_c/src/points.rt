@@ -1,12 +1,12 @@
-//! Points of a mesh at a depth.
+//! The points of a mesh at a depth.
 
-ghost use Rattle.std.specs.Prelude.{◌≡◌, ◌*◌, ◌≤◌, length, nat_le, map, take, true, false};
+ghost use Rattle.std.specs.Prelude.{◌≡◌, ◌*◌, ◌≤◌, length, nat_le, map, take, drop, true, false};
 ghost use Rattle.std.specs.List.{All};
 ghost use Rattle.nearest_float.specs.Binary.{binary32, binary64};
 ghost use Rattle.nearest_arrays.specs.Nearest.{AreNearest};
 ghost use Rattle.point_arrays.specs.Points.{CanBePut, coordinates};
 ghost use Rattle.far_c.specs.Answers.{AnswersExactPoints, AnswersPoints, AreExactPoints, are_exact_long_enough};
-ghost use Rattle.far_c.specs.Status.{IsKeptUnlessRefused, IsKeptIfRefused};
+ghost use Rattle.far_c.specs.Status.{IsKeptUnlessDone, IsKeptUnlessRefused, IsKeptIfRefused};
 
 use crate::status::written;
 use array_answers::{RefinedPoints, refine_points};
@@ -16,18 +16,20 @@ use mesh_arrays::MeshArrays;
 use point_arrays::{put_exact_points, put_points32, put_points64};
 use std::alloc::Global;
 
-// How many points there are.
+// The number of points.
 fn count_of(refined: &RefinedPoints) -> u64
     ensures { result ≡ length refined.now.points.items }
 {
     refined.points.len() as u64
 }
 
-// Writes the points exactly, where both arrays are long enough, and returns whether it did.
+// Writes the exact points if both arrays are long enough, and returns whether they are.
 fn put_exact(refined: &RefinedPoints, numerators: &mut [Wide], denominators: &mut [Wide]) -> bool
     requires { All (CanBePut refined.now.common) refined.now.points.items }
     ensures long_enough { result ≡ are_exact_long_enough (length refined.now.points.items) numerators.old denominators.old }
     ensures written { result ≡ true → AreExactPoints (length refined.now.points.items) numerators.new denominators.new refined.now }
+    ensures rest { drop (3 * length refined.now.points.items) numerators.new ≡ drop (3 * length refined.now.points.items) numerators.old }
+    ensures dens_rest { drop (length refined.now.points.items) denominators.new ≡ drop (length refined.now.points.items) denominators.old }
     ensures kept { result ≡ false → (numerators.new ≡ numerators.old) × (denominators.new ≡ denominators.old) }
     ensures len { length numerators.new ≡ length numerators.old }
     ensures dens_len { length denominators.new ≡ length denominators.old }
@@ -40,11 +42,12 @@ fn put_exact(refined: &RefinedPoints, numerators: &mut [Wide], denominators: &mu
     true
 }
 
-// Writes the nearest doubles of the points, where the array is long enough, and returns whether it did.
+// Writes the nearest doubles of the points if the array is long enough, and returns whether it is.
 fn put_doubles(refined: &RefinedPoints, out: &mut [u64]) -> bool
     requires { All (CanBePut refined.now.common) refined.now.points.items }
     ensures long_enough { result ≡ nat_le (3 * length refined.now.points.items) (length out.old) }
     ensures written { result ≡ true → AreNearest binary64 (coordinates refined.now.common refined.now.points.items) (take (3 * length refined.now.points.items) out.new) }
+    ensures rest { drop (3 * length refined.now.points.items) out.new ≡ drop (3 * length refined.now.points.items) out.old }
     ensures kept { result ≡ false → out.new ≡ out.old }
     ensures len { length out.new ≡ length out.old }
 {
@@ -56,11 +59,12 @@ fn put_doubles(refined: &RefinedPoints, out: &mut [u64]) -> bool
     true
 }
 
-// Writes the nearest floats of the points, where the array is long enough, and returns whether it did.
+// Writes the nearest floats of the points if the array is long enough, and returns whether it is.
 fn put_floats(refined: &RefinedPoints, out: &mut [u32]) -> bool
     requires { All (CanBePut refined.now.common) refined.now.points.items }
     ensures long_enough { result ≡ nat_le (3 * length refined.now.points.items) (length out.old) }
     ensures written { result ≡ true → AreNearest binary32 (coordinates refined.now.common refined.now.points.items) (take (3 * length refined.now.points.items) out.new) }
+    ensures rest { drop (3 * length refined.now.points.items) out.new ≡ drop (3 * length refined.now.points.items) out.old }
     ensures kept { result ≡ false → out.new ≡ out.old }
     ensures len { length out.new ≡ length out.old }
 {
@@ -72,7 +76,9 @@ fn put_floats(refined: &RefinedPoints, out: &mut [u32]) -> bool
     true
 }
 
-/// Writes the points of a mesh at a depth exactly, three numerators over a denominator each, and how many there are.
+/// Writes the exact points of a mesh at `depth`, at most 10: three numerators and one denominator for each; and their number. A
+/// coordinate is a numerator over the point's denominator times the common one of the mesh. If an array is too short, it writes only the
+/// number. Places behind the points keep their contents.
 #[unsafe(no_mangle)]
 pub extern "C" fn far_points_exact(
     alloc: Global,
@@ -84,6 +90,9 @@ pub extern "C" fn far_points_exact(
     fault: &mut FaultRecord,
 ) -> u32
     ensures answer { AnswersExactPoints mesh.now depth result count.new numerators.old numerators.new denominators.old denominators.new fault.new }
+    ensures rest { drop (3 * count.new) numerators.new ≡ drop (3 * count.new) numerators.old }
+    ensures dens_rest { drop count.new denominators.new ≡ drop count.new denominators.old }
+    ensures kept { IsKeptUnlessDone result numerators.old numerators.new × IsKeptUnlessDone result denominators.old denominators.new }
     ensures len { length numerators.new ≡ length numerators.old }
     ensures dens_len { length denominators.new ≡ length denominators.old }
     ensures stays { IsKeptIfRefused result count.old count.new × IsKeptUnlessRefused result fault.old fault.new }
@@ -92,7 +101,7 @@ pub extern "C" fn far_points_exact(
         Ok(refined) => {
             *count = count_of(&refined);
             let done = put_exact(&refined, numerators, denominators);
-            // The prover proves a drop by name once for its type.
+            // The prover proves a named drop once for each type.
             drop(refined);
             written(done)
         }
@@ -103,7 +112,8 @@ pub extern "C" fn far_points_exact(
     }
 }
 
-/// Writes the nearest doubles of the points of a mesh at a depth, three a point, and how many points there are.
+/// Writes the doubles nearest to the points of a mesh at `depth`, at most 10, as bits, three for each point; and the number of points. If
+/// `out` is too short, it writes only the number. Places behind the points keep their contents.
 #[unsafe(no_mangle)]
 pub extern "C" fn far_points_doubles(
     alloc: Global,
@@ -114,6 +124,8 @@ pub extern "C" fn far_points_doubles(
     fault: &mut FaultRecord,
 ) -> u32
     ensures answer { AnswersPoints binary64 mesh.now depth result count.new out.old out.new fault.new }
+    ensures rest { drop (3 * count.new) out.new ≡ drop (3 * count.new) out.old }
+    ensures kept { IsKeptUnlessDone result out.old out.new }
     ensures len { length out.new ≡ length out.old }
     ensures stays { IsKeptIfRefused result count.old count.new × IsKeptUnlessRefused result fault.old fault.new }
 {
@@ -121,7 +133,7 @@ pub extern "C" fn far_points_doubles(
         Ok(refined) => {
             *count = count_of(&refined);
             let done = put_doubles(&refined, out);
-            // The prover proves a drop by name once for its type.
+            // The prover proves a named drop once for each type.
             drop(refined);
             written(done)
         }
@@ -132,7 +144,8 @@ pub extern "C" fn far_points_doubles(
     }
 }
 
-/// Writes the nearest floats of the points of a mesh at a depth, three a point, and how many points there are.
+/// Writes the floats nearest to the points of a mesh at `depth`, at most 10, as bits, three for each point; and the number of points. If
+/// `out` is too short, it writes only the number. Places behind the points keep their contents.
 #[unsafe(no_mangle)]
 pub extern "C" fn far_points_floats(
     alloc: Global,
@@ -143,6 +156,8 @@ pub extern "C" fn far_points_floats(
     fault: &mut FaultRecord,
 ) -> u32
     ensures answer { AnswersPoints binary32 mesh.now depth result count.new out.old out.new fault.new }
+    ensures rest { drop (3 * count.new) out.new ≡ drop (3 * count.new) out.old }
+    ensures kept { IsKeptUnlessDone result out.old out.new }
     ensures len { length out.new ≡ length out.old }
     ensures stays { IsKeptIfRefused result count.old count.new × IsKeptUnlessRefused result fault.old fault.new }
 {
@@ -150,7 +165,7 @@ pub extern "C" fn far_points_floats(
         Ok(refined) => {
             *count = count_of(&refined);
             let done = put_floats(&refined, out);
-            // The prover proves a drop by name once for its type.
+            // The prover proves a named drop once for each type.
             drop(refined);
             written(done)
         }

@@ -6,7 +6,8 @@ ghost use Rattle.run_in_memory.specs.Words.{words_of};
 use run_in_memory::{Ran, run_in_memory};
 use std::alloc::Global;
 
-/// Runs the program over slices. The words of its command line end with a zero byte each.
+/// Runs the program over slices. `words` has the words of its command line, each ended by a zero byte; `input` is its standard input.
+/// `out` gets as much of the answer as fits, `errors` as much of the fault's line.
 #[unsafe(no_mangle)]
 pub extern "C" fn far_run(
     alloc: Global,

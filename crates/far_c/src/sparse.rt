@@ -1,4 +1,4 @@
-//! Sparse levels of a mesh.
+//! The sparse levels of a mesh.
 
 ghost use Rattle.std.specs.Prelude.{◌≡◌};
 ghost use Rattle.sparse_arrays.specs.Places.{AreSamePlaces};
@@ -12,7 +12,8 @@ use mesh_arrays::MeshArrays;
 use sparse_arrays::{SparseCounts, SparsePlaces, counts_of, put_sparse};
 use std::alloc::Global;
 
-/// Writes the sparse levels of a mesh that a request asks for, with their points, and how much they have of each kind.
+/// Writes the requested sparse levels of a mesh with their points, and the counts of all levels. If an array is too short, it writes only
+/// the counts.
 #[unsafe(no_mangle)]
 pub extern "C" fn far_sparse(
     alloc: Global,
@@ -30,7 +31,7 @@ pub extern "C" fn far_sparse(
         Ok(sparse) => {
             *counts = counts_of(&sparse.levels);
             let done = put_sparse(&sparse.levels, sparse.common, places);
-            // The prover proves a drop by name once for its type.
+            // The prover proves a named drop once for each type.
             drop(sparse);
             written(done)
         }

@@ -12,7 +12,8 @@ use std::alloc::Global;
 use stored_arrays::{ExactRows, check_stored, read_stored, table_of_rows, write_stored};
 use table_arrays::{ExactPlaces, TableCounts, counts_of, put_exact_table};
 
-/// Writes the table whose text these bytes begin with into arrays, with its counts, and how many bytes its text has.
+/// Writes the table whose text these bytes begin with, its counts, and the length of its text in bytes. If an array is too short, it
+/// writes only the counts and the length.
 #[unsafe(no_mangle)]
 pub extern "C" fn far_table_read(
     alloc: Global,
@@ -34,7 +35,7 @@ pub extern "C" fn far_table_read(
             *counts = counts_of(read.table());
             *end = read.end() as u64;
             let done = put_exact_table(read.table(), places);
-            // The prover proves a drop by name once for its type.
+            // The prover proves a named drop once for each type.
             drop(read);
             status::written(done)
         }
@@ -45,7 +46,8 @@ pub extern "C" fn far_table_read(
     }
 }
 
-/// Writes the text of the table of the rows as far as it fits, and how many bytes the whole text has. The status is 1 where it does not fit.
+/// Writes the text of the table of the rows, and the length of the whole text in bytes. If it does not fit, `out` gets its beginning and
+/// the status is 1.
 #[unsafe(no_mangle)]
 pub extern "C" fn far_table_write(
     alloc: Global,
@@ -61,7 +63,7 @@ pub extern "C" fn far_table_write(
     match table_of_rows(alloc, rows) {
         Ok(table) => {
             *written = write_stored(&table, out);
-            // The prover proves a drop by name once for its type.
+            // The prover proves a named drop once for each type.
             drop(table);
             status::written(*written <= out.len() as u64)
         }
@@ -72,7 +74,8 @@ pub extern "C" fn far_table_write(
     }
 }
 
-/// Says whether the bytes are the text of the table of a mesh at a depth, and no others.
+/// Checks that the bytes are exactly the text of the table of a mesh at `depth`, at most 10. The fault names the first line or row that
+/// is not.
 #[unsafe(no_mangle)]
 pub extern "C" fn far_table_check(
     alloc: Global,

@@ -1,4 +1,4 @@
-//! Tables of a mesh.
+//! Tables of rows of a mesh.
 
 ghost use Rattle.std.specs.Prelude.{◌≡◌};
 ghost use Rattle.flat_arrays.specs.Places.{IsSameArray};
@@ -16,7 +16,8 @@ use table_arrays::{
     put_exact_table, put_float_table,
 };
 
-/// Writes the table of the rows that are asked for of a mesh with exact weights, and its counts.
+/// Writes the table of the requested rows of a mesh, and its counts. Each row has a start and a denominator, each entry a control point
+/// and an exact numerator. If an array is too short, it writes only the counts.
 #[unsafe(no_mangle)]
 pub extern "C" fn far_table_exact(
     alloc: Global,
@@ -37,7 +38,7 @@ pub extern "C" fn far_table_exact(
         Ok(rows) => {
             *counts = counts_of(&rows);
             let done = put_exact_table(&rows, places);
-            // The prover proves a drop by name once for its type.
+            // The prover proves a named drop once for each type.
             drop(rows);
             written(done)
         }
@@ -48,7 +49,8 @@ pub extern "C" fn far_table_exact(
     }
 }
 
-/// Writes the table of the rows that are asked for of a mesh with the nearest doubles of its weights, and its counts.
+/// Writes the table of the requested rows of a mesh, and its counts. Each row has a start, each entry a control point and the nearest
+/// double of its weight. If an array is too short, it writes only the counts.
 #[unsafe(no_mangle)]
 pub extern "C" fn far_table_doubles(
     alloc: Global,
@@ -68,7 +70,7 @@ pub extern "C" fn far_table_doubles(
         Ok(rows) => {
             *counts = counts_of(&rows);
             let done = put_double_table(&rows, places);
-            // The prover proves a drop by name once for its type.
+            // The prover proves a named drop once for each type.
             drop(rows);
             written(done)
         }
@@ -79,7 +81,8 @@ pub extern "C" fn far_table_doubles(
     }
 }
 
-/// Writes the table of the rows that are asked for of a mesh with the nearest floats of its weights, and its counts.
+/// Writes the table of the requested rows of a mesh, and its counts. Each row has a start, each entry a control point and the nearest
+/// float of its weight. If an array is too short, it writes only the counts.
 #[unsafe(no_mangle)]
 pub extern "C" fn far_table_floats(
     alloc: Global,
@@ -99,7 +102,7 @@ pub extern "C" fn far_table_floats(
         Ok(rows) => {
             *counts = counts_of(&rows);
             let done = put_float_table(&rows, places);
-            // The prover proves a drop by name once for its type.
+            // The prover proves a named drop once for each type.
             drop(rows);
             written(done)
         }

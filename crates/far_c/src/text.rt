@@ -5,8 +5,9 @@ ghost use Rattle.mesh_arrays.specs.Written.{AreSamePlaces};
 ghost use Rattle.far_c.specs.Texts.{AnswersText};
 ghost use Rattle.far_c.specs.Status.{IsKeptUnlessRefused, IsKeptIfRefused};
 
+use crate::status::refused;
 use far_fault::FarFault;
-use fault_record::{DONE, FaultRecord, TOO_SHORT, record_of};
+use fault_record::{DONE, FaultRecord, TOO_SHORT};
 use mesh_answers::mesh_of_text;
 use mesh_arrays::{
     MeshCounts, MeshOptions, MeshPlaces, are_long_enough, counts_of, options_of, put_mesh,
@@ -15,7 +16,8 @@ use std::alloc::Global;
 
 const TEXT_LIMIT: usize = 1 << 28;
 
-/// Writes the mesh of an OBJ text of at most 2^28 bytes into arrays, with its counts and its options.
+/// Writes the mesh of an OBJ text of at most 2^28 bytes, its counts and its options. If an array is too short, it writes only the counts
+/// and the options.
 #[unsafe(no_mangle)]
 pub extern "C" fn far_read_obj(
     alloc: Global,
@@ -30,7 +32,7 @@ pub extern "C" fn far_read_obj(
     ensures stays { IsKeptIfRefused result counts.old counts.new × IsKeptIfRefused result options.old options.new × IsKeptUnlessRefused result fault.old fault.new }
 {
     if text.len() > TEXT_LIMIT {
-        *fault = record_of(&FarFault::Long);
+        *fault = refused(&FarFault::Long);
         return fault.status;
     }
     match mesh_of_text(alloc, text, 0) {
@@ -44,7 +46,7 @@ pub extern "C" fn far_read_obj(
             DONE
         }
         Err(found) => {
-            *fault = record_of(&found);
+            *fault = refused(&found);
             fault.status
         }
     }

@@ -1,11 +1,11 @@
 //! The texture of a mesh.
 
-ghost use Rattle.std.specs.Prelude.{◌≡◌, ◌*◌, length, nat_le, map, take, true, false};
+ghost use Rattle.std.specs.Prelude.{◌≡◌, ◌*◌, length, nat_le, map, take, drop, true, false};
 ghost use Rattle.flat_arrays.specs.Places.{IsSameArray};
 ghost use Rattle.flat_arrays.specs.Words.{integer_of};
 ghost use Rattle.point_arrays.specs.Values.{all_value_numerators};
 ghost use Rattle.far_c.specs.Textures.{AnswersTextureLevel, AnswersTextureValues};
-ghost use Rattle.far_c.specs.Status.{IsKeptUnlessRefused, IsKeptIfRefused};
+ghost use Rattle.far_c.specs.Status.{IsKeptUnlessDone, IsKeptUnlessRefused, IsKeptIfRefused};
 
 use crate::status::written;
 use array_answers::{TextureArrays, texture_of_arrays};
@@ -16,17 +16,18 @@ use mesh_arrays::MeshArrays;
 use point_arrays::put_exact_values;
 use std::alloc::Global;
 
-// How many points the cut mesh has.
+// The number of points of the cut mesh.
 fn count_of(found: &TextureArrays) -> u64
     ensures { result ≡ length found.now.texture.values.items }
 {
     found.texture.values.len() as u64
 }
 
-// Writes the values of the points of the cut mesh, where the array is long enough, and returns whether it did.
+// Writes the values of the points of the cut mesh if the array is long enough, and returns whether it is.
 fn put_values(found: &TextureArrays, out: &mut [Wide]) -> bool
     ensures long_enough { result ≡ nat_le (2 * length found.now.texture.values.items) (length out.old) }
     ensures written { result ≡ true → map integer_of (take (2 * length found.now.texture.values.items) out.new) ≡ all_value_numerators found.now.texture.values.items }
+    ensures rest { drop (2 * length found.now.texture.values.items) out.new ≡ drop (2 * length found.now.texture.values.items) out.old }
     ensures kept { result ≡ false → out.new ≡ out.old }
     ensures len { length out.new ≡ length out.old }
 {
@@ -38,7 +39,9 @@ fn put_values(found: &TextureArrays, out: &mut [Wide]) -> bool
     true
 }
 
-/// Writes the faces and the edges of the level of the cut mesh of a mesh at a depth, and its counts.
+/// Writes the level of a mesh's cut mesh at `depth`, at most 10, and its counts: the size and the corners of each face, the ends of each
+/// edge, the holes. `seams` chooses what stays sharp: 0 nothing, 1 the corners of charts, 2 their whole boundaries, 3 every point. If an
+/// array is too short, it writes only the counts.
 #[unsafe(no_mangle)]
 pub extern "C" fn far_texture_level(
     alloc: Global,
@@ -60,7 +63,7 @@ pub extern "C" fn far_texture_level(
         Ok(found) => {
             *counts = counts_of(&found.texture.level);
             let done = put_level(&found.texture.level, places);
-            // The prover proves a drop by name once for its type.
+            // The prover proves a named drop once for each type.
             drop(found);
             written(done)
         }
@@ -71,8 +74,9 @@ pub extern "C" fn far_texture_level(
     }
 }
 
-/// Writes the values of the points of the cut mesh of a mesh, two numerators each over the common denominator of the texture, and how
-/// many points there are. They come in the order of the controls of the table of its texture points.
+/// Writes the values of the points of a mesh's cut mesh, two numerators for each over the common denominator of the texture, and the
+/// number of points. Their order is that of the control points of texture tables. If `out` is too short, it writes only the number.
+/// Places behind the values keep their contents.
 #[unsafe(no_mangle)]
 pub extern "C" fn far_texture_values(
     alloc: Global,
@@ -83,6 +87,8 @@ pub extern "C" fn far_texture_values(
     fault: &mut FaultRecord,
 ) -> u32
     ensures answer { AnswersTextureValues mesh.now seams result count.new out.old out.new fault.new }
+    ensures rest { drop (2 * count.new) out.new ≡ drop (2 * count.new) out.old }
+    ensures kept { IsKeptUnlessDone result out.old out.new }
     ensures len { length out.new ≡ length out.old }
     ensures stays { IsKeptIfRefused result count.old count.new × IsKeptUnlessRefused result fault.old fault.new }
 {
@@ -90,7 +96,7 @@ pub extern "C" fn far_texture_values(
         Ok(found) => {
             *count = count_of(&found);
             let done = put_values(&found, out);
-            // The prover proves a drop by name once for its type.
+            // The prover proves a named drop once for each type.
             drop(found);
             written(done)
         }
