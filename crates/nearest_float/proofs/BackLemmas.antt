@@ -80,7 +80,7 @@ module _ (f : Format) (bits : ℕ) (num : ℤ) (den back : ℕ) (sound : IsSound
       units-one p (size_of f back) (size_of f bits)
       (eq_of_mul-eq-mul_right den exact.terms.positive (units p (size_of f back)) (units p (size_of f bits)) (sym back-amount ∙ amount))
 
-  -- the same bits, or those of 0 for those of -0
+  -- The same bits, except that -0 becomes 0.
   pub back-one : (back ≡ bits) ⊎ ((bits ≡ w) × (back ≡ 0))
   back-one = by-size (size_of f bits) refl
     where

@@ -9,7 +9,7 @@ use Rattle.nearest_float.proofs.UnitLemmas.{units-none, significand-even}
 use Rattle.nearest_float.proofs.DistanceLemmas.{sign_bit, gap, gap-own, gap-other}
 use Rattle.nearest_float.proofs.LastLemmas.{past-end, before-end}
 
--- A format with at least one bit of fraction, whose infinity is an even size that leaves room for what is no number.
+-- A format with at least one bit of fraction, whose infinity is an even size with NaN sizes above it.
 pub record IsSound (f : Format) : Type 0 where
   pub some : 0 < f.fraction_bits
   pub positive : 0 < infinity f

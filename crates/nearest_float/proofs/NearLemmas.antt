@@ -49,7 +49,7 @@ abs_diff-times a b n = add-mul (a - b) (b - a) n ∙ ap₂ (λ i j. i + j) (part
     part : (i j : ℕ) → (i - j) * n ≡ i * n - j * n
     part i j = mul_comm (i - j) n ∙ mul-sub n i j ∙ ap₂ (λ k l. k - l) (mul_comm n i) (mul_comm n j)
 
--- the same fraction in other terms has the same nearest size
+-- A fraction has the same nearest size in any terms.
 pub nearest-same : (p x y z b size : ℕ) → 0 < y → 0 < b → x * b ≡ z * y → IsNearestSize p z b size → IsNearestSize p x y size
 nearest-same p x y z b size some positive same near = record {
   nearest = λ other. le_of_mul-le-mul_right

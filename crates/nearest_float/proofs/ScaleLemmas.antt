@@ -85,7 +85,7 @@ module _ (a d s k l : ℕ) (fine : 127 ≤ s) (a-fits : a < 2 ^ 127) (a-from : 2
             ∙ ap (λ n. n * 2 ^ e * d) (joined ∙ sym doubled);
       }
 
--- a quotient below 2 in so many bits
+-- A quotient below 2, in p bits.
 quotient-within : (t b q r f p : ℕ) → t < 2 * b → t * 2 ^ f ≡ q * b + r → f ≤ p → q < 2 * 2 ^ p
 quotient-within t b q r f p below whole short =
     let few : 2 ^ f ≤ 2 ^ p = pow_mono short in
@@ -120,7 +120,7 @@ nearest-scaled p x y t b k f q r some positive scaled is whole rest =
         let same : 2 ^ p ≡ 2 ^ f = ap (λ n. 2 ^ n) all in
         inr (omega (arith, below, same))
 
--- the size stays below that of infinity
+-- The size stays below that of infinity.
 pub size-within : (x y t b k f q r p s : ℕ) → IsScaled x y t b k → f ≡ min p k → t * 2 ^ f ≡ q * b + r → p ≤ s → k ≤ s + 126 →
     (k - f) * 2 ^ p + rounded_half_even q r b ≤ (s + 128 - p) * 2 ^ p
 size-within x y t b k f q r p s scaled is whole short few =
@@ -134,7 +134,7 @@ size-within x y t b k f q r p s scaled is whole short few =
     two-more : p ≤ s → s + 128 - p ≡ s + 126 - p + 2
     two-more less = omega (arith, less)
 
--- the doublings fill no more than their field
+-- The doublings fit into their field.
 pub size-fits : (k f p : ℕ) → k ≤ 1200 → p ≤ 52 → (k - f) * 2 ^ p ≤ 1200 * 2 ^ 52
 size-fits k f p few short =
     let width : 2 ^ p ≤ 2 ^ 52 = pow_mono short in

@@ -6,7 +6,7 @@ use Rattle.std.proofs.Math.Nat.{mul_assoc, add-mul, mul-lt-mul_of_pos_right, div
 abbrev pub quotient : ℕ → ℕ → ℕ
 quotient top shift = top / 2 ^ (126 - shift)
 
--- what the shifts leave
+-- The remainder of the shifts.
 abbrev pub rest : ℕ → ℕ → ℕ
 rest top shift = (top - quotient top shift * 2 ^ (126 - shift) % 2 ^ 128) * 2 ^ shift % 2 ^ 128
 

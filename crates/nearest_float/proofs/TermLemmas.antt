@@ -10,7 +10,7 @@ use Rattle.number_laws.proofs.DivisorLemmas.{gcd-scaled}
 use Rattle.number_laws.proofs.CoprimeLemmas.{coprime-gcd, coprime-power, coprime-two, coprime-one}
 use Rattle.nearest_float.specs.Terms.{AreLowest, AreTermsOf, HasNone}
 
--- what divides a product and has no factor in common with the one number divides the other
+-- A number that divides a product and is coprime to one factor divides the other.
 pub coprime-divides : (a b c : ℕ) → 0 < c → IsGcd a b 1 → b ∣ a * c → b ∣ c
 coprime-divides a b c some is divides =
     let left : b ∣ c * a = let P : ℕ → Type 0 = λ n. b ∣ n in subst P (mul_comm a c) divides in
@@ -85,7 +85,7 @@ none-above odd d s k from more many num den some same num-fits den-fits =
     turned : (a b c e : ℕ) → a * (b * c) * e ≡ a * b * e * c
     turned a b c e = omega arith
 
--- the same amount
+-- Equal amounts have equal terms.
 pub terms-same : (a b one : ℕ) (r : Option (ℕ × ℕ)) → a ≡ b → AreTermsOf a one r → AreTermsOf b one r
 terms-same a b one r e terms = let P : ℕ → Type 0 = λ n. AreTermsOf n one r in subst P e terms
 

@@ -9,7 +9,7 @@ powers : (a i e m n : ℕ) → i + e ≡ m + n → a * 2 ^ i * 2 ^ e ≡ a * 2 ^
 powers a i e m n same =
     mul_assoc a (2 ^ i) (2 ^ e) ∙ ap (λ x. a * x) (sym (pow-add 2 i e) ∙ ap (λ x. 2 ^ x) same ∙ pow-add 2 m n) ∙ sym (mul_assoc a (2 ^ m) (2 ^ n))
 
--- an amount of k + 1 bits over 2 ^ l, in a format of p bits of a fraction and 2 ^ s units of 1
+-- An amount of k + 1 bits over 2 ^ l, in a format with p bits of fraction and 2 ^ s units for 1.
 module _ (p a s k l : ℕ) (some : 0 < p) (short : p ≤ 52) (fine : 127 ≤ s) (unit-fits : s ≤ 1074)
     (from : 2 ^ k ≤ a) (to : a < 2 * 2 ^ k) (few : k ≤ p) (narrow : l < 64) where
   abbrev doubled : ℕ

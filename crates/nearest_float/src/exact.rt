@@ -15,7 +15,7 @@ const SIGN64: u64 = 0x8000_0000_0000_0000;
 
 const SIGN32: u32 = 0x8000_0000;
 
-// A size as a significand, and how often a unit times it is doubled.
+// A size in units: a significand, and how often it is doubled.
 #[derive(Clone, Copy)]
 struct Parts {
     significand: u64,
@@ -44,7 +44,7 @@ fn parts_of(size: u64, fraction_bits: u32) -> Parts
     }
 }
 
-// The numerator and the denominator of an odd number of units, doubled so often. A unit is 1 over 2^unit_bits.
+// The lowest terms of an odd number of units, doubled `doublings` times. A unit is 1 / 2^unit_bits.
 fn terms_of_odd(odd: u128, doublings: u32, unit_bits: u32) -> Option<(u128, u128)>
     requires odd { odd % 2 ≡ 1 }
     requires fits { odd < 2 ^ 64 }
@@ -69,7 +69,7 @@ fn terms_of_odd(odd: u128, doublings: u32, unit_bits: u32) -> Option<(u128, u128
     }
 }
 
-// The numerator and the denominator of a number of units, doubled so often.
+// The lowest terms of a number of units.
 fn terms_of(parts: Parts, unit_bits: u32) -> Option<(u128, u128)>
     requires few { parts.doublings < 2047 }
     requires unit_fits { unit_bits < 2 ^ 12 }
@@ -83,7 +83,7 @@ fn terms_of(parts: Parts, unit_bits: u32) -> Option<(u128, u128)>
     terms_of_odd(amount >> twos, parts.doublings + twos, unit_bits)
 }
 
-// The amount, below 0 where the sign is not 0.
+// The amount, negative unless the sign is 0.
 fn signed(sign: u64, amount: u128) -> i128
     requires { amount < 2 ^ 127 }
     ensures { result ≡ signed_by sign amount }
@@ -108,7 +108,9 @@ fn exact(sign: u64, size: u64, fraction_bits: u32, unit_bits: u32) -> Result<Fra
     }
 }
 
-/// The exact fraction of the binary64 number of the bits, in lowest terms.
+/// Returns the exact fraction of a binary64 number, given its bits, in lowest terms.
+///
+/// `NotFinite`: the bits spell an infinity or NaN. `TooWide`: the numerator is 2^127 or more in amount, or the denominator is above 2^126.
 pub fn exact_binary64(bits: u64) -> Result<Frac, FloatFault>
     ensures { MatchResult result (λ x. IsExact binary64 bits x.num x.den) (λ fault. IsRefused binary64 bits fault) }
 {
@@ -119,7 +121,9 @@ pub fn exact_binary64(bits: u64) -> Result<Frac, FloatFault>
     exact(bits / SIGN64, size, 52, 1074)
 }
 
-/// The exact fraction of the binary32 number of the bits, in lowest terms.
+/// Returns the exact fraction of a binary32 number, given its bits, in lowest terms.
+///
+/// `NotFinite`: the bits spell an infinity or NaN. `TooWide`: the numerator is 2^127 or more in amount, or the denominator is above 2^126.
 pub fn exact_binary32(bits: u32) -> Result<Frac, FloatFault>
     ensures { MatchResult result (λ x. IsExact binary32 bits x.num x.den) (λ fault. IsRefused binary32 bits fault) }
 {

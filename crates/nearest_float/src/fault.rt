@@ -1,15 +1,15 @@
-//! Why bits have no fraction.
+//! The faults of bits without a fraction.
 
 use ratio128::Memory;
 use std::alloc::AllocError;
 use std::fmt;
 
-/// Why the bits of a number have no fraction.
+/// The fault of a number without an exact fraction.
 #[derive(Clone, Copy, Debug, PartialEq, Eq)]
 pub enum FloatFault {
-    /// They are those of an infinity or of what is no number.
+    /// The bits spell an infinity or NaN.
     NotFinite,
-    /// In lowest terms the numerator is 2^127 or more in amount, or the denominator is above 2^126.
+    /// In lowest terms, the numerator is 2^127 or more in amount, or the denominator is above 2^126.
     TooWide,
 }
 
@@ -24,10 +24,10 @@ impl fmt::Display for FloatFault {
 
 impl std::error::Error for FloatFault {}
 
-/// Why the bits of a list of numbers have no fractions.
+/// The fault of a list of numbers.
 #[derive(Clone, Copy, Debug, PartialEq, Eq)]
 pub enum ListFault {
-    /// The number at this place, counted from 0, is the first without a fraction.
+    /// The place, counted from 0, and the fault of the first number without a fraction.
     At(usize, FloatFault),
     /// Memory ran out.
     Memory,

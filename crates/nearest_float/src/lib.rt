@@ -1,4 +1,6 @@
-//! The binary64 and binary32 numbers nearest to fractions, and the exact fractions of such numbers, by whole numbers alone.
+//! Converts fractions to the nearest binary64 and binary32 numbers, and such numbers to their exact fractions, in whole numbers only.
+//!
+//! The calls take and return the bits of the numbers. Only `exact_binary64s` takes memory.
 #![tactic(auto)]
 
 mod exact;

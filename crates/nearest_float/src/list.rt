@@ -10,7 +10,7 @@ use crate::{FloatFault, ListFault, exact_binary64};
 use ratio128::Frac;
 use std::alloc::Global;
 
-// Adds the fraction of the bits, for which there is room.
+// Appends the fraction of the bits to a list that has capacity for it.
 fn push_exact(fractions: &mut Vec<Frac>, bits: u64) -> Result<(), FloatFault>
     requires { vec_len fractions.old < vec_capacity fractions.old }
     ensures pushed { MatchResult result (λ _. IsPushed binary64 fractions.old.items bits fractions.new.items) (λ fault. IsRefused binary64 bits fault) }
@@ -20,7 +20,7 @@ fn push_exact(fractions: &mut Vec<Frac>, bits: u64) -> Result<(), FloatFault>
     Ok(())
 }
 
-/// The exact fractions of binary64 numbers, in their order.
+/// Returns the exact fractions of binary64 numbers, in order. `At`: the first number without a fraction. `Memory`: memory ran out.
 pub fn exact_binary64s(alloc: Global, numbers: &[u64]) -> Result<Vec<Frac>, ListFault>
     ensures { MatchResult result (λ all. AreExact binary64 numbers.now all.items) (λ fault. IsListRefused binary64 numbers.now fault) }
 {
