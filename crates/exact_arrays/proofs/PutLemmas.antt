@@ -10,7 +10,7 @@ use Rattle.nearest_float.specs.Binary.{Format}
 use Rattle.exact_arrays.specs.Scale.{IsNumerator}
 use Rattle.exact_arrays.specs.ScaleFaults.{IsSmall, IsLarge, IsFirstLarge}
 
--- each numerator as R says, where it is written
+-- Each written numerator satisfies R.
 pub zip-push : (R : ℕ → ℤ → Type 0) (bs : List ℕ) (b : ℕ) (ws : List Wide) (w : Wide) → AllZip R bs (map integer_of ws) → R b (integer_of w) →
     AllZip R (bs ++ b ∷ []) (map integer_of (ws ++ w ∷ []))
 zip-push R bs b ws w all one =

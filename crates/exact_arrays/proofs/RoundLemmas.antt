@@ -102,7 +102,7 @@ abs_diff-times a b n = sym (add-mul (a - b) (b - a) n ∙ ap₂ (λ i j. i + j) 
 product-some : (d c : ℕ) → 0 < d → 0 < c → 0 < d * c
 product-some d c first second = let least : 1 * c ≤ d * c = mul-le-mul_right c first in omega (arith, least, second)
 
--- the same over more
+-- The rounding over a multiple of both denominators.
 pub scaled-rounding : (s one a o m c : ℕ) (r : Rounded) → 0 < c → o ≡ one * c → a * m ≡ s * c → IsRounding s one 1 r → IsRounding a o m r
 scaled-rounding s one a o m c r some over amount is = record {
   nearest = record {

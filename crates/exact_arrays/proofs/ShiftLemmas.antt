@@ -3,7 +3,7 @@ use Rattle.std.proofs.Common.{◌≡◌, ℕ, ◌+◌, ◌-◌, ◌*◌, ◌/◌
 use Rattle.std.proofs.lemmas.Nat.{pow-add}
 use Rattle.std.proofs.Math.Nat.{mul_assoc, mul_comm, mul-le-mul_right, mul-lt-mul_of_pos_right}
 
--- what the highest bits leave over
+-- The remainder after the highest bits.
 pub fraction-is : (s p : ℕ) → s < 2 ^ 64 → s - s / 2 ^ p * 2 ^ p % 2 ^ 64 ≡ s % 2 ^ p
 fraction-is s p fits = let turned = mul_comm (s / 2 ^ p) (2 ^ p) in omega (arith, turned)
 

@@ -4,3 +4,4 @@ pub mod ScaleFaults
 pub mod Nearest
 pub mod Amounts
 pub mod Grid
+pub mod Answers

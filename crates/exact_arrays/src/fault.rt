@@ -1,14 +1,14 @@
-//! Which number of a list was refused, and why.
+//! The refused number of a list, and its fault.
 
 use nearest_float::FloatFault;
 use std::fmt;
 
-/// A number that was refused.
+/// The first number that a call refused.
 #[derive(Clone, Copy, Debug, PartialEq, Eq)]
 pub struct NumberFault {
     /// Its place, counted from 0.
     pub place: usize,
-    /// Why it was refused.
+    /// Its fault.
     pub fault: FloatFault,
 }
 

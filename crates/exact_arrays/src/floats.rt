@@ -1,4 +1,4 @@
-//! The bits of doubles or of floats.
+//! The bits of doubles or floats.
 
 ghost use Rattle.std.specs.Prelude.{◌≡◌, ◌<◌, length, get_or, MatchResult};
 ghost use Rattle.nearest_float.specs.Binary.{binary32, binary64};
@@ -9,7 +9,7 @@ ghost use Rattle.exact_arrays.specs.Floats.{bits_at, bits_of, format_of};
 use nearest_float::{FloatFault, exact_binary32, exact_binary64};
 use ratio128::Frac;
 
-// Numbers of one format, by their bits.
+// The bits of numbers that all have one format.
 #[derive(Clone, Copy)]
 pub(crate) enum Floats<'a> {
     Doubles(&'a [u64]),

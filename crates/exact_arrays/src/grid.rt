@@ -4,6 +4,7 @@ ghost use Rattle.std.specs.Prelude.{◌≡◌, ◌+◌, ◌≤◌, ◌<◌, leng
 ghost use Rattle.nearest_float.specs.Binary.{binary32, binary64};
 ghost use Rattle.flat_arrays.specs.Words.{integer_of};
 ghost use Rattle.exact_arrays.specs.Floats.{bits_at, bits_of, format_of};
+ghost use Rattle.exact_arrays.specs.Answers.{AreFloatsRounded};
 ghost use Rattle.exact_arrays.specs.Grid.{AreRounded, IsRoundFault, IsRoundedTo, IsUnroundedHere, IsRoundRefused};
 
 use crate::NumberFault;
@@ -76,7 +77,7 @@ fn rounded_float(numbers: &Floats, place: usize, grid_bits: u32) -> Result<GridN
     }
 }
 
-// The number at a place, rounded, or the place with the fault.
+// The number at a place, rounded; an error contains the place.
 fn rounded_at(numbers: &Floats, place: usize, grid_bits: u32) -> Result<GridNumber, NumberFault>
     requires inside { place < length (bits_of numbers.now) }
     requires grid_fits { grid_bits ≤ 126 }
@@ -88,11 +89,11 @@ fn rounded_at(numbers: &Floats, place: usize, grid_bits: u32) -> Result<GridNumb
     }
 }
 
-// The numerators over the grid, and how many numbers change.
+// Writes the numerators over the grid. Returns how many numbers rounding changed.
 fn round_all(numbers: &Floats, grid_bits: u32, out: &mut [Wide]) -> Result<u64, NumberFault>
     requires equal { length out.old ≡ length (bits_of numbers.now) }
     requires grid_fits { grid_bits ≤ 126 }
-    ensures rounded { MatchResult result (λ changed. AreRounded (format_of numbers.now) grid_bits (bits_of numbers.now) changed (map integer_of out.new)) (IsRoundFault (format_of numbers.now) grid_bits (bits_of numbers.now)) }
+    ensures rounded { AreFloatsRounded numbers.now grid_bits out.new result }
     ensures len { length out.new ≡ length out.old }
 {
     let mut changed: u64 = 0;
@@ -104,16 +105,15 @@ fn round_all(numbers: &Floats, grid_bits: u32, out: &mut [Wide]) -> Result<u64, 
     Ok(changed)
 }
 
-/// Writes binary64 numbers, each rounded to the nearest multiple of 2^-grid_bits, into the array as numerators over 2^grid_bits, and returns
-/// how many numbers have another value than their numerators.
+/// Rounds binary64 numbers to the nearest multiples of 2^-grid_bits and writes their numerators over 2^grid_bits to the start of `out`.
 ///
-/// Of two multiples as near it is the one with an even numerator. `grid_bits` is at most 126. The array has a place for each number. The
-/// places behind them stay.
+/// Returns how many numbers rounding changed. Ties go to the even numerator. `grid_bits` is at most 126, and `out` has a place for each
+/// number. A tiny number such as 10^-300 rounds to 0.
 ///
 /// # Errors
 ///
-/// `NotFinite` or `TooWide` with the place of the first number, counted from 0, that is not finite or has a numerator of 2^127 or more in
-/// amount. The places of the numbers then have any items.
+/// The place, counted from 0, of the first number at fault. `NotFinite`: it is not finite. `TooWide`: its numerator is 2^127 or more in
+/// amount. The places for the numbers then have no defined contents.
 pub fn round_binary64s(bits: &[u64], grid_bits: u32, out: &mut [Wide]) -> Result<u64, NumberFault>
     requires fits { length bits.now ≤ length out.old }
     requires grid_fits { grid_bits ≤ 126 }
@@ -124,16 +124,15 @@ pub fn round_binary64s(bits: &[u64], grid_bits: u32, out: &mut [Wide]) -> Result
     round_all(&Floats::Doubles(bits), grid_bits, &mut out[..bits.len()])
 }
 
-/// Writes binary32 numbers, each rounded to the nearest multiple of 2^-grid_bits, into the array as numerators over 2^grid_bits, and returns
-/// how many numbers have another value than their numerators.
+/// Rounds binary32 numbers to the nearest multiples of 2^-grid_bits and writes their numerators over 2^grid_bits to the start of `out`.
 ///
-/// Of two multiples as near it is the one with an even numerator. `grid_bits` is at most 126. The array has a place for each number. The
-/// places behind them stay.
+/// Returns how many numbers rounding changed. Ties go to the even numerator. `grid_bits` is at most 126, and `out` has a place for each
+/// number.
 ///
 /// # Errors
 ///
-/// `NotFinite` or `TooWide` with the place of the first number, counted from 0, that is not finite or has a numerator of 2^127 or more in
-/// amount. The places of the numbers then have any items.
+/// The place, counted from 0, of the first number at fault. `NotFinite`: it is not finite. `TooWide`: its numerator is 2^127 or more in
+/// amount. The places for the numbers then have no defined contents.
 pub fn round_binary32s(bits: &[u32], grid_bits: u32, out: &mut [Wide]) -> Result<u64, NumberFault>
     requires fits { length bits.now ≤ length out.old }
     requires grid_fits { grid_bits ≤ 126 }

@@ -1,5 +1,6 @@
-//! The bits of a caller's doubles or floats as whole numerators over one denominator, in arrays of the caller.
-//! No float is computed with, and no call takes memory.
+//! Turns doubles or floats of a caller into whole numerators over one denominator: exactly, or rounded to a grid.
+//!
+//! The calls take the bits of the numbers, compute in whole numbers, and write into arrays of the caller. No call takes memory.
 #![tactic(auto)]
 
 mod amount;

@@ -1,12 +1,12 @@
 //! Numbers over their least common denominator.
 
 ghost use Rattle.std.specs.Prelude.{◌≡◌, ◌+◌, ◌*◌, ◌^◌, ◌<◌, ◌≤◌, ℤ, length, map, take, drop, pos, neg_ℤ, int_lt, if◌then◌else◌, MatchResult, MatchOption};
-ghost use Rattle.std.specs.List.{AllZip};
 ghost use Rattle.nearest_float.specs.Binary.{binary32, binary64};
 ghost use Rattle.flat_arrays.specs.Words.{integer_of};
 ghost use Rattle.exact_arrays.specs.Floats.{bits_at, bits_of, format_of};
+ghost use Rattle.exact_arrays.specs.Answers.{AreFloatsPut, AreFloatsScaled};
 ghost use Rattle.exact_arrays.specs.Scale.{IsScaleWith, IsLeastScale, IsNumerator, HasFraction, HasNumerator, AreScaled};
-ghost use Rattle.exact_arrays.specs.ScaleFaults.{IsFirstRefused, IsRefusedHere, IsLarge, IsLargeFault, IsScaleFault};
+ghost use Rattle.exact_arrays.specs.ScaleFaults.{IsFirstRefused, IsRefusedHere, IsLarge, IsScaleFault};
 
 use crate::NumberFault;
 use crate::floats::Floats;
@@ -38,7 +38,7 @@ fn least_scale(numbers: &Floats) -> Result<u128, NumberFault>
     Ok(scale)
 }
 
-// An amount, below 0 where the number is negative.
+// The amount, negative if `negative` is true.
 fn signed(negative: bool, amount: u128) -> i128
     requires { amount < 2 ^ 127 }
     ensures { result ≡ (if negative then (neg_ℤ (pos amount)) else (pos amount)) }
@@ -47,7 +47,7 @@ fn signed(negative: bool, amount: u128) -> i128
     if negative { -size } else { size }
 }
 
-// The numerator over the scale of the number at a place.
+// The numerator over the scale of the number at a place, if it is below 2^127 in amount.
 fn numerator_at(numbers: &Floats, place: usize, scale: u128) -> Option<i128>
     requires inside { place < length (bits_of numbers.now) }
     requires positive { 0 < scale }
@@ -66,11 +66,11 @@ fn numerator_at(numbers: &Floats, place: usize, scale: u128) -> Option<i128>
     }
 }
 
-// The numerators over the scale.
+// Writes the numerators over the scale.
 fn put_numerators(numbers: &Floats, scale: u128, out: &mut [Wide]) -> Result<(), NumberFault>
     requires equal { length out.old ≡ length (bits_of numbers.now) }
     requires least { IsLeastScale (format_of numbers.now) (bits_of numbers.now) scale }
-    ensures put { MatchResult result (λ _. AllZip (IsNumerator (format_of numbers.now) scale) (bits_of numbers.now) (map integer_of out.new)) (IsLargeFault (format_of numbers.now) (bits_of numbers.now) scale) }
+    ensures put { AreFloatsPut numbers.now scale out.new result }
     ensures len { length out.new ≡ length out.old }
 {
     for place in 0..numbers.len() {
@@ -87,10 +87,10 @@ fn put_numerators(numbers: &Floats, scale: u128, out: &mut [Wide]) -> Result<(),
     Ok(())
 }
 
-// The least common denominator, with the numerators over it in the array.
+// Writes the numerators over the least common denominator. Returns that denominator.
 fn scale_all(numbers: &Floats, out: &mut [Wide]) -> Result<u128, NumberFault>
     requires equal { length out.old ≡ length (bits_of numbers.now) }
-    ensures scaled { MatchResult result (λ scale. AreScaled (format_of numbers.now) (bits_of numbers.now) scale (map integer_of out.new)) (IsScaleFault (format_of numbers.now) (bits_of numbers.now)) }
+    ensures scaled { AreFloatsScaled numbers.now out.new result }
     ensures len { length out.new ≡ length out.old }
 {
     let scale = least_scale(numbers)?;
@@ -98,15 +98,16 @@ fn scale_all(numbers: &Floats, out: &mut [Wide]) -> Result<u128, NumberFault>
     Ok(scale)
 }
 
-/// Writes the numerators of binary64 numbers over their least common denominator, the scale, into the array, and returns the scale.
+/// Writes the exact numerators of binary64 numbers over their least common denominator, the scale, to the start of `out`.
 ///
-/// The scale is the greatest denominator of the exact fractions of the numbers: a power of two, at most 2^126, and 1 for no number.
-/// The array has a place for each number. The places behind them stay.
+/// Returns the scale: the greatest denominator of the exact fractions, a power of two up to 2^126. It is 1 for an empty list. `out` has a
+/// place for each number.
 ///
 /// # Errors
 ///
-/// `NotFinite` or `TooWide` with the place of the first number, counted from 0, that has no exact fraction. Where each has one, `TooWide`
-/// with the place of the first whose numerator over the scale is 2^127 or more in amount. The places of the numbers then have any items.
+/// The place, counted from 0, of the first number at fault. `NotFinite` and `TooWide`: the number has no exact fraction. If every number
+/// has one, `TooWide`: the first numerator over the scale that is 2^127 or more in amount. The places for the numbers then have no defined
+/// contents.
 pub fn scale_binary64s(bits: &[u64], out: &mut [Wide]) -> Result<u128, NumberFault>
     requires fits { length bits.now ≤ length out.old }
     ensures scaled { MatchResult result (λ scale. AreScaled binary64 bits.now scale (map integer_of (take (length bits.now) out.new))) (IsScaleFault binary64 bits.now) }
@@ -116,15 +117,16 @@ pub fn scale_binary64s(bits: &[u64], out: &mut [Wide]) -> Result<u128, NumberFau
     scale_all(&Floats::Doubles(bits), &mut out[..bits.len()])
 }
 
-/// Writes the numerators of binary32 numbers over their least common denominator, the scale, into the array, and returns the scale.
+/// Writes the exact numerators of binary32 numbers over their least common denominator, the scale, to the start of `out`.
 ///
-/// The scale is the greatest denominator of the exact fractions of the numbers: a power of two, at most 2^126, and 1 for no number.
-/// The array has a place for each number. The places behind them stay.
+/// Returns the scale: the greatest denominator of the exact fractions, a power of two up to 2^126. It is 1 for an empty list. `out` has a
+/// place for each number.
 ///
 /// # Errors
 ///
-/// `NotFinite` or `TooWide` with the place of the first number, counted from 0, that has no exact fraction. Where each has one, `TooWide`
-/// with the place of the first whose numerator over the scale is 2^127 or more in amount. The places of the numbers then have any items.
+/// The place, counted from 0, of the first number at fault. `NotFinite` and `TooWide`: the number has no exact fraction. If every number
+/// has one, `TooWide`: the first numerator over the scale that is 2^127 or more in amount. The places for the numbers then have no defined
+/// contents.
 pub fn scale_binary32s(bits: &[u32], out: &mut [Wide]) -> Result<u128, NumberFault>
     requires fits { length bits.now ≤ length out.old }
     ensures scaled { MatchResult result (λ scale. AreScaled binary32 bits.now scale (map integer_of (take (length bits.now) out.new))) (IsScaleFault binary32 bits.now) }
