@@ -1,4 +1,4 @@
--- What a caller needs that begins a text, puts it, and ends it.
+-- Lemmas for a caller that begins a text, puts it, and ends it.
 use Rattle.std.proofs.Common.{◌≡◌, ℕ, ◌≤◌, ◌⊎◌, inl, inr, Bool, false, List, ◌++◌, arith, Result, Ok, Err, IsTrue, IsErr, ap, ◌∙◌, subst}
 use Rattle.std.specs.Borrow.{GName}
 use Rattle.far_io.specs.Bytes.{Rose, AddedPrefix}

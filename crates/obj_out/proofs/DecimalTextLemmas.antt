@@ -27,7 +27,7 @@ length-last_digits (suc d) n =
 pub power-short : (digits n : ℕ) → digits ≤ 18 → n < 10 ^ digits → 10 ^ digits + n < 2000000000000000000
 power-short digits n few below = let most : 10 ^ digits ≤ 10 ^ 18 = pow-le-pow_right (lit< tt) few in omega arith
 
--- what is written of it, and how long that is
+-- The digits written with a leading 1, and their length.
 pub written-with-one : (digits n p : ℕ) (text : List ℕ) → digits ≤ 18 → n < 10 ^ digits → p ≡ 10 ^ digits → text ≡ decimal (p + n) → text ≡ 49 ∷ last_digits digits n
 written-with-one digits n p text few below e is =
     is ∙ ap (λ m. decimal (m + n)) e ∙ decimal-number_text (10 ^ digits + n) (omega (arith, power-short digits n few below)) ∙ one-before digits n below
@@ -35,7 +35,7 @@ written-with-one digits n p text few below e is =
 pub length-with-one : (digits n : ℕ) (text : List ℕ) → text ≡ 49 ∷ last_digits digits n → length text ≡ digits + 1
 length-with-one digits n text is = ap length is ∙ omega (arith, length-last_digits digits n)
 
--- the last digits do not see what stands before them
+-- The last digits do not depend on the digits before them.
 last-digits-rest : (d whole units : ℕ) → last_digits d (whole * 10 ^ d + units) ≡ last_digits d units
 last-digits-rest zero whole units = refl
 last-digits-rest (suc d) whole units =

@@ -1,4 +1,4 @@
--- The digits of a number: how many there are, and that they stand behind a text.
+-- The digits of a number: their count, and their place behind a text.
 use Rattle.std.proofs.Common.{◌≡◌, ℕ, zero, suc, ◌+◌, ◌*◌, ◌/◌, ◌^◌, ◌<◌, ◌≤◌, List, ◌++◌, length, take, drop, arith, lit<, ap, sym, ◌∙◌}
 use Rattle.std.specs.Prelude.{decimal}
 use Rattle.std.proofs.lemmas.List.{length-take}
@@ -27,7 +27,7 @@ digits-between k n many few fits =
 pub digits-one : (n : ℕ) → n < 10 → 1 ≡ length (decimal n)
 digits-one n below = sym (length_one n below)
 
--- digits that were written up to their end stand behind what was before them
+-- Digits written up to their end follow the bytes before them.
 pub digits-behind : (old new digits : List ℕ) (at start end : ℕ) → end ≡ at + length digits → start + length digits ≡ end →
     drop start new ≡ digits ++ drop end old → take start new ≡ take start old → take end new ≡ take at old ++ digits
 digits-behind old new digits at start end e f written before =

@@ -101,7 +101,7 @@ module _ {K : Type 0} {sink : Ghosts K} where
     fixed = p.fixed;
   }
 
-  -- a text that is put behind what waits, after a call that put nothing
+  -- A text put behind the waiting text, after a call that put nothing.
   pub puts-behind : {a b c : Out K} {text : List ℕ} → Puts sink a b [] (Ok tt) → c.sink ≡ b.sink → c.failed ≡ b.failed → c.waiting ≡ b.waiting ++ text →
       Puts sink a c text (Ok tt)
   puts-behind {a} {b} {c} {text} p kept fine behind = record {
@@ -118,7 +118,7 @@ module _ {K : Type 0} {sink : Ghosts K} where
   pub puts-fine : {a b : Out K} {x : List ℕ} → Puts sink a b x (Ok tt) → b.failed ≡ false
   puts-fine {b} p = not-true b.failed (λ t. wrong (p.failed.1 t))
 
-  -- a put of the same text, otherwise said
+  -- A put of the same text under another name.
   pub puts-same : {a b : Out K} {x y : List ℕ} {r : Result (Unit {0}) WriteFailed} → x ≡ y → Puts sink a b x r → Puts sink a b y r
   puts-same {a} {b} {r} e p = subst (λ (t : List ℕ). Puts sink a b t r) e p
 

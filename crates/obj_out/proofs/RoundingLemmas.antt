@@ -1,4 +1,4 @@
--- Division to so many decimals, and rounding half to even.
+-- Division to a number of decimals, and rounding half to even.
 use Rattle.std.proofs.Common.{◌≡◌, ◌≢◌, ℕ, zero, suc, ◌+◌, ◌-◌, ◌*◌, ◌/◌, ◌%◌, ◌^◌, ◌<◌, ◌≤◌, Bool, true, false, ◌&&◌, ◌||◌, nat_eq, nat_lt, if◌then◌else◌, arith, lit<, refl, ap, sym, ◌∙◌}
 use Rattle.std.proofs.Math.Nat.{mul_assoc, pow-suc, pow-le-pow_right, one-le-pow, mod-add-div', mod-eq-sub-div-mul, div-mul-le_self, mul-lt-mul_of_pos_right, lt_of_mul-lt-mul_right}
 use Rattle.std.proofs.lemmas.Grind.{pow_more}
@@ -44,7 +44,7 @@ chosen n den q r last up quotient rest odd e =
     ∙ ap (λ m. if goes_up q m den then q + 1 else q) rest
     ∙ ap (λ b. if b then q + 1 else q) (sym (goes-up-same last q r den odd) ∙ sym e)
 
--- what is left of the amount, from its whole part
+-- The remainder of the amount, from its whole part.
 left-over : (amount den whole t q r : ℕ) → whole ≡ amount / den → q * den + r ≡ (amount - whole * den) * t → q * den + r ≡ amount % den * t
 left-over amount den whole t q r is e =
     e ∙ ap (λ w. (amount - w * den) * t) is ∙ ap (λ m. m * t) (sym (mod-eq-sub-div-mul amount den))
@@ -75,7 +75,7 @@ units-below rest den d t units below e is =
     let turned : units * den < t * den = omega (arith, less, most, ap (λ u. u * den) is) in
     omega (arith, e, lt_of_mul-lt-mul_right den {m = units} {n = t} turned)
 
--- the number in units of the last decimal is odd where its last decimal is, or the whole number where there are none
+-- The number in units of the last decimal is odd if its last decimal is, or the whole number without decimals.
 pub odd-none : (d whole units : ℕ) → d ≡ 0 → units < 10 ^ d → whole % 2 ≡ (whole * 10 ^ d + units) % 2
 odd-none zero whole units none below = let same : whole ≡ whole * 1 + units = omega arith in ap (λ m. m % 2) same
 odd-none (suc d) whole units none below = absurd (omega arith)

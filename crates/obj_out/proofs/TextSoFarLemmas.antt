@@ -1,4 +1,4 @@
--- One call after another: what they put, and what a sink has got of it.
+-- One call after another: the text that they put, and the part that a sink received.
 use Rattle.std.proofs.Common.{◌≡◌, ℕ, ◌+◌, List, [], ◌++◌, length, take, arith, Option, append_assoc, length-append, ap, sym, ◌∙◌, subst}
 use Rattle.std.proofs.Math.Seq.{take-append-add}
 use Rattle.std.proofs.lemmas.List.{append-nil}
@@ -28,7 +28,7 @@ prefix-more start old new waited before text p q =
       subst (λ (r : List ℕ). Added start new r) (sym front) (Added-more start old new p.0 (take q.0 (waited ++ text)) p.1 q.2),
     )
 
--- a text that is put behind what waits, after a call that put nothing
+-- A text put behind the waiting text, after a call that put nothing.
 pub put-behind : (old new : Option (List ℕ)) (waited between waits text : List ℕ) → IsTextSoFar old new between (waited ++ []) → waits ≡ between ++ text →
     IsTextSoFar old new waits (waited ++ text)
 put-behind old new waited between waits text p e = (

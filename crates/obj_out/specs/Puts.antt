@@ -1,4 +1,4 @@
--- What the calls of an `Out` do: the one that begins it, each that puts a text, and the one that ends it.
+-- The effect of the calls of an `Out`: the one that begins it, each that puts a text, and the one that ends it.
 use Rattle.std.specs.Prelude.{ℕ, ◌≡◌, ◌≤◌, ◌↔◌, ◌⊎◌, [], false, List, Result, IsTrue, IsErr, OnOk, OnErr}
 use Rattle.std.specs.Borrow.{GName}
 use Rattle.far_io.specs.Bytes.{Rose, Added, AddedPrefix}
@@ -7,15 +7,15 @@ use Rattle.far_io.specs.declared.sink.WriteFailed.{WriteFailed}
 use Rattle.obj_out.specs.TextSoFar.{IsPut}
 use Rattle.obj_out.specs.declared.put.Out.{Out}
 
--- the `Out` keeps the sink with this name, which is as it was; nothing waits, and no call has failed
+-- The `Out` keeps the sink with this name unchanged. Nothing waits, and no call has failed.
 pub record Begins {K : Type 0} (out : Out K) (name : GName) (start : K) : Type 0 where
   pub same_reference : out.sink.ghost_name ≡ name
   pub same : out.sink.now ≡ start
   pub empty : out.waiting ≡ []
   pub fine : out.failed ≡ false
 
--- A call puts a text: the `Out` keeps the caller's sink, and the text is appended to the text so far. The call fails exactly
--- where `failed` is set afterwards; after a failed call it fails too, and leaves the sink as it is.
+-- A call puts a text: the `Out` keeps the sink and appends the text to the text so far. The call fails exactly if `failed` is set
+-- afterwards. After a failed call every call fails and leaves the sink unchanged.
 pub record Puts {K : Type 0} (sink : Ghosts K) (old new : Out K) (text : List ℕ) (result : Result (Unit {0}) WriteFailed) : Type 0 where
   pub same_reference : new.sink.ghost_name ≡ old.sink.ghost_name
   pub put : IsPut (sink.held old.sink.now) old.waiting text result (sink.held new.sink.now) new.waiting
@@ -25,7 +25,7 @@ pub record Puts {K : Type 0} (sink : Ghosts K) (old new : Out K) (text : List �
   pub later : sink.faults old.sink.now ≤ sink.faults new.sink.now
   pub fixed : sink.fixed new.sink.now ≡ sink.fixed old.sink.now
 
--- What waits is handed on, and the sink becomes this one.
+-- The waiting text goes to the sink, whose value at the end is `final`.
 pub record Ends {K : Type 0} (sink : Ghosts K) (out : Out K) (final : K) (result : Result (Unit {0}) WriteFailed) : Type 0 where
   pub whole : OnOk result (Added (sink.held out.sink.now) (sink.held final) out.waiting)
   pub prefix : OnErr result (AddedPrefix (sink.held out.sink.now) (sink.held final) out.waiting)

@@ -1,7 +1,7 @@
-//! Text on its way to a sink: bytes, whole numbers, fractions and decimals, through one buffer.
+//! Writes text to a sink through one buffer: bytes, whole numbers, exact fractions and rounded decimals.
 //!
-//! An [`Out`] keeps a caller's sink for as long as it puts text, and hands the text on in pieces of
-//! up to 4,096 bytes. No call takes memory.
+//! An [`Out`] keeps the sink of a caller while it gathers text, and passes the text on in pieces of up to 4,096 bytes. No call takes
+//! memory.
 #![tactic(auto)]
 
 pub mod laws;

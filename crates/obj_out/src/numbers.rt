@@ -1,4 +1,4 @@
-//! The texts of numbers, put behind what waits.
+//! The texts of numbers, appended to the waiting text.
 
 ghost use Rattle.std.specs.Prelude.{◌≡◌, ℕ, ◌+◌, ◌*◌, ◌/◌, ◌%◌, ◌<◌, ◌≤◌, ◌^◌, ℤ, unsigned_abs, [], ◌∷◌, ◌++◌, drop, length};
 ghost use Rattle.subdiv_model.specs.NumberText.{number_text, sign_text, ratio_text, fraction_text, last_digits, decimal_text, rounded_sign, rounded_text};
@@ -19,7 +19,7 @@ impl Waiting {
         self.push_digits(n);
     }
 
-    // A byte, and a whole number after it.
+    // A byte, then a whole number.
     pub(crate) fn push_number_after(&mut self, byte: u8, n: u64)
         requires room { length self.old + 41 ≤ 4096 }
         ensures { self.new ≡ self.old ++ (byte ∷ number_text n) }
@@ -28,7 +28,7 @@ impl Waiting {
         self.push_number(n);
     }
 
-    // A whole number of up to 128 bits, of which most fit into 64.
+    // A whole number of up to 128 bits; most fit 64.
     pub(crate) fn push_wide(&mut self, n: u128)
         requires room { length self.old + 40 ≤ 4096 }
         ensures text { self.new ≡ self.old ++ number_text n }
@@ -41,7 +41,7 @@ impl Waiting {
         }
     }
 
-    // A whole number of up to 128 bits, in arithmetic of 128 bits.
+    // A whole number of up to 128 bits, in 128-bit arithmetic.
     fn push_long(&mut self, n: u128)
         requires room { length self.old + 40 ≤ 4096 }
         ensures text { self.new ≡ self.old ++ number_text n }
@@ -51,7 +51,7 @@ impl Waiting {
         self.push(buffer.format(n).as_bytes());
     }
 
-    // The numerator, and the denominator after it where that is not 1.
+    // The numerator, then a slash and the denominator unless the denominator is 1.
     fn push_ratio(&mut self, num: u128, den: u128)
         requires room { length self.old + 81 ≤ 4096 }
         ensures { self.new ≡ self.old ++ ratio_text (num, den) }
@@ -63,7 +63,7 @@ impl Waiting {
         }
     }
 
-    // `-` for a number below 0.
+    // `-` for a negative number.
     fn push_sign(&mut self, num: i128)
         requires room { length self.old + 1 ≤ 4096 }
         ensures text { self.new ≡ self.old ++ sign_text num }
@@ -74,7 +74,7 @@ impl Waiting {
         }
     }
 
-    // A fraction in lowest terms, whatever terms it is kept in.
+    // A fraction in lowest terms, whatever its terms are.
     pub(crate) fn push_frac(&mut self, f: &Frac)
         requires room { length self.old + 82 ≤ 4096 }
         requires positive { 0 < f.now.den }
@@ -86,7 +86,7 @@ impl Waiting {
         self.push_ratio(num, den);
     }
 
-    // A byte, and a fraction in lowest terms after it.
+    // A byte, then a fraction in lowest terms.
     pub(crate) fn push_frac_after(&mut self, byte: u8, f: &Frac)
         requires room { length self.old + 83 ≤ 4096 }
         requires positive { 0 < f.now.den }
@@ -97,7 +97,7 @@ impl Waiting {
         self.push_frac(f);
     }
 
-    // A fraction rounded to so many decimals, half to even.
+    // A fraction rounded to `digits` decimals, half to even.
     pub(crate) fn push_rounded(&mut self, f: &Frac, digits: u32)
         requires room { length self.old + 60 ≤ 4096 }
         requires positive { 0 < f.now.den }
@@ -111,7 +111,7 @@ impl Waiting {
         self.push_decimal(&number, digits);
     }
 
-    // A byte, and a rounded fraction after it.
+    // A byte, then a rounded fraction.
     pub(crate) fn push_rounded_after(&mut self, byte: u8, f: &Frac, digits: u32)
         requires room { length self.old + 61 ≤ 4096 }
         requires positive { 0 < f.now.den }
@@ -124,7 +124,7 @@ impl Waiting {
         self.push_rounded(f, digits);
     }
 
-    // `-` for a number below 0 that is not rounded to 0.
+    // `-` for a negative number that does not round to 0.
     fn push_rounded_sign(&mut self, num: i128, number: &Decimal, digits: u32)
         requires room { length self.old + 1 ≤ 4096 }
         ensures text { self.new ≡ self.old ++ rounded_sign num (number.now.whole * 10 ^ digits + number.now.units) }
@@ -135,7 +135,7 @@ impl Waiting {
         }
     }
 
-    // A number of so many decimals, with a point before them where there are any.
+    // A number with `digits` decimals, with a point before them unless there are none.
     fn push_decimal(&mut self, number: &Decimal, digits: u32)
         requires room { length self.old + 59 ≤ 4096 }
         requires few { digits ≤ 18 }
@@ -149,7 +149,7 @@ impl Waiting {
         }
     }
 
-    // So many last digits, the highest first, of a number that has no more: those of the number with a 1 before them.
+    // The last `digits` digits of a number that has no more: the digits after the leading 1 of 10^digits + n.
     fn push_last_digits(&mut self, n: u64, digits: u32)
         requires room { length self.old + digits ≤ 4096 }
         requires few { digits ≤ 18 }

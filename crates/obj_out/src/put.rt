@@ -6,14 +6,13 @@ use crate::waiting::Waiting;
 use far_io::{Sink, WriteFailed, write_all_of};
 use ratio128::Frac;
 
-/// Text on its way to a sink, gathered in a buffer of 4,096 bytes of its own. No call takes memory.
+/// Text on its way to a sink, gathered in a buffer of 4,096 bytes. No call takes memory.
 ///
-/// The text so far is all that was put, in order: what the sink has got of it since `new`, and what
-/// waits. Each call that puts a text appends it to the text so far.
+/// The text so far is everything put, in order: the part that the sink received since `new`, then the part that waits. Each call that puts
+/// a text appends it.
 ///
-/// `WriteFailed` is returned only where the sink's count of faults rose. The sink then holds what it
-/// held at `new` and a prefix of the text so far, and every later call returns `WriteFailed` and
-/// leaves the sink as it is.
+/// `WriteFailed`: the sink failed in this call or an earlier one. The sink then holds what it held at `new` and a prefix of the text so
+/// far. Every later call, `end` included, returns `WriteFailed` and leaves the sink unchanged.
 #[derive(Drop)]
 pub struct Out<'a, K: Sink> {
     sink: &'a mut K,
@@ -22,7 +21,7 @@ pub struct Out<'a, K: Sink> {
 }
 
 impl<'a, K: Sink> Out<'a, K> {
-    /// A text of no bytes so far. It writes nothing.
+    /// Returns an empty text over this sink. The call writes nothing.
     pub fn new(sink: &'a mut K) -> Out<'a, K>
         ensures { Begins result sink.entry.ghost_name sink.entry.now }
     {
@@ -69,7 +68,7 @@ impl<'a, K: Sink> Out<'a, K> {
         Ok(())
     }
 
-    /// Puts a byte, and a whole number in decimal digits after it.
+    /// Puts a byte, then a whole number in decimal digits.
     pub fn put_number_after(&mut self, byte: u8, n: u64) -> Result<(), WriteFailed>
         ensures { Puts K.Sink self.old self.new (byte ∷ number_text n) result }
     {
@@ -87,8 +86,7 @@ impl<'a, K: Sink> Out<'a, K> {
         Ok(())
     }
 
-    /// Puts a byte, and after it a whole number of up to 128 bits in decimal digits. Most numbers fit into
-    /// 64 bits.
+    /// Puts a byte, then a whole number of up to 128 bits in decimal digits.
     pub fn put_wide_after(&mut self, byte: u8, n: u128) -> Result<(), WriteFailed>
         ensures { Puts K.Sink self.old self.new (byte ∷ number_text n) result }
     {
@@ -98,7 +96,7 @@ impl<'a, K: Sink> Out<'a, K> {
         self.put_long_after(byte, n)
     }
 
-    // Puts a byte, and after it a whole number of up to 128 bits.
+    // Puts a byte, then a whole number of up to 128 bits.
     fn put_long_after(&mut self, byte: u8, n: u128) -> Result<(), WriteFailed>
         ensures { Puts K.Sink self.old self.new (byte ∷ number_text n) result }
     {
@@ -106,7 +104,7 @@ impl<'a, K: Sink> Out<'a, K> {
         self.put_wide(n)
     }
 
-    /// Puts a name, and a count in decimal digits after a space.
+    /// Puts a name, a space and a count in decimal digits.
     pub fn put_count(&mut self, name: &[u8], count: u64) -> Result<(), WriteFailed>
         ensures { Puts K.Sink self.old self.new (name.now ++ (32 ∷ number_text count)) result }
     {
@@ -114,10 +112,9 @@ impl<'a, K: Sink> Out<'a, K> {
         self.put_number_after(b' ', count)
     }
 
-    /// Puts a fraction in lowest terms, whatever terms it is kept in: `n/d`, or `n` where d is 1,
-    /// with `-` before it where it is below 0.
+    /// Puts a fraction in lowest terms, whatever its terms are: `n/d`, or `n` if d is 1, with `-` before a negative one.
     ///
-    /// The denominator is at least 1, and the numerator is not the least `i128`.
+    /// The denominator is at least 1, and the numerator is any `i128` but the least.
     pub fn put_frac(&mut self, f: &Frac) -> Result<(), WriteFailed>
         requires positive { 0 < f.now.den }
         requires kept { unsigned_abs f.now.num < 2 ^ 127 }
@@ -128,9 +125,9 @@ impl<'a, K: Sink> Out<'a, K> {
         Ok(())
     }
 
-    /// Puts a byte, and after it a fraction in lowest terms, as `put_frac` does.
+    /// Puts a byte, then a fraction in lowest terms, in the form of `put_frac`.
     ///
-    /// The denominator is at least 1, and the numerator is not the least `i128`.
+    /// The denominator is at least 1, and the numerator is any `i128` but the least.
     pub fn put_frac_after(&mut self, byte: u8, f: &Frac) -> Result<(), WriteFailed>
         requires positive { 0 < f.now.den }
         requires kept { unsigned_abs f.now.num < 2 ^ 127 }
@@ -141,11 +138,10 @@ impl<'a, K: Sink> Out<'a, K> {
         Ok(())
     }
 
-    /// Puts a fraction rounded to so many decimals, half to even. Where `digits` is 0 there is no
-    /// point, and what is rounded to 0 has no sign.
+    /// Puts a fraction rounded to `digits` decimals, half to even. Without decimals there is no point, and a fraction that rounds to 0 has
+    /// no sign.
     ///
-    /// There are at most 18 digits, the denominator is at least 1 and below 2^126, and the numerator
-    /// is not the least `i128`.
+    /// `digits` is at most 18. The denominator is at least 1 and below 2^126, and the numerator is any `i128` but the least.
     pub fn put_decimal(&mut self, f: &Frac, digits: u32) -> Result<(), WriteFailed>
         requires few { digits ≤ 18 }
         requires positive { 0 < f.now.den }
@@ -158,10 +154,9 @@ impl<'a, K: Sink> Out<'a, K> {
         Ok(())
     }
 
-    /// Puts a byte, and after it a fraction rounded to so many decimals, as `put_decimal` does.
+    /// Puts a byte, then a fraction rounded to `digits` decimals, in the form of `put_decimal`.
     ///
-    /// There are at most 18 digits, the denominator is at least 1 and below 2^126, and the numerator
-    /// is not the least `i128`.
+    /// `digits` is at most 18. The denominator is at least 1 and below 2^126, and the numerator is any `i128` but the least.
     pub fn put_decimal_after(&mut self, byte: u8, f: &Frac, digits: u32) -> Result<(), WriteFailed>
         requires few { digits ≤ 18 }
         requires positive { 0 < f.now.den }
@@ -174,10 +169,10 @@ impl<'a, K: Sink> Out<'a, K> {
         Ok(())
     }
 
-    /// Hands on what waits, and flushes the sink. The sink then holds what it held at `new` and the
-    /// whole text.
+    /// Passes on the waiting text and flushes the sink. The sink then holds what it held at `new` and the whole text.
     ///
-    /// `WriteFailed` is returned where a call before failed, and where the rest or the flush fails.
+    /// `WriteFailed`: an earlier call failed, or the write or the flush fails now. No clause states that the sink is flushed, because
+    /// contracts do not see a flush.
     pub fn end(self) -> Result<(), WriteFailed>
         ensures { Ends K.Sink self.entry self.exit.0.now result }
     {
@@ -193,7 +188,7 @@ impl<'a, K: Sink> Out<'a, K> {
         sink.flush()
     }
 
-    // Room for the text of one number.
+    // Makes space for the text of one number.
     fn make_room(&mut self) -> Result<(), WriteFailed>
         ensures puts { Puts K.Sink self.old self.new [] result }
         ensures room { OnOk result (length self.new.waiting + 128 ≤ 4096) }
@@ -207,7 +202,7 @@ impl<'a, K: Sink> Out<'a, K> {
         self.hand_on()
     }
 
-    // Hands on what waits.
+    // Passes on the waiting text.
     fn hand_on(&mut self) -> Result<(), WriteFailed>
         requires { self.old.failed ≡ false }
         ensures puts { Puts K.Sink self.old self.new [] result }
@@ -225,7 +220,7 @@ impl<'a, K: Sink> Out<'a, K> {
         }
     }
 
-    // Puts a text where nothing waits. One that is longer than the buffer goes straight to the sink.
+    // Puts a text while nothing waits. A text longer than the buffer goes straight to the sink.
     fn put_first(&mut self, text: &[u8]) -> Result<(), WriteFailed>
         requires fine { self.old.failed ≡ false }
         requires empty { self.old.waiting ≡ [] }

@@ -3,21 +3,21 @@ ghost use Rattle.subdiv_model.specs.NumberText.{goes_up, half_to_even};
 
 use ratio128::quotient;
 
-// A number of so many decimals: its whole part, and units of the last decimal.
+// A number with a fixed count of decimals: its whole part, and the units of its last decimal.
 #[derive(Drop)]
 pub(crate) struct Decimal {
     pub(crate) whole: u128,
     pub(crate) units: u64,
 }
 
-// A quotient, and what is left of the dividend.
+// A quotient and its remainder.
 #[derive(Drop)]
 struct Division {
     quotient: u64,
     rest: u128,
 }
 
-// The amount over the denominator, rounded to so many decimals: to the nearest, and half to even.
+// The amount over the denominator, rounded to `digits` decimals, half to even.
 pub(crate) fn rounded(amount: u128, den: u128, digits: u32) -> Decimal
     requires kept { amount < 2 ^ 127 }
     requires positive { 0 < den }
@@ -41,8 +41,7 @@ pub(crate) fn rounded(amount: u128, den: u128, digits: u32) -> Decimal
     }
 }
 
-// The decimals, or the whole part where there are none: it is odd where the number in units of the
-// last place is.
+// The decimals, or the whole part if there are none. It is odd exactly if the number, in units of its last decimal, is odd.
 fn last_place(whole: u128, units: u64, digits: u32) -> u128
     requires { units < 10 ^ digits }
     ensures { result % 2 ≡ (whole * 10 ^ digits + units) % 2 }
@@ -50,7 +49,7 @@ fn last_place(whole: u128, units: u64, digits: u32) -> u128
     if digits == 0 { whole } else { units as u128 }
 }
 
-// One unit of the last decimal more.
+// The number plus one unit of its last decimal.
 fn unit_more(whole: u128, units: u64, digits: u32) -> Decimal
     requires kept { whole < 2 ^ 127 }
     requires few { digits ≤ 18 }
@@ -71,7 +70,7 @@ fn unit_more(whole: u128, units: u64, digits: u32) -> Decimal
     }
 }
 
-// Whether a quotient with this remainder goes up: above half, or at half where its last digit is odd.
+// Whether a quotient with this remainder rounds up: above half, or at half with an odd last digit.
 fn rounds_up(last: u128, rest: u128, den: u128) -> bool
     requires bounded { den < 2 ^ 126 }
     requires below { rest < den }
@@ -80,8 +79,8 @@ fn rounds_up(last: u128, rest: u128, den: u128) -> bool
     den < 2 * rest || (den == 2 * rest && last % 2 == 1)
 }
 
-// So many decimals of a fraction below 1, and what is left after them. Where the denominator has at most 64 bits, all of them
-// fit into 128 bits at once.
+// The first `digits` decimals of a fraction below 1, and the remainder. With a denominator of at most 64 bits, one division in 128 bits
+// gives all of them.
 fn decimals_of(rest: u128, den: u128, digits: u32) -> Division
     requires bounded { den < 2 ^ 126 }
     requires below { rest < den }
@@ -114,7 +113,7 @@ fn decimals_at_once(rest: u128, den: u128, digits: u32) -> Division
     }
 }
 
-// The decimals one after another.
+// The decimals one by one.
 fn decimals_in_turn(rest: u128, den: u128, digits: u32) -> Division
     requires bounded { den < 2 ^ 126 }
     requires below { rest < den }
@@ -136,8 +135,8 @@ fn decimals_in_turn(rest: u128, den: u128, digits: u32) -> Division
     }
 }
 
-// One decimal of a fraction below 1. Ten times the remainder may pass 128 bits, so it is doubled,
-// divided, and taken five times: as twice the double and once more.
+// One decimal of a fraction below 1. Ten times the remainder may exceed 128 bits. So the code doubles the remainder, divides, and
+// multiplies by five: twice the double, plus one more.
 fn next_digit(rest: u128, den: u128) -> Division
     requires bounded { den < 2 ^ 126 }
     requires below { rest < den }

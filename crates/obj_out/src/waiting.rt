@@ -3,7 +3,7 @@ ghost use Rattle.std.specs.Prelude.{◌≡◌, ℕ, ◌+◌, ◌≤◌, [], ◌�
 use itoa::write_digits;
 use std::marker::Model;
 
-// Up to 4,096 bytes of a text, which wait to be handed on.
+// Up to 4,096 bytes of a text that wait to be passed on.
 #[derive(Drop)]
 pub(crate) struct Waiting {
     bytes: [u8; 4096],
@@ -67,7 +67,7 @@ impl Waiting {
         self.len += 1;
     }
 
-    // The digits of a number, which are written straight to their place.
+    // Appends the digits of a number, written straight to their place.
     pub(crate) fn push_digits(&mut self, n: u64)
         requires { length self.old + 20 ≤ 4096 }
         ensures { self.new ≡ self.old ++ decimal n }
@@ -89,7 +89,7 @@ fn digits_of(n: u64) -> usize
     n.ilog10() as usize + 1
 }
 
-// Copies the text behind so many bytes of a buffer.
+// Copies the text to place `at` of a buffer.
 fn copy_behind(buffer: &mut [u8], at: usize, text: &[u8])
     requires { at + length text.now ≤ length buffer.old }
     ensures { take (at + length text.now) buffer.new ≡ take at buffer.old ++ text.now }

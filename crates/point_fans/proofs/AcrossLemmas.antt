@@ -130,7 +130,7 @@ row-there polygons numbers f is inside = (
   ap (λ ns. get_or ns f []) is ∙ get_or-map (face_edges_of polygons) polygons f [] [] inside,
 )
 
--- what the tables say of the edge after a face, and of the edge before it
+-- The entries of the tables for the edge after a face, and for the edge before it.
 pub after-code : (polygons : List Polygon) (numbers : List (List ℕ)) (v f c : ℕ) (row : List ℕ) → numbers ≡ map (face_edges_of polygons) polygons → has_corner v (polygon_at polygons f) ≡ true → c ≡ corner_of polygons v f → row ≡ get_or numbers f [] → c < length row
 after-code polygons numbers v f c row is has at e =
     let there = face-there polygons v f has in
@@ -193,7 +193,7 @@ noted-more faces at before i value inside within e kept f there = go (nat_eq f (
         let earlier : is_among (take i faces) f ≡ true = grind (arith, nat_tests) in
         get_or-set_other before (get_or faces i 0) f (get_or at i 0) 0 apart ∙ kept f earlier
 
--- what holds where there is none
+-- The claim for a missing value.
 pub none-of : {A : Type 0} (B : ℕ → Type 0) (r : Option ℕ) → is_some r ≡ false → MatchOption r A B → A
 none-of B None e h = h
 none-of B (Some g) e h = absurd (cc)

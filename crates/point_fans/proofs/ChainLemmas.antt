@@ -1,4 +1,4 @@
--- Chains of places, and what they say of lists that come one after another.
+-- Chains of places, and the places that they give in successive lists.
 use Rattle.std.proofs.Common.{subst, ◌≡◌, ◌≢◌, ℕ, zero, suc, ◌+◌, ◌*◌, ◌<◌, ◌≤◌, Bool, true, false, not, nat_eq, List, [], ◌∷◌, ◌++◌, length, map, get_or, slice_set, drop, take, replicate, arith, refl, ap, sym, ◌∙◌, append-nil, append_assoc, length-append, if◌then◌else◌}
 use Rattle.std.specs.List.{list_all, position_or_len, range_with_len, sum_by}
 use Rattle.std.proofs.lemmas.Bool.Decides.{nat_tests}
@@ -31,7 +31,7 @@ chain-kept next first place test (x ∷ xs) j a below is = go (test x) refl (λ 
         let now : IsChain next first (places_from (place + 1) test xs) = rw e at is in
         rw e (behind first now)
 
--- the chains of what stands from a place on
+-- The chains of the numbers from a place on.
 pub record AreChains (numbers firsts next : List ℕ) (limit place : ℕ) : Type 0 where
   pub first_count : length firsts ≡ limit
   pub next_count : length next ≡ length numbers
@@ -139,7 +139,7 @@ places-append place test (x ∷ xs) ys = go (test x) refl (places-append (place 
     go true e behind = rw e (ap (λ ps. place ∷ ps) (behind ∙ ap (λ k. places_from (place + 1) test xs ++ places_from k test ys) same))
     go false e behind = rw e (behind ∙ ap (λ k. places_from (place + 1) test xs ++ places_from k test ys) same)
 
--- what stands at the places of a list stays when more comes after it
+-- The values at the places of a list stay when more values follow.
 map-kept : {X Y Z : Type 0} (g : X → Y) (d : X) (values more : List X) (place : ℕ) (test : Z → Bool) (zs : List Z) → place + length zs ≤ length values → map (λ p. g (get_or (values ++ more) p d)) (places_from place test zs) ≡ map (λ p. g (get_or values p d)) (places_from place test zs)
 map-kept g d values more place test [] h = refl
 map-kept g d values more place test (z ∷ zs) h = go (test z) refl (map-kept g d values more (place + 1) test zs (omega (arith, h)))
@@ -150,7 +150,7 @@ map-kept g d values more place test (z ∷ zs) h = go (test z) refl (map-kept g 
         rw (e, here) (ap (λ ys. g (get_or values place d) ∷ ys) behind)
     go false e behind = rw e behind
 
--- a number stands at one place of distinct numbers, or at none
+-- A number has one place among distinct numbers, or none.
 pub single-place : (v place : ℕ) (corners : List ℕ) → is_distinct corners ≡ true → places_from place (nat_eq v) corners ≡ (if has_corner v corners then (place + position_or_len (nat_eq v) corners) ∷ [] else [])
 single-place v place [] d = refl
 single-place v place (c ∷ corners) d =
@@ -263,7 +263,7 @@ places-more lists items owners within list items' owners' within' i inside e dis
 pub places-all : (lists : List Polygon) (items owners within : List ℕ) (i : ℕ) → length lists ≤ i → ArePlaces (take i lists) items owners within → ArePlaces lists items owners within
 places-all lists items owners within i past is = subst (λ ls. ArePlaces ls items owners within) (take_all i lists past) is
 
--- the same for pairs
+-- The first pairs, as lists, are the first of all pairs as lists.
 pub pairs-as-lists : (ends : List (ℕ × ℕ)) (i : ℕ) → map pair_list (take i ends) ≡ take i (map pair_list ends)
 pairs-as-lists ends zero = refl
 pairs-as-lists [] (suc i) = refl

@@ -41,7 +41,7 @@ tables_of counts polygons holes ends pairs sharp vertices method complete number
   complete = complete;
 }
 
--- they are those of the level that was built
+-- The tables are those of the level that was built.
 pub of-level : (counts : Counts) (polygons : List Polygon) (holes : List Bool) (n : Numbered) (vertices : List Sharpness) (method : Method) (complete : List Bool) (numbers faces at edges ends : List (List ℕ)) → IsBuilt (built_of (length complete) polygons holes n.sharpness vertices method complete) n numbers → AreRows polygons complete (length complete) faces at edges ends → AreOfLevel (tables_of counts polygons holes n.ends n.faces n.sharpness vertices method complete numbers faces at edges ends)
 of-level counts polygons holes n vertices method complete numbers faces at edges ends is are =
     let own = numbered-ends polygons n is.numbering in
@@ -71,7 +71,7 @@ of-level counts polygons holes n vertices method complete numbers faces at edges
       ends = λ v h. (are.rows v h).ends_are;
     }
 
--- the same for tables that are equal to these
+-- Tables equal to these are those of a level too.
 pub of-level-same : (counts : Counts) (polygons : List Polygon) (holes : List Bool) (n : Numbered) (vertices : List Sharpness) (method : Method) (complete : List Bool) (numbers faces at edges others : List (List ℕ)) (ends pairs : List (ℕ × ℕ)) (sharp kept : List Sharpness) → IsBuilt (built_of (length complete) polygons holes n.sharpness vertices method complete) n numbers → AreRows polygons complete (length complete) faces at edges others → ends ≡ n.ends → pairs ≡ n.faces → sharp ≡ n.sharpness → kept ≡ vertices → AreOfLevel (tables_of counts polygons holes ends pairs sharp kept method complete numbers faces at edges others)
 of-level-same counts polygons holes n vertices method complete numbers faces at edges others ends pairs sharp kept is are e p s k =
     subst (λ x. AreOfLevel (tables_of counts polygons holes ends pairs sharp x method complete numbers faces at edges others)) (sym k)

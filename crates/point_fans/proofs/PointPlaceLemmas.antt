@@ -26,7 +26,7 @@ use Rattle.level_topology.specs.Topology.{end_of, edge_numbers_at}
 use Rattle.level_topology.proofs.PointRowLemmas.{below-more, count-le}
 use Rattle.level_topology.proofs.TurnLemmas.{edges-listed}
 
--- what passes the test is below
+-- A number that passes the test is below the bound.
 below-all : (xs : List ℕ) (points n : ℕ) → n ≡ points → list_all (λ v. nat_lt v points) xs ≡ true → All (λ v. v < n) xs
 below-all xs points n e h k d inside = let passes = AllPass-from_list_all (λ v. nat_lt v points) xs h k d inside in grind (arith, nat_tests)
 
@@ -37,7 +37,7 @@ corners-inside polygons items points n e over is =
 pub corners-few : (polygons : List Polygon) (items : List ℕ) → items ≡ joined polygons → length items ≡ sum_by length polygons
 corners-few polygons items is = ap length is ∙ joined-length polygons
 
--- there are no more edges than corners
+-- There are at most as many edges as corners.
 pub edges-few : (polygons : List Polygon) (n : Numbered) → IsNumbering polygons [] n → length n.ends ≤ sum_by length polygons
 edges-few polygons n is = omega (arith, ap length (numbered-ends polygons n is), edges-corners polygons)
 

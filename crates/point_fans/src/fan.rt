@@ -14,7 +14,7 @@ use crate::numbered_faces::NumberedFaces;
 use level_topology::corner_before;
 use ratio128::Memory;
 
-// The other face of an edge, where there is one.
+// The other face of an edge, if there is one.
 fn other_face(pair: (u32, u32), f: u32) -> Option<u32>
     ensures { MatchOption result (nat_eq pair.0 pair.1 ≡ true) (λ g. (nat_eq pair.0 pair.1 ≡ false) × (g ≡ other_of pair f)) }
 {
@@ -35,7 +35,7 @@ fn note_corner(corners: &mut Vec<u16>, f: u32, corner: u16)
     corners[f as usize] = corner;
 }
 
-// Keeps the corner that each of these faces has at a point.
+// Keeps the corner of each of these faces at a point.
 pub(crate) fn note_corners(faces: &[u32], at: &[u16], corners: &mut Vec<u16>)
     requires equal { length at.now ≡ length faces.now }
     requires inside { All (λ f. f < length corners.old.items) faces.now }
@@ -48,7 +48,7 @@ pub(crate) fn note_corners(faces: &[u32], at: &[u16], corners: &mut Vec<u16>)
 }
 
 impl NumberedFaces {
-    // What holds of the faces so far.
+    // States the facts of the faces to a proof; at run time it does nothing.
     pub(crate) fn facts(&self)
         ensures simple { IsTrue (list_all is_simple self.now.level.polygons) }
         ensures sides_once { IsTrue (has_distinct_sides (all_sides self.now.level.polygons)) }
@@ -65,7 +65,7 @@ impl NumberedFaces {
         self.parts.faces.beside(f as usize)[c as usize]
     }
 
-    // The edge that comes to a point in a face.
+    // The edge that enters a point in a face.
     pub(crate) fn edge_before(&self, v: u32, f: u32, c: u16) -> u32
         requires there { has_corner v (polygon_at self.now.level.polygons f) ≡ true }
         requires corner { c ≡ corner_of self.now.level.polygons v f }
@@ -83,7 +83,7 @@ impl NumberedFaces {
         self.parts.edge_faces[e as usize]
     }
 
-    // The face after a face about a point, where there is one.
+    // The face after a face about a point, if there is one.
     fn face_after(&self, v: u32, f: u32, c: u16) -> Option<u32>
         requires there { has_corner v (polygon_at self.now.level.polygons f) ≡ true }
         requires corner { c ≡ corner_of self.now.level.polygons v f }
@@ -94,7 +94,7 @@ impl NumberedFaces {
         other_face(self.face_pair(e), f)
     }
 
-    // The face before a face about a point, where there is one.
+    // The face before a face about a point, if there is one.
     fn face_before(&self, v: u32, f: u32, c: u16) -> Option<u32>
         requires there { has_corner v (polygon_at self.now.level.polygons f) ≡ true }
         requires corner { c ≡ corner_of self.now.level.polygons v f }
@@ -105,7 +105,7 @@ impl NumberedFaces {
         other_face(self.face_pair(e), f)
     }
 
-    // The faces at a point one after another, from this one on.
+    // The faces at a point in order, beginning with `start`.
     pub(crate) fn walk(
         &self,
         v: u32,
@@ -130,7 +130,7 @@ impl NumberedFaces {
         Ok(())
     }
 
-    // The first of these faces that no face comes before about the point, and whether there is one; else the first face.
+    // The first of these faces without a predecessor about the point, and whether there is one; otherwise the first face.
     pub(crate) fn first_of_fan(&self, v: u32, faces: &[u32], at: &[u16]) -> (u32, bool)
         requires some { 0 < length faces.now }
         requires there { All (λ f. has_corner v (polygon_at self.now.level.polygons f) ≡ true) faces.now }

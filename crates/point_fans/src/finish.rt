@@ -8,8 +8,7 @@ ghost use Rattle.level_topology.specs.Packed.{paired};
 ghost use Rattle.level_topology.specs.Topology.{corner_of, edge_numbers_at, end_of};
 ghost use Rattle.level_topology.specs.ListPlaces.{pair_list};
 ghost use Rattle.point_fans.specs.PointPlaces.{AreChainedIn, ArePointPlaces};
-ghost use Rattle.level_topology.specs.PointRows.{IsRow, AreRows};
-ghost use Rattle.point_fans.specs.Built.{AreFans};
+ghost use Rattle.point_fans.specs.Built.{AreFans, AreListed, IsListedAt};
 
 use crate::numbered_faces::NumberedFaces;
 use crate::places::Chained;
@@ -17,7 +16,7 @@ use crate::rows::{places_of, places_of_ends};
 use level_topology::{Level, LevelTables, PackedLists, PointLists, SharpnessList};
 use ratio128::Memory;
 
-// Where the points stand among the corners of faces, and among the ends of edges.
+// The places of the points among the corners of faces and among the ends of edges.
 #[derive(Drop)]
 pub(crate) struct PointPlaces {
     pub(crate) faces: Chained,
@@ -32,7 +31,7 @@ pub(crate) struct Turning {
     pub(crate) corners: Vec<u16>,
 }
 
-// The tables of a level that are made of its faces and its edges.
+// The tables of a level that are made from its faces and edges.
 #[derive(Drop)]
 pub(crate) struct Made {
     pub(crate) edge_sharpness: SharpnessList,
@@ -42,7 +41,7 @@ pub(crate) struct Made {
 }
 
 impl NumberedFaces {
-    // Where the points stand among the corners of faces.
+    // The places of the points among the corners of faces.
     fn corner_places(&self) -> Result<Chained, Memory>
         ensures { IfOk result (λ c. AreChainedIn self.now.level.polygons self.now.level.point_count c) }
     {
@@ -51,7 +50,7 @@ impl NumberedFaces {
         Chained::new(self.alloc, corners, points)
     }
 
-    // Where they stand among the ends of edges.
+    // The places of the points among the ends of edges.
     fn end_places(&self) -> Result<Chained, Memory>
         ensures { IfOk result (λ c. AreChainedIn (map pair_list (edges_of self.now.level.polygons)) self.now.level.point_count c) }
     {
@@ -69,7 +68,7 @@ impl NumberedFaces {
         Ok(PointPlaces { faces, edges })
     }
 
-    // The lists at a point as they ascend.
+    // The lists at a point, ascending.
     fn list_row(&self, places: &PointPlaces, v: u32, row: &mut PointLists) -> Result<(), Memory>
         requires point { v < self.now.level.point_count }
         requires places { ArePointPlaces self.now places.now }
@@ -84,13 +83,13 @@ impl NumberedFaces {
         Ok(())
     }
 
-    // The lists at a point: in fan order where it is complete, and ascending where it is not.
+    // The lists at a point: in fan order if it is complete, and ascending otherwise.
     fn ordered_row(&self, places: &PointPlaces, v: u32, turning: &mut Turning) -> Result<(), Memory>
         requires point { v < self.now.level.point_count }
         requires fan { get_or self.now.complete v false ≡ true → IsTrue (has_one_fan self.now.level.polygons v) }
         requires size { length turning.old.corners.items ≡ length self.now.level.polygons }
         requires places { ArePointPlaces self.now places.now }
-        ensures row { OnOk result (IsRow self.now.level.polygons v (get_or self.now.complete v false) turning.new.row.faces.items turning.new.row.faces_at.items turning.new.row.edges.items turning.new.row.edges_at.items) }
+        ensures row { OnOk result (IsListedAt self.now v turning.new.row) }
         ensures size { length turning.new.corners.items ≡ length turning.old.corners.items }
     {
         self.list_row(places, v, &mut turning.row)?;
@@ -115,7 +114,7 @@ impl NumberedFaces {
         requires places { ArePointPlaces self.now places.now }
         requires no_faces { faces.old ≡ paired [] [] self.now.level.point_count (sum_by length self.now.level.polygons) }
         requires no_edges { edges.old ≡ paired [] [] self.now.level.point_count (2 * length (edges_of self.now.level.polygons)) }
-        ensures { OnOk result (AreRows self.now.level.polygons self.now.complete self.now.level.point_count faces.new.lists faces.new.beside edges.new.lists edges.new.beside) }
+        ensures { OnOk result (AreListed self.now faces.new edges.new) }
     {
         let points = self.parts.complete.len() as u32;
         for v in 0..points {
@@ -139,7 +138,7 @@ impl NumberedFaces {
         requires places { ArePointPlaces self.now places.now }
         requires no_faces { faces ≡ paired [] [] self.now.level.point_count (sum_by length self.now.level.polygons) }
         requires no_edges { edges ≡ paired [] [] self.now.level.point_count (2 * length (edges_of self.now.level.polygons)) }
-        ensures { IfOk result (λ r. AreRows self.now.level.polygons self.now.complete self.now.level.point_count r.0.lists r.0.beside r.1.lists r.1.beside) }
+        ensures { IfOk result (λ r. AreListed self.now r.0 r.1) }
     {
         self.put_rows(places, turning, &mut faces, &mut edges)?;
         Ok((faces, edges))
@@ -154,7 +153,7 @@ impl NumberedFaces {
         requires fans { AreFans self.now }
         requires size { length turning.old.corners.items ≡ length self.now.level.polygons }
         requires places { ArePointPlaces self.now places.now }
-        ensures { IfOk result (λ r. AreRows self.now.level.polygons self.now.complete self.now.level.point_count r.0.lists r.0.beside r.1.lists r.1.beside) }
+        ensures { IfOk result (λ r. AreListed self.now r.0 r.1) }
     {
         let points = self.parts.complete.len() as u32;
         let faces = PackedLists::with_room(self.alloc, points, self.parts.faces.total() as u32)?;
@@ -166,11 +165,11 @@ impl NumberedFaces {
         self.filled_rows(places, turning, faces, edges)
     }
 
-    // The lists at all points that stand at these places.
+    // The lists at all points, given the places of the points.
     fn rows_at(&self, places: &PointPlaces) -> Result<(PackedLists<u16>, PackedLists<u16>), Memory>
         requires fans { AreFans self.now }
         requires places { ArePointPlaces self.now places.now }
-        ensures { IfOk result (λ r. AreRows self.now.level.polygons self.now.complete self.now.level.point_count r.0.lists r.0.beside r.1.lists r.1.beside) }
+        ensures { IfOk result (λ r. AreListed self.now r.0 r.1) }
     {
         let mut turning = Turning {
             corners: vec![in self.alloc; 0; self.parts.faces.len()]?,
@@ -183,7 +182,7 @@ impl NumberedFaces {
     // The faces at all points with the corners there, and the edges at all points with the ends there.
     fn rows(&self) -> Result<(PackedLists<u16>, PackedLists<u16>), Memory>
         requires { AreFans self.now }
-        ensures { IfOk result (λ r. AreRows self.now.level.polygons self.now.complete self.now.level.point_count r.0.lists r.0.beside r.1.lists r.1.beside) }
+        ensures { IfOk result (λ r. AreListed self.now r.0 r.1) }
     {
         let places = self.point_places()?;
         self.rows_at(&places)
@@ -201,8 +200,8 @@ impl NumberedFaces {
 
     // These lists at all points, with the sharpness of all edges and points.
     fn made_with(&self, faces: PackedLists<u16>, edges: PackedLists<u16>) -> Result<Made, Memory>
-        requires { AreRows self.now.level.polygons self.now.complete self.now.level.point_count faces.lists faces.beside edges.lists edges.beside }
-        ensures rows { IfOk result (λ m. AreRows self.now.level.polygons self.now.complete self.now.level.point_count m.vertex_faces.lists m.vertex_faces.beside m.vertex_edges.lists m.vertex_edges.beside) }
+        requires { AreListed self.now faces edges }
+        ensures rows { IfOk result (λ m. AreListed self.now m.vertex_faces m.vertex_edges) }
         ensures edges { IfOk result (λ m. m.edge_sharpness.sharpness ≡ self.now.level.edge_sharpness) }
         ensures points { IfOk result (λ m. m.vertex_sharpness.sharpness ≡ self.now.level.vertex_sharpness) }
     {
@@ -215,10 +214,10 @@ impl NumberedFaces {
         })
     }
 
-    // What a level has beside the faces and the edges.
+    // The tables of a level other than those of its faces and edges.
     fn made(&self) -> Result<Made, Memory>
         requires { AreFans self.now }
-        ensures rows { IfOk result (λ m. AreRows self.now.level.polygons self.now.complete self.now.level.point_count m.vertex_faces.lists m.vertex_faces.beside m.vertex_edges.lists m.vertex_edges.beside) }
+        ensures rows { IfOk result (λ m. AreListed self.now m.vertex_faces m.vertex_edges) }
         ensures edges { IfOk result (λ m. m.edge_sharpness.sharpness ≡ self.now.level.edge_sharpness) }
         ensures points { IfOk result (λ m. m.vertex_sharpness.sharpness ≡ self.now.level.vertex_sharpness) }
     {
@@ -226,9 +225,9 @@ impl NumberedFaces {
         self.made_with(faces, edges)
     }
 
-    // The level of the faces and the edges, and of what was made of them.
+    // The level of the faces and edges with these further tables.
     fn joined(self, made: Made) -> Level
-        requires rows { AreRows self.level.polygons self.complete self.level.point_count made.vertex_faces.lists made.vertex_faces.beside made.vertex_edges.lists made.vertex_edges.beside }
+        requires rows { AreListed self made.vertex_faces made.vertex_edges }
         requires edges { made.edge_sharpness.sharpness ≡ self.level.edge_sharpness }
         requires points { made.vertex_sharpness.sharpness ≡ self.level.vertex_sharpness }
         ensures level { result.level ≡ self.level }
@@ -249,8 +248,10 @@ impl NumberedFaces {
         })
     }
 
-    /// The level of these faces and edges, in their order, with the faces and edges at each point. These are in fan order
-    /// where the point is marked complete, and ascend elsewhere. No table of faces or edges is copied.
+    /// Returns the level of these faces and edges, with the lists of faces and edges at each point. The call takes linear time.
+    ///
+    /// The lists are in fan order at points marked complete, and ascend elsewhere. The level takes over the tables of faces and edges
+    /// without a copy. `Memory`: memory ran out, and the faces are dropped.
     pub fn finish(self) -> Result<Level, Memory>
         requires fans { AreFans self }
         ensures level { IfOk result (λ level. level.level ≡ self.level) }

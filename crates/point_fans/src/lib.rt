@@ -1,4 +1,7 @@
-//! Levels from numbered faces: the lists at each point are made in linear time, and put into fan order at complete points.
+//! Builds levels from faces with numbered edges, in linear time: it makes the lists of faces and edges at each point.
+//!
+//! The lists are in fan order at points marked complete, and ascend elsewhere. The crate numbers no edges and keeps no map; `level_builder`
+//! numbers them.
 #![tactic(auto)]
 
 mod fan;

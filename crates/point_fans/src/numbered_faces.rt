@@ -26,7 +26,7 @@ impl Model for NumberedFaces {
 }
 
 impl NumberedFaces {
-    /// The faces of these parts. It copies none of them, and takes no memory. `alloc` is where `finish` takes its own.
+    /// Returns the faces of these parts, without a copy and without taking memory. `finish` takes its memory from `alloc`.
     pub fn of(alloc: Global, parts: FaceParts) -> NumberedFaces
         requires { AreLevelParts parts }
         ensures { result ≡ built_in parts }

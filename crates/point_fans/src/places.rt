@@ -1,5 +1,5 @@
-//! For each number of some lists the lists that it stands in, with its place in each: all places of a number make a chain
-//! through the lists, which ascends. Making all chains takes as many steps as there are places, and so does reading them.
+//! For each number the lists that contain it, with its place in each. All places of a number form an ascending chain through the lists.
+//! Making all chains takes as many steps as there are places, and so does reading them.
 
 ghost use Rattle.std.specs.Prelude.{◌≡◌, ℕ, ◌+◌, ◌^◌, ◌<◌, ◌≤◌, nat_eq, List, [], ◌∷◌, ◌++◌, length, map, get_or, slice_set, replicate, IfOk, OnOk, vec_len};
 ghost use Rattle.std.specs.Vec.{vec_capacity};
@@ -13,7 +13,7 @@ ghost use Rattle.point_fans.specs.PointPlaces.{AreChainedIn};
 use ratio128::Memory;
 use std::alloc::Global;
 
-// The items of lists one after another, and for each item the number of its list and its place there.
+// The items of the joined lists, and for each item the number of its list and its place there.
 #[derive(Drop)]
 pub(crate) struct Places {
     pub(crate) items: Vec<u32>,
@@ -21,7 +21,7 @@ pub(crate) struct Places {
     pub(crate) within: Vec<u16>,
 }
 
-// The first place of each number, and for each place the next one with its number. What is no place ends a chain.
+// The first place of each number, and for each place the next one with its number. A value that is not a place ends a chain.
 #[derive(Drop)]
 pub(crate) struct Chains {
     pub(crate) firsts: Vec<u32>,
@@ -29,7 +29,7 @@ pub(crate) struct Chains {
 }
 
 impl Places {
-    // Room for so many items.
+    // Room for `items` items.
     pub(crate) fn with_room(alloc: Global, items: usize) -> Result<Places, Memory>
         ensures empty { IfOk result (λ p. p.items.items ≡ []) }
         ensures no_owners { IfOk result (λ p. p.owners.items ≡ []) }
@@ -66,7 +66,7 @@ impl Places {
     }
 }
 
-// A place more before the others of its number.
+// Puts a place before the other places of its number.
 fn link(firsts: &mut Vec<u32>, next: &mut Vec<u32>, place: usize, number: u32)
     requires number { number < length firsts.old.items }
     requires place { place < length next.old.items }
@@ -98,7 +98,7 @@ pub(crate) fn chains_of(alloc: Global, numbers: &[u32], limit: u32) -> Result<Ch
     Ok(Chains { firsts, next })
 }
 
-// Puts the lists of a chain's places, and the places there, behind those that are there.
+// Appends the lists of the places of a chain, and the places there.
 pub(crate) fn put_chain(
     places: &Places,
     next: &[u32],
@@ -121,7 +121,7 @@ pub(crate) fn put_chain(
     Ok(())
 }
 
-// The places of lists with the chains through them.
+// The places of lists, with the chains through them.
 #[derive(Drop)]
 pub(crate) struct Chained {
     pub(crate) places: Places,

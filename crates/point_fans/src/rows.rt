@@ -1,4 +1,4 @@
-//! Where each point stands among the corners of faces and the ends of edges.
+//! The places of each point among the corners of faces and the ends of edges.
 
 ghost use Rattle.std.specs.Prelude.{◌≡◌, ◌+◌, ◌*◌, ◌^◌, ◌<◌, ◌≤◌, true, length, map, nat_eq, not, IfOk};
 ghost use Rattle.std.specs.List.{All, list_all, sum_by};
@@ -11,7 +11,7 @@ use level_topology::PackedLists;
 use ratio128::Memory;
 use std::alloc::Global;
 
-// The places of numbers in lists that have none twice.
+// The places of numbers in lists without repetitions.
 pub(crate) fn places_of(alloc: Global, lists: &PackedLists<u32>) -> Result<Places, Memory>
     requires distinct { list_all is_distinct lists.now.lists ≡ true }
     requires sizes { All (λ list. length list ≤ 2 ^ 16) lists.now.lists }
@@ -26,7 +26,7 @@ pub(crate) fn places_of(alloc: Global, lists: &PackedLists<u32>) -> Result<Place
     Ok(places)
 }
 
-// The same for pairs of numbers that differ.
+// The places of numbers in pairs of two different numbers.
 pub(crate) fn places_of_ends(alloc: Global, ends: &[(u32, u32)]) -> Result<Places, Memory>
     requires distinct { list_all (λ s. not (nat_eq s.0 s.1)) ends.now ≡ true }
     requires few { length ends.now < 2 ^ 31 }

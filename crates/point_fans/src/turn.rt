@@ -1,4 +1,4 @@
-//! The faces and the edges at a complete point, put into fan order.
+//! Puts the faces and edges at a complete point in fan order.
 
 ghost use Rattle.std.specs.Prelude.{◌≡◌, ℕ, ◌<◌, true, false, List, [], ◌∷◌, ◌++◌, length, map, get_or, IfOk, OnOk, IsTrue, if◌then◌else◌};
 ghost use Rattle.std.specs.List.{All};
@@ -14,7 +14,7 @@ use level_topology::PointLists;
 use ratio128::Memory;
 use std::mem::swap;
 
-// The corners that were kept for these faces.
+// The corners kept for these faces.
 fn put_corners(faces: &[u32], corners: &[u16], at: &mut Vec<u16>) -> Result<(), Memory>
     requires inside { All (λ f. f < length corners.now) faces.now }
     requires none { at.old.items ≡ [] }
@@ -27,7 +27,7 @@ fn put_corners(faces: &[u32], corners: &[u16], at: &mut Vec<u16>) -> Result<(), 
 }
 
 impl NumberedFaces {
-    // The end of an edge that a point is: 0 for the first, and 1 for the second.
+    // The end of an edge that the point is: 0 for the first, and 1 for the second.
     fn end_at(&self, v: u32, e: u32) -> u16
         requires { e < length (edges_of self.now.level.polygons) }
         ensures { result ≡ end_of self.now.level.polygons v e }
@@ -36,7 +36,7 @@ impl NumberedFaces {
         if v == first { 0 } else { 1 }
     }
 
-    // The ends of these edges that a point is.
+    // The ends of these edges that the point is.
     fn put_ends(&self, v: u32, edges: &[u32], ends: &mut Vec<u16>) -> Result<(), Memory>
         requires inside { All (λ e. e < length (edges_of self.now.level.polygons)) edges.now }
         requires none { ends.old.items ≡ [] }
@@ -48,7 +48,7 @@ impl NumberedFaces {
         Ok(())
     }
 
-    // The edges that come to a point in these faces.
+    // The edges that enter a point in these faces.
     fn put_edges_before(
         &self,
         v: u32,
@@ -69,7 +69,7 @@ impl NumberedFaces {
         Ok(())
     }
 
-    // The edge that leaves a point in the last of its faces, where they are a path.
+    // The edge that leaves a point in the last of its faces, if the faces form a path.
     fn put_last_edge(
         &self,
         v: u32,
@@ -91,7 +91,7 @@ impl NumberedFaces {
         Ok(())
     }
 
-    // The faces at a point in fan order, and whether they are a path.
+    // The faces at a point in fan order, and whether they form a path.
     fn put_fan(
         &self,
         v: u32,
@@ -116,7 +116,7 @@ impl NumberedFaces {
         Ok(is_path)
     }
 
-    // The lists at a complete point that has faces, in fan order.
+    // The lists at a complete point with faces, in fan order.
     pub(crate) fn turn(
         &self,
         v: u32,
@@ -142,7 +142,7 @@ impl NumberedFaces {
         Ok(())
     }
 
-    // Puts the lists at a point, which ascend, in fan order where it is complete.
+    // Puts the ascending lists at a point in fan order if the point is complete.
     pub(crate) fn order(
         &self,
         v: u32,

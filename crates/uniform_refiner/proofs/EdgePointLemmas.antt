@@ -56,14 +56,14 @@ module _ (t : Topology) (is : IsTopology t) where
     pub at-end : (corner_of polygons b f < length (polygon_at polygons f)) × (corner_at polygons f (corner_of polygons b f) ≡ b)
     at-end = corner-there polygons b f (side-end (polygon_at polygons f) (a, b) side)
 
-    -- it leaves a, and comes to b
+    -- the side of the face with the edge begins at a and ends at b
     pub leaves : edge_from polygons f (corner_of polygons a f) ≡ e
     leaves = after-is polygons is.simple is.sides_once a f b side ∙ number
 
     pub comes : edge_from polygons f (before_in polygons f (corner_of polygons b f)) ≡ e
     comes = before-is polygons is.simple is.sides_once b f a side ∙ number
 
-    -- so a is the corner before b
+    -- the corner before b in the face is that of a
     pub before-end : before_in polygons f (corner_of polygons b f) ≡ corner_of polygons a f
     before-end = edge-tells polygons f (before_in polygons f (corner_of polygons b f)) (corner_of polygons a f) (simple-at f there) (before-within polygons f (corner_of polygons b f) at-end.0) at-start.0 (comes ∙ sym leaves)
 
@@ -114,7 +114,7 @@ module _ (t : Topology) (is : IsTopology t) where
     pub end-quad : polygon_at quads (kid f b) ≡ quad_at points polygons f (corner_of polygons b f)
     end-quad = kid-quad t is f (corner_of polygons b f) at-end.0
 
-    -- their sides about it
+    -- the sides of the child faces about the point
     pub start-in : has_side (a, E e) (polygon_at quads (kid f a)) ≡ true
     start-in =
         let q = quad_at points polygons f (corner_of polygons a f) in
@@ -138,7 +138,7 @@ module _ (t : Topology) (is : IsTopology t) where
     pub inside-leads : IsSuccessor quads (E e) (kid f a) (kid f b)
     inside-leads = record { corner = points + f; follows = start-out; leads_back = end-in }
 
-    -- and their edges
+    -- the edges at the point, before and after each child face
     module _ (n : Slotted) (are : AreChildEdges t.level n) where
       pub start-before : edge_before quads (E e) (kid f a) ≡ number_at n.slots (half_slot polygons a e)
       start-before =

@@ -55,7 +55,7 @@ side-edge polygon s has = any-side-edge s (sides_of polygon) has
 back-edge : (polygon : Polygon) (a b : ℕ) → has_side (b, a) polygon ≡ true → has_edge (a, b) polygon ≡ true
 back-edge polygon a b has = any-same (a, b) (b, a) (sides_of polygon) (grind (arith, nat_tests)) ∙ any-side-edge (b, a) (sides_of polygon) has
 
--- what a pair of faces is
+-- a pair with one face has it twice
 pub pair-one : (pair : ℕ × ℕ) (x : ℕ) → faces_of_pair pair ≡ x ∷ [] → (pair.0 ≡ x) × (pair.1 ≡ x)
 pair-one pair x h = go (nat_eq pair.0 pair.1) refl
   where

@@ -30,7 +30,7 @@ same-three p q r = cc
 pub same-four : {i i' j j' k k' l l' : ℕ} → i ≡ i' → j ≡ j' → k ≡ k' → l ≡ l' → i ∷ j ∷ k ∷ l ∷ [] ≡ i' ∷ j' ∷ k' ∷ l' ∷ []
 same-four p q r s = cc
 
--- what the child faces at the halves of an edge are
+-- the child faces at the halves of an edge
 module _ (t : Topology) (is : IsTopology t) (n : Slotted) (are : AreChildEdges t.level n) (e : ℕ) (inside : e < length (edges_of t.level.polygons)) (p q : ℕ × ℕ) where
   -- the edge has one face
   pub record IsOpen : Type 0 where
@@ -41,7 +41,7 @@ module _ (t : Topology) (is : IsTopology t) (n : Slotted) (are : AreChildEdges t
     pub end : q.0 ≡ kid t is face (edge_at t.level.polygons e).1
     pub end_back : q.1 ≡ q.0
 
-  -- it has two
+  -- the edge has two faces
   pub record IsClosed : Type 0 where
     pub face : ℕ
     pub other : ℕ
@@ -119,7 +119,7 @@ module _ (t : Topology) (is : IsTopology t) (n : Slotted) (are : AreChildEdges t
   back-inner (inl is_open) apart = absurd (apart is_open.end_back)
   back-inner (inr closed) apart = inner-at closed.other (edge_at t.level.polygons e).1 (side-start (polygon_at t.level.polygons closed.other) ((edge_at t.level.polygons e).1, (edge_at t.level.polygons e).0) closed.back) q.1 closed.end_back
 
-  -- the lists as they are put at the boundary, and inside
+  -- the lists as the code writes them, at the boundary and inside
   pub boundary-row : IsOpen ⊎ IsClosed → q.1 ≡ q.0 → (faces at edges ends : List ℕ) → faces ≡ p.0 ∷ (q.0 ∷ []) → at ≡ 1 ∷ (3 ∷ [])
       → edges ≡ number_at n.slots (2 * e) ∷ number_at n.slots (2 * length (edges_of t.level.polygons) + p.0) ∷ number_at n.slots (2 * e + 1) ∷ []
       → ends ≡ map (end_in n.ends (numbered_edge_point t.level.point_count t.level.polygons e)) edges → IsRow (kids t is) (numbered_edge_point t.level.point_count t.level.polygons e) true faces at edges ends
@@ -143,7 +143,7 @@ module _ (t : Topology) (is : IsTopology t) (n : Slotted) (are : AreChildEdges t
       d ∙ same-four (ap (number_at n.slots) (sym half-slots.0)) (ap (λ i. number_at n.slots (2 * length (edges_of t.level.polygons) + i)) closed.start) (ap (number_at n.slots) (sym half-slots.1)) (ap (λ i. number_at n.slots (2 * length (edges_of t.level.polygons) + i)) closed.end_back) in
       row-same (kids t is) x (sym list) (sym c) (sym others) (closed-row t is n are e inside closed.face closed.side closed.other closed.back ends (o ∙ ap (map (end_in n.ends x)) others))
 
-  -- and all edges of these lists have numbers
+  -- all edges of these lists have numbers
   low : (a : ℕ) → is_among n.slots a ≡ true → number_at n.slots a < length n.ends
   low a h = omega (arith, among-number n.slots a h, are.listed)
 

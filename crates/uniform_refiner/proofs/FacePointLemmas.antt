@@ -230,7 +230,7 @@ module _ (t : Topology) (is : IsTopology t) (n : Slotted) (are : AreChildEdges t
       let low : i < size = omega (arith, h, length-map-range_with_len g 0 size) in
       omega (arith, get_or-map-range_with_len g 0 size i i d low (omega arith), among-number n.slots (inner_slot polygons f (turn_at size i)) (inner-there i low), are.listed))
 
-  -- the lists as they are put
+  -- the lists as the code writes them
   pub face-row : (faces at edges ends : List ℕ) → faces ≡ fan → at ≡ replicate (length faces) 2 → edges ≡ map (λ i. number_at n.slots (inner_slot polygons f (turn_at size i))) (range_with_len 0 size) → ends ≡ map (end_in n.ends x) edges → IsRow quads x true faces at edges ends
   face-row faces at edges ends e a b o =
       subst (λ xs. IsRow quads x true xs at edges ends) (sym e)

@@ -27,7 +27,7 @@ use Rattle.child_slots.proofs.QuadLemmas.{child-quad, face-below}
 use Rattle.uniform_refiner.proofs.PlaceLemmas.{IsPlace, place-of}
 use Rattle.uniform_refiner.proofs.WholeEdgeLemmas.{numbers-quad}
 
--- a corner of a face stands at its place
+-- a face has its corner at the place of the corner
 pub corner-there : (polygons : List Polygon) (v f : ℕ) → has_corner v (polygon_at polygons f) ≡ true → (corner_of polygons v f < length (polygon_at polygons f)) × (get_or (polygon_at polygons f) (corner_of polygons v f) 0 ≡ v)
 corner-there polygons v f has =
     let within = first-within (nat_eq v) (polygon_at polygons f) has in

@@ -41,7 +41,7 @@ module _ (t : Topology) (is : IsTopology t) where
   abbrev quads : List Polygon
   quads = child_polygons points polygons
 
-  -- there is room for one more
+  -- there is memory for one more child face
   pub children-room : (f c : ℕ) → c < length (polygon_at polygons f) → (length (take (first_child polygons f + c) quads) < sum_by length polygons) × (sum_by length (take (first_child polygons f + c) quads) + 4 ≤ 4 * sum_by length polygons)
   children-room f c h =
       let k = first_child polygons f + c in

@@ -23,7 +23,7 @@ use Rattle.level_topology.proofs.TurnLemmas.{edges-listed}
 use Rattle.uniform_refiner.specs.Points.{ArePoints, children_of, without_points}
 use Rattle.uniform_refiner.proofs.PointLemmas.{kids-simple}
 
--- a number stands in as many lists without repetition as among all their items
+-- a number is in as many lists without repetition as it has places among all their items
 lists-count : (v place : ℕ) (lists : List Polygon) → list_all is_distinct lists ≡ true → length (places_from place (has_corner v) lists) ≡ count_by (nat_eq v) (joined lists)
 lists-count v place [] h = refl
 lists-count v place (list ∷ lists) h =
@@ -34,7 +34,7 @@ lists-count v place (list ∷ lists) h =
     go true e behind once = rw e (omega (arith, behind, once, count-some (nat_eq v) list e, count-append (nat_eq v) list (joined lists)))
     go false e behind once = rw e (omega (arith, behind, count-none (nat_eq v) list e, count-append (nat_eq v) list (joined lists)))
 
--- the lists at a point take the room of its places
+-- the lists at a point take the memory of its places
 row-room : (v sum : ℕ) (lists : List Polygon) (row : List ℕ) → list_all is_distinct lists ≡ true → sum ≡ count_by (λ x. nat_lt x v) (joined lists) → length row ≡ length (lists_with lists v) → (sum + length row ≡ count_by (λ x. nat_lt x (v + 1)) (joined lists)) × (sum + length row ≤ sum_by length lists)
 row-room v sum lists row distinct e count =
     let own = lists-count v 0 lists distinct in
@@ -61,7 +61,7 @@ module _ (t : Topology) (is : IsTopology t) where
   abbrev quads : List Polygon
   quads = children_of t.level
 
-  -- there is room for the lists of one point more
+  -- there is memory for the lists of one more point
   pub point-room : (v : ℕ) (rows : Rows) (faces at edges ends : List ℕ) → ArePoints t.level v rows → IsRow quads v true faces at edges ends
       → ((sum_by length rows.vertex_faces + length faces ≡ count_by (λ x. nat_lt x (v + 1)) (joined quads)) × (sum_by length rows.vertex_faces + length faces ≤ rows.counts.face_places))
       × ((sum_by length rows.vertex_edges + length edges ≡ count_by (λ x. nat_lt x (v + 1)) (joined (map pair_list (edges_of quads)))) × (sum_by length rows.vertex_edges + length edges ≤ rows.counts.edge_places))

@@ -33,7 +33,7 @@ module _ (t : Topology) (is : IsTopology t) (n : Slotted) (are : AreChildEdges t
   abbrev pub made : Rows
   made = with_child_edges t.level (length n.ends) (with_children t.level (sum_by length t.level.polygons) (no_rows (counts_for t.level (length n.ends)) t.level.method))
 
-  -- there is room for all points
+  -- at first there is no point, and memory for all
   pub points-before : (rows : Rows) → rows ≡ with_child_edges t.level (length n.ends) (with_children t.level (sum_by length t.level.polygons) (no_rows (counts_for t.level (length n.ends)) t.level.method)) → ArePoints t.level 0 rows
   points-before rows e =
       points-none t is rows (start-points t.level (counts_for t.level (length n.ends)) t.level.method (length n.ends) (sum_by length t.level.polygons) rows e)

@@ -74,7 +74,7 @@ module _ (t : Topology) (is : IsTopology t) where
   origin-item : (n : ℕ) → n < points + faces + edges → get_or (origins_in t) n (FromVertex 0) ≡ numbered_origin points faces n
   origin-item n h = origin-at points faces edges n (FromVertex 0) h
 
-  -- the corners of a child face come from where they should
+  -- the corners of a child face come from the corner, the edges and the face that they should
   corners-along : (f c : ℕ) → c < length (polygon_at polygons f) → origins_along (origins_in t) (quad_at points polygons f c) ≡ corner_origins polygons (f, c)
   corners-along f c h =
       let there = face-below polygons f c h in

@@ -68,7 +68,7 @@ module _ (t : Topology) (is : IsTopology t) (n : Slotted) (are : AreChildEdges t
   kid-first : (f : ℕ) → is_among faces f ≡ true → corner_of quads v (kid f) ≡ 0
   kid-first f h = kid-corner t is v f (corner_of polygons v f) 0 (there f h).0 (let same = eq-eqb v (corner_at polygons f (corner_of polygons v f)) (sym (there f h).1) in rw same refl)
 
-  -- its edges are halves of those of the face
+  -- the edges of a child face at the vertex are halves of those of its face
   after-kid : (f : ℕ) → is_among faces f ≡ true → edge_after quads v (kid f) ≡ number_at n.slots (half_slot polygons v (edge_after polygons v f))
   after-kid f h =
       kid-after t is n are v f (corner_of polygons v f) 0 (there f h).0 (omega arith) (kid-first f h)
@@ -79,7 +79,7 @@ module _ (t : Topology) (is : IsTopology t) (n : Slotted) (are : AreChildEdges t
       kid-before t is n are v f (corner_of polygons v f) 0 (there f h).0 (omega arith) (kid-first f h)
       ∙ ap (λ u. number_at n.slots (half_slot polygons u (edge_before polygons v f))) (there f h).1
 
-  -- where the edge after a face is the edge before another, so it is with their children
+  -- if the edge after a face is the edge before another, their child faces follow each other too
   kid-leads : (f g : ℕ) → is_among faces f ≡ true → is_among faces g ≡ true → edge_after polygons v f ≡ edge_before polygons v g → IsSuccessor quads v (kid f) (kid g)
   kid-leads f g h k same =
       let E : ℕ → ℕ = numbered_edge_point points polygons in
@@ -224,7 +224,7 @@ module _ (t : Topology) (is : IsTopology t) (n : Slotted) (are : AreChildEdges t
                 half-before i inside (omega (arith, inside, apart))
                 ∙ sym (get_or_append_left (map (edge_before quads v) (map kid faces)) (edge_after quads v (last_face (map kid faces)) ∷ []) 0 i (omega (arith, inside, before-count)))
 
-    -- so the lists are those of the point
+    -- the lists are those of the point
     pub some-row : (at ends : List ℕ) → at ≡ replicate (length faces) 0 → ends ≡ map (end_of quads v) halves → IsRow quads v true (map kid faces) at halves ends
     some-row at ends a e = go fan.count
       where

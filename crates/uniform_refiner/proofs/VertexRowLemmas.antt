@@ -33,7 +33,7 @@ module _ (t : Topology) (is : IsTopology t) (n : Slotted) (are : AreChildEdges t
         half-among t is n are v e at.exists (end-has v (end_of t.level.polygons v e) (edge_at t.level.polygons e) at.there),
       )
 
-  -- so they have numbers
+  -- the halves at the vertex have numbers
   pub halves-inside : (edges : List ℕ) → edges ≡ map (λ e. number_at n.slots (half_slot t.level.polygons v e)) (get_or t.edges_at v []) → All (λ e. e < length n.ends) edges
   halves-inside edges e = subst (λ xs. All (λ k. k < length n.ends) xs) (sym e) (λ i d h.
       let inside : i < length (get_or t.edges_at v []) = omega (arith, h, length-map (get_or t.edges_at v []) (λ e. number_at n.slots (half_slot t.level.polygons v e))) in
@@ -62,7 +62,7 @@ module _ (t : Topology) (is : IsTopology t) (n : Slotted) (are : AreChildEdges t
             let wrong : is_among [] found.0 ≡ true = ap (λ ks. is_among ks found.0) (sym faces) ∙ found.1 in
             absurd (cc)
 
-    -- the lists as they are put
+    -- the lists as the code writes them
     pub vertex-row : (faces at edges ends : List ℕ) → faces ≡ map (λ f. first_child t.level.polygons f + corner_of t.level.polygons v f) (get_or t.faces_at v []) → at ≡ replicate (length faces) 0 → edges ≡ map (λ e. number_at n.slots (half_slot t.level.polygons v e)) (get_or t.edges_at v []) → ends ≡ map (end_in n.ends v) edges → IsRow (kids t is) v true faces at edges ends
     vertex-row faces at edges ends f a e o =
         let count : length faces ≡ length (get_or t.faces_at v []) = ap length f ∙ length-map (get_or t.faces_at v []) (kid t is n are v low whole) in

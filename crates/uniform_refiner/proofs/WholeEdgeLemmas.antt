@@ -44,7 +44,7 @@ module _ (points : ℕ) (polygons : List Polygon) where
     apart = λ n m a b same. same;
   }
 
-  -- whose faces are all child faces
+  -- the faces of the whole part are all child faces
   pub whole-quads : part_polygons points polygons (whole_part polygons) ≡ child_polygons points polygons
   whole-quads =
       same-items (part_polygons points polygons (whole_part polygons)) (child_polygons points polygons) (count ∙ sym (child_polygons-length points polygons)) (λ k h.
@@ -58,7 +58,7 @@ module _ (points : ℕ) (polygons : List Polygon) where
       count : length (part_polygons points polygons (whole_part polygons)) ≡ sum_by length polygons
       count = length-map (all_places 0 polygons) (λ x. map (λ (n : ℕ). n) (whole_quad points polygons x)) ∙ places-count 0 polygons
 
-  -- and whose slots are those of their sides
+  -- the slots of the whole part are those of its sides
   whole-slot : (a : ℕ) (s : ℕ × ℕ) → IsSlot points polygons a s → IsPartSlot points polygons (whole_part polygons) a s
   whole-slot a s slot = record { whole = s; slot_is = slot; first = refl; second = refl; side_is = refl }
 
@@ -82,14 +82,14 @@ module _ (t : Topology) (is : IsTopology t) (n : Slotted) (are : AreChildEdges t
   abbrev quads : List Polygon
   quads = child_polygons t.level.point_count t.level.polygons
 
-  -- they are numbered by first appearance
+  -- the child edges are numbered by first appearance
   pub numbering-all : IsNumbering quads [] (numbered_of n)
   numbering-all = subst (λ (qs : List Polygon). IsNumbering qs [] (numbered_of n)) (whole-quads points polygons) (parts.numbering-all t is (whole_part polygons) n are)
 
   pub ends-all : n.ends ≡ edges_of quads
   ends-all = parts.ends-all t is (whole_part polygons) n are ∙ ap edges_of (whole-quads points polygons)
 
-  -- each has the slot of its side
+  -- each child edge has the slot of its side
   pub slot-of : (e : ℕ) → e < length n.ends → IsSlot points polygons (get_or n.slots e 0) (get_or n.ends e (0, 0))
   slot-of e h = slot-whole points polygons (get_or n.slots e 0) (get_or n.ends e (0, 0)) (are.slots e h)
 
@@ -97,7 +97,7 @@ module _ (t : Topology) (is : IsTopology t) (n : Slotted) (are : AreChildEdges t
   pub slot-number : (a : ℕ) (s : ℕ × ℕ) → IsSlot points polygons a s → number_at n.slots a ≡ edge_number quads s
   slot-number a s slot = parts.slot-number t is (whole_part polygons) n are a s (whole-slot points polygons a s slot) ∙ ap (λ qs. edge_number qs s) (whole-quads points polygons)
 
-  -- and it has one where it is a side of a child face
+  -- the slot of a side of a child face has an edge
   pub slot-among : (a : ℕ) (s : ℕ × ℕ) (k : ℕ) → IsSlot points polygons a s → has_side s (polygon_at quads k) ≡ true → is_among n.slots a ≡ true
   slot-among a s k slot has = parts.slot-among t is (whole_part polygons) n are a s k (whole-slot points polygons a s slot) (ap (λ qs. has_side s (polygon_at qs k)) (whole-quads points polygons) ∙ has)
 
@@ -109,11 +109,11 @@ module _ (t : Topology) (is : IsTopology t) (n : Slotted) (are : AreChildEdges t
     inside : first_child polygons f + c < length (all_places 0 polygons)
     inside = omega (arith, first-below polygons f c h, places-count 0 polygons)
 
-    -- all have edges
+    -- each slot of a side of the child face has an edge
     pub slots-there : All (λ a. is_among n.slots a ≡ true) (slots_at polygons f c)
     slots-there = subst (λ (x : ℕ × ℕ). All (λ a. is_among n.slots a ≡ true) (slots_at polygons x.0 x.1)) place-here (parts.slots-there t is (whole_part polygons) n are (first_child polygons f + c) inside)
 
-    -- and their numbers are those of the face's edges
+    -- the numbers of a child face's edges are those at its slots
     pub numbers-quad : map (number_at n.slots) (slots_at polygons f c) ≡ face_edges_of quads (polygon_at quads (first_child polygons f + c))
     numbers-quad =
         subst (λ (x : ℕ × ℕ). map (number_at n.slots) (slots_at polygons x.0 x.1) ≡ face_edges_of quads (polygon_at quads (first_child polygons f + c))) place-here

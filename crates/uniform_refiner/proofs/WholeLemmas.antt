@@ -115,7 +115,7 @@ module _ (t : Topology) (is : IsTopology t) where
       point-count : length rows.complete ≡ total
       point-count = ap length put.complete ∙ length-replicate total true
 
-      -- they are exactly those of the next level
+      -- the parts are exactly those of the next level
       pub level-is : (topology_of rows).level ≡ child_level t.level
       level-is = level-same point-count faces-are holes-are edge-sharp vertex-sharp (ap (λ (r : Rows). r.method) rest)
 
@@ -128,7 +128,7 @@ module _ (t : Topology) (is : IsTopology t) where
             points = point-count ∙ sym put.point_room;
           }
 
-      -- and so they are lists of a level
+      -- the lists are those of a level
       pub rows-of-level : AreOfLevel rows
       rows-of-level = record {
         topology = subst (λ (l : Level). IsTopology (record { level = l; faces_at = rows.vertex_faces; edges_at = rows.vertex_edges; complete = rows.complete })) (sym level-is) (whole rows.complete rows.vertex_faces rows.vertex_faces_at rows.vertex_edges rows.vertex_edges_at put.complete put.rows_are);

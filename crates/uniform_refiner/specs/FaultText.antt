@@ -1,4 +1,4 @@
--- Why a refinement gives no level, in words.
+-- The text of the reason why a refinement returns no level.
 use Rattle.std.specs.Prelude.{ℕ, List, ◌++◌, codes}
 use Rattle.subdiv_model.specs.NumberText.{number_text}
 use Rattle.subdiv_model.specs.Fault as model

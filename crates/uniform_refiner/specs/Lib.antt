@@ -4,3 +4,4 @@ pub mod Put
 pub mod Numbered
 pub mod Points
 pub mod Refined
+pub mod ChildRows

@@ -1,4 +1,4 @@
--- The lists of the points of the next level while they are put.
+-- The lists of the points of the next level, while they are made.
 use Rattle.std.specs.Prelude.{ℕ, ◌≡◌, ◌*◌, true, nat_lt, List, [], length, map, take, replicate}
 use Rattle.std.specs.List.{count_by, sum_by}
 use Rattle.subdiv_model.specs.Polygons.{Polygon}
@@ -23,7 +23,7 @@ without_points rows = record rows {
 abbrev pub children_of : Level → List Polygon
 children_of level = child_polygons level.point_count level.polygons
 
--- the first points are put, each complete, and there is room for those that come
+-- the first points are made, each complete, and memory is reserved for the others
 pub record ArePoints (level : Level) (count : ℕ) (rows : Rows) : Type 0 where
   pub rows_are : AreRows (children_of level) (replicate (child_points level.point_count level.polygons) true) count rows.vertex_faces rows.vertex_faces_at rows.vertex_edges rows.vertex_edges_at
   pub sharpness : rows.vertex_sharpness ≡ take count (child_vertex_sharpness level)
@@ -34,7 +34,7 @@ pub record ArePoints (level : Level) (count : ℕ) (rows : Rows) : Type 0 where
   pub face_room : rows.counts.face_places ≡ sum_by length (children_of level)
   pub edge_room : rows.counts.edge_places ≡ 2 * length (edges_of (children_of level))
 
--- how much the next level has, where it has so many edges
+-- the sizes of the next level, if it has this many edges
 abbrev pub counts_for : Level → ℕ → Counts
 counts_for level edges = record {
   points = child_points level.point_count level.polygons;

@@ -13,7 +13,7 @@ use Rattle.child_slots.specs.Parts.{Part, part}
 abbrev pub all_origins : ℕ → ℕ → ℕ → List PointOrigin
 all_origins points faces edges = map (numbered_origin points faces) (range_with_len 0 (points + faces + edges))
 
--- the places of all faces: the corners of each face, where the first has the number `face`
+-- the places of all faces: the corners of each face, from the face with the number `face` on
 abbrev pub all_places : ℕ → List Polygon → List (ℕ × ℕ)
 all_places face [] = []
 all_places face (polygon ∷ polygons) = map (λ c. (face, c)) (range_with_len 0 (length polygon)) ++ all_places (face + 1) polygons

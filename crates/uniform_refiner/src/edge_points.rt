@@ -3,17 +3,16 @@
 ghost use Rattle.std.specs.Prelude.{◌≡◌, ◌≢◌, ◌+◌, ◌*◌, ◌<◌, true, length, get_or, OnOk};
 ghost use Rattle.subdiv_model.specs.Polygons.{is_among};
 ghost use Rattle.subdiv_model.specs.Edges.{edges_of};
-ghost use Rattle.subdiv_model.specs.Child.{child_polygons};
 ghost use Rattle.child_slots.specs.Slots.{numbered_edge_point};
 ghost use Rattle.child_slots.specs.Slotted.{number_at};
-ghost use Rattle.level_topology.specs.PointRows.{IsRow};
 ghost use Rattle.uniform_refiner.specs.Put.{AreChildEdges};
+ghost use Rattle.uniform_refiner.specs.ChildRows.{IsChildRow};
 
 use child_slots::{SlotEdges, edge_point_of, put_ends};
 use level_topology::{Level, PointLists};
 use ratio128::Memory;
 
-// The numbers of the two halves of an edge.
+// Returns the numbers of the two halves of an edge.
 fn halves_of(level: &Level, edges: &SlotEdges, e: u32) -> (u32, u32)
     requires edge { e < length (edges_of level.now.level.polygons) }
     requires edges { AreChildEdges level.now.level edges.now }
@@ -26,7 +25,7 @@ fn halves_of(level: &Level, edges: &SlotEdges, e: u32) -> (u32, u32)
     (edges.number(2 * e), edges.number(2 * e + 1))
 }
 
-// The number of the edge inside a face that begins in a child face.
+// Returns the number of the edge inside a face that begins in a child face.
 fn inner_of(level: &Level, edges: &SlotEdges, child: u32) -> u32
     requires edges { AreChildEdges level.now.level edges.now }
     requires slot { 2 * length (edges_of level.now.level.polygons) + child < edges.now.count }
@@ -37,7 +36,7 @@ fn inner_of(level: &Level, edges: &SlotEdges, child: u32) -> u32
     edges.number(2 * level.edges() + child)
 }
 
-// The lists at the point of an edge of one face: `starts` and `ends` are the child faces at its halves.
+// Makes the lists at the point of an edge with one face; `starts` and `ends` are the child faces at its halves.
 fn put_boundary_row(
     level: &Level,
     edges: &SlotEdges,
@@ -51,7 +50,7 @@ fn put_boundary_row(
     requires starts { starts ≡ get_or edges.now.faces (number_at edges.now.slots (2 * e)) (0, 0) }
     requires ends { ends ≡ get_or edges.now.faces (number_at edges.now.slots (2 * e + 1)) (0, 0) }
     requires boundary { ends.1 ≡ ends.0 }
-    ensures { OnOk result (IsRow (child_polygons level.now.level.point_count level.now.level.polygons) (numbered_edge_point level.now.level.point_count level.now.level.polygons e) true row.new.faces.items row.new.faces_at.items row.new.edges.items row.new.edges_at.items) }
+    ensures { OnOk result (IsChildRow level.now.level (numbered_edge_point level.now.level.point_count level.now.level.polygons e) row.new) }
 {
     level.facts();
     row.clear();
@@ -69,7 +68,7 @@ fn put_boundary_row(
     Ok(())
 }
 
-// The lists at the point of an edge of two faces: the child faces of the first, and then those of the second.
+// Makes the lists at the point of an edge with two faces: the child faces of the first, then those of the second.
 fn put_inside_row(
     level: &Level,
     edges: &SlotEdges,
@@ -83,7 +82,7 @@ fn put_inside_row(
     requires starts { starts ≡ get_or edges.now.faces (number_at edges.now.slots (2 * e)) (0, 0) }
     requires ends { ends ≡ get_or edges.now.faces (number_at edges.now.slots (2 * e + 1)) (0, 0) }
     requires two { ends.1 ≢ ends.0 }
-    ensures { OnOk result (IsRow (child_polygons level.now.level.point_count level.now.level.polygons) (numbered_edge_point level.now.level.point_count level.now.level.polygons e) true row.new.faces.items row.new.faces_at.items row.new.edges.items row.new.edges_at.items) }
+    ensures { OnOk result (IsChildRow level.now.level (numbered_edge_point level.now.level.point_count level.now.level.polygons e) row.new) }
 {
     level.facts();
     row.clear();
@@ -103,7 +102,7 @@ fn put_inside_row(
     Ok(())
 }
 
-// The lists at the point of an edge.
+// Makes the lists at the point of an edge.
 pub(crate) fn put_edge_row(
     level: &Level,
     edges: &SlotEdges,
@@ -112,7 +111,7 @@ pub(crate) fn put_edge_row(
 ) -> Result<(), Memory>
     requires edge { e < length (edges_of level.now.level.polygons) }
     requires edges { AreChildEdges level.now.level edges.now }
-    ensures { OnOk result (IsRow (child_polygons level.now.level.point_count level.now.level.polygons) (numbered_edge_point level.now.level.point_count level.now.level.polygons e) true row.new.faces.items row.new.faces_at.items row.new.edges.items row.new.edges_at.items) }
+    ensures { OnOk result (IsChildRow level.now.level (numbered_edge_point level.now.level.point_count level.now.level.polygons e) row.new) }
 {
     level.facts();
     let (start, end) = halves_of(level, edges, e);

@@ -1,4 +1,4 @@
-//! The edges of the next level, put with their sharpness.
+//! The edges of the next level, with their sharpness.
 
 ghost use Rattle.std.specs.Prelude.{◌≡◌, ◌<◌, ◌≤◌, length, get_or, map, IfSome};
 ghost use Rattle.subdiv_model.specs.Sharpness.{Smooth};
@@ -11,7 +11,7 @@ use child_slots::SlotEdges;
 use level_topology::{EdgeFaces, Level, LevelRows};
 use sharpness_rules::Sharpness;
 
-// The faces of an edge from a pair of numbers, which are the same where there is one face.
+// Returns the faces of an edge. The two numbers are equal where the edge has one face.
 fn faces_from(pair: (u32, u32)) -> EdgeFaces
     requires { pair.0 ≤ pair.1 }
     ensures faces { listed result ≡ faces_of_pair pair }
@@ -22,7 +22,7 @@ fn faces_from(pair: (u32, u32)) -> EdgeFaces
     EdgeFaces { first, second }
 }
 
-// The sharpness of the edge with a slot: inside a face it is smooth.
+// Returns the sharpness of the edge with a slot. An edge inside a face is smooth.
 fn sharpness_at(halves: &[Sharpness], slot: u32) -> Sharpness
     ensures { sharpness_of result ≡ get_or (map sharpness_of halves.now) slot Smooth }
 {
@@ -33,7 +33,7 @@ fn sharpness_at(halves: &[Sharpness], slot: u32) -> Sharpness
     }
 }
 
-// Puts all edges, where `halves` has the sharpness of each half by its slot.
+// Adds all edges; `halves` has the sharpness of each half at its slot.
 pub(crate) fn put_edges(
     level: &Level,
     edges: &SlotEdges,

@@ -1,19 +1,16 @@
 //! The points of the next level that come from faces.
 
-ghost use Rattle.std.specs.Prelude.{◌≡◌, ◌+◌, ◌<◌, true, [], length, map, OnOk};
-ghost use Rattle.std.specs.List.{range_with_len};
-ghost use Rattle.subdiv_model.specs.Polygons.{polygon_at};
-ghost use Rattle.subdiv_model.specs.Child.{child_polygons, face_point};
-ghost use Rattle.child_slots.specs.Slots.{first_child, inner_slot, turn_at};
-ghost use Rattle.child_slots.specs.Slotted.{number_at};
-ghost use Rattle.level_topology.specs.PointRows.{IsRow};
+ghost use Rattle.std.specs.Prelude.{◌≡◌, ◌<◌, [], length, OnOk};
+ghost use Rattle.subdiv_model.specs.Child.{face_point};
+ghost use Rattle.child_slots.specs.Slots.{turn_at};
 ghost use Rattle.uniform_refiner.specs.Put.{AreChildEdges};
+ghost use Rattle.uniform_refiner.specs.ChildRows.{IsChildRow, turned_children, turned_inner_edges};
 
 use child_slots::{SlotEdges, first_child_of, inner_slot_of, put_corner, put_ends};
 use level_topology::{Level, PointLists};
 use ratio128::Memory;
 
-// The corner that comes at a place where each comes before the last one: this is the order of the fan.
+// Returns the corner at place `i` of the fan, in which each corner comes before the last one.
 fn turn(size: usize, i: usize) -> usize
     requires { i < size }
     ensures { result ≡ turn_at size i }
@@ -21,11 +18,11 @@ fn turn(size: usize, i: usize) -> usize
     if i == 0 { 0 } else { size - i }
 }
 
-// The child faces of a face.
+// Adds the child faces of a face.
 fn put_children_of(level: &Level, f: u32, list: &mut Vec<u32>) -> Result<(), Memory>
     requires face { f < length level.now.level.polygons }
     requires none { list.old.items ≡ [] }
-    ensures { OnOk result (list.new.items ≡ map (λ i. first_child level.now.level.polygons f + turn_at (length (polygon_at level.now.level.polygons f)) i) (range_with_len 0 (length (polygon_at level.now.level.polygons f)))) }
+    ensures { OnOk result (list.new.items ≡ turned_children level.now.level.polygons f) }
 {
     level.facts();
     let size = level.face_vertices(f).len();
@@ -35,7 +32,7 @@ fn put_children_of(level: &Level, f: u32, list: &mut Vec<u32>) -> Result<(), Mem
     Ok(())
 }
 
-// The edges inside a face, each as it comes to the face's point in a child face.
+// Adds the edges inside a face, each as it comes to the face's point in a child face.
 fn put_inner_edges(
     level: &Level,
     edges: &SlotEdges,
@@ -45,7 +42,7 @@ fn put_inner_edges(
     requires face { f < length level.now.level.polygons }
     requires edges { AreChildEdges level.now.level edges.now }
     requires none { list.old.items ≡ [] }
-    ensures { OnOk result (list.new.items ≡ map (λ i. number_at edges.now.slots (inner_slot level.now.level.polygons f (turn_at (length (polygon_at level.now.level.polygons f)) i))) (range_with_len 0 (length (polygon_at level.now.level.polygons f)))) }
+    ensures { OnOk result (list.new.items ≡ turned_inner_edges edges.now.slots level.now.level.polygons f) }
 {
     level.facts();
     let size = level.face_vertices(f).len();
@@ -55,7 +52,7 @@ fn put_inner_edges(
     Ok(())
 }
 
-// The lists at the point of a face.
+// Makes the lists at the point of a face.
 pub(crate) fn put_face_row(
     level: &Level,
     edges: &SlotEdges,
@@ -64,7 +61,7 @@ pub(crate) fn put_face_row(
 ) -> Result<(), Memory>
     requires face { f < length level.now.level.polygons }
     requires edges { AreChildEdges level.now.level edges.now }
-    ensures { OnOk result (IsRow (child_polygons level.now.level.point_count level.now.level.polygons) (face_point level.now.level.point_count f) true row.new.faces.items row.new.faces_at.items row.new.edges.items row.new.edges_at.items) }
+    ensures { OnOk result (IsChildRow level.now.level (face_point level.now.level.point_count f) row.new) }
 {
     level.facts();
     row.clear();

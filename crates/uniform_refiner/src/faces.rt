@@ -1,22 +1,21 @@
-//! The child faces, put with their edges.
+//! The child faces, with their edges.
 
-ghost use Rattle.std.specs.Prelude.{◌≡◌, ◌+◌, ◌*◌, ◌<◌, true, false, [], ◌∷◌, length, get_or};
+ghost use Rattle.std.specs.Prelude.{◌≡◌, ◌+◌, ◌*◌, ◌<◌, true, false, length, get_or};
 ghost use Rattle.std.specs.List.{All, sum_by};
 ghost use Rattle.subdiv_model.specs.Polygons.{polygon_at, is_among};
 ghost use Rattle.child_slots.specs.Slots.{first_child};
-ghost use Rattle.child_slots.specs.Slotted.{number_at};
-ghost use Rattle.uniform_refiner.specs.Put.{AreChildEdges, with_children};
+ghost use Rattle.uniform_refiner.specs.Put.{AreChildEdges, four_numbers, with_children};
 
 use child_slots::{SlotEdges, child_corners, side_slots};
 use level_topology::{Level, LevelRows};
 use ratio128::Steps;
 use std::sync::ledger::Ledger;
 
-// The numbers of the edges with these slots.
+// Returns the numbers of the edges with these slots.
 fn numbers_of(edges: &SlotEdges, slots: [u32; 4]) -> [u32; 4]
     requires slots { All (λ slot. slot < edges.now.count) slots }
     requires there { All (λ slot. is_among edges.now.slots slot ≡ true) slots }
-    ensures { result ≡ number_at edges.now.slots (get_or slots 0 0) ∷ number_at edges.now.slots (get_or slots 1 0) ∷ number_at edges.now.slots (get_or slots 2 0) ∷ number_at edges.now.slots (get_or slots 3 0) ∷ [] }
+    ensures { result ≡ four_numbers edges.now.slots slots }
 {
     [
         edges.number(slots[0]),
@@ -26,7 +25,7 @@ fn numbers_of(edges: &SlotEdges, slots: [u32; 4]) -> [u32; 4]
     ]
 }
 
-// A child face is a hole where its face is.
+// Returns whether a child face is a hole, which it is where its parent is one.
 fn is_child_hole(level: &Level, f: u32) -> bool
     requires { f < length level.now.level.polygons }
     ensures { result ≡ get_or level.now.level.holes f false }
@@ -34,7 +33,7 @@ fn is_child_hole(level: &Level, f: u32) -> bool
     level.is_hole(f)
 }
 
-// Puts the child faces of a face. Each is one step.
+// Adds the child faces of a face. Each is one step.
 fn put_children<L: Ledger>(
     level: &Level,
     edges: &SlotEdges,
@@ -59,7 +58,7 @@ fn put_children<L: Ledger>(
     }
 }
 
-// Puts all child faces.
+// Adds all child faces.
 pub(crate) fn put_faces<L: Ledger>(
     level: &Level,
     edges: &SlotEdges,

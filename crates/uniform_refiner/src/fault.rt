@@ -1,4 +1,4 @@
-//! Why a refinement gives no level.
+//! The reason why a refinement returns no level.
 
 ghost use Rattle.std.specs.Prelude.{Some};
 ghost use Rattle.uniform_refiner.specs.FaultText.{fault_text};
@@ -6,12 +6,12 @@ ghost use Rattle.uniform_refiner.specs.FaultText.{fault_text};
 use ratio128::Memory;
 use std::fmt;
 
-/// Why a refinement gives no level.
+/// The reason why a refinement returns no level.
 #[derive(Clone, Copy, Debug, PartialEq, Eq)]
 pub enum RefineFault {
-    /// The next level would have so many faces, and that is too many.
+    /// The next level would have this many faces, which is more than 2^22.
     TooLarge(u64),
-    /// At this vertex the halves of semi-sharp edges pass the bounds of a sharpness.
+    /// The halves of semi-sharp edges at this vertex exceed the bounds of a sharpness.
     Chaikin(u32),
     /// Memory ran out.
     Memory,

@@ -1,4 +1,4 @@
-//! The halves of all edges, or why there is no next level.
+//! The halves of all edges, or the reason why there is no next level.
 
 ghost use Rattle.std.specs.Prelude.{◌≡◌, ◌*◌, ◌^◌, ◌≤◌, length, map, MatchResult};
 ghost use Rattle.std.specs.List.{sum_by};
@@ -13,7 +13,7 @@ use level_topology::Level;
 use sharpness_rules::Sharpness;
 use std::alloc::Global;
 
-// Puts the halves of all edges, or finds the first point at which they overflow.
+// Writes the halves of all edges, or reports the first point at which they overflow.
 pub(crate) fn put_halves(
     alloc: Global,
     level: &Level,

@@ -1,4 +1,4 @@
-//! The next level, from its numbered edges.
+//! The next level, made from its numbered edges.
 
 ghost use Rattle.std.specs.Prelude.{◌≡◌, ℕ, ◌+◌, ◌*◌, ◌^◌, ◌<◌, ◌≤◌, true, false, length, map, get_or, replicate, IfOk};
 ghost use Rattle.std.specs.List.{sum_by};
@@ -19,7 +19,7 @@ use sharpness_rules::Sharpness;
 use std::alloc::Global;
 use std::sync::ledger::Ledger;
 
-// Room for the next level with so many faces.
+// Returns memory for the next level with this many faces.
 pub(crate) fn room_for(
     alloc: Global,
     level: &Level,
@@ -47,7 +47,7 @@ pub(crate) fn room_for(
     )
 }
 
-// The next level, put where there is room for it. It is one step for each of its faces.
+// Makes the next level in reserved memory. Each of its faces is one step.
 pub(crate) fn put_level<L: Ledger>(
     alloc: Global,
     level: &Level,

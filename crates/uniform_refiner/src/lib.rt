@@ -1,4 +1,7 @@
-//! The next uniform level of a level, made from its tables without a map and without a scan.
+//! Makes the next uniform level of a level: the whole level after one step of Catmull and Clark's scheme.
+//!
+//! The crate reads the tables of the level, without a map and without a scan. It refuses a level that would have more than
+//! 2^22 faces.
 #![tactic(auto)]
 
 mod count;

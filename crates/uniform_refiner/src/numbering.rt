@@ -1,4 +1,4 @@
-//! The edges of the next level, numbered.
+//! The numbers of the edges of the next level.
 
 ghost use Rattle.std.specs.Prelude.{◌≡◌, map, OnOk};
 ghost use Rattle.level_topology.specs.ChildTables.{place_of};
@@ -11,7 +11,7 @@ use child_slots::{AllPoints, SlotEdges, number_edges};
 use level_topology::{FacePlace, Level};
 use ratio128::Memory;
 
-// Puts the edges of the next level, whose faces have these places, where there are none yet.
+// Numbers the edges of the next level, whose faces have these places. `edges` must be empty.
 pub(crate) fn number_all(
     level: &Level,
     places: &[FacePlace],

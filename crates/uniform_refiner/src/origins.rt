@@ -1,4 +1,4 @@
-//! Where the points and the faces of the next level come from.
+//! The origins of the points and faces of the next level.
 
 ghost use Rattle.std.specs.Prelude.{◌≡◌, ◌++◌, ◌<◌, length, map, IfOk, OnOk};
 ghost use Rattle.std.specs.List.{range_with_len};
@@ -11,7 +11,7 @@ use level_topology::{FacePlace, Level, Origin};
 use ratio128::Memory;
 use std::alloc::Global;
 
-// The origin of the point with a number, where so many vertices come first and then so many faces.
+// Returns the origin of point `n`: vertices come first, then faces, then edges.
 fn origin_at(n: u32, vertices: u32, faces: u32) -> Origin
     ensures { origin_of result ≡ numbered_origin vertices faces n }
 {
@@ -24,7 +24,7 @@ fn origin_at(n: u32, vertices: u32, faces: u32) -> Origin
     }
 }
 
-// The origin of each point of the next level.
+// Returns the origin of each point of the next level.
 pub(crate) fn put_origins(alloc: Global, level: &Level) -> Result<Vec<Origin>, Memory>
     ensures { IfOk result (λ origins. map origin_of origins.items ≡ origins_in level.now) }
 {
@@ -38,7 +38,7 @@ pub(crate) fn put_origins(alloc: Global, level: &Level) -> Result<Vec<Origin>, M
     Ok(origins)
 }
 
-// The places of the child faces of a face.
+// Adds the places of the child faces of a face.
 fn put_corners(level: &Level, f: u32, places: &mut Vec<FacePlace>) -> Result<(), Memory>
     requires { f < length level.now.level.polygons }
     ensures { OnOk result (map place_of places.new.items ≡ map place_of places.old.items ++ map (λ c. (f, c)) (range_with_len 0 (length (polygon_at level.now.level.polygons f)))) }
@@ -53,7 +53,7 @@ fn put_corners(level: &Level, f: u32, places: &mut Vec<FacePlace>) -> Result<(),
     Ok(())
 }
 
-// The place of each face of the next level.
+// Returns the place of each face of the next level.
 pub(crate) fn put_places(alloc: Global, level: &Level) -> Result<Vec<FacePlace>, Memory>
     ensures { IfOk result (λ places. map place_of places.items ≡ all_places 0 level.now.level.polygons) }
 {

@@ -1,13 +1,13 @@
-//! The points of the next level, put with their lists in fan order.
+//! The points of the next level, with their lists in fan order.
 
 ghost use Rattle.std.specs.Prelude.{◌≡◌, ℕ, ◌+◌, ◌<◌, true, false, length, get_or, OnOk};
 ghost use Rattle.subdiv_model.specs.Edges.{edges_of};
 ghost use Rattle.subdiv_model.specs.Sharpness.{Smooth};
 ghost use Rattle.subdiv_model.specs.Child.{child_points, child_vertex_sharpness};
 ghost use Rattle.sharpness_rules.specs.View.{sharpness_of};
-ghost use Rattle.level_topology.specs.PointRows.{IsRow};
 ghost use Rattle.uniform_refiner.specs.Put.{AreChildEdges};
-ghost use Rattle.uniform_refiner.specs.Points.{ArePoints, children_of, without_points};
+ghost use Rattle.uniform_refiner.specs.ChildRows.{IsChildRow};
+ghost use Rattle.uniform_refiner.specs.Points.{ArePoints, without_points};
 
 use crate::edge_points::put_edge_row;
 use crate::face_points::put_face_row;
@@ -18,10 +18,10 @@ use ratio128::Memory;
 use sharpness_rules::{Sharpness, uniform_child};
 use std::alloc::Global;
 
-// Puts the next point.
+// Adds the next point.
 fn put_row(level: &Level, v: u32, row: &PointLists, s: Sharpness, rows: &mut LevelRows)
     requires point { v < child_points level.now.level.point_count level.now.level.polygons }
-    requires row { IsRow (children_of level.now.level) v true row.now.faces.items row.now.faces_at.items row.now.edges.items row.now.edges_at.items }
+    requires row { IsChildRow level.now.level v row.now }
     requires sharp { sharpness_of s ≡ get_or (child_vertex_sharpness level.now.level) v Smooth }
     requires before { ArePoints level.now.level v rows.old }
     ensures put { ArePoints level.now.level (v + 1) rows.new }
@@ -38,7 +38,7 @@ fn put_row(level: &Level, v: u32, row: &PointLists, s: Sharpness, rows: &mut Lev
     );
 }
 
-// Puts the points that come from vertices.
+// Adds the points that come from vertices.
 fn put_vertices(
     level: &Level,
     edges: &SlotEdges,
@@ -64,7 +64,7 @@ fn put_vertices(
     Ok(())
 }
 
-// Puts the points of faces.
+// Adds the points of faces.
 fn put_face_points(
     level: &Level,
     edges: &SlotEdges,
@@ -84,7 +84,7 @@ fn put_face_points(
     Ok(())
 }
 
-// Puts the points of edges.
+// Adds the points of edges.
 fn put_edge_points(
     level: &Level,
     edges: &SlotEdges,
@@ -103,7 +103,7 @@ fn put_edge_points(
     Ok(())
 }
 
-// Puts all points.
+// Adds all points.
 pub(crate) fn put_points(
     alloc: Global,
     level: &Level,

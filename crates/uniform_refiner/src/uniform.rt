@@ -27,7 +27,7 @@ use sharpness_rules::Sharpness;
 use std::alloc::Global;
 use std::sync::ledger::Ledger;
 
-// The next uniform level with its tables.
+// Joins the next uniform level and its tables.
 fn join(
     alloc: Global,
     level: &Level,
@@ -45,8 +45,8 @@ fn join(
     Child::join(alloc, level, next, origins, places)
 }
 
-// The next uniform level and its tables, from its numbered edges and from where its points and its faces come. It is one
-// step for each of its faces.
+// Returns the next uniform level and its tables, from its numbered edges and the origins of its points and faces. Each of its
+// faces is one step.
 fn refine_placed<L: Ledger>(
     alloc: Global,
     level: &Level,
@@ -70,8 +70,8 @@ fn refine_placed<L: Ledger>(
     join(alloc, level, next, origins, places)
 }
 
-// The next uniform level and its tables, from its numbered edges. Where its points come from is told first, so that no level is
-// there yet if memory runs out at that.
+// Returns the next uniform level and its tables, from its numbered edges. It finds the origins first, so that no level exists
+// yet if memory runs out there.
 fn refine_numbered<L: Ledger>(
     alloc: Global,
     level: &Level,
@@ -92,8 +92,8 @@ fn refine_numbered<L: Ledger>(
     refine_placed(alloc, level, faces, edges, halves, &origins, places, steps)
 }
 
-// The next uniform level and its tables, where `halves` has the sharpness of the half of each edge at each end, and no edge is
-// numbered yet.
+// Returns the next uniform level and its tables. `halves` has the sharpness of the half of each edge at each end, and no edge
+// is numbered yet.
 fn refine_with<L: Ledger>(
     alloc: Global,
     level: &Level,
@@ -116,8 +116,8 @@ fn refine_with<L: Ledger>(
     refine_numbered(alloc, level, faces, edges, halves, places, steps)
 }
 
-// The next uniform level and its tables, where `halves` has room for the half of each edge at each end. It is one step for
-// each of its faces.
+// Returns the next uniform level and its tables. `halves` has a place for the half of each edge at each end. Each new face is
+// one step.
 fn refine_small<L: Ledger>(
     alloc: Global,
     level: &Level,
@@ -139,8 +139,12 @@ fn refine_small<L: Ledger>(
     Ok(child)
 }
 
-/// The next uniform level of a level whose points are all complete, and its tables. It is one step for each of its faces. A
-/// level that would have too many faces is refused before anything is made.
+/// Returns the next uniform level and its tables. Every point of the level must be complete. Each face of the next level is
+/// one step.
+///
+/// Reports `TooLarge` with the number of faces, before it makes anything, where the next level would have more than 2^22.
+/// Reports `Chaikin` with the first vertex, counted from 0, at which halves of edges overflow. Reports `Memory` where memory
+/// runs out.
 pub fn refine<L: Ledger>(
     alloc: Global,
     level: &Level,

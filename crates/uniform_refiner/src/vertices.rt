@@ -2,17 +2,16 @@
 
 ghost use Rattle.std.specs.Prelude.{◌≡◌, ◌+◌, ◌<◌, true, false, [], map, get_or, OnOk};
 ghost use Rattle.level_topology.specs.Topology.{corner_of};
-ghost use Rattle.level_topology.specs.PointRows.{IsRow};
-ghost use Rattle.subdiv_model.specs.Child.{child_polygons};
 ghost use Rattle.child_slots.specs.Slots.{first_child, half_slot};
 ghost use Rattle.child_slots.specs.Slotted.{number_at};
 ghost use Rattle.uniform_refiner.specs.Put.{AreChildEdges};
+ghost use Rattle.uniform_refiner.specs.ChildRows.{IsChildRow};
 
 use child_slots::{SlotEdges, first_child_of, half_slot_of, put_corner, put_ends};
 use level_topology::{Level, PointLists};
 use ratio128::Memory;
 
-// The child faces at a vertex: in each of its faces that of its corner.
+// Adds the child faces at a vertex: in each of its faces the child of its corner.
 fn put_children_at(level: &Level, v: u32, list: &mut Vec<u32>) -> Result<(), Memory>
     requires point { v < level.now.level.point_count }
     requires none { list.old.items ≡ [] }
@@ -27,7 +26,7 @@ fn put_children_at(level: &Level, v: u32, list: &mut Vec<u32>) -> Result<(), Mem
     Ok(())
 }
 
-// The halves of the edges at a vertex that end there.
+// Adds the halves, at a vertex, of its edges.
 fn put_halves_at(
     level: &Level,
     edges: &SlotEdges,
@@ -47,7 +46,7 @@ fn put_halves_at(
     Ok(())
 }
 
-// The lists at a complete vertex.
+// Makes the lists at a complete vertex.
 pub(crate) fn put_vertex_row(
     level: &Level,
     edges: &SlotEdges,
@@ -57,7 +56,7 @@ pub(crate) fn put_vertex_row(
     requires point { v < level.now.level.point_count }
     requires edges { AreChildEdges level.now.level edges.now }
     requires whole { get_or level.now.complete v false ≡ true }
-    ensures { OnOk result (IsRow (child_polygons level.now.level.point_count level.now.level.polygons) v true row.new.faces.items row.new.faces_at.items row.new.edges.items row.new.edges_at.items) }
+    ensures { OnOk result (IsChildRow level.now.level v row.new) }
 {
     level.facts();
     row.clear();

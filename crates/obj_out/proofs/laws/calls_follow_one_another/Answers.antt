@@ -3,7 +3,7 @@ use Rattle.obj_out.proofs.PutsLemmas.{longer, prefix-at-end}
 use Rattle.obj_out.proofs.laws.calls_follow_one_another.Goals as goal
 
 pub returns-clause-put : goal.returns-clause-put
-returns-clause-put c = text-more
+returns-clause-put c = λ call. text-more call.start call.old call.new call.waited call.waits call.before call.text call.so_far call.put
 
 pub returns-clause-failed : goal.returns-clause-failed
 returns-clause-failed c = prefix-more
