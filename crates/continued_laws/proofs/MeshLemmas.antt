@@ -32,7 +32,7 @@ above : (axis : ℤ × ℤ × ℤ → ℤ) (scheme : Scheme) (mesh : ObjMesh) (k
     → All HasDenominator (mesh_coordinates axis scheme mesh k)
 above axis scheme mesh k is some = coordinates-positive (base_level mesh) scheme mesh.common (map axis mesh.points) k is some
 
--- the coordinates of the mesh after so many steps
+-- the coordinates of the mesh after k steps
 abbrev columns : (scheme : Scheme) (mesh : ObjMesh) → ℕ → IsManifoldWithSharpBoundary (base_level mesh) → 0 < mesh.common → Columns
 columns scheme mesh k is some = record {
   xs = mesh_coordinates (λ p. p.0) scheme mesh k;

@@ -11,7 +11,7 @@ use Rattle.subdiv_model.specs.Base.{base_level}
 use Rattle.subdiv_model.specs.Refined.{mask_value, source_value, points_of_coordinates, refined_values, control_values, over_common}
 use Rattle.continued_laws.specs.Laws.{AreSameValues, values_over, IsPointOver, mesh_coordinates, mesh_points}
 
--- as many values for one list as for another
+-- lists of one length give as many values
 same-count : (level : Level) (scheme : Scheme) (xs ys : List Value) (k : ℕ) → length xs ≡ length ys
     → length (refined_values level scheme xs k) ≡ length (refined_values level scheme ys k)
 same-count level scheme xs ys zero h = h
@@ -29,7 +29,7 @@ count-of axis scheme mesh k =
 controls-count : (axis : ℤ × ℤ × ℤ → ℤ) (points : List (ℤ × ℤ × ℤ)) → length (control_values (map axis points)) ≡ length points
 controls-count axis points = length-map (map axis points) whole_value ∙ length-map points axis
 
--- as many coordinates of one axis as of another
+-- all axes have as many coordinates
 axes-count : (a b : ℤ × ℤ × ℤ → ℤ) (scheme : Scheme) (mesh : ObjMesh) (k : ℕ)
     → length (mesh_coordinates a scheme mesh k) ≡ length (mesh_coordinates b scheme mesh k)
 axes-count a b scheme mesh k =

@@ -21,7 +21,7 @@ module _ (value : SourcePoint → Value) (each : (source : SourcePoint) → 0 < 
       product-positive (q * (value term.source).den) (value_of_terms value terms q).den
       (product-positive q (value term.source).den some (each term.source)) (terms-positive q some terms)
 
-  -- also of a face without corners, whose mask has no terms
+  -- the denominator is above 0, even for a face without corners, whose mask has no terms
   corners-positive : (corners : List ℕ) → 0 < (mask_value value (mask_of_corners corners)).den
   corners-positive [] = omega arith
   corners-positive (v ∷ corners) = terms-positive (length (v ∷ corners)) (omega arith) (mask_of_corners (v ∷ corners)).terms

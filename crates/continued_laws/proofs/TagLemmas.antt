@@ -29,7 +29,7 @@ use Rattle.mask_laws.specs.Laws.{IsManifoldWithSharpBoundary}
 use Rattle.mask_laws.proofs.BoundaryLemmas.{is-infinite}
 use Rattle.continued_laws.specs.Laws.{written_creases, HasTagsOf}
 
--- The last of the tags that name something, where each of them gives one sharpness.
+-- The last tag that names an item, where each tag gives one sharpness.
 
 module _ {X : Type 0} (names keep : X → Bool) (value : X → Sharpness) (s : Sharpness) (same : (x : X) → names x ≡ true → value x ≡ s) where
   abbrev last-tag : Sharpness → List X → Sharpness
@@ -73,7 +73,7 @@ module _ {X : Type 0} (names keep : X → Bool) (value : X → Sharpness) (s : S
       here (Semi num den) is = found Smooth xs (there (kept (ap is_sharp is)))
       here Infinite is = found Smooth xs (there (kept (ap is_sharp is)))
 
--- What stands at each place of a list, read by its number.
+-- The items of a list, read by number.
 
 -- where one thing at most passes, nothing before it does
 alone : {X : Type 0} (test : X → Bool) (xs : List X) (k i : ℕ) (d : X) → count_by test xs ≤ 1 → k < i → i < length xs

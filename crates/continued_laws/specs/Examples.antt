@@ -1,10 +1,10 @@
--- Two meshes of which the second goes on from level 1 of the first.
+-- Two meshes: the second continues from level 1 of the first.
 use Rattle.std.specs.Prelude.{pos, false, [], ◌∷◌}
 use Rattle.subdiv_model.specs.Sharpness.{Semi, Infinite, Normal}
 use Rattle.subdiv_model.specs.Boundary.{EdgeOnly}
 use Rattle.subdiv_model.specs.ObjMesh.{ObjMesh}
 
--- two quads side by side: the edge between them of sharpness 5/2, vertex 0 a corner, and the second face a hole
+-- two quads side by side: the edge between them has sharpness 5/2, vertex 0 is a corner, and the second face is a hole
 abbrev pub tagged_quads : ObjMesh
 tagged_quads = record {
   points =
@@ -28,7 +28,7 @@ tagged_quads = record {
   method = Normal;
 }
 
--- their level 1 as a mesh, over 8
+-- level 1 of the two quads as a mesh, over 8
 abbrev pub quads_after_a_step : ObjMesh
 quads_after_a_step = record {
   points =

@@ -1,6 +1,6 @@
-//! Laws of refinement that goes on from a level as from the mesh it came from, and the lemmas on them that other crates cite.
+//! Laws of continued refinement: a mesh made of a refined level and its tags refines like the mesh it came from.
 //!
-//! Each public function here takes nothing, does nothing and returns nothing: its clauses are the laws.
+//! Each public function has an empty body: its clauses are the laws. The proofs of other crates cite the lemmas behind them.
 #![tactic(auto)]
 
 pub mod levels;

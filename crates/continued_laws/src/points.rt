@@ -1,5 +1,4 @@
-//! Laws of points that go on: numbers that have the values of refined points are refined to the values after them, and points
-//! with the same values have the same lines.
+//! Laws of points: control numbers with the values of refined points are refined to the values after them.
 
 ghost use Rattle.std.specs.Prelude.{◌≡◌, ℕ, ◌+◌, ◌<◌, List};
 ghost use Rattle.std.specs.List.{All};
@@ -10,8 +9,8 @@ ghost use Rattle.subdiv_model.specs.Refined.{child_values};
 ghost use Rattle.mask_laws.specs.Laws.{IsManifoldWithSharpBoundary};
 ghost use Rattle.continued_laws.specs.Laws.{AreSameValues, HasDenominator, Coordinates, Continuation, coordinates_after, continued, Columns, AreSameColumns, points_of, point_lines};
 
-/// Values that are the same have children that are the same, in whatever terms they stand. Numbers over a denominator of their
-/// own can have the values after k steps: j steps from them give the values after k + j steps.
+/// Equal values have equal children, whatever their terms. If control numbers have the values after k steps, j steps from them
+/// give the values after k + j steps.
 pub fn values_go_on()
     ensures child { (level : Level) (scheme : Scheme) (xs ys : List Value) → AreSameValues xs ys
         → AreSameValues (child_values level scheme xs) (child_values level scheme ys) }
@@ -19,14 +18,14 @@ pub fn values_go_on()
         AreSameValues (coordinates_after going.first (going.steps + j)) (coordinates_after (continued going) j) }
 {}
 
-/// Refined coordinates of a manifold whose boundary is infinitely sharp have denominators of at least 1, where that of the
-/// numbers is.
+/// The refined coordinates of a manifold whose boundary is infinitely sharp have denominators of at least 1, if the control
+/// numbers have.
 pub fn refined_coordinates_have_denominators()
     ensures { (given : Coordinates) (k : ℕ) → IsManifoldWithSharpBoundary given.level → 0 < given.common
         → All HasDenominator (coordinates_after given k) }
 {}
 
-/// Points whose coordinates are the same values, one by one, have the same `v` lines in lowest terms.
+/// Points with equal coordinates have the same `v` lines in lowest terms.
 pub fn same_points_have_the_same_lines()
     ensures { (first second : Columns) → AreSameColumns first second → point_lines (points_of first) ≡ point_lines (points_of second) }
 {}

@@ -1,4 +1,4 @@
--- A point inside with four faces, all quads, has them about it one after another, from each of them on.
+-- A point inside with four faces, all quads: the quads follow each other around it, from each quad on.
 use Rattle.std.proofs.Common.{◌≡◌, ℕ, ◌<◌, Bool, true, false, ◌&&◌, nat_eq, List, [], ◌∷◌, length, arith, refl, ap, sym, ◌∙◌, subst, ◌⊎◌, inl, inr}
 use Rattle.std.specs.List.{filter, list_all, list_any}
 use Rattle.std.proofs.lemmas.Bool.Decides.{nat_tests}
@@ -20,7 +20,7 @@ use Rattle.grid_laws.specs.Grids.{IsQuad, HasQuad}
 use Rattle.grid_laws.proofs.QuadLemmas.{quad-corner, apart-listed}
 use Rattle.grid_laws.proofs.StarLemmas.{HasStar, quad-at, same-quad, turned-star, star-all, as-many-faces, four-ways, in-side, out-side, successor-side, side-owner}
 
--- what is found and kept passes among what is kept
+-- an item that passes and is kept passes among the kept ones
 pub kept-any : {X : Type 0} (keep p q : X → Bool) → ((x : X) → q x ≡ true → (keep x ≡ true) × (p x ≡ true)) → (xs : List X) → list_any q xs ≡ true
     → list_any p (filter keep xs) ≡ true
 kept-any keep p q is xs h =
@@ -100,7 +100,7 @@ module _ (polygons : List Polygon) (simple : list_all is_simple polygons ≡ tru
           bd = false_from_ne_true _ (λ same. false≢true (sym apart.0 ∙ one-face q0 q2 (e0 ∙ sym (eqb-true b3 b1 same) ∙ sym e2)));
         }
 
-  -- Four quads about the point, from each of them on.
+  -- Four quads around the point, from each quad on.
 
   -- c and d are the other ends of the two other edges, and x to z the opposite corners of the other quads
   pub record HasStarFrom (p q s : ℕ) : Type 0 where

@@ -124,7 +124,7 @@ module _ (level : Level) (well : IsManifoldWithSharpBoundary level) where
       (sym (beyond-start level.polygons level-simple level-distinct star.is.fourth)) refl
       (sym (quad-fourth level.polygons level-simple level-distinct star.is.second)) third
 
-  -- so a quad of four regular points has nine about it, and is one of them
+  -- a quad of four regular points is the middle one of nine quads
   regular-quads : {a b c d : ℕ} → is_regular_in_quads level a ≡ true → is_regular_in_quads level b ≡ true → is_regular_in_quads level c ≡ true
       → is_regular_in_quads level d ≡ true → HasQuad level.polygons a b c d
       → (i j : ℕ) → i < 3 → j < 3 → HasGridQuad level.polygons (grid_of_quad level.polygons a b c d) i j
@@ -149,7 +149,7 @@ patch-parts level face h =
     let parts = and_parts (is_quad level face) (list_all (is_regular_in_quads level) (polygon_at level.polygons face)) h in
     (eqb-true _ 4 parts.0, parts.1)
 
--- and it is the middle of the points of the patch
+-- the face is the middle of the points of its patch
 pub patch-middle : (level : Level) (face : ℕ) → has_patch level face ≡ true → polygon_at level.polygons face ≡ inner_corners (patch_points level face)
 patch-middle level face h = four-listed (polygon_at level.polygons face) (patch-parts level face h).0
 

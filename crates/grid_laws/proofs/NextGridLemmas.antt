@@ -1,4 +1,4 @@
--- In the next level the points of a level, of its faces and of its edges are regular where those about them are, and grids have grids.
+-- In the next level points are regular where the points around their sources are, and grids have grids.
 use Rattle.std.proofs.Common.{◌≡◌, ℕ, ◌<◌, true, false, nat_eq, List, length, arith, refl, ap, sym, ◌∙◌}
 use Rattle.std.specs.List.{list_any}
 use Rattle.std.proofs.lemmas.Bool.Decides.{nat_tests}
@@ -91,7 +91,7 @@ module _ (level : Level) (well : IsManifoldWithSharpBoundary level) where
       star-regular next next-well star (old-uniform level p below ∙ ap uniform_child (regular-vertex level well p regular))
       (half a (smooth-side regular a)) (half b (smooth-side regular b)) (half c (smooth-side regular c)) (half d (smooth-side regular d))
 
-  -- so is the point of a face
+  -- the new point of a face is regular
   pub next-face : {p q r s : ℕ} → (quad : HasQuad level.polygons p q r s) → is_regular_in_quads next (new_face quad.face) ≡ true
   next-face {p} {q} {r} {s} quad =
       let x = new_face quad.face in
@@ -112,7 +112,7 @@ module _ (level : Level) (well : IsManifoldWithSharpBoundary level) where
       inner : (e : ℕ × ℕ) → edge_sharpness_of next (new_face quad.face, edge_point level.point_count level.polygons e) ≡ Smooth
       inner e = (inside-smooth level (level-over level well) quad.face e quad.inside).0
 
-  -- and the point of a smooth edge of two faces
+  -- the new point of a smooth edge of two faces is regular
   pub next-edge : {p q r s t u : ℕ} → (quad : HasQuad level.polygons p q r s) → (other : HasQuad level.polygons q p t u) → edge_sharpness_of level (p, q) ≡ Smooth
       → is_regular_in_quads next (new_edge p q) ≡ true
   next-edge {p} {q} {r} {s} {t} {u} quad other smooth =

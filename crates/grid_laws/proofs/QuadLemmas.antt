@@ -104,11 +104,11 @@ third-place a b c d h k = let self : nat_eq c c ≡ true = eq-eqb c c refl in rw
 fourth-place : (a b c d : ℕ) → nat_eq d a ≡ false → nat_eq d b ≡ false → nat_eq d c ≡ false → position_or_len (nat_eq d) (a ∷ b ∷ c ∷ d ∷ []) ≡ 3
 fourth-place a b c d h k l = let self : nat_eq d d ≡ true = eq-eqb d d refl in rw (h, k, l, self) refl
 
--- the corner of a polygon so many places after a number
+-- the corner of a polygon a number of places after another
 abbrev after : ℕ → ℕ → Polygon → ℕ
 after p places polygon = get_or polygon ((position_or_len (nat_eq p) polygon + places) % 4) 0
 
--- Of polygons.
+-- Polygons.
 
 module _ (polygons : List Polygon) where
   -- a quad has the side from its first corner
@@ -118,7 +118,7 @@ module _ (polygons : List Polygon) where
   quad-side face p q r s (from_third e) = ap (has_side (p, q)) e ∙ list-side-third p q r s
   quad-side face p q r s (from_fourth e) = ap (has_side (p, q)) e ∙ list-side-fourth p q r s
 
-  -- and its first corner
+  -- the quad has its first corner
   pub quad-corner : (face p q r s : ℕ) → IsQuad polygons face p q r s → has_corner p (polygon_at polygons face) ≡ true
   quad-corner face p q r s is = side-start (polygon_at polygons face) (p, q) (quad-side face p q r s is)
 
@@ -152,7 +152,7 @@ module _ (polygons : List Polygon) where
     pub quad-apart : {p q r s : ℕ} → HasQuad polygons p q r s → AreApart p q r s
     quad-apart {p} {q} {r} {s} quad = is-apart quad.face p q r s quad.is
 
-    -- so many places after the first corner stands v, where it stands there in the quad from each of its corners
+    -- v is a number of places after the first corner, if it is at that place seen from each corner
     corner-after : (k v face p q r s : ℕ) → AreApart p q r s
         → get_or (p ∷ q ∷ r ∷ s ∷ []) ((0 + k) % 4) 0 ≡ v → get_or (q ∷ r ∷ s ∷ p ∷ []) ((3 + k) % 4) 0 ≡ v
         → get_or (r ∷ s ∷ p ∷ q ∷ []) ((2 + k) % 4) 0 ≡ v → get_or (s ∷ p ∷ q ∷ r ∷ []) ((1 + k) % 4) 0 ≡ v
@@ -176,11 +176,11 @@ module _ (polygons : List Polygon) where
           let same = owner-unique polygons side k face (distinct-count side (all_sides polygons) distinct) there h in omega (arith, same, before)))
           (λ _. h)
 
-      -- so for a quad it is the quad
+      -- the face beside a side of a quad is the quad
       pub quad-face : {p q r s : ℕ} → (quad : HasQuad polygons p q r s) → face_beside polygons (p, q) ≡ quad.face
       quad-face {p} {q} {r} {s} quad = side-face (p, q) quad.face (quad-side quad.face p q r s quad.is)
 
-      -- and the corners after the side are the others
+      -- the corners after the side are the other corners
       pub quad-third : {p q r s : ℕ} → HasQuad polygons p q r s → corner_from polygons (p, q) 2 ≡ r
       quad-third {p} {q} {r} {s} quad =
           ap (λ face. after p 2 (polygon_at polygons face)) (quad-face quad) ∙ corner-after 2 r quad.face p q r s (quad-apart quad) refl refl refl refl quad.is

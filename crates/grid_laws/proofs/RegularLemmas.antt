@@ -26,7 +26,7 @@ use Rattle.grid_laws.proofs.GridLemmas.{regular-parts, regular-from, level-simpl
 
 -- Lists.
 
--- what no kept item does that is listed, none among what is kept does
+-- if no kept item that is listed passes, no kept item passes
 none-kept : {X : Type 0} (keep listed test : X → Bool) → ((x : X) → keep x ≡ true → listed x ≡ true → test x ≡ false) → (xs : List X) → list_all listed xs ≡ true
     → list_any test (filter keep xs) ≡ false
 none-kept keep listed test none xs h = false_from_ne_true _ (λ some.
@@ -74,7 +74,7 @@ module _ (level : Level) (well : IsManifoldWithSharpBoundary level) where
             (ap is_sharp (sym (sharpness-alike level (v, a) e h)) ∙ sharp),
       )) (edges_of polygons) (any-first_named (v, a) (all_sides polygons) ∙ any-side-edge (v, a) (all_sides polygons) there))))
 
-  -- and so is the point
+  -- the point is smooth
   pub regular-vertex : (v : ℕ) → is_regular_in_quads level v ≡ true → vertex_sharpness_of level v ≡ Smooth
   regular-vertex v regular = not-sharp (vertex_sharpness_of level v) (regular-parts level v regular).smooth_point
 
@@ -159,7 +159,7 @@ module _ (level : Level) (well : IsManifoldWithSharpBoundary level) where
     two-alike : (n : ℕ) (e : ℕ × ℕ) → IsEdgeTo n e → is_boundary polygons (v, n) ≡ false → is_boundary polygons e ≡ false
     two-alike n e h two = boundary-alike polygons (level-simple level well) e (v, n) h ∙ two
 
-    -- so no edge there is of one face
+    -- no edge at the point has one face
     spoke-inside : (e : ℕ × ℕ) → IsSpoke e → is_boundary polygons e ≡ false
     spoke-inside e (inl h) = two-alike a e h (two-faced star.fourth star.first)
     spoke-inside e (inr (inl h)) = two-alike b e h (two-faced star.first star.second)

@@ -1,4 +1,4 @@
--- The four quads about a point: they are all its faces where these form one fan, and a point of four quads has them.
+-- Four quads around a point: they are all its faces where these form one fan, and a point of four quads has such quads.
 use Rattle.std.proofs.Common.{◌≡◌, ℕ, ◌+◌, Bool, true, false, not, nat_eq, List, [], ◌∷◌, length, arith, refl, ap, sym, ◌∙◌, subst, ◌⊎◌, inl, inr}
 use Rattle.std.specs.List.{list_all}
 use Rattle.std.proofs.lemmas.Bool.Decides.{nat_tests}
@@ -35,7 +35,7 @@ as-many-faces polygons v faces once there all =
     distinct-le (faces_of_point polygons v) faces (places-distinct (has_corner v) 0 polygons) (λ n h. all n (sym (faces-among polygons v n) ∙ h)) in
     omega arith
 
--- what is among four
+-- the cases of a number among four
 pub four-ways : (a b c d n : ℕ) → is_among (a ∷ b ∷ c ∷ d ∷ []) n ≡ true → (n ≡ a) ⊎ ((n ≡ b) ⊎ ((n ≡ c) ⊎ (n ≡ d)))
 four-ways a b c d n h = go (nat_eq n a) (nat_eq n b) (nat_eq n c) refl refl refl
   where
@@ -131,7 +131,7 @@ module _ (polygons : List Polygon) (simple : list_all is_simple polygons ≡ tru
           let more : is_among (next ∷ rest) face ≡ true = grind (arith, nat_tests) in
           behind more ∙ sym (alike first next path.0)
 
-  -- so any two are alike
+  -- any two faces of a fan pass alike, if each face passes as the next does
   fan-alike : (v : ℕ) (test : ℕ → Bool) → ((f g : ℕ) → IsSuccessor polygons v f g → test f ≡ test g) → (fan : List ℕ) → IsPath polygons v fan
       → (f g : ℕ) → is_among fan f ≡ true → is_among fan g ≡ true → test f ≡ test g
   fan-alike v test alike [] path f g h k = absurd (false≢true h)
@@ -164,7 +164,7 @@ module _ (polygons : List Polygon) (simple : list_all is_simple polygons ≡ tru
         let same : r ≡ is.corner = follower-unique (polygon_at polygons quad.face) v r is.corner (distinct-at polygons quad.face simple) (out-side quad) is.follows in
         side-owner (is.corner, v) g before.face is.leads_back (ap (λ (n : ℕ). has_side (n, v) (polygon_at polygons before.face)) (sym same) ∙ in-side before)
 
-    -- and what is succeeded by it is the quad after it
+    -- the face that follows is the next quad
     before-after : {p q r s t : ℕ} → (before : HasQuad polygons v p q r) → (quad : HasQuad polygons v r s t) → (f : ℕ) → IsSuccessor polygons v f before.face → f ≡ quad.face
     before-after {p} {q} {r} {s} {t} before quad f is =
         let same : r ≡ is.corner = leader-unique (polygon_at polygons before.face) v r is.corner (distinct-at polygons before.face simple) (in-side before) is.leads_back in
@@ -220,7 +220,7 @@ module _ (polygons : List Polygon) (simple : list_all is_simple polygons ≡ tru
     next-apart {p} {q} {r} {s} {t} before quad =
         apart-swapped quad.face before.face (faces-apart polygons simple quad.face before.face v r (out-side quad) (in-side before))
 
-    -- nor do two that start on different sides
+    -- two quads that start on different sides are different
     across-apart : {p q r s t u : ℕ} → (quad : HasQuad polygons v p q r) → (other : HasQuad polygons v s t u) → nat_eq p s ≡ false → nat_eq quad.face other.face ≡ false
     across-apart {p} {q} {r} {s} {t} {u} quad other apart = false_from_ne_true _ (λ same.
         let out = ap (λ f. has_side (v, s) (polygon_at polygons f)) (eqb-true quad.face other.face same) ∙ out-side other in
@@ -234,6 +234,6 @@ module _ (polygons : List Polygon) (simple : list_all is_simple polygons ≡ tru
         (apart-swapped star.fourth.face star.first.face (next-apart star.fourth star.first))
         (next-apart star.second star.third) (across-apart star.second star.fourth star.bd) (next-apart star.third star.fourth)
 
-    -- so the point has four faces
+    -- the point has four faces
     pub star-four : length (faces_of_point polygons v) ≡ 4
     star-four = as-many-faces polygons v faces star-distinct star-each star-all

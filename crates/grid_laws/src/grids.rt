@@ -6,31 +6,28 @@ ghost use Rattle.subdiv_model.specs.Level.{Level};
 ghost use Rattle.subdiv_model.specs.Child.{child_level};
 ghost use Rattle.subdiv_model.specs.Patch.{has_patch, patch_points};
 ghost use Rattle.mask_laws.specs.Laws.{IsManifoldWithSharpBoundary};
-ghost use Rattle.grid_laws.specs.Grids.{IsGrid, child_grid, child_of, grid_from, inner_corners};
+ghost use Rattle.grid_laws.specs.Grids.{HasFacePatch, HasGridAbout, IsGrid, child_grid, child_of, corner_grid, grid_from, inner_corners};
 
-/// The points of the patch of a face are a grid, in the middle of which the face stands. A grid about a face is that of its patch.
+/// The points of the patch of a face form a grid with the face in the middle. Every grid with the face in the middle has these
+/// points.
 pub fn faces_with_patches_have_grids()
-    ensures grid { (level : Level) (face : ℕ) → IsManifoldWithSharpBoundary level → face < length level.polygons → IsTrue (has_patch level face)
-        → IsGrid level (patch_points level face) }
+    ensures grid { (level : Level) (face : ℕ) → HasFacePatch level face → IsGrid level (patch_points level face) }
     ensures middle { (level : Level) (face : ℕ) → IsTrue (has_patch level face) → polygon_at level.polygons face ≡ inner_corners (patch_points level face) }
-    ensures patch { (level : Level) (face : ℕ) (grid : List (List ℕ)) → IsManifoldWithSharpBoundary level → IsGrid level grid
-        → polygon_at level.polygons face ≡ inner_corners grid → IsTrue (has_patch level face) }
-    ensures same { (level : Level) (face : ℕ) (grid : List (List ℕ)) → IsManifoldWithSharpBoundary level → IsGrid level grid
-        → polygon_at level.polygons face ≡ inner_corners grid → patch_points level face ≡ grid }
+    ensures patch { (level : Level) (face : ℕ) (grid : List (List ℕ)) → HasGridAbout level face grid → IsTrue (has_patch level face) }
+    ensures same { (level : Level) (face : ℕ) (grid : List (List ℕ)) → HasGridAbout level face grid → patch_points level face ≡ grid }
 {}
 
-/// From each corner of its middle a grid is one, and in the next level it has a grid about the child of its first corner.
+/// A grid seen from another corner of its middle is a grid. In the next level it has a grid around the child of its first corner.
 pub fn next_levels_have_grids()
     ensures turned { (level : Level) (grid : List (List ℕ)) (c : ℕ) → IsGrid level grid → IsGrid level (grid_from c grid) }
     ensures next { (level : Level) (grid : List (List ℕ)) → IsManifoldWithSharpBoundary level → IsGrid level grid → IsGrid (child_level level) (child_grid level grid) }
 {}
 
-/// The four children of a regular inner face are regular inner faces, and the points of their patches follow from those of its own.
+/// The four children of a regular inner face are regular inner faces. The points of their patches follow from the points of its
+/// patch.
 pub fn children_have_patches()
     ensures inside { (level : Level) (face c : ℕ) → face < length level.polygons → IsTrue (has_patch level face) → c < 4
         → child_of level.polygons face c < length (child_level level).polygons }
-    ensures patch { (level : Level) (face c : ℕ) → IsManifoldWithSharpBoundary level → face < length level.polygons → IsTrue (has_patch level face) → c < 4
-        → IsTrue (has_patch (child_level level) (child_of level.polygons face c)) }
-    ensures points { (level : Level) (face c : ℕ) → IsManifoldWithSharpBoundary level → face < length level.polygons → IsTrue (has_patch level face) → c < 4
-        → patch_points (child_level level) (child_of level.polygons face c) ≡ child_grid level (grid_from c (patch_points level face)) }
+    ensures patch { (level : Level) (face c : ℕ) → HasFacePatch level face → c < 4 → IsTrue (has_patch (child_level level) (child_of level.polygons face c)) }
+    ensures points { (level : Level) (face c : ℕ) → HasFacePatch level face → c < 4 → patch_points (child_level level) (child_of level.polygons face c) ≡ corner_grid level c (patch_points level face) }
 {}

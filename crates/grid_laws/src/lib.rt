@@ -1,6 +1,6 @@
-//! Laws of the 16 points about a regular face: the nine quads that they are the corners of, and those of its children.
+//! Laws of the 16 points around a regular face: they form nine quads, and the children of the face have such points too.
 //!
-//! Each public function here takes nothing, does nothing and returns nothing: its clauses are the laws.
+//! Each public function has an empty body: its clauses are the laws.
 #![tactic(auto)]
 
 pub mod grids;

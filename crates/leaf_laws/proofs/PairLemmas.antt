@@ -10,7 +10,7 @@ use Rattle.leaf_laws.specs.FirstLeaf.{first_with}
 among-first : (x : ℕ) (xs : List ℕ) → is_among (x ∷ xs) x ≡ true
 among-first x xs = let same : nat_eq x x ≡ true = grind (arith, nat_tests) in rw same refl
 
--- what is kept of a list in which some pass begins with one that passes
+-- the kept items of a list, if any, begin with one that passes
 pub record Begins (test : ℕ → Bool) (xs : List ℕ) : Type 0 where
   pub rest : List ℕ
   pub kept : filter test xs ≡ get_or (filter test xs) 0 0 ∷ rest

@@ -14,7 +14,7 @@ use Rattle.leaf_laws.proofs.PairLemmas.{child-within}
 use Rattle.leaf_laws.proofs.FirstLemmas.{corner-first, leaf-first}
 use Rattle.leaf_laws.proofs.BorderLemmas.{border-child, shared-border}
 
--- what is kept of numbers passes, and is one of them
+-- a kept number passes, and is one of the list
 kept-among : (test : ℕ → Bool) (xs : List ℕ) (n : ℕ) → is_among (filter test xs) n ≡ true → (test n ≡ true) × (is_among xs n ≡ true)
 kept-among test [] n h = absurd (cc)
 kept-among test (x ∷ xs) n h = go (test x) refl (nat_eq n x) refl (kept-among test xs n)
@@ -50,7 +50,7 @@ module _ (grid : ℕ) (level : Level) (at : Location) (is : IsInGrid grid at) (c
       go true e = let least = kept-least (has_pair grid (at.s, at.t)) 0 4 c (rw e at with) in rw e least
       go false e = let only : is_among (at.corner ∷ []) c ≡ true = rw e at with in let same : at.corner ≡ c = grind (arith, nat_tests) in rw e (omega (arith, same))
 
-  -- of a quad they have the pair
+  -- the corners of a quad that have the location have its pair
   pub quad-corner : is_quad_at level at ≡ true → (has_pair grid (at.s, at.t) c ≡ true) × (c < 4)
   quad-corner e =
       let kept = kept-among (has_pair grid (at.s, at.t)) (range_with_len 0 4) c (rw e at with) in
@@ -62,7 +62,7 @@ module _ (grid : ℕ) (level : Level) (at : Location) (is : IsInGrid grid at) (c
   pub other-corner : is_quad_at level at ≡ false → c ≡ at.corner
   other-corner e = let only : is_among (at.corner ∷ []) c ≡ true = rw e at with in grind (arith, nat_tests)
 
-  -- and there the location lies on the grid
+  -- the location in the child lies on the grid
   pub child-inside : IsInGrid grid (child_at grid level at c)
   child-inside = go (is_quad_at level at) refl
     where
@@ -127,7 +127,7 @@ first-least grid (suc further) base meeting at is =
 pub leaf-least : (grid depth : ℕ) (base : Level) (meeting : Meeting) (at : Location) → IsInGrid grid at → IsLeastLeaf grid depth base meeting at (leaf_of grid depth base meeting at)
 leaf-least grid depth base meeting at is = subst (IsLeastLeaf grid depth base meeting at) (sym (leaf-first grid depth base meeting at is)) (first-least grid depth base meeting at is)
 
--- a leaf has what is on the border of the face on its own border
+-- a location on the border of a face is on the border of its leaf
 pub border-leaf : (grid further : ℕ) (base : Level) (meeting : Meeting) (at leaf : Location) (path : List ℕ) → IsInGrid grid at → IsLeafOn grid further base meeting at path leaf
     → is_on_border grid (at.s, at.t) ≡ true → is_on_border grid (leaf.s, leaf.t) ≡ true
 border-leaf grid zero base meeting at leaf [] is one on = ap (λ (l : Location). is_on_border grid (l.s, l.t)) one ∙ on
@@ -137,7 +137,7 @@ border-leaf grid (suc further) base meeting at leaf (c ∷ path) is one on =
     let level = refined_level base at.level in
     border-leaf grid further base meeting (child_at grid level at c) leaf path (child-inside grid level at is c one.1) one.2 (border-at grid level at is c one.1 on)
 
--- two leaves share their borders alone
+-- two leaves share only their borders
 pub leaves-share : (grid further : ℕ) (base : Level) (meeting : Meeting) (at leaf other : Location) (path way : List ℕ) → IsInGrid grid at → path ≢ way
     → IsLeafOn grid further base meeting at path leaf → IsLeafOn grid further base meeting at way other
     → (is_on_border grid (leaf.s, leaf.t) ≡ true) × (is_on_border grid (other.s, other.t) ≡ true)

@@ -1,26 +1,33 @@
 -- The leaf of a location, found level by level.
-use Rattle.std.specs.Prelude.{ℕ, zero, suc, ◌≤◌, get_or, if◌then◌else◌}
+use Rattle.std.specs.Prelude.{ℕ, zero, suc, ◌*◌, ◌≤◌, ◌≡◌, get_or, if◌then◌else◌}
 use Rattle.std.specs.List.{filter, range_with_len}
 use Rattle.subdiv_model.specs.Polygons.{is_among}
 use Rattle.subdiv_model.specs.Level.{Level}
 use Rattle.subdiv_model.specs.Child.{refined_level}
 use Rattle.subdiv_model.specs.Sparse.{Meeting, selected}
-use Rattle.subdiv_model.specs.Leaf.{Location, has_pair, is_quad_at, child_at}
+use Rattle.subdiv_model.specs.Leaf.{Location, in_quad, has_pair, is_quad_at, child_at}
 
--- the pair of a location lies on the grid
+-- the pair of the location lies on the grid
 pub record IsInGrid (grid : ℕ) (at : Location) : Type 0 where
   pub s : at.s ≤ grid
   pub t : at.t ≤ grid
 
--- the least corner of a quad whose child has a pair
+-- a pair of the child of a corner that lies at the pair (s, t) of the quad
+pub record ChildPair (grid c s t : ℕ) : Type 0 where
+  pub pair : ℕ × ℕ
+  pub along : pair.0 ≤ grid
+  pub across : pair.1 ≤ grid
+  pub is : in_quad grid c pair ≡ (2 * s, 2 * t)
+
+-- the least corner of a quad whose child contains a pair
 abbrev pub first_with : ℕ → ℕ × ℕ → ℕ
 first_with grid pair = get_or (filter (has_pair grid pair) (range_with_len 0 4)) 0 0
 
--- the least corner whose child face has the location
+-- the least corner whose child face contains the location
 abbrev pub first_corner : ℕ → Level → Location → ℕ
 first_corner grid level at = if is_quad_at level at then first_with grid (at.s, at.t) else at.corner
 
--- from a face that is selected on to the child face of that corner
+-- the leaf found by going from a selected face to the child face of its least corner with the location
 abbrev pub first_leaf : ℕ → ℕ → Level → Meeting → Location → Location
 first_leaf grid zero base meeting at = at
 first_leaf grid (suc further) base meeting at =

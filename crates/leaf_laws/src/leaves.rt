@@ -11,7 +11,7 @@ pub fn locations_have_leaves()
     ensures { (grid further : ℕ) (base : Level) (meeting : Meeting) (at : Location) → IsInGrid grid at → 0 < length (leaves_within grid further base meeting at) }
 {}
 
-/// The leaf of a location is found by the least corner whose child face has the location, level by level.
+/// The leaf of a location is found level by level: each step goes to the least corner whose child face has the location.
 pub fn leaves_are_first()
     ensures { (grid depth : ℕ) (base : Level) (meeting : Meeting) (at : Location) → IsInGrid grid at → leaf_of grid depth base meeting at ≡ first_leaf grid depth base meeting at }
 {}

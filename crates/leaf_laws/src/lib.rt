@@ -1,6 +1,6 @@
-//! Laws of the places of the faces of level 0, and of the leaves of sparse levels that have them.
+//! Laws of the leaf map: which leaf of the sparse levels contains a place of a face of level 0.
 //!
-//! Each public function here takes nothing, does nothing and returns nothing: its clauses are the laws.
+//! Each public function has an empty body: its clauses are the laws.
 #![tactic(auto)]
 
 pub mod leaves;

@@ -1,27 +1,24 @@
-//! Laws of leaves by their paths.
+//! Laws of leaves by their paths from level 0.
 
-ghost use Rattle.std.specs.Prelude.{◌≡◌, ◌≢◌, ℕ, true, List};
+ghost use Rattle.std.specs.Prelude.{◌≡◌, ◌≢◌, ℕ};
 ghost use Rattle.subdiv_model.specs.Level.{Level};
 ghost use Rattle.subdiv_model.specs.Sparse.{Meeting};
 ghost use Rattle.subdiv_model.specs.Leaf.{Location, leaf_of};
 ghost use Rattle.leaf_laws.specs.FirstLeaf.{IsInGrid};
-ghost use Rattle.leaf_laws.specs.Paths.{IsLeafOn, IsLeastLeaf, is_on_border};
+ghost use Rattle.leaf_laws.specs.Paths.{IsLeastLeaf, ShareBorders, TwoLeaves};
 
-/// A path leads to one leaf at most.
+/// A path leads to at most one leaf.
 pub fn paths_have_one_leaf()
-    ensures { (grid further : ℕ) (base : Level) (meeting : Meeting) (at leaf other : Location) (path : List ℕ)
-        → IsLeafOn grid further base meeting at path leaf → IsLeafOn grid further base meeting at path other → leaf ≡ other }
+    ensures { (grid further : ℕ) (base : Level) (meeting : Meeting) (at : Location) (two : TwoLeaves grid further base meeting at) → two.path ≡ two.other_path → two.leaf ≡ two.other }
 {}
 
-/// The leaf of a location is, among the leaves that have it, the one whose path is least.
+/// Among the leaves that contain a location, its leaf is the one with the least path.
 pub fn leaves_have_the_least_paths()
     ensures { (grid depth : ℕ) (base : Level) (meeting : Meeting) (at : Location) → IsInGrid grid at
         → IsLeastLeaf grid depth base meeting at (leaf_of grid depth base meeting at) }
 {}
 
-/// Two leaves of a location, by different paths, have it on the border of each.
+/// If two leaves on different paths contain a location, the location is on the border of both.
 pub fn leaves_share_borders_alone()
-    ensures { (grid further : ℕ) (base : Level) (meeting : Meeting) (at leaf other : Location) (path way : List ℕ) → IsInGrid grid at → path ≢ way
-        → IsLeafOn grid further base meeting at path leaf → IsLeafOn grid further base meeting at way other
-        → (is_on_border grid (leaf.s, leaf.t) ≡ true) × (is_on_border grid (other.s, other.t) ≡ true) }
+    ensures { (grid further : ℕ) (base : Level) (meeting : Meeting) (at : Location) (two : TwoLeaves grid further base meeting at) → IsInGrid grid at → two.path ≢ two.other_path → ShareBorders two }
 {}

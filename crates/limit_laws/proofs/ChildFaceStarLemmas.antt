@@ -54,7 +54,7 @@ module _ (points : ℕ) (polygons : List Polygon) (v : ℕ) (below : nat_lt v po
         along-across k (last_of (0, 0) (sides_of polygon)) (sides_of polygon)
         ∙ ap (λ n. pos n *ℤ g (face_point points k)) (plain-starts v (edges_of polygons) polygon h)
 
-    -- so the opposite corners at the point are the points of its faces
+    -- the opposite corners at the point are the points of its faces
     pub child-opposites : sum_ℤ g (map (λ f. opposite_corner v (polygon_at (child_polygons points polygons) f)) (faces_of_point (child_polygons points polygons) v))
         ≡ sum_ℤ (λ f. g (face_point points f)) (faces_of_point polygons v)
     child-opposites =

@@ -28,7 +28,7 @@ listed-same level e named = passes_at_first (same_edge e) (edges_of level.polygo
 
 -- Masks by the number of the point.
 
--- what is read where there is no point
+-- the mask that is read where there is no point
 abbrev no_mask : Mask
 no_mask = record { terms = []; denominator = 1 }
 
@@ -49,7 +49,7 @@ module _ (level : Level) (scheme : Scheme) where
       get_or_append_left vertices (faces ++ edges) no_mask v (omega (arith, below, count))
       ∙ get_or-map-range_with_len (vertex_mask level scheme) 0 level.point_count v v no_mask below (omega arith)
 
-  -- that of the new point of a face
+  -- the mask of the new point of a face
   mask-face : (f : ℕ) → f < length level.polygons → get_or (child_masks level scheme) (level.point_count + f) no_mask ≡ face_mask level f
   mask-face f below =
       let points = level.point_count in
@@ -61,7 +61,7 @@ module _ (level : Level) (scheme : Scheme) where
       ∙ get_or_append_left faces edges no_mask f (omega (arith, below, second))
       ∙ get_or-map-range_with_len (face_mask level) 0 (length level.polygons) f f no_mask below (omega arith)
 
-  -- and that of the new point of an edge
+  -- the mask of the new point of an edge
   mask-new : (e : ℕ × ℕ) → is_edge level e ≡ true
       → get_or (child_masks level scheme) (point_of level e) no_mask ≡ edge_mask level scheme (listed level e)
   mask-new e named =
@@ -94,7 +94,7 @@ module _ (level : Level) (scheme : Scheme) where
       → point_value (child_values level scheme xs) (level.point_count + f) ≡ mask_value (source_value level xs) (face_mask level f)
   value-face xs f below = value-at xs (level.point_count + f) ∙ ap (mask_value (source_value level xs)) (mask-face f below)
 
-  -- and the new point of an edge that of the edge's mask
+  -- the new point of an edge has the value of the mask of the edge
   pub value-new : (xs : List Value) (e : ℕ × ℕ) → is_edge level e ≡ true
       → point_value (child_values level scheme xs) (point_of level e) ≡ mask_value (source_value level xs) (edge_mask level scheme (listed level e))
   value-new xs e named = value-at xs (point_of level e) ∙ ap (mask_value (source_value level xs)) (mask-new e named)
@@ -112,7 +112,7 @@ module _ (level : Level) (number : ℕ → ℤ) where
   pub number-old : (v : ℕ) → nat_lt v level.point_count ≡ true → next_number level number v ≡ pos 2 *ℤ number v
   number-old v below = cond-true (nat_lt v level.point_count) (pos 2 *ℤ number v) _ below
 
-  -- that of the new point of an edge, by the edge as it is listed
+  -- the number of the new point of an edge, from the edge as it is listed
   pub number-listed : (e : ℕ × ℕ) → next_number level number (point_of level e) ≡ number (listed level e).0 +ℤ number (listed level e).1
   number-listed e =
       let points = level.point_count in
@@ -130,6 +130,6 @@ module _ (level : Level) (number : ℕ → ℤ) where
   either-way e s (inl h) = ap (λ (t : ℕ × ℕ). number t.0 +ℤ number t.1) (sym h)
   either-way e s (inr h) = +ℤ_comm (number s.0) (number s.1) ∙ ap (λ (t : ℕ × ℕ). number t.0 +ℤ number t.1) (sym h)
 
-  -- and by the edge in either direction
+  -- the number of the new point of an edge, named in either direction
   pub number-new : (e : ℕ × ℕ) → is_edge level e ≡ true → next_number level number (point_of level e) ≡ number e.0 +ℤ number e.1
   number-new e named = number-listed e ∙ either-way e (listed level e) (edge-cases e (listed level e) (listed-same level e named))

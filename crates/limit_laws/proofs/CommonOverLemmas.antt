@@ -13,7 +13,7 @@ use Rattle.mask_laws.proofs.SumLemmas.{sum_ℤ, weighted_sum, IsOver, over-multi
 use Rattle.mask_laws.proofs.JoinedLemmas.{joined-all, joined-sum}
 use Rattle.limit_laws.proofs.SumExchangeLemmas.{sum-append}
 
--- What is true of each item of a list made of others.
+-- Properties of each item of a list made from others.
 
 all-first : {X : Type 0} (P : X → Type 0) (xs ys : List X) → AllByRecursion P (xs ++ ys) → AllByRecursion P xs
 all-first P [] ys h = tt

@@ -59,7 +59,7 @@ module _ (level : Level) (t : ℕ × ℕ) where
       (λ _. cond_both (same_edge t (e.1, point_of level e)) (half_sharpness level e e.1) (sharpness_among (halves_from level some) t) (λ s. s ≡ Smooth)
       (λ is. each e e.1 parts.0 (second-end e) is) (λ _. behind))
 
-  -- and so it is
+  -- the edge of the child level is smooth
   child-smooth : IsSharpAtBoundary level → HasSmoothHalves → edge_sharpness_of (child_level level) t ≡ Smooth
   child-smooth is each =
       let inside = first_named-all (is_inside level.point_count) (all_sides level.polygons) (sides-inside level.point_count level.polygons is.over) in
@@ -73,7 +73,7 @@ end-inside points v e h k = grind (arith, nat_tests)
 
 -- Pairs with a point in common.
 
--- what is not at one end of an edge is at the other
+-- the end of an edge that is not the first is the second
 other-half : (p n v : ℕ) (t : ℕ × ℕ) → has_end p t ≡ true → same_edge t (v, n) ≡ true → nat_eq p v ≡ false → nat_eq p n ≡ true
 other-half p n v t at same other = grind (arith, nat_tests)
 
@@ -120,7 +120,7 @@ module _ (level : Level) (is : IsSharpAtBoundary level) where
           let second : nat_eq v e.1 ≡ true = end-cases v e (end-kept v s e (same_edge-sym s e ∙ alike) ends) h in
           or_right _ _ (ap (λ n. same_edge t (point_of level e, n)) (sym (eqb-true v e.1 second)) ∙ to-end)
 
-  -- and the other way about too
+  -- a boundary edge is one in the other direction too
   turned-boundary : (a b : ℕ) → is_boundary (child_level level).polygons (a, b) ≡ true
       → is_boundary (child_level level).polygons (b, a) ≡ true
   turned-boundary a b h =

@@ -23,7 +23,7 @@ use Rattle.limit_laws.proofs.PlaceLemmas.{count-kept}
 use Rattle.mask_laws.proofs.SumLemmas.{sum_ℤ}
 use Rattle.limit_laws.proofs.SumExchangeLemmas.{sum-agree, is_once, sum-partners}
 
--- what is kept passes the test of all too
+-- an item that is kept also passes a test that all items pass
 pub kept-both : {X : Type 0} (keep test : X → Bool) (xs : List X) → list_all test xs ≡ true → list_all (λ x. keep x && test x) (filter keep xs) ≡ true
 kept-both keep test [] h = refl
 kept-both keep test (x ∷ xs) h =
@@ -109,7 +109,7 @@ module _ (level : Level) (over : is_over level.point_count level.polygons ≡ tr
       go k s named e1 e2 (inr (inr (inl h))) = absurd (no-end a (face_point level.point_count k) (point_of level s) e2 e1 ends h)
       go k s named e1 e2 (inr (inr (inr h))) = let both = in-half a s e1 ends h in record { s = s; named = named; ends = both.0; half = both.1 }
 
-  -- of just one of the edges there
+  -- each half at the point is the half of one edge
   half-once : (a : ℕ × ℕ) → (has_end v a && is_child_side a) ≡ true → is_once (λ b. same_edge a (v, point_of level b)) (edges_at level v) ≡ true
   half-once a h =
       let parts = and_parts (has_end v a) (is_child_side a) h in
@@ -166,7 +166,7 @@ module _ (level : Level) (over : is_over level.point_count level.polygons ≡ tr
   at-edges : list_all (λ b. has_end v b && is_side b) (edges_at level v) ≡ true
   at-edges = kept-both (has_end v) is_side (edges_of level.polygons) (sides-listed level.polygons)
 
-  -- So the edges there with their other ends and their sharpness are the halves with theirs.
+  -- The edges at the point, with their other ends and their sharpness, are the halves of the edges.
   pub child-ends : (h : ℕ → Sharpness → ℤ)
       → sum_ℤ (λ a. h (other_end v a) (edge_sharpness_of (child_level level) a)) (edges_at (child_level level) v)
       ≡ sum_ℤ (λ b. h (point_of level b) (half_sharpness level b v)) (edges_at level v)

@@ -46,7 +46,7 @@ pub all-numbered : {X : Type 0} (test : X → Bool) (place : ℕ) (xs : List X) 
 all-numbered test place [] = refl
 all-numbered test place (x ∷ xs) = ap (λ b. test x && b) (all-numbered test (place + 1) xs)
 
--- as they are read by their numbers
+-- a sum over items is a sum over their numbers
 pub sum-read : {X : Type 0} (d : X) (xs : List X) (h : ℕ → X → ℤ) (test : X → Bool)
     → sum_ℤ (λ k. h k (get_or xs k d)) (places_from 0 test xs) ≡ sum_ℤ (λ item. number_if (test item.1) (h item.0 item.1)) (enumerate_from 0 xs)
 sum-read d xs h test = sum-places h (λ k. get_or xs k d) d test 0 xs (λ i below. let same : 0 + i ≡ i = omega arith in ap (λ k. get_or xs k d) same)
@@ -70,7 +70,7 @@ sum-by-edges h sides edges alike named =
 
 -- Quads.
 
--- a quad with four corners, each side of which is one of the edges
+-- a quad with four corners and four sides that are edges of the list
 abbrev pub is_plain_quad : List (ℕ × ℕ) → Polygon → Bool
 is_plain_quad edges polygon = nat_eq (length polygon) 4 && (is_simple polygon && list_all (λ s. is_once (same_edge s) edges) (sides_of polygon))
 
@@ -95,7 +95,7 @@ module _ (v a b c d : ℕ) (distinct : is_distinct (a ∷ b ∷ c ∷ d ∷ []) 
   quad-ends : count_by (has_end v) (sides_of quad) ≡ 2 * one_if (has_corner v quad)
   quad-ends = grind (arith, nat_tests)
 
-  -- and one starts there
+  -- one side starts at the vertex if it is a corner
   quad-starts : count_by (λ s. nat_eq v s.0) (sides_of quad) ≡ one_if (has_corner v quad)
   quad-starts = grind (arith, nat_tests)
 
@@ -119,9 +119,9 @@ module _ (v a b c d : ℕ) (distinct : is_distinct (a ∷ b ∷ c ∷ d ∷ []) 
       here false true false true h k m n = absurd (grind (arith, nat_tests))
       here false false true true h k m n = absurd (grind (arith, nat_tests))
 
--- What is known of plain quads.
+-- Facts of plain quads.
 module _ (v : ℕ) (edges : List (ℕ × ℕ)) where
-  -- of four corners and distinct
+  -- the quad has four distinct corners
   distinct-quad : (polygon : Polygon) → is_plain_quad edges polygon ≡ true → is_distinct polygon ≡ true
   distinct-quad polygon h =
       let parts = and_parts (nat_eq (length polygon) 4) (is_simple polygon && list_all (λ s. is_once (same_edge s) edges) (sides_of polygon)) h in

@@ -17,7 +17,7 @@ use Rattle.mesh_laws.proofs.ChildFaceLemmas.{all-child, child-simple}
 use Rattle.mesh_laws.proofs.ChildOverLemmas.{listed-sound}
 use Rattle.mesh_laws.proofs.PointLemmas.{among-themselves, boundary-side}
 
--- what is known of an edge of one face
+-- facts of an edge of one face
 pub record IsEdgeOfOne (points : ℕ) (polygons : List Polygon) (e : ℕ × ℕ) : Type 0 where
   pub named : is_named points polygons e ≡ true
   pub inside : is_inside points e ≡ true
@@ -27,11 +27,11 @@ pub record IsEdgeOfOne (points : ℕ) (polygons : List Polygon) (e : ℕ × ℕ)
 alike-inside : (points : ℕ) (e s : ℕ × ℕ) → same_edge e s ≡ true → is_inside points s ≡ true → is_inside points e ≡ true
 alike-inside points e s h k = grind (arith, nat_tests)
 
--- and one between two points where that is
+-- equal edges both have two different ends
 alike-apart : (e s : ℕ × ℕ) → same_edge e s ≡ true → nat_eq s.0 s.1 ≡ false → nat_eq e.0 e.1 ≡ false
 alike-apart e s h k = grind (arith, nat_tests)
 
--- the same edge ends where the edge does
+-- equal edges have the same ends
 pub end-kept : (v : ℕ) (s t : ℕ × ℕ) → same_edge s t ≡ true → has_end v s ≡ true → has_end v t ≡ true
 end-kept v s t h k = grind (arith, nat_tests)
 
@@ -44,7 +44,7 @@ module _ (points : ℕ) (polygons : List Polygon) (over : is_over points polygon
   abbrev children : List Polygon
   children = child_polygons points polygons
 
-  -- are simple
+  -- the children are simple
   pub children-simple : list_all is_simple children ≡ true
   children-simple = child-simple points polygons children (all-child points polygons over simple)
 
@@ -61,7 +61,7 @@ module _ (points : ℕ) (polygons : List Polygon) (over : is_over points polygon
         apart = alike-apart e found.0 found.1 (no-loop polygons found.0 simple found.2);
       }
 
-  -- as many faces have a side or the reverse of it
+  -- the faces of an edge are those of its side and of the reverse
   faces-both : (list : List Polygon) → list_all is_simple list ≡ true → (e : ℕ × ℕ) → nat_eq e.0 e.1 ≡ false
       → length (faces_of_edge list e) ≡ times_used list e + times_used list (reversed e)
   faces-both list plain e apart = faces-count e 0 list plain ∙ edge-count e (all_sides list) apart
@@ -84,7 +84,7 @@ module _ (points : ℕ) (polygons : List Polygon) (over : is_over points polygon
         ∙ ap (λ n. times_used polygons e + n) into
         ∙ sym (faces-both polygons simple e is.apart)
 
-    -- and the half at its second
+    -- the half at the second end has as many faces as the edge
     second-half : length (faces_of_edge children (e.1, edge_point points polygons e)) ≡ length (faces_of_edge polygons e)
     second-half =
         let ends = and_parts (nat_lt e.0 points) (nat_lt e.1 points) is.inside in

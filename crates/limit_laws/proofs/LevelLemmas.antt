@@ -32,7 +32,7 @@ use Rattle.limit_laws.proofs.StepLemmas.{ArePositive, source-positive, children-
 
 -- Levels of quads.
 
--- the next level of any has quads alone
+-- the next level of any level has only quads
 along-quads : (points : ℕ) (polygons : List Polygon) (k : ℕ) (before : ℕ × ℕ) (sides : List (ℕ × ℕ))
     → list_all (λ p. nat_eq (length p) 4) (child_faces_along points polygons k before sides) ≡ true
 along-quads points polygons k before [] = refl
@@ -45,7 +45,7 @@ child-quads level =
     ∙ all-always (λ face. list_all (λ p. nat_eq (length p) 4) (parts face))
     (λ face. along-quads level.point_count level.polygons face.0 (last_of (0, 0) (sides_of face.1)) (sides_of face.1)) (enumerate_from 0 level.polygons)
 
--- so has each further level of one that has
+-- later levels of a level of quads have only quads
 more-quads : (level : Level) (k j : ℕ) → has_quads (refined_level level k) ≡ true → has_quads (refined_level level (k + j)) ≡ true
 more-quads level k zero h = let same : k ≡ k + 0 = omega arith in ap (λ n. has_quads (refined_level level n)) (sym same) ∙ h
 more-quads level k (suc j) h =

@@ -149,7 +149,7 @@ same-number : (m n : ℕ) → pos m *ℤ pos 1 ≡ pos n *ℤ pos 1 → m ≡ n
 same-number m n h = let e : pos m ≡ pos n = sym (times-one (pos m)) ∙ h ∙ times-one (pos n) in omega (arith, ints, e)
 
 module _ (level : Level) (over : is_over level.point_count level.polygons ≡ true) (simple : list_all is_simple level.polygons ≡ true) (v : ℕ) (below : nat_lt v level.point_count ≡ true) where
-  -- as many edges pass a test there as halves
+  -- as many edges pass a test at the point as halves do
   pub child-count : (test : Sharpness → Bool) → count_by test (ring_at (child_level level) v) ≡ count_by test (child_ring level.method (ring_at level v))
   child-count test =
       let sums = child-ends level over simple v below (λ n s. number_if (test s) (pos 1)) in

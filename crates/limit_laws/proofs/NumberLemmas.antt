@@ -18,7 +18,7 @@ over-more : (k c : ℕ) (x : Value) (n : ℤ) → IsOver c x n → IsOver (k * c
 over-more k c x n h =
     sym (pos-assoc k c x.num) ∙ ap (λ z. pos k *ℤ z) h ∙ pos-swap k x.den n
 
--- and back
+-- the common factor can be removed again
 over-less : (k c : ℕ) (x : Value) (n : ℤ) → 0 < k → IsOver (k * c) x (pos k *ℤ n) → IsOver c x n
 over-less k c x n some h =
     pos-cancel k (pos c *ℤ x.num) (pos x.den *ℤ n) some (pos-assoc k c x.num ∙ h ∙ pos-swap x.den k n)
@@ -73,7 +73,7 @@ module _ (m : ℕ) (value : SourcePoint → Value) (number : ℕ → ℤ) where
       product-positive (q * (value t.source).den) (value_of_terms value terms q).den
       (product-positive q (value t.source).den some each.0) (terms-proper terms q some each.1)
 
-  -- and its denominator is above 0 where theirs are
+  -- the denominator of a mask's value is above 0 if those of its sources are
   mask-proper : (terms : List Term) (q : ℕ) → 0 < q → AreProper terms → 0 < (mask_value value (mask_of terms q)).den
   mask-proper terms q some each = terms-proper (mask_of terms q).terms q some (joined-all (λ s. 0 < (value s).den) terms q each)
 

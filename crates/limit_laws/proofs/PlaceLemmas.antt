@@ -5,14 +5,14 @@ use Rattle.std.proofs.lemmas.Bool.{and_from, cond_both, cond-true, cond-false}
 use Rattle.subdiv_model.specs.Lists.{places_from}
 use Rattle.number_laws.proofs.CountLemmas.{one_if, one-yes, one-no, count-cons}
 
--- what is kept passes
+-- kept items pass the test
 pub kept-pass : {X : Type 0} (keep : X → Bool) (xs : List X) → list_all keep (filter keep xs) ≡ true
 kept-pass keep [] = refl
 kept-pass keep (x ∷ xs) =
     cond_both (keep x) (x ∷ filter keep xs) (filter keep xs) (λ l. list_all keep l ≡ true)
     (λ yes. and_from _ _ yes (kept-pass keep xs)) (λ _. kept-pass keep xs)
 
--- what passes among what is kept, passes both
+-- counting the kept items that pass counts the items that pass both
 pub count-kept : {X : Type 0} (keep test : X → Bool) (xs : List X) → count_by test (filter keep xs) ≡ count_by (λ x. keep x && test x) xs
 count-kept keep test [] = refl
 count-kept keep test (x ∷ xs) =
@@ -39,7 +39,7 @@ module _ {X : Type 0} (test : X → Bool) (d : X) where
   placed : (n : ℕ) (x : X) (xs : List X) → test x ≡ true → places_from n test (x ∷ xs) ≡ n ∷ places_from (n + 1) test xs
   placed n x xs e = cond-true (test x) (n ∷ places_from (n + 1) test xs) (places_from (n + 1) test xs) e
 
-  -- and where it does not
+  -- an item that does not pass adds no place
   skipped : (n : ℕ) (x : X) (xs : List X) → test x ≡ false → places_from n test (x ∷ xs) ≡ places_from (n + 1) test xs
   skipped n x xs e = cond-false (test x) (n ∷ places_from (n + 1) test xs) (places_from (n + 1) test xs) e
 
@@ -128,7 +128,7 @@ module _ {X : Type 0} (test : X → Bool) (d : X) where
   some-count (x ∷ xs) zero h p = omega (arith, count-cons test x xs, one-yes (test x) p)
   some-count (x ∷ xs) (suc i) h p = omega (arith, count-cons test x xs, some-count xs i (omega arith) p)
 
-  -- and twice at two places
+  -- two places that pass count at least two
   pub two-count : (xs : List X) (i j : ℕ) → i < j → j < length xs → test (get_or xs i d) ≡ true → test (get_or xs j d) ≡ true
       → 2 ≤ count_by test xs
   two-count [] i j o h p q = absurd (omega arith)

@@ -52,7 +52,7 @@ pub data StaysCorner (vertex : Sharpness) (ring : List Sharpness) : Type 0 where
   bare : length ring ≡ 0 → StaysCorner vertex ring
   edges : 3 ≤ count_by is_infinite ring → StaysCorner vertex ring
 
--- it has that rule
+-- the lasting rule of the vertex is corner
 pub corner-lasts : (vertex : Sharpness) (ring : List Sharpness) → StaysCorner vertex ring → lasting_rule vertex ring ≡ CornerRule
 corner-lasts vertex ring (itself e) = ap (λ s. lasting_rule s ring) e
 corner-lasts vertex ring (bare e) =
@@ -62,7 +62,7 @@ corner-lasts vertex ring (edges h) =
     cond_both (is_infinite vertex || nat_eq (length ring) 0) CornerRule (rule_of_sharp_edges (places is_infinite ring)) (λ r. r ≡ CornerRule)
     (λ _. refl) (λ _. three-corner (places is_infinite ring) (omega (arith, h, places-from-length is_infinite 0 ring)))
 
--- what is infinite is sharp
+-- an infinite sharpness is sharp
 infinite-sharp : (s : Sharpness) → one_if (is_infinite s) ≤ one_if (is_sharp s)
 infinite-sharp Smooth = omega arith
 infinite-sharp (Semi num den) = omega arith
@@ -72,7 +72,7 @@ more-sharp : (ring : List Sharpness) → count_by is_infinite ring ≤ count_by 
 more-sharp [] = omega arith
 more-sharp (s ∷ ring) = omega (arith, count-cons is_infinite s ring, count-cons is_sharp s ring, infinite-sharp s, more-sharp ring)
 
--- and so it has in its level
+-- the vertex has the corner rule in its level
 pub corner-now : (vertex : Sharpness) (ring : List Sharpness) → StaysCorner vertex ring → vertex_rule vertex ring ≡ CornerRule
 corner-now vertex ring (itself e) = ap (λ s. vertex_rule s ring) e
 corner-now vertex ring (bare e) =
@@ -84,7 +84,7 @@ corner-now vertex ring (edges h) =
 
 -- Where nothing is semi-sharp.
 
--- the point is smooth and has edges, none of them semi-sharp
+-- the point is smooth and has edges, but no semi-sharp edge
 pub record IsPlain (vertex : Sharpness) (ring : List Sharpness) : Type 0 where
   pub smooth : vertex ≡ Smooth
   pub semi : list_any is_semi_sharp ring ≡ false
@@ -98,7 +98,7 @@ plain-rule vertex ring is =
     cond-false (is_infinite vertex || nat_eq (length ring) 0) CornerRule (rule_of_sharp_edges (places is_infinite ring))
     (ap (λ s. is_infinite s || nat_eq (length ring) 0) is.smooth ∙ is.some)
 
--- what is not semi-sharp is sharp where it is infinite
+-- sharpness that is not semi-sharp is sharp exactly where it is infinite
 sharp-places : (place : ℕ) (ring : List Sharpness) → list_any is_semi_sharp ring ≡ false → places_from place is_sharp ring ≡ places_from place is_infinite ring
 sharp-places place [] h = refl
 sharp-places place (Smooth ∷ ring) h = sharp-places (place + 1) ring h
@@ -111,7 +111,7 @@ plain-now vertex ring is =
     (ap (λ s. is_sharp s || nat_eq (length ring) 0) is.smooth ∙ is.some)
     ∙ ap rule_of_sharp_edges (sharp-places 0 ring is.semi)
 
--- and stays as it is
+-- a ring without semi-sharp edges keeps its sharpness
 pub plain-stays : (ring : List Sharpness) → list_any is_semi_sharp ring ≡ false → list_all (λ s. not (is_semi_sharp s)) ring ≡ true
 plain-stays [] h = refl
 plain-stays (Smooth ∷ ring) h = plain-stays ring h
@@ -133,7 +133,7 @@ no-semi : (v : ℕ) (semi : Bool) (limit : Result Mask LimitCause) (mask : Mask)
 no-semi v true limit mask h = absurd (cc)
 no-semi v false limit mask h = refl
 
--- what is neither infinite nor semi-sharp is smooth
+-- sharpness that is neither infinite nor semi-sharp is smooth
 neither : (s : Sharpness) → is_infinite s ≡ false → is_semi_sharp s ≡ false → s ≡ Smooth
 neither Smooth h k = refl
 neither (Semi num den) h k = absurd (false≢true (sym k))

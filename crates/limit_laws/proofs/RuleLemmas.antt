@@ -46,7 +46,7 @@ same-rule vertex vertex_child ring ring_child v ends faces rule one two same =
     cond-true (same_mask parent child) here there (ap (λ r. same_mask r child) one ∙ ap (same_mask rule) two ∙ same)
     ∙ ap (mask_of_rule v ends faces) one
 
--- what is not semi-sharp stays so
+-- sharpness that is not semi-sharp stays
 pub stays : (method : Method) (ring : List Sharpness) (s : Sharpness) → not (is_semi_sharp s) ≡ true → half_child method ring s ≡ s
 stays method ring (Semi num den) h = absurd (false≢true h)
 stays Normal ring Smooth h = refl
@@ -54,7 +54,7 @@ stays Chaikin ring Smooth h = refl
 stays Normal ring Infinite h = refl
 stays Chaikin ring Infinite h = refl
 
--- so a ring without semi-sharp edges stays as it is
+-- a ring without semi-sharp edges stays as it is
 pub ring-stays : (method : Method) (all ring : List Sharpness) → list_all (λ s. not (is_semi_sharp s)) ring ≡ true
     → map (half_child method all) ring ≡ ring
 ring-stays method all [] h = refl
@@ -79,11 +79,11 @@ not-both p a b e apart = grind (arith, nat_tests)
 ends-there : (p a : ℕ) (e : ℕ × ℕ) → (has_end p e && same_edge (p, a) e) ≡ same_edge (p, a) e
 ends-there p a e = grind (arith, nat_tests)
 
--- and what does not end there is none of the two
+-- an edge that does not end at the point is none of the two
 no-end : (p a b : ℕ) (e : ℕ × ℕ) → has_end p e ≡ false → (same_edge e (p, a) || same_edge e (p, b)) ≡ false
 no-end p a b e h = grind (arith, nat_tests)
 
--- what is infinite or smooth by a test: it is sharp where the test holds, and never semi-sharp
+-- a choice of infinite and smooth by a test is sharp where the test holds, and never semi-sharp
 choice-sharp : (b : Bool) → is_sharp (if b then Infinite else Smooth) ≡ b
 choice-sharp true = refl
 choice-sharp false = refl
@@ -123,11 +123,11 @@ module _ (level : Level) (is : IsSharpAtBoundary level) (p a b : ℕ) (crease : 
   crease-edge : (e : ℕ × ℕ) → has_end p e ≡ true → edge_sharpness_of level e ≡ (if along e then Infinite else Smooth)
   crease-edge e at = choice-whole (along e) (edge_sharpness_of level e) (along-infinite e) (crease.rest e at)
 
-  -- so it is sharp where it is one of the two
+  -- an edge at the point is sharp where it is one of the two
   edge-sharp : (e : ℕ × ℕ) → has_end p e ≡ true → sharp_at e ≡ along e
   edge-sharp e at = ap is_sharp (crease-edge e at) ∙ choice-sharp (along e)
 
-  -- and never semi-sharp
+  -- an edge at the point is never semi-sharp
   edge-plain : (e : ℕ × ℕ) → has_end p e ≡ true → not (is_semi_sharp (edge_sharpness_of level e)) ≡ true
   edge-plain e at = ap (λ s. not (is_semi_sharp s)) (crease-edge e at) ∙ choice-plain (along e)
 
@@ -145,14 +145,14 @@ module _ (level : Level) (is : IsSharpAtBoundary level) (p a b : ℕ) (crease : 
       let there = boundary-named level is.simple (p, c) alone in
       omega (arith, first_named-once (p, c) (all_sides level.polygons), count-some (same_edge (p, c)) (edges_of level.polygons) there)
 
-  -- and once at the point
+  -- the edge is listed once at the point
   once-there : (c : ℕ) → is_boundary level.polygons (p, c) ≡ true → count_by (same_edge (p, c)) (edges_at level p) ≡ 1
   once-there c alone =
       count-kept (has_end p) (same_edge (p, c)) (edges_of level.polygons)
       ∙ count-agree (λ e. has_end p e && same_edge (p, c) e) (same_edge (p, c)) (ends-there p c) (edges_of level.polygons)
       ∙ once c alone
 
-  -- so two edges at the point are sharp
+  -- two edges at the point are sharp
   two-sharp : count_by sharp_at (edges_at level p) ≡ 2
   two-sharp =
       let edges = edges_of level.polygons in
@@ -163,7 +163,7 @@ module _ (level : Level) (is : IsSharpAtBoundary level) (p a b : ℕ) (crease : 
       let split = sum-plus (λ e. one_if (same_edge (p, a) e)) (λ e. one_if (same_edge (p, b) e)) edges in
       count-kept (has_end p) sharp_at edges ∙ sums ∙ split ∙ omega (arith, once a crease.to_a, once b crease.to_b)
 
-  -- their places in the ring
+  -- the places of the two edges in the ring
   places-two : HasTwoPlaces sharp_at (0, 0) 0 (edges_at level p)
   places-two = two-placed sharp_at (0, 0) 0 (edges_at level p) two-sharp
 
@@ -195,7 +195,7 @@ module _ (level : Level) (is : IsSharpAtBoundary level) (p a b : ℕ) (crease : 
       not-none : (n j : ℕ) → j < n → nat_eq n 0 ≡ false
       not-none n j h = grind (arith, nat_tests)
 
-  -- so its mask is that of a crease between the ends of the two
+  -- the mask of the point is that of a crease between the ends of the two edges
   mask-at : vertex_mask level CatmullClark p
       ≡ crease_mask p (get_or (ends_at level p) places-two.i 0) (get_or (ends_at level p) places-two.j 0)
   mask-at =
@@ -215,7 +215,7 @@ module _ (level : Level) (is : IsSharpAtBoundary level) (p a b : ℕ) (crease : 
   end-at : (c i : ℕ) → i < length (edges_at level p) → same_edge (edge_at i) (p, c) ≡ true → get_or (ends_at level p) i 0 ≡ c
   end-at c i h same = get_or-map (other_end p) (edges_at level p) i (0, 0) 0 h ∙ other-alike p c (edge_at i) same
 
-  -- no edge stands at two places
+  -- no edge has two places
   never-twice : (c i j : ℕ) → is_boundary level.polygons (p, c) ≡ true → i < j → j < length (edges_at level p)
       → same_edge (edge_at i) (p, c) ≡ true → same_edge (edge_at j) (p, c) ≡ true → ⊥
   never-twice c i j alone order within first second =

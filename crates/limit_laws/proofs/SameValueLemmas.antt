@@ -31,7 +31,7 @@ pub mask-positive : (value : SourcePoint → Value) (mask : Mask) → ((s : Sour
     → 0 < (mask_value value mask).den
 mask-positive value mask positive some = terms-positive value positive mask.denominator mask.terms some
 
--- and so is that of a face's mask, even of one without corners
+-- the denominator of a face mask's value is above 0, even without corners
 pub corners-positive : (value : SourcePoint → Value) (corners : List ℕ) → ((s : SourcePoint) → 0 < (value s).den)
     → 0 < (mask_value value (mask_of_corners corners)).den
 corners-positive value [] positive = omega arith

@@ -1,4 +1,4 @@
--- What is known of the edges at a smooth point of a level whose boundary is infinitely sharp.
+-- Facts of the edges at a smooth point of a level whose boundary is infinitely sharp.
 use Rattle.std.proofs.Common.{◌≡◌, ℕ, suc, ◌+◌, ◌<◌, ◌≤◌, Bool, true, false, not, ◌&&◌, ◌||◌, nat_eq, nat_lt, ℤ, pos, ◌+ℤ◌, ◌*ℤ◌, List, [], ◌∷◌, length, get_or, arith, refl, ap, sym, ◌∙◌}
 use Rattle.std.specs.List.{AllByRecursion, filter, list_all, list_any, count_by, position_or_len}
 use Rattle.std.proofs.lemmas.Bool.Decides.{nat_tests}
@@ -48,7 +48,7 @@ both-pass p q (x ∷ xs) h k =
     let qs = and_parts (q x) (list_all q xs) k in
     and_from _ _ (and_from _ _ ps.0 qs.0) (both-pass p q xs ps.1 qs.1)
 
--- where none of what is kept passes, none passes that is kept
+-- if no kept item passes, no item passes and is kept
 none-kept : {X : Type 0} (keep test : X → Bool) (xs : List X) → list_all (λ x. not (test x)) (filter keep xs) ≡ true → list_any (λ x. test x && keep x) xs ≡ false
 none-kept keep test [] h = refl
 none-kept keep test (x ∷ xs) h =
@@ -69,7 +69,7 @@ none-kept keep test (x ∷ xs) h =
 
 -- Edges.
 
--- each edge stands in the list where its number says
+-- an edge listed once has its place as its number
 own-place : (edges : List (ℕ × ℕ)) (k : ℕ) → k < length edges → count_by (same_edge (get_or edges k (0, 0))) edges ≤ 1
     → position_or_len (same_edge (get_or edges k (0, 0))) edges ≡ k
 own-place edges k h once =
@@ -143,7 +143,7 @@ module _ (level : Level) (is : IsSharpAtBoundary level) (quads : has_quads level
     smooth-edges =
         sym (list_all-map is_smooth (edge_sharpness_of level) (edges_at level v)) ∙ smooth-ring (ring_at level v) plain.semi none
 
-    -- so none is of one face
+    -- no smooth edge has one face
     not-alone : (e : ℕ × ℕ) → is_smooth (edge_sharpness_of level e) ≡ true → is_boundary level.polygons e ≡ false
     not-alone e smooth =
         false_from_ne_true (is_boundary level.polygons e) (λ alone.
@@ -155,7 +155,7 @@ module _ (level : Level) (is : IsSharpAtBoundary level) (quads : has_quads level
         none-kept (has_end v) (is_boundary level.polygons) (edges_of level.polygons)
         (all-weaker (λ e. is_smooth (edge_sharpness_of level e)) (λ e. not (is_boundary level.polygons e)) (λ e smooth. ap not (not-alone e smooth)) (edges_at level v) smooth-edges)
 
-    -- and each is of two
+    -- each edge at the point has two faces
     two-faces : list_all (λ e. nat_eq (length (faces_of_edge level.polygons e)) 2) (edges_at level v) ≡ true
     two-faces =
         all-weaker (λ e. is_smooth (edge_sharpness_of level e) && (has_end v e && (is_boundary level.polygons e || nat_eq (length (faces_of_edge level.polygons e)) 2)))

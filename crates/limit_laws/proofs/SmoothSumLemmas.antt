@@ -93,7 +93,7 @@ corners-over value m f corners k x n four at_corners positive over is =
     once : (a : ℤ) → pos 1 *ℤ a ≡ a
     once a = omega (arith, ints)
 
--- what the faces stand for in the level itself, where `point` gives its points
+-- the sums over the faces in the level itself, where `point` gives its points
 module _ (value point : SourcePoint → Value) (m : ℕ) (f : SourcePoint → ℤ) (corners : ℕ → List ℕ) (some : 0 < m)
     (positive : (s : SourcePoint) → 0 < (value s).den) (at_point : (p : ℕ) → value (OfPoint p) ≡ point (OfPoint p)) where
   points-too : (points : List ℕ) → AllByRecursion (λ p. IsOver m (value (OfPoint p)) (f (OfPoint p))) points

@@ -63,7 +63,7 @@ module _ (value next point : SourcePoint → Value) (v : ℕ) (edges : List (ℕ
         at_beside = all-of_parts S beside edges of_faces.1;
       }
 
-  -- and the points of the next level over k
+  -- the points of the next level are whole over k
   record AreOverNext (k : ℕ) (h : ℕ → ℤ) : Type 0 where
     at_v : IsOver k (next (OfPoint v)) (h v)
     at_ends : AllByRecursion (λ p. IsOver k (next (OfPoint p)) (h p)) ends_next

@@ -1,4 +1,4 @@
--- What is known of a point away from the boundary, and of the values about it in two levels.
+-- Facts of a point off the boundary, and of the values around it in two levels.
 use Rattle.std.proofs.Common.{◌≡◌, ℕ, ◌<◌, ℤ, pos, ◌+ℤ◌, ◌*ℤ◌, List, length, map}
 use Rattle.std.specs.List.{AllByRecursion}
 use Rattle.subdiv_model.specs.Mask.{SourcePoint, OfPoint, OfFace, smooth_vertex_mask, smooth_edge_mask, mask_of_corners, other_end}
@@ -16,7 +16,7 @@ pub record IsSmoothStar (v : ℕ) (edges : List (ℕ × ℕ)) (faces opposites :
   pub by_corners : (g : ℕ → ℤ) → sum_ℤ (λ f. sum_ℤ g (corners f)) faces
       ≡ (pos (length edges) *ℤ g v +ℤ pos 2 *ℤ sum_ℤ (λ e. g (other_end v e)) edges) +ℤ sum_ℤ g opposites
 
--- `value` gives a level's points and faces, `point` its points alone, `next` the points of the next level
+-- `value` gives the points and faces of a level, `point` its points, and `next` the points of the next level
 pub record AreValues (value next point : SourcePoint → Value) : Type 0 where
   pub positive : (s : SourcePoint) → 0 < (value s).den
   pub positive_next : (s : SourcePoint) → 0 < (next s).den

@@ -123,7 +123,7 @@ module _ (level : Level) (is : IsSharpAtBoundary level) (means : has_means level
   next-positive : (s : SourcePoint) → 0 < (next s).den
   next-positive s = source-positive (child_level level) next_values s (children-positive level values means each)
 
-  -- what is known of an edge at the point
+  -- facts of an edge at the point
   record IsAtPoint (e : ℕ × ℕ) : Type 0 where
     ends : has_end v e ≡ true
     named : is_edge level e ≡ true

@@ -8,7 +8,7 @@ use Rattle.number_laws.proofs.CountLemmas.{one_if, count-cons}
 use Rattle.number_laws.proofs.WholeNumberLemmas.{pos-sum, pos-distrib, swap_middle, times-one}
 use Rattle.mask_laws.proofs.SumLemmas.{sum_ℤ}
 
--- so many times, by a test: the number where it passes, and 0 where it does not
+-- the number if the test passes, and 0 if not
 abbrev pub number_if : Bool → ℤ → ℤ
 number_if b n = pos (one_if b) *ℤ n
 
@@ -26,7 +26,7 @@ number-alike false m n h = zero-*ℤ m ∙ sym (zero-*ℤ n)
 pub sum-same : {X : Type 0} (f g : X → ℤ) → ((x : X) → f x ≡ g x) → (xs : List X) → sum_ℤ f xs ≡ sum_ℤ g xs
 sum-same f g h xs = λ i. sum_ℤ (λ x. h x i) xs
 
--- and where they are equal at what passes alone, of lists where all passes
+-- sums are equal if the functions agree where all items pass
 pub sum-agree : {X : Type 0} (keep : X → Bool) (f g : X → ℤ) → ((x : X) → keep x ≡ true → f x ≡ g x) → (xs : List X) → list_all keep xs ≡ true
     → sum_ℤ f xs ≡ sum_ℤ g xs
 sum-agree keep f g same [] h = refl
@@ -61,7 +61,7 @@ pub sum-flat : {X Y : Type 0} (f : Y → ℤ) (parts : X → List Y) (xs : List 
 sum-flat f parts [] = refl
 sum-flat f parts (x ∷ xs) = sum-append f (parts x) (flat_map parts xs) ∙ ap (λ n. sum_ℤ f (parts x) +ℤ n) (sum-flat f parts xs)
 
--- what is kept counts, and all else counts as 0
+-- a sum over kept items is a sum in which the other items count 0
 pub sum-kept : {X : Type 0} (keep : X → Bool) (f : X → ℤ) (xs : List X) → sum_ℤ f (filter keep xs) ≡ sum_ℤ (λ x. number_if (keep x) (f x)) xs
 sum-kept keep f [] = refl
 sum-kept keep f (x ∷ xs) =

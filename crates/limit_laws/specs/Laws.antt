@@ -1,6 +1,6 @@
--- What the laws of limit points speak of: limit masks with values, and where a further level has the same.
--- Source: this profile.
-use Rattle.std.specs.Prelude.{◌≡◌, ℕ, ◌<◌, ℤ, List, Ok, IsTrue}
+-- Limit masks and their values at a level and at later levels, for the laws of limit points.
+-- Source: Drillolive.
+use Rattle.std.specs.Prelude.{◌≡◌, ℕ, ◌+◌, ◌<◌, ℤ, List, Ok, IsTrue}
 use Rattle.std.specs.List.{All}
 use Rattle.subdiv_model.specs.Level.{Level}
 use Rattle.subdiv_model.specs.Child.{refined_level}
@@ -14,7 +14,8 @@ use Rattle.mask_laws.specs.Laws.{IsManifoldWithSharpBoundary}
 abbrev pub value_in : Level → List Value → Mask → Value
 value_in level values mask = mask_value (source_value level values) mask
 
--- Point v has this limit mask in a manifold of quads with a sharp boundary. The values of the points are over denominators above 0.
+-- Point v has this limit mask in a manifold of quads with a sharp boundary. The values of the points are over denominators above
+-- 0.
 pub record LimitPoint : Type 0 where
   pub level : Level
   pub well : IsManifoldWithSharpBoundary level
@@ -26,8 +27,8 @@ pub record LimitPoint : Type 0 where
   pub mask : Mask
   pub is : limit_of level v ≡ Ok mask
 
--- Point v has this limit mask in the level after k steps from a manifold with a sharp boundary, where that level has quads alone. The
--- values are those that control numbers are refined to.
+-- Point v has this limit mask after k steps from a manifold with a sharp boundary, in a level of quads only. The values are
+-- refined from control numbers.
 pub record RefinedLimitPoint : Type 0 where
   pub base : Level
   pub well : IsManifoldWithSharpBoundary base
@@ -39,17 +40,23 @@ pub record RefinedLimitPoint : Type 0 where
   pub mask : Mask
   pub is : limit_of (refined_level base k) v ≡ Ok mask
 
--- the values that controls are refined to in so many steps
+-- the values that control numbers are refined to after a number of steps
 abbrev pub values_after : Level → List ℤ → ℕ → List Value
 values_after base controls k = refined_values base CatmullClark (control_values controls) k
 
--- the limit of a point after so many steps
+-- the limit of a point after a number of steps
 abbrev pub limit_after : Level → List ℤ → ℕ → ℕ → Value
 limit_after base controls k v = point_value (limit_values (refined_level base k) (values_after base controls k)) v
 
--- Point v has a limit mask in this level too, and it gives the value x. Both are over denominators above 0.
+-- Point v has a limit mask in this level that gives the value x. Both values are over denominators above 0.
 pub record HasLimit (level : Level) (values : List Value) (v : ℕ) (x : Value) : Type 0 where
   pub mask : Mask
   pub is : limit_of level v ≡ Ok mask
   pub same : IsSameValue x (value_in level values mask)
   pub above_zero : (0 < x.den) × (0 < (value_in level values mask).den)
+
+-- The point keeps the value of its limit mask after so many further steps: it has a limit mask there too, which gives the same value.
+abbrev pub KeepsLimit : RefinedLimitPoint → ℕ → Type 0
+KeepsLimit point j =
+    HasLimit (refined_level point.base (point.k + j)) (values_after point.base point.controls (point.k + j)) point.v
+    (value_in (refined_level point.base point.k) (values_after point.base point.controls point.k) point.mask)

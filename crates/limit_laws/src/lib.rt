@@ -1,6 +1,6 @@
-//! Laws of limit points: a further step of refinement leaves them as they are.
+//! Laws of limit points: refining a level by further steps does not move them.
 //!
-//! Each public function here takes nothing, does nothing and returns nothing: its clauses are the laws.
+//! Each public function has an empty body: its clauses are the laws.
 #![tactic(auto)]
 
 pub mod steps;

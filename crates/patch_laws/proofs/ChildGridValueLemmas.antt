@@ -35,7 +35,7 @@ module _ (level : Level) (well : IsManifoldWithSharpBoundary level) (values : Li
   abbrev IsAt : List (List ℕ) → ℕ → ℕ → Value → Type 0
   IsAt grid i j x = IsSameValue x (value_in level values (tensor_mask (subdivision_weights i) (subdivision_weights j) grid 64))
 
-  -- it is where both are one number
+  -- the value is that of the mask if both are one number
   mask-at : (grid : List (List ℕ)) (i j : ℕ) (x : Value) (n : ℤ) → grid ≡ listed_grid grid → IsOver (64 * m) x n → n ≡ weights_sum grid i j → IsAt grid i j x
   mask-at grid i j x n listed over same =
       let along = subdivision_weights i in
@@ -74,7 +74,7 @@ module _ (level : Level) (well : IsManifoldWithSharpBoundary level) (values : Li
     along i j below_i below_j end =
         edge-middle level well values m g are _ _ _ _ _ _ (is.quads i (j + 1) below_i (omega arith)) (turned-quad (turned-quad (is.quads i j below_i (omega arith)))) end
 
-    -- and one across them, between a quad on the left and one on the right
+    -- an edge across the rows, between a quad on the left and one on the right
     across : (i j : ℕ) → i < 2 → j < 3 → IsRegularAt (i + 1) j ⊎ IsRegularAt (i + 1) (j + 1)
         → IsOver (64 * m) (next_value level values (across_of level grid (i + 1) j))
         (pos 24 *ℤ (number (i + 1) j +ℤ number (i + 1) (j + 1))

@@ -81,7 +81,7 @@ plus-combined (v ∷ weights) (w ∷ others) x =
     ∙ ap (λ n. n +ℤ (combined weights (λ i. x (suc i)) +ℤ combined others (λ i. x (suc i)))) (pos-sum v w (x 0))
     ∙ ap (λ n. pos (v + w) *ℤ x 0 +ℤ n) (plus-combined weights others (λ i. x (suc i)))
 
--- the weights of a point of the next level, so many times, beside others
+-- w times the weights of a point of the next level, plus other weights
 abbrev beside : ℕ → ℕ → List ℕ → List ℕ
 beside w i others = plus_weights (times_weights w (subdivision_weights i)) others
 

@@ -40,7 +40,7 @@ gathered k a b c =
     ∙ ap (λ n. pos k *ℤ a +ℤ n) (sym (pos-distrib k (pos 4 *ℤ b) c))
     ∙ sym (pos-distrib k a (pos 4 *ℤ b +ℤ c))
 
--- four numbers by 1, 4, 1 and 0, so many times
+-- four numbers with the weights 1, 4, 1 and 0, times k
 row-sum : (k : ℕ) (y : ℕ → ℤ) → combined (k ∷ 4 * k ∷ k ∷ 0 ∷ []) y ≡ pos k *ℤ (y 0 +ℤ (pos 4 *ℤ y 1 +ℤ y 2))
 row-sum k y =
     parts (pos k *ℤ y 0) (pos k *ℤ y 1) (pos k *ℤ y 2) (pos (4 * k) *ℤ y 1) (pos 0 *ℤ y 3) (sym (pos-assoc 4 k (y 1))) (zero-*ℤ (y 3))
@@ -90,7 +90,7 @@ corner-terms f m (suc (suc (suc zero))) grid below listed =
     sym (third-corner f m 0 0 grid (omega arith) (omega arith) listed ∙ ap (λ n. weighted_sum f (place_terms m 0 n grid)) (all-left m))
 corner-terms f m (suc (suc (suc (suc c)))) grid below listed = absurd (omega arith)
 
--- and the point there is the corner of the quad in the middle
+-- the point at the corner is the corner of the quad in the middle
 corner-at : (c : ℕ) (grid : List (List ℕ)) → c < 4 → get_or (inner_corners grid) c 0 ≡ grid_at (grid_from c grid) 1 1
 corner-at zero grid below = refl
 corner-at (suc zero) grid below = refl
@@ -172,7 +172,7 @@ module _ (level : Level) (well : IsManifoldWithSharpBoundary level) (values : Li
     first-corner : (steps : ℕ) → 0 < steps → IsSameValue (value_in level values (place_mask steps 0 0 grid)) (value_in level values limit)
     first-corner steps some = let have = have-numbers values positive in same-corner have.m have.number have.are steps some
 
-  -- and so it is at each
+  -- each corner gives the limit point
   pub corner-limit : (grid : List (List ℕ)) (c m : ℕ) → grid ≡ listed_grid grid → IsGrid level (grid_from c grid) → c < 4 → 0 < m
       → HasLimit level values (grid_at (grid_from c grid) 1 1) (value_in level values (place_mask m (corner_place m c).0 (corner_place m c).1 grid))
   corner-limit grid c m listed is below some =

@@ -34,7 +34,7 @@ child-step face c m place below is =
     grid (child_grid level (grid_from c grid)) c m place.0 place.1 shape.listed refl below is.1 is.2 is.0
     (child-grid-value level face.well (grid_from c grid) turned_shape face.values face.above_zero))
 
--- and where control numbers are refined
+-- the law for refined control numbers
 pub child-controls : (face : RefinedPatchFace) (c m : ℕ) (place : ℕ × ℕ) → c < 4 → IsPlace m place
     → IsSameValue (patch_at (refined_level face.base face.k) (values_after face.base face.controls face.k) face.face (2 * m) (parent_place m c place))
     (patch_at (refined_level face.base (suc face.k)) (values_after face.base face.controls (suc face.k)) (child_of (refined_level face.base face.k).polygons face.face c) m place)

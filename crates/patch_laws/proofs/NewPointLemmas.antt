@@ -102,7 +102,7 @@ module _ (level : Level) (well : IsManifoldWithSharpBoundary level) (values : Li
     abbrev total : ℤ
     total = pos 24 *ℤ (g p +ℤ g q) +ℤ pos 4 *ℤ ((g r +ℤ g s) +ℤ (g t +ℤ g u))
 
-    -- the middle of an edge of two quads, of which one end is regular
+    -- the middle of an edge of two quads with a regular end
     pub edge-middle : IsOver (64 * m) (next_value level values (edge_point level.point_count level.polygons (p, q))) total
     edge-middle = here is-listed.faces
       where

@@ -67,6 +67,6 @@ module _ {X Y : Type 0} (partners : X → Y → Bool) (ys : List Y) where
     pub each-once : list_all (λ x. is_once (partners x) ys) xs ≡ true
     each-once = once-each xs some (sum-ones (λ y. count_by (λ x. partners x y) xs) ys one ∙ sym as_many)
 
-    -- so their sums are equal
+    -- sums over partners are equal
     pub partner-sums : (f : X → ℤ) (g : Y → ℤ) → ((x : X) (y : Y) → partners x y ≡ true → f x ≡ g y) → sum_ℤ f xs ≡ sum_ℤ g ys
     partner-sums f g same = sum-partners partners f g xs ys same each-once one

@@ -1,4 +1,4 @@
--- Quads: the sums over their corners, and the edges of two of them.
+-- Quads: the sums over their corners, and the edges of two quads.
 use Rattle.std.proofs.Common.{◌≡◌, ℕ, ◌+◌, Bool, true, false, nat_eq, ℤ, pos, ◌+ℤ◌, List, [], ◌∷◌, length, arith, refl, ap, sym, ◌∙◌, ◌⊎◌, inl, inr}
 use Rattle.std.proofs.lemmas.Bool.{eqb-true}
 use Rattle.std.proofs.lemmas.Bool.Decides.{nat_tests}

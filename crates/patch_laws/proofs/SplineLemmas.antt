@@ -40,17 +40,17 @@ weights-of_sum p q =
 pub weights-open : (m p q : ℕ) → m ≡ p + q → spline_weights m p ≡ weights_between p q
 weights-open m p q e = ap (λ n. spline_weights n p) e ∙ weights-of_sum p q
 
--- What is left of the steps.
+-- The remaining steps.
 rest : (m p : ℕ) → p ≤ m → m ≡ p + (m - p)
 rest m p h = omega arith
 
--- from the other side the weights stand in the other order
+-- seen from the other side the weights are reversed
 pub weights-reversed : (m p : ℕ) → p ≤ m → spline_weights m (m - p) ≡ reverse (spline_weights m p)
 weights-reversed m p h =
     let q = m - p in
     weights-open m q p (omega arith) ∙ ap reverse (sym (weights-open m p q (rest m p h)))
 
--- their sum does not depend on the place
+-- the sum of the weights does not depend on the place
 pub weights-sum : (m p : ℕ) → p ≤ m → sum (spline_weights m p) ≡ 6 * m ^ 3
 weights-sum m p h =
     let q = m - p in
@@ -66,7 +66,7 @@ first-weights m =
     let whole = cube m in
     weights-open m 0 m (omega arith) ∙ four-alike (omega (arith, whole)) (omega (arith, whole)) (omega (arith, whole)) (omega arith)
 
--- and at the last
+-- the weights at the last place
 pub last-weights : (m : ℕ) → spline_weights m m ≡ 0 ∷ m ^ 3 ∷ 4 * m ^ 3 ∷ m ^ 3 ∷ []
 last-weights m =
     let whole = cube m in

@@ -45,7 +45,7 @@ smooth-ring (Smooth ∷ ring) h = let behind = smooth-ring ring h in (behind.0, 
 smooth-ring (Semi num den ∷ ring) h = absurd (cc)
 smooth-ring (Infinite ∷ ring) h = absurd (cc)
 
--- what is neither at the boundary nor sharp inside is not sharp
+-- an edge that is neither at the boundary nor sharp inside is not sharp
 none-sharp : {X : Type 0} (edge sharp : X → Bool) (xs : List X) → list_any edge xs ≡ false → list_any (λ x. not (edge x) && sharp x) xs ≡ false
     → list_all (λ x. not (sharp x)) xs ≡ true
 none-sharp edge sharp [] h k = refl
@@ -97,7 +97,7 @@ module _ (level : Level) (well : IsManifoldWithSharpBoundary level) where
     at-face : (p q r : ℕ) → (quad : HasQuad level.polygons v p q r) → has_corner v (polygon_at level.polygons quad.face) ≡ true
     at-face p q r quad = quad-corner level.polygons quad.face v p q r quad.is
 
-    -- each face at the point is one of them
+    -- each face at the point is a face of the star
     star-face : (f : ℕ) → has_corner v (polygon_at level.polygons f) ≡ true → is_among star_faces f ≡ true
     unfolding star-is
     star-face f at = star-all level.polygons simple distinct star-is (quad-fan level well star.first) f at

@@ -61,7 +61,7 @@ tensor-sum f along across grid first second listed =
     ∙ rows-sum f (listed_weights along) (listed_weights across) (listed_grid grid)
     ∙ (λ k. tensor_sum (sym first k) (sym second k) (number_at f grid))
 
--- What is true of each point of the grid is true of each source of the terms.
+-- A property of each point of the grid is one of each source of the terms.
 
 abbrev pub AllInGrid : (SourcePoint → Type 0) → List (List ℕ) → Type 0
 AllInGrid P grid = AllByRecursion (λ row. AllByRecursion (λ v. P (OfPoint v)) row) grid
@@ -78,7 +78,7 @@ module _ (P : SourcePoint → Type 0) where
   tensor-all along (b ∷ across) (row ∷ grid) h =
       all-joined (λ t. P t.source) (row_terms along (b, row)) (tensor_terms along across grid) (row-all b along row h.0) (tensor-all along across grid h.1)
 
--- what is true of four items is true of each
+-- a property of four items holds for each
 pub four-places : {X : Type 0} (P : X → Type 0) (item : ℕ → X) → AllByRecursion P (item 0 ∷ item 1 ∷ item 2 ∷ item 3 ∷ []) → (i : ℕ) → i < 4 → P (item i)
 four-places P item h zero below = h.0
 four-places P item h (suc zero) below = h.1.0
@@ -86,7 +86,7 @@ four-places P item h (suc (suc zero)) below = h.1.1.0
 four-places P item h (suc (suc (suc zero))) below = h.1.1.1.0
 four-places P item h (suc (suc (suc (suc i)))) below = absurd (omega arith)
 
--- so of each place
+-- a property of the grid holds for each place
 pub each-place : (P : SourcePoint → Type 0) (grid : List (List ℕ)) → grid ≡ listed_grid grid → AllInGrid P grid → (i j : ℕ) → i < 4 → j < 4
     → P (OfPoint (grid_at grid i j))
 each-place P grid listed h i j below_i below_j =

@@ -31,7 +31,7 @@ pub record HaveNumbers (values : List Value) : Type 0 where
   pub number : ℕ → ℤ
   pub are : AreWhole values m number
 
--- What is true of all denominators of values.
+-- A property of all denominators of values.
 
 all-positive : (values : List Value) → ArePositive values → AllByRecursion (λ a. 0 < a) (map (λ x. x.den) values)
 all-positive [] each = tt
@@ -42,7 +42,7 @@ divides-at m [] each p = one-dvd m
 divides-at m (x ∷ values) each zero = each.0
 divides-at m (x ∷ values) each (suc p) = divides-at m values each.1 p
 
--- such a denominator is the least common multiple of theirs
+-- the least common multiple of all denominators is such a denominator
 pub have-numbers : (values : List Value) → ArePositive values → HaveNumbers values
 have-numbers values each =
     let m = lcm_of_all (map (λ x. x.den) values) in
@@ -57,7 +57,7 @@ have-numbers values each =
       };
     }
 
--- what is true of all is true of those of a list
+-- a property of all items is one of the items of a list
 pub each-all : {X : Type 0} (P : X → Type 0) → ((x : X) → P x) → (xs : List X) → AllByRecursion P xs
 each-all P h [] = tt
 each-all P h (x ∷ xs) = (h x, each-all P h xs)

@@ -1,6 +1,6 @@
-//! Laws of patches: the children of a face have the values of its patch, and its corners their limit points.
+//! Laws of patches: the patches of the children of a face give the values of its own patch, and corners give limit points.
 //!
-//! Each public function here takes nothing, does nothing and returns nothing: its clauses are the laws.
+//! Each public function has an empty body: its clauses are the laws.
 #![tactic(auto)]
 
 pub mod patches;

@@ -1,4 +1,4 @@
--- Where all vertices of a new point lie on selected faces, and there alone, all faces at the point are present.
+-- All faces at a new point are present exactly if all vertices of the point are on selected faces.
 use Rattle.std.proofs.Common.{◌≡◌, ℕ, ◌+◌, ◌<◌, Bool, true, false, List, [], ◌∷◌, length, arith, refl, ap, sym, ◌∙◌, subst, inl, inr}
 use Rattle.std.specs.List.{list_all}
 use Rattle.std.proofs.lemmas.Bool.{and_parts, eq-eqb}
@@ -82,7 +82,7 @@ module _ (s : Selection) where
   abbrev present_faces : List ℕ
   present_faces = places (is_on s.whole.polygons s.others) (corners_of s.whole.polygons)
 
-  -- so all faces there are present
+  -- all faces at the point are present
   present-from : (n : ℕ) → is_corner kids n ≡ true → list_all (is_on s.part.polygons s.some) (vertices_of s.part n) ≡ true → IsWholeAt present_faces kids_there (kid n)
   present-from n there all m at =
       let among = kid-whole n (kind s.part.point_count s.part.polygons s.over n there) all m at in
@@ -101,7 +101,7 @@ module _ (s : Selection) where
           ∙ present-at s f c h k
           ∙ among-all (is_on s.part.polygons s.some) (vertices_of s.part n) (vertex_at s.part.polygons (f, c)) vertex all
 
-  -- and where they are, each vertex lies on a selected face
+  -- if all faces at the point are present, each of its vertices is on a selected face
   on-from : (n : ℕ) → is_corner kids n ≡ true → IsWholeAt present_faces kids_there (kid n) → (w : ℕ) → is_among (vertices_of s.part n) w ≡ true → is_on s.part.polygons s.some w ≡ true
   on-from n there all w among = go (each-vertex s.part s.over w n (kind s.part.point_count s.part.polygons s.over n there) among)
     where

@@ -34,7 +34,7 @@ count-mapped keep f test other same (x ∷ xs) h =
     ∙ ap (λ n. one_if (test x) + n) (count-mapped keep f test other same xs parts.1)
     ∙ sym (count-cons test x xs)
 
--- what is kept passes
+-- kept items pass the test
 pub kept-pass : {X : Type 0} (test : X → Bool) (xs : List X) → list_all test (filter test xs) ≡ true
 kept-pass test [] = refl
 kept-pass test (x ∷ xs) = go (test x) refl (kept-pass test xs)
@@ -48,7 +48,7 @@ pub all-among : (test : ℕ → Bool) (ns : List ℕ) → ((n : ℕ) → is_amon
 all-among test ns each =
     list_all-from_AllPass test ns (λ k d h. each (get_or ns k d) (list_any_at (nat_eq (get_or ns k d)) ns k d h (eq-eqb (get_or ns k d) (get_or ns k d) refl)))
 
--- each number of a list is among them
+-- a list contains each of its numbers
 pub all-own : (ns : List ℕ) → list_all (is_among ns) ns ≡ true
 all-own ns = all-among (is_among ns) ns (λ n h. h)
 
@@ -76,7 +76,7 @@ end-named name p edge h = go (nat_eq p edge.0) refl
 start-end : (s : ℕ × ℕ) → has_end s.0 s ≡ true
 start-end s = let here = eq-eqb s.0 s.0 refl in rw here refl
 
--- regular, by what is known of a point: whether it is at the boundary and smooth, how many edges and faces it has, and its sharpness
+-- whether a point is regular: at the boundary or not, smooth or not, by its numbers of edges and faces and its sharpness
 abbrev regular_by : Bool → Bool → ℕ → ℕ → Sharpness → Bool
 regular_by boundary smooth edges faces sharpness =
     (not boundary && nat_eq edges 4 && smooth) || (boundary && nat_eq faces 2 && smooth) || (boundary && nat_eq faces 1 && is_infinite sharpness)
@@ -84,7 +84,7 @@ regular_by boundary smooth edges faces sharpness =
 regular-alike : (a b c d : Bool) (i j m n : ℕ) (s t : Sharpness) → a ≡ b → c ≡ d → i ≡ j → m ≡ n → s ≡ t → regular_by a c i m s ≡ regular_by b d j n t
 regular-alike a b c d i j m n s t one two three four five = rw (one, two, three, four, five) refl
 
--- the facts of a face, by what is known of it
+-- the facts of a face from their parts
 abbrev facts_by : ℕ → ℕ → ℕ → Bool → ℕ → ℕ → FaceFacts
 facts_by depth number size hole irregular sharp = record { level = depth; number = number; size = size; hole = hole; irregular = irregular; sharp = sharp }
 
@@ -122,7 +122,7 @@ module _ (name : ℕ → ℕ) (faces : List ℕ) (part whole : Level) (is : IsLe
         ap (λ s. not (is_sharp s) && not (list_any (is_sharp_inside whole) (edges_at whole (name p)))) (sym (is.vertices p there))
         ∙ ap (λ b. not (is_sharp (vertex_sharpness_of part p)) && not b) (any-there (is_sharp_inside part) (is_sharp_inside whole) same-sharp-along)
 
-    -- it is regular in both or in neither
+    -- a point is regular in both levels or in neither
     same-regular : is_regular whole (name p) ≡ is_regular part p
     same-regular =
         let edges = ap length (sym (same-edges name faces part.polygons whole.polygons is.polygons p there all)) ∙ length-map (edges_at part p) (renamed name) in

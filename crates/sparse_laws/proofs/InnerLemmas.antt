@@ -31,7 +31,7 @@ or-weaker : (a b c : Bool) → (b ≡ true → c ≡ true) → (a || b) ≡ true
 or-weaker true b c weaker h = refl
 or-weaker false b c weaker h = weaker h
 
--- so the places of the first are places of the second
+-- the places of the first list are places of the second
 places-aligned : {X Y : Type 0} (test : X → Bool) (other : Y → Bool) (place : ℕ) (xs : List X) (ys : List Y) → Aligned test other xs ys → (n : ℕ) → is_among (places_from place test xs) n ≡ true → is_among (places_from place other ys) n ≡ true
 places-aligned test other place [] [] one n h = h
 places-aligned test other place [] (y ∷ ys) one n h = absurd one
@@ -46,7 +46,7 @@ places-aligned test other place (x ∷ xs) (y ∷ ys) one n h = go (test x) (oth
     go false true e f rest there = let here = rest (rw e at there) in rw f (or_right (nat_eq n place) _ here)
     go false false e f rest there = let here = rest (rw e at there) in rw f here
 
--- where the face of a corner is among some faces, its vertex lies on one of them
+-- a vertex of a corner is on a listed face if the face of the corner is listed
 corners-aligned : (polygons : List Polygon) (faces : List ℕ) (f : ℕ) (corners : Polygon) → list_all (λ v. has_corner v (polygon_at polygons f)) corners ≡ true → Aligned (is_among faces) (is_on polygons faces) (replicate (length corners) f) corners
 corners-aligned polygons faces f [] all = tt
 corners-aligned polygons faces f (v ∷ corners) all =

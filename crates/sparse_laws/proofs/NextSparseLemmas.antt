@@ -98,7 +98,7 @@ module _ (kept : Kept) (by : AgreeingTest kept) where
   uniform-numbers =
       map-agree (is_place kept.sparse.level.polygons) (uniform_child kept.sparse) (number_there selection) (uniform-same kept.base kept.meeting kept.sparse.depth (name_in (present_points kept.base kept.meeting kept.sparse.depth)) kept.sparse.numbers kept.sparse.level whole-over kept.is.part.polygons kept.is.numbers) (next_places kept.sparse.level.polygons (chosen_by by)) (all-chosen selection)
 
--- what is said at a depth is said at the same depth of the level
+-- a property at a depth is one at an equal depth of the level
 sparse-at : (base : Level) (meeting : Meeting) (next : SparseLevel) (depth : ℕ) → next.depth ≡ depth → next.numbers ≡ present base meeting depth → next.level.point_count ≡ length (present_points base meeting depth) → IsLevelPart (name_in (present_points base meeting depth)) next.numbers next.level (refined_level base depth) → next.inner ≡ map (is_among (inner base meeting depth)) next.numbers → next.complete ≡ map (is_whole base meeting depth) (present_points base meeting depth) → ((f p : ℕ) → get_or next.inner f false ≡ true → has_corner p (polygon_at next.level.polygons f) ≡ true → get_or next.complete p false ≡ true) → is_over next.level.point_count next.level.polygons ≡ true → IsSparse base meeting next
 sparse-at base meeting next depth e numbers points part marks complete inside over = record {
   numbers = numbers ∙ ap (present base meeting) (sym e);

@@ -1,4 +1,4 @@
--- Where corners and their faces stand in the lists of all of them, and which places pass a test.
+-- The places of corners and their faces in the lists of all, and the places that pass a test.
 use Rattle.std.proofs.Common.{◌≡◌, ℕ, zero, suc, ◌+◌, ◌*◌, ◌<◌, ◌≤◌, Bool, true, ◌&&◌, nat_eq, nat_lt, List, [], ◌∷◌, length, map, get_or, take, replicate, arith, refl, ap, sym, ◌∙◌}
 use Rattle.std.specs.List.{filter, flat_map, list_all, sum_by, range_with_len, enumerate_from}
 use Rattle.std.proofs.lemmas.Bool.{and_parts, and_from, eqb-true, lt-ltb}
@@ -24,7 +24,7 @@ as-filter test xs =
     ap (places test) (fill_by_all (λ i. get_or xs i 0) xs (length xs) 0 refl (λ k h. refl))
     ∙ places-of-range (λ i. get_or xs i 0) test 0 (length xs)
 
--- a place of the list is one of them where what stands there passes
+-- a place of the list is among the places that pass if its item passes
 among-from : {X : Type 0} (test : X → Bool) (d : X) (place k : ℕ) (xs : List X) → k < length xs → is_among (places_from place test xs) (place + k) ≡ test (get_or xs k d)
 among-from test d place k [] h = absurd (omega arith)
 among-from test d place zero (x ∷ xs) h = let behind = places-before test (place + 1) (place + 0) xs (omega arith) in grind (arith, nat_tests)
@@ -83,7 +83,7 @@ parent-from place (polygon ∷ polygons) (suc g) c h k =
 pub parent-read : (polygons : List Polygon) (g c : ℕ) → g < length polygons → c < length (polygon_at polygons g) → get_or (parents_of polygons) (first_place polygons g + c) 0 ≡ g
 parent-read polygons g c h k = parent-from 0 polygons g c h k ∙ (let e : 0 + g ≡ g = omega arith in e)
 
--- among quads the corners of a face stand at four times its number
+-- among quads the corners of a face begin at four times its number
 pub first-of-quads : (quads : List Polygon) (f : ℕ) → list_all (λ quad. nat_eq (length quad) 4) quads ≡ true → f ≤ length quads → first_place quads f ≡ 4 * f
 first-of-quads quads zero all h = omega arith
 first-of-quads [] (suc f) all h = absurd (omega arith)

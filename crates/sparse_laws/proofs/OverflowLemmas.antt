@@ -37,13 +37,13 @@ use Rattle.sparse_laws.proofs.CompleteLemmas.{kid, kids, kids_there, kid_numbers
 use Rattle.sparse_laws.proofs.NextPartLemmas.{points-own, points-same}
 use Rattle.sparse_laws.proofs.NextSparseLemmas.{selection}
 
--- it has as many faces as are present
+-- the next level has as many faces as are present
 pub faces-counted : (kept : Kept) (by : AgreeingTest kept) → length (next_places kept.sparse.level.polygons (chosen_by by)) ≡ present_faces kept.base kept.meeting (suc kept.sparse.depth)
 faces-counted kept by =
     let s = selection kept by in
     sym (length-map (next_places kept.sparse.level.polygons (chosen_by by)) (number_there s)) ∙ sym (ap length (numbers-same s))
 
--- what is kept of a list is what passes and is listed
+-- an item is kept if it is listed and passes
 among-filter : (test : ℕ → Bool) (ns : List ℕ) (n : ℕ) → is_among (filter test ns) n ≡ (test n && is_among ns n)
 among-filter test [] n = go (test n)
   where
@@ -61,7 +61,7 @@ among-filter test (m ∷ ns) n = go (test m) (nat_eq n m) refl refl (among-filte
         rw (e, f, own) none
     go false false e f rest = rw (e, f) rest
 
--- what is listed once is what is listed
+-- an item is listed once if it is listed
 among-once : (ns : List ℕ) (n : ℕ) → is_among (each_once_by nat_eq ns) n ≡ is_among ns n
 among-once [] n = refl
 among-once (m ∷ ns) n = go (nat_eq n m) refl (among-once ns n)
@@ -76,7 +76,7 @@ among-once (m ∷ ns) n = go (nat_eq n m) refl (among-once ns n)
 any-of-map : {X Y : Type 0} (f : X → Y) (test : Y → Bool) (xs : List X) → list_any test (map f xs) ≡ list_any (λ x. test (f x)) xs
 any-of-map f test xs = any-mapped (λ x. true) f (λ x. test (f x)) test (λ x h. refl) xs (all-true xs)
 
--- a point listed once of the corners of some polygons is a corner of one of them
+-- a point listed once is a corner of one of the polygons
 once-corner : (polygons : List Polygon) (ms : List ℕ) (n : ℕ) → is_among (each_once_by nat_eq (corners_of (map (polygon_at polygons) ms))) n ≡ list_any (λ m. has_corner n (polygon_at polygons m)) ms
 once-corner polygons ms n =
     among-once (corners_of (map (polygon_at polygons) ms)) n
@@ -95,7 +95,7 @@ module _ (s : Selection) where
   on-corner : (w : ℕ) → is_on s.part.polygons s.some w ≡ true → is_corner s.part.polygons w ≡ true
   on-corner w on = let found = any-number (λ f. has_corner w (polygon_at s.part.polygons f)) s.some on in corner-in s.part.polygons w found.0 found.1
 
-  -- and its name is a present point of the next level
+  -- the name of a vertex on a selected face is a present point of the next level
   pub name-present : (w : ℕ) → w < s.part.point_count → is_on s.part.polygons s.some w ≡ true → is_among present_next (s.name w) ≡ true
   name-present w below on =
       let found = any-number (λ f. has_corner w (polygon_at s.part.polygons f)) s.some on in

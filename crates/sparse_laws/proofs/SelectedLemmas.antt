@@ -47,7 +47,7 @@ complete-whole kept p below h f there =
     ap (λ numbers. is_among numbers f) kept.is.numbers
     ∙ among-all (is_among (present kept.base kept.meeting s.depth)) (faces_at whole (name_in points p)) f (faces-among whole.polygons (name_in points p) f ∙ there) here
 
--- also where only the mark is known
+-- a point with a mark is below the number of points
 pub marked-below : (kept : Kept) (p : ℕ) → get_or kept.sparse.complete p false ≡ true → p < kept.sparse.level.point_count
 marked-below kept p h =
     let points = present_points kept.base kept.meeting kept.sparse.depth in
@@ -66,7 +66,7 @@ inner-facts kept at =
 pub range-below : (count : ℕ) → list_all (λ f. nat_lt f count) (range_with_len 0 count) ≡ true
 range-below count = range-all (λ f. nat_lt f count) 0 count (λ f h. lt-ltb f count (omega (arith, h)))
 
--- what is kept of some numbers
+-- a number that is listed and passes is kept
 among-kept : (test : ℕ → Bool) (ns : List ℕ) (n : ℕ) → test n ≡ true → is_among ns n ≡ true → is_among (filter test ns) n ≡ true
 among-kept test [] n on h = h
 among-kept test (m ∷ ns) n on h = go (test m) refl (nat_eq n m) refl (λ more. among-kept test ns n on more)

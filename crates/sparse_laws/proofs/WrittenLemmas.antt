@@ -1,4 +1,4 @@
--- What is written of a sparse level is what the definitions write.
+-- The output of a sparse level is the output of the definitions.
 use Rattle.std.proofs.Common.{◌≡◌, ℕ, ◌<◌, Bool, true, false, not, ◌&&◌, nat_eq, nat_lt, List, [], ◌∷◌, ◌++◌, length, map, get_or, refl, ap, sym, ◌∙◌, if◌then◌else◌}
 use Rattle.std.specs.List.{filter, list_all, position_or_len, range_with_len}
 use Rattle.std.proofs.lemmas.Bool.{ltb-true, lt-ltb}
@@ -28,11 +28,11 @@ pub corners-renamed : (name : ℕ → ℕ) (polygons : List Polygon) → corners
 corners-renamed name [] = refl
 corners-renamed name (polygon ∷ polygons) = ap (λ l. map name polygon ++ l) (corners-renamed name polygons) ∙ sym (map-append name polygon (corners_of polygons))
 
--- and all of them are corners of the polygons
+-- all vertices of corners are corners of the polygons
 pub own-corners-of : (polygons : List Polygon) → list_all (is_corner polygons) (corners_of polygons) ≡ true
 own-corners-of polygons = all-flat_map (is_corner polygons) (λ polygon. polygon) polygons ∙ own-corners polygons
 
--- the kind of a face, by what is known of it
+-- the kind of a face, from whether it is a hole, inner and selected
 abbrev kind_by : Bool → Bool → Bool → FaceKind
 kind_by hole within chosen = if hole then HoleFace else if not within then OuterFace else if chosen then SelectedFace else LeafFace
 
@@ -80,7 +80,7 @@ module _ (kept : Kept) where
       ∙ ap (each_once_by nat_eq) (corners-renamed name polygons)
       ∙ each-once-map name (is_corner polygons) kept.is.part.polygons.apart (corners_of polygons) (own-corners-of polygons)
 
-  -- and each of them is a corner
+  -- each of the used points is a corner
   pub own-used : list_all (is_corner kept.sparse.level.polygons) (used_points kept.sparse.level) ≡ true
   own-used = all-once nat_eq (is_corner polygons) (corners_of polygons) (own-corners-of polygons)
 
@@ -93,7 +93,7 @@ module _ (kept : Kept) where
       ∙ ap (map (λ v. position_or_len (nat_eq v) (map name used))) (polygon-in name numbers polygons whole.polygons kept.is.part.polygons f inside)
       ∙ ap (λ ns. map (λ v. position_or_len (nat_eq v) ns) (polygon_at whole.polygons (face_in numbers f))) (sym points-written)
 
-  -- where some faces are the selected ones, what is written of each face is what the definitions write of its number
+  -- the output of each face is that of its number in the definitions, if the selected faces are the same
   module _ (some : List ℕ) (alike : (f : ℕ) → f < length polygons → is_among some f ≡ is_among (selected kept.base kept.meeting kept.sparse.depth) (face_in numbers f)) where
     face-written : (f : ℕ) → nat_lt f (length polygons) ≡ true → written_in kept.sparse some f ≡ written_face kept.base kept.meeting kept.sparse.depth (face_in numbers f)
     face-written f below =
@@ -122,7 +122,7 @@ module _ (kept : Kept) where
       sym (among-numbers (chosen_by by) (all-filtered (is_selected_in by.test kept.sparse) (λ k. nat_lt k (length polygons)) (range_with_len 0 (length polygons)) (range-below (length polygons))) f inside)
       ∙ ap (λ ns. is_among ns (face_in numbers f)) (selected-same kept by))
 
-  -- and none, where the predicate has none
+  -- the output where the predicate has no faces
   pub written-last : get_or kept.meeting kept.sparse.depth [] ≡ [] → written_here kept.sparse [] ≡ written_level kept.base kept.meeting kept.sparse.depth
   written-last none =
       let ins = inner kept.base kept.meeting kept.sparse.depth in

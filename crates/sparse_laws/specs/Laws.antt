@@ -1,14 +1,17 @@
--- What the laws of sparse levels speak of.
+-- Sparse levels, their inner faces and their tests, for the laws of sparse levels.
 use Rattle.std.specs.Prelude.{ℕ, ◌≡◌, ◌<◌, Bool, true, false, List, length, get_or, IsTrue}
-use Rattle.std.specs.List.{list_all}
+use Rattle.std.specs.List.{list_all, list_any}
 use Rattle.subdiv_model.specs.Polygons.{is_over, has_distinct_sides}
-use Rattle.subdiv_model.specs.Edges.{all_sides}
+use Rattle.subdiv_model.specs.Edges.{all_sides, edges_of, has_end, is_boundary}
 use Rattle.subdiv_model.specs.Manifold.{is_simple}
 use Rattle.subdiv_model.specs.Level.{Level}
 use Rattle.subdiv_model.specs.Child.{refined_level}
+use Rattle.subdiv_model.specs.Channel.{chaikin_overflows_at}
+use Rattle.subdiv_model.specs.SparseFaults.{points_with_child}
 use Rattle.subdiv_model.specs.Feature.{FaceFacts}
 use Rattle.subdiv_model.specs.Sparse.{Meeting, present_points}
 use Rattle.mask_laws.specs.SharpBoundary.{has_sharp_boundary}
+use Rattle.part_laws.specs.Parts.{IsWholeAt}
 use Rattle.part_laws.specs.LevelParts.{LevelPart}
 use Rattle.sparse_laws.specs.SparseLevels.{SparseLevel, IsSparse, name_in}
 use Rattle.sparse_laws.specs.NextSparse.{IsNextSparse}
@@ -22,13 +25,13 @@ pub record Kept : Type 0 where
   pub over : IsTrue (is_over base.point_count base.polygons)
   pub is : IsSparse base meeting sparse
 
--- a level of simple faces, of which each directed edge occurs once, and whose boundary is infinitely sharp
+-- a level of simple faces in which each directed edge occurs once, with an infinitely sharp boundary
 pub record HasSharpBoundary (level : Level) : Type 0 where
   pub simple : IsTrue (list_all is_simple level.polygons)
   pub distinct : IsTrue (has_distinct_sides (all_sides level.polygons))
   pub sharp : IsTrue (has_sharp_boundary level)
 
--- as a part of the uniform level
+-- the sparse level as a part of the uniform level
 abbrev pub part_of : Kept → LevelPart
 part_of kept = record {
   name = name_in (present_points kept.base kept.meeting kept.sparse.depth);
@@ -38,13 +41,34 @@ part_of kept = record {
   is_part = kept.is.part;
 }
 
--- a face of it that is inner
+-- a point of it has all its faces of the uniform level
+abbrev pub IsWholePoint : Kept → ℕ → Type 0
+IsWholePoint kept p =
+    IsWholeAt kept.sparse.numbers (refined_level kept.base kept.sparse.depth).polygons
+    (name_in (present_points kept.base kept.meeting kept.sparse.depth) p)
+
+-- an edge of one face that ends at a complete point of it
+pub record BoundaryEdge (kept : Kept) : Type 0 where
+  pub e : ℕ
+  pub v : ℕ
+  pub exists : e < length (edges_of kept.sparse.level.polygons)
+  pub ends : IsTrue (has_end v (get_or (edges_of kept.sparse.level.polygons) e (0, 0)))
+  pub complete : get_or kept.sparse.complete v false ≡ true
+  pub alone : is_boundary kept.sparse.level.polygons (get_or (edges_of kept.sparse.level.polygons) e (0, 0)) ≡ true
+
+-- whether halves overflow at a point of the uniform level that has a present child
+abbrev pub uniform_halves_overflow : Kept → Bool
+uniform_halves_overflow kept =
+    list_any (chaikin_overflows_at (refined_level kept.base kept.sparse.depth))
+    (points_with_child kept.base kept.meeting (refined_level kept.base kept.sparse.depth).point_count kept.sparse.depth)
+
+-- an inner face of the sparse level
 pub record InnerFace (kept : Kept) : Type 0 where
   pub face : ℕ
   pub exists : face < length kept.sparse.level.polygons
   pub inner : get_or kept.sparse.inner face false ≡ true
 
--- a test that the predicate agrees with at its depth
+-- a test of facts that selects the faces of the predicate at the depth of the level
 pub record AgreeingTest (kept : Kept) : Type 0 where
   pub test : FaceFacts → Bool
   pub agrees : Agrees test kept.base kept.meeting kept.sparse.depth

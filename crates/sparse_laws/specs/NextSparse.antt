@@ -1,5 +1,5 @@
--- The next sparse level, as it is made of one: the child faces of the corners that lie on selected faces.
--- Source: this profile.
+-- The next sparse level: the child faces at the corners of selected faces.
+-- Source: Drillolive.
 use Rattle.std.specs.Prelude.{ℕ, suc, ◌≡◌, ◌+◌, ◌-◌, ◌*◌, Bool, nat_eq, nat_lt, List, [], ◌∷◌, length, map, get_or, if◌then◌else◌, IsTrue}
 use Rattle.std.specs.List.{filter, flat_map, list_all, range_with_len, enumerate_from}
 use Rattle.subdiv_model.specs.Lists.{each_once_by}
@@ -11,7 +11,7 @@ use Rattle.part_laws.specs.Children.{edge_at}
 use Rattle.part_laws.specs.LevelParts.{IsLevelPart}
 use Rattle.sparse_laws.specs.SparseLevels.{SparseLevel, name_in}
 
--- all corners, face by face, each as the number of its face and its place there
+-- all corners, face by face, each as the number of its face and its place in the face
 abbrev pub corner_places : List Polygon → List (ℕ × ℕ)
 corner_places polygons = flat_map (λ face. map (λ c. (face.0, c)) (range_with_len 0 (length face.1))) (enumerate_from 0 polygons)
 
@@ -19,22 +19,23 @@ corner_places polygons = flat_map (λ face. map (λ c. (face.0, c)) (range_with_
 abbrev pub vertex_at : List Polygon → ℕ × ℕ → ℕ
 vertex_at polygons place = get_or (polygon_at polygons place.0) place.1 0
 
--- the corners whose vertices lie on selected faces: their child faces are present
+-- the corners whose vertices are on selected faces; their child faces are present
 abbrev pub next_places : List Polygon → List ℕ → List (ℕ × ℕ)
 next_places polygons selected = filter (λ place. is_on polygons selected (vertex_at polygons place)) (corner_places polygons)
 
+-- the numbers of the present child faces in the whole next level
 abbrev pub next_children : List Polygon → List ℕ → List ℕ
 next_children polygons selected = map (child_number polygons) (next_places polygons selected)
 
--- the corners of these child faces, by first appearance and by their numbers in the whole next level
+-- the corners of the present child faces, by first appearance, with their numbers in the whole next level
 abbrev pub next_points : Level → List ℕ → List ℕ
 next_points level selected = each_once_by nat_eq (corners_of (map (polygon_at (child_level level).polygons) (next_children level.polygons selected)))
 
--- the number of the child face of a corner in the uniform level, where each face after level 0 has four
+-- the number in the uniform level of the child face of a corner, where each face after level 0 has four children
 abbrev pub uniform_child : SparseLevel → ℕ × ℕ → ℕ
 uniform_child s place = if nat_eq s.depth 0 then child_number s.level.polygons place else 4 * get_or s.numbers place.0 0 + place.1
 
--- the vertices that a point of the next level comes from: the vertex, the corners of the face, or the ends of the edge
+-- the vertices that a point of the next level is made from: the vertex, the corners of the face, or the ends of the edge
 abbrev pub vertices_of : Level → ℕ → List ℕ
 vertices_of level n =
     if nat_lt n level.point_count then n ∷ []
@@ -42,11 +43,11 @@ vertices_of level n =
     else (edge_at level.polygons (n - level.point_count - length level.polygons)).0
     ∷ (edge_at level.polygons (n - level.point_count - length level.polygons)).1 ∷ []
 
--- a point of the next level has all its faces where all these vertices lie on selected faces
+-- a point of the next level has all its faces: all vertices that it is made from are on selected faces
 abbrev pub has_all_faces : Level → List ℕ → ℕ → Bool
 has_all_faces level selected n = list_all (is_on level.polygons selected) (vertices_of level n)
 
--- the next sparse level of a level whose selected faces these are
+-- `next` is the next sparse level after these faces of `s` are selected
 pub record IsNextSparse (s : SparseLevel) (selected : List ℕ) (next : SparseLevel) : Type 0 where
   pub depth : next.depth ≡ suc s.depth
   pub points : next.level.point_count ≡ length (next_points s.level selected)

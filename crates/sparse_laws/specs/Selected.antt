@@ -1,5 +1,5 @@
--- Which faces of a sparse level are selected by a test of their facts.
--- Source: this profile.
+-- The faces of a sparse level that a test of their facts selects.
+-- Source: Drillolive.
 use Rattle.std.specs.Prelude.{ℕ, ◌≡◌, ◌<◌, Bool, false, true, ◌&&◌, List, [], length, get_or}
 use Rattle.std.specs.List.{filter, range_with_len}
 use Rattle.subdiv_model.specs.Level.{Level}
@@ -12,18 +12,19 @@ use Rattle.sparse_laws.specs.SparseLevels.{SparseLevel}
 abbrev pub facts_in : SparseLevel → ℕ → FaceFacts
 facts_in s f = record (facts_of s.level s.depth f) { number = get_or s.numbers f 0 }
 
--- an inner face that meets a test and is no hole
+-- the face is inner, meets the test and is no hole
 abbrev pub is_selected_in : (FaceFacts → Bool) → SparseLevel → ℕ → Bool
 is_selected_in test s f = get_or s.inner f false && (test (facts_in s f) && is_selectable (facts_in s f))
 
+-- the faces of a sparse level that a test selects
 abbrev pub selected_in : (FaceFacts → Bool) → SparseLevel → List ℕ
 selected_in test s = filter (is_selected_in test s) (range_with_len 0 (length s.level.polygons))
 
--- the predicate has at this depth the faces of the uniform level that the test has
+-- at this depth the predicate and the test select the same faces of the uniform level
 abbrev pub Agrees : (FaceFacts → Bool) → Level → Meeting → ℕ → Type 0
 Agrees test base meeting depth = get_or meeting depth [] ≡ meeting_of test base depth
 
--- at a vertex on a selected face halves of edges overflow
+-- the halves of edges overflow at a vertex of a selected face
 pub record OverflowsOn (level : Level) (selected : List ℕ) (v : ℕ) : Type 0 where
   pub exists : v < level.point_count
   pub on : is_on level.polygons selected v ≡ true

@@ -1,5 +1,5 @@
--- A sparse level as it is kept, and when it is that of the definitions.
--- Source: this profile.
+-- A sparse level as the program keeps it, and when it is the one of the definitions.
+-- Source: Drillolive.
 use Rattle.std.specs.Prelude.{ℕ, ◌≡◌, Bool, true, false, List, length, map, get_or, replicate, IsTrue}
 use Rattle.std.specs.List.{range_with_len}
 use Rattle.subdiv_model.specs.Polygons.{is_among, is_over, polygon_at, has_corner}
@@ -8,19 +8,19 @@ use Rattle.subdiv_model.specs.Child.{refined_level}
 use Rattle.subdiv_model.specs.Sparse.{Meeting, inner, present, present_points, is_whole}
 use Rattle.part_laws.specs.LevelParts.{IsLevelPart}
 
--- some faces of a level, and which faces of the uniform level they are
+-- some faces of a uniform level, with the numbers they have there
 pub record SparseLevel : Type 0 where
   pub level : Level
-  -- a mark for each point, where all its faces are here
+  -- for each point, whether all its faces are in the sparse level
   pub complete : List Bool
-  -- for each face its number in the uniform level
+  -- for each face, its number in the uniform level
   pub numbers : List ℕ
-  -- for each face whether its parent is selected
+  -- for each face, whether its parent is selected
   pub inner : List Bool
-  -- after how many steps
+  -- the number of steps
   pub depth : ℕ
 
--- the number in the uniform level of a point, by a list of these numbers
+-- the number of a point in the uniform level, from the list of these numbers
 abbrev pub name_in : List ℕ → ℕ → ℕ
 name_in points p = get_or points p 0
 
@@ -28,8 +28,8 @@ name_in points p = get_or points p 0
 abbrev pub AreInnerComplete : SparseLevel → Type 0
 AreInnerComplete s = (f p : ℕ) → get_or s.inner f false ≡ true → IsTrue (has_corner p (polygon_at s.level.polygons f)) → get_or s.complete p false ≡ true
 
--- The faces are the present ones, and the points the present points. Polygons, holes and sharpness are those of the uniform level.
--- Faces are inner, and points complete, as the definitions have it. Each corner is one of the points.
+-- The faces are the present faces, and the points are the present points. Polygons, holes and sharpness are those of the uniform
+-- level. Inner faces and complete points are those of the definitions. Each corner is one of the points.
 pub record IsSparse (base : Level) (meeting : Meeting) (s : SparseLevel) : Type 0 where
   pub numbers : s.numbers ≡ present base meeting s.depth
   pub points : s.level.point_count ≡ length (present_points base meeting s.depth)
@@ -39,7 +39,7 @@ pub record IsSparse (base : Level) (meeting : Meeting) (s : SparseLevel) : Type 
   pub inside : AreInnerComplete s
   pub over : IsTrue (is_over s.level.point_count s.level.polygons)
 
--- level 0, whole
+-- level 0 with all its faces
 abbrev pub whole_base : Level → SparseLevel
 whole_base base = record {
   level = base;

@@ -8,26 +8,22 @@ ghost use Rattle.subdiv_model.specs.SparseFaults.{present_faces, points_with_chi
 ghost use Rattle.sparse_laws.specs.SparseLevels.{IsSparse};
 ghost use Rattle.sparse_laws.specs.NextSparse.{next_places};
 ghost use Rattle.sparse_laws.specs.Selected.{OverflowsOn};
-ghost use Rattle.sparse_laws.specs.Laws.{Kept, AgreeingTest, NextKept, chosen_by};
+ghost use Rattle.sparse_laws.specs.Laws.{Kept, AgreeingTest, NextKept, chosen_by, uniform_halves_overflow};
 
-/// The next level of a sparse level is that of the definitions, for each predicate that agrees with the test that selects.
+/// The next level of a sparse level is the one of the definitions, for each predicate that agrees with the test.
 pub fn next_levels_are_sparse()
     ensures { (kept : Kept) (made : NextKept kept) → IsSparse kept.base kept.meeting made.next }
 {}
 
-/// It has as many faces as are present in the definitions.
+/// The next sparse level has as many faces as the definitions find present.
 pub fn next_faces_are_counted()
     ensures { (kept : Kept) (by : AgreeingTest kept) → length (next_places kept.sparse.level.polygons (chosen_by by))
         ≡ present_faces kept.base kept.meeting (suc kept.sparse.depth) }
 {}
 
-/// Halves overflow at a vertex on a selected face exactly where they do at a point of the uniform level that has a present child.
+/// Halves overflow at a vertex of a selected face exactly where they overflow at a point of the uniform level that has a present
+/// child.
 pub fn overflows_are_the_same()
-    ensures here { (kept : Kept) (by : AgreeingTest kept) (v : ℕ) → OverflowsOn kept.sparse.level (chosen_by by) v
-        → IsTrue (list_any (chaikin_overflows_at (refined_level kept.base kept.sparse.depth))
-        (points_with_child kept.base kept.meeting (refined_level kept.base kept.sparse.depth).point_count kept.sparse.depth)) }
-    ensures there { (kept : Kept) (by : AgreeingTest kept)
-        → IsTrue (list_any (chaikin_overflows_at (refined_level kept.base kept.sparse.depth))
-        (points_with_child kept.base kept.meeting (refined_level kept.base kept.sparse.depth).point_count kept.sparse.depth))
-        → (v : ℕ) × OverflowsOn kept.sparse.level (chosen_by by) v }
+    ensures here { (kept : Kept) (by : AgreeingTest kept) (v : ℕ) → OverflowsOn kept.sparse.level (chosen_by by) v → IsTrue (uniform_halves_overflow kept) }
+    ensures there { (kept : Kept) (by : AgreeingTest kept) → IsTrue (uniform_halves_overflow kept) → (v : ℕ) × OverflowsOn kept.sparse.level (chosen_by by) v }
 {}

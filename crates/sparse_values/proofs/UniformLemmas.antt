@@ -43,7 +43,7 @@ module _ (kept : Kept) where
       let found = corner-of level.polygons p there in
       omega (arith, ltb-true _ _ (corner-point level.point_count level.polygons found.0 p kept.is.over found.2), kept.is.points)
 
-  -- so the corners have the uniform items of their names
+  -- the corners have the uniform items of their names
   abbrev known_at : {X : Type 0} (d : X) (items : List X) → Known (part_of kept) d
   known_at d items = record {
     here = at_points kept d items;
@@ -61,7 +61,7 @@ module _ (kept : Kept) where
         let all = subst (λ w. IsWholeAt s.numbers s.whole.polygons (s.name w)) (sym (begins-at s at.place at.is)) (s.has_all (vertex_at s.part.polygons at.place) at.on) in
         child-points (part_of kept) over-points (record { number = number; has_all = all }) n at.corner
 
-    -- lists that agree at such points, by their names, have the same items at them
+    -- lists that agree at such points have the same items there
     items-same : {X : Type 0} (here there : List X) (d : X) → ((x : NextPoint (part_of kept)) → get_or here (number_of x) d ≡ get_or there (name_next (part_of kept) (number_of x)) d) → items_at (next_points_of by) d here ≡ at_next_points kept d there
     items-same here there d agree =
         let points = next_points_of by in

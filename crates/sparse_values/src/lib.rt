@@ -1,6 +1,6 @@
-//! Laws of the masks, values, common denominators and supports of the points of sparse levels: they are those of the uniform points.
+//! Laws of sparse refinement: each point of a sparse level has the mask, value, denominator and support of its uniform point.
 //!
-//! Each public function here takes nothing, does nothing and returns nothing: its clauses are the laws.
+//! Each public function has an empty body: its clauses are the laws.
 #![tactic(auto)]
 
 pub mod points;

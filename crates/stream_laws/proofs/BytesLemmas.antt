@@ -50,7 +50,7 @@ take-parts first part more limit fits =
     ∙ take-append-add (first ++ part) more (limit - length (first ++ part))
     ∙ append_assoc first part (take (limit - length (first ++ part)) more)
 
--- what is refused of the first bytes, whatever follows, is refused of all
+-- a refusal of the first bytes, whatever follows, is a refusal of all
 pub refused-either : (rule : LineRule) (limit : ℕ) (first part more text : List ℕ) (fault : Fault) → length (first ++ part) ≤ limit
     → ((rest : List ℕ) → answer_so_far rule (first ++ (part ++ rest)) ≡ record { text = text; refusal = Some fault })
     → ((rest : List ℕ) → answer_of_all rule (first ++ (part ++ rest)) ≡ record { text = text; refusal = Some fault })

@@ -8,21 +8,21 @@ use Rattle.std.proofs.lemmas.List.Sums.{fails_before_first, passes_at_first, spl
 use Rattle.subdiv_model.specs.ObjLine.{is_lf}
 use Rattle.stream_laws.specs.Handled.{has_lf, text_of_lines}
 
--- bytes with LF are a line without it, LF, and what stands after it
+-- bytes with LF are a line without it, LF, and the bytes after it
 pub cut-bytes : (bytes : List ℕ) → position_or_len is_lf bytes < length bytes → bytes ≡ before_first is_lf bytes ++ 10 ∷ after_first is_lf bytes
 cut-bytes bytes inside =
     let at = get_or bytes (position_or_len is_lf bytes) 0 in
     split_at_first is_lf bytes 0 inside
     ∙ ap (λ b. before_first is_lf bytes ++ b ∷ after_first is_lf bytes) (eqb-true at 10 (passes_at_first is_lf bytes 0 inside))
 
--- what stands before the first LF has none
+-- the bytes before the first LF contain none
 pub cut-line : (bytes : List ℕ) → has_lf (before_first is_lf bytes) ≡ false
 cut-line bytes = list_any_none is_lf (before_first is_lf bytes) (λ k d inside.
     let n = position_or_len is_lf bytes in
     let before : k < n = omega (arith, length-take n bytes) in
     ap is_lf (get_or-take n bytes k d before) ∙ fails_before_first is_lf bytes k d before)
 
--- bytes whose first LF would stand at their end have none
+-- bytes without an LF before their end have none
 pub uncut : (bytes : List ℕ) → length bytes ≤ position_or_len is_lf bytes → has_lf bytes ≡ false
 uncut bytes outside = list_any_none is_lf bytes (λ k d inside. fails_before_first is_lf bytes k d (omega arith))
 

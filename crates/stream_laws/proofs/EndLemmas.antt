@@ -49,12 +49,12 @@ not-refused {rule = rule} {lines = lines} {text = text} taken pending handled no
 then-text : (first next : Answer) → first.refusal ≡ None → (then_answer first next).text ≡ first.text ++ next.text
 then-text first next good = ap (λ r. (answer_unless_refused r first.text next).text) good
 
--- what is written of handled lines stays
+-- the text of handled lines stays
 pub handled-stays : {rule : LineRule} {lines : List (List ℕ)} {text : List ℕ} (more : List ℕ) → IsHandled rule lines text
     → (rest : List ℕ) × ((answer_of_all rule (text_of_lines lines ++ more)).text ≡ text ++ rest)
 handled-stays {rule = rule} {lines = lines} more handled = ((all-of rule lines more).text, ap (λ (a : Answer). a.text) (all-after more handled))
 
--- what is written of handled lines and one more stays
+-- the text of handled lines and one more stays
 pub written-stays : {rule : LineRule} {lines : List (List ℕ)} {text : List ℕ} (taken line pending : List ℕ)
     → IsHandled rule lines text → has_lf line ≡ false → (rule.line lines line).refusal ≡ None
     → taken ≡ text_of_lines lines ++ (line ++ 10 ∷ pending) → (rest : List ℕ) × ((answer_of_all rule taken).text ≡ text ++ ((rule.line lines line).text ++ rest))
@@ -69,7 +69,7 @@ written-stays {rule = rule} {lines = lines} {text = text} taken line pending han
           ∙ ap (λ more. text ++ more) (then-text (rule.line lines line) next good),
     )
 
--- what is written of handled lines and a last one that nothing closes stays
+-- the text of handled lines and an open last one stays
 pub last-written-stays : {rule : LineRule} {lines : List (List ℕ)} {text : List ℕ} (taken line : List ℕ)
     → IsHandled rule lines text → has_lf line ≡ false → 0 < length line → (rule.line lines line).refusal ≡ None
     → taken ≡ text_of_lines lines ++ line → (rest : List ℕ) × ((answer_of_all rule taken).text ≡ text ++ ((rule.line lines line).text ++ rest))

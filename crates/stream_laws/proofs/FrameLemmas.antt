@@ -88,7 +88,7 @@ pub frame-more : (mesh : ObjMesh) (lines : List Words) (words : Words)
     → frame_at mesh (lines ++ words ∷ []) ≡ frame_after mesh.common (frame_at mesh lines) words
 frame-more mesh lines words = fold-append (frame_after mesh.common) (record { controls = mesh.points; moved = [] }) lines (words ∷ [])
 
--- a line after others, some of which is a line `frames`, is none that the mark is skipped of
+-- a line after a line `frames` loses no byte order mark
 pub words-later : (before : List (List ℕ)) (line : List ℕ) → has_frames (words_of_lines before) ≡ true → words_after before line ≡ line_words line
 words-later [] line some = absurd (true≢false (sym some))
 words-later (first ∷ before) line some = refl

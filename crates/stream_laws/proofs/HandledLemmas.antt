@@ -1,4 +1,4 @@
--- Lines that are handled one after another, and what comes after them.
+-- Lines handled one after another, and the bytes after them.
 use Rattle.std.proofs.Common.{◌≡◌, ℕ, false, List, [], ◌∷◌, ◌++◌, Option, None, Some, refl, ap, sym, ◌∙◌, append_assoc, append-nil}
 use Rattle.std.proofs.lemmas.Option.{none-some}
 use Rattle.subdiv_model.specs.Fault.{Fault}

@@ -1,4 +1,4 @@
--- The laws of lines, over the records that they speak of.
+-- The laws of lines, over their records.
 use Rattle.std.proofs.Common.{◌≡◌, ℕ, ◌<◌, ◌≤◌, List, [], ◌∷◌, ◌++◌, length, None, refl, ap, sym, ◌∙◌, append_assoc}
 use Rattle.subdiv_model.specs.Fault.{Long}
 use Rattle.far_model.specs.Stream.{LineRule, answer_of_all, answer_of_lines}

@@ -23,7 +23,7 @@ lines-more (first ∷ lines) line closed none =
     let parts = and_parts (not (has_lf first)) (are_lines lines) closed in
     and_from (not (has_lf first)) (are_lines (lines ++ line ∷ [])) parts.0 (lines-more lines line parts.1 none)
 
--- bytes are without LF where both parts of them are
+-- bytes have no LF if neither part has one
 pub joined-lf : (bytes more : List ℕ) → has_lf bytes ≡ false → has_lf more ≡ false → has_lf (bytes ++ more) ≡ false
 joined-lf bytes more here there = list_any-append is_lf bytes more ∙ or_from (has_lf bytes) (has_lf more) here there
 

@@ -1,4 +1,4 @@
--- What lines add under `frames`: nothing before the line `frames`, and then an answer to each; and what is too long.
+-- The answers to lines under `frames`: none before the line `frames`, then one to each line, and lines that are too long.
 use Rattle.std.proofs.Common.{◌≡◌, ℕ, suc, ◌<◌, ◌≤◌, true, false, nat_lt, List, [], ◌∷◌, ◌++◌, length, map, Option, None, Some, option_map, arith, refl, ap, sym, ◌∙◌, append_assoc, if◌then◌else◌, lt-ltb, le-ltb}
 use Rattle.std.specs.Option.{option_or}
 use Rattle.std.proofs.lemmas.Bool.{or_parts, and_right}
@@ -25,7 +25,7 @@ Words = List (List (List ℕ))
 abbrev long-line : ℕ → Fault
 long-line number = Obj (record { line = number; cause = LongLine })
 
--- nothing but what is refused, if anything is
+-- an answer without text is only the refusal, if there is one
 unless-nothing : (fault : Option Fault) → answer_unless fault [] ≡ record { text = []; refusal = fault }
 unless-nothing None = refl
 unless-nothing (Some fault) = refl

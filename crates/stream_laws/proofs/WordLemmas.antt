@@ -23,7 +23,7 @@ pub words-more : (before : List (List ℕ)) (line : List ℕ) → words_of_lines
 words-more [] line = refl
 words-more (first ∷ before) line = ap (λ words. words_after [] first ∷ words) (map-append line_words before (line ∷ []))
 
--- the words of lines after others, the first of which stands by itself
+-- the words of lines after others, where the first is separate
 pub words-append : (first : List ℕ) (before lines : List (List ℕ))
     → words_of_lines ((first ∷ before) ++ lines) ≡ words_of_lines (first ∷ before) ++ map line_words lines
 words-append first before lines = ap (λ words. words_after [] first ∷ words) (map-append line_words before lines)
@@ -98,7 +98,7 @@ text-words [] closed = refl
 text-words (line ∷ lines) closed =
     ap obj_lines (sym (append-nil (text_of_lines (line ∷ lines)))) ∙ first-words line lines [] closed ∙ append-nil (words_of_lines (line ∷ lines))
 
--- the words of the text of lines, the last of which nothing closes
+-- the words of the text of lines whose last is open
 pub last-words : (lines : List (List ℕ)) (line : List ℕ) → are_lines lines ≡ true → has_lf line ≡ false → 0 < length (bytes_after lines line)
     → obj_lines (text_of_lines lines ++ line) ≡ words_of_lines (lines ++ line ∷ [])
 last-words [] line closed none some = ap (map line_words) (last-of-lines (without_mark line) (marked-lf line none) some)

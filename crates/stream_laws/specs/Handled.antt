@@ -1,5 +1,5 @@
--- What a program that answers line by line has done with the lines so far.
--- Source: this profile.
+-- The progress of a program that answers line by line.
+-- Source: Drillolive.
 use Rattle.std.specs.Prelude.{◌≡◌, ℕ, Bool, true, not, List, [], ◌∷◌, ◌++◌, Some, None}
 use Rattle.std.specs.List.{list_any, list_all, flat_map}
 use Rattle.subdiv_model.specs.ObjLine.{is_lf}
@@ -11,20 +11,20 @@ use Rattle.far_model.specs.Stream.{LineRule, answer_from}
 abbrev pub has_lf : List ℕ → Bool
 has_lf bytes = list_any is_lf bytes
 
--- each line is without LF, so that LF can close it
+-- no line contains LF, so LF can close each
 abbrev pub are_lines : List (List ℕ) → Bool
 are_lines lines = list_all (λ line. not (has_lf line)) lines
 
--- lines, each closed by LF, as bytes
+-- the bytes of lines, each closed by LF
 abbrev pub text_of_lines : List (List ℕ) → List ℕ
 text_of_lines lines = flat_map (λ line. line ++ 10 ∷ []) lines
 
--- the lines come to this text, and none is refused
+-- the lines give this text, and none is refused
 pub record IsHandled (rule : LineRule) (lines : List (List ℕ)) (text : List ℕ) : Type 0 where
   pub closed : are_lines lines ≡ true
   pub answered : answer_from rule (λ before. record { text = []; refusal = None }) [] lines ≡ record { text = text; refusal = None }
 
--- each line that begins with these bytes is refused, and so are the bytes themselves while nothing closes them
+-- each line that begins with these bytes is refused, and the bytes themselves are refused before LF closes them
 pub record IsRefusedStart (rule : LineRule) (lines : List (List ℕ)) (start : List ℕ) (fault : Fault) : Type 0 where
   pub line : (others : List ℕ) → rule.line lines (start ++ others) ≡ refused fault
   pub unclosed : (others : List ℕ) → rule.unclosed lines (start ++ others) ≡ Some fault

@@ -1,6 +1,6 @@
-//! Laws of answers that are given line by line, and the lemmas on them that the engine cites.
+//! Laws of commands that answer line by line: what each line adds, and where the answer ends.
 //!
-//! Each public function here takes nothing, does nothing and returns nothing: its clauses are the laws.
+//! Each public function has an empty body: its clauses are the laws. The proofs of `far_engine` cite the lemmas behind them.
 #![tactic(auto)]
 
 pub mod frames;

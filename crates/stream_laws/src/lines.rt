@@ -1,52 +1,47 @@
-//! Laws of any command that answers line by line: what handled lines come to, and where it ends.
+//! Laws of every command that answers line by line: what its lines add, and where the answer ends.
 
-ghost use Rattle.std.specs.Prelude.{◌≡◌, ℕ, ◌<◌, ◌≤◌, List, [], ◌∷◌, ◌++◌, length, Some, None};
+ghost use Rattle.std.specs.Prelude.{◌≡◌, ℕ, ◌<◌, List, [], ◌∷◌, ◌++◌, length, Some, None};
 ghost use Rattle.subdiv_model.specs.Fault.{Long};
 ghost use Rattle.far_model.specs.Stream.{LineRule, answer_so_far, answer_of_all, answer_of_lines};
 ghost use Rattle.stream_laws.specs.Handled.{IsHandled};
-ghost use Rattle.stream_laws.specs.Laws.{Handled, Pending, RefusedLine, RefusedStart, EndOfLines, EndOfLine, BeginsWith, answer_with, bytes_of, bytes_to, closed_to, lines_to, added_by, unclosed_at, refused_after};
+ghost use Rattle.stream_laws.specs.Laws.{Handled, IsAnswered, IsAnsweredFrom, Pending, RefusedLine, RefusedStart, EndOfLines, EndOfLine, BeginsWith, answer_with, bytes_of, bytes_to, closed_to, lines_to, added_by, text_with, unclosed_at, refused_after};
 
-/// No lines are handled with no text. A line that is not refused is handled after those before it, and its text comes after theirs.
+/// No lines give no text. A line that is not refused adds its text to the text of the lines before it.
 pub fn lines_are_handled_one_by_one()
     ensures none { (rule : LineRule) → IsHandled rule [] [] }
     ensures more { (rule : LineRule) (at : Pending rule) (text : List ℕ) → added_by at ≡ answer_with text None
         → IsHandled rule (lines_to at) (at.before.text ++ text) }
 {}
 
-/// Where a line is refused, the answer is the text of the lines before it and the refusal, whatever comes after the line.
+/// If a line is refused, the answer is the text of the lines before it and the refusal, whatever follows.
 pub fn refused_lines_end_the_answer()
-    ensures closed { (rule : LineRule) (at : RefusedLine rule) (limit : ℕ) (more : List ℕ) → length (closed_to at.line) ≤ limit
-        → answer_of_lines rule limit (closed_to at.line ++ more) ≡ refused_after at.line at.fault }
-    ensures last { (rule : LineRule) (at : RefusedLine rule) (limit : ℕ) → 0 < length at.line.bytes → length (bytes_to at.line) ≤ limit
-        → answer_of_lines rule limit (bytes_to at.line) ≡ refused_after at.line at.fault }
+    ensures closed { (rule : LineRule) (at : RefusedLine rule) → IsAnsweredFrom rule (closed_to at.line) (refused_after at.line at.fault) }
+    ensures last { (rule : LineRule) (at : RefusedLine rule) → 0 < length at.line.bytes → IsAnswered rule (bytes_to at.line) (refused_after at.line at.fault) }
 {}
 
-/// Where pending bytes are refused whatever follows them, the answer is the text of the lines before them and the refusal.
+/// If pending bytes are refused whatever follows them, the answer is the text of the lines before them and the refusal.
 pub fn refused_bytes_end_the_answer()
-    ensures { (rule : LineRule) (at : RefusedStart rule) (limit : ℕ) (more : List ℕ) → length (bytes_to at.start) ≤ limit
-        → answer_of_lines rule limit (bytes_to at.start ++ more) ≡ refused_after at.start at.fault }
+    ensures { (rule : LineRule) (at : RefusedStart rule) → IsAnsweredFrom rule (bytes_to at.start) (refused_after at.start at.fault) }
 {}
 
-/// Pending bytes that are not refused add nothing so far. Where they fill the limit, an input of one byte more is too long.
+/// Pending bytes that are not refused add nothing yet. If they fill the limit, an input of one byte more is too long.
 pub fn pending_bytes_add_nothing()
     ensures so_far { (rule : LineRule) (at : Pending rule) → unclosed_at at ≡ None → answer_so_far rule (bytes_to at) ≡ answer_with at.before.text None }
     ensures long { (rule : LineRule) (at : Pending rule) (b : ℕ) (more : List ℕ) → unclosed_at at ≡ None
         → answer_of_lines rule (length (bytes_to at)) (bytes_to at ++ b ∷ more) ≡ refused_after at Long }
 {}
 
-/// Where the input ends, what is refused of all lines comes after their text. Bytes that nothing closes are the last line.
+/// At the end of the input the refusal of all lines, if any, follows their text. Bytes that no LF closes are the last line.
 pub fn the_end_comes_last()
-    ensures closed { (rule : LineRule) (at : EndOfLines rule) (limit : ℕ) → length (bytes_of at.lines) ≤ limit
-        → answer_of_lines rule limit (bytes_of at.lines) ≡ answer_with at.lines.text at.refusal }
-    ensures last { (rule : LineRule) (at : EndOfLine rule) (limit : ℕ) → length (bytes_to at.line) ≤ limit
-        → answer_of_lines rule limit (bytes_to at.line) ≡ answer_with (at.line.before.text ++ at.text) at.refusal }
+    ensures closed { (rule : LineRule) (at : EndOfLines rule) → IsAnswered rule (bytes_of at.lines) (answer_with at.lines.text at.refusal) }
+    ensures last { (rule : LineRule) (at : EndOfLine rule) → IsAnswered rule (bytes_to at.line) (answer_with (at.line.before.text ++ at.text) at.refusal) }
 {}
 
-/// What is written of lines that are not refused stays: the text of the answer begins with it, whatever bytes follow.
+/// Text that was written stays: the answer begins with it, whatever bytes follow.
 pub fn what_is_written_stays()
     ensures handled { (rule : LineRule) (at : Handled rule) (more : List ℕ) → BeginsWith at.text (answer_of_all rule (bytes_of at ++ more)).text }
     ensures closed { (rule : LineRule) (at : Pending rule) (more : List ℕ) → (added_by at).refusal ≡ None
-        → BeginsWith (at.before.text ++ (added_by at).text) (answer_of_all rule (closed_to at ++ more)).text }
+        → BeginsWith (text_with at) (answer_of_all rule (closed_to at ++ more)).text }
     ensures last { (rule : LineRule) (at : Pending rule) → 0 < length at.bytes → (added_by at).refusal ≡ None
-        → BeginsWith (at.before.text ++ (added_by at).text) (answer_of_all rule (bytes_to at)).text }
+        → BeginsWith (text_with at) (answer_of_all rule (bytes_to at)).text }
 {}

@@ -17,7 +17,7 @@ use Rattle.text_laws.proofs.NumberLemmas.{number-digits, index-back}
 use Rattle.text_laws.proofs.LineLemmas.{lacks-all}
 use Rattle.text_laws.proofs.KeptLemmas.{Words}
 
--- what holds of all of a kind holds of each of them
+-- a property of all items of a kind is one of each such item
 pub kept-at : {X : Type 0} (test : X → Bool) (P : X → Type 0) (d : X) (xs : List X) (i : ℕ) → AllByRecursion P (filter test xs) → i < length xs
     → test (get_or xs i d) ≡ true → P (get_or xs i d)
 kept-at test P d [] i all low passes = absurd (omega arith)

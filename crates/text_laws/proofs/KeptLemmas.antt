@@ -80,7 +80,7 @@ methods-all Normal = refl
 methods-all Chaikin = refl
 
 module _ (level : Level) (name : List ℕ) where
-  -- what is kept of each part of the tags
+  -- the kept lines of each part of the tags
   pub record AreKept (mode methods creases vertices holes : List Words) : Type 0 where
     pub mode_kept : filter (is_tag name) (words_of mode_tag ∷ []) ≡ mode
     pub methods_kept : filter (is_tag name) (map words_of (method_tags level.method)) ≡ methods
@@ -177,7 +177,7 @@ module _ {Face : Type 0} (points : List Point) (texture : List (Value × Value))
       joined : (a b c d : List Words) → (a ++ (b ++ c)) ++ d ≡ a ++ (b ++ (c ++ d))
       joined a b c d = append_assoc a (b ++ c) d ∙ ap (λ l. a ++ l) (append_assoc b c d)
 
-  -- of these, what is kept of each part
+  -- the kept lines of each part of a text
   kept-of-all : (test : Words → Bool) (first second third rest : List Words) → filter test (map vertex_words points) ≡ first
       → filter test (map texture_words texture) ≡ second → filter test (map face_words faces) ≡ third → filter test (words_of_tags level) ≡ rest
       → filter test all_words ≡ first ++ (second ++ (third ++ rest))

@@ -81,7 +81,7 @@ runs-back word (next ∷ words) plain others =
     slice_split_at is_blank word 32 (next ++ spaced words) (lacks-all is_blank word (plain-word word plain).blanks) refl
     ∙ ap (λ runs. word ∷ runs) (runs-back next words parts.0 parts.1)
 
--- and its words
+-- the words of a line are read back
 pub words-back : (words : List (List ℕ)) (line : List ℕ) → list_all is_plain_word words ≡ true → slice_split is_blank line ≡ words → line_words line ≡ words
 words-back words line plain runs =
     let some = all-weaker is_plain_word (λ run. not (nat_eq (length run) 0)) (λ run h. long (length run) (plain-word run h).some) words plain in
@@ -176,7 +176,7 @@ text-unmarked (line ∷ lines) plain =
 pub lines-back : (lines : List Line) → list_all is_plain_line lines ≡ true → obj_lines (text_of lines) ≡ map words_of lines
 lines-back lines plain = ap (λ text. map line_words (lines_of text)) (text-unmarked lines plain) ∙ text-words lines plain
 
--- and so are two, one after another
+-- the text of two lists of lines is the two texts one after another
 pub both-texts : (first second : List Line) → text_of (first ++ second) ≡ text_of first ++ text_of second
 both-texts first second = flat_map-append (λ line. line_text line.0 line.1) first second
 

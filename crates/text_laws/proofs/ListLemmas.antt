@@ -1,4 +1,4 @@
--- Lists that a function makes: what is kept of them, and what of their places.
+-- Lists made by a function: their kept items and their places.
 use Rattle.std.proofs.Common.{◌≡◌, ℕ, zero, suc, ◌+◌, ◌<◌, Bool, true, false, List, [], ◌∷◌, ◌++◌, length, map, get_or, arith, refl, ap, ◌∙◌}
 use Rattle.std.specs.List.{AllZip, filter, flat_map, list_all}
 use Rattle.std.proofs.lemmas.Bool.{and_parts, and_from, cond-true, cond-false}
@@ -23,7 +23,7 @@ filter-all test [] all = refl
 filter-all test (x ∷ xs) all =
     let parts = and_parts (test x) (list_all test xs) all in cond-true (test x) _ _ parts.0 ∙ ap (λ ys. x ∷ ys) (filter-all test xs parts.1)
 
--- of what a function makes all is kept, or nothing
+-- a filter keeps all items that a function makes, or none
 pub kept-all : {X Y : Type 0} (test : Y → Bool) (make : X → Y) → ((x : X) → test (make x) ≡ true) → (xs : List X) → filter test (map make xs) ≡ map make xs
 kept-all test make each xs = filter-all test (map make xs) (all-made test make each xs)
 
@@ -31,7 +31,7 @@ pub kept-none : {X Y : Type 0} (test : Y → Bool) (make : X → Y) → ((x : X)
 kept-none test make none [] = refl
 kept-none test make none (x ∷ xs) = cond-false (test (make x)) _ _ (none x) ∙ kept-none test make none xs
 
--- of two lists, one after another
+-- filtering two lists one after another
 pub kept-both : {X : Type 0} (test : X → Bool) (xs ys first second : List X) → filter test xs ≡ first → filter test ys ≡ second
     → filter test (xs ++ ys) ≡ first ++ second
 kept-both test xs ys first second one other =
@@ -53,7 +53,7 @@ pub flat-ones : {X Y : Type 0} (f : X → List Y) (g : X → Y) → ((x : X) →
 flat-ones f g one [] = refl
 flat-ones f g one (x ∷ xs) = ap (λ l. l ++ flat_map f xs) (one x) ∙ ap (λ l. g x ∷ l) (flat-ones f g one xs)
 
--- what is found at each place of a kind is what is found of each of the kind
+-- the items at the places of a kind are the items of that kind
 places-from-map : {X Y : Type 0} (test : X → Bool) (at : ℕ → Y) (of : X → Y) (d : X) (place : ℕ) (xs : List X)
     → ((i : ℕ) → i < length xs → test (get_or xs i d) ≡ true → at (place + i) ≡ of (get_or xs i d))
     → map at (places_from place test xs) ≡ map of (filter test xs)
@@ -75,7 +75,7 @@ pub places-map : {X Y : Type 0} (test : X → Bool) (at : ℕ → Y) (of : X →
     → ((i : ℕ) → i < length xs → test (get_or xs i d) ≡ true → at i ≡ of (get_or xs i d)) → map at (places test xs) ≡ map of (filter test xs)
 places-map test at of d xs h = places-from-map test at of d 0 xs (λ i low passes. let e : 0 + i ≡ i = omega arith in ap at e ∙ h i low passes)
 
--- what all of a list have each has, also where the list ends
+-- a test that all items and the default pass is passed at each place
 pub all-at : {X : Type 0} (test : X → Bool) (d : X) (xs : List X) (i : ℕ) → list_all test xs ≡ true → test d ≡ true → test (get_or xs i d) ≡ true
 all-at test d [] i all given = given
 all-at test d (x ∷ xs) zero all given = (and_parts (test x) (list_all test xs) all).0

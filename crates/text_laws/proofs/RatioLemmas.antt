@@ -40,7 +40,7 @@ whole-amount a =
     (λ (some : a ≢ 0). let one : a * 10 ^ 0 ≡ a = omega arith in cond-false _ _ _ (ne_eqb a 0 some) ∙ ap (λ n. (n, 0)) one)
     (cases_eq a 0)
 
--- digits alone are a decimal
+-- digits without a point are a decimal
 
 whole : (word : List ℕ) (a : ℕ) → without_sign word ≡ number_text a → IsRatio word a 1
 whole word a e =

@@ -52,7 +52,7 @@ sharpness-back Smooth proper = refl
 sharpness-back (Semi num den) proper = semi-back num den (proper-of num den proper)
 sharpness-back Infinite proper = refl
 
--- its text is a numeral without a sign
+-- the text of a sharpness is a numeral without a sign
 pub sharpness-numeral : (s : Sharpness) → is_proper_sharpness s ≡ true → is_numeral (sharpness_text s) ≡ true
 sharpness-numeral Smooth proper = refl
 sharpness-numeral (Semi num den) proper =
@@ -64,7 +64,7 @@ sharpness-unsigned Smooth = refl
 sharpness-unsigned (Semi num den) = (ratio-unsigned num den).1
 sharpness-unsigned Infinite = refl
 
--- it is in range, and fine enough, where its denominator is at most 10^6
+-- the numeral is in range, and fine enough if its denominator is at most 10^6
 semi-ratio : (num den : ℕ) → is_proper_sharpness (Semi num den) ≡ true → IsRatio (ratio_text (num, den)) num den
 semi-ratio num den proper = ratio-back (ratio_text (num, den)) num den (proper-of num den proper).over (ratio-unsigned num den).0
 

@@ -33,7 +33,7 @@ use Rattle.text_laws.proofs.ReadMeshLemmas.{well-parts, shown-all, points-counte
 abbrev is_textured : Words → Bool
 is_textured words = list_all has_texture_part (values_of words)
 
--- there is texture where there is a face and each line of a face has it
+-- the text has texture if it has a face and each face line has texture
 module _ {Face : Type 0} (points : List Point) (texture : List (Value × Value)) (corners : Face → List (List ℕ)) (faces : List Face) (level : Level) where
   abbrev lines : List Words
   lines = all_words points texture corners faces level

@@ -50,7 +50,7 @@ lowest-same_value value positive =
     ∙ sym (signed-times negative n low.1)
     ∙ ap (λ z. z *ℤ pos low.1) (signed-back value.num)
 
--- terms times what is left of a common denominator
+-- terms times the quotient of a common denominator
 over-same : (x z : ℤ) (q d b c : ℕ) → x *ℤ pos d ≡ z *ℤ pos b → q * b ≡ c → (x *ℤ pos q) *ℤ pos d ≡ z *ℤ pos c
 over-same x z q d b c same split =
     *ℤ_comm (x *ℤ pos q) (pos d)

@@ -1,6 +1,6 @@
-//! Laws of what the program writes: it is read back as what it is.
+//! Laws of output: the reader returns exactly the numbers, lines and meshes that the program writes.
 //!
-//! Each public function here takes nothing, does nothing and returns nothing: its clauses are the laws.
+//! Each public function has an empty body: its clauses are the laws.
 #![tactic(auto)]
 
 pub mod faults;

@@ -1,13 +1,11 @@
-//! Laws of lines: plain lines are read back from their text.
+//! The law that lines are read back from their text.
 
-ghost use Rattle.std.specs.Prelude.{◌≡◌, List, ◌++◌, map, IsTrue};
-ghost use Rattle.std.specs.List.{list_all};
+ghost use Rattle.std.specs.Prelude.{◌≡◌, List, ◌++◌, map};
 ghost use Rattle.subdiv_model.specs.ReadObj.{obj_lines};
-ghost use Rattle.text_laws.specs.Laws.{Line, is_plain_line, text_of, words_of};
+ghost use Rattle.text_laws.specs.Laws.{ArePlain, Line, text_of, words_of};
 
-/// Plain lines are read back from their text, and from texts one after another.
+/// Plain lines are read back from their text, also from several texts in sequence.
 pub fn plain_lines_are_read_back()
-    ensures one { (lines : List Line) → IsTrue (list_all is_plain_line lines) → obj_lines (text_of lines) ≡ map words_of lines }
-    ensures two { (first second : List Line) → IsTrue (list_all is_plain_line first) → IsTrue (list_all is_plain_line second)
-        → obj_lines (text_of first ++ text_of second) ≡ map words_of first ++ map words_of second }
+    ensures one { (lines : List Line) → ArePlain lines → obj_lines (text_of lines) ≡ map words_of lines }
+    ensures two { (first second : List Line) → ArePlain first → ArePlain second → obj_lines (text_of first ++ text_of second) ≡ map words_of first ++ map words_of second }
 {}

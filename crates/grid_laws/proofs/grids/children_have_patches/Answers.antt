@@ -5,7 +5,7 @@ pub returns-clause-inside : goal.returns-clause-inside
 returns-clause-inside c = λ level face k inside h below. child-inside level face k inside h below
 
 pub returns-clause-patch : goal.returns-clause-patch
-returns-clause-patch c = λ level face k well inside h below. child-patch level well face inside h k below
+returns-clause-patch c = λ level face k on below. child-patch level on.well face on.inside on.is k below
 
 pub returns-clause-points : goal.returns-clause-points
-returns-clause-points c = λ level face k well inside h below. child-points level well face inside h k below
+returns-clause-points c = λ level face k on below. child-points level on.well face on.inside on.is k below

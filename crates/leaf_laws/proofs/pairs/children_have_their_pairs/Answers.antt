@@ -9,4 +9,4 @@ pub returns-clause-inside : goal.returns-clause-inside
 returns-clause-inside c = λ grid k s t h l is. child-within grid k s t h l is
 
 pub returns-clause-here : goal.returns-clause-here
-returns-clause-here c = λ grid k s t pair h l low high e. quad-here grid k s t pair h l low high e
+returns-clause-here c = λ grid k s t at h l. quad-here grid k s t at.pair h l at.along at.across at.is

@@ -2,4 +2,5 @@ use Rattle.leaf_laws.proofs.PathLemmas.{leaves-share}
 use Rattle.leaf_laws.proofs.paths.leaves_share_borders_alone.Goals as goal
 
 pub returns : goal.returns
-returns c = λ grid further base meeting at leaf other path way is apart one two. leaves-share grid further base meeting at leaf other path way is apart one two
+returns c = λ grid further base meeting at two is apart.
+    leaves-share grid further base meeting at two.leaf two.other two.path two.other_path is apart two.leads two.other_leads

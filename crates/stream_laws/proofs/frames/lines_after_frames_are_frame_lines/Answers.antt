@@ -8,4 +8,4 @@ pub returns-clause-frames : goal.returns-clause-frames
 returns-clause-frames c = line-frame
 
 pub returns-clause-moved : goal.returns-clause-moved
-returns-clause-moved c = line-frame_at
+returns-clause-moved c = λ mesh before line. line-frame_at mesh before.lines line before.are

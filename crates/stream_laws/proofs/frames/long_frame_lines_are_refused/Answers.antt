@@ -5,4 +5,4 @@ pub returns-clause-short : goal.returns-clause-short
 returns-clause-short c = λ asked. unclosed-short asked.depth asked.refusal asked.mesh
 
 pub returns-clause-long : goal.returns-clause-long
-returns-clause-long c = λ asked. long-refused asked.depth asked.refusal asked.mesh
+returns-clause-long c = λ asked before bytes. long-refused asked.depth asked.refusal asked.mesh before.lines bytes before.are

@@ -5,4 +5,4 @@ pub returns-clause-closed : goal.returns-clause-closed
 returns-clause-closed c = refused-closed
 
 pub returns-clause-last : goal.returns-clause-last
-returns-clause-last c = refused-last
+returns-clause-last c = λ rule at some limit. refused-last rule at limit some

@@ -6,4 +6,4 @@ pub returns-clause-mesh : goal.returns-clause-mesh
 returns-clause-mesh c = read-without-fault
 
 pub returns-clause-textured : goal.returns-clause-textured
-returns-clause-textured c = textured-without-fault
+returns-clause-textured c = λ given least is. textured-without-fault given least is.mesh is.texture

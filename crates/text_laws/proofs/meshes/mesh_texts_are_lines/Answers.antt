@@ -5,7 +5,7 @@ pub returns-clause-mesh : goal.returns-clause-mesh
 returns-clause-mesh c = mesh-text
 
 pub returns-clause-textured : goal.returns-clause-textured
-returns-clause-textured c = textured_mesh-text
+returns-clause-textured c = λ mesh. textured_mesh-text mesh.holes mesh.level mesh.points mesh.cut mesh.texture
 
 pub returns-clause-tags : goal.returns-clause-tags
 returns-clause-tags c = tags-text

@@ -5,4 +5,4 @@ pub returns-clause-mesh : goal.returns-clause-mesh
 returns-clause-mesh c = mesh-back
 
 pub returns-clause-textured : goal.returns-clause-textured
-returns-clause-textured c = textured_mesh-back
+returns-clause-textured c = λ mesh. textured_mesh-back mesh.holes mesh.level mesh.points mesh.cut mesh.texture
