@@ -3,10 +3,11 @@ use Rattle.std.specs.Prelude.{ℕ, List, ◌++◌, codes}
 use Rattle.subdiv_model.specs.ExampleTables.{small_text}
 use Rattle.subdiv_model.specs.ExampleTexts.{square_text, square_table_text}
 
--- a table of one row, and the two points that it is applied to
+-- the two points that the small table is applied to
 abbrev pub small_points : List ℕ
 small_points = codes "v 0 0 0\nv 4 8 1\n"
 
+-- the small table, and the two points after it
 abbrev pub small_input : List ℕ
 small_input = small_text ++ small_points
 

@@ -1,4 +1,4 @@
--- What the examples of command lines and answers compute.
+-- Rules, meshes and lines of answers for the examples.
 use Rattle.std.specs.Prelude.{ℕ, ◌+◌, pos, Bool, false, nat_eq, nat_lt, List, [], ◌∷◌, ◌++◌, length, get_or, Some, None, codes, if◌then◌else◌}
 use Rattle.std.specs.List.{flat_map}
 use Rattle.subdiv_model.specs.Base.{base_level}
@@ -20,16 +20,17 @@ use Rattle.far_model.specs.Refusal.{refused, answer_unless}
 use Rattle.far_model.specs.Stream.{LineRule}
 use Rattle.far_model.specs.Words.{option_value}
 
--- the first texture line after a step, where the texture is refined so
+-- the first texture line after a step, by the refinement of the texture
 abbrev pub first_texture : List ℕ → List ℕ
 first_texture uv = texture_line None (get_or (texture_after (read_obj_mesh seamed_text 0) (uv_of (option_value uv)) 1) 0 (whole_value (pos 0), whole_value (pos 0)))
 
+-- the line begins with `x`
 abbrev pub begins_with_x : List ℕ → Bool
 begins_with_x [] = false
 begins_with_x (b ∷ line) = nat_eq b 120
 
--- a rule that writes each line again, refuses a line that begins with `x` and an unclosed line of more than two bytes, and writes
--- how many lines there were
+-- A rule that repeats each line. It refuses a line that begins with `x`, and an unclosed line of more than two bytes. It ends
+-- with the number of lines.
 abbrev pub echo_rule : LineRule
 echo_rule = record {
   line = λ before line.
@@ -40,15 +41,15 @@ echo_rule = record {
   end = λ lines. answer_unless None (number_text (length lines));
 }
 
--- a sheet of three by three quads, at the squares of their places in a row
+-- a sheet of three by three quads, with the squares of their places in a row
 abbrev pub curved_sheet_text : List ℕ
 curved_sheet_text = codes "v 0 0 0\nv 1 0 1\nv 2 0 4\nv 3 0 9\nv 0 1 0\nv 1 1 1\nv 2 1 4\nv 3 1 9\nv 0 2 0\nv 1 2 1\nv 2 2 4\nv 3 2 9\nv 0 3 0\nv 1 3 1\nv 2 3 4\nv 3 3 9\nf 1 2 6 5\nf 2 3 7 6\nf 3 4 8 7\nf 5 6 10 9\nf 6 7 11 10\nf 7 8 12 11\nf 9 10 14 13\nf 10 11 15 14\nf 11 12 16 15\n"
 
--- three quads in a row whose texture is cut between the first and the second, with sharp corners and a crease
+-- three quads in a row with a seam between the first and the second, sharp corners and a crease
 abbrev pub seamed_strip_text : List ℕ
 seamed_strip_text = codes "v 0 0 0\nv 1 0 0\nv 2 0 0\nv 3 0 0\nv 0 1 0\nv 1 1 0\nv 2 1 0\nv 3 1 0\nvt 0 0\nvt 1 0\nvt 2 0\nvt 3 0\nvt 4 0\nvt 5 0\nvt 6 0\nvt 7 0\nvt 8 0\nvt 9 0\nf 1/1 2/2 6/3 5/4\nf 2/5 3/6 7/7 6/8\nf 3/6 4/9 8/10 7/7\nt interpolateboundary 1/0/0 1\nt crease 2/1/0 2 6 2\n"
 
--- what `sparse` is asked for, with smooth texture and depth 1
+-- options of `sparse` with smooth texture and depth 1
 abbrev pub textured_options : Select → SparseOptions
 textured_options select = record { depth = 1; select = select; decimals = None; uv = Some SmoothUv }
 

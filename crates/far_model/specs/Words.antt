@@ -1,14 +1,14 @@
--- The words of a command line: a command, then options `name=value`, by one table.
--- Source: this profile.
+-- The words of a command line: a command, then options `name=value`, all in one table.
+-- Source: Drillolive.
 use Rattle.std.specs.Prelude.{ℕ, ◌+◌, Bool, true, false, not, ◌&&◌, ◌||◌, nat_eq, nat_le, List, [], ◌∷◌, length, take, get_or, Option, Some, None, option_map, unwrap_or, bytes_eq, codes, if◌then◌else◌}
 use Rattle.std.specs.List.{list_all, list_any, find, before_first, after_first, range_with_len}
 use Rattle.subdiv_model.specs.Digits.{is_number_word, number_of_digits}
 
--- what the value of an option may be
+-- the values that an option allows
 pub data ValueKind : Type 0 where
-  -- a number, from the first to the second
+  -- a number between two bounds, both allowed
   Between : ℕ → ℕ → ValueKind
-  -- one of some names
+  -- one of the names
   OneOf : List (List ℕ) → ValueKind
 
 -- an option of a command
@@ -22,30 +22,35 @@ pub record CommandRule : Type 0 where
   pub name : List ℕ
   pub options : List OptionRule
 
+-- a required option whose value is a number between two bounds
 abbrev pub required_option : List ℕ → ℕ → ℕ → OptionRule
 required_option name least greatest = record { name = name; kind = Between least greatest; required = true }
 
+-- an option whose value is a number between two bounds
 abbrev pub number_option : List ℕ → ℕ → ℕ → OptionRule
 number_option name least greatest = record { name = name; kind = Between least greatest; required = false }
 
+-- an option whose value is one of some names
 abbrev pub name_option : List ℕ → List (List ℕ) → OptionRule
 name_option name names = record { name = name; kind = OneOf names; required = false }
 
--- the names that say how texture is refined, which path is taken, and whether tags are written; the first is
--- what stands where the option is missing
+-- the names for the refinement of texture; the first is the default
 abbrev pub texture_names : List (List ℕ)
 texture_names = codes "smooth" ∷ codes "corners" ∷ codes "boundaries" ∷ codes "linear" ∷ []
 
+-- the names for the path of `refine`; the first is the default
 abbrev pub path_names : List (List ℕ)
 path_names = codes "table" ∷ codes "level" ∷ []
 
+-- the names for tags; the first is the default
 abbrev pub tags_names : List (List ℕ)
 tags_names = codes "no" ∷ codes "yes" ∷ []
 
--- the names that say which faces are refined further, and whether sparse levels have texture, and how it is refined
+-- the names for the selected faces; the first is the default
 abbrev pub select_names : List (List ℕ)
 select_names = codes "feature" ∷ codes "all" ∷ []
 
+-- the names for the texture of sparse levels; the first is the default
 abbrev pub sparse_texture_names : List (List ℕ)
 sparse_texture_names = codes "none" ∷ texture_names
 
@@ -65,6 +70,7 @@ command_table =
     ∷ record { name = codes "gen"; options = required_option (codes "seed") 0 4294967295 ∷ required_option (codes "size") 1 256 ∷ required_option (codes "depth") 0 10 ∷ [] }
     ∷ []
 
+-- the option allows this value
 abbrev pub is_value : ValueKind → List ℕ → Bool
 is_value (Between least greatest) value =
     is_number_word value && nat_le least (number_of_digits value) && nat_le (number_of_digits value) greatest
@@ -74,10 +80,11 @@ is_value (OneOf names) value = list_any (bytes_eq value) names
 abbrev pub is_equals : ℕ → Bool
 is_equals b = nat_eq b 61
 
--- what stands before the first `=` of an option, and what stands after it
+-- the part of an option before its first `=`
 abbrev pub option_name : List ℕ → List ℕ
 option_name word = before_first is_equals word
 
+-- the part of an option after its first `=`
 abbrev pub option_value : List ℕ → List ℕ
 option_value word = after_first is_equals word
 
@@ -85,7 +92,7 @@ option_value word = after_first is_equals word
 abbrev pub rule_named : List CommandRule → List ℕ → Option CommandRule
 rule_named table name = find (λ rule. bytes_eq name rule.name) table
 
--- the word is `name=value`, and one of the options has this name and may have this value
+-- the word is `name=value`, where one of the options has this name and allows this value
 abbrev pub is_option_of : List OptionRule → List ℕ → Bool
 is_option_of rules word =
     list_any is_equals word && list_any (λ rule. bytes_eq (option_name word) rule.name && is_value rule.kind (option_value word)) rules
@@ -94,31 +101,32 @@ is_option_of rules word =
 abbrev pub has_option : List (List ℕ) → List ℕ → Bool
 has_option options name = list_any (λ option. bytes_eq name (option_name option)) options
 
--- the option at place i, counted from 0 after the command, is none of the command's or has the name of an earlier one
+-- the option at place i, from 0 after the command, is unknown or repeats the name of an earlier one
 abbrev pub is_bad_option : List OptionRule → List (List ℕ) → ℕ → Bool
 is_bad_option rules options i =
     let option = get_or options i [] in
     not (is_option_of rules option) || has_option (take i options) (option_name option)
 
+-- the place, from 0 after the command, of the first bad option
 abbrev pub first_bad_option : List OptionRule → List (List ℕ) → Option ℕ
 first_bad_option rules options = find (is_bad_option rules options) (range_with_len 0 (length options))
 
--- each required option is there
+-- the options include each required one
 abbrev pub has_required : List OptionRule → List (List ℕ) → Bool
 has_required rules options = list_all (λ rule. not rule.required || has_option options rule.name) rules
 
--- the place of an option among the words, from its place after the command, or else the number of words where a
--- required option is missing
+-- the place of an option among the words, from its place after the command; the number of words if a required option is missing
 abbrev pub usage_of_options : List OptionRule → List (List ℕ) → Option ℕ → Option ℕ
 usage_of_options rules options (Some i) = Some (i + 1)
 usage_of_options rules options None = if has_required rules options then None else Some (length options + 1)
 
+-- the place of the first bad word; 0 if there is no rule for the command
 abbrev pub usage_of_rule : Option CommandRule → List (List ℕ) → Option ℕ
 usage_of_rule None options = Some 0
 usage_of_rule (Some rule) options = usage_of_options rule.options options (first_bad_option rule.options options)
 
--- the place, from 0, of the first word that makes the words no command of the table, or the number of words where a
--- required option is missing; none where the words are a command
+-- The place, from 0, of the first word that makes the words no command of the table. It is the number of words if a required
+-- option is missing, and none if the words are a command.
 abbrev pub usage_of : List CommandRule → List (List ℕ) → Option ℕ
 usage_of table [] = Some 0
 usage_of table (command ∷ options) = usage_of_rule (rule_named table command) options
@@ -127,9 +135,10 @@ usage_of table (command ∷ options) = usage_of_rule (rule_named table command) 
 abbrev pub value_of : List (List ℕ) → List ℕ → Option (List ℕ)
 value_of options name = option_map option_value (find (λ option. bytes_eq name (option_name option)) options)
 
--- the number of an option, where it is there, and 0 where it is missing
+-- the number of an option, if it is there
 abbrev pub number_of : List (List ℕ) → List ℕ → Option ℕ
 number_of options name = option_map number_of_digits (value_of options name)
 
+-- the number of an option, or 0 if the option is missing
 abbrev pub required_number : List (List ℕ) → List ℕ → ℕ
 required_number options name = unwrap_or (number_of options name) 0

@@ -1,4 +1,4 @@
-//! Examples of whole answers: the text or the refusal for words and bytes, each proved by computing.
+//! Examples of whole answers to words and bytes: a text or a refusal, each proved by computing.
 //@ Points=Fault
 //@ Faces=Fault
 //@ Valence=Fault
@@ -19,7 +19,7 @@ ghost use Rattle.subdiv_model.specs.ObjMesh.{ObjMesh};
 ghost use Rattle.subdiv_model.specs.ReadObj.{read_obj_mesh};
 ghost use Rattle.subdiv_model.specs.Sharpness.{Semi};
 
-/// The words of `refine`, by the table and level by level, on small meshes.
+/// `refine` with its options, by the table and level by level, on small meshes.
 pub fn refined_meshes()
     ensures square { answer (codes "refine" ∷ codes "depth=1" ∷ []) square_text ≡ record { text = refined_square_text; refusal = None } }
     ensures by_level { answer (codes "refine" ∷ codes "by=level" ∷ codes "depth=1" ∷ []) square_text ≡ answer (codes "refine" ∷ codes "depth=1" ∷ []) square_text }
@@ -29,7 +29,7 @@ pub fn refined_meshes()
     ensures point { (answer (codes "refine" ∷ codes "depth=3" ∷ []) (codes "v 7 8 9")).text ≡ codes "v 7 8 9\n" }
 {}
 
-/// With tags the level is written with its holes, and reads as the same level.
+/// With tags the text of a level includes its holes, and reads as the same level.
 pub fn levels_with_their_tags()
     ensures hidden { (answer (codes "refine" ∷ codes "depth=1" ∷ codes "tags=yes" ∷ []) (square_text ++ codes "t interpolateboundary 1/0/0 0\n")).text ≡ hidden_square_refined_text }
     ensures untagged { (answer (codes "refine" ∷ codes "depth=1" ∷ []) (square_text ++ codes "t interpolateboundary 1/0/0 0\n")).text ≡ refined_square_points_text }
@@ -38,7 +38,7 @@ pub fn levels_with_their_tags()
         ≡ base_level (read_obj_mesh (answer (codes "refine" ∷ codes "depth=0" ∷ codes "tags=yes" ∷ codes "decimals=3" ∷ []) tagged_cube_text).text 0) }
 {}
 
-/// Texture: channel points and their values in each mode.
+/// Channel points and their texture values in each mode.
 pub fn refined_texture_of_two_quads()
     ensures smooth { (answer (codes "refine" ∷ codes "depth=0" ∷ []) seamed_text).text ≡ seamed_text }
     ensures smooth_values { first_texture (codes "uv=smooth") ≡ codes "vt 1/8 1/8\n" }
@@ -55,7 +55,7 @@ pub fn levels_tables_and_sheets()
     ensures moved { answer (codes "frames" ∷ codes "depth=0" ∷ []) (square_text ++ codes "frames\nmove 0 1 1 1\ngo\n") ≡ record { text = codes "frame 1\np 0 1 1 1\n"; refusal = None } }
 {}
 
-/// Sparse levels of the square: with sharp corners nothing is a feature, and with all faces selected each level is whole.
+/// Sparse levels of the square. With sharp corners no face is a feature; with all faces selected each level is whole.
 pub fn sparse_levels()
     ensures none { answer (codes "sparse" ∷ codes "depth=1" ∷ []) (square_text ++ codes "t interpolateboundary 1/0/0 1\n")
         ≡ record { text = codes "level 0 points 4 faces 1\nv 0 0 0\nv 4 0 0\nv 4 4 0\nv 0 4 0\nf l 0 1 2 3 4\nlevel 1 points 0 faces 0\n"; refusal = None } }
@@ -65,7 +65,8 @@ pub fn sparse_levels()
     ensures words { (answer (codes "sparse" ∷ codes "depth=1" ∷ codes "uv=no" ∷ []) square_text).refusal ≡ Some (Usage 2) }
 {}
 
-/// The texture of sparse levels: two quads that a seam parts, and three quads of which one has no texture corner at depth 1.
+/// The texture of sparse levels: two quads with a seam between them, and three quads. One of the three has no texture corner at
+/// depth 1.
 pub fn texture_of_sparse_levels()
     ensures seam { level_head AllFaces seamed_text 0 ++ level_head AllFaces seamed_text 1 ≡ codes "level 0 points 6 faces 2 texture 8\nlevel 1 points 15 faces 8 texture 18\n" }
     ensures faces { level_faces AllFaces seamed_text 0 ≡ codes "f s 0 1/1 2/2 3/3 4/4\nf s 1 2/5 5/6 6/7 3/8\n" }
@@ -75,7 +76,7 @@ pub fn texture_of_sparse_levels()
     ensures text { take 35 (answer (codes "sparse" ∷ codes "depth=0" ∷ codes "uv=smooth" ∷ []) seamed_text).text ≡ codes "level 0 points 6 faces 2 texture 8\n" }
 {}
 
-/// The leaves of places on the cube, where each face is refined, and why a face has no places.
+/// The leaves of places on the cube, where each face is refined, and the causes why a face has no places.
 pub fn leaves_of_a_cube()
     ensures middle { cube_leaf 1 2 (1, 1) ≡ codes "p 1 1 level 1 face 0 corner 0 at 1 1\n" }
     ensures beside { cube_leaf 1 2 (2, 0) ≡ codes "p 2 0 level 1 face 1 corner 0 at 0 0\n" }
@@ -90,7 +91,7 @@ pub fn leaves_of_a_cube()
     ensures hole { (answer (codes "map" ∷ codes "depth=2" ∷ codes "face=0" ∷ codes "grid=4" ∷ []) (cube_text ++ codes "t hole 1/0/0 0\n")).refusal ≡ Some (Place (IsHole 0)) }
 {}
 
-/// Limit points of the square, and points that have none.
+/// Limit points of the square, and points without a limit point.
 pub fn limit_points_of_meshes()
     ensures square { answer (codes "limit" ∷ codes "depth=1" ∷ codes "decimals=2" ∷ []) square_text
         ≡ record { text = codes "v 0.67 0.67 0.00\nv 3.33 0.67 0.00\nv 3.33 3.33 0.00\nv 0.67 3.33 0.00\nv 2.00 2.00 0.00\nv 2.00 0.17 0.00\nv 3.83 2.00 0.00\nv 2.00 3.83 0.00\nv 0.17 2.00 0.00\nf 1 6 5 9\nf 2 7 5 6\nf 3 8 5 7\nf 4 9 5 8\n"; refusal = None } }
@@ -101,7 +102,7 @@ pub fn limit_points_of_meshes()
     ensures status { fault_status (Limit (Dart 0)) ≡ 9 }
 {}
 
-/// The patch of the middle quad of a sheet, and quads that have none.
+/// The patch of the middle quad of a sheet, and quads without a patch.
 pub fn patches_of_a_sheet()
     ensures start { take 83 (answer (codes "patch" ∷ codes "depth=0" ∷ codes "face=4" ∷ codes "grid=2" ∷ []) curved_sheet_text).text
         ≡ codes "patch face 4 grid 2\ns 0 0 1 1 4/3\ns 1 0 3/2 1 31/12\ns 2 0 2 1 13/3\ns 0 1 1 3/2 4/3\n" }
@@ -112,7 +113,7 @@ pub fn patches_of_a_sheet()
     ensures missing { (answer (codes "patch" ∷ codes "depth=0" ∷ codes "grid=1" ∷ []) curved_sheet_text).refusal ≡ Some (Usage 3) }
 {}
 
-/// The first refusal that applies.
+/// Of several refusals the first is reported.
 pub fn refusals_in_their_order()
     ensures words { answer (codes "refine" ∷ []) (codes "x") ≡ record { text = []; refusal = Some (Usage 1) } }
     ensures text { answer (codes "levels" ∷ codes "depth=0" ∷ []) (codes "v 0 0 0\nf 1 1 1\nx\n") ≡ record { text = []; refusal = Some (Obj (record { line = 3; cause = UnknownKeyword })) } }
@@ -123,14 +124,14 @@ pub fn refusals_in_their_order()
     ensures level_alone { (answer (codes "levels" ∷ codes "depth=2" ∷ []) (square_text ++ codes "v 0 0 9e36\n")).refusal ≡ None }
 {}
 
-/// The counts of a mesh and of its levels.
+/// Counts of a mesh and of its levels past their limits.
 pub fn counts_past_their_limits()
     ensures faces { level_count_faults cube 10 ≡ TooLarge (LevelFaces 10 6291456) ∷ [] }
     ensures two { map fault_line (level_count_faults cube 10) ≡ codes "far: level 10 has 6291456 faces\n" ∷ [] }
     ensures none { level_count_faults cube 9 ≡ [] }
 {}
 
-/// A mesh with a count past its limit is refused for the first such count, whatever the command.
+/// Every command refuses a mesh with a count past its limit for the first such count.
 pub fn counts_come_first()
     ensures read { (command : ReadCommand) (mesh : ObjMesh) (fault : Fault) (faults : List Fault) → count_faults mesh ≡ fault ∷ faults
         → (answer_of_mesh command mesh).refusal ≡ Some fault }
@@ -153,7 +154,7 @@ pub fn lines_of_faults()
     ensures good { outcome_status None ≡ 0 }
 {}
 
-/// The first draws of seed 0, and the sheet of seed 3 with a crease of its own.
+/// The first draws of seed 0, and the sheet of seed 3 with one crease.
 pub fn draws_and_sheets()
     ensures draws { draws_from 4 0 ≡ 0 ∷ 6 ∷ 6 ∷ 4 ∷ [] }
     ensures faces { sheet_faces 1 ≡ (0 ∷ 1 ∷ 3 ∷ 2 ∷ []) ∷ [] }

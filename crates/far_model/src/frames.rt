@@ -1,18 +1,18 @@
-//! Examples of moves and the points that they change, each proved by computing.
+//! Examples of moved control points and the points they change, each proved by computing.
 
 ghost use Rattle.std.specs.Prelude.{◌≡◌, ◌++◌, [], ◌∷◌, Some, None, codes};
 ghost use Rattle.far_model.specs.ExampleFrames.{framed, square_lines, moves_of_the_square, answers_of_the_square, last_move, refused_frame_line};
 ghost use Rattle.subdiv_model.specs.Fault.{Obj, Overflow, Positions, ValueOverflow};
 ghost use Rattle.subdiv_model.specs.ObjFault.{BadNumeral, NumberRange, UnknownKeyword, ShortLine, MoveIndex, TooFine, LongLine};
 
-/// A square, moved: the points that depend on a moved control are written, and at the next `go` no point is.
+/// A square with a moved point: `go` writes the points that depend on it, and the next `go` writes none.
 pub fn moves_of_a_square()
     ensures whole { framed 0 (square_lines ++ moves_of_the_square) ≡ record { text = answers_of_the_square; refusal = None } }
     ensures finer { framed 0 (square_lines ++ (moves_of_the_square ++ last_move)) ≡ record { text = answers_of_the_square; refusal = Some (Obj (record { line = 13; cause = TooFine })) } }
     ensures scaled { framed 1 (square_lines ++ (moves_of_the_square ++ last_move)) ≡ record { text = answers_of_the_square; refusal = None } }
 {}
 
-/// Without a line `frames` nothing is written, and without a move no point is changed.
+/// Without a line `frames` the answer is empty, and without a move no point changes.
 pub fn inputs_without_moves()
     ensures mesh { framed 0 square_lines ≡ record { text = []; refusal = None } }
     ensures empty { framed 0 (codes "frames\ngo") ≡ record { text = codes "frame 0\n"; refusal = None } }
@@ -20,7 +20,7 @@ pub fn inputs_without_moves()
     ensures blank { framed 0 (codes "frames now\n\n# go\ngo on\n") ≡ record { text = codes "frame 0\n"; refusal = None } }
 {}
 
-/// What is wrong with a move, in the order in which it is asked.
+/// The faults of a move, in the order in which they are judged.
 pub fn refused_moves()
     ensures words { refused_frame_line (codes "move 0 1 1") ≡ Some (Obj (record { line = 7; cause = ShortLine })) }
     ensures index { refused_frame_line (codes "move -1 a 0 0") ≡ Some (Obj (record { line = 7; cause = BadNumeral })) }

@@ -1,8 +1,7 @@
-//! What the program is: the words of its command line, its commands, and its answers to words and bytes. The definitions stand on
-//! those of `subdiv_model`, and have worked examples that show them to be the intended ones.
+//! The definitions of the program `far`: the words of its command line, its commands, and its answers to words and bytes.
 //!
-//! Each public function here takes nothing, does nothing and returns nothing. Its clauses are examples, proved by
-//! computing both sides.
+//! They use the definitions of `subdiv_model`. The public functions have empty bodies: their clauses are worked examples, proved
+//! by computing both sides.
 #![tactic(auto)]
 
 pub mod answers;

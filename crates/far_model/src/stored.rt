@@ -1,4 +1,4 @@
-//! Examples of what is made of a stored table, each proved by computing.
+//! Examples of `verify` and `apply`, each proved by computing.
 
 ghost use Rattle.std.specs.Prelude.{◌≡◌, [], ◌∷◌, ◌++◌, Some, None, Ok, codes};
 ghost use Rattle.far_model.specs.Answer.{answer};
@@ -18,7 +18,7 @@ pub fn words_of_stored_tables()
     ensures an_option { usage_of command_table (codes "apply" ∷ codes "depth=1" ∷ []) ≡ Some 1 }
 {}
 
-/// A table is evaluated over the points behind it, or refused.
+/// `apply` evaluates a table over the points after it, or refuses it.
 pub fn tables_over_points()
     ensures small { answer (codes "apply" ∷ []) small_input ≡ record { text = codes "v 1 2 1/4\n"; refusal = None } }
     ensures sum { (answer (codes "apply" ∷ []) (codes "table controls 2 rows 1 entries 2\ns 5 0 3 1 1\n" ++ small_points)).refusal ≡ Some (Table (record { line = 2; cause = Sum })) }
@@ -28,7 +28,7 @@ pub fn tables_over_points()
     ensures marked { (answer (codes "apply" ∷ []) (239 ∷ 187 ∷ 191 ∷ small_input)).refusal ≡ Some (Table (record { line = 1; cause = Form })) }
 {}
 
-/// A stored table is that of the mesh before it, or differs from it in a row, or is none.
+/// `verify` accepts the table of the mesh before it, reports the row that differs, or refuses the text of a table.
 pub fn tables_of_meshes()
     ensures same { answer (codes "verify" ∷ codes "depth=1" ∷ []) square_input ≡ record { text = codes "table agrees 9\n"; refusal = None } }
     ensures marked { (answer (codes "verify" ∷ codes "depth=1" ∷ []) (239 ∷ 187 ∷ 191 ∷ square_input)).text ≡ codes "table agrees 9\n" }

@@ -5,7 +5,7 @@ ghost use Rattle.far_model.specs.Command.{ByLevel, ByTable, CornersUv, Frames, G
 ghost use Rattle.subdiv_model.specs.ExampleTexts.{all_refine_words};
 ghost use Rattle.far_model.specs.Words.{command_table, usage_of};
 
-/// Command lines and the place of their first bad word.
+/// Command lines and the places of their first bad words.
 pub fn places_of_bad_words()
     ensures none { usage_of command_table [] ≡ Some 0 }
     ensures unknown { usage_of command_table (codes "x" ∷ codes "depth=1" ∷ []) ≡ Some 0 }
@@ -20,7 +20,7 @@ pub fn places_of_bad_words()
     ensures fine { usage_of command_table (codes "frames" ∷ codes "depth=1" ∷ codes "scale=19" ∷ []) ≡ Some 2 }
 {}
 
-/// What words say: options in any order, and the defaults where they are missing.
+/// The commands that words give: options in any order, and defaults for missing ones.
 pub fn commands_of_words()
     ensures refine { read_words (codes "refine" ∷ codes "depth=0" ∷ []) ≡ Ok (Reads (Refine (record { depth = 0; decimals = None; uv = SmoothUv; by = ByTable; tags = false }))) }
     ensures all { read_words all_refine_words ≡ Ok (Reads (Refine (record { depth = 10; decimals = Some 18; uv = CornersUv; by = ByLevel; tags = true }))) }

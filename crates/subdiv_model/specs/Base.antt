@@ -1,5 +1,5 @@
 -- Level 0: an accepted mesh with the sharpness, holes and boundary mode that its text gives.
--- Source: this profile.
+-- Source: Drillolive.
 use Rattle.std.specs.Prelude.{ℕ, Bool, false, ◌&&◌, ◌||◌, nat_eq, List, map, length, if◌then◌else◌}
 use Rattle.std.specs.List.{filter, list_any, range_with_len, enumerate_from}
 use Rattle.subdiv_model.specs.Lists.{last_of}
@@ -10,11 +10,11 @@ use Rattle.subdiv_model.specs.Level.{Level}
 use Rattle.subdiv_model.specs.Boundary.{Boundary, Hidden, EdgeOnly, EdgeAndCorner}
 use Rattle.subdiv_model.specs.ObjMesh.{ObjMesh}
 
--- of the tags that name the edge, in either direction, the last gives its sharpness
+-- the last of the tags that name the edge, in either direction, gives its sharpness
 abbrev pub tagged_edge : List ((ℕ × ℕ) × Sharpness) → ℕ × ℕ → Sharpness
 tagged_edge creases edge = last_of Smooth (map (λ crease. crease.1) (filter (λ crease. same_edge edge crease.0) creases))
 
--- of the tags that name the vertex, the last gives its sharpness
+-- the last of the tags that name the vertex gives its sharpness
 abbrev pub tagged_vertex : List (ℕ × Sharpness) → ℕ → Sharpness
 tagged_vertex corner_tags v = last_of Smooth (map (λ tag. tag.1) (filter (λ tag. nat_eq v tag.0) corner_tags))
 
@@ -22,12 +22,13 @@ tagged_vertex corner_tags v = last_of Smooth (map (λ tag. tag.1) (filter (λ ta
 abbrev pub base_edge_sharpness : ObjMesh → ℕ × ℕ → Sharpness
 base_edge_sharpness mesh edge = if is_boundary mesh.faces edge then Infinite else tagged_edge mesh.creases edge
 
--- the vertex is infinitely sharp as the corner of one face
+-- the mode makes the vertex infinitely sharp, because only one face has it
 abbrev pub is_end_corner : Boundary → List Polygon → ℕ → Bool
 is_end_corner Hidden polygons v = false
 is_end_corner EdgeOnly polygons v = false
 is_end_corner EdgeAndCorner polygons v = nat_eq (length (faces_of_point polygons v)) 1
 
+-- the sharpness of a vertex at level 0: infinite for a corner of the mode, otherwise from its tags
 abbrev pub base_vertex_sharpness : ObjMesh → ℕ → Sharpness
 base_vertex_sharpness mesh v = if is_end_corner mesh.boundary mesh.faces v then Infinite else tagged_vertex mesh.corner_tags v
 
@@ -35,17 +36,17 @@ base_vertex_sharpness mesh v = if is_end_corner mesh.boundary mesh.faces v then 
 abbrev pub is_at_boundary : List Polygon → ℕ → Bool
 is_at_boundary polygons v = list_any (λ edge. is_boundary polygons edge && has_end v edge) (edges_of polygons)
 
--- the face is hidden with the boundary
+-- the mode hides the face, because it has a point at the boundary
 abbrev pub is_hidden : Boundary → List Polygon → Polygon → Bool
 is_hidden Hidden polygons polygon = list_any (is_at_boundary polygons) polygon
 is_hidden EdgeOnly polygons polygon = false
 is_hidden EdgeAndCorner polygons polygon = false
 
--- a face is a hole where a tag names it, and where it is hidden with the boundary
+-- a face is a hole if a tag names it or the mode hides it
 abbrev pub is_base_hole : ObjMesh → ℕ × Polygon → Bool
 is_base_hole mesh face = is_among mesh.holes face.0 || is_hidden mesh.boundary mesh.faces face.1
 
--- level 0 of a mesh; tags that name no edge, or one vertex twice, name nothing here
+-- level 0 of a mesh; tags that name no edge, or the same vertex at both ends, have no effect
 abbrev pub base_level : ObjMesh → Level
 base_level mesh = record {
   point_count = length mesh.points;

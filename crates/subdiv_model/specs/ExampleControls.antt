@@ -1,4 +1,4 @@
--- Control numbers, creases and terms of masks on the small meshes, for the examples.
+-- Control numbers, creases and terms of masks on small meshes, for the examples.
 use Rattle.std.specs.Prelude.{ℕ, ◌^◌, ℤ, pos, negsuc, List, [], ◌∷◌, ◌++◌, map}
 use Rattle.subdiv_model.specs.Level.{Level}
 use Rattle.subdiv_model.specs.ObjMesh.{ObjMesh}
@@ -11,28 +11,31 @@ use Rattle.subdiv_model.specs.NumberText.{value_text}
 use Rattle.subdiv_model.specs.Text.{refined_text}
 use Rattle.subdiv_model.specs.Sharpness.{Sharpness, Infinite, Chaikin}
 
--- the cube's coordinates in x and in z
+-- the coordinates of the cube in x
 abbrev pub cube_x : List ℤ
 cube_x = negsuc 0 ∷ pos 1 ∷ negsuc 0 ∷ pos 1 ∷ negsuc 0 ∷ pos 1 ∷ negsuc 0 ∷ pos 1 ∷ []
 
+-- the coordinates of the cube in z
 abbrev pub cube_z : List ℤ
 cube_z = pos 1 ∷ pos 1 ∷ pos 1 ∷ pos 1 ∷ negsuc 0 ∷ negsuc 0 ∷ negsuc 0 ∷ negsuc 0 ∷ []
 
--- the square's coordinates in x
+-- the coordinates of the square in x
 abbrev pub square_x : List ℤ
 square_x = pos 0 ∷ pos 4 ∷ pos 4 ∷ pos 0 ∷ []
 
--- points of two triangles as whole numbers, and others over 100
+-- the three points of two triangles, as whole numbers
 abbrev pub triangle_points : List (ℤ × ℤ × ℤ)
 triangle_points = (pos 0, pos 0, pos 0) ∷ (pos 12, pos 0, pos 0) ∷ (pos 0, pos 12, pos 0) ∷ []
 
+-- three other points of two triangles, over 100
 abbrev pub triangle_points_in_hundredths : List (ℤ × ℤ × ℤ)
 triangle_points_in_hundredths = (pos 0, pos 50, negsuc 149) ∷ (pos 100, pos 0, pos 0) ∷ (pos 0, pos 1, pos 0) ∷ []
 
--- the points of the sheet of three by three quads, at the squares of their places in a row
+-- a row of four points, with the squares of their places as heights
 abbrev pub curved_row : ℤ → List (ℤ × ℤ × ℤ)
 curved_row y = (pos 0, y, pos 0) ∷ (pos 1, y, pos 1) ∷ (pos 2, y, pos 4) ∷ (pos 3, y, pos 9) ∷ []
 
+-- the points of the sheet of three by three quads, curved along its rows
 abbrev pub curved_sheet_points : List (ℤ × ℤ × ℤ)
 curved_sheet_points = curved_row (pos 0) ++ (curved_row (pos 1) ++ (curved_row (pos 2) ++ curved_row (pos 3)))
 
@@ -45,15 +48,15 @@ fine_channel = record {
   common = 1;
 }
 
--- terms of which two have one source, and one has weight 0
+-- terms with one repeated source and one weight of 0
 abbrev pub repeated_terms : List Term
 repeated_terms = weigh_points 2 (5 ∷ 4 ∷ []) ++ (weigh_points 0 (3 ∷ []) ++ (weigh_points 1 (5 ∷ []) ++ weigh_faces 4 (5 ∷ [])))
 
--- the edges of the cube's face at z = 1
+-- the edges of the face of the cube at z = 1
 abbrev pub cube_ring : List ((ℕ × ℕ) × Sharpness)
 cube_ring = ((0, 1), Infinite) ∷ ((1, 3), Infinite) ∷ ((3, 2), Infinite) ∷ ((2, 0), Infinite) ∷ []
 
--- the texts of the values after k steps, from these control numbers
+-- the texts of the values after k steps from these control numbers
 abbrev pub refined_value_texts : Level → Scheme → List ℤ → ℕ → List (List ℕ)
 refined_value_texts level scheme controls k = map value_text (refined_values level scheme (control_values controls) k)
 

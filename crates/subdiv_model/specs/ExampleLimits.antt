@@ -1,4 +1,4 @@
--- Limit points on the small meshes, for the examples.
+-- Limit points of small meshes, for the examples.
 use Rattle.std.specs.Prelude.{ℕ, ℤ, List}
 use Rattle.subdiv_model.specs.Level.{Level}
 use Rattle.subdiv_model.specs.Mask.{CatmullClark}

@@ -1,20 +1,23 @@
--- Texts and words for the examples: small meshes as they are given, and what is written of them.
+-- Texts and words for the examples: small meshes as inputs, and the outputs for them.
 use Rattle.std.specs.Prelude.{ℕ, List, [], ◌∷◌, ◌++◌, codes}
 
+-- the cube as an OBJ text
 abbrev pub cube_text : List ℕ
 cube_text = codes "v -1 -1 1\nv 1 -1 1\nv -1 1 1\nv 1 1 1\nv -1 1 -1\nv 1 1 -1\nv -1 -1 -1\nv 1 -1 -1\nf 1 2 4 3\nf 3 4 6 5\nf 5 6 8 7\nf 7 8 2 1\nf 2 8 6 4\nf 7 1 3 5\n"
 
--- the same cube with line ends of two bytes, a comment, decimals, an ignored line, and a face that counts back
+-- the cube with line ends of two bytes, a comment, decimals, an ignored line, and a face with negative indices
 abbrev pub other_cube_text : List ℕ
 other_cube_text = codes "# cube\r\no cube\r\nv -1.0 -1.0 1.0\r\nv 1.0 -1.0 1.0\r\nv -1.0 1.0 1.0\r\nv 1.0 1.0 1.0\r\nv -1.0 1.0 -1.0\r\nv 1.0 1.0 -1.0\r\nv -1.0 -1.0 -1.0\r\nv 1.0 -1.0 -1.0\r\nf 1 2 4 3\r\nf -6 -5 -3 -4\r\nf 5 6 8 7\r\nf 7 8 2 1\r\nf 2 8 6 4\r\nf 7 1 3 5\r\n"
 
+-- the cube refined once
 abbrev pub refined_cube_text : List ℕ
 refined_cube_text = codes "v -5/9 -5/9 5/9\nv 5/9 -5/9 5/9\nv -5/9 5/9 5/9\nv 5/9 5/9 5/9\nv -5/9 5/9 -5/9\nv 5/9 5/9 -5/9\nv -5/9 -5/9 -5/9\nv 5/9 -5/9 -5/9\nv 0 0 1\nv 0 1 0\nv 0 0 -1\nv 0 -1 0\nv 1 0 0\nv -1 0 0\nv 0 -3/4 3/4\nv 3/4 0 3/4\nv 0 3/4 3/4\nv -3/4 0 3/4\nv 3/4 3/4 0\nv 0 3/4 -3/4\nv -3/4 3/4 0\nv 3/4 0 -3/4\nv 0 -3/4 -3/4\nv -3/4 0 -3/4\nv 3/4 -3/4 0\nv -3/4 -3/4 0\nf 1 15 9 18\nf 2 16 9 15\nf 4 17 9 16\nf 3 18 9 17\nf 3 17 10 21\nf 4 19 10 17\nf 6 20 10 19\nf 5 21 10 20\nf 5 20 11 24\nf 6 22 11 20\nf 8 23 11 22\nf 7 24 11 23\nf 7 23 12 26\nf 8 25 12 23\nf 2 15 12 25\nf 1 26 12 15\nf 2 25 13 16\nf 8 22 13 25\nf 6 19 13 22\nf 4 16 13 19\nf 7 26 14 24\nf 1 18 14 26\nf 3 21 14 18\nf 5 24 14 21\n"
 
--- one quad, and two quads side by side with a texture seam between them
+-- one quad
 abbrev pub square_text : List ℕ
 square_text = codes "v 0 0 0\nv 4 0 0\nv 4 4 0\nv 0 4 0\nf 1 2 3 4\n"
 
+-- two quads side by side with a texture seam between them
 abbrev pub seamed_text : List ℕ
 seamed_text = codes "v 0 0 0\nv 1 0 0\nv 1 1 0\nv 0 1 0\nv 2 0 0\nv 2 1 0\nvt 0 0\nvt 1 0\nvt 1 1\nvt 0 1\nvt 4 0\nvt 5 0\nvt 5 1\nvt 4 1\nf 1/1 2/2 3/3 4/4\nf 2/5 5/6 6/7 3/8\n"
 
@@ -26,17 +29,19 @@ corner_cube_refined_text = codes "v -5/9 -5/9 5/9\nv 5/9 -5/9 5/9\nv -5/9 5/9 5/
 abbrev pub tagged_cube_text : List ℕ
 tagged_cube_text = cube_text ++ codes "t corner 1/1/0 3 3\nt creasemethod 0/0/1 chaikin\nt crease 2/1/0 0 1 2\n"
 
--- the square refined once: its points alone, with its faces, and with sharp corners
+-- the points of the square refined once
 abbrev pub refined_square_points_text : List ℕ
 refined_square_points_text = codes "v 1/2 1/2 0\nv 7/2 1/2 0\nv 7/2 7/2 0\nv 1/2 7/2 0\nv 2 2 0\nv 2 0 0\nv 4 2 0\nv 2 4 0\nv 0 2 0\n"
 
+-- the square refined once
 abbrev pub refined_square_text : List ℕ
 refined_square_text = refined_square_points_text ++ codes "f 1 6 5 9\nf 2 7 5 6\nf 3 8 5 7\nf 4 9 5 8\n"
 
+-- the square with sharp corners, refined once
 abbrev pub sharp_square_refined_text : List ℕ
 sharp_square_refined_text = codes "v 0 0 0\nv 4 0 0\nv 4 4 0\nv 0 4 0\nv 2 2 0\nv 2 0 0\nv 4 2 0\nv 2 4 0\nv 0 2 0\nf 1 6 5 9\nf 2 7 5 6\nf 3 8 5 7\nf 4 9 5 8\n"
 
--- the square that its boundary mode hides, refined once, with its tags
+-- the square hidden by its boundary mode, refined once, with its tags
 abbrev pub hidden_square_refined_text : List ℕ
 hidden_square_refined_text = refined_square_text ++ codes "t interpolateboundary 1/0/0 2\nt hole 1/0/0 0\nt hole 1/0/0 1\nt hole 1/0/0 2\nt hole 1/0/0 3\n"
 

@@ -1,5 +1,5 @@
--- Places of the faces of level 0, and the leaves of the sparse levels that have them.
--- Source: OpenSubdiv's Far layer for maps from a place of a face to its patch; which leaf has a place is this profile's.
+-- Places of the faces of level 0, and the leaves of the sparse levels that contain them.
+-- Source: OpenSubdiv's Far layer for maps from a place of a face to its patch; which leaf has a place is Drillolive's.
 use Rattle.std.specs.Prelude.{ℕ, zero, suc, ◌+◌, ◌-◌, ◌*◌, Bool, true, false, not, ◌&&◌, nat_eq, nat_lt, nat_le, List, [], ◌∷◌, ◌++◌, length, map, get_or, codes, if◌then◌else◌}
 use Rattle.std.specs.List.{filter, flat_map, range_with_len}
 use Rattle.subdiv_model.specs.Polygons.{polygon_at, is_among}
@@ -12,31 +12,31 @@ use Rattle.subdiv_model.specs.Fractions.{lowest}
 use Rattle.subdiv_model.specs.NumberText.{number_text, ratio_text}
 use Rattle.subdiv_model.specs.Text.{line_text}
 
--- A place of a face. The pair s and t lies over the size of a grid: s runs from corner 0 of a quad towards corner 1, and t from corner 0
--- towards corner 3. A place of a face that is no quad is one of the child face of a corner. Of a quad the corner is 0.
+-- A place of a face: the pair s and t counts steps of a grid. On a quad s goes from corner 0 towards corner 1, and t from corner
+-- 0 towards corner 3, and the corner is 0. On another face the pair is a place of the child face of the corner.
 pub record Location : Type 0 where
-  -- the level, and the number of the face there
+  -- the level, and the number of the face in it
   pub level : ℕ
   pub number : ℕ
   pub corner : ℕ
   pub s : ℕ
   pub t : ℕ
 
--- the place of a child of a quad, in the quad, over twice the size of the grid
+-- the place in a quad of a place in its child, over twice as many steps
 abbrev pub in_quad : ℕ → ℕ → ℕ × ℕ → ℕ × ℕ
 in_quad grid zero pair = (pair.0, pair.1)
 in_quad grid (suc zero) pair = (2 * grid - pair.1, pair.0)
 in_quad grid (suc (suc zero)) pair = (2 * grid - pair.0, 2 * grid - pair.1)
 in_quad grid (suc (suc (suc c))) pair = (pair.1, 2 * grid - pair.0)
 
--- the closed square of a child has the place of the quad
+-- the closed square of a child contains the place of the quad
 abbrev pub has_pair : ℕ → ℕ × ℕ → ℕ → Bool
 has_pair grid pair zero = nat_le (2 * pair.0) grid && nat_le (2 * pair.1) grid
 has_pair grid pair (suc zero) = nat_le grid (2 * pair.0) && nat_le (2 * pair.1) grid
 has_pair grid pair (suc (suc zero)) = nat_le grid (2 * pair.0) && nat_le grid (2 * pair.1)
 has_pair grid pair (suc (suc (suc c))) = nat_le (2 * pair.0) grid && nat_le grid (2 * pair.1)
 
--- where the place of the quad lies in a child whose closed square has it
+-- the place in a child whose closed square contains the place of the quad
 abbrev pub in_child : ℕ → ℕ × ℕ → ℕ → ℕ × ℕ
 in_child grid pair zero = (2 * pair.0, 2 * pair.1)
 in_child grid pair (suc zero) = (2 * pair.1, 2 * (grid - pair.0))
@@ -47,11 +47,12 @@ in_child grid pair (suc (suc (suc c))) = (2 * (grid - pair.1), 2 * pair.0)
 abbrev pub is_quad_at : Level → Location → Bool
 is_quad_at level at = nat_eq (length (polygon_at level.polygons at.number)) 4
 
--- the corners of the face whose child faces have the location, ascending
+-- the corners of the face whose child faces contain the location, ascending
 abbrev pub corners_with : ℕ → Level → Location → List ℕ
 corners_with grid level at =
     if is_quad_at level at then filter (has_pair grid (at.s, at.t)) (range_with_len 0 4) else at.corner ∷ []
 
+-- the pair of the location in the child face of a corner
 abbrev pub pair_at : ℕ → Level → Location → ℕ → ℕ × ℕ
 pair_at grid level at c = if is_quad_at level at then in_child grid (at.s, at.t) c else (at.s, at.t)
 
@@ -65,8 +66,8 @@ child_at grid level at c = record {
   t = (pair_at grid level at c).1;
 }
 
--- The leaves that have a location, at most so many levels further on. A leaf is a face that is not selected, or one of the last level.
--- The leaves stand in the order of their paths, corner by corner from the location on.
+-- The leaves that contain a location, at most `further` levels later. A leaf is a face that is not selected, or a face of the
+-- last level. The leaves are in the order of their paths, corner by corner from the location.
 abbrev pub leaves_within : ℕ → ℕ → Level → Meeting → Location → List Location
 leaves_within grid zero base meeting at = at ∷ []
 leaves_within grid (suc further) base meeting at =
@@ -75,7 +76,7 @@ leaves_within grid (suc further) base meeting at =
     (corners_with grid (refined_level base at.level) at)
     else at ∷ []
 
--- the leaf of a location, among the levels to a depth: the first of those that have it
+-- the leaf of a location among the levels to a depth: the first leaf that contains it
 abbrev pub leaf_of : ℕ → ℕ → Level → Meeting → Location → Location
 leaf_of grid depth base meeting at = get_or (leaves_within grid depth base meeting at) 0 at
 
@@ -83,7 +84,7 @@ leaf_of grid depth base meeting at = get_or (leaves_within grid depth base meeti
 abbrev pub is_corner_of : ℕ → ℕ → Bool
 is_corner_of size corner = if nat_eq size 4 then nat_eq corner 0 else nat_lt corner size
 
--- why a face of level 0 has no places: there is no such face, it has no places with this corner, or it is a hole
+-- why a face of level 0 has no places: it does not exist, it has no places with this corner, or it is a hole
 abbrev pub location_faults : Level → ℕ → ℕ → List Fault
 location_faults base face corner =
     if nat_lt face (length base.polygons)

@@ -1,5 +1,5 @@
--- What is wrong with a mesh, and the fault that is named.
--- Source: this profile.
+-- The faults of a mesh, and the one that is reported.
+-- Source: Drillolive.
 use Rattle.std.specs.Prelude.{ℕ, Bool, not, ◌||◌, nat_le, nat_lt, List, ◌++◌, length, map, Option}
 use Rattle.std.specs.List.{filter, count_by, range_with_len}
 use Rattle.subdiv_model.specs.Polygons.{Polygon, same_edge, is_distinct}
@@ -7,7 +7,7 @@ use Rattle.subdiv_model.specs.Lists.{places, first_of}
 use Rattle.subdiv_model.specs.Edges.{all_sides, edges_of, times_used, reversed}
 use Rattle.subdiv_model.specs.Manifold.{has_one_fan}
 
--- faces, edges and vertices are named by their numbers, counted from 0
+-- a fault, with the numbers of its face, edge or vertex, counted from 0
 pub data MeshFault : Type 0 where
   FaceTooSmall : ℕ → MeshFault
   RepeatedVertex : ℕ → MeshFault
@@ -15,7 +15,7 @@ pub data MeshFault : Type 0 where
   WindingClash : ℕ → ℕ → MeshFault
   SplitVertex : ℕ → MeshFault
 
--- the faces of fewer than three corners, ascending
+-- the faces with fewer than three corners, ascending
 abbrev pub small_faces : List Polygon → List ℕ
 small_faces polygons = places (λ polygon. nat_lt (length polygon) 3) polygons
 
@@ -43,7 +43,7 @@ clashing_edges polygons = filter (is_clashing polygons) (edges_of polygons)
 abbrev pub split_vertices : ℕ → List Polygon → List ℕ
 split_vertices points polygons = filter (λ v. not (has_one_fan polygons v)) (range_with_len 0 points)
 
--- all faults, kind by kind, and within a kind by face, by edge or by vertex
+-- all faults, kind by kind; within a kind by face, edge or vertex
 abbrev pub mesh_faults : ℕ → List Polygon → List MeshFault
 mesh_faults points polygons =
     map FaceTooSmall (small_faces polygons)
@@ -51,6 +51,6 @@ mesh_faults points polygons =
     ++ (map (λ edge. NonManifoldEdge edge.0 edge.1) (crowded_edges polygons)
     ++ (map (λ edge. WindingClash edge.0 edge.1) (clashing_edges polygons) ++ map SplitVertex (split_vertices points polygons))))
 
--- the fault that is named: the first one
+-- the fault that is reported: the first
 abbrev pub first_mesh_fault : ℕ → List Polygon → Option MeshFault
 first_mesh_fault points polygons = first_of (mesh_faults points polygons)

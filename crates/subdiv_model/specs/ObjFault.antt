@@ -1,11 +1,12 @@
--- What is wrong with an OBJ text.
--- Source: this profile.
+-- The faults of an OBJ text.
+-- Source: Drillolive.
 use Rattle.std.specs.Prelude.{ℕ, Bool, true, false, List, Option}
 use Rattle.std.specs.List.{filter_map}
 use Rattle.subdiv_model.specs.Lists.{first_of}
 
+-- the cause of a bad line
 pub data ObjCause : Type 0 where
-  -- a word that must be a numeral is none
+  -- a word that must be a numeral is not one
   BadNumeral : ObjCause
   -- a numeral has too many digits or decimals
   NumberRange : ObjCause
@@ -15,24 +16,24 @@ pub data ObjCause : Type 0 where
   Continuation : ObjCause
   -- a line has too few words
   ShortLine : ObjCause
-  -- a corner of a face has no form of a corner, or another form than the first
+  -- a corner of a face has no valid form, or another form than the first corner
   BadCorner : ObjCause
-  -- an index in a face is 0 or past its list
+  -- an index in a face is 0 or not in its list
   IndexRange : ObjCause
-  -- a tag has another name, other counts or other values than the tags of this profile
+  -- a tag has an unknown name, or counts or values that its kind does not allow
   BadTag : ObjCause
-  -- an index in a tag is below 0 or past its list
+  -- an index in a tag is negative or not in its list
   TagIndex : ObjCause
-  -- a sharpness is below 0, or is below 10 and has more than six decimals
+  -- a sharpness is negative, or is below 10 with more than six decimals
   SharpnessRange : ObjCause
-  -- a moved point is past the points
+  -- a moved point is not among the points
   MoveIndex : ObjCause
   -- the denominator of a moved coordinate in lowest terms does not divide the common denominator
   TooFine : ObjCause
   -- a line has too many bytes
   LongLine : ObjCause
 
--- the cause is one of reading, and not of a move
+-- the cause comes from reading a text, not from a move
 abbrev pub is_of_reading : ObjCause → Bool
 is_of_reading BadNumeral = true
 is_of_reading NumberRange = true
@@ -48,11 +49,11 @@ is_of_reading MoveIndex = false
 is_of_reading TooFine = false
 is_of_reading LongLine = false
 
--- a fault: the line, counted from 1, and the cause
+-- a fault: the number of the line, from 1, and the cause
 pub record ObjFault : Type 0 where
   pub line : ℕ
   pub cause : ObjCause
 
--- the first cause among the words, from the left
+-- the cause of the first bad word from the left
 abbrev pub first_cause : (List ℕ → Option ObjCause) → List (List ℕ) → Option ObjCause
 first_cause cause_of words = first_of (filter_map cause_of words)

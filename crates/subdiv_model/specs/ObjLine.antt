@@ -1,5 +1,5 @@
--- Lines of OBJ text: where a line ends, its words without its comment, and its keyword.
--- Source: this profile.
+-- Lines of OBJ text: their ends, their words without a comment, and their keywords.
+-- Source: Drillolive.
 use Rattle.std.specs.Prelude.{ℕ, ◌+◌, Bool, false, not, ◌||◌, nat_eq, List, [], ◌∷◌, length, drop, take_while, bytes_eq, codes, if◌then◌else◌}
 use Rattle.std.specs.List.{filter, slice_split, position_or_len}
 
@@ -7,17 +7,17 @@ use Rattle.std.specs.List.{filter, slice_split, position_or_len}
 abbrev pub is_lf : ℕ → Bool
 is_lf b = nat_eq b 10
 
--- the place of the first LF from a place of the text on, or the text's length
+-- the place of the first LF at or after a place of the text, or the length of the text
 abbrev pub line_end_of : List ℕ → ℕ → ℕ
 line_end_of text at = at + position_or_len is_lf (drop at text)
 
--- the parts of a text between its line ends, without the last where it is empty
+-- the parts of a text between its line ends, without an empty last part
 abbrev pub closed_lines : List (List ℕ) → List (List ℕ)
 closed_lines [] = []
 closed_lines (line ∷ []) = if nat_eq (length line) 0 then [] else line ∷ []
 closed_lines (line ∷ (next ∷ lines)) = line ∷ closed_lines (next ∷ lines)
 
--- lines end at LF; the last may have none, and nothing after the last LF is no line
+-- the lines of a text: each ends at LF, the last may have none, and a final LF adds no line
 abbrev pub lines_of : List ℕ → List (List ℕ)
 lines_of text = closed_lines (slice_split (λ b. nat_eq b 10) text)
 
@@ -25,7 +25,7 @@ lines_of text = closed_lines (slice_split (λ b. nat_eq b 10) text)
 abbrev pub is_blank : ℕ → Bool
 is_blank b = nat_eq b 32 || nat_eq b 9 || nat_eq b 13
 
--- the longest runs of bytes that are no blanks
+-- the longest runs of bytes that are not blanks
 abbrev pub runs_of : List ℕ → List (List ℕ)
 runs_of line = filter (λ run. not (nat_eq (length run) 0)) (slice_split is_blank line)
 
@@ -34,7 +34,7 @@ abbrev pub opens_comment : List ℕ → Bool
 opens_comment [] = false
 opens_comment (b ∷ run) = nat_eq b 35
 
--- the words of a line: its runs before the first that opens a comment
+-- the words of a line: its runs before the first one that opens a comment
 abbrev pub line_words : List ℕ → List (List ℕ)
 line_words line = take_while (λ run. not (opens_comment run)) (runs_of line)
 
@@ -43,9 +43,10 @@ abbrev pub begins_with : List ℕ → List (List ℕ) → Bool
 begins_with keyword [] = false
 begins_with keyword (word ∷ words) = bytes_eq word keyword
 
--- lines of a point, and lines of a face, good or bad
+-- the line is one of a point, with or without faults
 abbrev pub is_vertex_line : List (List ℕ) → Bool
 is_vertex_line words = begins_with (codes "v") words
 
+-- the line is one of a face, with or without faults
 abbrev pub is_face_line : List (List ℕ) → Bool
 is_face_line words = begins_with (codes "f") words

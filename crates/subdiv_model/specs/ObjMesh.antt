@@ -1,13 +1,13 @@
--- The mesh that an OBJ text gives, before any of it is judged as a mesh.
--- Source: this profile.
+-- The mesh that an OBJ text describes, before it is judged as a mesh.
+-- Source: Drillolive.
 use Rattle.std.specs.Prelude.{ℕ, ℤ, Bool, ◌&&◌, nat_lt, List, length}
 use Rattle.std.specs.List.{list_all}
 use Rattle.subdiv_model.specs.Polygons.{Polygon, is_over}
 use Rattle.subdiv_model.specs.Sharpness.{Sharpness, Method}
 use Rattle.subdiv_model.specs.Boundary.{Boundary}
 
--- points, faces and texture values are counted from 0; creases, corner tags and holes stand in the order of the
--- text, also where they name an edge, a vertex or a face again
+-- The mesh counts points, faces and texture values from 0. Creases, corner tags and holes are in the order of the text, repeated
+-- ones included.
 pub record ObjMesh : Type 0 where
   -- whole numbers over the common denominator of the positions
   pub points : List (ℤ × ℤ × ℤ)
@@ -17,7 +17,7 @@ pub record ObjMesh : Type 0 where
   pub texture_common : ℕ
   pub faces : List Polygon
   pub has_texture : Bool
-  -- where there is texture, for each corner of each face the number of its texture value; else nothing
+  -- with texture, the number of the texture value at each corner of each face; otherwise empty
   pub texture_corners : List Polygon
   -- two vertices and the sharpness between them
   pub creases : List ((ℕ × ℕ) × Sharpness)

@@ -1,9 +1,9 @@
--- Polygons over points, as plain lists: their corners, their directed edges, and their places in a list.
--- Source: this profile.
+-- Polygons as plain lists of corners: their directed edges, and their places in a list.
+-- Source: Drillolive.
 use Rattle.std.specs.Prelude.{ℕ, Bool, true, not, ◌&&◌, ◌||◌, nat_eq, nat_lt, List, [], ◌∷◌, get_or}
 use Rattle.std.specs.List.{list_any, list_all}
 
--- a polygon is its corners in order, each the number of a point
+-- the corners in order, each the number of a point
 abbrev pub Polygon : Type 0
 Polygon = List ℕ
 
@@ -17,11 +17,11 @@ abbrev pub sides_of : Polygon → List (ℕ × ℕ)
 sides_of [] = []
 sides_of (v ∷ rest) = sides_back_to v (v ∷ rest)
 
--- the same two ends in the same direction
+-- both have the same ends in the same direction
 abbrev pub same_side : ℕ × ℕ → ℕ × ℕ → Bool
 same_side s t = nat_eq s.0 t.0 && nat_eq s.1 t.1
 
--- the same two ends, in either direction
+-- both have the same ends, in either direction
 abbrev pub same_edge : ℕ × ℕ → ℕ × ℕ → Bool
 same_edge s t = same_side s t || (nat_eq s.0 t.1 && nat_eq s.1 t.0)
 
@@ -41,7 +41,7 @@ has_side s polygon = list_any (same_side s) (sides_of polygon)
 abbrev pub has_edge : ℕ × ℕ → Polygon → Bool
 has_edge s polygon = list_any (same_edge s) (sides_of polygon)
 
--- no number stands twice
+-- no number occurs twice
 abbrev pub is_distinct : List ℕ → Bool
 is_distinct [] = true
 is_distinct (v ∷ rest) = not (is_among rest v) && is_distinct rest
@@ -51,10 +51,10 @@ abbrev pub has_distinct_sides : List (ℕ × ℕ) → Bool
 has_distinct_sides [] = true
 has_distinct_sides (s ∷ sides) = not (list_any (same_side s) sides) && has_distinct_sides sides
 
--- the polygon with this number, and no corner where there is none
+-- the polygon of this number, and an empty one if the list has none
 abbrev pub polygon_at : List Polygon → ℕ → Polygon
 polygon_at polygons face = get_or polygons face []
 
--- each corner is one of so many points
+-- each corner is less than the number of points
 abbrev pub is_over : ℕ → List Polygon → Bool
 is_over points polygons = list_all (list_all (λ v. nat_lt v points)) polygons

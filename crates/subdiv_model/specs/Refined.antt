@@ -1,5 +1,5 @@
--- Refined values: the value of each point of each level, unreduced, and the denominator that serves all controls.
--- Source: this profile.
+-- Refined values: the value of each point of each level, unreduced, and the common denominator for all control numbers.
+-- Source: Drillolive.
 use Rattle.std.specs.Prelude.{ℕ, zero, suc, ◌*◌, ℤ, pos, ◌+ℤ◌, List, map, zip, get_or}
 use Rattle.std.specs.List.{range_with_len, AllZip}
 use Rattle.subdiv_model.specs.Level.{Level}
@@ -8,27 +8,29 @@ use Rattle.subdiv_model.specs.Mask.{Scheme, SourcePoint, OfPoint, OfFace, Mask, 
 use Rattle.subdiv_model.specs.Multiples.{lcm_of_all}
 use Rattle.subdiv_model.specs.Value.{Value, IsSameValue, whole_value, plus_value, weighted, sum_of_values}
 
--- a mask's value, from the values of its sources
+-- the value of a mask, from the values of its sources
 abbrev pub mask_value : (SourcePoint → Value) → Mask → Value
 mask_value value mask = sum_of_values (map (λ t. weighted t.weight mask.denominator (value t.source)) mask.terms)
 
+-- the value of a point of this number
 abbrev pub point_value : List Value → ℕ → Value
 point_value values v = get_or values v (whole_value (pos 0))
 
--- the value of a point, in a face's mask, which has no faces
+-- the value of a point as a source of a face mask; such a mask has no faces
 abbrev pub corner_value : List Value → SourcePoint → Value
 corner_value values (OfPoint v) = point_value values v
 corner_value values (OfFace f) = whole_value (pos 0)
 
+-- the value of the new point of a face
 abbrev pub face_value : Level → List Value → ℕ → Value
 face_value level values f = mask_value (corner_value values) (face_mask level f)
 
--- a new face point stands for its own sum
+-- the value of a source; a new face point has the value of its own mask
 abbrev pub source_value : Level → List Value → SourcePoint → Value
 source_value level values (OfPoint v) = point_value values v
 source_value level values (OfFace f) = face_value level values f
 
--- the values of the next level's points, from those of the level's
+-- the values of the points of the next level, from those of the level
 abbrev pub child_values : Level → Scheme → List Value → List Value
 child_values level scheme values = map (mask_value (source_value level values)) (child_masks level scheme)
 
@@ -42,7 +44,7 @@ refined_values level scheme values (suc k) =
 abbrev pub control_values : List ℤ → List Value
 control_values controls = map whole_value controls
 
--- all controls, translated by one number
+-- all control numbers plus one number
 abbrev pub translated_controls : ℤ → List ℤ → List ℤ
 translated_controls t controls = map (λ c. c +ℤ t) controls
 
@@ -54,19 +56,20 @@ AreTranslatedBy t xs ys = AllZip (λ x y. IsSameValue y (plus_value x (whole_val
 abbrev pub over_common : ℕ → Value → Value
 over_common common x = record { num = x.num; den = x.den * common }
 
--- the coordinates after k steps, from controls that are whole numbers over the channel's common denominator
+-- the coordinates after k steps, from control numbers over the common denominator of the channel
 abbrev pub refined_coordinates : Level → Scheme → ℕ → List ℤ → ℕ → List Value
 refined_coordinates level scheme common controls k =
     map (over_common common) (refined_values level scheme (control_values controls) k)
 
--- a point is its three coordinates
+-- the three coordinates of a point
 abbrev pub Point : Type 0
 Point = Value × Value × Value
 
+-- points from their coordinates in three lists
 abbrev pub points_of_coordinates : List Value → List Value → List Value → List Point
 points_of_coordinates xs ys zs = map (λ p. (p.0.0, p.0.1, p.1)) (zip (zip xs ys) zs)
 
--- the points after k steps, each coordinate by itself
+-- the points after k steps, coordinate by coordinate
 abbrev pub refined_points : Level → Scheme → ℕ → List (ℤ × ℤ × ℤ) → ℕ → List Point
 refined_points level scheme common controls k =
     points_of_coordinates
@@ -81,24 +84,27 @@ refined_texture level scheme common controls k =
     (refined_coordinates level scheme common (map (λ p. p.0) controls) k)
     (refined_coordinates level scheme common (map (λ p. p.1) controls) k)
 
--- the denominator under which a child's value is whole over all controls, from those of the mask's sources
+-- the denominator over which the value of a mask is whole for all control numbers, from those of its sources
 abbrev pub mask_denominator : (SourcePoint → ℕ) → Mask → ℕ
 mask_denominator denominator mask =
     mask.denominator * lcm_of_all (map (λ t. denominator t.source) mask.terms)
 
+-- the denominator of a point as a source of a face mask
 abbrev pub corner_denominator : List ℕ → SourcePoint → ℕ
 corner_denominator denominators (OfPoint v) = get_or denominators v 1
 corner_denominator denominators (OfFace f) = 1
 
+-- the denominator of a source; a new face point has that of its own mask
 abbrev pub source_denominator : Level → List ℕ → SourcePoint → ℕ
 source_denominator level denominators (OfPoint v) = get_or denominators v 1
 source_denominator level denominators (OfFace f) = mask_denominator (corner_denominator denominators) (face_mask level f)
 
+-- the common denominators of the points of the next level, from those of the level
 abbrev pub child_denominators : Level → Scheme → List ℕ → List ℕ
 child_denominators level scheme denominators =
     map (mask_denominator (source_denominator level denominators)) (child_masks level scheme)
 
--- the common denominators after k steps, 1 for each control
+-- the common denominators after k steps, from 1 for each control point
 abbrev pub refined_denominators : Level → Scheme → ℕ → List ℕ
 refined_denominators level scheme zero = map (λ v. 1) (range_with_len 0 level.point_count)
 refined_denominators level scheme (suc k) =

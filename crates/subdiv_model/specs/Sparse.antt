@@ -1,5 +1,5 @@
--- Sparse levels: the faces of the uniform levels that are present where some faces are selected to be refined.
--- Source: OpenSubdiv's Vtr layer for sparse refinement; which faces are present is this profile's.
+-- Sparse levels: the faces of the uniform levels that are present after some faces are selected for refinement.
+-- Source: OpenSubdiv's Vtr layer for sparse refinement; which faces are present is Drillolive's.
 use Rattle.std.specs.Prelude.{ℕ, zero, suc, ◌+◌, Bool, not, ◌&&◌, nat_eq, List, [], get_or, length, map, replicate, take}
 use Rattle.std.specs.List.{filter, flat_map, list_any, list_all, sum_by, range_with_len, enumerate_from}
 use Rattle.subdiv_model.specs.Lists.{places, each_once_by}
@@ -8,18 +8,19 @@ use Rattle.subdiv_model.specs.Level.{Level, is_hole, faces_at}
 use Rattle.subdiv_model.specs.Child.{refined_level}
 use Rattle.subdiv_model.specs.Feature.{FaceFacts, facts_of}
 
--- A predicate on the facts of faces, as data: for each level the numbers of the faces that meet it, ascending.
+-- A predicate on faces, as data: for each level the numbers of the faces that meet it, ascending.
 abbrev pub Meeting : Type 0
 Meeting = List (List ℕ)
 
+-- the face meets the predicate at this depth
 abbrev pub meets : Meeting → ℕ → ℕ → Bool
 meets meeting depth face = is_among (get_or meeting depth []) face
 
--- the vertices of all corners, face by face; the child faces of a level are numbered as its corners are
+-- the vertices of all corners, face by face; child faces have the numbers of their corners in this list
 abbrev pub corners_of : List Polygon → List ℕ
 corners_of polygons = flat_map (λ polygon. polygon) polygons
 
--- the number in the next level of the child face of a corner, which is given as a face and a place in it
+-- the number in the next level of the child face of a corner, given as a face and a place in it
 abbrev pub child_number : List Polygon → ℕ × ℕ → ℕ
 child_number polygons place = sum_by length (take place.0 polygons) + place.1
 
@@ -27,25 +28,25 @@ child_number polygons place = sum_by length (take place.0 polygons) + place.1
 abbrev pub parents_of : List Polygon → List ℕ
 parents_of polygons = flat_map (λ face. replicate (length face.1) face.0) (enumerate_from 0 polygons)
 
--- the child faces of some faces
+-- the child faces of the listed faces
 abbrev pub children_of : List Polygon → List ℕ → List ℕ
 children_of polygons faces = places (is_among faces) (parents_of polygons)
 
--- a vertex lies on one of some faces
+-- the vertex is on one of the listed faces
 abbrev pub is_on : List Polygon → List ℕ → ℕ → Bool
 is_on polygons faces v = list_any (λ face. has_corner v (polygon_at polygons face)) faces
 
--- those that meet the predicate and are no holes
+-- the listed faces that meet the predicate and are no holes
 abbrev pub chosen : Level → Meeting → ℕ → List ℕ → List ℕ
 chosen level meeting depth faces = filter (λ face. meets meeting depth face && not (is_hole level face)) faces
 
--- the selected faces at a depth: of all faces of level 0, and then of the children of selected faces
+-- the selected faces at a depth, from all faces of level 0, then from the children of selected faces
 abbrev pub selected : Level → Meeting → ℕ → List ℕ
 selected base meeting zero = chosen base meeting zero (range_with_len 0 (length base.polygons))
 selected base meeting (suc depth) =
     chosen (refined_level base (suc depth)) meeting (suc depth) (children_of (refined_level base depth).polygons (selected base meeting depth))
 
--- the present faces at a depth, ascending: all of level 0, and then the child faces at vertices of selected faces
+-- the present faces at a depth, ascending: all faces of level 0, then the child faces at vertices of selected faces
 abbrev pub present : Level → Meeting → ℕ → List ℕ
 present base meeting zero = range_with_len 0 (length base.polygons)
 present base meeting (suc depth) =
@@ -56,12 +57,12 @@ present base meeting (suc depth) =
 abbrev pub present_polygons : Level → Meeting → ℕ → List Polygon
 present_polygons base meeting depth = map (polygon_at (refined_level base depth).polygons) (present base meeting depth)
 
--- the present points of level 0 are all its points; later ones are the corners of present faces, by first appearance
+-- the present points at a depth: all points of level 0, then the corners of present faces, by first appearance
 abbrev pub present_points : Level → Meeting → ℕ → List ℕ
 present_points base meeting zero = range_with_len 0 base.point_count
 present_points base meeting (suc depth) = each_once_by nat_eq (corners_of (present_polygons base meeting (suc depth)))
 
--- a face is inner where its parent is selected; those of level 0 are
+-- the inner faces at a depth: all faces of level 0, then the children of selected faces
 abbrev pub inner : Level → Meeting → ℕ → List ℕ
 inner base meeting zero = range_with_len 0 (length base.polygons)
 inner base meeting (suc depth) = children_of (refined_level base depth).polygons (selected base meeting depth)
@@ -70,11 +71,11 @@ inner base meeting (suc depth) = children_of (refined_level base depth).polygons
 abbrev pub is_whole : Level → Meeting → ℕ → ℕ → Bool
 is_whole base meeting depth v = list_all (is_among (present base meeting depth)) (faces_at (refined_level base depth) v)
 
--- the predicate has at a depth the faces whose facts pass this test
+-- the faces at a depth whose facts pass the test
 abbrev pub meeting_of : (FaceFacts → Bool) → Level → ℕ → List ℕ
 meeting_of test base depth =
     let level = refined_level base depth in filter (λ face. test (facts_of level depth face)) (range_with_len 0 (length level.polygons))
 
--- the predicate of a test for so many levels
+-- the predicate of a test for a number of levels
 abbrev pub meeting_to : (FaceFacts → Bool) → Level → ℕ → Meeting
 meeting_to test base depth = map (meeting_of test base) (range_with_len 0 depth)

@@ -1,5 +1,5 @@
--- Where the numbers of sparse levels pass their bounds, and which sparse levels have too many faces.
--- Source: this profile.
+-- The overflows of sparse levels, and sparse levels with too many faces.
+-- Source: Drillolive.
 use Rattle.std.specs.Prelude.{ℕ, suc, nat_lt, List, ◌++◌, length, map, max, get_or, []}
 use Rattle.std.specs.List.{filter, flat_map, sum_by, range_with_len}
 use Rattle.subdiv_model.specs.Polygons.{is_among}
@@ -14,15 +14,16 @@ use Rattle.subdiv_model.specs.Sparse.{Meeting, present, present_points}
 abbrev pub points_with_child : Level → Meeting → ℕ → ℕ → List ℕ
 points_with_child base meeting count k = filter (is_among (present_points base meeting (suc k))) (range_with_len 0 count)
 
--- the common denominators of the present points, and the entries of their table
+-- the common denominators of the present points
 abbrev pub present_denominators : Channel → Meeting → ℕ → List ℕ
 present_denominators channel meeting k = map (λ p. get_or (denominators_after channel k) p 1) (present_points channel.base meeting k)
 
+-- the number of entries of the table of the present points
 abbrev pub present_entries : Channel → Meeting → ℕ → ℕ
 present_entries channel meeting k =
     sum_by (λ p. length (get_or (refined_supports channel.base channel.scheme k) p [])) (present_points channel.base meeting k)
 
--- the sparse levels of a channel: of each level the present points
+-- the sparse levels of a channel, each with its present points
 abbrev pub sparse_levels : Channel → Meeting → TrackLevels
 sparse_levels channel meeting = record {
   scheme = channel.scheme;
@@ -33,16 +34,16 @@ sparse_levels channel meeting = record {
   entries = present_entries channel meeting;
 }
 
--- how many faces of a level are present
+-- the number of present faces of a level
 abbrev pub present_faces : Level → Meeting → ℕ → ℕ
 present_faces base meeting k = length (present base meeting k)
 
--- the faults of the level after k + 1 steps: too many faces are present, or numbers pass their bounds
+-- the faults of the level after k + 1 steps: too many present faces, or an overflow
 abbrev pub sparse_level_faults : Asked → Channel → Meeting → Track → ℕ → List Fault
 sparse_level_faults asked channel meeting track k =
     fault_where (nat_lt face_limit (present_faces channel.base meeting (suc k))) (TooLarge (LevelFaces (suc k) (present_faces channel.base meeting (suc k))))
     ++ level_faults asked (sparse_levels channel meeting) track k
 
--- the faults of so many sparse levels, level by level
+-- the faults of the first k sparse levels, level by level
 abbrev pub sparse_faults : Asked → Channel → Meeting → Track → ℕ → List Fault
 sparse_faults asked channel meeting track depth = flat_map (sparse_level_faults asked channel meeting track) (range_with_len 0 depth)

@@ -1,5 +1,5 @@
--- Texts of sparse levels: of each level a line with its counts, its points, and a line for each present face.
--- Source: this profile.
+-- Texts of sparse levels: for each level a line with its counts, its points, and a line for each present face.
+-- Source: Drillolive.
 use Rattle.std.specs.Prelude.{ℕ, ◌+◌, pos, not, nat_eq, List, [], ◌∷◌, ◌++◌, length, map, get_or, Option, codes, if◌then◌else◌}
 use Rattle.std.specs.List.{flat_map, position_or_len, range_with_len}
 use Rattle.subdiv_model.specs.Lists.{each_once_by}
@@ -12,18 +12,18 @@ use Rattle.subdiv_model.specs.Value.{whole_value}
 use Rattle.subdiv_model.specs.Refined.{Point}
 use Rattle.subdiv_model.specs.Text.{line_text, point_line}
 
--- what a present face is
+-- the kind of a present face
 pub data FaceKind : Type 0 where
-  -- a hole
+  -- the face is a hole
   HoleFace : FaceKind
-  -- its parent is not selected
+  -- the parent of the face is not selected
   OuterFace : FaceKind
-  -- it is selected
+  -- the face is selected
   SelectedFace : FaceKind
-  -- it is refined no further
+  -- the face is refined no further
   LeafFace : FaceKind
 
--- the first kind that a face of a level is of; no predicate has faces of the last level
+-- the first kind that fits a face of a level; no predicate has faces of the last level
 abbrev pub kind_of_face : Level → Meeting → ℕ → ℕ → FaceKind
 kind_of_face base meeting depth face =
     if is_hole (refined_level base depth) face then HoleFace
@@ -31,22 +31,23 @@ kind_of_face base meeting depth face =
     else if is_among (selected base meeting depth) face then SelectedFace
     else LeafFace
 
--- a present face as it is written: its kind, its number in the uniform level, and its corners among the points that are written,
--- counted from 0
+-- a present face as it is written: its kind, its number in the uniform level, and its corners among the written points, counted
+-- from 0
 pub record WrittenFace : Type 0 where
   pub kind : FaceKind
   pub number : ℕ
   pub corners : Polygon
 
--- how many points a sparse level has, and its faces
+-- the number of points of a sparse level, and its faces
 pub record WrittenLevel : Type 0 where
   pub point_count : ℕ
   pub faces : List WrittenFace
 
--- the points that are written of a level: the corners of its present faces, by first appearance
+-- the points that are written for a level: the corners of its present faces, by first appearance
 abbrev pub written_points : Level → Meeting → ℕ → List ℕ
 written_points base meeting depth = each_once_by nat_eq (corners_of (present_polygons base meeting depth))
 
+-- a present face of a level as it is written
 abbrev pub written_face : Level → Meeting → ℕ → ℕ → WrittenFace
 written_face base meeting depth face = record {
   kind = kind_of_face base meeting depth face;
@@ -54,23 +55,26 @@ written_face base meeting depth face = record {
   corners = map (λ v. position_or_len (nat_eq v) (written_points base meeting depth)) (polygon_at (refined_level base depth).polygons face);
 }
 
+-- a sparse level as it is written
 abbrev pub written_level : Level → Meeting → ℕ → WrittenLevel
 written_level base meeting depth = record {
   point_count = length (written_points base meeting depth);
   faces = map (written_face base meeting depth) (present base meeting depth);
 }
 
+-- the letter of a kind of face
 abbrev pub kind_text : FaceKind → List ℕ
 kind_text HoleFace = codes "h"
 kind_text OuterFace = codes "r"
 kind_text SelectedFace = codes "s"
 kind_text LeafFace = codes "l"
 
--- corners are written from 1
+-- the line of a face, with corners counted from 1
 abbrev pub sparse_face_line : WrittenFace → List ℕ
 sparse_face_line face =
     line_text (codes "f") (kind_text face.kind ∷ number_text face.number ∷ map (λ corner. number_text (corner + 1)) face.corners)
 
+-- the line with the counts of a level
 abbrev pub sparse_level_line : ℕ → WrittenLevel → List ℕ
 sparse_level_line depth level =
     line_text (codes "level")
@@ -79,16 +83,16 @@ sparse_level_line depth level =
     ∷ codes "faces" ∷ number_text (length level.faces)
     ∷ [])
 
--- the points of a level with these numbers
+-- the points of a level that have these numbers
 abbrev pub points_with : List Point → List ℕ → List Point
 points_with points numbers = map (λ v. get_or points v (whole_value (pos 0), whole_value (pos 0), whole_value (pos 0))) numbers
 
--- the counts of a level, its points, in lowest terms or rounded to the decimals that are given, and its faces
+-- the text of a level: its counts, its points in lowest terms or rounded to the given decimals, and its faces
 abbrev pub sparse_level_text : Option ℕ → ℕ → WrittenLevel → List Point → List ℕ
 sparse_level_text decimals depth level points =
     sparse_level_line depth level ++ (flat_map (point_line decimals) points ++ flat_map sparse_face_line level.faces)
 
--- the levels from 0 to the depth, with the points of each uniform level
+-- the text of the levels from 0 to the depth, from the points of each uniform level
 abbrev pub sparse_text : Option ℕ → (ℕ → List Point) → Level → Meeting → ℕ → List ℕ
 sparse_text decimals points base meeting depth =
     flat_map (λ j. sparse_level_text decimals j (written_level base meeting j) (points_with (points j) (written_points base meeting j)))

@@ -1,5 +1,5 @@
--- Stencil tables: each row says how a point is made of control points.
--- Source: OpenSubdiv's Far layer for stencil tables; exact numerators over a denominator for each row are this profile's.
+-- Stencil tables: each row gives a point as a mean of control points.
+-- Source: OpenSubdiv's Far layer for stencil tables; exact numerators over a denominator for each row are Drillolive's.
 use Rattle.std.specs.Prelude.{ℕ, ◌≡◌, ◌^◌, ◌<◌, ◌≤◌, List, [], length, map, get_or, max}
 use Rattle.std.specs.List.{All, fold, sum_by, enumerate_from}
 use Rattle.std.specs.List.Sorted.{IsStrictlyIncreasing}
@@ -13,18 +13,22 @@ use Rattle.subdiv_model.specs.Channel.{number_bound}
 abbrev pub Share : Type 0
 Share = ℕ × ℕ
 
+-- a row: its denominator, and its control points with their numerators
 pub record Row : Type 0 where
   pub den : ℕ
   pub shares : List Share
 
+-- a table: the number of control points, and its rows
 pub record Table : Type 0 where
   pub controls : ℕ
   pub rows : List Row
 
+-- the sum of the numerators
 abbrev pub total_of : List Share → ℕ
 total_of shares = sum_by (λ share. share.1) shares
 
--- a row over so many controls: each stands once, ascending, with a numerator above 0, and the numerators sum to the denominator
+-- a row over a number of control points: each occurs once, ascending, with a numerator above 0, and the numerators sum to the
+-- denominator
 pub record IsRow (controls : ℕ) (row : Row) : Type 0 where
   pub positive : 0 < row.den
   pub short : row.den ≤ number_bound
@@ -40,17 +44,19 @@ pub record IsTable (table : Table) : Type 0 where
   pub rows_few : length table.rows ≤ 2 ^ 27
   pub entries_few : sum_by (λ row. length row.shares) table.rows ≤ 2 ^ 27
 
+-- the row of this number
 abbrev pub row_at : Table → ℕ → Row
 row_at table row = get_or table.rows row (record { den = 1; shares = [] })
 
+-- the number of entries of rows
 abbrev pub entries_of : List Row → ℕ
 entries_of rows = sum_by (λ row. length row.shares) rows
 
--- the greatest denominator, and 1 of a table without rows
+-- the greatest denominator, and 1 for a table without rows
 abbrev pub greatest_of : Table → ℕ
 greatest_of table = fold max 1 (map (λ row. row.den) table.rows)
 
--- the row of a point after k steps, by its number and the controls that it depends on
+-- the row of a point after k steps, from its number and its support
 abbrev pub level_row : Level → Scheme → ℕ → ℕ × List ℕ → Row
 level_row level scheme k point = record {
   den = get_or (refined_denominators level scheme k) point.0 1;

@@ -1,8 +1,8 @@
-//! What a mesh, a level, a mask, a refined value and a text are: definitions over plain lists and whole numbers without
-//! bound, with worked examples that show them to be the intended ones.
+//! The definitions that all contracts use: meshes, levels, masks, refined values, stencil tables, and the texts that are read and
+//! written.
 //!
-//! Each public function here takes nothing, does nothing and returns nothing. Its clauses are examples, proved by
-//! computing both sides. The laws of the definitions stand in crates above this one.
+//! They are functions over plain lists and whole numbers without bound. The public functions have empty bodies: their clauses are
+//! worked examples, proved by computing both sides. Crates such as `mask_laws` prove laws of these definitions.
 #![tactic(auto)]
 
 pub mod levels;

@@ -10,7 +10,7 @@ ghost use Rattle.subdiv_model.specs.Mask.{CatmullClark, OfPoint, corner_mask, we
 ghost use Rattle.subdiv_model.specs.Sharpness.{Infinite, Semi};
 ghost use Rattle.subdiv_model.specs.ExampleLimits.{limit_text};
 
-/// The opposite corner of a quad is two corners further, and quads are asked for.
+/// The opposite corner of a quad is two corners further. The test for quads accepts the cube and refuses two triangles.
 pub fn opposite_corners()
     ensures first { opposite_corner 5 (5 ∷ 6 ∷ 7 ∷ 8 ∷ []) ≡ 7 }
     ensures last { opposite_corner 8 (5 ∷ 6 ∷ 7 ∷ 8 ∷ []) ≡ 6 }
@@ -19,7 +19,7 @@ pub fn opposite_corners()
     ensures triangles { has_quads (plain_level 3 two_triangles) ≡ false }
 {}
 
-/// A smooth corner of the cube: the same limit point at each level.
+/// A smooth corner of the cube has the same limit point at each level.
 pub fn smooth_limit_of_the_cube()
     ensures mask { limit_mask (plain_level 8 cube) 3 ≡ record { terms = weigh 9 (OfPoint 3) ∷ weigh_points 4 (1 ∷ 2 ∷ 5 ∷ []) ++ weigh_points 1 (0 ∷ 4 ∷ 7 ∷ []); denominator = 24 } }
     ensures here { limit_text (plain_level 8 cube) cube_x 0 3 ≡ codes "1/2" }
@@ -29,7 +29,7 @@ pub fn smooth_limit_of_the_cube()
     ensures entries { limit_entries_after (record { base = plain_level 8 cube; scheme = CatmullClark; greatest = 1; common = 1 }) 0 ≡ 56 }
 {}
 
-/// The square is a boundary curve alone: each point of its level 0 lies on a crease, and stays where it is with sharp corners.
+/// The square is only a boundary curve: each point of level 0 is on a crease. With sharp corners each point stays where it is.
 pub fn limits_on_the_boundary()
     ensures crease { limit_text (tagged_level 4 square [] []) square_x 0 0 ≡ codes "2/3" }
     ensures next { limit_text (tagged_level 4 square [] []) square_x 1 0 ≡ codes "2/3" }
@@ -37,7 +37,8 @@ pub fn limits_on_the_boundary()
     ensures point { limit_of (plain_level 1 []) 0 ≡ Ok (corner_mask 0) }
 {}
 
-/// A dart and a semi-sharp point have no limit mask. What is infinitely sharp enough stays where it is, whatever is semi-sharp beside it.
+/// A dart and a semi-sharp point have no limit mask. A point with enough infinitely sharp edges stays where it is, whatever else
+/// is semi-sharp.
 pub fn points_without_limits()
     ensures darts { limit_causes (tagged_level 8 cube (((0, 1), Infinite) ∷ []) []) ≡ Dart 0 ∷ Dart 1 ∷ [] }
     ensures semi { limit_causes (tagged_level 8 cube (((0, 1), Semi 5 1) ∷ []) []) ≡ SemiSharp 0 ∷ SemiSharp 1 ∷ [] }
@@ -47,7 +48,7 @@ pub fn points_without_limits()
     ensures itself { limit_mask (tagged_level 8 cube [] ((3, Semi 1 2) ∷ [])) 3 ≡ corner_mask 3 }
 {}
 
-/// Limit points of the cube within their bounds and past them, and one that is refused before its numbers are looked at.
+/// Limit points of the cube within their bounds and past them, and one that is refused before its numbers are judged.
 pub fn limits_past_their_bounds()
     ensures fine { limit_faults (record { base = plain_level 8 cube; scheme = CatmullClark; greatest = 1; common = 1 }) 1 ≡ [] }
     ensures value { limit_faults (record { base = plain_level 8 cube; scheme = CatmullClark; greatest = 2 ^ 120; common = 1 }) 1 ≡ Overflow LimitRows 1 ValueOverflow ∷ [] }

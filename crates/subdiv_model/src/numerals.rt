@@ -1,5 +1,4 @@
-//! Examples of the words, numerals and indices of OBJ text, and laws of them, each proved: a function
-//! here does nothing, and its clause is the law.
+//! Examples and laws of the words, numerals and indices of OBJ text. Each function has an empty body: its clauses are the laws.
 
 ghost use Rattle.std.specs.Prelude.{◌≡◌, ◌-◌, ◌≤◌, ◌^◌, pos, negsuc, true, false, [], ◌∷◌, codes};
 ghost use Rattle.subdiv_model.specs.ObjLine.{line_end_of, line_words};
@@ -7,7 +6,7 @@ ghost use Rattle.subdiv_model.specs.Numeral.{is_numeral, is_fraction, normal_for
 ghost use Rattle.subdiv_model.specs.ObjWord.{number_over};
 ghost use Rattle.subdiv_model.specs.Index.{is_index, index_of, nearest_index};
 
-/// Where lines end.
+/// The ends of lines.
 pub fn line_ends()
     ensures first { line_end_of (codes "v 1\n\nf") 0 ≡ 3 }
     ensures empty { line_end_of (codes "v 1\n\nf") 4 ≡ 4 }
@@ -35,7 +34,7 @@ pub fn words_that_are_numerals()
     ensures large { is_numeral (codes "0E+00") ≡ true }
 {}
 
-/// Words that are no numerals.
+/// Words that are not numerals.
 pub fn words_that_are_no_numerals()
     ensures none { is_numeral [] ≡ false }
     ensures sign { is_numeral (codes "+") ≡ false }
@@ -49,7 +48,7 @@ pub fn words_that_are_no_numerals()
     ensures gap { is_numeral (codes "1_0") ≡ false }
 {}
 
-/// Words that are fractions: a sign, digits, a slash, and digits that are not all zero.
+/// Fractions: a sign, digits, a slash, and digits that are not all zero.
 pub fn words_that_are_fractions()
     ensures fraction { is_fraction (codes "5/9") ≡ true }
     ensures plus { is_numeral (codes "+07/010") ≡ true }
@@ -57,7 +56,7 @@ pub fn words_that_are_fractions()
     ensures decimal { is_fraction (codes "0.5") ≡ false }
 {}
 
-/// Words with a slash that are no numerals.
+/// Words with a slash that are not numerals.
 pub fn words_that_are_no_fractions()
     ensures none { is_numeral (codes "1/0") ≡ false }
     ensures noughts { is_numeral (codes "0/00") ≡ false }
@@ -111,7 +110,7 @@ pub fn bounds_of_the_range()
     ensures zeros { is_in_range (codes "09999999999999999999999999999999999999/09999999999999999999999999999999999999") ≡ true }
 {}
 
-/// Words that are indices, and what they say.
+/// Indices, and the numbers they name.
 pub fn indices_and_their_ends()
     ensures digits { is_index (codes "007") ≡ true }
     ensures minus { is_index (codes "-0") ≡ true }

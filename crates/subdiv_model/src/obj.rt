@@ -1,5 +1,4 @@
-//! Examples of OBJ texts, their faults and their meshes, and laws of them, each proved: a function here
-//! does nothing, and its clause is the law.
+//! Examples and laws of OBJ texts, their faults and their meshes. Each function has an empty body: its clauses are the laws.
 
 ghost use Rattle.std.specs.Prelude.{◌≡◌, ◌+◌, ◌*◌, ◌≤◌, pos, negsuc, false, true, None, Some, [], ◌∷◌, ◌++◌, codes};
 ghost use Rattle.subdiv_model.specs.Examples.{cube};
@@ -9,7 +8,7 @@ ghost use Rattle.subdiv_model.specs.Boundary.{EdgeAndCorner};
 ghost use Rattle.subdiv_model.specs.ObjFault.{BadNumeral, NumberRange, UnknownKeyword, Continuation, ShortLine, BadCorner, IndexRange, BadTag, TagIndex, SharpnessRange};
 ghost use Rattle.subdiv_model.specs.ReadObj.{read_obj_fault, read_obj_mesh};
 
-/// Each cause that reading gives, with its line.
+/// Each cause that reading reports, with its line.
 pub fn faults_of_texts()
     ensures numeral { read_obj_fault (codes "\n# v\nv 0 nan 0") 0 ≡ Some (record { line = 3; cause = BadNumeral }) }
     ensures number { read_obj_fault (codes "v 1 2 3\nv 0 1e999999999999 x") 0 ≡ Some (record { line = 2; cause = NumberRange }) }
@@ -26,8 +25,8 @@ pub fn faults_of_texts()
     ensures nought { read_obj_fault (codes "v 0 1/0 0") 0 ≡ Some (record { line = 1; cause = BadNumeral }) }
 {}
 
-/// Where no line is bad by itself, a coordinate may have too many digits over the common denominator of its channel.
-/// Dropped coordinates have no part in it.
+/// If no line is bad by itself, a coordinate can still have too many digits over the common denominator of its channel. Dropped
+/// coordinates do not count.
 pub fn numbers_too_long_over_the_common_denominator()
     ensures position { read_obj_fault (codes "v 0 0 0.1\nv 1e36 0 0\n") 0 ≡ Some (record { line = 2; cause = NumberRange }) }
     ensures least { read_obj_fault (codes "v 1e36 0 0") 1 ≡ Some (record { line = 1; cause = NumberRange }) }
@@ -39,8 +38,8 @@ pub fn numbers_too_long_over_the_common_denominator()
     ensures halved { read_obj_fault (codes "v 5e36 0 0.5") 0 ≡ Some (record { line = 1; cause = NumberRange }) }
 {}
 
-/// The common denominator of a channel may pass its bound: the line up to which it does is at fault, and of both channels
-/// the lesser line.
+/// If the common denominator of a channel passes its bound, the line where it does so is at fault. Of two channels the lesser
+/// line is reported.
 pub fn common_denominators_past_their_bound()
     ensures most { read_obj_fault (codes "v 1e-37 0 0\nv 0.5 0 0") 0 ≡ None }
     ensures past { read_obj_fault (codes "v 0 0 1/5000000000000000000000000000000000000\nv 0.5 1/3 0\nv 1/9 0 0") 0 ≡ Some (record { line = 2; cause = NumberRange }) }
@@ -51,7 +50,7 @@ pub fn common_denominators_past_their_bound()
     ensures apart { read_obj_fault (codes "vt 1/9999999999999999999999999999999999999\nv 0.5 0 0") 0 ≡ None }
 {}
 
-/// Lines that are good: marks, comments and blanks are skipped, and indices may be of later lines.
+/// Texts without fault: marks, comments and blanks are skipped, and an index can name a later line.
 pub fn texts_without_fault()
     ensures empty { read_obj_fault [] 0 ≡ None }
     ensures mark { read_obj_fault ((239 ∷ 187 ∷ 191 ∷ []) ++ codes "v 1 2 3") 0 ≡ None }
@@ -64,7 +63,7 @@ pub fn texts_without_fault()
     ensures infinite_fraction { read_obj_fault (codes "v 0 0 0\nt corner 1/1/0 0 10000010/1000001") 0 ≡ None }
 {}
 
-/// The cube, however it is written.
+/// The cube in several spellings.
 pub fn cube_written_otherwise()
     ensures good { read_obj_fault other_cube_text 0 ≡ None }
     ensures points { (read_obj_mesh other_cube_text 0).points ≡ (read_obj_mesh cube_text 0).points }
@@ -86,7 +85,7 @@ pub fn channels_and_common_denominators()
     ensures no_face { (read_obj_mesh (codes "v 0 0 0\nvt 0") 0).has_texture ≡ false }
 {}
 
-/// Tags stand in the order of the file; for the mode and the method the last one stands.
+/// The mesh keeps tags in the order of the file. The last mode and the last method count.
 pub fn tags_in_file_order()
     ensures chain { (read_obj_mesh (codes "t crease 3/1/0 0 2 1 1.50\nt crease 2/1/0 2 0 1e1") 0).creases ≡ ((0, 2), Semi 3 2) ∷ ((2, 1), Semi 3 2) ∷ ((2, 0), Infinite) ∷ [] }
     ensures fraction { (read_obj_mesh (codes "t crease 2/1/0 0 2 6/4") 0).creases ≡ ((0, 2), Semi 3 2) ∷ [] }

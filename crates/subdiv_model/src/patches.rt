@@ -8,7 +8,7 @@ ghost use Rattle.subdiv_model.specs.Level.{plain_level};
 ghost use Rattle.subdiv_model.specs.Mask.{OfPoint, is_mean, weigh};
 ghost use Rattle.subdiv_model.specs.Patch.{has_patch, patch_mask, patch_points, patch_text, place_faults, spline_weights};
 
-/// The middle quad of three by three has a patch, whose points are all points of the sheet. A quad at the rim has none.
+/// The middle quad of a sheet of three by three has a patch of all points of the sheet. A quad at the rim has no patch.
 pub fn patch_of_a_sheet()
     ensures first { take 2 (patch_points (tagged_level 16 sheet [] []) 4) ≡ (0 ∷ 1 ∷ 2 ∷ 3 ∷ []) ∷ (4 ∷ 5 ∷ 6 ∷ 7 ∷ []) ∷ [] }
     ensures last { drop 2 (patch_points (tagged_level 16 sheet [] []) 4) ≡ (8 ∷ 9 ∷ 10 ∷ 11 ∷ []) ∷ (12 ∷ 13 ∷ 14 ∷ 15 ∷ []) ∷ [] }
@@ -21,7 +21,7 @@ pub fn patch_of_a_sheet()
     ensures status { fault_status (Place (NoFace 9)) ≡ 13 }
 {}
 
-/// At a corner nine points have a weight, as in a limit mask, and in the middle all sixteen. The weights are means.
+/// At a corner nine points have a weight, as in a limit mask; in the middle all sixteen do. The weights are means.
 pub fn weights_of_a_patch()
     ensures start { spline_weights 1 0 ≡ 1 ∷ 4 ∷ 1 ∷ 0 ∷ [] }
     ensures end { spline_weights 1 1 ≡ 0 ∷ 1 ∷ 4 ∷ 1 ∷ [] }

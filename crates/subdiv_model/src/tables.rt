@@ -1,4 +1,4 @@
-//! Stored tables that are read, and those that are refused.
+//! Examples of stored tables that are read, and of tables that are refused, each proved by computing.
 
 ghost use Rattle.std.specs.Prelude.{◌≡◌, [], ◌∷◌, ◌++◌, Ok, Err, codes};
 ghost use Rattle.subdiv_model.specs.ExampleTables.{small_table, small_text, refused_at, read_as};
@@ -7,7 +7,7 @@ ghost use Rattle.subdiv_model.specs.ReadTable.{read_table};
 ghost use Rattle.subdiv_model.specs.TableFault.{Form, Range, Sum, Count};
 ghost use Rattle.subdiv_model.specs.TableText.{text_of_table};
 
-/// A table of one row over two control points, and one without rows. What follows the text is left.
+/// A table of one row over two control points, and a table without rows. The bytes after the text are left.
 pub fn tables_that_are_read()
     ensures text { text_of_table small_table ≡ small_text }
     ensures small { read_table small_text ≡ read_as small_table [] }
@@ -15,8 +15,8 @@ pub fn tables_that_are_read()
     ensures none { read_table (codes "table controls 0 rows 0 entries 0\n") ≡ read_as (record { controls = 0; rows = [] }) [] }
 {}
 
-/// Lines that are no lines of a table: a first line that is cut, a number with a zero before it, two spaces, a row that is missing,
-/// a row that LF does not close, a control point without a numerator, and a denominator of 0 in a row that ends with a letter.
+/// Lines of another form: a cut first line, a number with a leading zero, two spaces, a missing row, and a row without LF. A
+/// control point lacks its numerator, and a row with a denominator of 0 ends with a letter.
 pub fn tables_of_another_form()
     ensures empty { read_table [] ≡ refused_at 1 Form }
     ensures cut { read_table (codes "table controls 2 rows 1 entries 2") ≡ refused_at 1 Form }
@@ -28,7 +28,7 @@ pub fn tables_of_another_form()
     ensures letter { read_table (codes "table controls 2 rows 1 entries 2\ns 0 0 3 1 x\n") ≡ refused_at 2 Form }
 {}
 
-/// Numbers out of range: too many control points, a numerator of 0, control points that do not ascend, and one that is not there.
+/// Numbers out of range: too many control points, a numerator of 0, and control points that do not ascend or do not exist.
 pub fn numbers_out_of_range()
     ensures controls { read_table (codes "table controls 1048577 rows 1 entries 2\n") ≡ refused_at 1 Range }
     ensures numerator { read_table (codes "table controls 2 rows 1 entries 2\ns 4 0 4 1 0\n") ≡ refused_at 2 Range }
@@ -38,7 +38,7 @@ pub fn numbers_out_of_range()
     ensures past { read_table (codes "table controls 2 rows 1 entries 2\ns 4 0 3 2 1\n") ≡ refused_at 2 Range }
 {}
 
-/// Rows that do not sum to their denominator, and entries that are more or fewer than the first line says.
+/// Rows that do not sum to their denominator, and more or fewer entries than the first line says.
 pub fn sums_and_counts()
     ensures sum { read_table (codes "table controls 2 rows 1 entries 2\ns 5 0 3 1 1\n") ≡ refused_at 2 Sum }
     ensures empty_row { read_table (codes "table controls 2 rows 1 entries 0\ns 1\n") ≡ refused_at 2 Sum }
@@ -47,7 +47,7 @@ pub fn sums_and_counts()
     ensures no_rows { read_table (codes "table controls 2 rows 0 entries 1\n") ≡ refused_at 1 Count }
 {}
 
-/// What is said of a stored table that is refused, and with which status.
+/// The messages for refused tables, and their status.
 pub fn lines_of_refused_tables()
     ensures form { fault_line (Table (record { line = 3; cause = Form })) ≡ codes "far: line 3: table form\n" }
     ensures range { fault_line (Table (record { line = 2; cause = Range })) ≡ codes "far: line 2: table number out of range\n" }

@@ -34,7 +34,7 @@ pub fn empty_text()
     ensures { refined_text_of (read_obj_mesh [] 0) 1 ≡ [] }
 {}
 
-/// The cube, refined once, from text to text, however it is written.
+/// The cube in several spellings, refined once, from text to text.
 pub fn cube_from_text_to_text()
     ensures good { read_obj_fault cube_text 0 ≡ None }
     ensures refined { refined_text_of (read_obj_mesh cube_text 0) 1 ≡ refined_cube_text }
@@ -46,12 +46,12 @@ pub fn two_triangles_refined_once()
     ensures { refined_text (plain_level 3 two_triangles) CatmullClark 1 triangle_points 1 ≡ refined_triangles_text }
 {}
 
-/// Numerators stand over the common denominator of their channel, and a face that is a hole is not written.
+/// Numerators are over the common denominator of their channel, and the text omits a face that is a hole.
 pub fn common_denominator_and_hole_in_a_text()
     ensures { refined_text holed_triangles CatmullClark 100 triangle_points_in_hundredths 0 ≡ codes "v 0 1/2 -3/2\nv 1 0 0\nv 0 1/100 0\nf 1 3 2\n" }
 {}
 
-/// Whole numbers of any length have all their digits.
+/// Whole numbers of any length are written with all digits.
 pub fn whole_numbers_as_texts()
     ensures zero { number_text 0 ≡ codes "0" }
     ensures digit { number_text 7 ≡ codes "7" }
@@ -59,7 +59,7 @@ pub fn whole_numbers_as_texts()
     ensures long { number_text (10 ^ 70 + 5) ≡ codes "10000000000000000000000000000000000000000000000000000000000000000000005" }
 {}
 
-/// Decimals are rounded half to even, and what rounds to zero has no sign.
+/// Decimals are rounded half to even, and a number rounded to zero has no sign.
 pub fn decimals_half_to_even()
     ensures half_down { rounded_text 0 (pos 1) 2 ≡ codes "0" }
     ensures half_up { rounded_text 0 (pos 3) 2 ≡ codes "2" }
@@ -73,7 +73,7 @@ pub fn decimals_half_to_even()
     ensures unreduced { rounded_text 2 (pos 6) 48 ≡ codes "0.12" }
 {}
 
-/// The tags of a level: its mode, its method, its inner edges that are sharp, its sharp vertices and its holes.
+/// The tags of a level: its mode, its method, its sharp inner edges, its sharp vertices and its holes.
 pub fn tags_of_a_level()
     ensures none { tags_text (plain_level 8 cube) ≡ codes "t interpolateboundary 1/0/0 2\n" }
     ensures chaikin { tags_text chaikin_cube ≡ codes "t interpolateboundary 1/0/0 2\nt creasemethod 0/0/1 chaikin\nt crease 2/1/0 0 1 1\nt crease 2/1/0 1 3 3\n" }
@@ -82,7 +82,7 @@ pub fn tags_of_a_level()
         ≡ codes "t interpolateboundary 1/0/0 2\nt corner 1/1/0 0 10\nt corner 1/1/0 1 10\nt corner 1/1/0 2 10\nt corner 1/1/0 3 10\n" }
 {}
 
-/// The lines of the levels of a cube with two creases, by each method, and of a square that is hidden.
+/// The lines of the levels of a cube with two creases, by each method, and of a hidden square.
 pub fn lines_of_levels()
     ensures chaikin { levels_text chaikin_cube 1 ≡ chaikin_levels_text }
     ensures normal { level_line 1 (child_level (cube_of_two_creases Normal (Semi 1 1) (Semi 3 1)))
@@ -91,7 +91,7 @@ pub fn lines_of_levels()
     ensures negative { whole_text (negsuc 0) ≡ codes "-1" }
 {}
 
-/// The table of a square after no step and after one.
+/// The tables of a square at level 0 and at level 1.
 pub fn tables_of_a_square()
     ensures base { table_text (tagged_level 4 square [] []) CatmullClark 0 ≡ codes "table controls 4 rows 4 entries 4\ns 1 0 1\ns 1 1 1\ns 1 2 1\ns 1 3 1\n" }
     ensures refined { table_text (tagged_level 4 square [] []) CatmullClark 1 ≡ square_table_text }

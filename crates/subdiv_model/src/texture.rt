@@ -6,7 +6,7 @@ ghost use Rattle.subdiv_model.specs.Examples.{half_seamed_quads, joined_quads, s
 ghost use Rattle.subdiv_model.specs.Level.{edge_sharpness_of, vertex_sharpness_of};
 ghost use Rattle.subdiv_model.specs.Sharpness.{Infinite, Semi, Smooth};
 
-/// Two quads side by side whose texture numbers differ along the edge between them: all eight corners are points.
+/// Two quads side by side whose texture numbers differ along their common edge: all eight corners are channel points.
 pub fn seam_between_two_quads()
     ensures seam { is_seam seamed_quads (1, 2) ≡ true }
     ensures no_seam { is_seam seamed_quads (0, 1) ≡ false }
@@ -15,7 +15,7 @@ pub fn seam_between_two_quads()
     ensures values { channel_values seamed_quads ≡ (pos 0, pos 0) ∷ (pos 1, pos 0) ∷ (pos 1, pos 1) ∷ (pos 0, pos 1) ∷ (pos 4, pos 0) ∷ (pos 5, pos 0) ∷ (pos 5, pos 1) ∷ (pos 4, pos 1) ∷ [] }
 {}
 
-/// The same quads with one texture number a vertex: no seam, and the cut mesh has the points of the mesh.
+/// Two quads with one texture number for each vertex have no seam: the cut mesh has the points of the mesh.
 pub fn quads_without_a_seam()
     ensures seam { is_seam joined_quads (1, 2) ≡ false }
     ensures joined { joined_faces joined_quads 1 1 ≡ 0 ∷ 1 ∷ [] }
@@ -23,15 +23,14 @@ pub fn quads_without_a_seam()
     ensures inner { edge_sharpness_of (cut_level SmoothSeams joined_quads) (1, 2) ≡ Smooth }
 {}
 
-/// Texture numbers that differ at one end of an edge alone: it is a seam, and the two faces share no channel point at
-/// the other end either, though their numbers are the same there.
+/// An edge is a seam if the texture numbers differ at one end only. The two faces share no channel point at the other end either.
 pub fn seam_that_differs_at_one_end()
     ensures seam { is_seam half_seamed_quads (2, 1) ≡ true }
     ensures polygons { (cut_level SmoothSeams half_seamed_quads).polygons ≡ (0 ∷ 1 ∷ 2 ∷ 3 ∷ []) ∷ (4 ∷ 5 ∷ 6 ∷ 7 ∷ []) ∷ [] }
 {}
 
-/// Where a seam ends inside the mesh its end is one channel point: the faces join round it. Here the numbers at vertex 1
-/// of a sheet of four quads differ across the edge to the vertex in the middle.
+/// A seam that ends inside the mesh ends at one channel point, around which the faces join. The numbers at vertex 1 of a sheet of
+/// four quads differ across the edge to the middle vertex.
 pub fn seam_that_ends_inside()
     ensures seam { is_seam slit_sheet (1, 4) ≡ true }
     ensures middle { joined_faces slit_sheet 4 0 ≡ 0 ∷ 1 ∷ 2 ∷ 3 ∷ [] }
@@ -41,8 +40,8 @@ pub fn seam_that_ends_inside()
     ensures tag { edge_sharpness_of (cut_level SmoothSeams (record slit_sheet { creases = ((4, 5), Semi 5 2) ∷ [] })) (6, 2) ≡ Semi 5 2 }
 {}
 
-/// What the modes keep sharp: points of one face, or all points on the boundary of the cut mesh; and tags of the mesh
-/// hold on both sides of a seam.
+/// What the modes keep sharp: the points of one face, or all points on the boundary of the cut mesh. Tags of the mesh hold on
+/// both sides of a seam.
 pub fn modes_of_seams()
     ensures smooth { (cut_level SmoothSeams joined_quads).vertex_sharpness ≡ replicate 6 Smooth }
     ensures one_face { vertex_sharpness_of (cut_level CornerSeams joined_quads) 0 ≡ Infinite }

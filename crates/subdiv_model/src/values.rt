@@ -13,36 +13,36 @@ ghost use Rattle.subdiv_model.specs.Refined.{control_values, point_value, refine
 ghost use Rattle.subdiv_model.specs.Sharpness.{Chaikin, Normal, Semi};
 ghost use Rattle.subdiv_model.specs.Support.{entries_after, refined_supports, stencil_numerator};
 
-/// Euclid's algorithm computes, for long numbers too.
+/// Euclid's algorithm computes with long numbers too.
 pub fn gcd_of_long_numbers()
     ensures { gcd_of 2363071992506517107384545884942834801 1152921504606846976 ≡ 1 }
 {}
 
-/// Under the linear scheme vertices stay, and faces and edges have their middle points.
+/// Under the linear scheme vertices stay, and each face and each edge gets its middle point.
 pub fn square_under_the_linear_scheme()
     ensures { refined_value_texts (tagged_level 4 square [] []) Linear square_x 1 ≡ codes "0" ∷ codes "4" ∷ codes "4" ∷ codes "0" ∷ codes "2" ∷ codes "2" ∷ codes "4" ∷ codes "2" ∷ codes "0" ∷ [] }
 {}
 
-/// A crease between vertices 1 and 3 of the cube, of sharpness 1/2: the edge's point moves out, and
-/// vertex 1, a dart, stays where it is without the crease.
+/// A crease of sharpness 1/2 between vertices 1 and 3 of the cube moves the point of its edge out. Vertex 1 is a dart: it goes
+/// where it goes without the crease.
 pub fn semi_sharp_crease_on_the_cube()
     ensures edge { value_text (point_value (refined_values (tagged_level 8 cube (((1, 3), Semi 1 2) ∷ []) []) CatmullClark (control_values cube_x) 1) 15) ≡ codes "7/8" }
     ensures vertex { value_text (point_value (refined_values (tagged_level 8 cube (((1, 3), Semi 1 2) ∷ []) []) CatmullClark (control_values cube_x) 1) 1) ≡ codes "5/9" }
 {}
 
-/// Creases of 1/2 and 3/2 at vertex 1 of the cube: a crease now and a dart in the next level, by halves.
+/// Creases of 1/2 and 3/2 at vertex 1 of the cube. The vertex is a crease now and a dart in the next level, half of each.
 pub fn fractional_transition_on_the_cube()
     ensures x { value_text (point_value (refined_values (cube_of_two_creases Normal (Semi 1 2) (Semi 3 2)) CatmullClark (control_values cube_x) 1) 1) ≡ codes "47/72" }
     ensures z { value_text (point_value (refined_values (cube_of_two_creases Normal (Semi 1 2) (Semi 3 2)) CatmullClark (control_values cube_z) 1) 1) ≡ codes "7/9" }
 {}
 
-/// The four edges of a face of the cube, infinitely sharp: a crease stays in its plane.
+/// If the four edges of a face of the cube are infinitely sharp, the crease stays in its plane.
 pub fn infinite_crease_on_the_cube()
     ensures x { value_text (point_value (refined_values (tagged_level 8 cube cube_ring []) CatmullClark (control_values cube_x) 1) 3) ≡ codes "3/4" }
     ensures z { value_text (point_value (refined_values (tagged_level 8 cube cube_ring []) CatmullClark (control_values cube_z) 1) 3) ≡ codes "1" }
 {}
 
-/// A square whose boundary edges are infinitely sharp: its corner, an edge's point and the face's point.
+/// A square whose boundary edges are infinitely sharp: its corner, the point of an edge and the point of the face.
 pub fn open_square_refined_once()
     ensures { refined_value_texts (tagged_level 4 square [] []) CatmullClark square_x 1 ≡ codes "1/2" ∷ codes "7/2" ∷ codes "7/2" ∷ codes "1/2" ∷ codes "2" ∷ codes "2" ∷ codes "4" ∷ codes "2" ∷ codes "0" ∷ [] }
 {}
@@ -53,7 +53,7 @@ pub fn two_steps_of_refinement()
     ensures triangles { value_text (point_value (refined_values (plain_level 3 two_triangles) CatmullClark (control_values (pos 0 ∷ pos 12 ∷ pos 0 ∷ [])) 2) 0) ≡ codes "15/4" }
 {}
 
-/// The common denominators of the cube, refined once: 36 for a vertex, 4 for a face and 16 for an edge.
+/// The common denominators of the cube after a step: 36 for a vertex, 4 for a face and 16 for an edge.
 pub fn denominators_of_the_cube()
     ensures { refined_denominators (plain_level 8 cube) CatmullClark 1
         ≡ replicate 8 36 ++ (replicate 6 4 ++ replicate 12 16) }
@@ -67,7 +67,7 @@ pub fn common_denominators_of_small_meshes()
     ensures none { greatest_denominator (record { base = tagged_level 0 [] [] []; scheme = CatmullClark; greatest = 0; common = 1 }) 3 ≡ 1 }
 {}
 
-/// What the points of the cube depend on after a step, and how many entries that makes.
+/// The control points that the points of the cube depend on after a step, and the number of entries.
 pub fn supports_of_the_cube()
     ensures vertex { get_or (refined_supports (plain_level 8 cube) CatmullClark 1) 0 [] ≡ 0 ∷ 1 ∷ 2 ∷ 3 ∷ 4 ∷ 6 ∷ 7 ∷ [] }
     ensures face { get_or (refined_supports (plain_level 8 cube) CatmullClark 1) 8 [] ≡ 0 ∷ 1 ∷ 2 ∷ 3 ∷ [] }
@@ -77,7 +77,7 @@ pub fn supports_of_the_cube()
     ensures base { entries_after (plain_level 8 cube) CatmullClark 0 ≡ 8 }
 {}
 
-/// The shares of controls in points of the cube after a step.
+/// The shares of control points in points of the cube after a step.
 pub fn shares_of_controls()
     ensures itself { stencil_numerator (plain_level 8 cube) CatmullClark 1 0 0 ≡ 15 }
     ensures neighbour { stencil_numerator (plain_level 8 cube) CatmullClark 1 0 2 ≡ 6 }
@@ -85,16 +85,16 @@ pub fn shares_of_controls()
     ensures none { stencil_numerator (plain_level 8 cube) CatmullClark 1 0 5 ≡ 0 }
 {}
 
-/// A value overflows where the greatest common denominator times the greatest numerator, or times the common
-/// denominator of the channel, passes the bound.
+/// A value overflows if the greatest common denominator, times the greatest numerator or times the common denominator of the
+/// channel, passes the bound.
 pub fn overflows_of_values()
     ensures greatest { has_value_overflow (whole_levels (record { base = plain_level 8 cube; scheme = CatmullClark; greatest = 2363071992506517107384545884942834801; common = 1 })) 0 ≡ false }
     ensures past { has_value_overflow (whole_levels (record { base = plain_level 8 cube; scheme = CatmullClark; greatest = 2363071992506517107384545884942834802; common = 1 })) 0 ≡ true }
     ensures common { has_value_overflow (whole_levels (record { base = plain_level 8 cube; scheme = CatmullClark; greatest = 0; common = 2363071992506517107384545884942834802 })) 0 ≡ true }
 {}
 
-/// Where sharpness overflows: by the chaikin rule at a vertex of two semi-sharp edges, and in a transition where
-/// the two masks differ, under the scheme of Catmull and Clark alone.
+/// Sharpness overflows under the Chaikin method at a vertex of two semi-sharp edges, and in a transition between two masks. Only
+/// the Catmull-Clark scheme has transitions.
 pub fn overflows_of_sharpness()
     ensures chaikin { chaikin_overflows_at (fine_cube Chaikin) 1 ≡ true }
     ensures other_end { chaikin_overflows_at (fine_cube Chaikin) 0 ≡ false }
@@ -104,7 +104,7 @@ pub fn overflows_of_sharpness()
     ensures linear { transition_overflows_at (fine_cube Normal) Linear 1 ≡ false }
 {}
 
-/// The faults of a level in their order: the sharpness, the weights, the entries of tables and the values.
+/// The faults of a level in order: sharpness, weights, table entries and values.
 pub fn faults_of_a_level()
     ensures order { channel_faults Tables fine_channel Positions 1
         ≡ Overflow Positions 1 ChaikinOverflow ∷ Overflow Positions 1 TransitionOverflow ∷ Overflow Positions 1 ValueOverflow ∷ [] }
