@@ -1,4 +1,4 @@
--- The child faces of a level: how many they are, where each stands, and which are holes.
+-- The child faces of a level: their number, their places, and which are holes.
 use Rattle.std.proofs.Common.{◌≡◌, ℕ, zero, suc, ◌+◌, ◌*◌, ◌<◌, true, false, nat_eq, List, [], ◌∷◌, length, get_or, take, replicate, arith, refl, ap, sym, ◌∙◌, subst}
 use Rattle.std.specs.List.{list_all, flat_map, sum_by, enumerate_from}
 use Rattle.std.proofs.lemmas.Bool.{and_parts, eqb-true}
@@ -29,7 +29,7 @@ module _ (points : ℕ) (polygons : List Polygon) where
   along-length face before [] = refl
   along-length face before (side ∷ sides) = ap suc (along-length face side sides)
 
-  -- and as many child faces
+  -- a face has as many child faces as corners
   pub child_faces-length : (face : ℕ) (polygon : Polygon) → length (child_faces points polygons face polygon) ≡ length polygon
   child_faces-length face polygon = along-length face (last_of (0, 0) (sides_of polygon)) (sides_of polygon) ∙ sides_of-length polygon
 
@@ -75,7 +75,7 @@ parts-before parts same place (suc k) (polygon ∷ some) =
     let sums = sum_by-cons length polygon (take k some) in
     both ∙ omega (arith, here, after, sums)
 
--- and the part of a face begins after the corners of the faces before it
+-- the children of a face begin after the corners of all earlier faces
 parts-at : {X : Type 0} (parts : ℕ × Polygon → List X) → ((face : ℕ × Polygon) → length (parts face) ≡ length face.1)
     → (polygons : List Polygon) (face c : ℕ) (d : X) → face < length polygons → c < length (polygon_at polygons face)
     → get_or (flat_map parts (enumerate_from 0 polygons)) (sum_by length (take face polygons) + c) d
@@ -95,7 +95,7 @@ pub child_polygons-length : (points : ℕ) (polygons : List Polygon) → length 
 child_polygons-length points polygons =
     parts-length (λ face. child_faces points polygons face.0 face.1) (λ face. child_faces-length points polygons face.0 face.1) 0 polygons
 
--- the child of a face at a corner stands after the children of the faces before it
+-- the child of a face at a corner comes after the children of all earlier faces
 pub child-stands : (points : ℕ) (polygons : List Polygon) (face c : ℕ) → face < length polygons → c < length (polygon_at polygons face)
     → let sides = sides_of (polygon_at polygons face) in
     polygon_at (child_polygons points polygons) (sum_by length (take face polygons) + c)
@@ -106,7 +106,7 @@ child-stands points polygons face c inside corner =
     polygons face c [] inside corner
     ∙ along-at points polygons face (last_of (0, 0) sides) sides c (omega (arith, corner, sides_of-length (polygon_at polygons face)))
 
--- and is a hole where the face is one
+-- the child is a hole exactly where the face is one
 pub child-hole : (level : Level) (face c : ℕ) → face < length level.polygons → c < length (polygon_at level.polygons face)
     → is_hole (child_level level) (sum_by length (take face level.polygons) + c) ≡ is_hole level face
 child-hole level face c inside corner =
@@ -114,7 +114,7 @@ child-hole level face c inside corner =
     level.polygons face c false inside corner
     ∙ get_or-replicate (length (polygon_at level.polygons face)) c (is_hole level face) false corner
 
--- there are as many marks as child faces
+-- the next level has as many marks as child faces
 pub child_holes-length : (level : Level) → length (child_holes level) ≡ sum_by length level.polygons
 child_holes-length level =
     parts-length (λ face. replicate (length face.1) (is_hole level face.0)) (λ face. length-replicate (length face.1) (is_hole level face.0)) 0

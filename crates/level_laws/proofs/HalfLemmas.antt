@@ -64,7 +64,7 @@ module _ (level : Level) (over : is_over level.point_count level.polygons ≡ tr
   end-alike : (v : ℕ) (s t : ℕ × ℕ) → same_edge s t ≡ true → has_end v s ≡ has_end v t
   end-alike v s t h = grind (arith, nat_tests)
 
-  -- of the halves of some edges, the first that is this one has its sharpness
+  -- the first half equal to this edge has its sharpness
   among-half : (edge : ℕ × ℕ) (v : ℕ) → nat_lt v level.point_count ≡ true → is_edge level edge ≡ true → has_end v edge ≡ true
       → (some : List (ℕ × ℕ)) → list_any (same_edge edge) some ≡ true
       → sharpness_among (halves_from level some) (v, point_of level edge) ≡ half_sharpness level edge v
@@ -161,7 +161,7 @@ module _ (level : Level) (over : is_over level.point_count level.polygons ≡ tr
           let same : v ≡ s.1 = eqb-true v s.1 other in
           close (ap (λ n. nat_lt n level.point_count) same ∙ end) (to-half s s.1 is same into)
 
--- so each edge of the level has it at both ends
+-- each edge of the level has its halves at both ends
 pub halves-sharp : (level : Level) → IsTrue (is_over level.point_count level.polygons)
     → All (λ edge. (v : ℕ) → IsTrue (has_end v edge) → edge_sharpness_of (child_level level) (v, point_of level edge) ≡ half_sharpness level edge v)
     (edges_of level.polygons)

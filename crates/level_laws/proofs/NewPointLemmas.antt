@@ -8,7 +8,7 @@ use Rattle.subdiv_model.specs.Sharpness.{Sharpness, Smooth, uniform_child}
 use Rattle.subdiv_model.specs.Level.{Level, vertex_sharpness_of}
 use Rattle.subdiv_model.specs.Child.{child_level}
 
--- what is repeated is read at each place, where it is the default too
+-- a repeated item is read at each place, if it is also the default
 replicated : {X : Type 0} (x : X) (n i : ℕ) → get_or (replicate n x) i x ≡ x
 replicated x zero i = refl
 replicated x (suc n) zero = refl

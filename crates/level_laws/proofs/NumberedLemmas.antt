@@ -1,11 +1,11 @@
--- What is kept for each edge or face in their order, read by its number.
+-- Items listed for each edge or face in order, read by number.
 use Rattle.std.proofs.Common.{◌≡◌, ℕ, ◌+◌, ◌<◌, Bool, true, false, List, [], ◌∷◌, length, map, get_or, arith, refl, ap, ◌∙◌, if◌then◌else◌}
 use Rattle.std.specs.List.{list_any, position_or_len, enumerate_from}
 use Rattle.std.proofs.Math.Numerals.{one-add}
 use Rattle.subdiv_model.specs.Polygons.{Polygon, same_edge, polygon_at}
 use Rattle.mesh_laws.proofs.ChildClosedLemmas.{numbered}
 
--- what an edge has at its number, where the same edge has the same; what is no edge has the default
+-- the item of an edge at its number, where equal edges have equal items; a pair that is no edge has the default
 pub listed-at : {Y : Type 0} (f : ℕ × ℕ → Y) (d : Y) → ((s t : ℕ × ℕ) → same_edge s t ≡ true → f s ≡ f t)
     → (edge : ℕ × ℕ) (edges : List (ℕ × ℕ))
     → get_or (map f edges) (position_or_len (same_edge edge) edges) d ≡ (if list_any (same_edge edge) edges then f edge else d)

@@ -14,7 +14,7 @@ use Rattle.subdiv_model.specs.Base.{base_edge_sharpness, base_vertex_sharpness, 
 use Rattle.mesh_laws.proofs.ChildClosedLemmas.{numbered-length}
 use Rattle.mesh_laws.proofs.FaultLemmas.{all-always}
 
--- what is one value for each of a list that passes a test
+-- a function that is constant on the items that pass
 pub map-constant : {X Y : Type 0} (keep : X → Bool) (f : X → Y) (y : Y) → ((x : X) → keep x ≡ true → f x ≡ y) → (xs : List X)
     → list_all keep xs ≡ true → map f xs ≡ replicate (length xs) y
 map-constant keep f y same [] h = refl

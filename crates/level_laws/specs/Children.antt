@@ -1,4 +1,4 @@
--- What the laws of the next level speak of: corners, ends of edges and faces of a level, and what they become.
+-- The corners, edges and faces of a level and what they become in the next level, for the laws of levels.
 use Rattle.std.specs.Prelude.{ℕ, ◌+◌, ◌<◌, List, ◌∷◌, length, get_or, take, IsTrue}
 use Rattle.std.specs.List.{list_any, sum_by}
 use Rattle.subdiv_model.specs.Lists.{last_of}
@@ -7,14 +7,14 @@ use Rattle.subdiv_model.specs.Edges.{edges_of, has_end}
 use Rattle.subdiv_model.specs.Level.{Level}
 use Rattle.subdiv_model.specs.Child.{edge_point, face_point}
 
--- a corner of a face, by their places
+-- a corner of a face, by the number of the face and its place in the face
 pub record Corner (polygons : List Polygon) : Type 0 where
   pub face : ℕ
   pub place : ℕ
   pub is_face : face < length polygons
   pub is_corner : place < length (polygon_at polygons face)
 
--- the place of the child face of a corner: after the children of the faces before it
+-- the number of the child face of a corner, which comes after the children of all earlier faces
 abbrev pub child_place : {polygons : List Polygon} → Corner polygons → ℕ
 child_place {polygons} corner = sum_by length (take corner.face polygons) + corner.place
 
@@ -22,15 +22,15 @@ child_place {polygons} corner = sum_by length (take corner.face polygons) + corn
 abbrev pub sides_at : {polygons : List Polygon} → Corner polygons → List (ℕ × ℕ)
 sides_at {polygons} corner = sides_of (polygon_at polygons corner.face)
 
--- the side that ends at a corner
+-- the side of the face that ends at the corner
 abbrev pub side_to : {polygons : List Polygon} → Corner polygons → ℕ × ℕ
 side_to corner = get_or (last_of (0, 0) (sides_at corner) ∷ sides_at corner) corner.place (0, 0)
 
--- the side that starts at a corner
+-- the side of the face that starts at the corner
 abbrev pub side_from : {polygons : List Polygon} → Corner polygons → ℕ × ℕ
 side_from corner = get_or (sides_at corner) corner.place (0, 0)
 
--- an end v of an edge of the level, whose corners are points
+-- the end v of an edge of the level, whose corners are points
 pub record EdgeEnd (level : Level) : Type 0 where
   pub edge : ℕ × ℕ
   pub v : ℕ
@@ -38,7 +38,7 @@ pub record EdgeEnd (level : Level) : Type 0 where
   pub is_edge : IsTrue (list_any (same_edge edge) (edges_of level.polygons))
   pub is_end : IsTrue (has_end v edge)
 
--- the face is one of the level, whose corners are points
+-- the number is one of a face of the level, whose corners are points
 pub record IsFaceOverPoints (level : Level) (face : ℕ) : Type 0 where
   pub over : IsTrue (is_over level.point_count level.polygons)
   pub is_face : face < length level.polygons

@@ -1,4 +1,4 @@
--- What the laws of level 0 speak of: the tags of a mesh.
+-- The tags of a mesh, for the laws of level 0.
 use Rattle.std.specs.Prelude.{◌≡◌, [], IsTrue}
 use Rattle.std.specs.List.{list_all}
 use Rattle.subdiv_model.specs.Sharpness.{Normal, is_proper_sharpness}
@@ -10,7 +10,7 @@ pub record HasProperTags (mesh : ObjMesh) : Type 0 where
   pub creases : IsTrue (list_all (λ crease. is_proper_sharpness crease.1) mesh.creases)
   pub corner_tags : IsTrue (list_all (λ tag. is_proper_sharpness tag.1) mesh.corner_tags)
 
--- the mesh has no crease, no corner tag and no hole; its boundary mode and its method are those without a line that sets one
+-- the mesh has no crease, no corner tag and no hole, and the default boundary mode and method
 pub record IsUntagged (mesh : ObjMesh) : Type 0 where
   pub creases : mesh.creases ≡ []
   pub corner_tags : mesh.corner_tags ≡ []

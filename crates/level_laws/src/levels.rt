@@ -1,5 +1,4 @@
-//! Laws of levels: when level 0 is well formed or plain, how many marks and sharpnesses each level has, and where the
-//! next level gets its own from.
+//! Laws of level 0 and of the marks and sharpness that each next level inherits.
 
 ghost use Rattle.std.specs.Prelude.{◌≡◌, ℕ, ◌<◌, ◌≤◌, List, length, IsTrue};
 ghost use Rattle.std.specs.List.{All};
@@ -13,32 +12,30 @@ ghost use Rattle.subdiv_model.specs.Base.{base_level};
 ghost use Rattle.level_laws.specs.Children.{Corner, EdgeEnd, IsFaceOverPoints, child_place, side_to, side_from, edge_point_of, face_point_of};
 ghost use Rattle.level_laws.specs.Tags.{HasProperTags, IsUntagged};
 
-/// Level 0 of a mesh whose corners are points and whose tags are well formed is well formed.
+/// Level 0 of a mesh is well formed where the corners of faces are points and the tags are well formed.
 pub fn base_levels_are_well_formed()
     ensures { (mesh : ObjMesh) → IsTrue (has_faces_over_points mesh) → HasProperTags mesh
         → IsTrue (is_well_formed (base_level mesh)) }
 {}
 
-/// Level 0 of a closed mesh without creases, corner tags and holes has no mark and no sharpness.
+/// Level 0 of a closed mesh without creases, corner tags and holes is plain: it has no mark and no sharpness.
 pub fn base_of_an_untagged_closed_mesh_is_plain()
     ensures { (mesh : ObjMesh) → IsUntagged mesh → IsTrue (is_closed mesh.faces)
         → base_level mesh ≡ plain_level (length mesh.points) mesh.faces }
 {}
 
-/// Each level after a well-formed one is well formed: its corners are points, it has a mark for each face and a
-/// sharpness for each edge and each point, and each sharpness is well formed.
+/// Each level after a well-formed level is well formed. Its corners are points, each face has a mark, and each edge and each
+/// point has a well-formed sharpness.
 pub fn levels_stay_well_formed()
     ensures { (level : Level) (k : ℕ) → IsTrue (is_well_formed level) → IsTrue (is_well_formed (refined_level level k)) }
 {}
 
-/// Each level has as many faces as its first level says: one for each corner after one step, and four times as
-/// many after each further step.
+/// After one step a level has one face for each corner of the faces it comes from. Each further step makes four times as many.
 pub fn levels_have_so_many_faces()
     ensures { (level : Level) (k : ℕ) → length (refined_level level k).polygons ≡ faces_after level.polygons k }
 {}
 
-/// The child of a face at a corner stands after the children of the faces before it, and is a hole exactly
-/// where the face is one.
+/// The child of a face at a corner comes after the children of all earlier faces. It is a hole exactly where the face is a hole.
 pub fn child_faces_are_holes_as_their_parents()
     ensures place { (points : ℕ) (faces : List Polygon) (corner : Corner faces)
         → polygon_at (child_polygons points faces) (child_place corner)
@@ -47,7 +44,7 @@ pub fn child_faces_are_holes_as_their_parents()
         → is_hole (child_level level) (child_place corner) ≡ is_hole level corner.face }
 {}
 
-/// The half of an edge at each of its ends has the sharpness that the method of the level gives it.
+/// Each half of an edge has the sharpness that the method of the level gives it at its end.
 pub fn halves_have_their_sharpness()
     ensures { (level : Level) (end : EdgeEnd level)
         → edge_sharpness_of (child_level level) (end.v, edge_point_of level end.edge) ≡ half_sharpness level end.edge end.v }
@@ -63,7 +60,7 @@ pub fn edges_inside_faces_are_smooth()
         (edges_of level.polygons) }
 {}
 
-/// A point of the level keeps its number and gets the uniform child of its sharpness; new points are smooth.
+/// A point keeps its number, and its sharpness becomes the uniform child of the sharpness it had. New points are smooth.
 pub fn new_points_are_smooth()
     ensures new_points { (level : Level) (p : ℕ) → level.point_count ≤ p → vertex_sharpness_of (child_level level) p ≡ Smooth }
     ensures old_points { (level : Level) (v : ℕ) → v < level.point_count

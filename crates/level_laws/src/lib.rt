@@ -1,6 +1,6 @@
-//! Laws of levels in their canonical form, and of the sharpness of the next level, and the lemmas on them that other crates cite.
+//! Laws of levels: the form of level 0 and of every later level, and the sharpness and holes that children inherit.
 //!
-//! Each public function here takes nothing, does nothing and returns nothing: its clauses are the laws.
+//! Each public function has an empty body: its clauses are the laws. The proofs of other crates cite the lemmas behind them.
 #![tactic(auto)]
 
 pub mod levels;

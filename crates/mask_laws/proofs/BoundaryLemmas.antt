@@ -65,7 +65,7 @@ module _ (level : Level) (simple : list_all is_simple level.polygons ≡ true) w
       taken true c h k = k
       taken false c h k = cc
 
--- and the other way about
+-- a level whose boundary edges are infinitely sharp passes the test
 pub sharp-from : (level : Level) → ((t : ℕ × ℕ) → is_boundary level.polygons t ≡ true → is_infinite (edge_sharpness_of level t) ≡ true)
     → has_sharp_boundary level ≡ true
 sharp-from level each =

@@ -98,7 +98,7 @@ module _ (level : Level) (simple : list_all is_simple level.polygons ≡ true) (
           ring-infinite (is_boundary level.polygons) (has_end v) (edge_sharpness_of level) (edges_of level.polygons) sharp,
         )
 
-    -- so it is no smooth vertex and no dart, in its level and in the next
+    -- a vertex at a sharp boundary is neither smooth nor a dart, in its level and in the next
     pub boundary-now : (v : ℕ) → is_at_boundary level.polygons v ≡ true → is_smooth_or_dart (rule_at level v) ≡ false
     boundary-now v at =
         false_from_ne_true _ (λ h. omega (arith, two-infinite v at, (few-infinite (vertex_sharpness_of level v) (ring_at level v) h).1))

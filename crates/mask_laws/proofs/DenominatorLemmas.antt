@@ -12,7 +12,7 @@ use Rattle.subdiv_model.specs.Refined.{mask_value, point_value, corner_value, so
 use Rattle.number_laws.proofs.MultipleLemmas.{all-divide_lcm}
 use Rattle.mask_laws.proofs.SumLemmas.{weighted_sum, IsOver, over-multiple, terms-over}
 
--- the same with the amounts first
+-- the numerator of x over c
 record Over (c : ℕ) (x : Value) : Type 0 where
   num : ℤ
   same : IsOver c x num

@@ -17,7 +17,7 @@ use Rattle.sharpness_laws.proofs.SameWeightLemmas.{same-sum, same-total}
 use Rattle.mask_laws.specs.Laws.{value_of_terms}
 use Rattle.mask_laws.proofs.SumLemmas.{weighted_sum, IsOver, over-multiple, terms-over}
 
--- What is true of each source of the terms is true of each source of the mask.
+-- A property of each source of the terms is one of each source of the mask.
 
 kept-all : {X : Type 0} (keep : X → Bool) (P : X → Type 0) (xs : List X) → AllByRecursion P xs → AllByRecursion P (filter keep xs)
 kept-all keep P [] h = tt
@@ -48,7 +48,7 @@ module _ (P : SourcePoint → Type 0) where
 
 -- Sums.
 
--- terms as they stand, over some denominator
+-- terms that are not joined, over some denominator
 abbrev unjoined : List Term → Mask
 unjoined terms = record { terms = terms; denominator = 1 }
 
@@ -84,7 +84,7 @@ module _ (f : SourcePoint → ℤ) where
         sum_by-cons (λ (u : Term). u.weight * below (f u.source)) t terms,
       )
 
-  -- a weighted sum depends on the weight of each source alone
+  -- a weighted sum depends only on the weight of each source
   pub order-sum : (first second : List Term) → ((s : SourcePoint) → weight_in first s ≡ weight_in second s)
       → weighted_sum f first ≡ weighted_sum f second
   order-sum first second same =
@@ -93,11 +93,11 @@ module _ (f : SourcePoint → ℤ) where
       let low : down first ≡ down second = same-sum (λ s. below (f s)) (unjoined first) (unjoined second) both in
       omega (arith, ints, sum-parts first, sum-parts second, high, low)
 
-  -- so that over joined terms is that over the terms
+  -- the weighted sum over joined terms is that over the terms
   pub joined-sum : (terms : List Term) (q : ℕ) → weighted_sum f (mask_of terms q).terms ≡ weighted_sum f terms
   joined-sum terms q = order-sum (mask_of terms q).terms terms (weight_in-mask_of terms q)
 
--- the same of natural numbers, and of all weights
+-- joining keeps all weights
 joined-weights : (terms : List Term) (q : ℕ) → HaveSameWeights (unjoined (mask_of terms q).terms) (unjoined terms)
 joined-weights terms q = record { denominator = refl; weights = weight_in-mask_of terms q }
 
@@ -162,7 +162,7 @@ pub joined-value : (value : SourcePoint → Value) (terms : List Term) (q : ℕ)
 joined-value value terms q positive some =
     value-from-sums value positive (mask_of terms q).terms terms q some (λ f. joined-sum f terms q)
 
--- terms that give each source the same weight have the same value, in whatever order they stand
+-- terms that give each source the same weight have the same value, in any order
 pub order-value : (value : SourcePoint → Value) (first second : List Term) (q : ℕ) → ((s : SourcePoint) → 0 < (value s).den) → 0 < q
     → ((s : SourcePoint) → weight_in first s ≡ weight_in second s)
     → IsSameValue (value_of_terms value first q) (value_of_terms value second q)

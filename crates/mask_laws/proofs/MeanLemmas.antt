@@ -145,7 +145,7 @@ means-levels level scheme k formed is sharp =
     all-means here (sharp-levels level k (sharp-manifold level over is sharp))
     (proper-well_formed here (levels-well-formed level k formed)) scheme
 
--- and of every mesh
+-- the masks of every manifold mesh are means
 pub means-meshes : (mesh : ObjMesh) (scheme : Scheme) (k : ℕ) → IsManifold (length mesh.points) mesh.faces
     → IsTrue (has_faces_over_points mesh) → IsTrue (list_all (λ crease. is_proper_sharpness crease.1) mesh.creases)
     → IsTrue (list_all (λ tag. is_proper_sharpness tag.1) mesh.corner_tags) → IsTrue (has_means (refined_level (base_level mesh) k) scheme)

@@ -1,4 +1,4 @@
--- Where the sources of masks come from: what is true of the points and faces about is true of each source.
+-- The sources of masks: a property of all points and faces around is one of each source.
 use Rattle.std.proofs.Common.{◌≡◌, ℕ, ◌+◌, ◌-◌, ◌*◌, ◌/◌, Bool, true, nat_le, nat_eq, List, [], ◌∷◌, ◌++◌, length, get_or, refl, ◌∙◌}
 use Rattle.std.specs.List.{list_all}
 use Rattle.std.proofs.lemmas.Bool.{and_from, cond_both}

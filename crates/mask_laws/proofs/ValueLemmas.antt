@@ -19,7 +19,7 @@ use Rattle.subdiv_model.specs.Refined.{AreTranslatedBy, mask_value, point_value,
 use Rattle.number_laws.proofs.WholeNumberLemmas.{pos-distrib, pos-sum, pos-assoc, pos-swap, pos-cancel, times-one, swap_middle}
 use Rattle.mask_laws.proofs.SourceLemmas.{from-mask_of}
 
--- the same value moved by a whole number, over the same denominator
+-- y is x plus a whole number, over the same denominator
 pub record IsMoved (t : ℤ) (x y : Value) : Type 0 where
   pub den : y.den ≡ x.den
   pub num : y.num ≡ x.num +ℤ pos x.den *ℤ t

@@ -1,6 +1,7 @@
-//! Laws of masks and of refined values, and the lemmas on them that other crates cite.
+//! Laws of masks and refined values: masks are means, boundaries stay sharp, and refined values follow translations of the
+//! control points.
 //!
-//! Each public function here takes nothing, does nothing and returns nothing: its clauses are the laws.
+//! Each public function has an empty body: its clauses are the laws. The proofs of other crates cite the lemmas behind them.
 #![tactic(auto)]
 
 pub mod masks;

@@ -1,4 +1,4 @@
-//! Laws of masks: their weights and sources, the weights between two rules, and what holds at the boundary.
+//! Laws of masks: their weights and sources, the blends of two rules, and the boundary.
 
 ghost use Rattle.std.specs.Prelude.{◌≡◌, ◌*◌, ◌<◌, ◌≤◌, IsTrue, ℕ, length, List, [], get_or, false};
 ghost use Rattle.std.specs.List.{sum_by};
@@ -17,12 +17,12 @@ ghost use Rattle.subdiv_model.specs.Refined.{mask_value};
 ghost use Rattle.mask_laws.specs.SharpBoundary.{has_sharp_boundary};
 ghost use Rattle.mask_laws.specs.Laws.{Transition, SourceValues, BoundaryPoint, IsManifoldMesh, HasProperTags, IsManifoldWithSharpBoundary, IsInteriorWhereSmooth, GiveSameWeights, mesh_level, weight_of, value_of_terms};
 
-/// The mask of a face with a corner is a mean: its weights are above 0 and sum to the denominator.
+/// The mask of a face that has a corner is a mean: its weights are above 0 and sum to the denominator.
 pub fn face_masks_are_means()
     ensures { (level : Level) (f : ℕ) → 0 < length (get_or level.polygons f []) → IsTrue (is_mean (face_mask level f)) }
 {}
 
-/// The mask of an edge of two faces, or of a sharpness of at least 1, is a mean.
+/// The mask of an edge is a mean where the edge has two faces or a sharpness of at least 1.
 pub fn edge_masks_are_means()
     ensures two_faces { (level : Level) (scheme : Scheme) (edge : ℕ × ℕ) → length (faces_of_edge level.polygons edge) ≡ 2
         → IsTrue (is_mean (edge_mask level scheme edge)) }
@@ -31,29 +31,28 @@ pub fn edge_masks_are_means()
     ensures infinite { (edge : ℕ × ℕ) (faces : List ℕ) → IsTrue (is_mean (mask_of_edge Infinite edge faces)) }
 {}
 
-/// The mask of a vertex is a mean: smooth, dart, crease, corner, and in a transition between two of
-/// them. Where its rule is smooth or a dart, now or in the next level, it has as many faces as edges.
+/// The mask of a vertex is a mean: smooth, dart, crease, corner, and the blend of two of them. A vertex whose rule is smooth or
+/// dart, in this level or in the next, has as many faces as edges.
 pub fn vertex_masks_are_means()
     ensures catmull_clark { (level : Level) (v : ℕ) → IsTrue (is_proper_at level v) → IsInteriorWhereSmooth level v
         → IsTrue (is_mean (vertex_mask level CatmullClark v)) }
     ensures linear { (level : Level) (v : ℕ) → IsTrue (is_mean (vertex_mask level Linear v)) }
 {}
 
-/// Between two means each weight above 0 and at most 1 makes a mean.
+/// The blend of two means by a weight above 0 and at most 1 is a mean.
 pub fn blends_are_means()
     ensures { (w : ℕ × ℕ) (parent child : Mask) → 0 < w.0 → w.0 ≤ w.1 → IsTrue (is_mean parent) → IsTrue (is_mean child)
         → IsTrue (is_mean (blend w parent child)) }
 {}
 
-/// Where the masks of two levels differ at a vertex, the weight is above 0 and at most 1.
+/// Where the masks of two levels differ at a vertex, the weight of their blend is above 0 and at most 1.
 pub fn transition_weights_are_above_zero()
     ensures above_zero { (transition : Transition) → 0 < (weight_of transition).0 }
     ensures at_most_one { (transition : Transition) → (weight_of transition).0 ≤ (weight_of transition).1 }
 {}
 
-/// Boundary edges, which are the edges of one face, stay infinitely sharp. At level 0 of every mesh they are, whatever
-/// its tags and its boundary mode; a closed level has none; where they are at a level, they are at the next; and so
-/// they are at every level of a mesh, named in either direction.
+/// Boundary edges, which have one face, are infinitely sharp at every level of every mesh, whatever its tags and boundary mode.
+/// If they are at one level, they are at the next; a closed level has no boundary edge.
 pub fn boundary_edges_stay_infinite()
     ensures mesh { (mesh : ObjMesh) → IsManifold (length mesh.points) mesh.faces → IsTrue (has_sharp_boundary (base_level mesh)) }
     ensures closed { (level : Level) → IsTrue (is_closed level.polygons) → IsTrue (has_sharp_boundary level) }
@@ -63,8 +62,8 @@ pub fn boundary_edges_stay_infinite()
         → IsTrue (is_boundary (mesh_level mesh k).polygons edge) → edge_sharpness_of (mesh_level mesh k) edge ≡ Infinite }
 {}
 
-/// In a manifold a point away from the boundary, if an edge ends there, is interior: it has as many faces as edges,
-/// and at least two. One at a sharp boundary is a crease or a corner, in its level and in the next.
+/// In a manifold a point that has an edge and is off the boundary has as many faces as edges, and at least two. A point on a
+/// sharp boundary is a crease or a corner, in its level and in the next.
 pub fn points_are_interior_or_at_the_boundary()
     ensures interior { (level : Level) (v : ℕ) → IsManifold level.point_count level.polygons
         → is_at_boundary level.polygons v ≡ false → 1 ≤ length (edges_at level v) → IsTrue (is_interior level v) }
@@ -72,10 +71,10 @@ pub fn points_are_interior_or_at_the_boundary()
     ensures boundary_next { (point : BoundaryPoint) → is_smooth_or_dart (child_rule_at point.level point.v) ≡ false }
 {}
 
-/// Each mask of a manifold, at every level and under both schemes, is a mean of points and faces of its level: its
-/// weights are above 0 and sum to its denominator. So it is from every well formed level whose boundary is infinitely
-/// sharp, as that of a closed one is, and from level 0 of every mesh, open or closed, whatever its tags, where each
-/// sharpness in them is well formed.
+/// Each mask of a manifold is a mean, at every level and under both schemes: its weights are above 0 and sum to its denominator.
+///
+/// The law holds from level 0 of every mesh whose tags are well formed, open or closed. It also holds from every well-formed
+/// manifold level whose boundary is infinitely sharp, as the empty boundary of a closed level is.
 pub fn masks_of_manifolds_are_means()
     ensures level { (level : Level) (scheme : Scheme) (k : ℕ) → IsManifoldWithSharpBoundary level
         → IsTrue (has_means (refined_level level k) scheme) }
@@ -83,16 +82,14 @@ pub fn masks_of_manifolds_are_means()
         → IsTrue (has_means (mesh_level mesh k) scheme) }
 {}
 
-/// A mask lists each of its sources once, whatever terms it is made of; so do all masks of a level, those between two
-/// rules too.
+/// A mask lists each of its sources once. All masks of a level do, blends included.
 pub fn masks_list_their_sources_once()
     ensures level { (level : Level) (scheme : Scheme) → IsTrue (has_distinct_masks level scheme) }
     ensures terms { (terms : List Term) (q : ℕ) → IsTrue (has_distinct_sources (mask_of terms q).terms) }
 {}
 
-/// A mask sums as the terms that it was made of, which may name a source more than once: it has their weights
-/// in all, the same sum of weighted numbers, and the same value. Nor does the order of terms tell: terms that
-/// give each source the same weight have the same value.
+/// A mask has the value of the terms it was made from, even if they name a source more than once. Terms that give each source the
+/// same total weight have the same value, in any order.
 pub fn sums_do_not_see_how_terms_are_joined()
     ensures weights { (terms : List Term) (q : ℕ) → total_weight (mask_of terms q).terms ≡ total_weight terms }
     ensures numbers { (number : SourcePoint → ℕ) (terms : List Term) (q : ℕ)

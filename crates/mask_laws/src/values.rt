@@ -9,16 +9,16 @@ ghost use Rattle.subdiv_model.specs.Base.{base_level};
 ghost use Rattle.subdiv_model.specs.Refined.{AreTranslatedBy, refined_denominators};
 ghost use Rattle.mask_laws.specs.Laws.{Refinement, IsManifoldMesh, HasProperTags, IsManifoldWithSharpBoundary, HasMeansInSteps, values_of, translated_values};
 
-/// Each refined value is a whole number over its point's common denominator, whatever the controls.
+/// Each refined value is a whole number over the common denominator of its point, whatever the control points.
 pub fn values_are_whole_over_common_denominators()
     ensures { (level : Level) (refinement : Refinement level) → AllZip (λ value den. IsWholeOver den value)
         (values_of refinement) (refined_denominators level refinement.scheme refinement.steps) }
 {}
 
-/// Where all controls move by one whole number in a coordinate, every refined point moves by it: each
-/// refined value plus the number is the value refined from the moved controls. So it is at a manifold whose
-/// boundary is infinitely sharp, at level 0 of every mesh, open or closed, and wherever the masks of each step are
-/// means.
+/// If all control points move by a whole number in one coordinate, each refined point moves by that number.
+///
+/// The law holds for level 0 of every manifold mesh and for manifold levels whose boundary is infinitely sharp. It holds wherever
+/// the masks of each step are means.
 pub fn translating_controls_translates_points()
     ensures manifold { (level : Level) (refinement : Refinement level) (t : ℤ) → IsManifoldWithSharpBoundary level
         → AreTranslatedBy t (values_of refinement) (translated_values t refinement) }

@@ -1,4 +1,4 @@
--- A boundary edge is an edge, also where the polygons are no manifold.
+-- A boundary edge is an edge, even if the polygons are no manifold.
 use Rattle.std.proofs.Common.{◌≡◌, ℕ, true, List, length, arith, ◌∙◌}
 use Rattle.std.specs.List.{list_any}
 use Rattle.std.proofs.lemmas.Bool.{eqb-true}

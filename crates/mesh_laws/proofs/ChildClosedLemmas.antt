@@ -34,7 +34,7 @@ one-passes false false true s h = inr (inr (inl refl))
 one-passes false false false true h = inr (inr (inr refl))
 one-passes false false false false h = absurd (omega arith)
 
--- the same side is the same pair
+-- equal sides are the same pair
 pub same-pair : (t s : ℕ × ℕ) → same_side t s ≡ true → t ≡ s
 same-pair t s h =
     let parts = and_parts (nat_eq t.0 s.0) (nat_eq t.1 s.1) h in

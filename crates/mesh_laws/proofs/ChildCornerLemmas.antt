@@ -21,7 +21,7 @@ quad-sides a b c d = (grind (arith, nat_tests), grind (arith, nat_tests), grind 
 quad-corners : (a b c d : ℕ) → (has_corner a (a ∷ b ∷ c ∷ d ∷ []) ≡ true) × (has_corner b (a ∷ b ∷ c ∷ d ∷ []) ≡ true) × (has_corner c (a ∷ b ∷ c ∷ d ∷ []) ≡ true) × (has_corner d (a ∷ b ∷ c ∷ d ∷ []) ≡ true)
 quad-corners a b c d = (grind (arith, nat_tests), grind (arith, nat_tests), grind (arith, nat_tests), grind (arith, nat_tests))
 
--- and there is no other
+-- a quad has no fifth corner
 quad-cases : (a b c d x : ℕ) → has_corner x (a ∷ b ∷ c ∷ d ∷ []) ≡ true → (x ≡ a) ⊎ ((x ≡ b) ⊎ ((x ≡ c) ⊎ (x ≡ d)))
 quad-cases a b c d x h = go (nat_eq x a) (nat_eq x b) (nat_eq x c) refl refl refl
   where
@@ -37,7 +37,7 @@ corner-place [] k v h = absurd (cc)
 corner-place (polygon ∷ polygons) zero v h = omega arith
 corner-place (polygon ∷ polygons) (suc k) v h = let behind = corner-place polygons k v h in omega (arith, behind)
 
--- and each of its corners is a point
+-- each corner of a polygon is a point
 pub corner-point : (points : ℕ) (polygons : List Polygon) (k v : ℕ) → is_over points polygons ≡ true → has_corner v (polygon_at polygons k) ≡ true → nat_lt v points ≡ true
 corner-point points polygons k v over h =
     let all = all-at (list_all (λ n. nat_lt n points)) polygons k [] (corner-place polygons k v h) over in
@@ -89,7 +89,7 @@ module _ (points : ℕ) (polygons : List Polygon) where
         let here : has_side (face_point points k, edge_point points polygons (c.u, v)) quad ≡ true = ap (has_side (face_point points k, edge_point points polygons (c.u, v))) c.is ∙ (quad-sides v _ _ _).2 in
         subst (λ n. has_side (face_point points k, edge_point points polygons (n, v)) quad ≡ true) e here
 
-    -- and from there to its corner
+    -- a child has the side from the edge point to its corner
     pub into : (k u v : ℕ) (quad : Polygon) → IsChildOf points polygons k v quad → has_side (u, v) (polygon_at polygons k) ≡ true → has_side (edge_point points polygons (u, v), v) quad ≡ true
     into k u v quad c h =
         let e : c.u ≡ u = leader-unique (polygon_at polygons k) v c.u u (distinct-at polygons k simple) c.before h in
@@ -101,13 +101,13 @@ module _ (points : ℕ) (polygons : List Polygon) where
       pub at-corner : (k v : ℕ) → has_corner v (polygon_at polygons k) ≡ true → IsChildOf points polygons k v (polygon_at (child_polygons points polygons) (child_at points polygons k v))
       at-corner k v h = child-at points polygons k v (corner-place polygons k v h) h
 
-      -- stands at no other place
+      -- a child is at no other place
       pub one-place : (k v place : ℕ) → IsChildOf points polygons k v (polygon_at (child_polygons points polygons) place) → child_at points polygons k v ≡ place
       one-place k v place c =
           let there = at-corner k v (side-start (polygon_at polygons k) (v, c.w) c.after) in
           owner-unique (child_polygons points polygons) (v, edge_point points polygons (v, c.w)) (child_at points polygons k v) place (child-times points polygons over simple distinct (v, edge_point points polygons (v, c.w))) (out k v c.w _ there c.after) (out k v c.w _ c c.after)
 
-      -- and two children at one place are one
+      -- two children at one place are one
       pub places-tell : (k v m n : ℕ) → has_corner v (polygon_at polygons k) ≡ true → has_corner n (polygon_at polygons m) ≡ true → child_at points polygons k v ≡ child_at points polygons m n → (k ≡ m) × (v ≡ n)
       places-tell k v m n h g e =
           let c = at-corner k v h in

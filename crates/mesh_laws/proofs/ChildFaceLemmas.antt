@@ -125,7 +125,7 @@ sound-sides points polygons over = both-all (is_named points polygons) (is_insid
 pub all-child : (points : ℕ) (polygons : List Polygon) → is_over points polygons ≡ true → list_all is_simple polygons ≡ true → list_all (is_child points polygons) (child_polygons points polygons) ≡ true
 all-child points polygons over simple = children-child points polygons 0 polygons (omega arith) simple (sound-sides points polygons over)
 
--- so they are simple, and over the points of the child level
+-- child faces are simple, and over the points of the child level
 pub child-simple : (points : ℕ) (polygons quads : List Polygon) → list_all (is_child points polygons) quads ≡ true → list_all is_simple quads ≡ true
 child-simple points polygons [] h = refl
 child-simple points polygons (quad ∷ quads) h =

@@ -28,7 +28,7 @@ module _ (points : ℕ) (polygons : List Polygon) (simple : list_all is_simple p
         leads_back = ap (λ (n : ℕ). has_side (n, v) (polygon_at (child_polygons points polygons) (child_at points polygons g v))) (sym (back-point points polygons over simple (v, is.corner))) ∙ back;
       }
 
-  -- so the children of a path are a path
+  -- the children of a path at its vertex are a path
   vertex-path : (v : ℕ) (fan : List ℕ) → IsPath polygons v fan → IsPath (child_polygons points polygons) v (map (λ k. child_at points polygons k v) fan)
   vertex-path v [] path = tt
   vertex-path v (face ∷ []) path = tt
@@ -74,7 +74,7 @@ module _ (points : ℕ) (polygons : List Polygon) (simple : list_all is_simple p
         leads_back = toward points polygons simple k w v _ at_w side;
       }
 
-  -- so the children of a face by its corners, last first, are a path
+  -- the children of a face at its corners, last first, are a path around the face point
   face-path : (k first w : ℕ) (acc : List ℕ) (path : Polygon) → has_side (w, get_or path 0 first) (polygon_at polygons k) ≡ true → list_all (λ s. has_side s (polygon_at polygons k)) (sides_back_to first path) ≡ true → IsPath (child_polygons points polygons) (face_point points k) (map (child_at points polygons k) (w ∷ acc)) → IsPath (child_polygons points polygons) (face_point points k) (map (child_at points polygons k) (onto (w ∷ acc) path))
   face-path k first w acc [] link all done = done
   face-path k first w acc (v ∷ rest) link all done =

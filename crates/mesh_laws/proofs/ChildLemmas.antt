@@ -12,12 +12,12 @@ use Rattle.subdiv_model.specs.Child.{edge_point, face_point, child_face, child_f
 use Rattle.subdiv_model.specs.Lists.{last_of}
 use Rattle.number_laws.proofs.CountLemmas.{count-cons, count-append, one_if, sum-agree, sum-zero}
 
--- of the sides that a side of a face gives, those before the face point: from its start to its own point, and on
+-- the sides of a child before the face point: from the start of a side of the face to its own point, and on
 abbrev pub count_toward : ℕ → List Polygon → (ℕ × ℕ → Bool) → ℕ → ℕ × ℕ → ℕ
 count_toward points polygons test face s =
     one_if (test (s.0, edge_point points polygons s)) + one_if (test (edge_point points polygons s, face_point points face))
 
--- and those after the face point: back to its own point, and on to its end
+-- the sides of a child after the face point: back to its own point, and on to the end of that side
 abbrev pub count_away : ℕ → List Polygon → (ℕ × ℕ → Bool) → ℕ → ℕ × ℕ → ℕ
 count_away points polygons test face s =
     one_if (test (face_point points face, edge_point points polygons s)) + one_if (test (edge_point points polygons s, s.1))
@@ -25,7 +25,7 @@ count_away points polygons test face s =
 abbrev pub count_four : ℕ → List Polygon → (ℕ × ℕ → Bool) → ℕ → ℕ × ℕ → ℕ
 count_four points polygons test face s = count_toward points polygons test face s + count_away points polygons test face s
 
--- the child faces of some faces, the first of which has the number `place`
+-- the child faces of some faces, if the first has the number `place`
 abbrev pub children_from : ℕ → List Polygon → ℕ → List Polygon → List Polygon
 children_from points polygons place some = flat_map (λ face. child_faces points polygons face.0 face.1) (enumerate_from place some)
 
@@ -89,7 +89,7 @@ nested-plain keep g c same place (polygon ∷ some) h =
     let both = sum_by-append c (sides_of polygon) (all_sides some) in
     omega (arith, here, behind, sums, both)
 
--- where only the face `at` counts, and stands before the first
+-- if only the face `at` counts and comes before the first, nothing counts
 nested-none : (keep : ℕ × ℕ → Bool) (g : ℕ → ℕ × ℕ → ℕ) (c : ℕ × ℕ → ℕ) (at : ℕ) → ((face : ℕ) (s : ℕ × ℕ) → keep s ≡ true → g face s ≡ cond (nat_eq at face) (c s) 0) → (place : ℕ) (some : List Polygon) → list_all keep (all_sides some) ≡ true → at < place → nested_sum g place some ≡ 0
 nested-none keep g c at same place [] h before = refl
 nested-none keep g c at same place (polygon ∷ some) h before =

@@ -11,7 +11,7 @@ use Rattle.mesh_laws.proofs.ChildCountLemmas.{times-out, times-in, times-toward,
 use Rattle.mesh_laws.proofs.ChildClosedLemmas.{same-pair, Within, IsOfFour, once, source}
 
 module _ (points : ℕ) (polygons : List Polygon) (over : is_over points polygons ≡ true) (simple : list_all is_simple polygons ≡ true) (distinct : has_distinct_sides (all_sides polygons) ≡ true) where
-  -- what is used once at most, under the name of the same side
+  -- a side that is used at most once is used at most once under an equal name
   at-most : (t s : ℕ × ℕ) → same_side t s ≡ true → times_used (child_polygons points polygons) s ≤ 1 → times_used (child_polygons points polygons) t ≤ 1
   at-most t s h most = let P : ℕ × ℕ → Type 0 = λ p. times_used (child_polygons points polygons) p ≤ 1 in subst P (sym (same-pair t s h)) most
 

@@ -14,7 +14,7 @@ use Rattle.mesh_laws.proofs.ChildLemmas.{last-end}
 use Rattle.mesh_laws.proofs.ChildFaceLemmas.{last-all}
 use Rattle.mesh_laws.proofs.ChildClosedLemmas.{numbered, numbered-length}
 
--- the first place of what is there is within the list
+-- if an item passes, the first place of one is within the list
 pub first-within : {X : Type 0} (test : X → Bool) (xs : List X) → list_any test xs ≡ true → position_or_len test xs < length xs
 first-within test [] h = absurd (cc)
 first-within test (x ∷ xs) h = here (test x) refl (λ k. first-within test xs k)
@@ -72,7 +72,7 @@ module _ (points : ℕ) (polygons : List Polygon) where
       } in
       All-cons (IsOf k) (child_face points polygons k before side) (child_faces_along points polygons k side (sides_back_to first rest)) (v, child) (along-of k first rest side parts.0 refl parts.1)
 
-  -- and so are all child faces of a face
+  -- all child faces of a face are of that face
   face-of : (k : ℕ) → All (IsOf k) (child_faces points polygons k (polygon_at polygons k))
   face-of k = go (polygon_at polygons k) refl
     where
@@ -109,7 +109,7 @@ module _ (points : ℕ) (polygons : List Polygon) where
           let found = behind more in
           rw e found
 
-  -- and one at a corner of the face among all its children
+  -- a corner of a face has a child among all children of the face
   face-names : (k v : ℕ) (polygon : Polygon) → is_among polygon v ≡ true → list_any (names k v) (child_faces points polygons k polygon) ≡ true
   face-names k v [] h = absurd (cc)
   face-names k v (first ∷ rest) h = along-names k v first (first ∷ rest) (last_of (0, 0) (sides_of (first ∷ rest))) h
@@ -118,7 +118,7 @@ module _ (points : ℕ) (polygons : List Polygon) where
   abbrev pub child_at : ℕ → ℕ → ℕ
   child_at k v = position_or_len (names k v) (child_polygons points polygons)
 
-  -- at that place stands the child
+  -- the child is at its place
   pub child-at : (k v : ℕ) → k < length polygons → has_corner v (polygon_at polygons k) ≡ true → IsChildOf k v (polygon_at (child_polygons points polygons) (child_at k v))
   child-at k v inside h =
       let number : 0 + k ≡ k = omega arith in

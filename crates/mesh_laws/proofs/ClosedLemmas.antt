@@ -84,7 +84,7 @@ closed-both polygons simple distinct closed =
     let times = closed-times polygons simple distinct closed a there in
     and_from _ _ (eq-eqb _ _ times.0) (eq-eqb _ _ times.1))
 
--- what is true of each side is true of each edge
+-- a test that passes for each side passes for each edge
 pub first_named-all : (q : ℕ × ℕ → Bool) (sides : List (ℕ × ℕ)) → list_all q sides ≡ true → list_all q (first_named sides) ≡ true
 first_named-all q [] h = refl
 first_named-all q (s ∷ sides) h =

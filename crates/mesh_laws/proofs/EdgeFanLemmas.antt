@@ -28,7 +28,7 @@ same-ways a b m n h = go (nat_eq a m && nat_eq b n) refl
         let parts = and_parts (nat_eq a n) (nat_eq b m) back in
         inr (eqb-true a n parts.0, eqb-true b m parts.1)
 
--- what is among two, and among four
+-- the cases of a number among two, and among four
 pair-cases : (a b n : ℕ) → is_among (a ∷ b ∷ []) n ≡ true → (a ≡ n) ⊎ (b ≡ n)
 pair-cases a b n h = go (nat_eq n a) refl
   where
@@ -43,7 +43,7 @@ four-cases a b c d n h = go (is_among (a ∷ b ∷ []) n) refl
     go true e = inl (pair-cases a b n e)
     go false e = inr (pair-cases c d n (grind (arith, nat_tests)))
 
--- and each of them is among them
+-- each of two numbers is among them
 pair-among : (a b n : ℕ) → (a ≡ n) ⊎ (b ≡ n) → is_among (a ∷ b ∷ []) n ≡ true
 pair-among a b n (inl e) = let same = eq-eqb n a (sym e) in grind (arith, nat_tests)
 pair-among a b n (inr e) = let same = eq-eqb n b (sym e) in grind (arith, nat_tests)
@@ -76,7 +76,7 @@ module _ (points : ℕ) (polygons : List Polygon) (simple : list_all is_simple p
     leads_back = away points polygons simple k a b _ (end-child k a b side) side;
   }
 
-  -- and is succeeded by the one at that end in the face across
+  -- a child is followed by the child at the same end in the face across the edge
   edge-across : (f g a b : ℕ) → has_side (a, b) (polygon_at polygons f) ≡ true → has_side (b, a) (polygon_at polygons g) ≡ true → IsSuccessor (child_polygons points polygons) (edge_point points polygons (a, b)) (child_at points polygons f b) (child_at points polygons g b)
   edge-across f g a b side back = record {
     corner = b;

@@ -1,4 +1,4 @@
--- Edges by first appearance, their numbers, and the faces that have them.
+-- Edges by first appearance, their numbers and their faces.
 use Rattle.std.proofs.Common.{◌≡◌, ℕ, ◌+◌, ◌<◌, ◌≤◌, Bool, true, false, not, nat_eq, List, [], ◌∷◌, length, get_or, arith, refl, ap, sym, ◌∙◌, if◌then◌else◌}
 use Rattle.std.specs.List.{filter, list_any, list_all, count_by, position_or_len}
 use Rattle.std.proofs.lemmas.Bool.Decides.{nat_tests}
@@ -22,7 +22,7 @@ pub any-first_named : (s : ℕ × ℕ) (sides : List (ℕ × ℕ)) → list_any 
 any-first_named s [] = refl
 any-first_named s (t ∷ sides) = grind (arith, nat_tests, any-first_named s sides, any-filter s t (first_named sides))
 
--- there are no more edges than sides
+-- the list has at most as many edges as sides
 pub length-first : (sides : List (ℕ × ℕ)) → length (first_named sides) ≤ length sides
 length-first [] = omega arith
 length-first (s ∷ sides) =
@@ -58,7 +58,7 @@ all-named sides =
     list_all-from_AllPass (λ s. list_any (same_edge s) (first_named sides)) sides (λ k d h.
     any-first_named (get_or sides k d) sides ∙ list_any_at (same_edge (get_or sides k d)) sides k d h (same_edge-refl (get_or sides k d)))
 
--- the first place of what is there is within the list
+-- if the edge is listed, its first place is within the list
 pub position-within : (s : ℕ × ℕ) (edges : List (ℕ × ℕ)) → list_any (same_edge s) edges ≡ true → position_or_len (same_edge s) edges < length edges
 position-within s [] h = cc
 position-within s (t ∷ edges) h = here (same_edge s t) refl (λ k. position-within s edges k)
@@ -78,7 +78,7 @@ pub any-alike : (s t : ℕ × ℕ) (edges : List (ℕ × ℕ)) → same_edge s t
 any-alike s t [] h there = there
 any-alike s t (e ∷ edges) h there = grind (arith, nat_tests, same_edge-alike s t e, any-alike s t edges)
 
--- two edges have one number exactly where they are the same, where one of them is there
+-- two edges, one of which is listed, have the same number exactly where they are equal
 pub same-number : (s t : ℕ × ℕ) (edges : List (ℕ × ℕ)) → list_any (same_edge s) edges ≡ true → nat_eq (position_or_len (same_edge s) edges) (position_or_len (same_edge t) edges) ≡ same_edge s t
 same-number s t edges there = here (same_edge s t) refl
   where

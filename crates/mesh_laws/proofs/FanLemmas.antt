@@ -63,7 +63,7 @@ number-any p (m ∷ numbers) n h there = here (nat_eq n m) refl (λ k. number-an
         let more : is_among numbers n ≡ true = grind (arith, nat_tests) in
         let found = behind more in grind (arith, nat_tests)
 
--- the test for a successor tells the successor
+-- the test for a successor is sound
 pub successor-from_test : (polygons : List Polygon) (v face next : ℕ) → is_successor polygons v face next ≡ true → IsSuccessor polygons v face next
 successor-from_test polygons v face next h =
     let found = any-side (λ side. nat_eq v side.0 && has_side (side.1, v) (polygon_at polygons next)) (sides_of (polygon_at polygons face)) h in

@@ -121,7 +121,7 @@ sides-once polygons none s = go (list_any (same_side s) (all_sides polygons)) re
         let found = any-all (same_edge s) (λ edge. not (is_clashing polygons edge)) (edges_of polygons) named none in
         at found.0 found.2 (same-either s found.0 found.1)
 
--- and what has no fault is a manifold
+-- polygons without fault are a manifold
 manifold-from_no_fault : (points : ℕ) (polygons : List Polygon) → mesh_faults points polygons ≡ [] → is_manifold points polygons ≡ true
 manifold-from_no_fault points polygons h =
     let s1 = append-none (map FaceTooSmall (small_faces polygons)) _ h in

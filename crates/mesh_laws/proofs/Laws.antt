@@ -1,4 +1,4 @@
--- The laws, from a manifold as it is said.
+-- The laws, stated for a manifold over a number of points.
 use Rattle.std.proofs.Common.{zero, suc, ◌≡◌, ℕ, ◌<◌, ◌≤◌, true, ◌&&◌, nat_eq, nat_lt, List, length, get_or, arith, IsTrue}
 use Rattle.std.specs.List.{All, list_all, list_any, count_by}
 use Rattle.std.proofs.lemmas.Bool.{and_parts, eqb-true, ltb-true}
@@ -26,7 +26,7 @@ named-once polygons k d h =
     let most = first_named-once s (all_sides polygons) in
     omega arith
 
--- and each edge is listed as one of the sides goes
+-- each edge is listed in the direction of one of the sides
 pub listed-as-side : (polygons : List Polygon) → All (λ edge. IsTrue (list_any (same_side edge) (all_sides polygons))) (edges_of polygons)
 listed-as-side polygons k d h =
     all-at (λ e. list_any (same_side e) (all_sides polygons)) (edges_of polygons) k d h (first_named-all (λ e. list_any (same_side e) (all_sides polygons)) (all_sides polygons) (sides-pass (λ e. list_any (same_side e) (all_sides polygons)) polygons (λ a there. there)))
@@ -62,7 +62,7 @@ next-manifold points polygons over is =
       fans = λ x inside. child-fans points polygons simple over is.sides_once is.fans x;
     }
 
--- and so is each level
+-- each level of a manifold is a manifold
 pub manifold-levels : (level : Level) (k : ℕ) → IsTrue (is_over level.point_count level.polygons) → IsManifold level.point_count level.polygons → IsTrue (is_over (refined_level level k).point_count (refined_level level k).polygons) × IsManifold (refined_level level k).point_count (refined_level level k).polygons
 manifold-levels level zero over is = (over, is)
 manifold-levels level (suc k) over is =

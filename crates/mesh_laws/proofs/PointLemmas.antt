@@ -1,5 +1,5 @@
--- How many faces and edges meet at a point: as many where none of the edges is of one face alone; and where one
--- edge of one face leaves a point, another enters it.
+-- The numbers of faces and edges at a point. They are equal if no edge there has one face. If one edge of one face leaves a
+-- point, another enters it.
 use Rattle.std.proofs.Common.{◌≡◌, ℕ, zero, suc, ◌+◌, ◌*◌, ◌≤◌, Bool, true, false, not, ◌&&◌, ◌||◌, nat_eq, nat_lt, nat_le, List, [], ◌∷◌, length, get_or, arith, refl, ap, sym, ◌∙◌}
 use Rattle.std.specs.List.{list_any, list_all, sum_by, count_by}
 use Rattle.std.proofs.lemmas.Bool.Decides.{nat_tests}
@@ -212,7 +212,7 @@ plain-starts v polygons e is = here (nat_eq v e.0) (nat_eq v e.1) refl refl
           end,
         )
 
--- and stops one there, unless it is of one face and leaves
+-- an edge stops one face at the point, unless it has one face and leaves the point
 plain-stops : (v : ℕ) (polygons : List Polygon) (e : ℕ × ℕ) → IsPlain polygons e
     → count_by (λ s. stops_at v s && same_edge s e) (all_sides polygons) + one_if (leaves polygons v e) ≡ one_if (has_end v e)
 plain-stops v polygons e is = here (nat_eq v e.0) (nat_eq v e.1) refl refl
@@ -265,7 +265,7 @@ module _ (polygons : List Polygon) (simple : list_all is_simple polygons ≡ tru
       (faces-count a 0 polygons simple
       ∙ count-agree (same_edge a) (same_edge b) (λ u. same_edge-alike a b u h) (all_sides polygons) ∙ sym (faces-count b 0 polygons simple))
 
-  -- what is of one face is an edge of a side
+  -- an edge of one face is the edge of a side
   pub boundary-side : (a : ℕ × ℕ) → is_boundary polygons a ≡ true → list_any (same_edge a) (all_sides polygons) ≡ true
   boundary-side a h =
       let one : length (faces_of_edge polygons a) ≡ 1 = eqb-true _ 1 h in
@@ -397,7 +397,7 @@ module _ (polygons : List Polygon) (simple : list_all is_simple polygons ≡ tru
         (λ e h. plain-starts v polygons e (plain-edge polygons e h)) (edges_of polygons) all-plain
         ∙ sym (length-filter (has_end v) (edges_of polygons))
 
-    -- and those that stop one there, and those of one face that leave
+    -- the edges that stop one face at the point, and those of one face that leave it
     edges-stops : (v : ℕ)
         → count_by (stops_at v) (all_sides polygons) + count_by (leaves polygons v) (edges_of polygons) ≡ length (edges_of_point polygons v)
     edges-stops v =

@@ -19,7 +19,7 @@ same_edge-sym s t = grind (arith, nat_tests)
 pub same_edge-trans : (s t u : ℕ × ℕ) → same_edge s t ≡ true → same_edge t u ≡ true → same_edge s u ≡ true
 same_edge-trans s t u a b = grind (arith, nat_tests)
 
--- the same side is the same edge to all others
+-- equal sides are the same edge to all others
 pub same_side-alike : (s t u : ℕ × ℕ) → same_side s t ≡ true → same_side s u ≡ same_side t u
 same_side-alike s t u h = grind (arith, nat_tests)
 
@@ -52,7 +52,7 @@ distinct-from_count (t ∷ sides) h =
     let behind = distinct-from_count sides (λ s. omega (arith, count-cons (same_side s) t sides, h s)) in
     grind (arith, nat_tests, any-count (same_side t) sides)
 
--- where a side starts and ends: `first` stands after the path
+-- the places at which a side starts and ends, where `first` follows the path
 pub side-place : (first : ℕ) (path : Polygon) (s : ℕ × ℕ) → list_any (same_side s) (sides_back_to first path) ≡ true → (i : ℕ) × (i < length path) × (get_or path i 0 ≡ s.0) × (get_or path (suc i) first ≡ s.1)
 side-place first [] s h = cc
 side-place first (v ∷ rest) s h = here (same_side s (v, get_or rest 0 first)) refl (λ k. side-place first rest s k)
@@ -71,7 +71,7 @@ among-place v [] i h e = absurd (omega arith)
 among-place v (n ∷ numbers) zero h e = grind (arith, nat_tests)
 among-place v (n ∷ numbers) (suc i) h e = let behind = among-place v numbers i (omega arith) e in grind (arith, nat_tests)
 
--- distinct numbers stand at one place each
+-- distinct numbers have one place each
 pub distinct-places : (numbers : List ℕ) (i j : ℕ) → is_distinct numbers ≡ true → i < length numbers → j < length numbers → get_or numbers i 0 ≡ get_or numbers j 0 → i ≡ j
 distinct-places [] i j d h k e = absurd (omega arith)
 distinct-places (n ∷ numbers) zero zero d h k e = refl

@@ -4,7 +4,7 @@ use Rattle.std.proofs.lemmas.Bool.Decides.{nat_tests}
 use Rattle.std.proofs.lemmas.Bool.{and_parts, and_from, eqb-true, eq-eqb, false_from_ne_true}
 use Rattle.subdiv_model.specs.Polygons.{is_among, is_distinct}
 
--- what stands in the list of results is the result of a number of the list
+-- an item of the list of results is the result of a number of the list
 pub among-map : (g : ℕ → ℕ) (xs : List ℕ) (n : ℕ) → is_among (map g xs) n ≡ true → (m : ℕ) × (is_among xs m ≡ true) × (g m ≡ n)
 among-map g [] n h = absurd (cc)
 among-map g (x ∷ xs) n h = here (nat_eq n (g x)) refl (λ k. among-map g xs n k)
@@ -16,7 +16,7 @@ among-map g (x ∷ xs) n h = here (nat_eq n (g x)) refl (λ k. among-map g xs n 
         let found = behind more in
         (found.0, let there = found.1 in grind (arith, nat_tests), found.2)
 
--- and the result of each number stands there
+-- the result of each number of the list is in the list of results
 pub map-among : (g : ℕ → ℕ) (xs : List ℕ) (m n : ℕ) → is_among xs m ≡ true → g m ≡ n → is_among (map g xs) n ≡ true
 map-among g [] m n h e = absurd (cc)
 map-among g (x ∷ xs) m n h e = here (nat_eq m x) refl (λ k. map-among g xs m n k e)
@@ -48,12 +48,12 @@ abbrev pub onto : List ℕ → List ℕ → List ℕ
 onto acc [] = acc
 onto acc (x ∷ xs) = onto (x ∷ acc) xs
 
--- they are the numbers of both
+-- the joined list has the numbers of both lists
 pub onto-among : (acc xs : List ℕ) (n : ℕ) → is_among (onto acc xs) n ≡ (is_among acc n || is_among xs n)
 onto-among acc [] n = grind (arith, nat_tests)
 onto-among acc (x ∷ xs) n = let behind = onto-among (x ∷ acc) xs n in grind (arith, nat_tests)
 
--- and distinct where no number of one is in the other
+-- two joined lists are distinct if no number of one is in the other
 pub onto-distinct : (acc xs : List ℕ) → is_distinct acc ≡ true → is_distinct xs ≡ true → ((n : ℕ) → is_among xs n ≡ true → is_among acc n ≡ false) → is_distinct (onto acc xs) ≡ true
 onto-distinct acc [] d e apart = d
 onto-distinct acc (x ∷ xs) d e apart =

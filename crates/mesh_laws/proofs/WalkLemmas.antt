@@ -77,14 +77,14 @@ module _ (polygons : List Polygon) (v : ℕ) where
   left-none zero faces = refl
   left-none (suc steps) faces = refl
 
-  -- the faces from this one on are a path of all of them
+  -- the faces from this one on form a path of all faces
   pub record IsWalk (face : ℕ) (faces : List ℕ) : Type 0 where
     pub rest : List ℕ
     pub path : IsPath polygons v (face ∷ rest)
     pub once : is_distinct (face ∷ rest) ≡ true
     pub all : (n : ℕ) → is_among (face ∷ rest) n ≡ is_among faces n
 
-  -- a walk that leaves no face has listed them all
+  -- a walk that leaves no face has listed all faces
   walk-sound : (steps face : ℕ) (faces : List ℕ) → left_after steps polygons v (Some face) faces ≡ [] → is_among faces face ≡ true → IsWalk face faces
   walk-sound zero face faces left there = let none : is_among faces face ≡ false = ap (λ xs. is_among xs face) left in absurd (cc)
   walk-sound (suc steps) face faces left there = go (find (is_successor polygons v face) (without face faces)) refl (λ next k h. walk-sound steps next (without face faces) k h)
@@ -151,7 +151,7 @@ same-tests true b f g = sym (f refl)
 same-tests false true f g = g refl
 same-tests false false f g = refl
 
--- the test for one fan tells the fan
+-- the test for one fan is sound
 pub one_fan-from_test : (polygons : List Polygon) (v : ℕ) → has_one_fan polygons v ≡ true → HasOneFan polygons v
 one_fan-from_test polygons v h = go (or_cases (none_left (faces_of_point polygons v)) (list_any (walk_meets_all polygons v (faces_of_point polygons v)) (faces_of_point polygons v)) h)
   where
@@ -179,7 +179,7 @@ one_fan-from_test polygons v h = go (or_cases (none_left (faces_of_point polygon
           path = walk.path;
         }
 
--- and a fan makes the test true, where the polygons are simple and no side occurs twice
+-- a fan passes the test, if the polygons are simple and no side occurs twice
 pub one_fan-test : (polygons : List Polygon) → list_all is_simple polygons ≡ true → has_distinct_sides (all_sides polygons) ≡ true → (v : ℕ) → HasOneFan polygons v → has_one_fan polygons v ≡ true
 one_fan-test polygons simple distinct v is = go is.fan is.once is.all is.path
   where

@@ -1,6 +1,6 @@
-//! Laws of polygons, manifolds and the levels after them, and the lemmas on them that other crates cite.
+//! Laws of polygons, manifolds and their child levels, with the lemmas that the proofs of other crates cite.
 //!
-//! Each public function here takes nothing, does nothing and returns nothing: its clauses are the laws.
+//! Each public function has an empty body: its clauses are the laws. Points and faces are counted from 0.
 #![tactic(auto)]
 
 pub mod manifolds;

@@ -1,4 +1,4 @@
--- Numbers with no common factor: products, powers, and what has no factor 2 or 5 over powers of them.
+-- Numbers without a common factor: products, powers, and numbers without the factor 2 or 5 over powers of these.
 use Rattle.std.proofs.Common.{◌≡◌, ◌≢◌, ◌⊎◌, ℕ, zero, suc, ◌+◌, ◌*◌, ◌/◌, ◌%◌, ◌^◌, ◌<◌, ◌≤◌, inl, inr, arith, lit<, refl, ap, sym, ◌∙◌, subst}
 use Rattle.std.specs.Int.{IsGcd, ◌∣◌}
 use Rattle.std.proofs.lemmas.Grind.{pow_more}
@@ -8,7 +8,7 @@ use Rattle.subdiv_model.specs.Fractions.{gcd_of, lowest}
 use Rattle.number_laws.proofs.FractionLemmas.{gcd_of-is}
 use Rattle.number_laws.proofs.DivisorLemmas.{gcd-scaled}
 
--- the computed divisor is 1 where there is no common factor
+-- the computed divisor of numbers without a common factor is 1
 pub coprime-gcd : (a b : ℕ) → IsGcd a b 1 → gcd_of a b ≡ 1
 coprime-gcd a b is = same_from_IsGcd a b (gcd_of a b) 1 (gcd_of-is a b) is
 

@@ -24,7 +24,7 @@ pub number_text-digits : (n : ℕ) → n ≢ 0 → number_text n ≡ map (λ d. 
 number_text-digits zero some = absurd (some refl)
 number_text-digits (suc n) some = digits-within (suc n) (suc n)
 
--- from 10 on the last digit stands after the text of the others
+-- from 10 on the last digit follows the text of the other digits
 pub number_text-step : (n : ℕ) → 10 ≤ n → number_text n ≡ number_text (n / 10) ++ ((n % 10 + 48) ∷ [])
 number_text-step n many =
     number_text-digits n (λ none. omega arith)

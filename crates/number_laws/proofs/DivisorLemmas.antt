@@ -11,7 +11,7 @@ pub factor-positive : (q g n : ℕ) → q * g ≡ n → 0 < n → 0 < q
 factor-positive zero g n e positive = absurd (omega arith)
 factor-positive (suc q) g n e positive = omega arith
 
--- and so is a common divisor of it
+-- the greatest common divisor is above 0
 pub gcd-positive : (a b : ℕ) → 0 < b → 0 < gcd_of a b
 gcd-positive a b positive = pos_of_dvd_of_pos (gcd_of-is a b).1 positive
 
@@ -47,7 +47,7 @@ lowest-same a b c d above below crossed =
     ∙ ap (λ n. lowest (b * c, n)) dens
     ∙ lowest-scaled b c d above
 
--- what is left has no common factor
+-- lowest terms have no common factor
 pub lowest-coprime : (a b : ℕ) → 0 < b → IsGcd (lowest (a, b)).0 (lowest (a, b)).1 1
 lowest-coprime a b above =
     let g = gcd_of a b in

@@ -7,14 +7,14 @@ use Rattle.std.proofs.lemmas.List.Folds.{list_any-append}
 use Rattle.subdiv_model.specs.Lists.{last_of, places_from}
 use Rattle.number_laws.proofs.CountLemmas.{one-yes, one-no, count-cons}
 
--- something passes in joined lists where it does in one of them
+-- an item of joined lists passes exactly if an item of one list does
 pub any-flat_map : {X Y : Type 0} (test : Y → Bool) (parts : X → List Y) (xs : List X)
     → list_any test (flat_map parts xs) ≡ list_any (λ x. list_any test (parts x)) xs
 any-flat_map test parts [] = refl
 any-flat_map test parts (x ∷ xs) =
     list_any-append test (parts x) (flat_map parts xs) ∙ ap (λ b. list_any test (parts x) || b) (any-flat_map test parts xs)
 
--- and after a test where it passes both
+-- one test after another passes where both pass
 pub any-both : {X : Type 0} (keep test : X → Bool) (xs : List X) → list_any test (filter keep xs) ≡ list_any (λ x. keep x && test x) xs
 any-both keep test [] = refl
 any-both keep test (x ∷ xs) = here (keep x) refl (any-both keep test xs)
@@ -24,7 +24,7 @@ any-both keep test (x ∷ xs) = here (keep x) refl (any-both keep test xs)
     here true e after = rw e (ap (λ b. test x || b) after)
     here false e after = rw e after
 
--- what passes in all of a list passes in what is kept of it
+-- a test that passes for all items passes for all kept items
 pub all-kept : {X : Type 0} (keep test : X → Bool) (xs : List X) → list_all test xs ≡ true → list_all test (filter keep xs) ≡ true
 all-kept keep test [] h = refl
 all-kept keep test (x ∷ xs) h =
@@ -47,7 +47,7 @@ last-split value keep y (x ∷ xs) ys = here (keep x) refl (last-split value kee
     here true e kept other = rw e kept
     here false e kept other = rw e other
 
--- where nothing passes, it is what is given
+-- if no item passes, the last one is the default
 pub last-none : {X Y : Type 0} (value : X → Y) (keep : X → Bool) (y : Y) (xs : List X) → list_any keep xs ≡ false
     → last_of y (map value (filter keep xs)) ≡ y
 last-none value keep y [] none = refl
@@ -56,7 +56,7 @@ last-none value keep y (x ∷ xs) none =
     let rest : list_any keep xs ≡ false = grind (arith, nat_tests) in
     rw this (last-none value keep y xs rest)
 
--- and where something does, what is given does not count
+-- if an item passes, the default does not matter
 pub last-some : {X Y : Type 0} (value : X → Y) (keep : X → Bool) (y z : Y) (xs : List X) → list_any keep xs ≡ true
     → last_of y (map value (filter keep xs)) ≡ last_of z (map value (filter keep xs))
 last-some value keep y z [] some = absurd (cc)
@@ -70,13 +70,13 @@ last-some value keep y z (x ∷ xs) some = here (keep x) refl (λ more. last-som
         let more : list_any keep xs ≡ true = grind (arith, nat_tests) in
         rw e (after more)
 
--- of what passes the last one counts, whatever stands before it
+-- the last item that passes counts, whatever items come before it
 pub last-kept : {X Y : Type 0} (value : X → Y) (keep : X → Bool) (y : Y) (before : List X) (x : X) (after : List X) → keep x ≡ true
     → list_any keep after ≡ false → last_of y (map value (filter keep (before ++ (x ∷ after)))) ≡ value x
 last-kept value keep y before x after this none =
     last-split value keep y before (x ∷ after) ∙ rw this (last-none value keep (value x) after none)
 
--- there are as many places as elements that pass
+-- the list has as many places as items that pass
 pub places-from-length : {X : Type 0} (test : X → Bool) (place : ℕ) (xs : List X) → length (places_from place test xs) ≡ count_by test xs
 places-from-length test place [] = refl
 places-from-length test place (x ∷ xs) =

@@ -44,7 +44,7 @@ lcm-first a b = dvd-mul_right a (b / gcd_of a b)
 pub lcm-second : (a b : ℕ) → b ∣ lcm_of a b
 lcm-second a b = let P : ℕ → Type 0 = λ m. b ∣ m in subst P (sym (lcm-other a b)) (dvd-mul_left b (a / gcd_of a b))
 
--- it divides every common multiple
+-- the least common multiple divides every common multiple
 pub lcm-least : (a b n : ℕ) → 0 < b → a ∣ n → b ∣ n → lcm_of a b ∣ n
 lcm-least a b zero positive p q = dvd-zero _
 lcm-least a b (suc n) positive p q =
@@ -106,13 +106,13 @@ pub fold-lcm-positive : (start : ℕ) (numbers : List ℕ) → 0 < start → All
 fold-lcm-positive start [] positive all = positive
 fold-lcm-positive start (a ∷ numbers) positive all = fold-lcm-positive (lcm_of start a) numbers (lcm-positive start a positive all.0) all.1
 
--- each of them divides the last
+-- each number divides the last multiple
 pub fold-lcm-divided : (start : ℕ) (numbers : List ℕ) → AllByRecursion (λ a. a ∣ fold lcm_of start numbers) numbers
 fold-lcm-divided start [] = tt
 fold-lcm-divided start (a ∷ numbers) =
     (dvd_trans a (lcm-second start a) (fold-lcm-multiple (lcm_of start a) numbers), fold-lcm-divided (lcm_of start a) numbers)
 
--- and it divides each number that all of them divide
+-- the least common multiple divides each number that all numbers divide
 pub fold-lcm-least : (start : ℕ) (numbers : List ℕ) (n : ℕ) → AllByRecursion (λ a. 0 < a) numbers → start ∣ n
     → AllByRecursion (λ a. a ∣ n) numbers → fold lcm_of start numbers ∣ n
 fold-lcm-least start [] n all first each = first

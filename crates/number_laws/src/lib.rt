@@ -1,6 +1,7 @@
-//! Laws of whole numbers, fractions and their texts, and the lemmas on them, on counts and on lists that other crates cite.
+//! Laws of whole numbers, fractions and their texts, with the lemmas on numbers, counts and lists that the proofs of other crates
+//! cite.
 //!
-//! Each public function here takes nothing, does nothing and returns nothing: its clauses are the laws.
+//! Each public function has an empty body: its clauses are the laws.
 #![tactic(auto)]
 
 pub mod numbers;

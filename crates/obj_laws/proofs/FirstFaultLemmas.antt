@@ -64,6 +64,6 @@ least-fault cause_at count n cause high good bad = least-from cause_at 0 count n
 pub no-fault : (cause_at : ℕ → Option ObjCause) (count : ℕ) → ((k : ℕ) → k < count → cause_at k ≡ None) → first_fault cause_at count ≡ None
 no-fault cause_at count good = none-from cause_at 0 count (λ k low high. good k (omega arith))
 
--- and where there is no fault, each line is good
+-- without a fault each line is good
 pub each-good : (cause_at : ℕ → Option ObjCause) (count : ℕ) → first_fault cause_at count ≡ None → (k : ℕ) → k < count → cause_at k ≡ None
 each-good cause_at count none k high = each-from cause_at 0 count none k (omega arith) (omega arith)

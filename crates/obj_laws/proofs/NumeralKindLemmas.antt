@@ -36,7 +36,7 @@ after-next p b bytes e =
     let more : position_or_len p (b ∷ bytes) + 1 ≡ suc (position_or_len p bytes + 1) = omega (arith, position-next p b bytes e) in
     ap (λ n. drop n (b ∷ bytes)) more
 
--- and where it does
+-- if the first byte passes, the part from it on is all bytes
 from-here : (p : ℕ → Bool) (b : ℕ) (bytes : List ℕ) → true ≡ p b → drop (position_or_len p (b ∷ bytes)) (b ∷ bytes) ≡ b ∷ bytes
 from-here p b bytes e = rw (sym e) refl
 
@@ -61,7 +61,7 @@ no-slash-at-point (b ∷ bytes) before after = step (is_point b) refl (no-slash-
         let parts = and_parts (not (is_slash b)) (has_no_slash (before_first is_point bytes)) (sym (ap has_no_slash (before-next is_point b bytes e)) ∙ p) in
         and_from _ _ parts.0 (rest parts.1 (sym (ap has_no_slash (after-next is_point b bytes e)) ∙ q))
 
--- and so has one whose exponent, from its mark on, is one
+-- a word of an optional sign and digits has no slash
 no-slash-after-sign : (bytes : List ℕ) → are_digits (without_sign bytes) ≡ true → has_no_slash bytes ≡ true
 no-slash-after-sign [] are = refl
 no-slash-after-sign (b ∷ bytes) are = step (is_sign b) refl are

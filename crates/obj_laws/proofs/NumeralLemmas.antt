@@ -15,7 +15,7 @@ cancelled-step x k = rw (ten-times x, mul-div_cancel x {n = 10} (lit< tt)) refl
 pub cancelled-stays : (x k : ℕ) → x % 10 ≢ 0 → cancelled x (suc k) ≡ (x, suc k)
 cancelled-stays x k ends = rw (ne_eqb (x % 10) 0 ends) refl
 
--- so many tens cancel as stand on both sides
+-- the common tens cancel
 pub cancelled-tens : (a z k : ℕ) → a % 10 ≢ 0 → cancelled (a * 10 ^ z) k ≡ (a * 10 ^ (z - k), k - z)
 cancelled-tens a z zero ends =
     let left : z - 0 ≡ z = omega arith in
@@ -38,7 +38,7 @@ tens-some a z some none =
     let times : a * 1 ≤ a * 10 ^ z = mul-le-mul_left a one in
     absurd (omega arith)
 
--- the normal form's amount and decimals, from a number's digits up to the last that is not 0 and the zeros after them
+-- the amount and the decimals of a normal form, from the digits up to the last nonzero one and the zeros after it
 pub normal-tens : (n up down a z : ℕ) → n ≡ a * 10 ^ z → a ≢ 0 → a % 10 ≢ 0
     → (if nat_eq n 0 then (0, 0) else cancelled (n * 10 ^ up) down) ≡ (a * 10 ^ ((z + up) - down), down - (z + up))
 normal-tens n up down a z e some ends =

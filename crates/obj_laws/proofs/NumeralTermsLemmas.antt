@@ -78,7 +78,7 @@ abbrev is_below : ℤ → Bool
 is_below (pos n) = false
 is_below (negsuc n) = true
 
--- what is signed alike for one amount is for another, unless the first is 0
+-- two signs that agree for one amount agree for another, unless the first amount is 0
 sign-agrees : (s t : Bool) (n a : ℕ) → signed s n ≡ signed t n → (n ≡ 0 → a ≡ 0) → signed s a ≡ signed t a
 sign-agrees true true n a e none = refl
 sign-agrees false false n a e none = refl

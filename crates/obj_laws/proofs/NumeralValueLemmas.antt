@@ -18,7 +18,7 @@ tens k = let one : 1 ≤ 10 ^ k = one-le-pow k 10 (lit< tt) in omega arith
 times-same : (a b c : ℕ) → 0 < c → a * c ≡ b * c → a ≡ b
 times-same a b c some e = sym (mul-div_cancel a {n = c} some) ∙ ap (λ x. x / c) e ∙ mul-div_cancel b {n = c} some
 
--- an amount over so many decimals: its last digit is not 0, unless there are no decimals; and it is n / 10^k
+-- the form is n / 10^k, and its last digit is not 0 unless it has no decimals
 pub record IsReduced (n k : ℕ) (form : ℕ × ℕ) : Type 0 where
   pub ends : form.0 % 10 ≡ 0 → form.1 ≡ 0
   pub value : form.0 * 10 ^ k ≡ n * 10 ^ form.1
@@ -59,7 +59,7 @@ least n k m d p e is same =
     absurd (omega arith))
     (λ (h : d ≤ e). h) (cases_lt e d)
 
--- the same for what a word says
+-- the chosen form of a word is reduced
 chosen : (n up down : ℕ) → IsReduced (n * 10 ^ up) down (if nat_eq n 0 then (0, 0) else cancelled (n * 10 ^ up) down)
 chosen n up down =
     ⊎_elim

@@ -1,5 +1,5 @@
--- Channels: their common denominators line by line, which only grow; and the texture channel by counting: it is there where
--- there is a face and as many corners have a texture value as there are corners.
+-- Channels: common denominators grow line by line, and the texture channel exists if there is a face and each corner has a
+-- texture value.
 use Rattle.std.proofs.Common.{◌≡◌, ◌≢◌, ℕ, ◌+◌, ◌^◌, ◌<◌, ◌≤◌, Bool, true, false, ◌&&◌, nat_eq, nat_lt, List, [], ◌∷◌, ◌++◌, length, map, arith, refl, ap, sym, subst, true≢false, inl, inr, ◌⊎◌, suc, ◌∙◌, if◌then◌else◌, append-nil}
 use Rattle.std.specs.Int.{◌∣◌}
 use Rattle.std.specs.List.{AllByRecursion, list_all, list_any, filter, flat_map, fold, count_by}
@@ -21,7 +21,7 @@ use Rattle.obj_laws.proofs.NumeralTermsLemmas.{terms-positive}
 abbrev pub where-passing : {X Y : Type 0} → (X → Bool) → (X → Y) → List X → List Y
 where-passing P f xs = flat_map (λ x. if P x then f x ∷ [] else []) xs
 
--- has one of each where all pass
+-- if all items pass, the list has one item for each
 pub passing-all : {X Y : Type 0} (P : X → Bool) (f : X → Y) (xs : List X) → list_all P xs ≡ true → where-passing P f xs ≡ map f xs
 passing-all P f [] h = refl
 passing-all P f (x ∷ xs) h = step (P x) h (passing-all P f xs)
@@ -31,7 +31,7 @@ passing-all P f (x ∷ xs) h = step (P x) h (passing-all P f xs)
     step true e rest = ap (λ ys. f x ∷ ys) (rest e)
     step false e rest = absurd (true≢false (sym e))
 
--- and in any case one for each that passes
+-- one item for each that passes, in any case
 pub passing-count : {X Y : Type 0} (P : X → Bool) (f : X → Y) (xs : List X) → length (where-passing P f xs) ≡ count_by P xs
 passing-count P f [] = refl
 passing-count P f (x ∷ xs) = step (P x) (passing-count P f xs) ∙ sym (count-cons P x xs)
@@ -77,7 +77,7 @@ denominators-append lines more =
     ap (map denominator_of) (flat_map-append kept_coordinates lines more)
     ∙ map-append denominator_of (flat_map kept_coordinates lines) (flat_map kept_coordinates more)
 
--- more lines go on from what stands
+-- the common denominator over further lines continues from that over the first
 pub common-append : (start : ℕ) (lines more : List Line) → common_over start (lines ++ more) ≡ common_over (common_over start lines) more
 common-append start lines more =
     ap (fold lcm_of start) (denominators-append lines more) ∙ fold-append lcm_of start (denominators lines) (denominators more)
@@ -99,11 +99,11 @@ pub common-positive : (start : ℕ) (lines : List Line) → 0 < start → 0 < co
 common-positive start lines positive =
     fold-lcm-positive start (denominators lines) positive (denominators-positive (flat_map kept_coordinates lines))
 
--- it is a multiple of what it starts with, and of each denominator
+-- the common denominator is a multiple of its start and of each denominator
 pub common-multiple : (start : ℕ) (lines : List Line) → start ∣ common_over start lines
 common-multiple start lines = fold-lcm-multiple start (denominators lines)
 
--- and so it is a multiple of that over fewer lines
+-- the common denominator over more lines is a multiple of that over fewer
 pub common-longer : (start : ℕ) (lines more : List Line) → common_over start lines ∣ common_over start (lines ++ more)
 common-longer start lines more =
     let P : ℕ → Type 0 = λ n. common_over start lines ∣ n in

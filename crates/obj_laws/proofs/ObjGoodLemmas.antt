@@ -28,7 +28,7 @@ all-good cause_of P has (word ∷ words) h =
     let parts : (cause_of word ≡ None) × (first_cause cause_of words ≡ None) = good-word cause_of word words (cause_of word) refl h in
     and_from _ _ (has word parts.0) (all-good cause_of P has words parts.1)
 
--- the same for words that pass a test
+-- good words that pass the first test pass the second
 pub all-good-where : (cause_of : List ℕ → Option ObjCause) (R P : List ℕ → Bool)
     → ((word : List ℕ) → cause_of word ≡ None → R word ≡ true → P word ≡ true) → (words : List (List ℕ))
     → first_cause cause_of words ≡ None → list_all R words ≡ true → list_all P words ≡ true
@@ -70,7 +70,7 @@ second-part : (b c : Bool) → b ≡ true → b && c ≡ false → c ≡ false
 second-part true c e h = h
 second-part false c e h = absurd (true≢false (sym e))
 
--- and a texture value, where it has one
+-- the texture value of a good corner is in its list
 pub texture-below : (before whole : Counts) (first corner : List ℕ) → before.texture_count ≤ whole.texture_count
     → corner_fault before whole first corner ≡ None → has_texture_part corner ≡ true
     → nat_lt (unwrap_or (corner_texture before whole corner) 0) whole.texture_count ≡ true
@@ -100,7 +100,7 @@ fitting : (b : Bool) (x : ObjCause) (r : Option ObjCause) → (if b then r else 
 fitting true x r h = h
 fitting false x r h = absurd (true≢false (ap is_some h))
 
--- and the values of that tag are good
+-- the values of a good tag are good
 pub tag-values-good : (whole : Counts) (name : List ℕ) (kind : TagKind) (words : List (List ℕ)) → kind_of_name name ≡ Some kind
     → bytes_eq (tag_name words) name ≡ true → tag_fault whole words ≡ None → tag_values_fault whole kind words ≡ None
 tag-values-good whole name kind words known named h =
@@ -150,7 +150,7 @@ without-first : (P : ℕ → Bool) (xs : List ℕ) → list_all P xs ≡ true �
 without-first P [] h = refl
 without-first P (x ∷ xs) h = (and_parts _ _ h).1
 
--- so the vertices of its creases and corners are
+-- the vertices of creases and corner tags are points
 pub creases-below : (count : ℕ) (words : List (List ℕ)) → are-below count (tag_indices words) ≡ true
     → list_all (λ crease. nat_lt crease.0.0 count && nat_lt crease.0.1 count) (tag_creases words) ≡ true
 creases-below count words h =

@@ -1,4 +1,4 @@
--- Lines of OBJ text as a reader meets them: the first line of a text, the keyword of a line, and what one more line counts.
+-- Lines of OBJ text for a reader: the first line of a text, the keyword of a line, and the counts of one more line.
 use Rattle.std.proofs.Common.{◌≡◌, ℕ, suc, ◌+◌, ◌<◌, ◌≤◌, Bool, true, cond, List, [], ◌∷◌, ◌++◌, length, take, drop, arith, refl, ap, sym, true≢false, ◌∙◌, ⊎_elim}
 use Rattle.std.specs.List.{slice_split, position_or_len, before_first, after_first, count_by}
 use Rattle.std.specs.Cmp.Lexicographic.{same_text}

@@ -51,7 +51,7 @@ all-made test make P d (x ∷ xs) h =
     (λ passes. list_all-append P (make x) (flat_map make (filter test xs)) ∙ and_from _ _ (h 0 (omega arith) passes) rest)
     (λ _. rest)
 
--- what holds of all lines of a kind holds at each of them
+-- a property of all lines of a kind is one of each such line
 filter-at : {X : Type 0} (test P : X → Bool) (d : X) (xs : List X) (i : ℕ) → list_all P (filter test xs) ≡ true → i < length xs → test (get_or xs i d) ≡ true → P (get_or xs i d) ≡ true
 filter-at test P d [] i h low passes = absurd (omega arith)
 filter-at test P d (x ∷ xs) zero h low passes = (and_parts (P x) (list_all P (filter test xs)) (rw passes at h)).0
@@ -86,7 +86,7 @@ faces-over text least h =
     let lines = obj_lines text in
     subst (λ n. is_over n (faces_of lines) ≡ true) (points-counted is_vertex_line _ lines) (vertices-good lines (good-lines text least h))
 
--- and their texture corners are texture values
+-- texture corners are texture values
 texture-corners-below : (lines : List Words) → AreGood lines → has_texture_channel lines ≡ true → (i : ℕ) → i < length lines → is_face_line (get_or lines i []) ≡ true → are-below (counts_of lines).texture_count (corner_numbers corner_texture lines i) ≡ true
 texture-corners-below lines good has i low is =
     let before = counts_of (take i lines) in

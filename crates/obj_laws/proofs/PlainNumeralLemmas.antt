@@ -1,4 +1,5 @@
--- A numeral of a sign, digits, a point and digits alone: what makes the digits after its point whole makes the numeral whole.
+-- Numerals of a sign, digits, a point and digits: a power of ten that makes the digits after the point whole makes the numeral
+-- whole.
 use Rattle.std.proofs.Common.{◌≡◌, ℕ, zero, suc, ◌+◌, ◌-◌, ◌*◌, ◌/◌, ◌^◌, ◌<◌, Bool, true, false, not, ◌&&◌, nat_lt, List, [], ◌∷◌, ◌++◌, length, drop, take, add-one, arith, refl, ap, sym, subst, ◌∙◌, true≢false, if◌then◌else◌}
 use Rattle.std.specs.Int.{◌∣◌}
 use Rattle.std.specs.List.{list_all, position_or_len, before_first, after_first, fold}
@@ -36,7 +37,7 @@ lowest-over a b (suc k) positive whole =
     gcd-scaled c (a / g) (b / g) (omega arith) ∙ ap (λ n. c * n) (coprime-gcd (a / g) (b / g) (lowest-coprime a b positive)) ∙ mul-one c in
     subst (λ n. b / g ∣ n) common both
 
--- so does that of a decimal's digits over its tens
+-- a decimal is whole over a common denominator if its digits over its tens are
 tens-over : (word : List ℕ) (common : ℕ) → is_fraction word ≡ false
     → 10 ^ tens_below word ∣ common * (number_of_digits (all_digits word) * 10 ^ tens_above word) → (numeral_form word).1 ∣ common
 tens-over word common other whole =
@@ -47,7 +48,7 @@ tens-over word common other whole =
     let terms : numeral_amount word ≡ lowest (n, 10 ^ tens_below word) = rw other same in
     subst (λ (t : ℕ × ℕ). t.1 ∣ common) (sym terms) (lowest-over n (10 ^ tens_below word) common (tens (tens_below word)) whole)
 
--- digits before others count so many tens
+-- digits before others count a power of ten
 digits-from : (a : ℕ) (digits : List ℕ) → fold (λ n b. n * 10 + (b - 48)) a digits ≡ a * 10 ^ length digits + number_of_digits digits
 digits-from a [] = omega arith
 digits-from a (b ∷ digits) =
@@ -63,7 +64,7 @@ digits-from a (b ∷ digits) =
 both-digits : (whole fraction : List ℕ) → number_of_digits (whole ++ fraction) ≡ number_of_digits whole * 10 ^ length fraction + number_of_digits fraction
 both-digits whole fraction = fold-append (λ n b. n * 10 + (b - 48)) 0 whole fraction ∙ digits-from (number_of_digits whole) fraction
 
--- where a byte of this kind is nowhere, and where it stands first
+-- no byte is of this kind, and the first byte is of this kind
 abbrev pub lacks : (ℕ → Bool) → List ℕ → Bool
 lacks p bytes = list_all (λ b. not (p b)) bytes
 
@@ -168,7 +169,7 @@ plain-over word bytes whole fraction common e marks slashes before after over =
     spread : (c w p f : ℕ) → c * (w * p + f) ≡ c * w * p + c * f
     spread c w p f = omega arith
 
--- digits alone, and digits on both sides of a point
+-- digits without a point, and digits on both sides of a point
 pub whole-over : (word whole : List ℕ) (common : ℕ) → without_sign word ≡ whole → list_all is_digit whole ≡ true → (numeral_form word).1 ∣ common
 whole-over word whole common e digits =
     let at : position_or_len is_point whole ≡ length whole = nowhere is_point whole (digits-lack is_point no-point whole digits) in

@@ -1,4 +1,4 @@
--- A numeral is kept exactly where it is in range: what its exponent alone refuses is out of range.
+-- The reader keeps a numeral exactly where it is in range: an exponent that it refuses at once is out of range.
 use Rattle.std.proofs.Common.{◌≡◌, ◌≢◌, ℕ, ◌+◌, ◌*◌, ◌^◌, ◌<◌, ◌≤◌, true, false, not, ◌&&◌, nat_lt, nat_le, List, length, arith, lit<, refl, ap, ◌∙◌, ⊎_elim}
 use Rattle.std.specs.List.{list_all}
 use Rattle.std.proofs.lemmas.Bool.{cases_lt, cases_Bool, or_cases, and_parts, ltb-true}
@@ -81,7 +81,7 @@ decimal-kept word decimal =
     (λ (near : is_past_range word ≡ false). rw near refl)
     (cases_Bool (is_past_range word))
 
--- and so is a numeral
+-- the reader keeps a numeral exactly where it is in range
 pub kept-range : (word : List ℕ) → is_numeral word ≡ true → is_representable word ≡ is_in_range word
 kept-range word numeral =
     ⊎_elim

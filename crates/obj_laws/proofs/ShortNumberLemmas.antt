@@ -14,7 +14,7 @@ use Rattle.obj_laws.proofs.FirstFaultLemmas.{each-good}
 use Rattle.obj_laws.proofs.ObjGoodLemmas.{or-else-none}
 use Rattle.subdiv_model.specs.Short.{IsShort, IsShortPoint, IsShortTexture}
 
--- the second choice is none where there is none at all
+-- if there is no first and no second choice, there is no second
 second-none : (first second : Option ObjFault) → option_or first second ≡ None → second ≡ None
 second-none None second h = h
 second-none (Some fault) second h = absurd (cc)
@@ -88,7 +88,7 @@ three-words common (k ∷ (a ∷ (b ∷ (c ∷ words)))) long h =
     three false true z e = absurd (cc)
     three false false true e = absurd (cc)
 
--- what is made of each line of a kind
+-- a property of the items made from each line of a kind
 all-made : {X Y : Type 0} (kind : X → Bool) (make : X → Y) (P : Y → Type 0) (d : X) (xs : List X)
     → ((i : ℕ) → i < length xs → kind (get_or xs i d) ≡ true → P (make (get_or xs i d))) → AllByRecursion P (map make (filter kind xs))
 all-made kind make P d [] h = tt
@@ -140,7 +140,7 @@ texture-long before whole (keyword ∷ values) texture good =
     least-of false true texture face three two one none e f g = absurd (cc)
     least-of false false false face three two one none e f g = absurd (cc)
 
--- its values are short, where those that it has are
+-- the values of a line are short if the ones it has are
 two-words : (common : ℕ) (words : List (List ℕ)) → 1 ≤ length (drop 1 words) → list_any (is_long_over common) (take 2 (drop 1 words)) ≡ false → IsShortTexture (texture_over common words)
 two-words common [] long h = absurd (omega (arith, long))
 two-words common (k ∷ []) long h = absurd (omega (arith, long))

@@ -1,6 +1,6 @@
-//! Laws of OBJ text, and the lemmas on it that other crates cite.
+//! Laws of OBJ text: normal forms of numerals, ranges of numbers that are read, and the faults and meshes of whole texts.
 //!
-//! Each public function here takes nothing, does nothing and returns nothing: its clauses are the laws.
+//! Each public function has an empty body: its clauses are the laws. The proofs of other crates cite the lemmas behind them.
 #![tactic(auto)]
 
 pub mod numerals;

@@ -5,12 +5,12 @@ ghost use Rattle.subdiv_model.specs.Numeral.{is_numeral, is_decimal, is_fraction
 ghost use Rattle.subdiv_model.specs.Value.{IsSameValue};
 ghost use Rattle.subdiv_model.specs.ObjWord.{is_representable};
 
-/// A decimal's normal form has its value.
+/// The normal form of a decimal has its value.
 pub fn normal_forms_keep_the_value()
     ensures { (word : List ℕ) → IsSameValue (form_value (normal_form word)) (decimal_value word) }
 {}
 
-/// No whole number over a power of ten has a decimal's value with fewer decimals than its normal form.
+/// The normal form of a decimal has the fewest decimals among all forms of its value.
 pub fn normal_forms_have_the_least_decimals()
     ensures { (word : List ℕ) (mantissa : ℤ) (decimals : ℕ) → IsSameValue (form_value (mantissa, decimals)) (decimal_value word)
         → (normal_form word).1 ≤ decimals }
@@ -22,19 +22,19 @@ pub fn normal_forms_tell_values_apart()
     ensures form { (v w : List ℕ) → IsSameValue (decimal_value v) (decimal_value w) → normal_form v ≡ normal_form w }
 {}
 
-/// A normal form that is written as a decimal and read again is the same.
+/// Writing a normal form as a decimal and reading it returns the same normal form.
 pub fn normal_forms_are_read_back()
     ensures decimal { (word : List ℕ) → is_decimal (form_text (normal_form word)) ≡ true }
     ensures form { (word : List ℕ) → normal_form (form_text (normal_form word)) ≡ normal_form word }
 {}
 
-/// A numeral is kept exactly where it is in range.
+/// The reader keeps a numeral exactly where it is in range.
 pub fn kept_numerals_are_in_range()
     ensures { (word : List ℕ) → IsTrue (is_numeral word) → is_representable word ≡ is_in_range word }
 {}
 
-/// The terms of a numeral have its value, and two numerals have the same terms exactly where they have
-/// the same value, however they are written: as decimals, as fractions, or one of each.
+/// The terms of a numeral have its value. Two numerals have the same terms exactly where they have the same value, be they
+/// decimals or fractions.
 pub fn numerals_of_one_value_have_one_form()
     ensures value { (word : List ℕ) → IsTrue (is_numeral word) → IsSameValue (terms_value (numeral_form word)) (numeral_value word) }
     ensures form { (v w : List ℕ) → IsTrue (is_numeral v) → IsTrue (is_numeral w) → IsSameValue (numeral_value v) (numeral_value w)

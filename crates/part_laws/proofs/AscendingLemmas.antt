@@ -25,7 +25,7 @@ from-pairs a b (n ∷ ns) up low high = (
 pub ascends : (b : ℕ) (ns : List ℕ) → IsStrictlyIncreasing ns → All (λ n. n < b) ns → Ascends 0 b ns
 ascends b ns up high = from-pairs 0 b ns (AllPairs-from_increasing ns up) (λ k d l. omega arith) high
 
--- a number before them is not among them
+-- a number before an ascending list is not in the list
 pub before-none : (a b m : ℕ) (ns : List ℕ) → Ascends a b ns → m < a → is_among ns m ≡ false
 before-none a b m [] up less = refl
 before-none a b m (n ∷ ns) up less =
@@ -38,7 +38,7 @@ pub lower : (a c b : ℕ) (ns : List ℕ) → c ≤ a → Ascends a b ns → Asc
 lower a c b [] less up = tt
 lower a c b (n ∷ ns) less up = (omega (arith, up.0), up.1, up.2)
 
--- a test that passes at none but these numbers keeps the same of all
+-- a test that passes only for these numbers keeps the same of all numbers
 pub kept-of-all : (test : ℕ → Bool) (a n : ℕ) (ns : List ℕ) → Ascends a (a + n) ns → ((i : ℕ) → a ≤ i → i < a + n → test i ≡ true → is_among ns i ≡ true) → filter test (range_with_len a n) ≡ filter test ns
 kept-of-all test a zero [] up all = refl
 kept-of-all test a zero (m ∷ ns) up all = absurd (omega (arith, up.0, up.1))

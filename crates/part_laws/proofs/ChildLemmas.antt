@@ -35,7 +35,7 @@ IsNew points polygons x =
     ⊎ ((edge : ℕ × ℕ) × (list_any (same_edge edge) (edges_of polygons) ≡ true) × (x ≡ edge_point points polygons edge)))
 
 module _ (points : ℕ) (polygons : List Polygon) (over : is_over points polygons ≡ true) where
-  -- of a child face each corner is such a point
+  -- each corner of a child face is an old point or a new one
   pub kind-of-child : (k v x : ℕ) (quad : Polygon) → IsChildOf points polygons k v quad → has_corner x quad ≡ true → IsNew points polygons x
   kind-of-child k v x quad c h = go (corner-cases points polygons k v x quad c h)
     where
@@ -62,7 +62,7 @@ module _ (name : ℕ → ℕ) (faces : List ℕ) (part whole : Level) (is : IsPa
   abbrev IsKid : ℕ → Type 0
   IsKid x = IsNew part.point_count part.polygons x
 
-  -- the same edge of the whole is the same edge of the part
+  -- edges of the part that are one edge in the whole are one edge
   edges-apart : (s t : ℕ × ℕ) → list_any (same_edge s) (edges_of part.polygons) ≡ true → list_any (same_edge t) (edges_of part.polygons) ≡ true → edge_number whole.polygons (renamed name s) ≡ edge_number whole.polygons (renamed name t) → edge_number part.polygons s ≡ edge_number part.polygons t
   edges-apart s t h k e =
       let ends = edge-ends name faces part.polygons whole.polygons is s h in
@@ -207,13 +207,13 @@ module _ (name : ℕ → ℕ) (faces : List ℕ) (part whole : Level) (is : IsPa
         let there = list_any_at (nat_eq (face_in faces k)) faces k 0 (omega (arith, h, as-many name faces part.polygons whole.polygons is)) (eq-eqb (face_in faces k) (face_in faces k) refl) in
         whole-next (face_point whole.point_count (face_in faces k)) (λ g v quad c l. among-center g v (face_point whole.point_count (face_in faces k)) quad c l (face_in faces k) refl (face-below k h) there)
 
-    -- and that of each whole edge
+    -- the next level has all faces at the new point of each whole edge
     pub whole-edge : (edge : ℕ × ℕ) → list_any (same_edge edge) (edges_of part.polygons) ≡ true → IsWholeAlong faces whole.polygons (renamed name edge) → IsWholeAt (children_in whole.polygons faces) (child_polygons whole.point_count whole.polygons) (edge_point whole.point_count whole.polygons (renamed name edge))
     whole-edge edge h all =
         whole-next (edge_point whole.point_count whole.polygons (renamed name edge)) (λ g v quad c k.
         among-edge g v (edge_point whole.point_count whole.polygons (renamed name edge)) quad c k (renamed name edge) refl (edge-listed name faces part whole is edge h) all)
 
--- the points of the next level of which the part has all that they depend on
+-- the points of the next level of which the part has all sources
 pub next-whole : (part : LevelPart) → IsOverPoints part → (x : NextPoint part) → IsWholeAt (faces_next part) (child_polygons part.whole.point_count part.whole.polygons) (name_next part (number_of x))
 next-whole part over x = go x
   where

@@ -80,7 +80,7 @@ module _ (name : ℕ → ℕ) (faces : List ℕ) (part whole : List Polygon) (is
       side-from name s (sides_of (polygon_at part k))
       (ap (list_any (same_side s)) (sym (sides-renamed name (polygon_at part k))) ∙ ap (has_side s) (polygon-in name faces part whole is k inside) ∙ h)
 
-  -- and a successor in the whole between faces of the part is one in the part
+  -- a successor in the whole between faces of the part is one in the part
   pub successor-from : (p f g : ℕ) → is_corner part p ≡ true → f < length part → g < length part → IsSuccessor whole (name p) (face_in faces f) (face_in faces g) → IsSuccessor part p f g
   successor-from p f g there h k s =
       let after = side-of f (name p, s.corner) h s.follows in
@@ -140,7 +140,7 @@ module _ (name : ℕ → ℕ) (faces : List ℕ) (part whole : List Polygon) (is
           path = path-in p one.fan one.path;
         }
 
-    -- and a fan of the whole is one of the part
+    -- a fan of the whole is one of the part
     pub fan-from : HasOneFan whole (name p) → HasOneFan part p
     fan-from one =
         let found = origins faces one.fan (λ n h. all n ((one.all n).0 h)) in

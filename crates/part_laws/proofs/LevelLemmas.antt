@@ -54,7 +54,7 @@ module _ (name : ℕ → ℕ) (faces : List ℕ) (part whole : Level) (is : IsLe
   pub same-chaikin : chaikin_overflows_at part p ≡ chaikin_overflows_at whole (name p)
   same-chaikin = ap (λ m. is_chaikin m && chaikin_overflows (ring_at part p)) is.method ∙ ap (λ ring. is_chaikin whole.method && chaikin_overflows ring) same-ring
 
-  -- what is made of the sharpness of the vertex and of its ring, in the level and in the next
+  -- a function of the sharpness of the vertex and of its ring, in the level and in the next
   same-of : {X : Type 0} (f : Sharpness → List Sharpness → List Sharpness → X) → f (vertex_sharpness_of part p) (ring_at part p) (child_ring part.method (ring_at part p)) ≡ f (vertex_sharpness_of whole (name p)) (ring_at whole (name p)) (child_ring whole.method (ring_at whole (name p)))
   same-of f =
       ap (λ s. f s (ring_at part p) (child_ring part.method (ring_at part p))) same-vertex
@@ -68,7 +68,7 @@ module _ (name : ℕ → ℕ) (faces : List ℕ) (part whole : Level) (is : IsLe
   same-transition CatmullClark = same-of (λ s ring next. not (same_mask (vertex_rule s ring) (vertex_rule (uniform_child s) next)) && transition_overflows s (uniform_child s) ring next)
   same-transition Linear = refl
 
-  -- there are as many edges and as many faces
+  -- the point has as many edges and faces in the part as in the whole
   pub same-interior : is_interior part p ≡ is_interior whole (name p)
   same-interior =
       let edges = sym (length-map (edges_at part p) (renamed name)) ∙ ap length (same-edges name faces part.polygons whole.polygons is.polygons p there all) in

@@ -1,4 +1,4 @@
--- Lists under another function, or without some of what they have: what is kept, found and listed once.
+-- Lists under another function, or without some items: their kept items, their places, and each item once.
 use Rattle.std.proofs.Common.{◌≡◌, ℕ, zero, suc, ◌+◌, ◌<◌, Bool, true, false, not, List, [], ◌∷◌, ◌++◌, length, map, get_or, drop, arith, refl, ap, sym, ◌∙◌}
 use Rattle.std.specs.List.{filter, flat_map, list_any, list_all, range_with_len}
 use Rattle.std.proofs.lemmas.Bool.{and_parts}
@@ -34,7 +34,7 @@ any-mapped keep f test other same (x ∷ xs) h =
     let rest = any-mapped keep f test other same xs parts.1 in
     rw (here, rest) refl
 
--- and keep the same
+-- aligned tests keep the same items
 pub filter-mapped : {X Y : Type 0} (keep : X → Bool) (f : X → Y) (test : X → Bool) (other : Y → Bool) → ((x : X) → keep x ≡ true → other (f x) ≡ test x) → (xs : List X) → list_all keep xs ≡ true → filter other (map f xs) ≡ map f (filter test xs)
 filter-mapped keep f test other same [] h = refl
 filter-mapped keep f test other same (x ∷ xs) h =
@@ -45,7 +45,7 @@ filter-mapped keep f test other same (x ∷ xs) h =
     go true e here rest = rw (here, e) (ap (λ l. f x ∷ l) rest)
     go false e here rest = rw (here, e) rest
 
--- what is kept of what is kept, in either order
+-- two filters commute
 pub filter-swap : {X : Type 0} (p q : X → Bool) (xs : List X) → filter p (filter q xs) ≡ filter q (filter p xs)
 filter-swap p q [] = refl
 filter-swap p q (x ∷ xs) = go (p x) (q x) refl refl (filter-swap p q xs)
@@ -71,7 +71,7 @@ filter-weaker p q weaker (x ∷ xs) = go (p x) (q x) refl refl (filter-weaker p 
     go false true e f rest = ap (filter p) (filter-yes q x xs f) ∙ filter-off p x (filter q xs) e ∙ rest ∙ sym (filter-off p x xs e)
     go false false e f rest = ap (filter p) (filter-off q x xs f) ∙ rest ∙ sym (filter-off p x xs e)
 
--- of what is listed once, that which passes a test is what passes, listed once, where the same pass alike
+-- listing each item once and filtering commute, if equal items pass alike
 pub once-kept : {X : Type 0} (same : X → X → Bool) (keep : X → Bool) → ((x y : X) → same x y ≡ true → keep x ≡ keep y) → (xs : List X) → filter keep (each_once_by same xs) ≡ each_once_by same (filter keep xs)
 once-kept same keep alike [] = refl
 once-kept {X} same keep alike (x ∷ xs) = go (keep x) refl (once-kept same keep alike xs)
@@ -84,7 +84,7 @@ once-kept {X} same keep alike (x ∷ xs) = go (keep x) refl (once-kept same keep
     go true e rest = rw e (ap (λ l. x ∷ l) (filter-swap keep (λ y. not (same x y)) (each_once_by same xs) ∙ ap (filter (λ y. not (same x y))) rest))
     go false e rest = rw e (filter-weaker keep (λ y. not (same x y)) (λ y on. tells e y on (same x y) refl) (each_once_by same xs) ∙ rest)
 
--- what is kept passes what all pass
+-- a test that passes for all items passes for all kept items
 pub all-filtered : {X : Type 0} (keep test : X → Bool) (xs : List X) → list_all test xs ≡ true → list_all test (filter keep xs) ≡ true
 all-filtered keep test [] h = refl
 all-filtered keep test (x ∷ xs) h =
@@ -102,7 +102,7 @@ all-once same test (x ∷ xs) h =
     let here = parts.0 in
     rw here (all-filtered (λ y. not (same x y)) test (each_once_by same xs) (all-once same test xs parts.1))
 
--- what is listed once under a function that tells the same apart
+-- each item once, under a function that keeps different items apart
 pub once-mapped : {X Y : Type 0} (keep : X → Bool) (f : X → Y) (same : X → X → Bool) (other : Y → Y → Bool) → ((x y : X) → keep x ≡ true → keep y ≡ true → other (f x) (f y) ≡ same x y) → (xs : List X) → list_all keep xs ≡ true → each_once_by other (map f xs) ≡ map f (each_once_by same xs)
 once-mapped keep f same other alike [] h = refl
 once-mapped keep f same other alike (x ∷ xs) h =
@@ -112,7 +112,7 @@ once-mapped keep f same other alike (x ∷ xs) h =
     (ap (filter (λ y. not (other (f x) y))) rest
     ∙ filter-mapped keep f (λ y. not (same x y)) (λ y. not (other (f x) y)) (λ y k. ap not (alike x y parts.0 k)) (each_once_by same xs) (all-once same keep xs parts.1))
 
--- what is kept of joined lists
+-- filtering joined lists is joining filtered lists
 pub filter-joined : {X Y : Type 0} (keep : Y → Bool) (parts : X → List Y) (xs : List X) → filter keep (flat_map parts xs) ≡ flat_map (λ x. filter keep (parts x)) xs
 filter-joined keep parts [] = refl
 filter-joined keep parts (x ∷ xs) = filter-append keep (parts x) (flat_map parts xs) ∙ ap (λ l. filter keep (parts x) ++ l) (filter-joined keep parts xs)

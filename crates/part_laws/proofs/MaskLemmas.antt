@@ -161,7 +161,7 @@ module _ (name : ℕ → ℕ) (faces : List ℕ) (part whole : Level) (is : IsLe
       ap mask_of_corners (sym (polygon-in name faces part.polygons whole.polygons is.polygons k h))
       ∙ (corners-in name faces part.polygons whole.polygons is.polygons corners own).in_whole
 
-  -- and an edge, where the part has all faces along it
+  -- the mask of an edge, if the part has all faces along it
   pub same-edge-mask : (scheme : Scheme) (edge : ℕ × ℕ) → IsTrue (list_any (same_edge edge) (edges_of part.polygons)) → IsWholeAlong faces whole.polygons (renamed name edge) → edge_mask whole scheme (renamed name edge) ≡ mask_in name faces (edge_mask part scheme edge)
   same-edge-mask CatmullClark edge listed all =
       let ends = edge-ends name faces part.polygons whole.polygons is.polygons edge listed in
@@ -182,7 +182,7 @@ module _ (name : ℕ → ℕ) (faces : List ℕ) (part whole : Level) (is : IsLe
       let long : length ring ≡ length (ends_at part p) = length-map (edges_at part p) (edge_sharpness_of part) ∙ sym (length-map (edges_at part p) (other_end p)) in
       vertex-in name faces part.polygons whole.polygons is.polygons p there (ends_at part p) (faces_at part p) (own-ends name faces part.polygons whole.polygons is.polygons p) below s (uniform_child s) ring (child_ring part.method ring) long (length-map ring (half_child part.method ring) ∙ long)
 
-  -- and a point, where the part has all faces there
+  -- the mask of a point, if the part has all faces there
   pub same-vertex-mask : (scheme : Scheme) (p : ℕ) → IsTrue (is_corner part.polygons p) → IsWholeAt faces whole.polygons (name p) → vertex_mask whole scheme (name p) ≡ mask_in name faces (vertex_mask part scheme p)
   same-vertex-mask CatmullClark p there all =
       let v = name p in
@@ -198,7 +198,7 @@ module _ (name : ℕ → ℕ) (faces : List ℕ) (part whole : Level) (is : IsLe
       ∙ (vertex-made p there).in_whole
   same-vertex-mask Linear p there all = (corner-in name faces part.polygons whole.polygons is.polygons p there).in_whole
 
-  -- so these masks name corners and faces of the part alone
+  -- these masks name only corners and faces of the part
   abbrev pub IsLevelMaskIn : Mask → Mask → Type 0
   IsLevelMaskIn mask other = IsMaskIn name faces (λ p. is_corner part.polygons p) (λ k. nat_lt k (length part.polygons)) mask other
 

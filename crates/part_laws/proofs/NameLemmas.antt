@@ -1,4 +1,4 @@
--- The names of the points of the next level: what each kind of point becomes, and that they tell points apart.
+-- The names of the points of the next level: the name of each kind of point, and that different points have different names.
 use Rattle.std.proofs.Common.{◌≡◌, ℕ, ◌+◌, ◌-◌, ◌<◌, Bool, true, false, ◌&&◌, nat_eq, nat_lt, List, [], ◌∷◌, length, map, get_or, arith, refl, ap, sym, ◌∙◌}
 use Rattle.std.specs.List.{filter, list_all, list_any, position_or_len}
 use Rattle.std.proofs.Math.Numerals.{one-add}
@@ -35,7 +35,7 @@ last-mapped : {X Y : Type 0} (f : X → Y) (x : X) (xs : List X) → last_of (f 
 last-mapped f x [] = refl
 last-mapped f x (y ∷ xs) = last-mapped f y xs
 
--- the first that passes is the first of what is kept
+-- the first item that passes is the first kept item
 first-kept : {X : Type 0} (test : X → Bool) (d : X) (xs : List X) → get_or xs (position_or_len test xs) d ≡ get_or (filter test xs) 0 d
 first-kept test d [] = refl
 first-kept test d (x ∷ xs) = go (test x) refl (first-kept test d xs)
@@ -52,7 +52,7 @@ some-kept test (x ∷ xs) h = go (test x) refl (λ more. some-kept test xs more)
     go true e behind = rw e (omega arith)
     go false e behind = let rest = behind (rw e at h) in rw e rest
 
--- an edge that the part has all faces along stands in the same direction in both lists
+-- an edge along which the part has all faces has the same direction in both lists
 pub same-edge-at : (name : ℕ → ℕ) (faces : List ℕ) (part whole : List Polygon) → IsPart name faces part whole → (edge : ℕ × ℕ) → list_any (same_edge edge) (edges_of part) ≡ true → IsWholeAlong faces whole (renamed name edge) → edge_at whole (edge_number whole (renamed name edge)) ≡ renamed name (edge_at part (edge_number part edge))
 same-edge-at name faces part whole is edge h all =
     let some = filter (same_edge edge) (edges_of part) in
@@ -79,7 +79,7 @@ side-in name faces part whole is k s h =
     ∙ ap (list_any (same_side (renamed name s))) (sides-renamed name (polygon_at part k))
     ∙ any-renamed name s (sides_of (polygon_at part k)) h
 
--- the same edge is the same under the names
+-- equal edges stay equal under the names
 pub same-renamed : (name : ℕ → ℕ) (s t : ℕ × ℕ) → same_edge s t ≡ true → same_edge (renamed name s) (renamed name t) ≡ true
 same-renamed name s t h = go (same_side s t) refl
   where
@@ -153,7 +153,7 @@ module _ (name : ℕ → ℕ) (faces : List ℕ) (part whole : Level) (is : IsPa
         let rest = along-in k side sides parts.0 parts.1 in
         rw (here, rest) refl
 
-    -- and so are all child faces of a face
+    -- the names of all child faces of a face
     path-in : (k v : ℕ) (rest : Polygon) → polygon_at part.polygons k ≡ v ∷ rest → map (map (child_name name faces part whole)) (child_faces part.point_count part.polygons k (v ∷ rest)) ≡ child_faces whole.point_count whole.polygons (face_in faces k) (map name (v ∷ rest))
     path-in k v rest e =
         let sides = sides_of (v ∷ rest) in

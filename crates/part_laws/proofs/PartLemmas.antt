@@ -52,7 +52,7 @@ end-alike v s t h = grind (arith, nat_tests)
 edge-alike : (e s t : ℕ × ℕ) → same_edge s t ≡ true → same_edge e s ≡ same_edge e t
 edge-alike e s t h = same_edge-sym e s ∙ same_edge-alike s t e h ∙ same_edge-sym t e
 
--- so a polygon without the corner has no edge there
+-- a polygon without the corner has no edge there
 none-there : (v : ℕ) (polygon : Polygon) → has_corner v polygon ≡ false → filter (has_end v) (sides_of polygon) ≡ []
 none-there v polygon none =
     filter-none (has_end v) (sides_of polygon) (false_from_ne_true _ (λ some.
@@ -60,7 +60,7 @@ none-there v polygon none =
     let there = end-corner v polygon found.0 found.1 found.2 in
     absurd (cc)))
 
--- and one with an edge has its ends
+-- a polygon with an edge has both ends of it
 pub along-end : (v : ℕ) (edge : ℕ × ℕ) (polygon : Polygon) → has_end v edge ≡ true → has_edge edge polygon ≡ true → has_corner v polygon ≡ true
 along-end v edge polygon ends there =
     let found = any-side (same_edge edge) (sides_of polygon) there in
@@ -126,7 +126,7 @@ module _ (name : ℕ → ℕ) (faces : List ℕ) (part whole : List Polygon) (is
       ∙ ap (filter other) (all-sides-renamed name part)
       ∙ filter-mapped (both_ends own) (renamed name) keep other agree (all_sides part) own-sides
 
-  -- and so do edges
+  -- a test of edges keeps the same edges in the part and in the whole
   kept-edges : (keep other : ℕ × ℕ → Bool) → ((s t : ℕ × ℕ) → same_edge s t ≡ true → keep s ≡ keep t) → ((s t : ℕ × ℕ) → same_edge s t ≡ true → other s ≡ other t) → ((s : ℕ × ℕ) → both_ends own s ≡ true → other (renamed name s) ≡ keep s) → ((f : ℕ) → is_among faces f ≡ false → filter other (sides_of (polygon_at whole f)) ≡ []) → map (renamed name) (filter keep (edges_of part)) ≡ filter other (edges_of whole)
   kept-edges keep other alike other_alike agree none =
       ap (map (renamed name)) (once-kept same_edge keep alike (all_sides part))

@@ -1,4 +1,4 @@
--- Where the child faces of a face stand in the next level.
+-- The places of the child faces of a face in the next level.
 use Rattle.std.proofs.Common.{◌≡◌, ℕ, zero, suc, ◌+◌, ◌-◌, ◌<◌, ◌≤◌, Bool, true, false, nat_eq, nat_lt, List, [], ◌∷◌, ◌++◌, length, map, get_or, take, arith, refl, ap, sym, ◌∙◌, subst, ◌⊎◌, inl, inr}
 use Rattle.std.specs.List.{All, flat_map, sum_by, range_with_len, enumerate_from}
 use Rattle.std.specs.List.Sorted.{IsStrictlyIncreasing}
@@ -70,7 +70,7 @@ among-range a (suc n) m low high = go (nat_eq m a) refl (λ l h. among-range (a 
     go true e behind = rw e refl
     go false e behind = let rest = behind (grind (arith, nat_tests)) (omega arith) in rw e rest
 
--- the child faces of these faces have those of each of them
+-- the child faces of listed faces include the children of each
 pub among-children : (polygons : List Polygon) (faces : List ℕ) (g c : ℕ) → c < length (polygon_at polygons g) → is_among faces g ≡ true → is_among (children_in polygons faces) (first_place polygons g + c) ≡ true
 among-children polygons faces g c h there =
     let n = first_place polygons g + c in
@@ -141,7 +141,7 @@ places-in polygons (polygon ∷ some) (f ∷ fs) many same (suc k) c h corner =
     ∙ ap (λ i. get_or (children_in polygons fs) i 0) back
     ∙ places-in polygons some fs (omega (arith, many)) (λ i l. same (suc i) (omega (arith, l))) k c (omega (arith, h)) corner
 
--- and what each face gives, read at the places of its child faces
+-- reading at the places of the child faces gives the items of each face
 pub read-children : {Y : Type 0} (polygons : List Polygon) (others : ℕ → List Y) (read : ℕ → Y) → ((f : ℕ) → f < length polygons → others f ≡ map read (children_of polygons f)) → (fs : List ℕ) → All (λ f. f < length polygons) fs → flat_map others fs ≡ map read (children_in polygons fs)
 read-children polygons others read same fs inside =
     joined-agree (λ f. nat_lt f (length polygons)) others (λ f. map read (children_of polygons f)) (λ f h. same f (ltb-true f (length polygons) h)) fs (list_all-from_AllPass (λ f. nat_lt f (length polygons)) fs (λ k d h. lt-ltb _ _ (inside k d h)))

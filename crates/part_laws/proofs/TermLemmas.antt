@@ -28,7 +28,7 @@ module _ (name : ℕ → ℕ) (faces : List ℕ) (point face : ℕ → Bool) whe
   abbrev own : Term → Bool
   own t = is_own point face t.source
 
-  -- the first terms name own sources alone, and the second are these with the sources of the whole
+  -- the first terms name only own sources, and the second are the first with the sources of the whole
   pub record AreTermsIn (terms others : List Term) : Type 0 where
     pub own_sources : list_all (λ t. is_own point face t.source) terms ≡ true
     pub in_whole : others ≡ map (term_in name faces) terms

@@ -34,7 +34,7 @@ use Rattle.part_laws.proofs.ChildLemmas.{name-below, face-below}
 along-alike : (s t : ℕ × ℕ) (polygon : Polygon) → same_edge t s ≡ true → has_edge s polygon ≡ true → has_edge t polygon ≡ true
 along-alike s t polygon h there = any-weaker (same_edge s) (same_edge t) (λ u k. same_edge-trans t s u h k) (sides_of polygon) there
 
--- The masks of a level by the kinds of points, with what is made of each.
+-- A function of the masks of a level, by the kinds of points.
 module _ {X : Type 0} (level : Level) (scheme : Scheme) (f : Mask → X) (d : X) where
   many : length (map (vertex_mask level scheme) (range_with_len 0 level.point_count)) ≡ level.point_count
   many = length-map-range_with_len (vertex_mask level scheme) 0 level.point_count
@@ -88,7 +88,7 @@ module _ (name : ℕ → ℕ) (faces : List ℕ) (part whole : Level) (is : IsLe
   abbrev InWhole : Mask → Mask → Type 0
   InWhole mask other = IsMaskIn name faces (λ p. is_corner part.polygons p) (λ k. nat_lt k (length part.polygons)) mask other
 
-  -- what is read at the sources of a mask, where the sources of the whole read the same
+  -- reading the sources of a mask, where the sources of the whole read the same
   module _ {Y : Type 0} (read other : SourcePoint → Y) (same : (s : SourcePoint) → own s ≡ true → read s ≡ other (source_in name faces s)) where
     terms-agree : {Z : Type 0} (f : ℕ → Y → Z) (mask in_mask : Mask) → InWhole mask in_mask → map (λ t. f t.weight (read t.source)) mask.terms ≡ map (λ t. f t.weight (other t.source)) in_mask.terms
     terms-agree f mask in_mask h =
@@ -140,7 +140,7 @@ module _ (name : ℕ → ℕ) (faces : List ℕ) (part whole : Level) (is : IsLe
       corners (OfPoint p) l = same p l
       corners (OfFace f) l = refl
 
-  -- what is made of the masks of the next level, where the masks of the part and of the whole make the same
+  -- a function of the masks of the next level, where the masks of the part and of the whole give the same
   module _ (over : is_over part.point_count part.polygons ≡ true) (whole_over : is_over whole.point_count whole.polygons ≡ true) (scheme : Scheme) {X : Type 0} (f g : Mask → X) (d : X) (agree : (mask in_mask : Mask) → InWhole mask in_mask → f mask ≡ g in_mask) where
     abbrev Same : ℕ → Type 0
     Same n = get_or (map f (child_masks part scheme)) n d ≡ get_or (map g (child_masks whole scheme)) (child_name name faces part whole n) d

@@ -1,11 +1,11 @@
--- What the laws of parts speak of: parts and their points and edges, of which the part has all that the whole has.
+-- Parts, and points and edges at which a part has all faces, for the laws of parts.
 use Rattle.std.specs.Prelude.{ℕ, nat_lt, List, length, IsTrue}
 use Rattle.std.specs.List.{list_all, list_any}
 use Rattle.subdiv_model.specs.Polygons.{Polygon, same_edge}
 use Rattle.subdiv_model.specs.Edges.{edges_of}
 use Rattle.part_laws.specs.Parts.{IsPart, IsWholeAt, IsWholeAlong, is_corner, renamed}
 
--- polygons that are a part of others, with the names of their points and the numbers of their polygons
+-- polygons that are part of others, with the names of their points and the numbers of the polygons
 pub record Part : Type 0 where
   pub name : ℕ → ℕ
   pub faces : List ℕ
@@ -13,7 +13,7 @@ pub record Part : Type 0 where
   pub whole : List Polygon
   pub is_part : IsPart name faces polygons whole
 
--- a corner of the part that has all its polygons there
+-- a corner of the part where the part has all polygons of the whole
 pub record WholePoint (part : Part) : Type 0 where
   pub point : ℕ
   pub is_there : IsTrue (is_corner part.polygons point)
@@ -33,7 +33,7 @@ pub record PartFaces (part : Part) : Type 0 where
   pub faces : List ℕ
   pub inside : IsTrue (list_all (λ k. nat_lt k (length part.polygons)) faces)
 
--- an edge of the part, named in either direction, that has all its polygons there
+-- an edge of the part, named in either direction, along which the part has all polygons of the whole
 pub record WholeEdge (part : Part) : Type 0 where
   pub edge : ℕ × ℕ
   pub is_edge : IsTrue (list_any (same_edge edge) (edges_of part.polygons))

@@ -1,5 +1,5 @@
--- Levels that are a part of others: some of the faces, with the same marks and the same sharpness.
--- Source: this profile.
+-- Levels that are part of others: some of the faces, with the same marks and the same sharpness.
+-- Source: Drillolive.
 use Rattle.std.specs.Prelude.{◌≡◌, ℕ, ◌<◌, List, length, map, IsTrue}
 use Rattle.std.specs.List.{list_any}
 use Rattle.subdiv_model.specs.Polygons.{same_edge}
@@ -10,8 +10,8 @@ use Rattle.subdiv_model.specs.Level.{Level, edge_sharpness_of, vertex_sharpness_
 use Rattle.part_laws.specs.Parts.{IsPart, is_corner, renamed, face_in}
 use Rattle.part_laws.specs.Laws.{Part, PartEdge, WholePoint, WholeEdge}
 
--- The polygons of `part` are a part of those of `whole`. The method, each hole, and the sharpness of each edge and each corner of
--- the part are those of the whole.
+-- The polygons of `part` are part of those of `whole`. Both levels have the same method, and the same holes and sharpness at the
+-- faces, edges and corners of the part.
 pub record IsLevelPart (name : ℕ → ℕ) (faces : List ℕ) (part whole : Level) : Type 0 where
   pub polygons : IsPart name faces part.polygons whole.polygons
   pub method : part.method ≡ whole.method
@@ -26,7 +26,7 @@ weight_at level v =
     let vertex = vertex_sharpness_of level v in
     let ring = ring_at level v in transition_weight vertex (uniform_child vertex) ring (child_ring level.method ring)
 
--- a level that is a part of another, with the names of its points and the numbers of its faces
+-- a level that is part of another, with the names of its points and the numbers of its faces
 pub record LevelPart : Type 0 where
   pub name : ℕ → ℕ
   pub faces : List ℕ
@@ -34,7 +34,7 @@ pub record LevelPart : Type 0 where
   pub whole : Level
   pub is_part : IsLevelPart name faces level whole
 
--- its polygons
+-- the polygons of the part
 abbrev pub polygons_of : LevelPart → Part
 polygons_of part = record {
   name = part.name;
@@ -44,17 +44,19 @@ polygons_of part = record {
   is_part = part.is_part.polygons;
 }
 
--- its corners and edges of which it has all faces, and all its edges
+-- corners of a part at which it has all faces
 abbrev pub WholePointOf : LevelPart → Type 0
 WholePointOf part = WholePoint (polygons_of part)
 
+-- edges of a part along which it has all faces
 abbrev pub WholeEdgeOf : LevelPart → Type 0
 WholeEdgeOf part = WholeEdge (polygons_of part)
 
+-- edges of a part
 abbrev pub EdgeOf : LevelPart → Type 0
 EdgeOf part = PartEdge (polygons_of part)
 
--- a part of a level that is a part of another
+-- a part of a level that is itself part of another
 pub record PartOfPart : Type 0 where
   pub part : LevelPart
   pub name : ℕ → ℕ
@@ -62,9 +64,10 @@ pub record PartOfPart : Type 0 where
   pub whole : Level
   pub is_part : IsLevelPart name faces part.whole whole
 
--- the names of its points in the last, and the numbers of its faces
+-- the names of the points in the last level
 abbrev pub last_name : PartOfPart → ℕ → ℕ
 last_name both p = both.name (both.part.name p)
 
+-- the numbers of the faces in the last level
 abbrev pub last_faces : PartOfPart → List ℕ
 last_faces both = map (face_in both.faces) both.part.faces

@@ -1,5 +1,5 @@
--- Polygons that are some of others, under other numbers of their points.
--- Source: this profile.
+-- Some polygons of a mesh, under other numbers of their points.
+-- Source: Drillolive.
 use Rattle.std.specs.Prelude.{◌≡◌, ℕ, ◌<◌, Bool, List, length, map, get_or, IsTrue}
 use Rattle.std.specs.List.{All, list_any}
 use Rattle.std.specs.List.Sorted.{IsStrictlyIncreasing}
@@ -18,22 +18,22 @@ pub record HasEnds (polygons : List Polygon) (edge : ℕ × ℕ) : Type 0 where
 abbrev pub renamed : (ℕ → ℕ) → ℕ × ℕ → ℕ × ℕ
 renamed name edge = (name edge.0, name edge.1)
 
--- the number in the whole of a face of the part
+-- the number of a face of the part in the whole
 abbrev pub face_in : List ℕ → ℕ → ℕ
 face_in faces k = get_or faces k 0
 
--- The polygons of `part` are those of `whole` with these numbers, in their order. Each point of the part has a name in the
--- whole, and no two corners have one.
+-- The polygons of `part` are the polygons of `whole` with these numbers, in order. Each point of the part has a name in the
+-- whole, and different corners have different names.
 pub record IsPart (name : ℕ → ℕ) (faces : List ℕ) (part whole : List Polygon) : Type 0 where
   pub ascending : IsStrictlyIncreasing faces
   pub inside : All (λ f. f < length whole) faces
   pub same : map (map name) part ≡ map (polygon_at whole) faces
   pub apart : (p q : ℕ) → IsTrue (is_corner part p) → IsTrue (is_corner part q) → name p ≡ name q → p ≡ q
 
--- every polygon of the whole that has the point is among these
+-- the listed polygons include every polygon of the whole at the point
 abbrev pub IsWholeAt : List ℕ → List Polygon → ℕ → Type 0
 IsWholeAt faces whole v = (f : ℕ) → IsTrue (has_corner v (polygon_at whole f)) → IsTrue (is_among faces f)
 
--- every polygon of the whole that has the edge is among these
+-- the listed polygons include every polygon of the whole along the edge
 abbrev pub IsWholeAlong : List ℕ → List Polygon → ℕ × ℕ → Type 0
 IsWholeAlong faces whole edge = (f : ℕ) → IsTrue (has_edge edge (polygon_at whole f)) → IsTrue (is_among faces f)

@@ -1,4 +1,4 @@
--- Points of the next level of a part, and what is known of the points of the part and of the whole.
+-- Points of the next level of a part, and data that the part and the whole share.
 use Rattle.std.specs.Prelude.{◌≡◌, ℕ, ◌<◌, pos, List, [], length, get_or, IsTrue}
 use Rattle.subdiv_model.specs.Polygons.{Polygon, polygon_at}
 use Rattle.subdiv_model.specs.Child.{child_level}
@@ -12,85 +12,93 @@ use Rattle.part_laws.specs.Laws.{WholePoint, WholeEdge}
 use Rattle.part_laws.specs.LevelParts.{LevelPart, polygons_of}
 use Rattle.part_laws.specs.Children.{IsOverPoints, corner_of_child, name_next}
 
--- a point of the next level whose mask the part has: a point that has all its faces, the new point of a face, or that of an edge
--- that has all its faces
+-- A point of the next level whose mask the part has: an old point, or the new point of a face or edge. The part has all faces at
+-- the old point and along the edge.
 pub data NextPoint (part : LevelPart) : Type 0 where
   Old : WholePoint (polygons_of part) → NextPoint part
   NewOfFace : (k : ℕ) → k < length part.level.polygons → NextPoint part
   NewOfEdge : WholeEdge (polygons_of part) → NextPoint part
 
--- its number
+-- the number of the point
 abbrev pub number_of : {part : LevelPart} → NextPoint part → ℕ
 number_of {part} (Old at) = at.point
 number_of {part} (NewOfFace k inside) = face_point_of part.level k
 number_of {part} (NewOfEdge along) = edge_point_of part.level along.edge
 
--- the number is that of such a point
+-- a point of this number has its mask in the part
 abbrev pub HasNextPoint : LevelPart → ℕ → Type 0
 HasNextPoint part n = (x : NextPoint part) × (number_of x ≡ n)
 
--- a child face of a part, at a corner that has all its faces
+-- a child face of a part, at a corner where the part has all faces
 pub record WholeChild (part : LevelPart) : Type 0 where
   pub number : ℕ
   pub has_all : IsWholeAt part.faces part.whole.polygons (part.name (corner_of_child part.level number))
 
--- its corners
+-- the corners of the child face
 abbrev pub corners_of : {part : LevelPart} → WholeChild part → Polygon
 corners_of {part} child = polygon_at (child_level part.level).polygons child.number
 
--- a point of the next level of a part over points, by a scheme
+-- one point of the next level of a part over points, and a scheme
 pub record NextStep : Type 0 where
   pub part : LevelPart
   pub over : IsOverPoints part
   pub scheme : Scheme
   pub point : NextPoint part
 
--- its number here, in the next level of the part, and there, in that of the whole
+-- the number of the point in the next level of the part
 abbrev pub number_here : NextStep → ℕ
 number_here step = number_of step.point
 
+-- the number of the point in the next level of the whole
 abbrev pub number_there : NextStep → ℕ
 number_there step = name_next step.part (number_of step.point)
 
--- its mask here and there, and none where there is no point
+-- the mask of the point in the part; an empty mask if there is no point
 abbrev pub mask_here : NextStep → Mask
 mask_here step = get_or (child_masks step.part.level step.scheme) (number_here step) (mask_of [] 1)
 
+-- the mask of the point in the whole; an empty mask if there is no point
 abbrev pub mask_there : NextStep → Mask
 mask_there step = get_or (child_masks step.part.whole step.scheme) (number_there step) (mask_of [] 1)
 
--- one item for each point of the part and for each point of the whole: a corner of the part has that of its name
+-- one item for each point of the part and of the whole, where each corner of the part has the item of its name
 pub record Known {X : Type 0} (part : LevelPart) (default : X) : Type 0 where
   pub here : List X
   pub there : List X
   pub same : (p : ℕ) → IsTrue (is_corner part.level.polygons p) → get_or here p default ≡ get_or there (part.name p) default
 
--- the value of the point, from values of the points of the part and of the whole
+-- values of the points of the part and of the whole
 abbrev pub KnownValues : NextStep → Type 0
 KnownValues step = Known step.part (whole_value (pos 0))
 
+-- the value of the point in the part
 abbrev pub value_here : (step : NextStep) → KnownValues step → Value
 value_here step known = point_value (child_values step.part.level step.scheme known.here) (number_here step)
 
+-- the value of the point in the whole
 abbrev pub value_there : (step : NextStep) → KnownValues step → Value
 value_there step known = point_value (child_values step.part.whole step.scheme known.there) (number_there step)
 
--- its common denominator
+-- common denominators of the points of the part and of the whole
 abbrev pub KnownDenominators : NextStep → Type 0
 KnownDenominators step = Known {X = ℕ} step.part 1
 
+-- the common denominator of the point in the part
 abbrev pub denominator_here : (step : NextStep) → KnownDenominators step → ℕ
 denominator_here step known = get_or (child_denominators step.part.level step.scheme known.here) (number_here step) 1
 
+-- the common denominator of the point in the whole
 abbrev pub denominator_there : (step : NextStep) → KnownDenominators step → ℕ
 denominator_there step known = get_or (child_denominators step.part.whole step.scheme known.there) (number_there step) 1
 
--- the controls that it depends on, of so many
+-- supports of the points of the part and of the whole, over a number of control points
 abbrev pub KnownSupports : NextStep → Type 0
 KnownSupports step = Known {X = List ℕ} step.part []
 
+-- the support of the point in the part, over a number of control points
 abbrev pub support_here : ℕ → (step : NextStep) → KnownSupports step → List ℕ
 support_here controls step known = get_or (child_supports controls step.part.level step.scheme known.here) (number_here step) []
 
+-- the support of the point in the whole, over a number of control points
 abbrev pub support_there : ℕ → (step : NextStep) → KnownSupports step → List ℕ
 support_there controls step known = get_or (child_supports controls step.part.whole step.scheme known.there) (number_there step) []

@@ -1,4 +1,4 @@
-//! Laws of the next level of a part: its faces, its points and its sharpness are those of the next level of the whole.
+//! Laws of the next level of a part: its faces, points and sharpness are those of the next level of the whole.
 
 ghost use Rattle.std.specs.Prelude.{◌≡◌, ℕ, ◌+◌, ◌<◌, List, length, map, IsTrue};
 ghost use Rattle.subdiv_model.specs.Polygons.{has_corner};
@@ -9,8 +9,8 @@ ghost use Rattle.part_laws.specs.LevelParts.{IsLevelPart, LevelPart, EdgeOf};
 ghost use Rattle.part_laws.specs.Children.{IsOverPoints, NextPart, first_child_place, name_next, faces_next};
 ghost use Rattle.part_laws.specs.Values.{NextPoint, HasNextPoint, WholeChild, number_of, corners_of};
 
-/// A point of the next level of a part that was a point keeps its name. The new point of a face has the name of the new point of
-/// its face in the whole, and that of an edge the name of the new point of its edge.
+/// A point of the part keeps its name in the next level. The new point of a face, or of an edge, gets the name of the new point
+/// of that face or edge in the whole.
 pub fn new_points_have_names_of_new_points()
     ensures old { (part : LevelPart) (p : ℕ) → p < part.level.point_count → name_next part p ≡ part.name p }
     ensures of_faces { (part : LevelPart) (k : ℕ) → k < length part.level.polygons
@@ -19,8 +19,8 @@ pub fn new_points_have_names_of_new_points()
         → name_next part (edge_point_of part.level along.edge) ≡ edge_point_of part.whole (renamed part.name along.edge) }
 {}
 
-/// The child faces of a part are child faces of the whole, in their order: that of a face at a corner is the child of its face in
-/// the whole at the corner in the same place.
+/// The child faces of a part are child faces of the whole, in the same order. The child of a face at a corner is the child of
+/// that face in the whole, at the corner in the same place.
 pub fn child_faces_of_parts_are_a_part()
     ensures part { (part : LevelPart) → IsOverPoints part
         → IsPart (name_next part) (faces_next part) (child_level part.level).polygons (child_level part.whole).polygons }
@@ -28,21 +28,22 @@ pub fn child_faces_of_parts_are_a_part()
         → face_in (faces_next part) (child_place corner) ≡ first_child_place part.whole (face_in part.faces corner.face) + corner.place }
 {}
 
-/// They have all faces of the next level at a point where the part has all, at the new point of each face of the part, and at
-/// the new point of an edge where the part has all faces along it.
+/// The next level of a part has all faces at three kinds of points. They are points where the part has all faces, new points of
+/// its faces, and new points of edges along which it has all faces.
 pub fn points_stay_whole()
     ensures { (part : LevelPart) (x : NextPoint part) → IsOverPoints part
         → IsWholeAt (faces_next part) (child_level part.whole).polygons (name_next part (number_of x)) }
 {}
 
-/// Each corner of a child face at a point where the part has all faces is such a point.
+/// If a part has all faces at a point, its next level has all faces at each corner of the child faces there.
 pub fn corners_of_whole_children_are_next_points()
     ensures { (part : LevelPart) (child : WholeChild part) (n : ℕ) → IsOverPoints part → IsTrue (has_corner n (corners_of child))
         → HasNextPoint part n }
 {}
 
-/// A part of the next level of a part is a part of the next level of the whole, with its marks and its sharpness: under the method
-/// `normal` any part is, and under `chaikin` one whose faces are children at points where the part has all faces.
+/// A part of the next level of a part is a part of the next level of the whole, with its marks and its sharpness.
+///
+/// Under the method `normal` every part is. Under `chaikin` each face must be a child at a point where the part has all faces.
 pub fn parts_of_next_levels_are_parts()
     ensures { (part : LevelPart) (next : NextPart part) → IsOverPoints part
         → IsLevelPart (λ n. name_next part (next.name n)) (map (face_in (faces_next part)) next.faces) next.level (child_level part.whole) }

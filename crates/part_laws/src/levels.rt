@@ -1,4 +1,4 @@
-//! Laws of levels that are a part of others: what the rules read at a point all of whose faces the part has.
+//! Laws of a level that is part of another: what the rules read at a point where the part has all faces.
 
 ghost use Rattle.std.specs.Prelude.{◌≡◌, ℕ, List, length};
 ghost use Rattle.std.specs.List.{range_with_len};
@@ -12,7 +12,7 @@ ghost use Rattle.part_laws.specs.Parts.{IsWholeAt, renamed};
 ghost use Rattle.part_laws.specs.Laws.{name_of};
 ghost use Rattle.part_laws.specs.LevelParts.{IsLevelPart, LevelPart, PartOfPart, WholePointOf, EdgeOf, weight_at, last_name, last_faces};
 
-/// Where a part has all faces at a point, the sharpness of the edges there is that of the whole, in the same order, in the
+/// If a part has all faces at a point, its edges there have the sharpness of the whole, in the same order. The law holds in the
 /// level and in the next.
 pub fn rings_at_whole_points_are_the_same()
     ensures now { (part : LevelPart) (at : WholePointOf part) → ring_at part.level at.point ≡ ring_at part.whole (name_of at) }
@@ -20,7 +20,7 @@ pub fn rings_at_whole_points_are_the_same()
         → child_ring part.level.method (ring_at part.level at.point) ≡ child_ring part.whole.method (ring_at part.whole (name_of at)) }
 {}
 
-/// The point has the same rule, in the level and in the next, and the same weight between the two; and it is interior in both
+/// If a part has all faces at a point, the point has the same rules and the same weight as in the whole. It is interior in both
 /// levels or in neither.
 pub fn rules_at_whole_points_are_the_same()
     ensures now { (part : LevelPart) (at : WholePointOf part) → rule_at part.level at.point ≡ rule_at part.whole (name_of at) }
@@ -32,13 +32,13 @@ pub fn rules_at_whole_points_are_the_same()
         → is_interior part.level at.point ≡ is_interior part.whole (name_of at) }
 {}
 
-/// The half of an edge at the point has the same sharpness, by either method.
+/// If a part has all faces at a point, the half of an edge has the same sharpness as in the whole, by both methods.
 pub fn halves_at_whole_points_are_the_same()
     ensures { (part : LevelPart) (at : WholePointOf part) (along : EdgeOf part)
         → half_sharpness part.level along.edge at.point ≡ half_sharpness part.whole (renamed part.name along.edge) (name_of at) }
 {}
 
-/// What is refused at the point in one of both levels is refused in the other.
+/// If a part has all faces at a point, the rules overflow in the part exactly where they overflow in the whole.
 pub fn overflows_at_whole_points_are_the_same()
     ensures chaikin { (part : LevelPart) (at : WholePointOf part)
         → chaikin_overflows_at part.level at.point ≡ chaikin_overflows_at part.whole (name_of at) }
@@ -46,13 +46,13 @@ pub fn overflows_at_whole_points_are_the_same()
         → transition_overflows_at part.level scheme at.point ≡ transition_overflows_at part.whole scheme (name_of at) }
 {}
 
-/// A level is a part of itself, which has all faces at each point.
+/// A level is a part of itself, and has all faces at each point.
 pub fn levels_are_parts_of_themselves()
     ensures part { (level : Level) → IsLevelPart (λ p. p) (range_with_len 0 (length level.polygons)) level level }
     ensures whole { (polygons : List Polygon) (v : ℕ) → IsWholeAt (range_with_len 0 (length polygons)) polygons v }
 {}
 
-/// A part of a part is a part. It has all faces at a point where both have.
+/// A part of a part is a part of the whole. It has all faces at a point where both parts have all.
 pub fn parts_of_parts_are_parts()
     ensures part { (both : PartOfPart) → IsLevelPart (last_name both) (last_faces both) both.part.level both.whole }
     ensures whole { (both : PartOfPart) (at : WholePointOf both.part)

@@ -1,4 +1,4 @@
-//! Laws of polygons that are a part of others: which faces and edges they have at a point, and along an edge.
+//! Laws of the faces and edges of a part at a point and along an edge.
 
 ghost use Rattle.std.specs.Prelude.{◌≡◌, ℕ, List, map, IsTrue, ◌↔◌};
 ghost use Rattle.subdiv_model.specs.Polygons.{Polygon};
@@ -9,14 +9,14 @@ ghost use Rattle.part_laws.specs.Parts.{IsWholeAt, IsWholeAlong, renamed, face_i
 ghost use Rattle.part_laws.specs.Children.{edge_at};
 ghost use Rattle.part_laws.specs.Laws.{Part, PartFaces, WholePoint, WholeEdge, name_of, edge_in};
 
-/// Where a part has all faces at a point, they are the faces of the whole at its name, in the same order.
+/// If a part has all faces at a point, they are the faces of the whole at its name, in the same order.
 pub fn faces_at_whole_points_are_the_same()
     ensures { (part : Part) (at : WholePoint part)
         → map (face_in part.faces) (faces_of_point part.polygons at.point) ≡ faces_of_point part.whole (name_of at) }
 {}
 
-/// The edges there are the same too, in the same order of first appearance, each in the same direction; and so are their
-/// other ends.
+/// If a part has all faces at a point, the edges and their other ends are those of the whole. They have the same order of first
+/// appearance and the same directions.
 pub fn edges_at_whole_points_are_the_same()
     ensures edges { (part : Part) (at : WholePoint part)
         → map (renamed part.name) (edges_of_point part.polygons at.point) ≡ edges_of_point part.whole (name_of at) }
@@ -25,8 +25,8 @@ pub fn edges_at_whole_points_are_the_same()
         ≡ map (other_end (name_of at)) (edges_of_point part.whole (name_of at)) }
 {}
 
-/// Where a part has all faces along an edge, they are those of the whole along it. The edge is a boundary edge of both or of
-/// neither, and is listed in the same direction.
+/// If a part has all faces along an edge, they are the faces of the whole along it. The edge is a boundary edge in both or in
+/// neither, and both list it in the same direction.
 pub fn faces_along_whole_edges_are_the_same()
     ensures faces { (part : Part) (along : WholeEdge part)
         → map (face_in part.faces) (faces_of_edge part.polygons along.edge) ≡ faces_of_edge part.whole (edge_in along) }
@@ -36,15 +36,15 @@ pub fn faces_along_whole_edges_are_the_same()
         ≡ renamed part.name (edge_at part.polygons (edge_number part.polygons along.edge)) }
 {}
 
-/// Where a part has all faces at a point, it has one fan there exactly where the whole has. Faces of the part are a path about the
-/// point exactly where they are in the whole.
+/// If a part has all faces at a point, they form one fan exactly where the faces of the whole do. Faces are a path around the
+/// point in the part exactly where they are in the whole.
 pub fn fans_at_whole_points_are_the_same()
     ensures fan { (part : Part) (at : WholePoint part) → HasOneFan part.polygons at.point ↔ HasOneFan part.whole (name_of at) }
     ensures path { (part : Part) (at : WholePoint part) (some : PartFaces part)
         → IsPath part.polygons at.point some.faces ↔ IsPath part.whole (name_of at) (map (face_in part.faces) some.faces) }
 {}
 
-/// Polygons that have all faces at an end of an edge have all faces along it.
+/// Polygons that have all faces at an end of an edge have all faces along the edge.
 pub fn edges_at_whole_points_are_whole()
     ensures { (faces : List ℕ) (whole : List Polygon) (v : ℕ) (edge : ℕ × ℕ) → IsTrue (has_end v edge)
         → IsWholeAt faces whole v → IsWholeAlong faces whole edge }

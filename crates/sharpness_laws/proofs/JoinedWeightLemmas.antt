@@ -94,7 +94,7 @@ weight_in-kept (t ∷ terms) source =
 abbrev pub weighed : (SourcePoint → ℕ) → List SourcePoint → List Term
 weighed f sources = map (λ s. weigh (f s) s) sources
 
--- without a source, every other one stands there as before
+-- without one source, every other source keeps its weight
 weighed-without : (f : SourcePoint → ℕ) (s : SourcePoint) (sources : List SourcePoint) (source : SourcePoint)
     → weight_in (weighed f (filter (λ u. not (same_source s u)) sources)) source
     ≡ (if same_source source s then 0 else weight_in (weighed f sources) source)

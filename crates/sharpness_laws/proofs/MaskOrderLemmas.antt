@@ -1,4 +1,4 @@
--- Masks with the same weights: of terms in any order, of edges and faces, and blends of them.
+-- Masks with the same weights, from terms, edges and faces in any order, and from blends.
 use Rattle.std.proofs.Common.{◌≡◌, ℕ, ◌+◌, ◌-◌, ◌*◌, ◌/◌, Bool, true, false, nat_eq, nat_le, if◌then◌else◌, List, [], ◌∷◌, ◌++◌, length, refl, ap, sym, ◌∙◌}
 use Rattle.std.specs.List.Sorted.{IsPermutation}
 use Rattle.std.proofs.lemmas.List.Sorted.{IsPermutation-map, IsPermutation-append}
@@ -22,7 +22,7 @@ same_weights-trans l m n h k = record {
   weights = λ source. h.weights source ∙ k.weights source;
 }
 
--- the same terms in another order
+-- masks of equal terms in another order have the same weights
 pub same-terms : (xs ys : List Term) (p q : ℕ) → IsPermutation xs ys → p ≡ q → HaveSameWeights (mask_of xs p) (mask_of ys q)
 same-terms xs ys p q h e = record {
   denominator = e;

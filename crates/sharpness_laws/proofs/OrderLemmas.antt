@@ -99,7 +99,7 @@ zip-mapped : {X Y Z : Type 0} (f : X → Y) (g : X → Z) (xs : List X) → zip 
 zip-mapped f g [] = refl
 zip-mapped f g (x ∷ xs) = ap (λ rest. (f x, g x) ∷ rest) (zip-mapped f g xs)
 
--- what stands at the vertex, each with the sharpness of its edge in this level and in the next
+-- items at the vertex, each with the sharpness of its edge in this level and in the next
 module _ {X : Type 0} (now next : X → Sharpness) (vertex vertex_child : Sharpness) where
   ended : List X → List (ℕ × ℕ)
   ended some = ended_values vertex vertex_child (map now some) (map next some)

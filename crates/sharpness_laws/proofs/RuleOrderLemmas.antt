@@ -16,7 +16,7 @@ use Rattle.sharpness_laws.proofs.PermutationLemmas.{same_in_any_order, IsPermuta
 use Rattle.sharpness_laws.proofs.OrderLemmas.{count-any_order, half_children-any_order, weight-any_order}
 use Rattle.sharpness_laws.proofs.MaskOrderLemmas.{same_weights-refl, same-terms, points-permuted, terms-permuted, same-if, same-transition}
 
--- what is read at the places of what passes, is read of what passes
+-- reading at the places of items that pass is reading the items that pass
 pub reads-from : {X : Type 0} (end : X → ℕ) (test : X → Bool) (read : ℕ → ℕ) (place : ℕ) (xs : List X)
     → ((i : ℕ) → read (place + i) ≡ get_or (map end xs) i 0) → map read (places_from place test xs) ≡ map end (filter test xs)
 reads-from end test read place [] h = refl
@@ -139,7 +139,7 @@ agree true b = b
 agree false true = false
 agree false false = true
 
--- a place before all others is not among them
+-- a place before all others is not among the others
 before-all : {X : Type 0} (test : X → Bool) (p place : ℕ) (ps : List ℕ) (xs : List X) → p < place
     → (same_places (p ∷ ps) (places_from place test xs) ≡ false) × (same_places (places_from place test xs) (p ∷ ps) ≡ false)
 before-all test p place ps [] h = (refl, refl)
@@ -171,7 +171,7 @@ places-agree f g place (x ∷ xs) = either (f x) (g x) (places-agree f g (place 
     either false true h = (before-all f place (place + 1) qs xs (omega arith)).1
     either false false h = h
 
--- whether rules with so many sharp edges name one mask, where the last tells whether their places are the same
+-- whether rules with these numbers of sharp edges give one mask, where the last argument compares their places
 abbrev same_by_counts : ℕ → ℕ → Bool → Bool
 same_by_counts zero m b = nat_lt m 2
 same_by_counts (suc zero) m b = nat_lt m 2
@@ -237,7 +237,7 @@ all-permuted test = same_in_any_order (list_all test) (λ x b. test x && b) (λ 
     swap false true c = refl
     swap false false c = refl
 
--- two rules that are compared name one mask or two, in whatever order the edges stand
+-- whether two rules give one mask does not depend on the order of the edges
 module _ {X : Type 0} (now next : X → Sharpness) (vertex vertex_child : Sharpness) (edges other : List X) (h : IsPermutation edges other) where
   sharp-count : (f : X → Sharpness) → length (places is_sharp (map f edges)) ≡ length (places is_sharp (map f other))
   sharp-count f = count-permuted is_sharp 0 (map f edges) (map f other) (IsPermutation-map f edges other h)
@@ -289,7 +289,7 @@ module _ {X : Type 0} (now next : X → Sharpness) (vertex vertex_child : Sharpn
       subst (λ u. HaveSameWeights whole (if same_mask (vertex_rule vertex (map now other)) (vertex_rule vertex_child (map next other)) then parent_other else transition_mask u parent_other child_other)) (weight-any_order now next vertex vertex_child edges other h)
       (subst (λ b. HaveSameWeights whole (if b then parent_other else transition_mask w parent_other child_other)) same_mask-any_order turn)
 
--- the same where the sharpness in the next level follows from the ring
+-- the order does not matter where the sharpness in the next level follows from the ring
 module _ {X : Type 0} (now : X → Sharpness) (method : Method) where
   next-mapped : (ring : List Sharpness) (some : List X)
       → map (half_child method ring) (map now some) ≡ map (λ x. half_child method ring (now x)) some

@@ -47,7 +47,7 @@ same-bound k a b c d above below same = either (nat_le (k * b) a) (nat_le (k * d
     either false true p q = sym p ∙ le-leb (k * b) a (bound k c d a b below above (sym same) (leb-true (k * d) c q))
     either false false p q = refl
 
--- the sharpness of a fraction depends on its value alone
+-- the sharpness of a fraction depends only on its value
 pub sharpness-same : (x y : ℕ × ℕ) → 0 < x.1 → 0 < y.1 → IsSameFraction x y → sharpness_of_fraction x ≡ sharpness_of_fraction y
 sharpness-same x y above below same = over x.0 x.1 y.0 y.1 above below same
   where

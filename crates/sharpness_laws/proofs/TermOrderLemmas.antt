@@ -1,4 +1,4 @@
--- Masks with the same weights have the same terms up to their order, where each source stands once and no weight is 0.
+-- Masks with the same weights have the same terms up to order, if each source is listed once and no weight is 0.
 use Rattle.std.proofs.Common.{◌≡◌, ◌+◌, ◌<◌, Bool, true, false, not, cond, ◌||◌, nat_lt, if◌then◌else◌, List, [], ◌∷◌, arith, refl, ap, sym, ◌∙◌, subst}
 use Rattle.std.specs.List.{filter, list_all}
 use Rattle.std.specs.List.Sorted.{IsPermutation}
@@ -11,7 +11,7 @@ use Rattle.sharpness_laws.proofs.PermutationLemmas.{first-two}
 use Rattle.sharpness_laws.proofs.JoinedWeightLemmas.{source-refl, source-eq, weight_in-cons}
 use Rattle.sharpness_laws.proofs.SameWeightLemmas.{without, weight_of-own, weight-without}
 
--- what is not there weighs nothing, and to leave it out leaves all
+-- an absent source weighs nothing, and omitting it changes nothing
 weight-absent : (s : SourcePoint) (terms : List Term) → has_source terms s ≡ false → weight_in terms s ≡ 0
 weight-absent s [] h = refl
 weight-absent s (t ∷ terms) h =

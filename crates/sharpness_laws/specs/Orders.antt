@@ -1,4 +1,4 @@
--- What the laws of order speak of: the edges and faces at a vertex in two orders, and the masks and weights that they make.
+-- The edges and faces at a vertex in two orders, and the masks and weights they give, for the laws of order.
 use Rattle.std.specs.Prelude.{ℕ, Bool, List, map}
 use Rattle.std.specs.List.Sorted.{IsPermutation}
 use Rattle.subdiv_model.specs.Sharpness.{Sharpness, Method, uniform_child}
@@ -6,7 +6,7 @@ use Rattle.subdiv_model.specs.Level.{Level, edge_sharpness_of, vertex_sharpness_
 use Rattle.subdiv_model.specs.Rule.{vertex_rule, same_mask, child_ring, transition_weight, transition_overflows}
 use Rattle.subdiv_model.specs.Mask.{Mask, mask_of_rule, mask_of_vertex, other_end}
 
--- a sharpness in a level, and in the next level
+-- a sharpness in a level, and the one in the next level
 abbrev pub Decrement : Type 0
 Decrement = Sharpness × Sharpness
 
@@ -18,7 +18,7 @@ ring_now ring = map (λ edge. edge.0) ring
 abbrev pub ring_next : List Decrement → List Sharpness
 ring_next ring = map (λ edge. edge.1) ring
 
--- the rules of the vertex in both levels name one mask
+-- the rules of the vertex in both levels give the same mask
 abbrev pub has_one_mask : Decrement → List Decrement → Bool
 has_one_mask vertex ring = same_mask (vertex_rule vertex.0 (ring_now ring)) (vertex_rule vertex.1 (ring_next ring))
 
@@ -26,11 +26,11 @@ has_one_mask vertex ring = same_mask (vertex_rule vertex.0 (ring_now ring)) (ver
 abbrev pub weight_between : Decrement → List Decrement → ℕ × ℕ
 weight_between vertex ring = transition_weight vertex.0 vertex.1 (ring_now ring) (ring_next ring)
 
--- that weight is refused
+-- the weight of the transition is refused
 abbrev pub overflows_between : Decrement → List Decrement → Bool
 overflows_between vertex ring = transition_overflows vertex.0 vertex.1 (ring_now ring) (ring_next ring)
 
--- the edges at a vertex, each by its other end and its sharpness, in one level or in two, and the faces there
+-- the edges at a vertex, each by its other end and its sharpness in one level or in two, and the faces at the vertex
 pub record Star (S : Type 0) : Type 0 where
   pub edges : List (ℕ × S)
   pub faces : List ℕ
@@ -48,7 +48,7 @@ ends_of star = map (λ edge. edge.0) star.edges
 abbrev pub ring_of : {S : Type 0} → Star S → List S
 ring_of star = map (λ edge. edge.1) star.edges
 
--- the mask of a vertex by its rule
+-- the mask of a vertex by its rule in one level
 abbrev pub mask_by_rule : Sharpness → ℕ → Star Sharpness → Mask
 mask_by_rule vertex v star = mask_of_rule v (ends_of star) star.faces (vertex_rule vertex (ring_of star))
 
@@ -69,11 +69,11 @@ pub record OrderAt (level : Level) (v : ℕ) : Type 0 where
   pub all_edges : IsPermutation (edges_at level v) edges
   pub all_faces : IsPermutation (faces_at level v) faces
 
--- the sharpness of the edges, in their order
+-- the sharpness of each edge, in the order of the edges
 abbrev pub ring_in : Level → List (ℕ × ℕ) → List Sharpness
 ring_in level edges = map (edge_sharpness_of level) edges
 
--- the mask of a vertex of a level, from its edges and faces in this order
+-- the mask of a vertex of a level, made from its edges and faces in this order
 abbrev pub mask_in_order : Level → ℕ → List (ℕ × ℕ) → List ℕ → Mask
 mask_in_order level v edges faces =
     let vertex = vertex_sharpness_of level v in

@@ -1,7 +1,6 @@
-//! Laws of sharpness, of the rules of a vertex, of the weight between two rules and of the order of what a mask is made from,
-//! and the lemmas on them that other crates cite.
+//! Laws of sharpness and masks: the order of edges, faces and corners at a point does not matter, nor do the terms of fractions.
 //!
-//! Each public function here takes nothing, does nothing and returns nothing: its clauses are the laws.
+//! Each public function has an empty body: its clauses are the laws. The proofs of other crates cite the lemmas behind them.
 #![tactic(auto)]
 
 pub mod masks;

@@ -1,5 +1,4 @@
-//! Laws of masks: neither the order of edges, faces and corners nor the direction of an edge matters, and what the
-//! weights of the sources decide.
+//! Laws of masks: the order of edges, faces and corners and the direction of an edge do not matter; masks of equal weights agree.
 
 ghost use Rattle.std.specs.Prelude.{◌≡◌, ◌*◌, IsTrue, ℕ, List};
 ghost use Rattle.std.specs.List.{sum_by};
@@ -13,16 +12,15 @@ ghost use Rattle.subdiv_model.specs.Refined.{mask_value, mask_denominator};
 ghost use Rattle.sharpness_laws.specs.Orders.{Decrement, Star, IsReordered, OrderAt, has_one_mask, mask_by_rule, mask_between, mask_by_method, mask_in_order};
 ghost use Rattle.sharpness_laws.specs.SameWeights.{HaveSameWeights, is_joined};
 
-/// The mask of a vertex by its rule has the same weights in whatever order its edges and faces stand: each edge
-/// with its other end and its sharpness.
+/// The mask of a vertex by its rule has the same weights in every order of its edges and faces. Each edge keeps its other end and
+/// its sharpness.
 pub fn vertex_rules_follow_the_order()
     ensures { (vertex : Sharpness) (v : ℕ) (star other : Star Sharpness) → IsReordered star other
         → HaveSameWeights (mask_by_rule vertex v star) (mask_by_rule vertex v other) }
 {}
 
-/// The mask of a vertex between two levels has the same weights in whatever order its edges and faces stand: each
-/// edge with its other end, its sharpness now and its sharpness in the next level. Two rules name one mask or two
-/// in every order. At a level the sharpness in the next one follows from the ring.
+/// The mask of a vertex between two levels has the same weights in every order of its edges and faces. Each edge keeps its other
+/// end, its sharpness and its sharpness in the next level. Whether the two rules name one mask does not depend on the order.
 pub fn vertex_masks_do_not_see_the_order()
     ensures same_mask { (vertex : Decrement) (ring other : List Decrement) → IsPermutation ring other
         → has_one_mask vertex ring ≡ has_one_mask vertex other }
@@ -34,26 +32,26 @@ pub fn vertex_masks_do_not_see_the_order()
         → HaveSameWeights (vertex_mask level CatmullClark v) (mask_in_order level v order.edges order.faces) }
 {}
 
-/// The mask of an edge has the same weights in either direction of the edge, and in whatever order its faces stand.
+/// The mask of an edge has the same weights in both directions of the edge and in every order of its faces.
 pub fn edge_masks_do_not_see_the_direction()
     ensures { (s : Sharpness) (a b : ℕ) (faces others : List ℕ) → IsPermutation faces others
         → HaveSameWeights (mask_of_edge s (a, b) faces) (mask_of_edge s (b, a) others) }
 {}
 
-/// The mask of a face has the same weights in whatever order its corners stand.
+/// The mask of a face has the same weights in every order of its corners.
 pub fn face_masks_do_not_see_the_order()
     ensures { (corners other : Polygon) → IsPermutation corners other
         → HaveSameWeights (mask_of_corners corners) (mask_of_corners other) }
 {}
 
-/// Masks with the same weights have one sum of all weights, and one sum of all amounts that the weights multiply.
+/// Masks with the same weights have the same sum of weights, and the same sum of weights times numbers.
 pub fn same_weights_have_one_sum()
     ensures total { (m n : Mask) → HaveSameWeights m n → total_weight m.terms ≡ total_weight n.terms }
     ensures sum { (m n : Mask) (f : SourcePoint → ℕ) → HaveSameWeights m n
         → sum_by (λ t. t.weight * f t.source) m.terms ≡ sum_by (λ t. t.weight * f t.source) n.terms }
 {}
 
-/// Each mask lists each of its sources once, with a weight above 0.
+/// Each mask lists each source once, with a weight above 0.
 pub fn masks_are_joined()
     ensures mask_of { (terms : List Term) (denominator : ℕ) → IsTrue (is_joined (mask_of terms denominator)) }
     ensures corners { (corners : Polygon) → IsTrue (is_joined (mask_of_corners corners)) }
@@ -62,8 +60,8 @@ pub fn masks_are_joined()
         → IsTrue (is_joined (mask_of_vertex vertex vertex_child ring ring_child v ends faces)) }
 {}
 
-/// Two joined masks with the same weights have the same terms up to their order. So they have one value, unreduced,
-/// whatever the values of the sources, and one denominator for all controls.
+/// Two joined masks with the same weights have the same terms up to order. They have the same value, unreduced, for all values of
+/// the sources, and the same common denominator.
 pub fn same_weights_have_one_value()
     ensures terms { (m n : Mask) → IsTrue (is_joined m) → IsTrue (is_joined n) → HaveSameWeights m n → IsPermutation m.terms n.terms }
     ensures value { (m n : Mask) (value : SourcePoint → Value) → IsTrue (is_joined m) → IsTrue (is_joined n) → HaveSameWeights m n

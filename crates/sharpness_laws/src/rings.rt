@@ -9,14 +9,14 @@ ghost use Rattle.subdiv_model.specs.Rule.{child_ring, at_most_one};
 ghost use Rattle.sharpness_laws.specs.Orders.{Decrement, weight_between, overflows_between};
 ghost use Rattle.sharpness_laws.specs.SameFraction.{IsSameFraction};
 
-/// The sum of fractions and their common denominator are the same in any order.
+/// The sum of fractions and their common denominator do not depend on the order of the fractions.
 pub fn sums_do_not_see_the_order()
     ensures sum { (values other : List (ℕ × ℕ)) → IsPermutation values other → sum_of_fractions values ≡ sum_of_fractions other }
     ensures denominator { (values other : List (ℕ × ℕ)) → IsPermutation values other
         → common_denominator values ≡ common_denominator other }
 {}
 
-/// The half of an edge has one sharpness, and is refused or not, in whatever order the edges at the vertex stand.
+/// The sharpness of the half of an edge, and whether it is refused, do not depend on the order of the edges at the vertex.
 pub fn chaikin_children_do_not_see_the_order()
     ensures child { (ring other : List Sharpness) (s : Sharpness) → IsPermutation ring other
         → chaikin_child_of ring s ≡ chaikin_child_of other s }
@@ -27,8 +27,8 @@ pub fn chaikin_children_do_not_see_the_order()
         → IsPermutation (child_ring method ring) (child_ring method other) }
 {}
 
-/// The weight of a transition is one, and is refused or not, in whatever order the edges at the vertex stand: each
-/// with its sharpness in this level and in the next.
+/// The weight of a transition, and whether it is refused, do not depend on the order of the edges at the vertex. Each edge keeps
+/// its sharpness in this level and in the next.
 pub fn transition_weights_do_not_see_the_order()
     ensures weight { (vertex : Decrement) (ring other : List Decrement) → IsPermutation ring other
         → weight_between vertex ring ≡ weight_between vertex other }
@@ -36,8 +36,7 @@ pub fn transition_weights_do_not_see_the_order()
         → overflows_between vertex ring ≡ overflows_between vertex other }
 {}
 
-/// Equal fractions name one sharpness and one weight, and a sum of equal value gives an equal child, whatever terms
-/// they stand in.
+/// Equal fractions give the same sharpness, the same weight and the same child, whatever their terms.
 pub fn equal_fractions_are_one_sharpness()
     ensures sharpness { (x y : ℕ × ℕ) → 0 < x.1 → 0 < y.1 → IsSameFraction x y → sharpness_of_fraction x ≡ sharpness_of_fraction y }
     ensures weight { (x y : ℕ × ℕ) → 0 < x.1 → 0 < y.1 → IsSameFraction x y → at_most_one x ≡ at_most_one y }

@@ -119,7 +119,7 @@ cut-next name base cut is = record {
   holes = (next-same base cut (cut-faces name base cut is)).holes;
 }
 
--- and so is each level after it
+-- each level after a cut is a cut
 pub cut-after : (name : ℕ → ℕ) (base cut : Level) → IsCutOf name base cut → (k : ℕ) → (names : ℕ → ℕ) × IsCutOf names (refined_level base k) (refined_level cut k)
 cut-after name base cut is zero = (name, is)
 cut-after name base cut is (suc k) =

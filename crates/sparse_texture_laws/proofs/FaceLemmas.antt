@@ -27,7 +27,7 @@ module _ (points : ℕ) (polygons : List Polygon) where
       ∙ ap (λ sizes. sizes ++ map length (children_from points polygons (place + 1) some)) (along-sizes place (last_of (0, 0) (sides_of polygon)) (sides_of polygon) ∙ ap (λ n. replicate n 4) (sides_of-length polygon))
       ∙ ap (λ sizes. replicate (length polygon) 4 ++ sizes) (children-sizes (place + 1) some)
 
--- what is said of each face once for each of its corners
+-- an item of each face, once for each of its corners
 abbrev spread : {X : Type 0} → (ℕ → X) → ℕ → List Polygon → List X
 spread f place polygons = flat_map (λ face. replicate (length face.1) (f face.0)) (enumerate_from place polygons)
 
@@ -42,7 +42,7 @@ spread-same f place (polygon ∷ some) (other ∷ others) e =
 pub children-same : (some others : List Polygon) (faces : List ℕ) → map length some ≡ map length others → children_of some faces ≡ children_of others faces
 children-same some others faces e = ap (places (is_among faces)) (spread-same (λ face. face) 0 some others e)
 
--- there are as many faces
+-- both levels have as many faces
 pub count-same : (base cut : Level) → HaveSameFaces base cut → length cut.polygons ≡ length base.polygons
 count-same base cut same = sym (length-map cut.polygons length) ∙ ap length same.sizes ∙ length-map base.polygons length
 

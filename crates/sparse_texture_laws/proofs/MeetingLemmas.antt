@@ -19,15 +19,15 @@ use Rattle.sparse_laws.proofs.SelectedLemmas.{selected-chosen}
 use Rattle.sparse_texture_laws.specs.Selection.{IsSelection, is_chosen, is_chosen_in, is_selected_kind, selected_numbers}
 use Rattle.sparse_texture_laws.proofs.SelectionLemmas.{kept-among, filter-agree, selected-among}
 
--- the test by the numbers of all levels agrees with them at each level
+-- the test by the numbers of all levels selects these numbers at each level
 pub selection-agrees : (base : Level) (depth : ℕ) (numbers : List (List ℕ)) → IsSelection base depth numbers → (k : ℕ) → k < depth → get_or numbers k [] ≡ meeting_of (is_chosen_in numbers) base k
 selection-agrees base depth numbers is k h = is.each k h
 
--- and so does the test by the numbers of that level alone
+-- the test by the numbers of one level selects the same faces
 pub numbers-agree : (base : Level) (depth : ℕ) (numbers : List (List ℕ)) → IsSelection base depth numbers → (k : ℕ) → k < depth → get_or numbers k [] ≡ meeting_of (is_chosen (get_or numbers k [])) base k
 numbers-agree base depth numbers is k h = is.each k h
 
--- so it is the predicate of the test
+-- the selection is the predicate of the test
 pub selection-meeting : (base : Level) (depth : ℕ) (numbers : List (List ℕ)) → IsSelection base depth numbers → meeting_to (is_chosen_in numbers) base depth ≡ numbers
 selection-meeting base depth numbers is =
     let of : ℕ → List ℕ = meeting_of (is_chosen_in numbers) base in

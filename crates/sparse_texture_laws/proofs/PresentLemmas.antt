@@ -67,7 +67,7 @@ pub inner-there : (base cut : Level) → HaveSameFaces base cut → (meeting : M
 inner-there base cut same meeting depth k n h there =
     inner-present cut (selected_to base meeting depth) k n (ap (λ ns. is_among ns n) (cut-inner base cut same meeting depth k h) ∙ there)
 
--- and what is present in the cut level is present in the other
+-- a face present in the cut level is present in the other
 pub present-there : (name : ℕ → ℕ) (base cut : Level) → IsCutOf name base cut → (meeting : Meeting) (depth k n : ℕ) → k ≤ depth → is_among (present cut (selected_to base meeting depth) k) n ≡ true → is_among (present base meeting k) n ≡ true
 present-there name base cut is meeting depth zero n h there = ap (λ count. is_among (range_with_len 0 count) n) (sym (count-same base cut (cut-faces name base cut is))) ∙ there
 present-there name base cut is meeting depth (suc k) n h there =

@@ -1,4 +1,4 @@
-//! Laws of a cut level: it refines as the level that it is a cut of, and its present faces are among those of that level.
+//! Laws of cut levels: a cut level refines like the level it cuts, and its present faces are present in that level.
 
 ghost use Rattle.std.specs.Prelude.{ℕ, IsTrue};
 ghost use Rattle.subdiv_model.specs.Level.{Level};
@@ -9,14 +9,14 @@ ghost use Rattle.subdiv_model.specs.Cut.{SeamMode, cut_level};
 ghost use Rattle.texture_laws.specs.CutMesh.{vertex_of};
 ghost use Rattle.sparse_texture_laws.specs.Cut.{HaveSameFaces, IsCutOf, CutFace, is_inner, is_present, is_present_in_cut};
 
-/// Level 0 of the cut mesh of a mesh is a cut of level 0 of the mesh: each of its points stands for the vertex that it is at. So both
-/// have as many faces, each with as many corners, and the same of them are holes.
+/// Level 0 of the cut mesh is a cut of level 0 of the mesh: each of its points represents its vertex. Both levels have as many
+/// faces, each with as many corners, and the same holes.
 pub fn cut_meshes_are_cuts_of_the_mesh()
     ensures cut { (mode : SeamMode) (mesh : ObjMesh) → IsCutOf (vertex_of mesh) (base_level mesh) (cut_level mode mesh) }
     ensures faces { (mode : SeamMode) (mesh : ObjMesh) → HaveSameFaces (base_level mesh) (cut_level mode mesh) }
 {}
 
-/// A cut of a level has the faces of that level, and so do the levels after it. Each level of the cut is a cut of that level's.
+/// If a level is a cut of another, so are their levels after equally many steps, and they have the same faces.
 pub fn cuts_refine_to_cuts()
     ensures faces { (name : ℕ → ℕ) (base cut : Level) → IsCutOf name base cut → HaveSameFaces base cut }
     ensures same { (base cut : Level) (k : ℕ) → HaveSameFaces base cut → HaveSameFaces (refined_level base k) (refined_level cut k) }
@@ -24,8 +24,8 @@ pub fn cuts_refine_to_cuts()
         → (names : ℕ → ℕ) × IsCutOf names (refined_level base k) (refined_level cut k) }
 {}
 
-/// Where the selected faces of a level are selected of a cut of it, each child of a selected face is present in the cut's next level,
-/// and each face that is present in a level of the cut is present in that level's.
+/// Let a cut use the selected faces of a level. Then each child of a selected face is present in the next level of the cut. Each
+/// face present in the cut is present in the level too.
 pub fn present_faces_of_cuts_are_present()
     ensures inner { (at : CutFace) → HaveSameFaces at.base at.cut → IsTrue (is_inner at) → IsTrue (is_present_in_cut at) }
     ensures present { (name : ℕ → ℕ) (at : CutFace) → IsCutOf name at.base at.cut → IsTrue (is_present_in_cut at) → IsTrue (is_present at) }

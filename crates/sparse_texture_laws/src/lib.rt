@@ -1,6 +1,6 @@
-//! Laws of the sparse levels of a texture: they select the faces that the mesh selects.
+//! Laws of sparse texture levels: the sparse levels of a texture select the faces that the sparse levels of the mesh select.
 //!
-//! Each public function here takes nothing, does nothing and returns nothing: its clauses are the laws.
+//! Each public function has an empty body: its clauses are the laws.
 #![tactic(auto)]
 
 pub mod cuts;

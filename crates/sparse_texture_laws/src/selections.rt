@@ -1,4 +1,4 @@
-//! Laws of selections: the selected faces of a mesh, taken by their numbers in a level with the same faces.
+//! Laws of selections: the faces selected in one level, taken by number in another level with the same faces.
 
 ghost use Rattle.std.specs.Prelude.{◌≡◌, ℕ, ◌<◌, ◌≤◌, List};
 ghost use Rattle.subdiv_model.specs.Level.{Level};
@@ -13,7 +13,7 @@ pub fn selected_faces_are_a_selection()
     ensures { (base cut : Level) (meeting : Meeting) (depth : ℕ) → HaveSameFaces base cut → IsSelection cut depth (selected_to base meeting depth) }
 {}
 
-/// A level with the same faces has the same selected faces where these are taken by their numbers, and so the same inner faces.
+/// A level with the same faces, selected by number, has the same selected faces and the same inner faces.
 pub fn faces_are_selected_by_their_numbers()
     ensures selected { (base cut : Level) (meeting : Meeting) (depth k : ℕ) → HaveSameFaces base cut → k < depth
         → selected cut (selected_to base meeting depth) k ≡ selected base meeting k }
@@ -21,12 +21,12 @@ pub fn faces_are_selected_by_their_numbers()
         → inner cut (selected_to base meeting depth) k ≡ inner base meeting k }
 {}
 
-/// A selection is the predicate of the test of faces by their numbers.
+/// A selection is the predicate of a test: the test accepts the faces whose numbers are listed.
 pub fn selections_are_predicates()
     ensures { (base : Level) (depth : ℕ) (numbers : List (List ℕ)) → IsSelection base depth numbers → meeting_to (is_chosen_in numbers) base depth ≡ numbers }
 {}
 
-/// The faces that a level is written with as selected are the selected faces.
+/// The output of a level lists as selected exactly the selected faces.
 pub fn written_levels_show_the_selected_faces()
     ensures { (base : Level) (meeting : Meeting) (depth : ℕ) → selected_numbers (written_level base meeting depth) ≡ selected base meeting depth }
 {}

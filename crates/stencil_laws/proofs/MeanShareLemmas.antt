@@ -28,7 +28,7 @@ use Rattle.stencil_laws.proofs.RowLemmas.{term_row, mask_row, corner_row, source
 use Rattle.stencil_laws.proofs.ShareLemmas.{factors-positive, share-row}
 use Rattle.stencil_laws.proofs.OutsideLemmas.{own-support}
 
--- the shares of so many controls in a point sum to its denominator, and those of its support are above 0
+-- the shares of n control points in a point sum to its denominator, and those of its support are above 0
 record AreShares (n den : ℕ) (share : ℕ → ℕ) (support : List ℕ) : Type 0 where
   positive : 0 < den
   total : sum_by share (range_with_len 0 n) ≡ den

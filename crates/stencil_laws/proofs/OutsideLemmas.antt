@@ -1,4 +1,4 @@
--- A control has no share in a point outside whose support it stands.
+-- A control point outside the support of a point has no share in it.
 use Rattle.std.proofs.Common.{◌≡◌, ℕ, zero, suc, ◌*◌, ◌/◌, ◌<◌, false, nat_eq, List, [], ◌∷◌, map, get_or, arith, refl, ap, sym, ◌∙◌, inl, inr, zero-add}
 use Rattle.std.specs.List.{list_any, sum_by, range_with_len}
 use Rattle.std.proofs.lemmas.Bool.{cases_lt, cases_eq, or_parts, cond-false}
@@ -42,7 +42,7 @@ module _ (n v : ℕ) (inside : v < n) where
     source-outside (OfPoint p) h = each p h
     source-outside (OfFace f) h = mask-outside (corner_denominator dens) (corner_row rows) (corner_support supports) corner-outside (face_mask level f) h
 
--- the support of a control is the control alone
+-- the support of a control point is the point itself
 pub own-support : (n p : ℕ) → p < n → get_or (map (λ v. v ∷ []) (range_with_len 0 n)) p [] ≡ p ∷ []
 own-support n p h = get_or-map-range_with_len (λ v. v ∷ []) 0 n p p [] h (zero-add p)
 

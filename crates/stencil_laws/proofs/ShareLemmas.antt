@@ -90,7 +90,7 @@ unit-sum share n v h =
     ∙ ap (λ z. pos (share v) *ℤ z) (unit-own n v h)
     ∙ times-one (pos (share v))
 
--- no control of so many is 1
+-- a number past the control points has no unit among them
 unit-none : (share : ℕ → ℕ) (n v : ℕ) → n ≤ v → sum_of_shares share (unit_controls n v) (range_with_len 0 n) ≡ pos 0
 unit-none share n v h =
     over-same (λ w. pos (share w) *ℤ get_or (unit_controls n v) w (pos 0)) (λ w. pos 0) 0 n (λ w low high. ap (λ z. pos (share w) *ℤ z) (unit-other n v w (λ e. omega arith)) ∙ *ℤ-zero (pos (share w)))
@@ -125,7 +125,7 @@ module _ (level : Level) (scheme : Scheme) (k p : ℕ) where
   pub share-row : (v : ℕ) → 0 < den → v < level.point_count → stencil_numerator level scheme k p v ≡ row v
   share-row v positive inside = share-is v (row v) positive (unit-sum row level.point_count v inside)
 
-  -- what is no control has no share
+  -- a number past the control points has no share
   pub share-past : (v : ℕ) → level.point_count ≤ v → stencil_numerator level scheme k p v ≡ 0
   share-past v past =
       elim (cases_eq den 0) [

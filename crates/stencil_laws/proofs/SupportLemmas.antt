@@ -47,7 +47,7 @@ pub supports-inside : (level : Level) (scheme : Scheme) (k : ℕ) → All (All (
 supports-inside level scheme =
     supports-all level scheme (All (λ v. v < level.point_count)) (λ v inside. All-from_recursion (λ w. w < level.point_count) (v ∷ []) (inside, tt)) (λ p. below-kept p level.point_count)
 
--- there is a mask, and so a support, for each point of the next level
+-- each point of the next level has a mask, and so a support
 pub length-child_masks : (level : Level) (scheme : Scheme) → length (child_masks level scheme) ≡ (child_level level).point_count
 length-child_masks level scheme =
     let vertices = map (vertex_mask level scheme) (range_with_len 0 level.point_count) in
@@ -82,7 +82,7 @@ module _ (n : ℕ) (controls others : List ℤ) (outside : (v : ℕ) → n ≤ v
     parts-agree support terms (λ v below among. h v below (or_right _ _ among)),
   )
 
-  -- so do the values of a mask, whose sources have equal values where the controls agree at their supports
+  -- values of a mask agree if the controls agree at the supports of its sources
   module _ (support : SourcePoint → List ℕ) (value other : SourcePoint → Value) (same : (source : SourcePoint) → Agree (support source) → value source ≡ other source) where
     terms-agree : (q : ℕ) (terms : List Term) → AllByRecursion (λ t. Agree (support t.source)) terms → sum_of_values (map (λ t. weighted t.weight q (value t.source)) terms) ≡ sum_of_values (map (λ t. weighted t.weight q (other t.source)) terms)
     terms-agree q [] h = refl

@@ -1,4 +1,4 @@
--- A sum over the controls of a support is that over all controls, where what is outside is 0.
+-- A sum over the support is the sum over all control points, if the others add 0.
 use Rattle.std.proofs.Common.{◌≡◌, ℕ, zero, suc, ◌<◌, Bool, false, unsigned_abs, ℤ, pos, ◌+ℤ◌, ◌*ℤ◌, List, [], ◌∷◌, length, get_or, arith, refl, ap, sym, ◌∙◌, IsTrue}
 use Rattle.std.specs.List.{AllByRecursion, filter, sum_by, range_with_len}
 use Rattle.std.proofs.lemmas.Bool.{and_left, cond_both, or_from, ne_eqb}

@@ -18,13 +18,13 @@ among-range v a (suc n) = grind (arith, nat_tests, among-range v (a + 1) n)
 pub among-kept : (p : ℕ → Bool) (xs : List ℕ) (v : ℕ) → is_among (filter p xs) v ≡ (p v && is_among xs v)
 among-kept p xs v = any-filter_same (nat_eq v) p (p v) (λ w h. ap p (sym (eqb-true v w h))) xs
 
--- of so many controls a union lists those that stand in one of the lists
+-- a union lists the numbers that are in one of the lists
 pub among-union : (n : ℕ) (lists : List (List ℕ)) (v : ℕ) → v < n → is_among (union_of n lists) v ≡ list_any (λ list. is_among list v) lists
 among-union n lists v h =
     let in_one = list_any (λ list. is_among list v) lists in
     among-kept (λ w. list_any (λ list. is_among list w) lists) (range_with_len 0 n) v ∙ ap (λ b. in_one && b) (among-range v 0 n) ∙ grind (arith, nat_tests)
 
--- and nothing else
+-- a union lists only numbers below n
 pub union-below : (n : ℕ) (lists : List (List ℕ)) (v : ℕ) → is_among (union_of n lists) v ≡ true → v < n
 union-below n lists v h =
     let in_one = list_any (λ list. is_among list v) lists in

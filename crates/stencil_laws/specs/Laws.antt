@@ -1,5 +1,5 @@
--- What the laws of supports and shares speak of: a refined point, its support, its value, and the shares of controls in it.
--- Source: this profile.
+-- A refined point, its support, its value and the shares of control points, for the laws of supports.
+-- Source: Drillolive.
 use Rattle.std.specs.Prelude.{◌≡◌, ℕ, ◌<◌, ℤ, pos, List, [], get_or, IsTrue}
 use Rattle.subdiv_model.specs.Polygons.{is_among}
 use Rattle.subdiv_model.specs.Level.{Level}
@@ -11,22 +11,22 @@ use Rattle.subdiv_model.specs.Support.{refined_supports, stencil_numerator}
 use Rattle.mask_laws.specs.Laws.{HasMeansInSteps}
 use Rattle.stencil_laws.specs.Rows.{value_of_shares}
 
--- a point, by its number, after so many steps of a scheme from a level
+-- a point, by its number, after a number of steps of a scheme from a level
 pub record RefinedPoint : Type 0 where
   pub level : Level
   pub scheme : Scheme
   pub steps : ℕ
   pub number : ℕ
 
--- the number is that of a point of the level after the steps
+-- the level after the steps has a point of this number
 abbrev pub IsInLevel : RefinedPoint → Type 0
 IsInLevel point = point.number < (refined_level point.level point.steps).point_count
 
--- the masks of each step to the point are means
+-- the masks of each step up to the point are means
 abbrev pub IsMadeByMeans : RefinedPoint → Type 0
 IsMadeByMeans point = HasMeansInSteps point.level point.scheme point.steps
 
--- the controls that the point depends on
+-- the control points that the point depends on
 abbrev pub support_of : RefinedPoint → List ℕ
 support_of point = get_or (refined_supports point.level point.scheme point.steps) point.number []
 
@@ -34,18 +34,18 @@ support_of point = get_or (refined_supports point.level point.scheme point.steps
 abbrev pub denominator_of : RefinedPoint → ℕ
 denominator_of point = get_or (refined_denominators point.level point.scheme point.steps) point.number 1
 
--- the share of a control in the point
+-- the share of a control point in the point
 abbrev pub share_of : RefinedPoint → ℕ → ℕ
 share_of point control = stencil_numerator point.level point.scheme point.steps point.number control
 
--- the value of the point, refined from control numbers
+-- the value of the point, refined from the control numbers
 abbrev pub value_of : RefinedPoint → List ℤ → Value
 value_of point numbers = point_value (refined_values point.level point.scheme (control_values numbers) point.steps) point.number
 
--- the value that the shares of these controls in the point make
+-- the value that the shares of the listed control points give the point
 abbrev pub value_by_shares : RefinedPoint → List ℤ → List ℕ → Value
 value_by_shares point numbers controls = value_of_shares point.level point.scheme numbers point.steps point.number controls
 
--- each of these controls has one number in both lists
+-- both lists have the same number at each of these control points
 abbrev pub AgreeAt : List ℕ → List ℤ → List ℤ → Type 0
 AgreeAt controls numbers others = (v : ℕ) → IsTrue (is_among controls v) → get_or numbers v (pos 0) ≡ get_or others v (pos 0)

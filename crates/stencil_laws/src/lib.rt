@@ -1,6 +1,6 @@
-//! Laws of supports and stencil rows, and the lemmas on them that other crates cite.
+//! Laws of supports and stencil rows: which control points a refined point depends on, and with which shares.
 //!
-//! Each public function here takes nothing, does nothing and returns nothing: its clauses are the laws.
+//! Each public function has an empty body: its clauses are the laws. The proofs of other crates cite the lemmas behind them.
 #![tactic(auto)]
 
 pub mod rows;

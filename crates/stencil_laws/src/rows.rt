@@ -12,27 +12,27 @@ ghost use Rattle.subdiv_model.specs.Support.{entries_after, refined_supports};
 ghost use Rattle.mask_laws.specs.Laws.{Controls, IsManifoldWithSharpBoundary};
 ghost use Rattle.stencil_laws.specs.Laws.{RefinedPoint, IsInLevel, IsMadeByMeans, AgreeAt, support_of, denominator_of, share_of, value_of, value_by_shares};
 
-/// Controls that agree at the support of a point give it one value, whatever they are elsewhere.
+/// A refined point depends on the control points of its support only: others can change without changing its value.
 pub fn values_depend_on_supports_alone()
     ensures { (point : RefinedPoint) (controls others : Controls point.level) → AgreeAt (support_of point) controls.numbers others.numbers
         → value_of point controls.numbers ≡ value_of point others.numbers }
 {}
 
-/// A support lists controls of level 0, each once, ascending.
+/// A support lists control points of level 0, each once, in ascending order.
 pub fn supports_list_each_control_once()
     ensures ascending { (level : Level) (scheme : Scheme) (k : ℕ) → All IsStrictlyIncreasing (refined_supports level scheme k) }
     ensures once { (level : Level) (scheme : Scheme) (k : ℕ) → All (λ support. IsTrue (is_distinct support)) (refined_supports level scheme k) }
     ensures controls { (level : Level) (scheme : Scheme) (k : ℕ) → All (All (λ v. v < level.point_count)) (refined_supports level scheme k) }
 {}
 
-/// Each point of the level after k steps has a support, and the entries of the level are the controls in them all.
+/// Each point after k steps has a support, and the number of entries of the level is the total size of these supports.
 pub fn entries_are_the_sizes_of_supports()
     ensures entries { (level : Level) (scheme : Scheme) (k : ℕ) → entries_after level scheme k ≡ sum_by length (refined_supports level scheme k) }
     ensures points { (level : Level) (scheme : Scheme) (k : ℕ) → length (refined_supports level scheme k) ≡ (refined_level level k).point_count }
 {}
 
-/// The value of a point is the sum of shares times control numbers, over the common denominator of the point: the sum
-/// over all control points, and that over its support.
+/// The value of a refined point is the sum of shares times control numbers, over the common denominator of the point. The sum
+/// over all control points and the sum over the support are the same.
 pub fn shares_make_the_value()
     ensures all { (point : RefinedPoint) (controls : Controls point.level) → IsSameValue (value_of point controls.numbers)
         (value_by_shares point controls.numbers (range_with_len 0 point.level.point_count)) }
@@ -40,9 +40,8 @@ pub fn shares_make_the_value()
         (value_by_shares point controls.numbers (support_of point)) }
 {}
 
-/// A control has no share in a point outside whose support it stands. Where the masks of each step are means, each
-/// control of the support has a share above 0, and the shares sum to the common denominator of the point: all of them,
-/// and those of the support. So it is at a manifold whose boundary is infinitely sharp.
+/// A control point outside the support has share 0. If the masks of each step are means, each share in the support is above 0,
+/// and the shares sum to the point's denominator. Manifolds whose boundary is infinitely sharp have such masks.
 pub fn shares_outside_the_support_are_none()
     ensures outside { (point : RefinedPoint) (v : ℕ) → is_among (support_of point) v ≡ false → share_of point v ≡ 0 }
     ensures inside { (point : RefinedPoint) (v : ℕ) → IsMadeByMeans point → IsTrue (is_among (support_of point) v) → 0 < share_of point v }

@@ -1,4 +1,4 @@
--- What `apply` answers where a mesh stands behind its own table.
+-- The answer of `apply` if a mesh follows its own table.
 use Rattle.std.proofs.Common.{◌≡◌, None, refl, ap, ◌∙◌}
 use Rattle.std.specs.List.{flat_map}
 use Rattle.subdiv_model.specs.Base.{base_level}

@@ -1,4 +1,4 @@
--- What is read as a table is the text of the table.
+-- Bytes that are read as a table begin with the text of the table.
 use Rattle.std.proofs.Common.{◌≡◌, ℕ, zero, suc, ◌+◌, ◌^◌, ◌≤◌, Bool, true, false, not, nat_eq, nat_le, nat_lt, List, [], ◌∷◌, ◌++◌, length, get_or, bytes_eq, arith, lit≤, refl, ap, sym, subst, ◌∙◌, append_assoc, append-nil, le_trans, leb-true, ltb-false, eqb-true, true≢false, Some, None, Option, Result, Ok, Err, is_ok}
 use Rattle.std.specs.Prelude.{codes}
 use Rattle.std.specs.List.{All, AllByRecursion, flat_map}
@@ -32,7 +32,7 @@ ok-same x y e = ap (λ (r : Result Reading TableFault). reading_or x r) e
     reading_or given (Ok reading) = reading
     reading_or given (Err fault) = given
 
--- what is read behind some rows: further ones, of which the bytes are the text
+-- the further rows read after some rows, and the bytes of their text
 record AreRead (header : Header) (left : ℕ) (done : List Row) (bytes : List ℕ) (reading : Reading) : Type 0 where
   rows : List Row
   count : length rows ≡ left
@@ -130,7 +130,7 @@ turned : (b : Bool) → not b ≡ false → b ≡ true
 turned true h = refl
 turned false h = absurd (true≢false h)
 
--- the bytes are the text of the table that is read, and what is left; the table is stored
+-- the bytes are the text of a stored table, then the bytes that are left
 pub record IsRead (bytes : List ℕ) (reading : Reading) : Type 0 where
   pub text : bytes ≡ text_of_table reading.table ++ reading.rest
   pub stored : IsStored reading.table

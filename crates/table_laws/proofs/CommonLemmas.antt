@@ -31,7 +31,7 @@ module _ (kind : Words → Bool) (start : ℕ) where
   not-wide true false cause none is = refl
   not-wide false passes cause none is = absurd (true≢false (sym is))
 
-  -- the first lines are within the bound where none of them is a fault
+  -- the first lines are within the bound if no line has a fault
   first-within : (lines : List Words) → passes_bound kind start [] ≡ false → ((i : ℕ) → i < length lines → wide_fault kind start lines i ≡ None)
       → (n : ℕ) → n ≤ length lines → passes_bound kind start (take n lines) ≡ false
   first-within lines low none zero few = low
@@ -49,7 +49,7 @@ module _ (kind : Words → Bool) (start : ℕ) where
       step true e here more before = here e
       step false e here more before = ap (passes_bound kind start) more ∙ bound-same (take n lines) (get_or lines n []) e ∙ before
 
-  -- and so are all lines without a late fault
+  -- all lines without a late fault are within the bound
   all-within : (lines : List Words) → passes_bound kind start [] ≡ false → late_fault kind start lines ≡ None → passes_bound kind start lines ≡ false
   all-within lines low none = go (passes_bound kind start lines) refl none
     where

@@ -59,7 +59,7 @@ difference-none a b = (there (nat_eq a.controls b.controls) refl, λ same. subst
         ∙ ap (λ (rows : List Row). record { controls = b.controls; rows = rows }) (none-same 0 a.rows b.rows none)
     there false e none = absurd (no-some none)
 
--- so many rows are the same, and then one list has no row or another one
+-- a number of rows are equal, then one list ends or the rows differ
 record DifferAfter (at row : ℕ) (xs ys : List Row) : Type 0 where
   count : ℕ
   place : row ≡ at + count

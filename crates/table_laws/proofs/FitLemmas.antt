@@ -56,7 +56,7 @@ pub no-fault-where : (stands : Bool) (fault : Fault) → fault_where stands faul
 no-fault-where false fault none = refl
 no-fault-where true fault none = let long = ap length none in absurd (omega (arith, long))
 
--- What is known of a mesh of which no table is refused.
+-- Facts of a mesh whose table is not refused.
 
 -- nothing is wrong with the text, and no table has a fault
 pub record IsComposed (depth : ℕ) (fault : Option ObjFault) (mesh : ObjMesh) : Type 0 where

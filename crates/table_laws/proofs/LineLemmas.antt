@@ -75,7 +75,7 @@ spaced-lf (word ∷ words) are =
     let parts = and_parts (is_word word) (are_words words) are in
     list_all-append (λ b. not (is_lf b)) word (spaced words) ∙ and_from (lacks_lf word) (lacks_lf (spaced words)) (word-lf word parts.0) (spaced-lf words parts.1)
 
--- what is read of bytes that begin with a line of words
+-- the words and the rest of bytes that begin with a line
 pub record IsFirstLine (bytes : List ℕ) (words : List (List ℕ)) (rest : List ℕ) : Type 0 where
   pub closed : has_line bytes ≡ true
   pub words_read : first_words bytes ≡ words
@@ -111,7 +111,7 @@ line-read word words rest is are =
       behind = ap behind_line text ∙ cut.behind;
     }
 
--- bytes with LF are their first line, LF, and what stands behind it
+-- bytes with LF are their first line, LF, and the bytes after it
 found-at : (bytes : List ℕ) → has_line bytes ≡ true → position_or_len is_lf bytes < length bytes
 found-at [] some = absurd (true≢false (sym some))
 found-at (b ∷ bytes) some = here (is_lf b) refl some (found-at bytes)
@@ -133,7 +133,7 @@ joined : (word : List ℕ) (words : List (List ℕ)) → join_with_byte 32 (word
 joined word [] = sym (append-nil word)
 joined word (next ∷ words) = ap (λ text. word ++ 32 ∷ text) (joined next words)
 
--- bytes that begin with a line are the text of its words, and what stands behind it
+-- bytes that begin with a line are the text of its words, and the bytes after it
 pub line-again : (bytes word : List ℕ) (words : List (List ℕ)) → has_line bytes ≡ true → first_words bytes ≡ word ∷ words
     → bytes ≡ line_text word words ++ behind_line bytes
 line-again bytes word words some read =

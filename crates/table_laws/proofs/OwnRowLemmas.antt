@@ -18,7 +18,7 @@ use Rattle.stencil_laws.proofs.MeanShareLemmas.{share-above}
 use Rattle.stencil_laws.proofs.SupportLemmas.{length-supports, supports-ascending, supports-inside}
 use Rattle.stencil_laws.proofs.SupportSumLemmas.{support-total}
 
--- each item of a list is among them
+-- a list contains each of its items
 among-all : (whole xs : List ℕ) → ((v : ℕ) → is_among xs v ≡ true → is_among whole v ≡ true) → AllByRecursion (λ v. is_among whole v ≡ true) xs
 among-all whole [] kept = tt
 among-all whole (x ∷ xs) kept = (

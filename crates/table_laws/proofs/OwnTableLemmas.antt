@@ -1,4 +1,4 @@
--- The table of a mesh of which nothing is refused is stored.
+-- The table of a mesh without refusal is a stored table.
 use Rattle.std.proofs.Common.{◌≡◌, ℕ, zero, suc, ◌^◌, ◌≤◌, true, false, nat_lt, List, [], ◌∷◌, length, map, get_or, arith, refl, sym, subst, ◌∙◌, ltb-false, lit≤, le_trans, None}
 use Rattle.std.specs.List.{AllByRecursion, list_any, enumerate_from, range_with_len, sum_by}
 use Rattle.std.proofs.lemmas.Bool.{or_parts}

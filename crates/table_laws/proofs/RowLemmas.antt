@@ -23,7 +23,7 @@ row_words row = number_text row.den ∷ flat_map share_words row.shares
 pub number-plain : (n : ℕ) → is_word (number_text n) ≡ true
 number-plain n = digits-word (number_text n) (text-of n).digits
 
--- they are words, and numbers
+-- the words of shares are words of numbers
 shares-plain : (shares : List Share) → are_words (flat_map share_words shares) ≡ true
 shares-plain [] = refl
 shares-plain (share ∷ shares) =
@@ -58,7 +58,7 @@ row-form row =
     (and_from (nat_le 2 (suc (suc (length (flat_map share_words row.shares))))) _ (le-leb 2 _ many) (eq-eqb _ 0 even)) refl)
     (row-numbers row)
 
--- and say the row
+-- the words of shares are read back as the shares
 shares-back : (shares : List Share) → shares_of_words (flat_map share_words shares) ≡ shares
 shares-back [] = refl
 shares-back (share ∷ shares) =
@@ -104,7 +104,7 @@ shares-in-range controls least (share ∷ shares) up inside each few =
     (and_from (nat_le 1 share.1) (nat_le share.1 number_bound) (le-leb 1 share.1 each.0) (le-leb share.1 number_bound here)))
     (shares-in-range controls (suc share.0) shares up.1 inside.1 each.1 others)
 
--- so are those of a row
+-- the shares of a row are in range
 pub row-in-range : (controls : ℕ) (row : Row) → IsRow controls row → is_row_in_range controls row ≡ true
 row-in-range controls row is =
     and_from (is_term row.den) (are_shares_in_range controls 0 row.shares)
@@ -112,7 +112,7 @@ row-in-range controls row is =
     (shares-in-range controls 0 row.shares (ascending row.shares is.ascending) (recursion_from_All _ row.shares is.inside)
     (recursion_from_All _ row.shares is.each) (subst (λ n. n ≤ number_bound) (sym is.whole) is.short))
 
--- entries are not miscounted where there are not too many, and all of them before the last line ends
+-- entries are counted right if they are not too many, and complete at the last line
 pub well-counted : (header : Header) (left entries : ℕ) → entries ≤ header.entries → (left ≡ 0 → entries ≡ header.entries)
     → is_miscounted header left entries ≡ false
 well-counted header zero entries few all =

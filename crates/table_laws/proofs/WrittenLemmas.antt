@@ -1,4 +1,4 @@
--- What is read as a row is the line of the row.
+-- Bytes that are read as a row are the line of the row.
 use Rattle.std.proofs.Common.{◌≡◌, ℕ, zero, suc, ◌+◌, ◌%◌, ◌<◌, Bool, true, false, not, nat_eq, nat_le, nat_lt, List, [], ◌∷◌, length, map, get_or, bytes_eq, arith, refl, ap, sym, subst, ◌∙◌, leb-true, ltb-true, eqb-true, true≢false, Some, None, Option, is_some, if◌then◌else◌}
 use Rattle.std.specs.Prelude.{codes}
 use Rattle.std.specs.List.{AllByRecursion, list_all, flat_map}

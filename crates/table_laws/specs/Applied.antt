@@ -1,5 +1,5 @@
--- Meshes behind their own tables.
--- Source: this profile.
+-- Meshes after their own tables.
+-- Source: Drillolive.
 use Rattle.std.specs.Prelude.{◌≡◌, ℕ, List, ◌++◌, None}
 use Rattle.subdiv_model.specs.ObjMesh.{ObjMesh}
 use Rattle.subdiv_model.specs.ReadObj.{obj_lines, read_obj_mesh}
@@ -12,9 +12,10 @@ pub record TextOfMesh : Type 0 where
   pub text : List ℕ
   pub composed : composition_refusal depth 0 (obj_lines text) ≡ None
 
+-- the mesh of the text
 abbrev pub mesh_of : TextOfMesh → ObjMesh
 mesh_of given = read_obj_mesh given.text 0
 
--- the text of the table, and the text of the mesh behind it
+-- the text of the table, then the text of the mesh
 abbrev pub behind_table : TextOfMesh → List ℕ
 behind_table given = text_of_table (own_table given.depth (mesh_of given)) ++ given.text

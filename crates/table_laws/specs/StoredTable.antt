@@ -1,5 +1,5 @@
--- Tables that are stored.
--- Source: this profile.
+-- Tables that can be stored.
+-- Source: Drillolive.
 use Rattle.std.specs.Prelude.{◌^◌, ◌≤◌}
 use Rattle.subdiv_model.specs.Table.{Table, IsTable}
 

@@ -1,4 +1,4 @@
-//! Laws of `apply`: a mesh behind its own table gives the points that the mesh is refined to.
+//! The law of `apply`: a mesh after its own table gives the refined points of the mesh.
 
 ghost use Rattle.std.specs.Prelude.{◌≡◌, None};
 ghost use Rattle.std.specs.List.{flat_map};
@@ -7,8 +7,8 @@ ghost use Rattle.far_model.specs.Answer.{answer_of_stored_text, points_after};
 ghost use Rattle.far_model.specs.Command.{Apply};
 ghost use Rattle.table_laws.specs.Applied.{TextOfMesh, behind_table, mesh_of};
 
-/// Where a mesh stands behind its own table of a depth, `apply` refuses nothing. It writes the `v` lines of the points of the mesh at
-/// that depth, as `refine` writes them.
+/// If a mesh follows its own table of some depth, `apply` refuses nothing. It writes the `v` lines that `refine` writes at that
+/// depth.
 pub fn applied_tables_give_refined_points()
     ensures { (given : TextOfMesh) → answer_of_stored_text Apply (behind_table given)
         ≡ record { text = flat_map (point_line None) (points_after (mesh_of given) given.depth); refusal = None } }

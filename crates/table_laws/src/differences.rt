@@ -4,13 +4,13 @@ ghost use Rattle.std.specs.Prelude.{◌≡◌, ◌≢◌, ◌↔◌, ℕ, take, 
 ghost use Rattle.subdiv_model.specs.Table.{Table};
 ghost use Rattle.far_model.specs.Stored.{first_difference};
 
-/// Two tables have no difference where they are the same table, and only there.
+/// Two tables have no difference exactly where they are equal.
 pub fn tables_without_difference_are_equal()
     ensures { (a b : Table) → (first_difference a b ≡ None) ↔ (a ≡ b) }
 {}
 
-/// The rows before the first difference are the same in both tables. At the difference one of them has no row, or their rows differ.
-/// Tables without the same number of control points differ from row 0 on.
+/// The rows before the first difference are the same in both tables. At the difference the rows differ, or one table has no row.
+/// Tables with different numbers of control points differ from row 0.
 pub fn rows_before_the_first_difference_are_equal()
     ensures before { (a b : Table) (row : ℕ) → a.controls ≡ b.controls → first_difference a b ≡ Some row → take row a.rows ≡ take row b.rows }
     ensures there { (a b : Table) (row : ℕ) → a.controls ≡ b.controls → first_difference a b ≡ Some row → slice_get a.rows row ≢ slice_get b.rows row }

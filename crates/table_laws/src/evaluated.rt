@@ -1,11 +1,11 @@
-//! Laws of the tables of levels over control points: they make the points that these are refined to.
+//! The law of the table of a level: it gives the points that the control points are refined to.
 
 ghost use Rattle.std.specs.Prelude.{◌≡◌, None};
 ghost use Rattle.std.specs.List.{flat_map};
 ghost use Rattle.subdiv_model.specs.Text.{point_line};
 ghost use Rattle.table_laws.specs.Evaluated.{LevelOverControls, evaluated_points, points_after_steps};
 
-/// The table of a level over control points makes the `v` lines of the points that these are refined to.
+/// The table of a level gives the `v` lines of the points that its control points are refined to.
 pub fn evaluated_tables_are_refined_points()
     ensures { (given : LevelOverControls) → flat_map (point_line None) (evaluated_points given) ≡ flat_map (point_line None) (points_after_steps given) }
 {}

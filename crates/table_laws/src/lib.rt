@@ -1,6 +1,6 @@
 //! Laws of stored tables: how their texts are read, which table `verify` accepts, and which points `apply` writes.
 //!
-//! Each public function here takes nothing, does nothing and returns nothing: its clauses are the laws.
+//! Each public function has an empty body: its clauses are the laws. Rows are counted from 0.
 #![tactic(auto)]
 
 pub mod applied;

@@ -1,4 +1,4 @@
-//! Laws of the texts of stored tables: each is read back as its table, and nothing else is read.
+//! Laws of the texts of stored tables: each is read back as its table, and no other text is read.
 
 ghost use Rattle.std.specs.Prelude.{◌≡◌, ◌≢◌, ℕ, List, [], ◌++◌, Ok, Err};
 ghost use Rattle.subdiv_model.specs.Table.{Table};
@@ -7,12 +7,12 @@ ghost use Rattle.subdiv_model.specs.ReadTable.{Reading, read_table};
 ghost use Rattle.subdiv_model.specs.TableText.{text_of_table};
 ghost use Rattle.table_laws.specs.StoredTable.{IsStored};
 
-/// The text of a stored table is read as the table, whatever bytes stand behind it, and these are left.
+/// The text of a stored table is read as the table, and the bytes after it are left, whatever they are.
 pub fn written_tables_are_read()
     ensures { (table : Table) (rest : List ℕ) → IsStored table → read_table (text_of_table table ++ rest) ≡ Ok (record { table = table; rest = rest }) }
 {}
 
-/// Bytes that are read as a table begin with its text, and the others are left. The table is stored.
+/// Bytes that are read as a table begin with the text of a stored table, and the bytes after it are left.
 pub fn read_tables_were_written()
     ensures text { (bytes : List ℕ) (reading : Reading) → read_table bytes ≡ Ok reading → bytes ≡ text_of_table reading.table ++ reading.rest }
     ensures stored { (bytes : List ℕ) (reading : Reading) → read_table bytes ≡ Ok reading → IsStored reading.table }

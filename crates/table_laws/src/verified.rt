@@ -1,4 +1,4 @@
-//! Laws of `verify`: it accepts the table of the mesh, and no other.
+//! Laws of `verify`: it accepts the table of the mesh and no other.
 
 ghost use Rattle.std.specs.Prelude.{◌≡◌, ℕ, List, None};
 ghost use Rattle.subdiv_model.specs.Base.{base_level};
@@ -9,8 +9,8 @@ ghost use Rattle.far_model.specs.Stored.{mesh_part, table_part};
 ghost use Rattle.table_laws.specs.StoredTable.{IsStored};
 ghost use Rattle.table_laws.specs.Verified.{InputWithTable, agreement};
 
-/// Where nothing is refused, the bytes of the stored table are the text of the table of the mesh before it. This table is stored, and
-/// it is composed without refusal.
+/// If `verify` refuses nothing, the bytes of the table are the text of the table of the mesh before it. That table is a stored
+/// table, and composing it refuses nothing.
 pub fn verified_tables_are_those_of_the_mesh()
     ensures text { (depth : ℕ) (bytes : List ℕ) → (answer_of_verify depth bytes).refusal ≡ None
         → table_part bytes ≡ table_text (base_level (mesh_before_table bytes)) CatmullClark depth }
@@ -18,7 +18,7 @@ pub fn verified_tables_are_those_of_the_mesh()
     ensures composed { (depth : ℕ) (bytes : List ℕ) → (answer_of_verify depth bytes).refusal ≡ None → composition_refusal depth 0 (mesh_part bytes) ≡ None }
 {}
 
-/// The table of a mesh behind the mesh is not refused, and the answer says how many rows it has.
+/// `verify` accepts a mesh followed by its own table, and the answer contains the number of rows.
 pub fn tables_of_meshes_are_verified()
     ensures { (given : InputWithTable) → answer_of_verify given.depth given.bytes
         ≡ record { text = agreement (own_table given.depth (mesh_before_table given.bytes)); refusal = None } }

@@ -1,4 +1,4 @@
--- Lists of numbers, each in a relation with the next: what holds along them, and how they are made as long as can be.
+-- Lists of numbers, each linked to the next: properties along a list, and longest lists.
 use Rattle.std.proofs.Common.{◌≡◌, ℕ, zero, suc, ◌<◌, ◌≤◌, Bool, true, false, not, ◌&&◌, ◌||◌, nat_eq, List, [], ◌∷◌, length, get_or, arith, refl, ap, sym, ◌∙◌, subst, ◌⊎◌, inl, inr}
 use Rattle.std.specs.List.{filter, list_any}
 use Rattle.std.proofs.lemmas.Bool.{and_parts, and_from, or_cases, or_left, or_right, eqb-true, eq-eqb, not-true, not_from_false, not_from_true, true_from_ne_false, false_from_ne_true, and_left, or_parts, or_from}
@@ -27,7 +27,7 @@ linked-forth R S forth f n (g ∷ rest) linked first h = here (or_cases (nat_eq 
     here (inl same) behind = subst S (sym (eqb-true n f same)) first
     here (inr more) behind = behind more
 
--- and what goes back from each to the one before it holds of the first where it holds of any
+-- a property that passes from each item to the one before it holds for the first if it holds for any
 pub linked-back : (R : ℕ → ℕ → Type 0) (S : ℕ → Type 0) → ((f g : ℕ) → R f g → S g → S f) → (f n : ℕ) (rest : List ℕ) → IsLinked R (f ∷ rest) → S n → is_among (f ∷ rest) n ≡ true → S f
 linked-back R S back f n [] linked one h = here (or_cases (nat_eq n f) false h)
   where
@@ -97,7 +97,7 @@ linked-before-in R n d (f ∷ rest) linked h = linked-before R n f rest linked h
 not-among : (g n : ℕ) (xs : List ℕ) → not (is_among (g ∷ xs) n) ≡ true → not (is_among xs n) ≡ true
 not-among g n xs h = not_from_false _ (or_parts (nat_eq n g) (is_among xs n) (not-true _ h)).1
 
--- a list lacks fewer of the others with one of them more
+-- a list with one more number lacks fewer of the others
 lacks-less : (all xs : List ℕ) (g : ℕ) → is_among all g ≡ true → is_among xs g ≡ false → length (filter (λ n. not (is_among (g ∷ xs) n)) all) < length (filter (λ n. not (is_among xs n)) all)
 lacks-less all xs g there gone = here (filter-more (λ n. not (is_among (g ∷ xs) n)) (λ n. not (is_among xs n)) (λ n h. not-among g n xs h) all)
   where
@@ -109,7 +109,7 @@ lacks-less all xs g there gone = here (filter-more (λ n. not (is_among (g ∷ x
         let both = ap (λ (ys : List ℕ). is_among ys g) same in
         absurd (cc)
 
--- what stands before the first of a linked list is put before it, as long as there is something new
+-- a linked list grows at its front as long as a new item precedes its first
 module _ (follows : ℕ → ℕ → Bool) (all : List ℕ) (inside : (f g : ℕ) → follows f g ≡ true → is_among all f ≡ true) where
   abbrev pub Follows : ℕ → ℕ → Type 0
   Follows f g = follows f g ≡ true

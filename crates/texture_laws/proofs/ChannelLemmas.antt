@@ -20,7 +20,7 @@ pub any-mapped : {X Y : Type 0} (test : Y → Bool) (f : X → Y) (xs : List X) 
 any-mapped test f [] = refl
 any-mapped test f (x ∷ xs) = ap (λ b. test (f x) || b) (any-mapped test f xs)
 
--- what is said of each face and corner, where the first face has the number n
+-- an item for each face and corner, if the first face has the number n
 module _ {X : Type 0} (f : ℕ → ℕ → X) where
   abbrev pub over_corners : ℕ → List Polygon → List X
   over_corners n polygons = flat_map (λ face. map (f face.0) face.1) (enumerate_from n polygons)
@@ -58,7 +58,7 @@ module _ {X : Type 0} (f : ℕ → ℕ → X) where
   all-corners test k (v ∷ polygon) each =
       and_from _ _ (each v (or_left _ _ (eq-eqb v v refl))) (all-corners test k polygon (λ w h. each w (or_right (nat_eq w v) _ h)))
 
-  -- what is true at each corner
+  -- a property of each corner
   pub each_corner-all : (test : X → Bool) (n : ℕ) (polygons : List Polygon) → ((face k v : ℕ) → n + face ≡ k → has_corner v (polygon_at polygons face) ≡ true → test (f k v) ≡ true) → list_all (list_all test) (each_corner n polygons) ≡ true
   each_corner-all test n [] each = refl
   each_corner-all test n (polygon ∷ polygons) each =

@@ -22,7 +22,7 @@ use Rattle.texture_laws.proofs.JoinLemmas.{are_near, near-from, near-parts, edge
 use Rattle.texture_laws.proofs.ChainLemmas.{IsLinked, IsChain, chain}
 use Rattle.texture_laws.proofs.SeamlessLemmas.{AreNearHere, successor-near-here, linked-joined}
 
--- what is distinct by other names, is distinct
+-- numbers with distinct names are distinct
 distinct-named : (name : ℕ → ℕ) (numbers : List ℕ) → is_distinct (map name numbers) ≡ true → is_distinct numbers ≡ true
 distinct-named name [] h = refl
 distinct-named name (n ∷ numbers) h =
@@ -255,7 +255,7 @@ module _ (mesh : ObjMesh) (simple : list_all is_simple mesh.faces ≡ true) (dis
   cut-fans : (p : ℕ) → p < cut_point_count mesh → HasOneFan (cut_faces mesh) p
   cut-fans p h = let found = channel-used mesh p h in subst (HasOneFan (cut_faces mesh)) found.3 (cut-fan found.1 found.0 found.2)
 
--- faces that are simple and have each directed edge once are a manifold where the texture cuts them
+-- the cut mesh is a manifold, if the faces are simple and no directed edge occurs twice
 pub cut-manifold : (mesh : ObjMesh) → All (λ polygon. IsTrue (is_simple polygon)) mesh.faces → IsTrue (has_distinct_sides (all_sides mesh.faces)) → IsManifold (cut_point_count mesh) (cut_faces mesh)
 cut-manifold mesh simple distinct =
     let all = list_all-from_AllPass is_simple mesh.faces simple in

@@ -27,7 +27,7 @@ use Rattle.texture_laws.proofs.JoinLemmas.{places-agree, edge-same}
 use Rattle.texture_laws.proofs.SeamlessLemmas.{seamless-once}
 use Rattle.texture_laws.proofs.RenamedLemmas.{renamed-alike, renamed-edges, renamed-faces, renamed-number, renamed-listed}
 
--- what is listed for each edge in the order of the edges stands at the number of the edge
+-- an item listed for each edge in order is at the number of the edge
 listed-at : {Y : Type 0} (f : ℕ × ℕ → Y) (d : Y) → ((s t : ℕ × ℕ) → same_edge s t ≡ true → f s ≡ f t) → (edge : ℕ × ℕ) (edges : List (ℕ × ℕ)) → list_any (same_edge edge) edges ≡ true → get_or (map f edges) (position_or_len (same_edge edge) edges) d ≡ f edge
 listed-at f d alike edge [] there = absurd (cc)
 listed-at f d alike edge (e ∷ edges) there = here (same_edge edge e) refl (λ k. listed-at f d alike edge edges k)

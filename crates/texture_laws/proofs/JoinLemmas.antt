@@ -22,7 +22,7 @@ pub places-agree : {X : Type 0} (p q : X → Bool) → ((x : X) → p x ≡ q x)
 places-agree p q alike n [] = refl
 places-agree p q alike n (x ∷ xs) = rw (alike x, places-agree p q alike (n + 1) xs) refl
 
--- what passes among what is kept
+-- an item that passes and is kept passes among the kept ones
 any-kept : {X : Type 0} (p q keep : X → Bool) → ((x : X) → q x ≡ true → (keep x ≡ true) × (p x ≡ true)) → (xs : List X) → list_any q xs ≡ true → list_any p (filter keep xs) ≡ true
 any-kept p q keep both [] h = absurd (cc)
 any-kept {X} p q keep both (x ∷ xs) h = here (or_cases (q x) (list_any q xs) h) (keep x) refl (λ k. any-kept p q keep both xs k)
@@ -59,7 +59,7 @@ or-swap a b = grind (arith, nat_tests)
 pub turned-edge : (a b : ℕ) → same_edge (a, b) (b, a) ≡ true
 turned-edge a b = or_right _ _ (and_from _ _ (eq-eqb a a refl) (eq-eqb b b refl))
 
--- the same edge is the same pair, in one direction or the other
+-- equal edges are the same pair, in one direction or the other
 pub edge-cases : (s t : ℕ × ℕ) → same_edge s t ≡ true → (s ≡ t) ⊎ (s ≡ (t.1, t.0))
 edge-cases s t h = here (or_cases (same_side s t) (nat_eq s.0 t.1 && nat_eq s.1 t.0) h)
   where
@@ -175,7 +175,7 @@ module _ (mesh : ObjMesh) where
             here (inl same) = ap (has_end v) same
             here (inr turned) = ap (has_end v) turned ∙ or-swap (nat_eq v t.1) (nat_eq v t.0)
 
-    -- and near faces are one, or have such an edge
+    -- near faces are equal or share such an edge
     pub near-parts : (f g : ℕ) → are_near f g ≡ true → (f ≡ g) ⊎ ((edge : ℕ × ℕ) × (has_end v edge ≡ true) × (is_seam mesh edge ≡ false) × (has_edge edge (polygon_at mesh.faces f) ≡ true) × (has_edge edge (polygon_at mesh.faces g) ≡ true))
     near-parts f g h = here (or_cases (nat_eq f g) (share_edge mesh.faces (joining_edges mesh v) f g) h)
       where

@@ -14,7 +14,7 @@ any-other : (s t : ℕ × ℕ) (xs : List (ℕ × ℕ)) → list_any (same_side 
 any-other s t [] = grind (arith, nat_tests)
 any-other s t (x ∷ xs) = grind (arith, nat_tests, any-other s t xs)
 
--- each once, and all of them
+-- listing each item once keeps all items
 pub any-once : (s : ℕ × ℕ) (xs : List (ℕ × ℕ)) → list_any (same_side s) (each_once_by same_side xs) ≡ list_any (same_side s) xs
 any-once s [] = refl
 any-once s (t ∷ xs) = grind (arith, nat_tests, any-once s xs, any-other s t (each_once_by same_side xs))
@@ -48,7 +48,7 @@ first-within p (x ∷ xs) h = here (p x) refl (λ k. first-within p xs k)
 pub side-at : (s : ℕ × ℕ) (xs : List (ℕ × ℕ)) → list_any (same_side s) xs ≡ true → get_or xs (position_or_len (same_side s) xs) (0, 0) ≡ s
 side-at s xs h = sym (same-pair s (get_or xs (position_or_len (same_side s) xs) (0, 0)) (passes_at_first (same_side s) xs (0, 0) (first-within (same_side s) xs h)))
 
--- what stands in the list once, stands at one place
+-- an item listed once has one place
 pub distinct-side-places : (xs : List (ℕ × ℕ)) (p q : ℕ) → has_distinct_sides xs ≡ true → p < length xs → q < length xs → get_or xs p (0, 0) ≡ get_or xs q (0, 0) → p ≡ q
 distinct-side-places [] p q d hp hq e = absurd (omega arith)
 distinct-side-places (x ∷ xs) zero zero d hp hq e = refl

@@ -1,4 +1,4 @@
--- Numbers of a list that are reached from one of them, step by step from near to near.
+-- Numbers of a list that are reached from one number, step by step.
 use Rattle.std.proofs.Common.{◌≡◌, ℕ, zero, suc, ◌+◌, ◌<◌, ◌≤◌, Bool, true, false, ◌&&◌, nat_eq, List, [], ◌∷◌, length, arith, refl, ap, sym, ◌∙◌, subst, ◌⊎◌, inl, inr}
 use Rattle.std.specs.List.{filter, list_any}
 use Rattle.std.proofs.lemmas.Bool.Decides.{nat_tests}
@@ -60,7 +60,7 @@ module _ (near : ℕ → ℕ → Bool) (faces : List ℕ) where
   abbrev pub IsWithin : List ℕ → List ℕ → Type 0
   IsWithin xs ys = (n : ℕ) → is_among xs n ≡ true → is_among ys n ≡ true
 
-  -- as many steps as there are faces
+  -- the faces joined after as many steps as faces
   abbrev pub joined_with : ℕ → List ℕ
   joined_with face = reached_in (length faces) (face ∷ [])
 
@@ -97,7 +97,7 @@ module _ (near : ℕ → ℕ → Bool) (faces : List ℕ) where
     reached-has zero reached inside n h = h
     reached-has (suc steps) reached inside n h = reached-has steps (next_reached reached) (next-within reached) n (next-has reached inside n h)
 
-    -- as many steps as faces are enough: each step that changes something adds a face
+    -- as many steps as faces are enough, because each step that changes something adds a face
     reached-stable : (steps : ℕ) (reached : List ℕ) → IsWithin reached faces → length faces < steps + length (next_reached reached) → next_reached (reached_in steps reached) ≡ reached_in steps reached
     reached-stable zero reached inside enough = let most = filter-le (λ g. list_any (λ f. near f g) reached) faces in absurd (omega arith)
     reached-stable (suc steps) reached inside enough = here (next-grows reached inside) (λ k. reached-stable steps (next_reached reached) (next-within reached) k)

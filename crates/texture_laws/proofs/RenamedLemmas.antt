@@ -1,4 +1,4 @@
--- Polygons whose points have other names, no two of them one: their edges and the faces at them.
+-- Polygons whose points have other, distinct names: their edges, and the faces at edges and points.
 use Rattle.std.proofs.Common.{◌≡◌, ℕ, ◌+◌, ◌<◌, Bool, true, false, not, nat_eq, nat_lt, List, [], ◌∷◌, ◌++◌, map, get_or, refl, ap, sym, ◌∙◌, ◌⊎◌, inl, inr}
 use Rattle.std.specs.List.{filter, list_any, list_all, position_or_len}
 use Rattle.std.proofs.lemmas.Bool.{and_parts, ltb-true, eqb-true, eq-eqb, and_from}
@@ -17,7 +17,7 @@ module _ (name : ℕ → ℕ) where
   abbrev pub renamed : ℕ × ℕ → ℕ × ℕ
   renamed s = (name s.0, name s.1)
 
-  -- the same edge by other names
+  -- equal edges are equal under other names
   pub renamed-alike : (s t : ℕ × ℕ) → same_edge s t ≡ true → same_edge (renamed s) (renamed t) ≡ true
   renamed-alike s t h = here (edge-cases s t h)
     where

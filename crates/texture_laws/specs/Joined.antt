@@ -1,4 +1,4 @@
--- What the laws of joined faces speak of: the faces at a vertex, and the edges that join them there.
+-- The faces at a vertex and the edges that join them there, for the laws of joined faces.
 use Rattle.std.specs.Prelude.{◌≡◌, ℕ, Bool, false, IsTrue}
 use Rattle.subdiv_model.specs.Polygons.{polygon_at, has_corner, has_edge}
 use Rattle.subdiv_model.specs.Edges.{has_end}
@@ -9,7 +9,7 @@ use Rattle.subdiv_model.specs.Cut.{is_seam}
 abbrev pub has_vertex : ObjMesh → ℕ → ℕ → Bool
 has_vertex mesh face v = has_corner v (polygon_at mesh.faces face)
 
--- an edge that both faces have ends at v and is no seam
+-- an edge of both faces ends at v and is no seam
 pub record HaveJoiningEdge (mesh : ObjMesh) (v f g : ℕ) : Type 0 where
   pub edge : ℕ × ℕ
   pub ends_there : IsTrue (has_end v edge)
@@ -17,6 +17,6 @@ pub record HaveJoiningEdge (mesh : ObjMesh) (v f g : ℕ) : Type 0 where
   pub of_first : IsTrue (has_edge edge (polygon_at mesh.faces f))
   pub of_second : IsTrue (has_edge edge (polygon_at mesh.faces g))
 
--- each face that has such an edge in common with a kept one is kept
+-- if a face is kept, each face that shares such an edge with it is kept
 abbrev pub KeepsJoined : ObjMesh → ℕ → (ℕ → Bool) → Type 0
 KeepsJoined mesh v kept = (f g : ℕ) → HaveJoiningEdge mesh v f g → IsTrue (kept f) → IsTrue (kept g)

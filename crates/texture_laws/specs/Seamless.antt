@@ -1,4 +1,4 @@
--- Meshes that no texture seam divides.
+-- Meshes without texture seams.
 use Rattle.std.specs.Prelude.{◌≡◌, false, length, IsTrue}
 use Rattle.std.specs.List.{list_any}
 use Rattle.subdiv_model.specs.Edges.{edges_of}

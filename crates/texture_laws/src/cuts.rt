@@ -15,8 +15,8 @@ ghost use Rattle.texture_laws.specs.CutMesh.{AreCutPoints, cut_faces, cut_point_
 ghost use Rattle.texture_laws.specs.Joined.{HaveJoiningEdge, KeepsJoined, has_vertex};
 ghost use Rattle.texture_laws.specs.Seamless.{IsSeamlessManifold};
 
-/// The faces of the cut mesh are the faces of the mesh over channel points: as many faces, each with as many corners, and at
-/// each corner a channel point of the vertex there. Each channel point is listed once, and is a corner of a face.
+/// The cut mesh has the faces of the mesh over channel points. Each face has as many corners, and each corner is a channel point
+/// of its vertex. Each channel point is listed once and is a corner.
 pub fn cut_faces_are_the_faces_of_the_mesh()
     ensures faces { (mesh : ObjMesh) → length (cut_faces mesh) ≡ length mesh.faces }
     ensures corners { (mesh : ObjMesh) (face : ℕ) → length (polygon_at (cut_faces mesh) face) ≡ length (polygon_at mesh.faces face) }
@@ -27,8 +27,8 @@ pub fn cut_faces_are_the_faces_of_the_mesh()
     ensures used { (mesh : ObjMesh) (p : ℕ) → p < cut_point_count mesh → IsTrue (list_any (has_corner p) (cut_faces mesh)) }
 {}
 
-/// Faces are joined at a vertex through the edges there that are no seams, and through nothing else. Joined faces have one list,
-/// in either direction, with the least of them first, so that faces have one channel point at a vertex exactly where they are joined there.
+/// At a vertex only edges that are no seams join faces. Joined faces have the same list, whose first face is the least. Two faces
+/// share a channel point at a vertex exactly where they are joined there.
 pub fn joined_faces_are_joined_through_edges()
     ensures within { (mesh : ObjMesh) (v face f : ℕ) → IsTrue (has_vertex mesh face v)
         → IsTrue (is_among (joined_faces mesh v face) f) → IsTrue (has_vertex mesh f v) }
@@ -47,17 +47,16 @@ pub fn joined_faces_are_joined_through_edges()
         → (point_of mesh f v ≡ point_of mesh g v) ↔ IsTrue (is_among (joined_faces mesh v f) g) }
 {}
 
-/// Where the faces of the mesh are simple and have each directed edge once at most, the cut mesh is a manifold over the channel
-/// points: faces that are joined at a vertex are one fan, also where all faces at the vertex are several fans. So the cut mesh of a
-/// manifold is a manifold.
+/// The cut mesh is a manifold over the channel points if the faces of the mesh are simple and no directed edge occurs twice.
+/// Faces joined at a vertex form one fan, even if all faces there form several. So the cut mesh of a manifold is a manifold.
 pub fn cut_meshes_are_manifolds()
     ensures joined_fans { (mesh : ObjMesh) → All (λ polygon. IsTrue (is_simple polygon)) mesh.faces → IsTrue (has_distinct_sides (all_sides mesh.faces)) → IsManifold (cut_point_count mesh) (cut_faces mesh) }
     ensures manifold { (points : ℕ) (mesh : ObjMesh) → IsManifold points mesh.faces → IsManifold (cut_point_count mesh) (cut_faces mesh) }
 {}
 
-/// The cut mesh of a manifold without seams is the mesh, but for the numbers of its points: faces have one channel point exactly
-/// where they have one vertex, so that the vertices of the channel points rename them one to one; the edges are those of the mesh
-/// in the same order, with the same faces, and with the same sharpness where seams are smooth.
+/// The cut mesh of a manifold without seams is the mesh, up to the numbers of its points. Faces share a channel point exactly
+/// where they share a vertex. The edges, their order and their faces are those of the mesh; with smooth seams their sharpness is
+/// too.
 pub fn cut_mesh_without_seams_is_the_mesh()
     ensures renamed { (mesh : ObjMesh) → IsSeamlessManifold mesh → (f g v w : ℕ) → IsTrue (has_vertex mesh f v)
         → IsTrue (has_vertex mesh g w) → (point_of mesh f v ≡ point_of mesh g w) ↔ (v ≡ w) }
@@ -70,8 +69,8 @@ pub fn cut_mesh_without_seams_is_the_mesh()
         → edge_sharpness_of (cut_level SmoothSeams mesh) (p, q) ≡ edge_sharpness_of (base_level mesh) (vertices_of mesh (p, q)) }
 {}
 
-/// Level 0 of the cut mesh has the sharpness of the mesh, except where a seam makes a boundary or the mode keeps a point sharp,
-/// and has the holes of the mesh. It is well formed where that of the mesh is.
+/// Level 0 of the cut mesh has the holes of the mesh. It has the sharpness of the mesh, except where a seam makes a boundary or
+/// the mode keeps a point sharp. It is well formed if level 0 of the mesh is.
 pub fn cut_levels_are_as_sharp_as_the_mesh()
     ensures boundary { (mode : SeamMode) (mesh : ObjMesh) (edge : ℕ × ℕ) → IsBoundaryEdge (cut_faces mesh) edge
         → edge_sharpness_of (cut_level mode mesh) edge ≡ Infinite }

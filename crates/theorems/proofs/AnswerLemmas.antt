@@ -1,4 +1,4 @@
--- What is known where `refine` refuses nothing: nothing is wrong with its bytes and their mesh, and it writes the mesh.
+-- If `refine` refuses nothing, its bytes and their mesh have no fault, and it writes the mesh.
 use Rattle.std.proofs.Common.{◌≡◌, ℕ, Bool, true, false, ◌++◌, List, length, Option, Some, None, refl, ap, sym, subst, true≢false, ◌∙◌, if◌then◌else◌}
 use Rattle.std.specs.Prelude.{is_some, nat_lt}
 use Rattle.subdiv_model.specs.Fault.{Fault, Long}
@@ -43,7 +43,7 @@ short-enough : (long : Bool) (answer : Answer) → (if long then refused Long el
 short-enough true answer h = no-refusal Long h
 short-enough false answer h = refl
 
--- what is written of bytes that are not refused
+-- the text that is written for bytes that are not refused
 abbrev pub IsWrittenOf : ReadCommand → List ℕ → Type 0
 IsWrittenOf command bytes =
     let mesh = read_obj_mesh bytes 0 in

@@ -81,7 +81,7 @@ module _ (given : TaggedText) (steps : FurtherSteps given) where
       ∙ sym (written-vertices steps.at_once (first_mesh given) steps.exact_at_once)
       ∙ ap vertex_lines (sym at-once.text)
 
-  -- a text without texture, at a depth and with tags or without them
+  -- the text of a mesh without texture at a depth, with or without tags
   abbrev plain : ObjMesh → Bool → ℕ → List ℕ
   plain mesh tags n = mesh_text None tags (mesh_level mesh n) (points_after mesh n) ++ written_tags tags (mesh_level mesh n)
 

@@ -24,7 +24,7 @@ use Rattle.texture_laws.proofs.CutFanLemmas.{cut-manifold}
 use Rattle.texture_laws.proofs.CutLevelLemmas.{cut-boundary, cut-well-formed}
 use Rattle.continued_laws.proofs.StepLemmas.{sharp-on, sharp-mesh}
 
--- Of two levels.
+-- Two levels.
 
 -- the corners of a level are points
 pub over-points : (level : Level) → IsManifoldWithSharpBoundary level → is_over level.point_count level.polygons ≡ true
@@ -70,7 +70,7 @@ corners-on one two (suc k) first second same =
     ∙ sym (child_polygons-length b.point_count b.polygons) in
     child-fours a (sharp-on one k first) ∙ ap (λ n. replicate n 4) count ∙ sym (child-fours b (sharp-on two k second))
 
--- Of the cut mesh.
+-- The cut mesh.
 
 module _ (mesh : ObjMesh) (is : IsManifoldMesh mesh) (proper : HasProperTags mesh) (mode : SeamMode) where
   base-sharp : IsManifoldWithSharpBoundary (base_level mesh)

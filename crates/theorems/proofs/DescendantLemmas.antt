@@ -26,7 +26,7 @@ both-ways false true h k = k refl
 both-ways false false h k = refl
 
 module _ (base : Level) (is : IsSharpAtBoundary base) where
-  -- each of them is an edge of one face
+  -- each descendant is an edge of one face
   pub descendants-alone : (k : ℕ) → list_all (is_boundary (refined_level base k).polygons) (boundary_descendants base k) ≡ true
   descendants-alone zero = kept-pass (is_boundary base.polygons) (edges_of base.polygons)
   descendants-alone (suc k) =
@@ -53,7 +53,7 @@ module _ (base : Level) (is : IsSharpAtBoundary base) where
       here false h moved ends =
           or_right _ _ (or_left _ _ (ap (λ n. same_edge t (half_from level x n)) (sym (eqb-true v x.1 (end-cases v x ends h))) ∙ moved))
 
-  -- and each edge of one face is one of them
+  -- each edge of one face is a descendant
   alone-listed : (k : ℕ) (t : ℕ × ℕ) → is_boundary (refined_level base k).polygons t ≡ true
       → list_any (same_edge t) (boundary_descendants base k) ≡ true
   alone-listed zero t alone =
@@ -70,7 +70,7 @@ module _ (base : Level) (is : IsSharpAtBoundary base) where
       (λ x same. half-listed level t from.edge x from.end from.at_end from.half same) (boundary_descendants base k)
       (alone-listed k from.edge from.alone)
 
-  -- so they are these edges
+  -- the descendants are exactly the edges of one face
   pub descendants-exact : (k : ℕ) (t : ℕ × ℕ)
       → list_any (same_edge t) (boundary_descendants base k) ≡ is_boundary (refined_level base k).polygons t
   descendants-exact k t =

@@ -41,15 +41,15 @@ Shape = ℕ × List Polygon
 abbrev shape_of : Level → Shape
 shape_of level = (level.point_count, level.polygons)
 
--- those of the next level
+-- the points and faces of the next level
 abbrev next_shape : Shape → Shape
 next_shape shape = (child_points shape.0 shape.1, child_polygons shape.0 shape.1)
 
--- its values under linear refinement, from those of the level
+-- the values of the next level under linear refinement
 abbrev next_values : Shape → List Value → List Value
 next_values shape values = child_values (plain_level shape.0 shape.1) Linear values
 
--- they depend on nothing else of the level
+-- linear refinement depends only on the points and faces of the level
 by-shape : (level : Level) (values : List Value) → child_values level Linear values ≡ next_values (shape_of level) values
 by-shape level values = refl
 
@@ -59,7 +59,7 @@ module _ (one two : Level) (same : shape_of one ≡ shape_of two) where
   same-shape zero = same
   same-shape (suc k) = ap next_shape (same-shape k)
 
-  -- and one linear refinement
+  -- both levels have the same linear refinement
   pub same-linear : (values : List Value) (k : ℕ) → refined_values one Linear values k ≡ refined_values two Linear values k
   same-linear values zero = refl
   same-linear values (suc k) =
@@ -103,7 +103,7 @@ module _ (base : Level) (is : IsSharpAtBoundary base) (kept : HasSharpEnds base)
       let before = straight-levels k in
       (2 * before.0, _, straight-child (refined_level base k) before.0 before.1 _ _ before.2)
 
-  -- so the ends of descendants have the values of linear refinement
+  -- the ends of descendants have the values of linear refinement
   pub linear-there : (k p : ℕ) → list_any (has_end p) (boundary_descendants base k) ≡ true
       → AreOneValue (point_value (refined_values base CatmullClark (control_values controls) k) p)
       (point_value (refined_values base Linear (control_values controls) k) p)
@@ -152,7 +152,7 @@ module _ (mesh : ObjMesh) (manifold : IsManifold (length mesh.points) mesh.faces
       let inside = (edge-of-one (cut_point_count mesh) (cut_faces mesh) cut-sharp.over cut-sharp.simple t alone).inside in
       cut-vertex-sharp mesh BoundarySeams p (ltb-true p (cut_point_count mesh) (end-inside (cut_point_count mesh) p t inside at)) (at-boundary t p alone at)
 
-  -- the law, with denominators
+  -- the law of seams, with its denominators
   pub seams-linear : (controls : List ℤ) (k p : ℕ) → IsTrue (list_any (has_end p) (boundary_descendants base k))
       → AreOneValue (point_value (refined_values base CatmullClark (control_values controls) k) p)
       (point_value (refined_values (cut_level SmoothSeams mesh) Linear (control_values controls) k) p)

@@ -103,7 +103,7 @@ module _ (level : Level) (m : ℕ) (number : ℕ → ℤ) (xs ys : List Value) (
         here (inl h) = subst Over (sym (kept-vertex level v h)) (corner-number m (source_value level xs) number v own.first)
         here (inr c) = between c (crease-vertex level st.is v c.a c.b c.crease)
 
-    -- it has its number in the next level
+    -- an old point has its number in the next level
     old-both : HasBoth (2 * m) (next v) (point_value xs_next v) (point_value ys_next v)
     old-both =
         let P : Value → ℤ → Type 0 = λ x n. IsNumber (2 * m) n x in
@@ -115,7 +115,7 @@ module _ (level : Level) (m : ℕ) (number : ℕ → ℤ) (xs ys : List Value) (
               (subst (λ x. P x (pos 2 *ℤ number v)) (sym (value-old level Linear ys v old-below)) (corner-number m (source_value level ys) number v own.second));
         }
 
-    -- and is between its new neighbours where it was between its old ones
+    -- a point between its old neighbours is between its new ones
     old-between : IsBetween level number v → IsBetween (child_level level) next v
     old-between c =
         let at_a = (edge-of-one level.point_count level.polygons st.is.over st.is.simple (v, c.a) c.crease.to_a).named in
@@ -135,7 +135,7 @@ module _ (level : Level) (m : ℕ) (number : ℕ → ℤ) (xs ys : List Value) (
               ∙ sym (two-times (next v) ∙ ap (λ z. z +ℤ z) twice);
         }
 
-    -- so it is infinitely sharp or between its neighbours, as before
+    -- an old point stays infinitely sharp or between its neighbours
     old-point : (vertex_sharpness_of (child_level level) v ≡ Infinite) ⊎ IsBetween (child_level level) next v
     old-point = here (st.point e v alone at)
       where
@@ -151,15 +151,15 @@ module _ (level : Level) (m : ℕ) (number : ℕ → ℤ) (xs ys : List Value) (
     abbrev as_listed : ℕ × ℕ
     as_listed = listed level e
 
-    -- it is one of the edges
+    -- the edge is listed
     named : is_edge level e ≡ true
     named = (edge-of-one level.point_count level.polygons st.is.over st.is.simple e alone).named
 
-    -- of one face also as it is listed
+    -- the edge has one face in its listed direction too
     listed-alone : is_boundary level.polygons as_listed ≡ true
     listed-alone = sym (boundary-alike level.polygons st.is.simple e as_listed (listed-same level e named)) ∙ alone
 
-    -- its new point has its number in the next level
+    -- the new point of the edge has its number in the next level
     new-both : HasBoth (2 * m) (next (point_of level e)) (point_value xs_next (point_of level e)) (point_value ys_next (point_of level e))
     new-both =
         let P : Value → ℤ → Type 0 = λ x n. IsNumber (2 * m) n x in
@@ -177,7 +177,7 @@ module _ (level : Level) (m : ℕ) (number : ℕ → ℤ) (xs ys : List Value) (
               (subst (λ x. P x sum) (sym (value-new level Linear ys e named)) (middle-number m (source_value level ys) number as_listed first.second second.second));
         }
 
-    -- and is between the ends of the edge
+    -- a new point is between the ends of its edge
     new-between : IsBetween (child_level level) next (point_of level e)
     new-between =
         let inside = (edge-of-one level.point_count level.polygons st.is.over st.is.simple e alone).inside in

@@ -1,4 +1,4 @@
--- Of the tag lines of an OBJ text that name the same, the last one counts.
+-- The last tag line of an OBJ text that names an item counts.
 use Rattle.std.proofs.Common.{◌≡◌, ℕ, Bool, true, false, ◌&&◌, nat_eq, List, ◌∷◌, ◌++◌, map, refl, ap, ◌∙◌, IsTrue}
 use Rattle.std.specs.Prelude.{codes}
 use Rattle.std.specs.List.{filter, flat_map, list_any}

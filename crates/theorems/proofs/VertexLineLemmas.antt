@@ -38,7 +38,7 @@ asked-plain : (tags : Bool) (level : Level) → list_all is_plain_line (asked_li
 asked-plain true level = tags-plain level
 asked-plain false level = refl
 
--- none of them is a `v` line
+-- no tag line is a `v` line
 tags-none : (level : Level) → filter is_vertex_line (map words_of (tag_lines level)) ≡ []
 tags-none level = ap (filter is_vertex_line) (split-words [] [] corner_words [] level) ∙ vertices-kept [] [] corner_words [] level
 
@@ -46,7 +46,7 @@ asked-none : (tags : Bool) (level : Level) → filter is_vertex_line (map words_
 asked-none true level = tags-none level
 asked-none false level = refl
 
--- of the lines of a mesh those of its points are
+-- the `v` lines of a mesh are the lines of its points
 faces-vertices : {Face : Type 0} (points : List Point) (texture : List (Value × Value)) (face_line : Face → Line) (faces : List Face)
     → ((face : Face) → is_vertex_line (words_of (face_line face)) ≡ false)
     → filter is_vertex_line (map words_of (lines_of_faces points texture face_line faces)) ≡ map vertex_words points
@@ -62,7 +62,7 @@ faces-vertices points texture face_line faces none =
     (ap (filter is_vertex_line) (map-twice face_line words_of faces) ∙ kept-none is_vertex_line (λ face. words_of (face_line face)) none faces))
     ∙ append-nil (map vertex_words points)
 
--- so they are of a text of lines and the tags after it
+-- the vertex lines of a text of lines and tags
 text-vertices : (text : List ℕ) (lines : List Line) (points : List Point) (tags : Bool) (level : Level) → text ≡ text_of lines
     → list_all is_plain_line lines ≡ true → filter is_vertex_line (map words_of lines) ≡ map vertex_words points
     → vertex_lines (text ++ written_tags tags level) ≡ map vertex_words points
@@ -73,7 +73,7 @@ text-vertices text lines points tags level same plain kept =
     ∙ kept-both is_vertex_line (map words_of lines) (map words_of (asked_lines tags level)) (map vertex_words points) [] kept (asked-none tags level)
     ∙ append-nil (map vertex_words points)
 
--- the text of the points alone is read back as their words
+-- the text of points is read back as their words
 points-back : (points : List Point) → obj_lines (point_lines points) ≡ map vertex_words points
 points-back points =
     let none = plain_level 0 [] in

@@ -35,7 +35,7 @@ use Rattle.theorems.proofs.ReadTagLemmas.{read-proper, read-common, read-texture
 use Rattle.theorems.proofs.RefinedPointLemmas.{points-count, texture-count, points-positive, texture-positive, points-over}
 use Rattle.theorems.proofs.CutCornerLemmas.{over-points, cut-levels-sharp, cut-corners-same}
 
--- what is known of a mesh that is read and accepted
+-- facts of a mesh that is read and accepted
 pub record IsSound (mesh : ObjMesh) : Type 0 where
   pub is_mesh : IsManifoldMesh mesh
   pub proper : HasProperTags mesh
@@ -101,7 +101,7 @@ module _ (mesh : ObjMesh) (is : IsSound mesh) (k : ℕ) where
   pub level-corners : list_all has_corners level.polygons ≡ true
   level-corners = all-weaker is_simple has_corners some-corners level.polygons (all-simple level.point_count level.polygons level-sharp.manifold)
 
-  -- a mesh that has what is read back goes on from the level
+  -- a mesh that is read back continues from the level
   pub goes-on : (second : ObjMesh) → IsReadBack level (points_after mesh k) second → IsContinuation CatmullClark k mesh second
   goes-on second back = record {
     manifold = is.is_mesh;
@@ -178,7 +178,7 @@ module _ (options : RefineOptions) (mesh : ObjMesh) (exact : options.decimals �
           subst (λ t. IsReadBack (mesh_level mesh depth) (points_after mesh depth) (read_obj_mesh t 0)) (sym (plain-tagged none))
           (mesh_read-back (written mesh is depth) 0)
 
-  -- and without texture where the mesh has none
+  -- the text has no texture if the mesh has none
   pub text-untextured : mesh.has_texture ≡ false → HasNoTexture (read_obj_mesh text 0)
   text-untextured none =
       subst (λ t. HasNoTexture (read_obj_mesh t 0)) (sym (plain-tagged none))

@@ -1,5 +1,5 @@
--- What the laws of continued refinement speak of: a text that `refine` wrote with tags, and the mesh that is read from it.
--- Source: this profile.
+-- A text that `refine` writes with tags, and the mesh read from it, for the laws of continued refinement.
+-- Source: Drillolive.
 use Rattle.std.specs.Prelude.{◌≡◌, ℕ, ◌+◌, ◌^◌, ◌≤◌, true, List, None, IsTrue}
 use Rattle.std.specs.List.{All, list_all, filter}
 use Rattle.subdiv_model.specs.Level.{Level}
@@ -16,11 +16,11 @@ use Rattle.far_model.specs.Refusal.{Answer}
 use Rattle.far_model.specs.Answer.{answer_of_bytes, points_after, texture_after}
 use Rattle.text_laws.specs.Readable.{is_short_point, is_readable_sharpness, IsTextureReadable}
 
--- what `refine` answers to bytes
+-- the answer of `refine` to the bytes
 abbrev pub refined : RefineOptions → List ℕ → Answer
 refined options bytes = answer_of_bytes (Refine options) bytes
 
--- bytes that `refine` does not refuse, with tags and without decimals
+-- bytes that `refine` accepts, with tags and without decimals
 pub record TaggedText : Type 0 where
   pub options : RefineOptions
   pub bytes : List ℕ
@@ -28,24 +28,27 @@ pub record TaggedText : Type 0 where
   pub tagged : options.tags ≡ true
   pub accepted : (refined options bytes).refusal ≡ None
 
--- the text that is written of them
+-- the text that `refine` writes for the bytes
 abbrev pub tagged_text : TaggedText → List ℕ
 tagged_text given = (refined given.options given.bytes).text
 
--- the mesh of the bytes, and the mesh of the text
+-- the mesh of the bytes
 abbrev pub first_mesh : TaggedText → ObjMesh
 first_mesh given = read_obj_mesh given.bytes 0
 
+-- the mesh of the text
 abbrev pub second_mesh : TaggedText → ObjMesh
 second_mesh given = read_obj_mesh (tagged_text given) 0
 
--- what is written there: the level, its points, and the texture values where the first mesh has texture
+-- the level that the text contains
 abbrev pub written_level : TaggedText → Level
 written_level given = refined_level (base_level (first_mesh given)) given.options.depth
 
+-- the points that the text contains
 abbrev pub written_points : TaggedText → List Point
 written_points given = points_after (first_mesh given) given.options.depth
 
+-- the texture values that the text contains if the first mesh has texture
 abbrev pub written_texture : TaggedText → List (Value × Value)
 written_texture given = texture_after (first_mesh given) given.options.uv given.options.depth
 
@@ -58,7 +61,7 @@ pub record HasShortNumbers (given : TaggedText) : Type 0 where
   pub numbers : All IsShortPoint (second_mesh given).points
   pub texture : (first_mesh given).has_texture ≡ true → IsTextureReadable (written_texture given) (second_mesh given)
 
--- `refine` refuses neither the text nor the bytes, at a depth that is greater by that of the text, and both without decimals
+-- `refine` accepts the text at some depth, and the bytes at that depth plus the depth of the text, both without decimals
 pub record FurtherSteps (given : TaggedText) : Type 0 where
   pub after : RefineOptions
   pub at_once : RefineOptions
@@ -68,10 +71,11 @@ pub record FurtherSteps (given : TaggedText) : Type 0 where
   pub accepted_after : (refined after (tagged_text given)).refusal ≡ None
   pub accepted_at_once : (refined at_once given.bytes).refusal ≡ None
 
--- the text that is written of the text, and the text of as many steps that is written of the bytes
+-- the text written after further steps from the text
 abbrev pub text_after : {given : TaggedText} → FurtherSteps given → List ℕ
 text_after {given} steps = (refined steps.after (tagged_text given)).text
 
+-- the text written after all steps from the bytes
 abbrev pub text_at_once : {given : TaggedText} → FurtherSteps given → List ℕ
 text_at_once {given} steps = (refined steps.at_once given.bytes).text
 

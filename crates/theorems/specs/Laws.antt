@@ -1,5 +1,5 @@
--- What the laws of tags speak of: a text or a mesh, and the last of its tags that name the same.
--- Source: this profile.
+-- Texts and meshes, and the last of their tags that names an item, for the laws of tags.
+-- Source: Drillolive.
 use Rattle.std.specs.Prelude.{◌≡◌, ℕ, Bool, false, nat_eq, List, ◌∷◌, ◌++◌, length, IsTrue}
 use Rattle.std.specs.List.{list_any, count_by}
 use Rattle.subdiv_model.specs.Polygons.{same_edge, polygon_at}
@@ -12,7 +12,7 @@ use Rattle.subdiv_model.specs.Level.{Level, edge_sharpness_of, vertex_sharpness_
 use Rattle.subdiv_model.specs.Base.{tagged_vertex, is_end_corner, is_hidden, base_level}
 use Rattle.theorems.specs.TagLines.{is_crease_line_of, is_corner_line_of, is_hole_line_of, is_boundary_line, is_method_line}
 
--- the last element of a list that passes: it does, and nothing after it does
+-- the last element of a list that passes the test: it passes, and no later element does
 pub record LastOf {X : Type 0} (passes : X → Bool) (xs : List X) : Type 0 where
   pub before : List X
   pub element : X
@@ -21,7 +21,7 @@ pub record LastOf {X : Type 0} (passes : X → Bool) (xs : List X) : Type 0 wher
   pub is_one : IsTrue (passes element)
   pub none_after : list_any passes after ≡ false
 
--- Of a mesh.
+-- Meshes.
 
 -- the crease names the edge, in either direction
 abbrev pub is_crease_of : ℕ × ℕ → (ℕ × ℕ) × Sharpness → Bool
@@ -39,7 +39,7 @@ LastCrease mesh edge = LastOf (is_crease_of edge) mesh.creases
 abbrev pub LastCornerTag : ObjMesh → ℕ → Type 0
 LastCornerTag mesh v = LastOf (is_corner_tag_of v) mesh.corner_tags
 
--- Of a text.
+-- Texts.
 
 -- the lines of an OBJ text, each as its words, read over a common denominator that is a multiple of `10^least`
 pub record Text : Type 0 where
@@ -78,11 +78,11 @@ edge_sharpness text edge = edge_sharpness_of (level_of text) edge
 abbrev pub vertex_sharpness : Text → ℕ → Sharpness
 vertex_sharpness text v = vertex_sharpness_of (level_of text) v
 
--- the vertex lines of the text, counted
+-- the number of vertex lines of the text
 abbrev pub vertex_count : Text → ℕ
 vertex_count text = count_by is_vertex_line text.lines
 
--- the faces of the text, counted
+-- the number of faces of the text
 abbrev pub face_count : Text → ℕ
 face_count text = length (faces_of text.lines)
 

@@ -1,5 +1,5 @@
--- What the laws of seams speak of: the levels of a cut mesh, and an end of a descendant of its boundary.
--- Source: this profile.
+-- The levels of a cut mesh, and the ends of the descendants of its boundary, for the laws of seams.
+-- Source: Drillolive.
 use Rattle.std.specs.Prelude.{ℕ, ℤ, List, length, IsTrue}
 use Rattle.std.specs.List.{list_any}
 use Rattle.subdiv_model.specs.Edges.{has_end}
@@ -13,19 +13,19 @@ use Rattle.subdiv_model.specs.Refined.{point_value, control_values, refined_valu
 use Rattle.subdiv_model.specs.Cut.{SeamMode, SmoothSeams, BoundarySeams, cut_level}
 use Rattle.theorems.specs.Descendants.{boundary_descendants}
 
--- the level of the cut mesh after k steps where its boundary stays sharp
+-- the level of the cut mesh after k steps, where its boundary stays sharp
 abbrev pub sharp_level : ObjMesh → ℕ → Level
 sharp_level mesh k = refined_level (cut_level BoundarySeams mesh) k
 
--- the level of the cut mesh after k steps where seams are smooth
+-- the level of the cut mesh after k steps, where seams are smooth
 abbrev pub smooth_level : ObjMesh → ℕ → Level
 smooth_level mesh k = refined_level (cut_level SmoothSeams mesh) k
 
--- the descendants after k steps of the boundary edges of the cut mesh where its boundary stays sharp
+-- the descendants after k steps of the boundary edges of the cut mesh, where its boundary stays sharp
 abbrev pub seam_descendants : ObjMesh → ℕ → List (ℕ × ℕ)
 seam_descendants mesh k = boundary_descendants (cut_level BoundarySeams mesh) k
 
--- an end p of a descendant of a boundary edge, after k steps, of the cut mesh of a manifold
+-- the end p of a descendant of a boundary edge, after k steps, in the cut mesh of a manifold
 pub record SeamEnd : Type 0 where
   pub mesh : ObjMesh
   pub k : ℕ
@@ -33,7 +33,7 @@ pub record SeamEnd : Type 0 where
   pub manifold : IsManifold (length mesh.points) mesh.faces
   pub is_end : IsTrue (list_any (has_end p) (seam_descendants mesh k))
 
--- the value at the end, of the cut mesh refined by the scheme from the control numbers
+-- the value at the end, refined by the scheme from the control numbers of the cut mesh
 abbrev pub cut_value : SeamMode → Scheme → List ℤ → SeamEnd → Value
 cut_value seams scheme controls end =
     point_value (refined_values (cut_level seams end.mesh) scheme (control_values controls) end.k) end.p

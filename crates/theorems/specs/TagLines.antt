@@ -1,4 +1,4 @@
--- What a tag line of an OBJ text names or sets. A line is its words.
+-- What a tag line of an OBJ text names or sets. A line is given as its words.
 use Rattle.std.specs.Prelude.{ℕ, Bool, ◌&&◌, nat_eq, List, codes}
 use Rattle.std.specs.List.{list_any}
 use Rattle.subdiv_model.specs.Polygons.{same_edge, is_among}

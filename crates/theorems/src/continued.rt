@@ -1,4 +1,4 @@
-//! The law of continued refinement: what `refine` writes with tags is read and refined further as the mesh that it came from.
+//! The law of continued refinement: `refine` refines its own output with tags like the mesh that the output came from.
 
 ghost use Rattle.std.specs.Prelude.{◌≡◌, ℕ, ◌+◌, false, None};
 ghost use Rattle.std.specs.List.{AllZip};
@@ -11,8 +11,8 @@ ghost use Rattle.continued_laws.specs.Laws.{IsPointOver, point_lines};
 ghost use Rattle.theorems.specs.Continued.{TaggedText, tagged_text, first_mesh, second_mesh, written_level, written_points, HasShortNumbers, FurtherSteps, text_after, text_at_once, vertex_lines};
 ghost use Rattle.theorems.specs.ContinuedExamples.{quads_text, quads_refined_text};
 
-/// A text that `refine` wrote at depth k with tags and without decimals gives the level again. Where it is read without a fault,
-/// its mesh is accepted. Level 0 of that mesh is level k of the first mesh, and its points have the values of the points there.
+/// The text that `refine` writes at depth k with tags, without decimals, gives the level again. If it is read without fault, its
+/// mesh is accepted. Level 0 of that mesh is level k of the first mesh, and its points have the values of the points there.
 pub fn tagged_texts_give_the_level_again()
     ensures accepted { (given : TaggedText) (command : ReadCommand) → read_obj_fault (tagged_text given) 0 ≡ None
         → IsAcceptedMesh (Reads command) (tagged_text given) (second_mesh given) }
@@ -20,14 +20,15 @@ pub fn tagged_texts_give_the_level_again()
     ensures points { (given : TaggedText) → AllZip (IsPointOver (second_mesh given).common) (written_points given) (second_mesh given).points }
 {}
 
-/// A text that `refine` wrote with tags and without decimals is read without a fault where no number in it is too long.
+/// The text that `refine` writes with tags, without decimals, is read without fault if no number in it is too long.
 pub fn tagged_texts_are_read()
     ensures { (given : TaggedText) → HasShortNumbers given → read_obj_fault (tagged_text given) 0 ≡ None }
 {}
 
-/// A text that `refine` wrote at depth k with tags and without decimals is refined further as the mesh that it came from. After
-/// j steps its level and its `v` lines are those of the first mesh after k + j steps. So are the `v` lines of the answers, where
-/// neither is refused. Where the first mesh has no texture and both ask for tags alike, the answers have one text.
+/// Refining the output of depth k by j steps gives the level and the `v` lines of the first mesh after k + j steps.
+///
+/// The output has tags and no decimals. The answers have these `v` lines too, if neither is refused. If the first mesh has no
+/// texture and both runs ask for tags alike, the two answers are one text.
 pub fn refinement_goes_on()
     ensures levels { (given : TaggedText) (j : ℕ) → refined_level (base_level (second_mesh given)) j
         ≡ refined_level (base_level (first_mesh given)) (given.options.depth + j) }
@@ -38,8 +39,8 @@ pub fn refinement_goes_on()
         → steps.after.tags ≡ steps.at_once.tags → text_after steps ≡ text_at_once steps }
 {}
 
-/// Two quads with a crease, a corner and a hole meet the premises. Their text after a step is that of the example. One more step
-/// from there writes what two steps write at once.
+/// An example: two quads with a crease, a corner and a hole. One step from their text after a step writes what two steps write at
+/// once.
 pub fn quads_are_refined_further()
     ensures { (given : TaggedText) × (steps : FurtherSteps given) × (given.bytes ≡ quads_text)
         × (tagged_text given ≡ quads_refined_text) × (steps.after.depth ≡ 1) × (text_after steps ≡ text_at_once steps) }

@@ -1,6 +1,6 @@
-//! Properties that the definitions have. No crate cites these laws.
+//! Laws that connect several parts of the definitions: continued refinement, sharp texture seams, and tags from text to level 0.
 //!
-//! Each public function here takes nothing, does nothing and returns nothing: its clauses are the laws.
+//! Each public function has an empty body: its clauses are the laws. No other crate cites them.
 #![tactic(auto)]
 
 pub mod continued;

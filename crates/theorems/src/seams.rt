@@ -14,10 +14,11 @@ ghost use Rattle.subdiv_model.specs.Examples.{joined_quads};
 ghost use Rattle.theorems.specs.Descendants.{boundary_descendants};
 ghost use Rattle.theorems.specs.Seams.{SeamEnd, cut_value, seam_descendants, sharp_level, smooth_level};
 
-/// Where the boundary of a cut mesh stays sharp, its texture is refined linearly there: at every depth each end of a
-/// descendant of a boundary edge has the value that linear refinement of the cut mesh gives it, whatever the control
-/// numbers are, and both values have a denominator above 0. The descendants are exactly the boundary edges of their
-/// level, in either direction. Each level has the same points and faces as where seams are smooth.
+/// Where the boundary of a cut mesh stays sharp, texture is refined linearly along it. At every depth each end of a descendant of
+/// a boundary edge has the value that linear refinement gives it, for all control numbers.
+///
+/// Both values have denominators above 0. The descendants are exactly the boundary edges of their level, in either direction.
+/// Each level has the points and faces that it has with smooth seams.
 pub fn texture_is_linear_on_sharp_seams()
     ensures linear { (end : SeamEnd) (controls : List ℤ)
         → IsSameValue (cut_value BoundarySeams CatmullClark controls end) (cut_value SmoothSeams Linear controls end) }
@@ -29,8 +30,8 @@ pub fn texture_is_linear_on_sharp_seams()
     ensures same_faces { (mesh : ObjMesh) (k : ℕ) → (sharp_level mesh k).polygons ≡ (smooth_level mesh k).polygons }
 {}
 
-/// Two quads side by side without a seam: their six outer edges, and the halves of these. A control number of 8 at one
-/// corner stays there where the boundary stays sharp, as under linear refinement, and else goes to 6.
+/// An example: two quads side by side without a seam, their six outer edges, and the halves of these. A control number of 8 at a
+/// corner stays 8 where the boundary stays sharp, and becomes 6 elsewhere.
 pub fn boundary_of_two_quads()
     ensures edges { boundary_descendants (cut_level BoundarySeams joined_quads) 0
         ≡ (0, 1) ∷ (2, 3) ∷ (3, 0) ∷ (1, 4) ∷ (4, 5) ∷ (5, 2) ∷ [] }

@@ -1,7 +1,7 @@
-//! Laws of tags, from the lines of an OBJ text to level 0: of those that name the same, the last counts, and holes add up.
+//! Laws of tags, from the lines of an OBJ text to level 0: the last tag that names an item counts, and holes add up.
 //!
-//! A list that is `before`, then `element`, then `after` has `element` as its last of a kind where it is of the kind and
-//! nothing of `after` is: the record `LastOf`.
+//! The record `LastOf` holds a list split as `before`, `element` and `after`: the element is of the kind, and nothing in `after`
+//! is.
 
 ghost use Rattle.std.specs.Prelude.{◌≡◌, ℕ, ◌<◌, false, ◌||◌, length, if◌then◌else◌, IsTrue};
 ghost use Rattle.std.specs.List.{list_any};
@@ -20,30 +20,30 @@ ghost use Rattle.theorems.specs.TagLines.{is_crease_line_of, is_corner_line_of, 
 
 // From the text to the mesh.
 
-/// An edge has the sharpness of the last crease line that names it, and of the last pair there.
+/// An edge has the sharpness of the last crease line that names it, and of the last pair in that line.
 pub fn last_crease_line_counts()
     ensures { (text : Text) (edge : ℕ × ℕ) (last : LastCreaseLine text edge)
         → tagged_edge (mesh_of text).creases edge ≡ tagged_edge (tag_creases last.element) edge }
 {}
 
-/// A vertex has the sharpness of the last corner line that names it, and of the last place there.
+/// A vertex has the sharpness of the last corner line that names it, and of the last place in that line.
 pub fn last_corner_line_counts()
     ensures { (text : Text) (v : ℕ) (last : LastCornerLine text v)
         → tagged_vertex (mesh_of text).corner_tags v ≡ tagged_vertex (tag_corners last.element) v }
 {}
 
-/// A face is named as a hole exactly where one of the hole lines names it.
+/// The mesh names a face as a hole exactly where one of the hole lines names it.
 pub fn hole_lines_add_up()
     ensures { (text : Text) (face : ℕ) → is_among (mesh_of text).holes face ≡ list_any (is_hole_line_of face) text.lines }
 {}
 
-/// The boundary mode is that of the last line that sets one, and without such a line it is edge only.
+/// The boundary mode is that of the last line that sets one. Without such a line it is edge only.
 pub fn last_boundary_line_counts()
     ensures last { (text : Text) (last : LastBoundaryLine text) → (mesh_of text).boundary ≡ tag_mode last.element }
     ensures untagged { (text : Text) → list_any is_boundary_line text.lines ≡ false → (mesh_of text).boundary ≡ EdgeOnly }
 {}
 
-/// The method is that of the last line that sets one, and without such a line it is the method `normal`.
+/// The method is that of the last line that sets one. Without such a line it is `normal`.
 pub fn last_method_line_counts()
     ensures last { (text : Text) (last : LastMethodLine text) → (mesh_of text).method ≡ tag_method last.element }
     ensures untagged { (text : Text) → list_any is_method_line text.lines ≡ false → (mesh_of text).method ≡ Normal }
@@ -51,8 +51,8 @@ pub fn last_method_line_counts()
 
 // From the mesh to level 0.
 
-/// At level 0 the last crease that names an edge gives its sharpness; an edge that no crease names is smooth,
-/// and a boundary edge is infinitely sharp whatever its creases.
+/// At level 0 an edge has the sharpness of the last crease that names it, and is smooth if none does. A boundary edge is
+/// infinitely sharp, whatever its creases.
 pub fn last_tag_names_the_edge()
     ensures last { (mesh : ObjMesh) (edge : ℕ × ℕ) (last : LastCrease mesh edge) → IsInnerEdge mesh.faces edge
         → edge_sharpness_of (base_level mesh) edge ≡ last.element.1 }
@@ -62,8 +62,8 @@ pub fn last_tag_names_the_edge()
         → edge_sharpness_of (base_level mesh) edge ≡ Infinite }
 {}
 
-/// At level 0 the last corner tag that names a vertex gives its sharpness; a vertex that none names is smooth,
-/// and one that the boundary mode makes a corner is infinitely sharp whatever its tags.
+/// At level 0 a vertex has the sharpness of the last corner tag that names it, and is smooth if none does. A vertex that the
+/// boundary mode makes a corner is infinitely sharp, whatever its tags.
 pub fn last_tag_names_the_vertex()
     ensures last { (mesh : ObjMesh) (v : ℕ) (last : LastCornerTag mesh v) → v < length mesh.points
         → is_end_corner mesh.boundary mesh.faces v ≡ false → vertex_sharpness_of (base_level mesh) v ≡ last.element.1 }
@@ -81,8 +81,8 @@ pub fn holes_add_up()
 
 // From the text to level 0.
 
-/// An edge of level 0 that is no boundary edge has the sharpness of the last crease line that names it, and of the
-/// last pair there. It is smooth where no line names it, and a boundary edge is infinitely sharp whatever its lines.
+/// At level 0 an inner edge has the sharpness of the last crease line that names it, and of the last pair in that line. It is
+/// smooth if no line names it. A boundary edge is infinitely sharp, whatever its lines.
 pub fn last_crease_line_gives_the_edge()
     ensures last { (text : Text) (edge : ℕ × ℕ) (last : LastCreaseLine text edge) → IsInnerEdge (faces_of text.lines) edge
         → edge_sharpness text edge ≡ tagged_edge (tag_creases last.element) edge }
@@ -91,9 +91,8 @@ pub fn last_crease_line_gives_the_edge()
     ensures boundary { (text : Text) (edge : ℕ × ℕ) → IsTrue (is_boundary (faces_of text.lines) edge) → edge_sharpness text edge ≡ Infinite }
 {}
 
-/// A vertex of level 0 has the sharpness of the last corner line that names it, and of the last place there, unless the
-/// boundary mode makes it a corner. It is smooth where no line names it, and such a corner is infinitely sharp
-/// whatever its lines.
+/// At level 0 a vertex has the sharpness of the last corner line that names it, and of the last place in that line. It is smooth
+/// if no line names it. A vertex that the boundary mode makes a corner is infinitely sharp, whatever its lines.
 pub fn last_corner_line_gives_the_vertex()
     ensures last { (text : Text) (v : ℕ) (last : LastCornerLine text v) → v < vertex_count text → is_mode_corner text v ≡ false
         → vertex_sharpness text v ≡ tagged_vertex (tag_corners last.element) v }
@@ -102,14 +101,14 @@ pub fn last_corner_line_gives_the_vertex()
     ensures end_corner { (text : Text) (v : ℕ) → v < vertex_count text → IsTrue (is_mode_corner text v) → vertex_sharpness text v ≡ Infinite }
 {}
 
-/// A face of level 0 is a hole exactly where one of the hole lines names it or the boundary mode hides it.
+/// A face of level 0 is a hole exactly where a hole line names it or the boundary mode hides it.
 pub fn hole_lines_give_the_holes()
     ensures { (text : Text) (face : ℕ) → face < face_count text
         → is_hole (level_of text) face ≡ (list_any (is_hole_line_of face) text.lines || is_hidden_under (boundary_of text.lines) text face) }
 {}
 
-/// The last line that sets a boundary mode decides which vertices of level 0 are infinitely sharp as corners, where all
-/// others have what corner lines give them, and which faces are hidden. Without such a line there is neither.
+/// The last line that sets a boundary mode decides which vertices of level 0 are infinitely sharp corners and which faces are
+/// hidden. Other vertices have what corner lines give them. Without such a line there are no such corners and no hidden faces.
 pub fn last_boundary_line_gives_the_mode()
     ensures vertices { (text : Text) (v : ℕ) (last : LastBoundaryLine text) → v < vertex_count text
         → vertex_sharpness text v ≡ (if is_corner_under (tag_mode last.element) text v then Infinite else corner_sharpness text v) }
@@ -121,7 +120,7 @@ pub fn last_boundary_line_gives_the_mode()
         → is_hole (level_of text) face ≡ list_any (is_hole_line_of face) text.lines }
 {}
 
-/// The method of level 0 is that of the last line that sets one, and without such a line it is `normal`.
+/// The method of level 0 is that of the last line that sets one. Without such a line it is `normal`.
 pub fn last_method_line_gives_the_method()
     ensures last { (text : Text) (last : LastMethodLine text) → (level_of text).method ≡ tag_method last.element }
     ensures untagged { (text : Text) → list_any is_method_line text.lines ≡ false → (level_of text).method ≡ Normal }
