@@ -1,4 +1,4 @@
--- What is found of the mesh of arrays is found of the arrays.
+-- The result for the mesh of arrays is the result for the arrays.
 use Rattle.std.proofs.Common.{◌≡◌, ℕ, ◌≤◌, None, inl, inr, List, map, subst, sym, ap, ◌∙◌, ◌<◌}
 use Rattle.std.specs.List.{All}
 use Rattle.ratio128.specs.declared.point.Point3.{Point3}
@@ -47,7 +47,7 @@ pub refused : (depth : ℕ) (arrays : MeshArrays) (mesh : ObjMesh) (fault : Faul
 refused depth arrays mesh fault found good is recorded =
     inr (inr (record { fault = fault; is = subst (λ m. IsFound fault (refusal_by (table_faults depth m) m)) good.same is; recorded = recorded }))
 
--- The points of a mesh that was composed.
+-- The points of a mesh whose table was composed.
 module _ (mesh : ObjMesh) (depth : ℕ) (composed : ComposedChannel) (points : List Point3) (is : IsComposedOf mesh depth composed) (made : IsTable composed.table) (said : map reader.point_of points ≡ mesh.points) where
   pub can-be-evaluated : CanEvaluate composed.table (map numbers points)
   can-be-evaluated = can-evaluate (positions_of mesh) depth (composed_of composed) is.composed made (map numbers points) (point-controls mesh points said)
@@ -77,7 +77,7 @@ points-found arrays depth mesh composed found few good is common are = record {
   put = all-can-be-put found.common found.points.items (subst (λ n. All (CanBeWritten n) found.points.items) (sym common) are.written);
 }
 
--- what is listed of their mesh is listed of the arrays
+-- the faults of the mesh are the faults of the arrays
 pub faults-found : (arrays : MeshArrays) (mesh : ObjMesh) (faults : List MeshFault) → IsMeshOf arrays mesh → AreListed mesh faults → AreFaultsOf arrays faults
 faults-found arrays mesh faults good listed = record { good = subst (IsMeshOf arrays) good.same good; listed = subst (λ m. AreListed m faults) good.same listed }
 

@@ -1,4 +1,4 @@
--- What is found of the levels of the mesh of arrays is found of the arrays.
+-- The result for the levels of the mesh of arrays is the result for the arrays.
 use Rattle.std.proofs.Common.{ℕ, ◌≤◌, inr, subst}
 use Rattle.subdiv_model.specs.Fault.{Fault}
 use Rattle.subdiv_model.specs.ObjMesh.{ObjMesh}

@@ -39,7 +39,7 @@ texture-rows uv mesh depth texture table is same =
 pub rows-refused : (rows : Rows) (mesh : ObjMesh) (fault : Fault) (found : FaultRecord) → IsFound fault (refusal_by (row_faults rows mesh) mesh) → IsRecordOf found fault → AreRowsRefused rows mesh found
 rows-refused rows mesh fault found is recorded = inl (record { fault = fault; is = is; recorded = recorded })
 
--- What is found of the mesh of arrays is found of the arrays.
+-- The result for the mesh of arrays is the result for the arrays.
 module _ (arrays : MeshArrays) (mesh : ObjMesh) (good : IsMeshOf arrays mesh) where
   is-mesh : IsMeshOf arrays (mesh_of_arrays arrays)
   is-mesh = subst (IsMeshOf arrays) good.same good
@@ -66,7 +66,7 @@ module _ (arrays : MeshArrays) (mesh : ObjMesh) (good : IsMeshOf arrays mesh) wh
       subst (λ r. MatchResult r (IsArrayTexture uv depth arrays) (IsRequestRefused (Some (TextureRows uv depth)) arrays)) (sym same)
       (inr (subst (λ m. AreRowsRefused (TextureRows uv depth) m fault) good.same refused))
 
--- They are those that are asked for.
+-- The rows are the requested ones.
 pub asked-rows : (request : RowRequest) (arrays : MeshArrays) (rows : Rows) (r : Result Table FaultRecord) → Some rows ≡ rows_asked request
     → MatchResult r (AreArrayRows rows arrays) (IsRequestRefused (Some rows) arrays) → AreRowsFound request arrays r
 asked-rows request arrays rows (Ok table) asked are = record { rows = rows; asked = sym asked; found = are }

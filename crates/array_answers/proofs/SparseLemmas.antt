@@ -22,7 +22,7 @@ use Rattle.array_answers.specs.declared.sparse.SparseArrays.{SparseArrays}
 use Rattle.array_answers.specs.declared.sparse.SparseRequest.{SparseRequest}
 use Rattle.array_answers.proofs.AnswerLemmas.{all-can-be-put}
 
--- a level has a value for each point that is written of it
+-- a level has a value for each of its written points
 one-for-each : (common : ℕ) (level : SparseValues Point3) (track : SparseTrack Point) (k : ℕ) → IsPointsLevel common level (points_part track k) → length level.values.items ≡ level.faces.point_count
 one-for-each common level track k is =
     sym (length-map level.values.items (point_of common)) ∙ length_all_zip IsSamePoint (points_of common level.values.items) (points_part track k).values is.same
@@ -43,13 +43,13 @@ sparse-of options mesh found few common are = record {
       };
 }
 
--- what is found of the mesh of arrays is found of the arrays
+-- the result for the mesh of arrays is the result for the arrays
 pub sparse-in : (options : SparseOptions) (arrays : MeshArrays) (mesh : ObjMesh) (r : Result SparseArrays FaultRecord) → IsMeshOf arrays mesh →
     MatchResult r (AreSparseOf options mesh) (IsRefusedBy (sparse_position_faults options mesh) mesh) → MatchResult r (AreSparseIn options arrays) (IsSparseRefused (Some options) arrays)
 sparse-in options arrays mesh (Ok found) good are = record { good = subst (IsMeshOf arrays) good.same good; are = subst (λ m. AreSparseOf options m found) good.same are }
 sparse-in options arrays mesh (Err found) good refused = inr (subst (λ m. IsRefusedBy (sparse_position_faults options m) m found) good.same refused)
 
--- and it is what the request asks for
+-- the result is the requested one
 pub asked-sparse : (request : SparseRequest) (arrays : MeshArrays) (options : SparseOptions) (r : Result SparseArrays FaultRecord) → Some options ≡ sparse_asked request →
     MatchResult r (AreSparseIn options arrays) (IsSparseRefused (Some options) arrays) → AreSparseFound request arrays r
 asked-sparse request arrays options (Ok found) asked are = record { options = options; asked = sym asked; are = are }

@@ -22,7 +22,7 @@ pub record IsRefinedOf (mesh : MeshArrays) (depth : ℕ) (refined : RefinedArray
   pub good : IsMeshOf mesh refined.mesh
   pub composed : IsComposedOf refined.mesh depth refined.composed
 
--- the level with its table, or the record of the fault for which the mesh has none
+-- the level with its table, or the record of the mesh's fault
 abbrev pub IsRefinement : MeshArrays → ℕ → Result RefinedArrays FaultRecord → Type 0
 IsRefinement mesh depth result =
     MatchResult result (IsRefinedOf mesh depth) (IsRefusal depth (table_faults depth (mesh_of_arrays mesh)) mesh)
@@ -37,7 +37,7 @@ pub record ArePointsOf (mesh : MeshArrays) (depth : ℕ) (refined : RefinedPoint
   pub points : AreRefined Tables (mesh_of_arrays mesh) depth level refined.points.items
   pub put : All (CanBePut refined.common) refined.points.items
 
--- the points, or the record of the fault for which the mesh has none
+-- the points, or the record of the mesh's fault
 abbrev pub ArePointsFound : MeshArrays → ℕ → Result RefinedPoints FaultRecord → Type 0
 ArePointsFound mesh depth result =
     MatchResult result (ArePointsOf mesh depth) (IsRefusal depth (table_faults depth (mesh_of_arrays mesh)) mesh)

@@ -16,10 +16,10 @@ pub record AreOriginsOfArrays (mesh : MeshArrays) (depth : ℕ) (origins : Origi
   pub good : IsMeshOf mesh (mesh_of_arrays mesh)
   pub origins_are : AreOriginsOf (mesh_of_arrays mesh) depth origins
 
--- the arrays are refused as the command `levels` refuses their mesh
+-- the command `levels` refuses the mesh of the arrays, and this is the record
 abbrev pub IsLevelsRefusal : MeshArrays → ℕ → FaultRecord → Type 0
 IsLevelsRefusal mesh depth found = IsRefusal depth (command_faults (Levels depth) (mesh_of_arrays mesh)) mesh found
 
--- the origins, or the record of the fault for which the mesh has none
+-- the origins, or the record of the mesh's fault
 abbrev pub AreArrayOrigins : MeshArrays → ℕ → Result Origins FaultRecord → Type 0
 AreArrayOrigins mesh depth result = MatchResult result (AreOriginsOfArrays mesh depth) (IsLevelsRefusal mesh depth)

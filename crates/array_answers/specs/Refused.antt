@@ -1,4 +1,4 @@
--- The record of the fault for which a mesh in arrays has no levels.
+-- The record of a refused mesh in arrays.
 use Rattle.std.specs.Prelude.{ℕ, ◌≡◌, ◌<◌, ◌⊎◌, List}
 use Rattle.subdiv_model.specs.Fault.{Fault}
 use Rattle.subdiv_model.specs.ObjMesh.{ObjMesh}
@@ -12,7 +12,7 @@ use Rattle.fault_record.specs.Back.{IsRecordOf}
 use Rattle.fault_record.specs.declared.record.FaultRecord.{FaultRecord}
 use Rattle.mesh_answers.specs.Refusals.{IsFound, refusal_by}
 
--- what is wrong with the options and the tags of arrays follows what is wrong with a part
+-- the faults of the options and tags of arrays come after the faults of a part
 abbrev pub record_of_arrays : ArraysFault → FaultRecord
 --                                                 status kind first second
 record_of_arrays arrays.Boundary = row 17 13 0 0
@@ -22,23 +22,23 @@ record_of_arrays (arrays.CornerSharpness place) = row 17 16 place 0
 record_of_arrays (arrays.Part bad) = record_of_bad_part bad
 record_of_arrays arrays.Memory = row 11 0 0 0
 
--- the depth is too great
+-- the depth is above 10
 abbrev pub bad_depth : FaultRecord
 bad_depth = row 19 0 0 0
 
--- the arrays are no mesh
+-- the arrays are not a mesh
 pub record AreNoMesh (mesh : MeshArrays) (found : FaultRecord) : Type 0 where
   pub fault : ArraysFault
   pub is : IsArraysFault mesh fault
   pub recorded : found ≡ record_of_arrays fault
 
--- the arrays are a mesh, of which this is the first fault, those of its levels among them
+-- the arrays are a mesh, and this is its first fault, with those of its levels
 pub record IsRefusedBy (faults : List Fault) (mesh : ObjMesh) (found : FaultRecord) : Type 0 where
   pub fault : Fault
   pub is : IsFound fault (refusal_by faults mesh)
   pub recorded : IsRecordOf found fault
 
--- why a mesh in arrays is refused with these faults of its levels to a depth: the depth comes first, then the arrays
+-- the first fault of a mesh in arrays, given the faults of its levels up to a depth: the depth, then the arrays, then the mesh
 abbrev pub IsRefusal : ℕ → List Fault → MeshArrays → FaultRecord → Type 0
 IsRefusal depth faults mesh found =
     ((10 < depth) × (found ≡ bad_depth)) ⊎ (AreNoMesh mesh found ⊎ IsRefusedBy faults (mesh_of_arrays mesh) found)

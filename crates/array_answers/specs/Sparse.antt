@@ -1,4 +1,4 @@
--- The sparse levels of a mesh in arrays, and why it has none.
+-- The sparse levels of a mesh in arrays, and the faults for which it has none.
 use Rattle.std.specs.Prelude.{ℕ, zero, suc, ◌≡◌, ◌≤◌, ◌⊎◌, nat_le, length, Option, Some, None, option_map, Result, MatchResult, if◌then◌else◌}
 use Rattle.std.specs.List.{All}
 use Rattle.subdiv_model.specs.ObjMesh.{ObjMesh}
@@ -14,17 +14,17 @@ use Rattle.array_answers.specs.Rows.{bad_request}
 use Rattle.array_answers.specs.declared.sparse.SparseArrays.{SparseArrays}
 use Rattle.array_answers.specs.declared.sparse.SparseRequest.{SparseRequest}
 
--- which faces are refined further, by its number
+-- the faces to refine, by their number
 abbrev pub select_of_number : ℕ → Option Select
 select_of_number zero = Some FeatureFaces
 select_of_number (suc zero) = Some AllFaces
 select_of_number (suc (suc number)) = None
 
--- what `sparse` is asked for, without texture and decimals
+-- the options of `sparse`, without texture and decimals
 abbrev pub sparse_options : ℕ → Select → SparseOptions
 sparse_options depth select = record { depth = depth; select = select; decimals = None; uv = None }
 
--- what a request asks for, where its numbers are in their ranges
+-- the options of a request, if its numbers are in their ranges
 abbrev pub sparse_asked : SparseRequest → Option SparseOptions
 sparse_asked request = if nat_le request.depth 10 then option_map (sparse_options request.depth) (select_of_number request.select) else None
 
@@ -40,17 +40,17 @@ pub record AreSparseIn (options : SparseOptions) (arrays : MeshArrays) (found : 
   pub good : IsMeshOf arrays (mesh_of_arrays arrays)
   pub are : AreSparseOf options (mesh_of_arrays arrays) found
 
--- they are those that are asked for
+-- the arrays are a mesh, and these are the sparse levels that the request asks for
 pub record AreSparseAsked (request : SparseRequest) (arrays : MeshArrays) (found : SparseArrays) : Type 0 where
   pub options : SparseOptions
   pub asked : sparse_asked request ≡ Some options
   pub are : AreSparseIn options arrays found
 
--- why arrays are refused: a number of the request comes first, then the arrays, and then the mesh
+-- the record of refused arrays: a number of the request comes first, then the arrays, then the mesh
 abbrev pub IsSparseRefused : Option SparseOptions → MeshArrays → FaultRecord → Type 0
 IsSparseRefused None arrays found = found ≡ bad_request
 IsSparseRefused (Some options) arrays found = AreNoMesh arrays found ⊎ IsRefusedBy (sparse_position_faults options (mesh_of_arrays arrays)) (mesh_of_arrays arrays) found
 
--- the levels, or the record of why there are none
+-- the levels, or the record of the first fault
 abbrev pub AreSparseFound : SparseRequest → MeshArrays → Result SparseArrays FaultRecord → Type 0
 AreSparseFound request arrays result = MatchResult result (AreSparseAsked request arrays) (IsSparseRefused (sparse_asked request) arrays)

@@ -14,14 +14,16 @@ use std::alloc::Global;
 use std::marker::Brand;
 use std::sync::ledger::{Blank, Ledger};
 
-/// A mesh, and its level at a depth with the table of its points over those of the mesh.
+/// A mesh, and its level at a depth with the table of its points over the points of the mesh.
 #[derive(Drop)]
 pub struct RefinedArrays {
+    /// The mesh.
     pub mesh: RawMesh,
+    /// Its level with the table.
     pub composed: ComposedChannel,
 }
 
-// The level of a mesh in arrays, with a counter of its own.
+// The level of a mesh in arrays, with a new counter of steps.
 fn refine_counted<L: Ledger>(
     alloc: Global,
     blank: Blank,
@@ -45,10 +47,10 @@ fn refine_counted<L: Ledger>(
     }
 }
 
-/// Returns the mesh of the arrays with its level at a depth of at most 10, and the table of its points.
+/// Returns the mesh of the arrays, its level at `depth`, at most 10, and the table of the level's points over those of the mesh.
 ///
-/// The record is that of the first of these: `BAD_ARGUMENT` where the depth is above 10, the first fault of the arrays, and the faults of
-/// the command `stencils` in their order.
+/// The record is that of the first fault: `BAD_ARGUMENT` for a depth above 10; a fault of the arrays; a fault of the command `stencils`,
+/// in its order. `Memory` may come at any time.
 pub fn refine_arrays(
     alloc: Global,
     arrays: &MeshArrays,

@@ -12,7 +12,7 @@ use mesh_check::{MeshFault, mesh_faults};
 use raw_mesh::RawMesh;
 use std::alloc::Global;
 
-// The faults of a mesh, or the record of want of memory.
+// The faults of a mesh, or the record of `Memory`.
 fn listed(alloc: Global, mesh: &RawMesh) -> Result<Vec<MeshFault>, FaultRecord>
     ensures { MatchResult result (λ faults. AreListed mesh.now faults.items) (λ found. found ≡ row 11 0 0 0) }
 {
@@ -22,10 +22,9 @@ fn listed(alloc: Global, mesh: &RawMesh) -> Result<Vec<MeshFault>, FaultRecord>
     }
 }
 
-/// Returns all faults of the mesh of the arrays, in the order in which [`mesh_faults`](mesh_check::mesh_faults) lists them: none where it is a
-/// manifold.
+/// Returns all faults of the mesh of the arrays, in the order of [`mesh_faults`](mesh_check::mesh_faults). A manifold has none.
 ///
-/// The record is that of the first fault of the arrays, or of want of memory.
+/// The record is that of the first fault of the arrays, or of `Memory`.
 pub fn faults_of_arrays(alloc: Global, arrays: &MeshArrays) -> Result<Vec<MeshFault>, FaultRecord>
     ensures { MatchResult result (λ faults. AreFaultsOf arrays.now faults.items) (AreNoMesh arrays.now) }
 {

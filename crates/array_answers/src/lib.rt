@@ -1,5 +1,6 @@
-//! What is answered to a mesh in arrays that a caller owns: its level at a depth, the points there, tables of rows, its texture, where its parts lie on
-//! the mesh, its sparse levels, and all faults of the mesh.
+//! Answers requests about a mesh in a caller's arrays, exactly. The answers are its level at a depth, the points there, tables of rows,
+//! its texture, its origins, its sparse levels, and all its faults. The arrays are a `MeshArrays` of `mesh_arrays`. An error is a
+//! `FaultRecord` of `fault_record`. Depths are at most 10.
 #![tactic(auto)]
 
 mod compose;

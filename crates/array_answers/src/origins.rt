@@ -13,7 +13,7 @@ use std::alloc::Global;
 use std::marker::Brand;
 use std::sync::ledger::{Blank, Ledger};
 
-// The origins of a level of a mesh in arrays, with a counter of its own.
+// The origins of a level of a mesh in arrays, with a new counter of steps.
 fn origins_counted<L: Ledger>(
     alloc: Global,
     blank: Blank,
@@ -37,10 +37,10 @@ fn origins_counted<L: Ledger>(
     }
 }
 
-/// Returns the part of the mesh of the arrays that each point, each edge and each face of its level at a depth of at most 10 lies on.
+/// Returns, for each point, edge and face of the level at `depth`, at most 10, the part of the mesh of the arrays on which it lies.
 ///
-/// The record is that of the first of these: `BAD_ARGUMENT` where the depth is above 10, the first fault of the arrays, and the faults of
-/// the command `levels` in their order.
+/// The record is that of the first fault: `BAD_ARGUMENT` for a depth above 10; a fault of the arrays; a fault of the command `levels`, in
+/// its order. `Memory` may come at any time.
 pub fn origins_of_arrays(
     alloc: Global,
     arrays: &MeshArrays,

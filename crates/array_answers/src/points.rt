@@ -14,15 +14,16 @@ use std::alloc::Global;
 use std::marker::Brand;
 use std::sync::ledger::{Blank, Ledger};
 
-/// The points of a level. A coordinate is a numerator over the point's denominator times the common one.
+/// The points of a level. The numerators of a point are over its own denominator times the common one.
 #[derive(Drop)]
 pub struct RefinedPoints {
     /// The common denominator of the mesh.
     pub common: u128,
+    /// The points of the level.
     pub points: Vec<Valued<Point3>>,
 }
 
-// The points of a mesh in arrays, with a counter of its own.
+// The points of a mesh in arrays, with a new counter of steps.
 fn points_counted<L: Ledger>(
     alloc: Global,
     blank: Blank,
@@ -55,10 +56,10 @@ fn points_counted<L: Ledger>(
     }
 }
 
-/// Returns the points of the level of a mesh in arrays at a depth of at most 10, in the order of the level.
+/// Returns the points of the level of a mesh in arrays at `depth`, at most 10, in the order of the level.
 ///
-/// The record is that of the first of these: `BAD_ARGUMENT` where the depth is above 10, the first fault of the arrays, and the faults of
-/// the command `stencils` in their order.
+/// The record is that of the first fault: `BAD_ARGUMENT` for a depth above 10; a fault of the arrays; a fault of the command `stencils`,
+/// in its order. `Memory` may come at any time.
 pub fn refine_points(
     alloc: Global,
     arrays: &MeshArrays,

@@ -1,4 +1,4 @@
-//! The records of faults of arrays.
+//! The records of refused arrays and requests.
 
 ghost use Rattle.std.specs.Prelude.{◌≡◌};
 ghost use Rattle.array_answers.specs.Refused as spec;
@@ -9,7 +9,7 @@ use far_fault::FarFault;
 use fault_record::{BAD_ARGUMENT, BAD_ARRAYS, FaultRecord, record_of};
 use mesh_arrays::ArraysFault;
 
-// A record of arrays.
+// A record with the status of refused arrays.
 fn bad_arrays(kind: u32, place: usize) -> FaultRecord
     ensures { result ≡ row 17 kind place 0 }
 {
@@ -35,7 +35,7 @@ pub(crate) fn record_of_arrays(fault: &ArraysFault) -> FaultRecord
     }
 }
 
-/// The record of a request with a number that is out of its range, or with texture that the mesh does not have.
+/// The record of a request with a number out of its range, or for a texture that the mesh does not have.
 pub(crate) fn bad_request() -> FaultRecord
     ensures { result ≡ bad_request }
 {

@@ -1,4 +1,4 @@
-//! The rows that a caller asks for.
+//! Requests for rows.
 
 ghost use Rattle.std.specs.Prelude.{◌≡◌, IfSome, option_map};
 ghost use Rattle.far_model.specs.Command.{Uv};
@@ -14,24 +14,25 @@ const LAST_FACE: u32 = 4194303;
 
 const GRID_LIMIT: u32 = 64;
 
-/// Which rows of a mesh are asked for. No call looks at the fields that the kind does not name.
+/// A request for rows of a mesh. A call ignores the fields that the kind does not name.
 #[repr(C)]
 #[derive(Clone, Copy, Debug, PartialEq, Eq)]
 pub struct RowRequest {
-    /// 0: the points of the level at `depth`. 1: their limit points, where `depth` is at least 1. 2: the places of the patch of `face` of
-    /// this level, with `grid` steps along each side. 3: the texture points of this level, with `seams`.
+    /// 0: the points of the level at `depth`; 1: the limit points of these, with a `depth` of at least 1; 2: the places of the patch of
+    /// `face`; 3: the texture points of the level.
     pub kind: u32,
-    /// At most 10.
+    /// The depth, at most 10.
     pub depth: u32,
-    /// How the texture is refined: 0 smooth, 1 with sharp corners, 2 with sharp boundaries, 3 linear.
+    /// The parts of a texture that stay sharp: 0 none, 1 the corners of charts, 2 their whole boundaries, 3 every point, by linear
+    /// refinement.
     pub seams: u32,
     /// The number of the face, counted from 0, below 2^22.
     pub face: u32,
-    /// From 1 to 64.
+    /// The number of steps along each side of the patch, from 1 to 64.
     pub grid: u32,
 }
 
-/// The rows of a request whose numbers are in their ranges.
+/// A request whose numbers are in their ranges.
 #[derive(Clone, Copy)]
 pub(crate) enum AskedRows {
     Points { depth: u32 },
@@ -40,7 +41,7 @@ pub(crate) enum AskedRows {
     Texture { uv: Uv, depth: u32 },
 }
 
-// How the texture is refined, by its number.
+// The rule of a texture, by its number.
 fn uv_of(seams: u32) -> Option<Uv>
     ensures { option_map uv_of_code result ≡ uv_of_number seams }
 {
@@ -89,7 +90,7 @@ fn patch_of(depth: u32, face: u32, grid: u32) -> Option<AskedRows>
     }
 }
 
-/// How the texture points at a depth are refined, where both numbers are in their ranges.
+/// The rule and the depth of a texture, if both numbers are in their ranges.
 pub(crate) fn uv_asked(seams: u32, depth: u32) -> Option<Uv>
     ensures rows { option_map (λ uv. TextureRows (uv_of_code uv) depth) result ≡ texture_asked seams depth }
     ensures range { IfSome result (λ uv. AreInRange (TextureRows (uv_of_code uv) depth)) }
@@ -109,7 +110,7 @@ fn texture_of(seams: u32, depth: u32) -> Option<AskedRows>
     uv_asked(seams, depth).map(|uv| AskedRows::Texture { uv, depth })
 }
 
-/// The rows that are asked for, where the numbers of the request are in their ranges.
+/// The requested rows, if the numbers of the request are in their ranges.
 pub(crate) fn asked_rows(request: &RowRequest) -> Option<AskedRows>
     ensures rows { option_map rows_of_code result ≡ rows_asked request.now }
     ensures range { IfSome result (λ rows. AreInRange (rows_of_code rows)) }

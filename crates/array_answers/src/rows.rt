@@ -21,20 +21,20 @@ use std::marker::Brand;
 use std::sync::ledger::{Blank, Ledger};
 use stencil_apply::StencilTable;
 
-// The table of a level, which the function leaves behind.
+// The table of a level. The function drops the level.
 fn table_of(composed: ComposedChannel) -> StencilTable
     ensures { result ≡ composed.table }
 {
-    // The prover proves a drop by name once for its type.
+    // The prover proves a named drop once for each type.
     drop(composed.level);
     composed.table
 }
 
-// The table of a texture, whose level and values the function leaves behind.
+// The table of a texture. The function drops the level and the values.
 fn table_of_texture(texture: ComposedTexture) -> StencilTable
     ensures { result ≡ texture.table }
 {
-    // The prover proves a drop by name once for its type.
+    // The prover proves a named drop once for each type.
     drop(texture.level);
     drop(texture.values);
     texture.table
@@ -106,7 +106,7 @@ fn texture_rows<L: Ledger>(
     }
 }
 
-// The rows of a mesh that are asked for.
+// The requested rows of a mesh.
 fn rows_of_mesh<L: Ledger>(
     alloc: Global,
     mesh: &RawMesh,
@@ -124,7 +124,7 @@ fn rows_of_mesh<L: Ledger>(
     }
 }
 
-// The rows of a mesh in arrays, with a counter of its own.
+// The rows of a mesh in arrays, with a new counter of steps.
 fn rows_counted<L: Ledger>(
     alloc: Global,
     blank: Blank,
@@ -148,12 +148,15 @@ fn rows_counted<L: Ledger>(
     }
 }
 
-/// Returns the table of the rows that a request asks for, of the mesh of the arrays. Its controls are the points of the mesh, or the
-/// points of the cut mesh where it has the rows of texture points.
+/// Returns the table of the requested rows of the mesh of the arrays. Its control points are the points of the mesh, or for texture
+/// points those of the cut mesh.
 ///
-/// The record is that of the first of these: `BAD_ARGUMENT` where a number of the request is out of its range, the first fault of the
-/// arrays, the faults of the mesh in the order of the rows' definition, and `BAD_ARGUMENT` where the mesh has no texture that is asked
-/// for.
+/// The record is that of the first fault; `Memory` may come at any time:
+///
+/// - `BAD_ARGUMENT` for a number of the request out of its range;
+/// - a fault of the arrays;
+/// - a fault of the command `stencils`, `limit` or `patch`, in its order, or of `compose_texture` of `mesh_answers`;
+/// - `BAD_ARGUMENT` for the texture of a mesh without one.
 pub fn rows_of_arrays(
     alloc: Global,
     arrays: &MeshArrays,

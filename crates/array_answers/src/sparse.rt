@@ -21,25 +21,26 @@ use std::sync::ledger::{Blank, Ledger};
 
 const DEPTH_LIMIT: u32 = 10;
 
-/// Which sparse levels of a mesh are asked for.
+/// A request for sparse levels of a mesh.
 #[repr(C)]
 #[derive(Clone, Copy, Debug, PartialEq, Eq)]
 pub struct SparseRequest {
-    /// The last level, counted from 0. It is at most 10.
+    /// The last level, counted from 0, at most 10.
     pub depth: u32,
-    /// Which faces are refined further. 0: those near features. 1: all.
+    /// The faces to refine. 0: those near features. 1: all.
     pub select: u32,
 }
 
-/// The sparse levels of a mesh from level 0 on. A coordinate is a numerator over the point's denominator times the common one.
+/// The sparse levels of a mesh from level 0 on. The numerators of a point are over its own denominator times the common one.
 #[derive(Drop)]
 pub struct SparseArrays {
     /// The common denominator of the mesh.
     pub common: u128,
+    /// The levels with the points that each writes.
     pub levels: Vec<SparseValues<Point3>>,
 }
 
-// Which faces are refined further, by its number.
+// The faces to refine, by their number.
 fn select_of(number: u32) -> Option<Select>
     ensures { option_map select_of_code result ≡ select_of_number number }
 {
@@ -50,7 +51,7 @@ fn select_of(number: u32) -> Option<Select>
     }
 }
 
-// What `sparse` is asked for, without texture and decimals.
+// The options of the command `sparse`, without texture and decimals.
 fn options_with(depth: u32, select: Select) -> SparseOptions
     ensures { sparse_of_code result ≡ sparse_options depth (select_of_code select) }
 {
@@ -62,7 +63,7 @@ fn options_with(depth: u32, select: Select) -> SparseOptions
     }
 }
 
-// What a request asks for, where its numbers are in their ranges.
+// The options of a request, if its numbers are in their ranges.
 fn options_of(request: &SparseRequest) -> Option<SparseOptions>
     ensures options { option_map sparse_of_code result ≡ sparse_asked request.now }
     ensures depth { IfSome result (λ options. options.depth ≤ 10) }
@@ -97,7 +98,7 @@ fn sparse_of_mesh<L: Ledger>(
     }
 }
 
-// The sparse levels of a mesh in arrays, with a counter of its own.
+// The sparse levels of a mesh in arrays, with a new counter of steps.
 fn sparse_counted<L: Ledger>(
     alloc: Global,
     blank: Blank,
@@ -121,10 +122,13 @@ fn sparse_counted<L: Ledger>(
     }
 }
 
-/// Returns the sparse levels of a mesh in arrays from level 0 to a depth, with the points that are written of each.
+/// Returns the sparse levels of a mesh in arrays from level 0 to a depth, with the points that each level writes.
 ///
-/// The record is that of the first of these: `BAD_ARGUMENT` where a number of the request is out of its range, the first fault of the
-/// arrays, and the faults of the command `sparse` in their order, as far as they are of the positions.
+/// The record is that of the first fault; `Memory` may come at any time:
+///
+/// - `BAD_ARGUMENT` for a number of the request out of its range;
+/// - a fault of the arrays;
+/// - a fault of the command `sparse` without texture, in its order.
 pub fn sparse_of_arrays(
     alloc: Global,
     arrays: &MeshArrays,

@@ -18,15 +18,16 @@ use std::alloc::Global;
 use std::marker::Brand;
 use std::sync::ledger::{Blank, Ledger};
 
-/// A level of the cut mesh of a mesh, with the table of its texture points and the values of the points of the cut mesh.
+/// A level of a mesh's cut mesh, with the table of its texture points and the values of the points of the cut mesh.
 #[derive(Drop)]
 pub struct TextureArrays {
+    /// The level, its table and the values.
     pub texture: ComposedTexture,
     /// The common denominator of the values.
     pub common: u128,
 }
 
-/// The texture of a mesh at a depth, or the record of why there is none.
+/// The texture of a mesh at a depth, or the record of its fault.
 pub(crate) fn texture_of_mesh<L: Ledger>(
     alloc: Global,
     mesh: &RawMesh,
@@ -46,7 +47,7 @@ pub(crate) fn texture_of_mesh<L: Ledger>(
     }
 }
 
-// A texture with the common denominator of its values, where it was found.
+// A texture with the common denominator of its values, or the fault.
 fn with_common(
     mesh: &RawMesh,
     texture: Result<ComposedTexture, FaultRecord>,
@@ -59,7 +60,7 @@ fn with_common(
     texture.map(|texture| TextureArrays { texture, common })
 }
 
-// The texture of a mesh in arrays, with a counter of its own.
+// The texture of a mesh in arrays, with a new counter of steps.
 fn texture_counted<L: Ledger>(
     alloc: Global,
     blank: Blank,
@@ -85,11 +86,16 @@ fn texture_counted<L: Ledger>(
     }
 }
 
-/// Returns the level of the cut mesh of the arrays at a depth of at most 10, with the table of its texture points over those of the cut
-/// mesh, and their values. `seams` says how the texture is refined: 0 smooth, 1 with sharp corners, 2 with sharp boundaries, 3 linear.
+/// Returns the level of the arrays' cut mesh at `depth`, at most 10, with the table of its texture points. The control points of the
+/// table are the points of the cut mesh; the call returns their values too. `seams` chooses what stays sharp: 0 nothing, 1 the corners of
+/// charts, 2 their whole boundaries, 3 every point, by linear refinement.
 ///
-/// The record is that of the first of these: `BAD_ARGUMENT` where the depth is above 10 or `seams` is above 3, the first fault of the
-/// arrays, the faults of `compose_texture` of `mesh_answers` in their order, and `BAD_ARGUMENT` where the mesh has no texture.
+/// The record is that of the first fault; `Memory` may come at any time:
+///
+/// - `BAD_ARGUMENT` for a depth above 10 or `seams` above 3;
+/// - a fault of the arrays;
+/// - a fault of `compose_texture` of `mesh_answers`, in its order;
+/// - `BAD_ARGUMENT` for a mesh without texture.
 pub fn texture_of_arrays(
     alloc: Global,
     arrays: &MeshArrays,

@@ -137,7 +137,7 @@ fn record(numbers: (u32, u32, u64, u64)) -> FaultRecord {
     }
 }
 
-// The line of the record stands at the front of the bytes, and the byte behind it stays.
+// The line of the record is at the front of the bytes, and the byte behind it stays.
 fn expect_line(rt: &impl Abort, kept: &FaultRecord, text: &str) {
     let mut out = [7u8; 128];
     let len = put_line(kept, &mut out) as usize;
@@ -169,7 +169,7 @@ fn a_line_is_cut_where_there_is_no_room(rt: HostRuntime) {
     assert_eq!(rt; put_line(&memory, &mut []), 19);
 }
 
-// Numbers that are the record of no fault.
+// Numbers of records that no fault has.
 const STRANGE: &[(u32, u32, u64, u64)] = &[
     (0, 0, 0, 0),
     (1, 0, 0, 0),

@@ -1,10 +1,10 @@
-//! Whole runs over slices: the status, the texts, and how long they are.
+//! Whole runs over slices: the status, the texts and their lengths.
 
 use run_in_memory::{Ran, run_in_memory};
 
 const TRIANGLE: &str = "v 0 0 0\nv 12 0 0\nv 0 12 0\nf 1 2 3\n";
 
-// The words and the input; how the run ended; and what stands in a slice of 10 bytes and in one of 30.
+// The words and the input; the result of the run; the contents of a slice of 10 bytes and of one of 30.
 type Run = (
     &'static [u8],
     &'static str,

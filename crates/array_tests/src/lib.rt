@@ -1,4 +1,4 @@
-//! Tests of the crates that read and fill arrays of a caller.
+//! Tests the crates that read and fill a caller's arrays.
 #![tactic(auto)]
 
 #[cfg(test)]

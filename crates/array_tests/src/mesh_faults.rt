@@ -23,7 +23,7 @@ struct Case {
 }
 
 const CASES: &[Case] = &[
-    // Three triangles at each of two edges, and a face of two corners behind them. Of three sides two have one direction.
+    // Three triangles at each of two edges, and a face of two corners behind them. Two of the three sides have one direction.
     Case {
         sizes: &[3, 3, 3, 3, 3, 3, 2],
         corners: &[0, 1, 2, 1, 0, 3, 0, 1, 4, 6, 5, 2, 5, 6, 3, 6, 5, 4, 7, 0],
@@ -35,19 +35,20 @@ const CASES: &[Case] = &[
             MeshFault::WindingClash(6, 5),
         ],
     },
-    // A face of two corners behind one that has a vertex twice. No vertex is judged, though two triangles meet at one alone.
+    // A face of two corners behind one that has a vertex twice. The check looks at no vertex, though two triangles touch in one vertex
+    // only.
     Case {
         sizes: &[3, 3, 4, 2],
         corners: &[0, 1, 2, 0, 3, 4, 5, 6, 5, 7, 8, 9],
         faults: &[MeshFault::FaceTooSmall(3), MeshFault::RepeatedVertex(2)],
     },
-    // Two pairs of triangles, each of which meet at one vertex.
+    // Two pairs of triangles. Each pair touches in one vertex.
     Case {
         sizes: &[3; 4],
         corners: &[5, 6, 7, 0, 1, 2, 5, 8, 9, 0, 3, 4],
         faults: &[MeshFault::SplitVertex(0), MeshFault::SplitVertex(5)],
     },
-    // A cube, and two points of no face.
+    // A cube, and two points without a face.
     Case {
         sizes: &[4; 6],
         corners: &[

@@ -66,7 +66,7 @@ fn pyramid() -> MeshArrays<'static> {
     }
 }
 
-// An array for each of the pyramid's, one item longer.
+// The arrays of the pyramid, each one item longer.
 const NO_POINT: WidePoint = WidePoint {
     x: Wide { low: 9, high: 9 },
     y: Wide { low: 9, high: 9 },
@@ -118,7 +118,7 @@ fn a_mesh_goes_into_other_arrays(rt: HostRuntime) {
     assert_eq!(rt; options.method, 1);
 }
 
-// The fault of arrays that are no mesh.
+// The fault of arrays that are not a mesh.
 fn fault_of(rt: &HostRuntime, arrays: &MeshArrays) -> Option<ArraysFault> {
     match mesh_of_arrays(rt.alloc(), arrays) {
         Ok(_) => None,

@@ -1,4 +1,4 @@
-//! Where levels of meshes in arrays lie on the meshes.
+//! The parts of meshes in arrays on which their levels lie.
 
 use crate::answers::cube;
 use array_answers::origins_of_arrays;
@@ -6,7 +6,7 @@ use flat_arrays::Wide;
 use level_origins::{OriginCounts, OriginPlaces, counts_of, put_origins};
 use mesh_arrays::{MeshArrays, WidePoint};
 
-// The kinds and the numbers of the cube's points after two steps, by where these lie in space where no point is moved.
+// The kinds and the numbers of the cube's points after two steps, by their places in a cube that no step moves.
 const CUBE_KINDS: [u8; 98] = [
     0, 0, 0, 0, 0, 0, 0, 0, 2, 2, 2, 2, 2, 2, 1, 1, 1, 1, 1, 1, 1, 1, 1, 1, 1, 1, 2, 2, 2, 2, 2, 2,
     2, 2, 2, 2, 2, 2, 2, 2, 2, 2, 2, 2, 2, 2, 2, 2, 2, 2, 1, 2, 2, 1, 1, 2, 1, 1, 2, 1, 1, 1, 2, 2,
@@ -68,7 +68,7 @@ fn points_of_a_cube_lie_on_its_parts(rt: HostRuntime) {
     }
 }
 
-// The edges of the triangle come last: the middle of each, and then both ends of each half.
+// The edges of the triangle come last: the middle of each, then both ends of each half.
 #[test]
 fn edges_of_a_triangle_keep_their_numbers(rt: HostRuntime) {
     let origins = origins_of_arrays(rt.alloc(), &triangle(), 2).expect(

@@ -1,4 +1,4 @@
-//! Refined points in arrays of a caller.
+//! Refined points in a caller's arrays.
 
 use flat_arrays::Wide;
 use point_arrays::{put_exact_points, put_exact_values, put_points32, put_points64};

@@ -1,4 +1,4 @@
-//! Rows that are asked for of meshes in arrays, and the texture of these.
+//! Requests for rows of meshes in arrays and for their texture.
 
 use crate::answers::cube;
 use array_answers::{RowRequest, TextureArrays, rows_of_arrays, texture_of_arrays};
@@ -50,7 +50,7 @@ fn unfolded_cube() -> MeshArrays<'static> {
     arrays
 }
 
-// A request, and how many controls and rows its table has.
+// A request, and the numbers of control points and rows of its table.
 struct Shape {
     request: RowRequest,
     controls: u32,

@@ -1,4 +1,4 @@
-//! Rows evaluated exactly, and fractions rounded, in arrays.
+//! Exact evaluation of rows and rounding of fractions, in arrays.
 
 use flat_arrays::Wide;
 use row_arrays::{
@@ -6,7 +6,7 @@ use row_arrays::{
     round_fractions32, round_fractions64,
 };
 
-// What stands in an array before.
+// The contents of an array before the call.
 const OLD: Wide = Wide { low: 7, high: 7 };
 
 const ZERO: Wide = Wide { low: 0, high: 0 };
@@ -19,7 +19,7 @@ const SIGN: Wide = Wide {
     high: 0x8000_0000_0000_0000,
 };
 
-// Evaluates a range of three rows, of which the second has no entries, over three controls of two components.
+// Evaluates a range of three rows over three controls of two components. The second row has no entries.
 fn apply(from: u32, to: u32, out: &mut [Wide]) -> Result<(), RowFault> {
     let numerators = [1u128, 3, 2, 1, 1].map(|n| Wide::of_natural(n));
     let numbers = [4i128, -8, 16, 5, -3, 7].map(|n| Wide::of_integer(n));
@@ -67,8 +67,8 @@ struct OneEntry {
     fault: RowFault,
 }
 
-// No components; a range that is turned round, and one past the rows; no place; a row that is turned round, past the entries, and of a control
-// that is not there; a product that is too great.
+// No components; a range that is turned round, and one past the rows; no place; a row that is turned round, past the entries, and of a
+// control that does not exist; a product that is too great.
 const REFUSED: &[OneEntry] = &[
     OneEntry {
         starts: &[0, 1],
@@ -199,7 +199,7 @@ fn the_least_integer_is_a_product(rt: HostRuntime) {
     assert_eq!(rt; out, [SIGN]);
 }
 
-// Three fractions, of which two have the first denominator.
+// Three fractions. Two of them share the first denominator.
 fn fractions(numerators: &[Wide; 3]) -> FractionArrays<'_> {
     FractionArrays {
         numerators,
@@ -234,7 +234,7 @@ fn fractions_have_the_nearest_doubles_and_floats(rt: HostRuntime) {
     assert_eq!(rt; floats, [0x3f10_0000, 0xbea0_0000, 0x3d2a_aaab, 7]);
 }
 
-// How many share a denominator, the numerators, the denominators, the scale, and the fault.
+// The number of numerators for each denominator, the numerators, the denominators, the scale, and the fault.
 type BadFractions = (u32, &'static [Wide], &'static [Wide], Wide, FractionFault);
 
 // No sharing; no place; no denominator; one that is 0; a scale of 0, and one that is too great; a numerator that is too great.

@@ -7,13 +7,13 @@ use flat_arrays::Wide;
 use nearest_float::FloatFault;
 use std::test::Fail;
 
-// What stands in an array before.
+// The contents of an array before the call.
 const OLD: Wide = Wide { low: 7, high: 7 };
 
 // The bits of doubles, their scale, and their numerators over it.
 type Scaled = (&'static [u64], Result<u128, NumberFault>, &'static [i128]);
 
-// One half, -13/4 and 3; no number; a tenth, -0 and 10^20; the finest scale; the least numerators that are too large; what has no
+// One half, -13/4 and 3; no number; a tenth, -0 and 10^20; the finest scale; the least numerators that are too large; numbers without a
 // fraction.
 const SCALED: &[Scaled] = &[
     (
@@ -115,7 +115,7 @@ fn floats_have_numerators_over_one_denominator(rt: HostRuntime) {
     assert_eq!(rt; out[3], OLD);
 }
 
-// The bits of doubles, the grid's bits, how many change, and their numerators.
+// The bits of doubles, the bits of the grid, the number of changed doubles, and the numerators.
 type Rounded = (
     &'static [u64],
     u32,
@@ -123,7 +123,7 @@ type Rounded = (
     &'static [i128],
 );
 
-// A tenth, -3/10 and 1 over 2^10; ties; 10^-300 and the least number; the greatest numerators; what is refused.
+// A tenth, -3/10 and 1 over 2^10; ties; 10^-300 and the least number; the greatest numerators; refused numbers.
 const ROUNDED: &[Rounded] = &[
     (
         &[

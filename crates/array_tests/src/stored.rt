@@ -1,4 +1,4 @@
-//! Stored tables: written, read back, made of rows in arrays, and checked beside a mesh.
+//! Stored tables: written, read back, made from rows in arrays, and compared with a mesh.
 
 ghost use Rattle.std.specs.Prelude.{◌≤◌, length};
 
@@ -19,7 +19,7 @@ const TWO: Wide = Wide { low: 2, high: 0 };
 
 const THREE: Wide = Wide { low: 3, high: 0 };
 
-// Writes the table of the cube at depth 1, and returns how many bytes its text has.
+// Writes the table of the cube at depth 1, and returns the length of its text in bytes.
 fn write_cube(rt: &impl Abort, alloc: Global, out: &mut [u8]) -> usize
     ensures { result ≤ length out.old }
 {
@@ -36,7 +36,7 @@ fn read_into(rt: &impl Abort, alloc: Global, text: &[u8], places: &mut ExactPlac
     assert!(rt; put_exact_table(read.table(), places));
 }
 
-// Writes the text of the table of rows, and returns how many bytes it has.
+// Writes the text of the table of rows, and returns its length in bytes.
 fn write_rows(rt: &impl Abort, alloc: Global, rows: &ExactRows, out: &mut [u8]) -> u64 {
     let table = table_of_rows(alloc, rows).expect(rt, "the rows are those of a table");
     write_stored(&table, out)
@@ -95,7 +95,7 @@ fn a_text_is_cut_where_there_is_no_room(rt: HostRuntime) {
     assert_eq!(rt; &out, b"table controls 2");
 }
 
-// The starts and the denominators of rows that are refused, and the numbers of their record.
+// The starts and the denominators of refused rows, and the numbers of their record.
 type RefusedRows = (&'static [u32], &'static [Wide], (u64, u64));
 
 const ROWS_REFUSED: &[RefusedRows] = &[
@@ -142,11 +142,11 @@ fn the_first_bad_row_comes_as_a_record(rt: HostRuntime) {
     }
 }
 
-// The table of the cube at depth 0, of which each row is a control point.
+// The table of the cube at depth 0, each row of which is a control point.
 const IDENTITY: &str =
     "table controls 8 rows 8 entries 8\ns 1 0 1\ns 1 1 1\ns 1 2 1\ns 1 3 1\ns 1 4 1\ns 1 5 1\ns 1 6 1\ns 1 7 1\n";
 
-// A depth, a text that is refused beside the cube there, and the status, the kind and the first number of its record.
+// A depth, a text that is not the cube's table there, and the status, the kind and the first number of the record.
 type RefusedText = (u32, &'static str, (u32, u32, u64));
 
 const TEXTS_REFUSED: &[RefusedText] = &[
@@ -158,7 +158,7 @@ const TEXTS_REFUSED: &[RefusedText] = &[
         "table controls 8 rows 1 entries 1\ns 2 0 1\n",
         (14, 2, 2),
     ),
-    // Bytes stand behind the table.
+    // Bytes follow the table.
     (
         0,
         "table controls 8 rows 1 entries 1\ns 1 0 1\n\n",
@@ -166,7 +166,7 @@ const TEXTS_REFUSED: &[RefusedText] = &[
     ),
     // A row differs.
     (1, IDENTITY, (15, 0, 0)),
-    // A row is not there.
+    // A row is missing.
     (
         0,
         "table controls 8 rows 1 entries 1\ns 1 0 1\n",

@@ -1,4 +1,4 @@
-//! Streams over slices: the bytes that are left, what stands in the slice, and how long the whole text is.
+//! Streams over slices: the bytes that are left, the contents of the slice, and the length of the whole text.
 
 ghost use Rattle.std.specs.Prelude.{◌≡◌};
 ghost use Rattle.memory_streams.specs.Text.{IsStored, count_of};
@@ -7,7 +7,7 @@ use far_io::{Sink, Source, read_all, write_all_of};
 use memory_streams::{SliceSink, SliceSource};
 use std::test::Fail;
 
-// Writes a text into a slice, and returns how long it is.
+// Writes a text into a slice, and returns its length.
 fn text_into(text: &[u8], out: &mut [u8]) -> u64
     ensures total { result ≡ count_of text.now }
     ensures stored { IsStored text.now out.new }
@@ -17,7 +17,7 @@ fn text_into(text: &[u8], out: &mut [u8]) -> u64
     sink.finish()
 }
 
-// A text, how many bytes it has, and what stands in a slice of four dots afterwards.
+// A text, its length in bytes, and the contents of a slice of four dots afterwards.
 type Writing = (&'static str, u64, &'static str);
 
 const WRITINGS: &[Writing] = &[

@@ -1,4 +1,4 @@
--- The levels of a channel from 0 on, each made from the one before it.
+-- The levels of a channel from 0 on. Each comes from the one before it.
 use Rattle.std.proofs.Common.{◌≡◌, ℕ, zero, suc, ◌+◌, ◌-◌, ◌*◌, ◌<◌, ◌≤◌, Bool, true, false, nat_lt, max, pos, ◌*ℤ◌, List, [], ◌∷◌, length, map, get_or, arith, refl, ap, sym, ◌∙◌, subst}
 use Rattle.std.specs.List.{All, AllByRecursion, sum_by, range_with_len}
 use Rattle.std.proofs.Math.Nat.{mul-le-mul_left}
@@ -29,7 +29,7 @@ use Rattle.channel_refine.proofs.DenominatorLemmas.{IsSound, all-positive, each-
 use Rattle.channel_refine.proofs.UniformLemmas.{AreNextNumbers, next-numbers}
 use Rattle.channel_refine.proofs.ValueLemmas.{from-dens, kept, alike-own, times}
 
--- the level after k steps with its values, where no number of the levels so far passes its bound
+-- the level after k steps with its values; no number of the levels so far passes its bound
 pub record IsReached (channel : Channel) (controls : List Row) (k : ℕ) (t : Topology) (rows : List Row) : Type 0 where
   pub base : IsSound channel.base
   pub level : series.IsReached channel.base k t
@@ -47,7 +47,7 @@ pub record IsReached (channel : Channel) (controls : List Row) (k : ℕ) (t : To
 plus-one : (k : ℕ) → k + 1 ≡ suc k
 plus-one k = omega arith
 
--- what holds of k levels and of the next holds of one level more
+-- a fact about k levels and about the next is one about k + 1 levels
 pub none-more : (P : ℕ → Type 0) (k : ℕ) → ((j : ℕ) → j < k → P j) → P k → (j : ℕ) → j < k + 1 → P j
 none-more P k before here j h = go (nat_lt j k) refl
   where
@@ -134,7 +134,7 @@ module _ (channel : Channel) (controls : List Row) (k : ℕ) (t : Topology) (row
     alike = is.alike;
   }
 
-  -- one level more
+  -- one more level
   module _ (next : Topology) (next_rows : List Row) (child : ChildTopology) (refined : IsRefined t child) (same : next ≡ child.topology)
       (step : AreCarried (max channel.greatest channel.common) t.level channel.scheme child.origins rows next_rows) where
     numbers : AreNextNumbers (max channel.greatest channel.common) t.level channel.scheme (dens_of rows) (dens_of next_rows)
@@ -174,7 +174,7 @@ module _ (channel : Channel) (controls : List Row) (k : ℕ) (t : Topology) (row
           (from-dens (λ n. n ≤ greatest_of (dens_of next_rows)) next_rows (each-below (dens_of next_rows) 1) j d h) step.fits;
     }
 
--- The terms of one level more, and those of more levels are no fewer.
+-- The terms of one more level; more levels have no fewer terms.
 
 pub terms-next : (base : Level) (scheme : Scheme) (k : ℕ) → terms_to base scheme (k + 1) ≡ terms_to base scheme k + mask_terms (refined_level base k) scheme
 terms-next base scheme k =

@@ -1,4 +1,4 @@
--- The tables of a channel from level 0 on, each made from the one before it.
+-- The tables of a channel from level 0 on. Each comes from the one before it.
 use Rattle.std.proofs.Common.{◌≡◌, ℕ, suc, ◌+◌, ◌*◌, ◌<◌, ◌≤◌, true, false, nat_lt, max, ℤ, List, [], ◌∷◌, length, map, replicate, arith, IsTrue, refl, ap, sym, ◌∙◌, subst}
 use Rattle.std.specs.List.{sum_by}
 use Rattle.std.proofs.lemmas.Bool.{le-ltb}
@@ -33,7 +33,7 @@ use Rattle.channel_refine.proofs.IdentityLemmas.{identity-dens, identity-support
 use Rattle.channel_refine.proofs.TableLemmas.{dens-short}
 use Rattle.channel_refine.proofs.UniformLemmas.{AreNextNumbers, next-numbers}
 
--- the level after k steps with its table, where the levels so far have no fault
+-- the level after k steps with its table; the levels so far have no fault
 pub record IsReached (channel : Channel) (k : ℕ) (t : Topology) (table : Table) : Type 0 where
   pub base : IsSound channel.base
   pub level : series.IsReached channel.base k t
@@ -87,7 +87,7 @@ module _ (channel : Channel) (k : ℕ) (t : Topology) (table : Table) (is : IsRe
     fits = is.fits;
   }
 
-  -- the supports of the next level, from those of this one
+  -- the supports of the next level, from those of this level
   supports-after : child_supports table.controls t.level channel.scheme (supports_of table) ≡ refined_supports channel.base channel.scheme (suc k)
   supports-after =
       ap (λ controls. child_supports controls t.level channel.scheme (supports_of table)) is.controls
@@ -104,7 +104,7 @@ module _ (channel : Channel) (k : ℕ) (t : Topology) (table : Table) (is : IsRe
     pub entries-fault : has_entry_fault Tables (whole_levels channel) k ≡ nat_lt entry_bound (entries_from t.level channel.scheme child.origins table)
     entries-fault = ap (nat_lt entry_bound) (sym (ap (sum_by length) supports-are))
 
-    -- one level more
+    -- one more level
     module _ (next : Topology) (next_table : Table) (same : next ≡ child.topology)
         (step : IsCarried (max channel.greatest channel.common) t.level channel.scheme child.origins table next_table) where
       numbers : AreNextNumbers (max channel.greatest channel.common) t.level channel.scheme (dens_of table) (dens_of next_table)

@@ -1,4 +1,4 @@
--- Controls that a table is evaluated over.
+-- The controls of a table.
 use Rattle.std.proofs.Common.{◌≡◌, ℕ, ◌*◌, ◌<◌, ◌≤◌, ℤ, List, [], ◌∷◌, length, map, take, get_or, Option, Some, None, Bor, arith, refl, ap, sym, ◌∙◌, subst}
 use Rattle.std.specs.List.{All, slice_get}
 use Rattle.std.specs.Option.{option_copied}
@@ -31,19 +31,19 @@ pub none-over : {X : Type 0} (numbers : X → List ℤ) (r : Option (Bor X)) (co
     → option_copied r ≡ slice_get controls 0 → r ≡ None → table.rows ≡ []
 none-over numbers r controls table is each copied none = no-rows table.controls table.rows is.rows (sym each ∙ no-first numbers r controls copied none)
 
--- and the numbers of the first are the first numbers
+-- the numbers of the first row are the first numbers
 pub first-numbers : {X : Type 0} (numbers : X → List ℤ) (r : Option (Bor X)) (xs : List X) (b : Bor X) → option_copied r ≡ slice_get xs 0 → r ≡ Some b
     → numbers b.now ≡ get_or (map numbers xs) 0 []
 first-numbers numbers r [] b copied some = let both : Some b.now ≡ None = ap option_copied (sym some) ∙ copied in absurd (cc)
 first-numbers numbers r (x ∷ xs) b copied some = let both : Some b.now ≡ Some x = ap option_copied (sym some) ∙ copied in let same : b.now ≡ x = cc in ap numbers same
 
 module _ {X : Type 0} (numbers : X → List ℤ) (controls : List X) (table : Table) (can : CanEvaluate table (map numbers controls)) where
-  -- each has as many numbers as the first
+  -- each row has as many numbers as the first
   pub control-alike : (like : List ℤ) → like ≡ get_or (map numbers controls) 0 [] → (k : ℕ) (d : X) → k < length controls → length (numbers (get_or controls k d)) ≡ length like
   control-alike like is k d h =
       ap length (sym (get_or-map_all numbers controls k d)) ∙ can.alike k (numbers d) (omega (arith, h, length-map controls numbers)) ∙ ap length (sym is)
 
-  -- and keeps the bound
+  -- each row keeps the bound
   pub control-fits : (k : ℕ) (d : X) → k < length controls → greatest_of table * greatest_amount (numbers (get_or controls k d)) ≤ number_bound
   control-fits k d h =
       subst (λ ns. greatest_of table * greatest_amount ns ≤ number_bound) (get_or-map_all numbers controls k d) (can.fits k (numbers d) (omega (arith, h, length-map controls numbers)))

@@ -21,7 +21,7 @@ use Rattle.mask_laws.proofs.BoundaryLemmas.{IsSharpAtBoundary, sharp-levels}
 use Rattle.mask_laws.proofs.MeanLemmas.{means-levels}
 use Rattle.subdiv_model.specs.Multiples.{lcm_of_all}
 
--- a level 0 whose masks are means, and so are those of each level after it
+-- the masks of a level 0 are means, and so are the masks of each later level
 pub record IsSound (base : Level) : Type 0 where
   pub formed : IsTrue (is_well_formed base)
   pub manifold : IsManifold base.point_count base.polygons
@@ -35,7 +35,7 @@ sharp-base base is = record {
   sharp = is.boundary;
 }
 
--- a mask's, where those of its sources are
+-- the denominator of a mask is above 0 if those of its sources are
 mask-positive : (den : SourcePoint → ℕ) (mask : Mask) → 0 < mask.denominator → AllByRecursion (λ t. 0 < den t.source) mask.terms → 0 < mask_denominator den mask
 mask-positive den mask some each =
     product-positive mask.denominator (lcm_of_all (map (λ t. den t.source) mask.terms)) some (lcm_of_all-positive (map (λ t. den t.source) mask.terms) (dens mask.terms each))
@@ -100,7 +100,7 @@ pub each-below : (numbers : List ℕ) (start : ℕ) → AllByRecursion (λ n. n 
 each-below [] start = tt
 each-below (n ∷ numbers) start = (omega (arith, fold-above numbers (max start n)), each-below numbers (max start n))
 
--- the greatest of one value more
+-- the greatest after one more value
 pub greatest-more : {P : Type 0} (values : List (Valued P)) (i m : ℕ) (v : Valued P) → i < length values → v ≡ get_or values i v → m ≡ greatest_of (map (λ x. x.den) (take i values))
     → max m v.den ≡ greatest_of (map (λ x. x.den) (take (i + 1) values))
 greatest-more {P} values i m v inside at is =

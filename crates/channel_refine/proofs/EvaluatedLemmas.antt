@@ -29,7 +29,7 @@ use Rattle.channel_refine.proofs.SumLemmas.{sum-at, length-sum, sum-within}
 abbrev control_row : List ℤ → Row
 control_row numbers = record { numbers = numbers; den = 1 }
 
--- what holds of the rows of controls
+-- a fact about the rows of controls
 of-controls : (P : Row → Type 0) (controls : List (List ℤ)) → All P (control_rows controls) → All (λ numbers. P (record { numbers = numbers; den = 1 })) controls
 of-controls P controls all k d h =
     subst P (get_or-map_all control_row controls k d)
@@ -68,9 +68,9 @@ evaluated-dens (row ∷ rows) controls zero_numbers = ap (λ dens. row.den ∷ d
 pub each-control : (channel : Channel) (controls : List (List ℤ)) → AreControls channel (control_rows controls) → length controls ≡ channel.base.point_count
 each-control channel controls are = sym (length-map controls control_row) ∙ are.each
 
--- A table over the points of level 0, which evaluates to values that keep the bounds of a channel.
+-- A table over the points of level 0. Its values keep the bounds of a channel.
 module _ (channel : Channel) (some : Table) (count : some.controls ≡ channel.base.point_count) where
-  -- it can be evaluated over the controls of the channel
+  -- the table can be evaluated over the controls of the channel
   pub can-evaluate-by : greatest_of some * max channel.greatest channel.common ≤ number_bound → (controls : List (List ℤ)) → AreControls channel (control_rows controls) → CanEvaluate some controls
   can-evaluate-by scaled controls are = record {
     each = each-control channel controls are ∙ sym count;
@@ -152,7 +152,7 @@ module _ (channel : Channel) (some : Table) (count : some.controls ≡ channel.b
         All-map (λ row. length row.numbers ≡ length (row_at (control_rows controls) 0).numbers) (evaluated_row controls) some.rows
         (λ k d h. length-sum controls (zeros (get_or controls 0 [])) (get_or some.rows k d).shares ∙ length-zeros (get_or controls 0 []) ∙ ap length (sym (first-control controls)))
 
--- the denominator of each row keeps the bound that the greatest keeps
+-- the denominator of each row keeps the bound of the greatest
 pub short-rows : (some : Table) (most : ℕ) → greatest_of some * most ≤ number_bound → All (λ row. row.den * most ≤ number_bound) some.rows
 short-rows some most scaled k d h = times (get_or some.rows k d).den (greatest_of some) most (each-den k d h) scaled
   where
@@ -174,7 +174,7 @@ module _ (channel : Channel) (depth : ℕ) (composed : ComposedTable) (is : IsCo
   pub can-evaluate : (controls : List (List ℤ)) → AreControls channel (control_rows controls) → CanEvaluate some controls
   can-evaluate controls are = can-evaluate-by channel some is.controls is.fits controls are
 
-  -- it has as many entries as the last level
+  -- the table has as many entries as the last level
   pub entries-are : entries_of some.rows ≡ entries_after channel.base channel.scheme depth
   entries-are = sym (entries-by-support some.rows) ∙ ap (sum_by length) is.supports
 

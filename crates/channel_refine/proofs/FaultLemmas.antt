@@ -1,4 +1,5 @@
--- The faults of a level in their order, as a list of tests: where none holds there is none, and else the first is that of the first that holds.
+-- The faults of a level in their order, as a list of tests. If no test passes there is no fault; else the fault is that of the first test
+-- that passes.
 use Rattle.std.proofs.Common.{◌≡◌, ℕ, zero, suc, ◌<◌, Bool, true, false, List, [], ◌∷◌, ◌++◌, get_or, Some, refl, ap, ◌∙◌}
 use Rattle.std.specs.List.{AllByRecursion}
 use Rattle.subdiv_model.specs.Lists.{first_of}
@@ -6,19 +7,19 @@ use Rattle.subdiv_model.specs.Fault.{Fault, TooLarge, Entries, Overflow, Track, 
 use Rattle.subdiv_model.specs.Channel.{TrackLevels, Asked, Sharpnesses, Values, Tables, fault_where, has_chaikin_overflow, has_transition_overflow, has_denominator_overflow, has_many_entries, has_value_overflow, level_faults, track_faults}
 use Rattle.uniform_walk.proofs.FaultLemmas.{none-of-levels, first-of-levels}
 
--- tests, each with the fault that stands where it holds
+-- tests, each with the fault that it reports
 abbrev pub held_faults : List (Bool × Fault) → List Fault
 held_faults [] = []
 held_faults (test ∷ []) = fault_where test.0 test.1
 held_faults (test ∷ next ∷ tests) = fault_where test.0 test.1 ++ held_faults (next ∷ tests)
 
--- the test at a place holds, and none before it
+-- the test at a place passes, and none before it does
 abbrev pub IsFirstHeld : List (Bool × Fault) → ℕ → Type 0
 IsFirstHeld [] at = ⊥
 IsFirstHeld (test ∷ tests) zero = test.0 ≡ true
 IsFirstHeld (test ∷ tests) (suc at) = (test.0 ≡ false) × IsFirstHeld tests at
 
--- where no test holds there is no fault, and else the first is that of the first test that does
+-- if no test passes there is no fault; else the first fault is that of the first test that passes
 pub none-held : (tests : List (Bool × Fault)) → AllByRecursion (λ test. test.0 ≡ false) tests → held_faults tests ≡ []
 none-held [] all = refl
 none-held ((b, fault) ∷ []) all = rw all.0 refl
@@ -31,19 +32,19 @@ first-held ((b, fault) ∷ []) (suc at) none is = absurd is.1
 first-held ((b, fault) ∷ next ∷ tests) zero none is = rw is refl
 first-held ((b, fault) ∷ next ∷ tests) (suc at) none is = rw is.0 (first-held (next ∷ tests) at none is.1)
 
--- values are asked for, with or without tables
+-- the request is for values, with or without tables
 abbrev pub AsksValues : Asked → Type 0
 AsksValues Sharpnesses = ⊥
 AsksValues Values = Unit {0}
 AsksValues Tables = Unit {0}
 
--- a table is asked for that has too many entries
+-- the request is for a table, and it has too many entries
 abbrev pub has_entry_fault : Asked → TrackLevels → ℕ → Bool
 has_entry_fault Sharpnesses levels k = false
 has_entry_fault Values levels k = false
 has_entry_fault Tables levels k = has_many_entries levels k
 
--- the level after k + 1 steps has no fault of those that are asked for
+-- the level after k + 1 steps has no fault that is asked for
 pub record HasNoFault (asked : Asked) (levels : TrackLevels) (k : ℕ) : Type 0 where
   pub chaikin : has_chaikin_overflow levels k ≡ false
   pub transition : has_transition_overflow levels k ≡ false
@@ -74,7 +75,7 @@ module _ (asked : Asked) (values : AsksValues asked) (levels : TrackLevels) (tra
   pub no-faults : (depth : ℕ) → ((k : ℕ) → k < depth → HasNoFault asked levels k) → track_faults asked levels track depth ≡ []
   no-faults depth none = none-of-levels asked levels track depth (λ k h. none-of-level k (none k h))
 
-  -- the first level that has one, and which is its first
+  -- the first level that has a fault, and its first fault
   module _ (k depth : ℕ) (within : k < depth) (before : (j : ℕ) → j < k → HasNoFault asked levels j) where
     first-of-level : (at : ℕ) → IsFirstHeld (tests asked levels track k) at
         → first_of (track_faults asked levels track depth) ≡ Some (get_or (tests asked levels track k) at (false, Overflow track 0 ChaikinOverflow)).1

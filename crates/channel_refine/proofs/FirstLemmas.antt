@@ -1,4 +1,4 @@
--- The first fault of a channel, where a level has one and those before it have none.
+-- The first fault of a channel: a level has one, and the levels before it have none.
 use Rattle.std.proofs.Common.{◌≡◌, ℕ, suc, ◌+◌, ◌*◌, ◌<◌, ◌≤◌, true, false, nat_lt, max, List, Some, arith, ap, sym, ◌∙◌, subst}
 use Rattle.std.specs.List.{list_any}
 use Rattle.std.proofs.lemmas.Bool.{le-ltb, lt-ltb}
@@ -23,7 +23,7 @@ use Rattle.channel_refine.proofs.FaultLemmas.{AsksValues, HasNoFault, has_entry_
 use Rattle.channel_refine.proofs.UniformLemmas.{AreNextNumbers, no-chaikin, no-transition, some-transition}
 use Rattle.channel_refine.proofs.ValueLemmas.{none-passes}
 
--- the levels so far have no fault of those that are asked for; the last of them, and its common denominators
+-- the levels so far have no fault that is asked for; the last of them, and its common denominators
 module _ (asked : Asked) (values : AsksValues asked) (channel : Channel) (k : ℕ) (none : (j : ℕ) → j < k → HasNoFault asked (whole_levels channel) j)
     (level : Level) (here : level ≡ channel_level channel k) (dens : List ℕ) (known : dens ≡ denominators_after channel k) where
   pub dens-after : denominators_after channel (suc k) ≡ child_denominators level channel.scheme dens
@@ -42,7 +42,7 @@ module _ (asked : Asked) (values : AsksValues asked) (channel : Channel) (k : �
       → at_some_point (transition_overflows_at (channel_level channel k) channel.scheme) (channel_level channel k) ≡ true
   transition-some h = subst (λ some. at_some_point (transition_overflows_at some channel.scheme) some ≡ true) here h
 
-  -- the next level has none either
+  -- the next level has no fault either
   pub none-here : (next : List ℕ) → AreNextNumbers (max channel.greatest channel.common) level channel.scheme dens next → has_entry_fault asked (whole_levels channel) k ≡ false → HasNoFault asked (whole_levels channel) k
   none-here next are entries = record {
     chaikin = chaikin-none are.chaikin;
@@ -54,7 +54,7 @@ module _ (asked : Asked) (values : AsksValues asked) (channel : Channel) (k : �
         (subst (λ some. greatest_of some * max channel.greatest channel.common ≤ number_bound) (are.dens_are ∙ sym dens-after) are.fits);
   }
 
--- the next level has one, and it is the first
+-- the next level has a fault, and it is the first one
 module _ (asked : Asked) (values : AsksValues asked) (channel : Channel) (k : ℕ) (none : (j : ℕ) → j < k → HasNoFault asked (whole_levels channel) j)
     (t : Topology) (here : t.level ≡ channel_level channel k) (dens : List ℕ) (known : dens ≡ denominators_after channel k) (depth : ℕ) (within : k < depth) where
   named : suc k ≡ k + 1
@@ -65,7 +65,7 @@ module _ (asked : Asked) (values : AsksValues asked) (channel : Channel) (k : �
   first-of-level cause is =
       refused-first asked channel k (λ track j h. none-of-level asked values (whole_levels channel) track j (none j h)) t.level here depth within cause is
 
-  -- or nothing can be carried to it
+  -- numbers cannot be carried to the level
   module _ (child : ChildTopology) (refined : IsRefined t child) (next : List ℕ) (are : next ≡ child_denominators t.level channel.scheme dens)
       (entries : ℕ) (few : has_entry_fault asked (whole_levels channel) k ≡ nat_lt entry_bound entries) where
     after : denominators_after channel (suc k) ≡ next

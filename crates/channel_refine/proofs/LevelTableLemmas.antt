@@ -14,7 +14,7 @@ use Rattle.subdiv_model.specs.Table.{level_table}
 use Rattle.stencil_apply.specs.Table.{Share, Row, Table, IsRow, IsTable, row_at, entries_of}
 use Rattle.stencil_apply.specs.Means.{numerator_of}
 
--- the first of ascending controls is below each other
+-- the first of ascending controls is below each later one
 first-below : (share : Share) (shares : List Share) → AllPairs (λ x y. x < y) (map (λ (s : Share). s.0) (share ∷ shares)) → All (λ s. share.0 < s.0) shares
 first-below share shares up k d h =
     subst (λ (n : ℕ). share.0 < n) (get_or-map (λ (s : Share). s.0) shares k d d.0 h)
@@ -23,7 +23,7 @@ first-below share shares up k d h =
 rest-up : (share : Share) (shares : List Share) → AllPairs (λ x y. x < y) (map (λ (s : Share). s.0) (share ∷ shares)) → AllPairs (λ x y. x < y) (map (λ (s : Share). s.0) shares)
 rest-up share shares up i j d less h = up (suc i) (suc j) d (omega (arith, less)) (omega (arith, h))
 
--- a share before them leaves the numerators of later controls alone
+-- a share before them does not change the numerators of later controls
 later : (share : Share) (all rest : List Share) → AllByRecursion (λ s. share.0 < s.0) rest → AllByRecursion (λ s. numerator_of all s.0 ≡ s.1) rest →
     AllByRecursion (λ s. numerator_of (share ∷ all) s.0 ≡ s.1) rest
 later share all [] below own = tt
@@ -63,7 +63,7 @@ row-same den numerator controls row is over same =
     (shares-same numerator controls row.shares row.shares same (recursion_from_All (λ (s : Share). s.0 < controls) row.shares is.inside)
     (own-numerators row.shares (AllPairs-from_increasing (map (λ (s : Share). s.0) row.shares) is.ascending)))
 
--- what stands at a place that there is not
+-- a read past the end gives the default
 abbrev none : Row
 none = record { den = 1; shares = [] }
 

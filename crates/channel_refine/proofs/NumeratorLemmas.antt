@@ -44,7 +44,7 @@ module _ (n v : ℕ) where
       apart : (w u : ℕ) → u < w → nat_eq w u ≡ false
       apart w u h = grind (arith, nat_tests)
 
-  -- where it is 1 and the others are 0, the sum is its numerator
+  -- if it is 1 and the others are 0, the sum is its numerator
   numerator-sum : (shares : List Share) → AllByRecursion (λ share. share.0 < n) shares → AllPairs (λ x y. x < y) (map (λ (share : Share). share.0) shares)
       → share_sum (unit_controls n v) shares ≡ pos (numerator_of shares v)
   numerator-sum [] inside pairs = refl

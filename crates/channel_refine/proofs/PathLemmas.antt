@@ -6,7 +6,7 @@ use Rattle.primvar_refine.specs.View.{rows_of}
 use Rattle.channel_refine.specs.Evaluated.{control_rows}
 use Rattle.channel_refine.specs.View.{control_of}
 
--- one control more
+-- one more control
 pub next-control : {P : Type 0} (numbers : List P) (i : ℕ) (d p : P) (old new : List (Valued P)) → i < length numbers → p ≡ get_or numbers i d → old ≡ map control_of (take i numbers)
     → new ≡ old ++ control_of p ∷ [] → new ≡ map control_of (take (i + 1) numbers)
 next-control numbers i d p old new within is before pushed =

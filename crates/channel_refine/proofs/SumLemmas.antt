@@ -44,7 +44,7 @@ module _ (controls : List (List ℤ)) where
       ∙ +ℤ_assoc first (pos share.1 *ℤ get_or numbers c (pos 0)) rest
       ∙ ap (λ z. first +ℤ (pos share.1 *ℤ z +ℤ rest)) (sym (column-at controls c share.0))
 
-  -- a sum has as many numbers as before
+  -- a sum has as many numbers as its rows
   pub length-sum : (start : List ℤ) (shares : List Share) → length (sum_of_shares start controls shares) ≡ length start
   length-sum start [] = refl
   length-sum start (share ∷ shares) =

@@ -1,4 +1,4 @@
--- A table carried from a level to a child of it: what the test of its numbers says, and why it cannot be carried.
+-- A table carried from a level to its child: the meaning of the test of its numbers, and the cause if it fails.
 use Rattle.std.proofs.Common.{◌≡◌, ℕ, ◌*◌, ◌<◌, ◌≤◌, Bool, true, false, nat_le, nat_lt, List, length, arith, ap, sym, ◌∙◌, subst}
 use Rattle.std.specs.List.{All, list_any, sum_by}
 use Rattle.std.proofs.lemmas.Bool.{leb-true, lt-ltb}
@@ -38,7 +38,7 @@ table-cause most level scheme origins some (table.Denominator p) is =
 table-cause most level scheme origins some table.TooManyEntries is = (is.0, none-passes _ is.1, is.2)
 table-cause most level scheme origins some table.Memory is = tt
 
--- a value that passes its bound where all other numbers keep theirs
+-- a value passes its bound, and all other numbers keep theirs
 pub table-over : (most : ℕ) (level : Level) (scheme : Scheme) (origins : List PointOrigin) (some next : Table) → IsComposed level scheme origins some next → IsTable next
     → number_bound < greatest_of next * most → IsTableCause most level scheme origins some (Overflow Value)
 table-over most level scheme origins some next is made over = (
@@ -55,7 +55,7 @@ rows-next parent child scheme some next has is =
     sym (length-map next.rows (λ (row : Row). row.den)) ∙ ap length is.dens ∙ length-map (masks_from parent.level scheme child.origins) _
     ∙ length-map child.origins (mask_from parent.level scheme) ∙ has.is.each_point
 
--- what the test of the denominators says
+-- the meaning of the test of the denominators
 pub test-fits : (b : Bool) (great most : ℕ) → b ≡ nat_le (great * most) number_bound → b ≡ true → great * most ≤ number_bound
 test-fits b great most is h = leb-true _ _ (sym is ∙ h)
 

@@ -1,4 +1,4 @@
--- What is carried to the whole next level: no number passes its bound, or which does.
+-- Numbers carried to the whole next level: none passes its bound, or the first one that does.
 use Rattle.std.proofs.Common.{◌≡◌, ℕ, ◌*◌, ◌≤◌, true, false, List, length, map, arith, ap, ◌∙◌}
 use Rattle.std.specs.List.{All}
 use Rattle.subdiv_model.specs.Edges.{edges_of}
@@ -15,7 +15,7 @@ use Rattle.uniform_walk.proofs.OriginLemmas.{has-vertex}
 use Rattle.uniform_walk.proofs.MaskLemmas.{origins-are, vertex-of, dens-are}
 use Rattle.uniform_walk.proofs.FaultLemmas.{any-none, any-from-0}
 
--- no number of the next level passes its bound, whose common denominators follow from these
+-- no number of the next level passes its bound; these numbers give its common denominators
 pub record AreNextNumbers (most : ℕ) (level : Level) (scheme : Scheme) (dens next : List ℕ) : Type 0 where
   pub chaikin : at_some_point (chaikin_overflows_at level) level ≡ false
   pub transition : at_some_point (transition_overflows_at level scheme) level ≡ false
@@ -24,7 +24,7 @@ pub record AreNextNumbers (most : ℕ) (level : Level) (scheme : Scheme) (dens n
   pub fits : greatest_of next * most ≤ number_bound
 
 module _ (parent : Topology) (child : ChildTopology) (refined : IsRefined parent child) where
-  -- halves overflow at no point, and where no weight is refused none is at any point
+  -- halves overflow at no point, and if no weight is refused none is at any point
   pub no-chaikin : at_some_point (chaikin_overflows_at parent.level) parent.level ≡ false
   no-chaikin = any-none (chaikin_overflows_at parent.level) 0 parent.level.point_count (λ v h. refined.fine v (omega (arith, h)))
 
@@ -38,7 +38,7 @@ module _ (parent : Topology) (child : ChildTopology) (refined : IsRefined parent
       → at_some_point (transition_overflows_at parent.level scheme) parent.level ≡ true
   some-transition scheme v is = any-from-0 (transition_overflows_at parent.level scheme) parent.level.point_count v (vertex-of parent child refined v is.has) is.refused
 
-  -- so the numbers that are carried are those of the next level
+  -- the numbers that are carried are those of the next level
   pub next-numbers : (most : ℕ) (scheme : Scheme) (dens next : List ℕ) → HasNoTransition parent.level scheme child.origins
       → next ≡ map (mask_denominator (source_denominator parent.level dens)) (masks_from parent.level scheme child.origins)
       → All (λ den. den ≤ number_bound) next → greatest_of next * most ≤ number_bound → AreNextNumbers most parent.level scheme dens next

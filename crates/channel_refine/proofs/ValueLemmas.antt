@@ -1,4 +1,4 @@
--- Values carried from a level to a child of it: what the test of their numbers says, and why they cannot be carried.
+-- Values carried from a level to its child: the meaning of the test of their numbers, and the cause if it fails.
 use Rattle.std.proofs.Common.{◌≡◌, ℕ, ◌+◌, ◌-◌, ◌*◌, ◌<◌, ◌≤◌, ℤ, Bool, true, false, nat_le, nat_lt, max, List, [], ◌∷◌, length, map, get_or, arith, refl, ap, sym, ◌∙◌, subst}
 use Rattle.std.specs.List.{All, AllByRecursion, fold, list_any}
 use Rattle.std.proofs.Math.Nat.{mul-le-mul_left, mul-le-mul_right}
@@ -35,12 +35,12 @@ use Rattle.channel_refine.proofs.DenominatorLemmas.{each-below}
 pub none-passes : (dens : List ℕ) → All (λ den. den ≤ number_bound) dens → list_any (nat_lt number_bound) dens ≡ false
 none-passes dens short = list_any_none (nat_lt number_bound) dens (λ k d h. le-ltb number_bound _ (short k d h))
 
--- the greatest of numbers that are at most so much
+-- the greatest of numbers with a common bound
 fold-below : (numbers : List ℕ) (start most : ℕ) → start ≤ most → AllByRecursion (λ n. n ≤ most) numbers → fold max start numbers ≤ most
 fold-below [] start most h all = h
 fold-below (n ∷ numbers) start most h all = fold-below numbers (max start n) most (omega (arith, h, all.0)) all.1
 
--- no value passes a whole number, and so neither does the least that none passes
+-- no value passes a whole number, and neither does the least number that none passes
 rounded-below : (num den most : ℕ) → 0 < den → num ≤ den * most → rounded_up num den ≤ most
 rounded-below num den most positive h =
     let more : (most + 1) * den ≡ den * most + den = omega arith in
@@ -56,7 +56,7 @@ bound-below rows most positive within =
     go [] p q = tt
     go (row ∷ some) p q = (rounded-below (greatest_amount row.numbers) row.den most p.0 q.0, go some p.1 q.1)
 
--- so a denominator that is too great for the values is too great for that number
+-- a denominator that is too great for the values is too great for that number
 pub too-big : (rows : List Row) (most great : ℕ) → All (λ row. 0 < row.den) rows → AreWithin most rows → number_bound < great * least_bound rows → number_bound < great * most
 too-big rows most great positive within h =
     let more = mul-le-mul_left great (bound-below rows most positive within) in omega (arith, h, more)
@@ -75,7 +75,7 @@ value-cause most t scheme origins rows (value.TooBig p) are is = (
 )
 value-cause most t scheme origins rows value.Memory are is = tt
 
--- values that pass their bound where all other numbers keep theirs
+-- values pass their bound, and all other numbers keep theirs
 pub value-over : (most : ℕ) (level : Level) (scheme : Scheme) (origins : List PointOrigin) (rows next : List Row) → AreRefined level scheme origins rows next
     → number_bound < greatest_of (dens_of next) * most → IsValueCause most level scheme origins rows (Overflow Value)
 value-over most level scheme origins rows next are over = (
@@ -90,7 +90,7 @@ pub dens-of-rows : {P : Type 0} (numbers : P → List ℤ) (values : List (Value
 dens-of-rows numbers [] = refl
 dens-of-rows numbers (v ∷ values) = ap (λ dens. v.den ∷ dens) (dens-of-rows numbers values)
 
--- what the test of the values says
+-- the meaning of the test of the values
 module _ {P : Type 0} (numbers : P → List ℤ) (kept values : List (Valued P)) (most : ℕ) (same : kept ≡ values) where
   greatest-same : greatest_of (map (λ v. v.den) kept) ≡ greatest_of (dens_of (rows_of numbers values))
   greatest-same = ap (λ (vs : List (Valued P)). greatest_of (map (λ v. v.den) vs)) same ∙ ap greatest_of (dens-of-rows numbers values)
@@ -106,7 +106,7 @@ module _ {P : Type 0} (numbers : P → List ℤ) (kept values : List (Valued P))
       over : (m n : ℕ) → nat_le m n ≡ false → n < m
       over m n h = grind (arith, nat_tests)
 
--- what holds of all denominators
+-- a fact about all denominators
 pub from-dens : (P : ℕ → Type 0) (rows : List Row) → AllByRecursion P (dens_of rows) → All (λ row. P row.den) rows
 from-dens P rows all = All-from_recursion (λ row. P row.den) rows (go rows all)
   where
@@ -117,7 +117,7 @@ from-dens P rows all = All-from_recursion (λ row. P row.den) rows (go rows all)
 pub kept : (amount den greatest most bound : ℕ) → amount ≤ den * greatest → greatest ≤ most → den * most ≤ bound → amount ≤ bound
 kept amount den greatest most bound h below room = omega (arith, h, room, mul-le-mul_left den below)
 
--- all are as long as the first
+-- all rows are as long as the first
 pub alike-own : (rows : List Row) (n : ℕ) → All (λ row. length row.numbers ≡ n) rows → All (λ row. length row.numbers ≡ length (row_at rows 0).numbers) rows
 alike-own rows n all k d h = all k d h ∙ sym (all 0 (record { numbers = []; den = 1 }) (omega (arith, h)))
 

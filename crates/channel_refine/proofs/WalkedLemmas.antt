@@ -1,4 +1,4 @@
--- What a walk over whole levels comes to that carries the values of a channel.
+-- The result of a walk over whole levels that carries the values of a channel.
 use Rattle.std.proofs.Common.{◌≡◌, ℕ, zero, suc, ◌+◌, ◌<◌, ◌≤◌, inl, inr, max, List, length, arith, refl, ap, sym, ◌∙◌, subst}
 use Rattle.std.specs.List.{sum_by}
 use Rattle.subdiv_model.specs.Mask.{Scheme, mask_terms}
@@ -26,7 +26,7 @@ use Rattle.channel_refine.proofs.FirstLemmas as first
 
 module _ {C V : Type 0} (rows : C → List Row) (Takes : V → Topology → C → V → Type 0) (channel : Channel) (controls : List Row)
     (most : ℕ) (same : most ≡ max channel.greatest channel.common) (scheme : Scheme) (by : scheme ≡ channel.scheme) (start : Place Topology C V) where
-  -- what holds of this amount and this scheme holds of those of the channel
+  -- a fact about this amount and this scheme is one about those of the channel
   of-channel : (P : ℕ → Scheme → Type 0) → P most scheme → P (max channel.greatest channel.common) channel.scheme
   of-channel P p = subst (P (max channel.greatest channel.common)) by (subst (λ m. P m scheme) same p)
 
@@ -38,7 +38,7 @@ module _ {C V : Type 0} (rows : C → List Row) (Takes : V → Topology → C �
   Fail t child before cause old new =
       IsValueCause most t.level scheme child.origins (rows before) cause × AreTermSteps t.level scheme child.origins old new
 
-  -- the level after so many steps with its values, and the steps that were taken
+  -- the level after k steps with its values, and the steps that were taken
   abbrev Walked : ℕ → Place Topology C V → Type 0
   Walked k end =
       IsReached channel controls k end.reached.level (rows end.reached.carried)
@@ -48,7 +48,7 @@ module _ {C V : Type 0} (rows : C → List Row) (Takes : V → Topology → C �
   plus-one : (k : ℕ) → k + 1 ≡ suc k
   plus-one k = omega arith
 
-  -- the terms of the next level are those of one level more
+  -- the terms of the next level are those of one more level
   terms-more : (k : ℕ) (t : Topology) (child : ChildTopology) → series.IsReached channel.base k t → IsRefined t child
       → terms_to channel.base channel.scheme (k + 1) ≡ terms_to channel.base channel.scheme k + step_terms t.level channel.scheme child.origins
   terms-more k t child is refined =
@@ -77,7 +77,7 @@ module _ {C V : Type 0} (rows : C → List Row) (Takes : V → Topology → C �
         subst (λ n. Walked n end) (plus-one k)
         (walked-next k before end.reached end.visitor end.steps (walked-values k before walked) leads.made)
 
-    -- at no more steps than those to the depth
+    -- with at most the steps up to the depth
     bound : (k depth new : ℕ) (t : Topology) (from : ℕ) → k < depth → series.IsReached channel.base k t
         → from ≤ start.steps + faces_to channel.base k + terms_to channel.base channel.scheme k
         → new ≤ from + sum_by length t.level.polygons + mask_terms (refined_level channel.base k) channel.scheme

@@ -1,4 +1,4 @@
--- What a walk over whole levels comes to that carries the table of a channel.
+-- The result of a walk over whole levels that carries the table of a channel.
 use Rattle.std.proofs.Common.{◌≡◌, ℕ, zero, suc, ◌+◌, ◌<◌, ◌≤◌, inl, inr, max, length, arith, sym, subst}
 use Rattle.std.specs.List.{sum_by}
 use Rattle.subdiv_model.specs.Mask.{Scheme}
@@ -24,7 +24,7 @@ use Rattle.channel_refine.proofs.FirstLemmas as first
 
 module _ {V : Type 0} (Takes : V → Topology → Table → V → Type 0) (channel : Channel) (most : ℕ) (same : most ≡ max channel.greatest channel.common)
     (scheme : Scheme) (by : scheme ≡ channel.scheme) (start : Place Topology Table V) where
-  -- what holds of this amount and this scheme holds of those of the channel
+  -- a fact about this amount and this scheme is one about those of the channel
   of-channel : (P : ℕ → Scheme → Type 0) → P most scheme → P (max channel.greatest channel.common) channel.scheme
   of-channel P p = subst (P (max channel.greatest channel.common)) by (subst (λ m. P m scheme) same p)
 
@@ -34,7 +34,7 @@ module _ {V : Type 0} (Takes : V → Topology → Table → V → Type 0) (chann
   abbrev Fail : Topology → ChildTopology → Table → Cause → ℕ → ℕ → Type 0
   Fail t child before cause old new = IsTableCause most t.level scheme child.origins before cause × (new ≡ old)
 
-  -- the level after so many steps with its table, and the steps that were taken
+  -- the level after k steps with its table, and the steps that were taken
   abbrev Walked : ℕ → Place Topology Table V → Type 0
   Walked k end =
       IsReached channel k end.reached.level end.reached.carried × ((start.steps ≤ end.steps) × (end.steps ≤ start.steps + faces_to channel.base k))
@@ -62,7 +62,7 @@ module _ {V : Type 0} (Takes : V → Topology → Table → V → Type 0) (chann
         subst (λ n. Walked n end) (plus-one k)
         (walked-next k before end.reached end.visitor end.steps (walked-table k before walked) leads.made)
 
-    -- at no more steps than those to the depth
+    -- with at most the steps up to the depth
     bound : (k depth new : ℕ) (t : Topology) (from : ℕ) → k < depth → series.IsReached channel.base k t → from ≤ start.steps + faces_to channel.base k
         → new ≤ from + sum_by length t.level.polygons → new ≤ start.steps + faces_to channel.base depth
     bound k depth new t from within is before h =

@@ -11,15 +11,15 @@ use Rattle.level_topology.specs.Topology.{Topology}
 use Rattle.stencil_apply.specs.Table.{Table, greatest_of}
 use Rattle.stencil_factory.specs.Rows.{supports_of, dens_of, row_values, AreSameValues}
 
--- a level, and the table of its points over those of level 0
+-- a level with the table of its points over the points of level 0
 pub record ComposedTable : Type 0 where
   pub level : Topology
   pub table : Table
 
--- No level has a fault, and none of the levels before the last has too many corners. This is the last level. All its points are
--- complete, and its edges of one face are infinitely sharp. Each row of the table has the controls that its point depends on and the
--- point's common denominator, and makes its value of all controls. The greatest denominator times the greatest control number, or
--- times the channel's own denominator, is within the bound of numbers.
+-- No level up to the depth has a fault, and no level before the last has too many corners. The level is the last one: its points are
+-- complete, and its edges of one face are infinitely sharp. Each row of the table contains the controls that its point depends on, has
+-- the point's common denominator, and gives the point's value for any controls. The greatest denominator times the greatest control
+-- number, or times the channel's own denominator, is within the bound of numbers.
 pub record IsComposedTo (channel : Channel) (depth : ℕ) (composed : ComposedTable) : Type 0 where
   pub fine : (track : Track) → channel_faults Tables channel track depth ≡ []
   pub few : (k : ℕ) → k < depth → sum_by length (channel_level channel k).polygons ≤ 2 ^ 22

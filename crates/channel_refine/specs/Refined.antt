@@ -19,7 +19,7 @@ use Rattle.uniform_walk.specs.Levels.{faces_to}
 abbrev pub column_of : ℕ → List Row → List ℤ
 column_of column rows = map (λ row. get_or row.numbers column (pos 0)) rows
 
--- a control for each point of level 0: whole numbers, as many for each, of at most the channel's greatest in amount
+-- a control for each point of level 0: whole numbers, as many for each, none above the channel's greatest amount
 pub record AreControls (channel : Channel) (controls : List Row) : Type 0 where
   pub each : length controls ≡ channel.base.point_count
   pub whole : All (λ row. row.den ≡ 1) controls
@@ -31,8 +31,8 @@ pub record RefinedRows : Type 0 where
   pub level : Topology
   pub rows : List Row
 
--- No level has a fault of those that are asked for, and none of the levels before the last has too many corners. This is the last
--- level, and in each column these are its values over its common denominators.
+-- No level up to the depth has a fault that is asked for, and no level before the last has too many corners. The level is the last one.
+-- Each column of the rows contains the values that the definitions refine, over the common denominators.
 pub record IsRefinedTo (asked : Asked) (channel : Channel) (controls : List Row) (depth : ℕ) (refined : RefinedRows) : Type 0 where
   pub fine : (track : Track) → channel_faults asked channel track depth ≡ []
   pub few : (k : ℕ) → k < depth → sum_by length (channel_level channel k).polygons ≤ 2 ^ 22
@@ -44,22 +44,23 @@ pub record IsRefinedTo (asked : Asked) (channel : Channel) (controls : List Row)
   pub positive : All (λ row. 0 < row.den) refined.rows
   pub alike : All (λ row. length row.numbers ≡ length (row_at controls 0).numbers) refined.rows
 
--- The channel at the depth, or the first fault of its levels. The last function shows a level with its values as rows.
+-- The channel at the depth, or the first fault of its levels. The last function gives the level and its values as rows.
 abbrev pub IsRefinement : {X : Type 0} → Asked → Channel → List Row → ℕ → Result X WalkFault → (X → RefinedRows) → Type 0
 IsRefinement asked channel controls depth result shown =
     MatchResult result (λ refined. IsRefinedTo asked channel controls depth (shown refined)) (λ fault. IsChannelFault asked channel depth fault)
 
--- how many mask terms the levels from 1 to a depth have
+-- the number of mask terms of the levels from 1 to a depth
 abbrev pub terms_to : Level → Scheme → ℕ → ℕ
 terms_to base scheme depth = sum_by (λ k. mask_terms (refined_level base k) scheme) (range_with_len 0 depth)
 
--- the steps of values level by level, one for each mask term, or by a table, one for each entry of the last
+-- the steps of a path: one for each mask term of values, or one for each entry of the last table
 abbrev pub path_steps : Asked → Channel → ℕ → ℕ
 path_steps Sharpnesses channel depth = 0
 path_steps Values channel depth = terms_to channel.base channel.scheme depth
 path_steps Tables channel depth = entries_after channel.base channel.scheme depth
 
--- On success at least the steps of the path are taken; at most these are, and one for each face of the levels from 1 to the depth.
+-- On success the call takes at least the steps of the path. It never takes more than these and one for each face of the levels from 1 to
+-- the depth.
 pub record AreRefineSteps {X E : Type 0} (asked : Asked) (channel : Channel) (depth : ℕ) (result : Result X E) (old new : ℕ) : Type 0 where
   pub least : OnOk result (old + path_steps asked channel depth ≤ new)
   pub most : new ≤ old + faces_to channel.base depth + path_steps asked channel depth

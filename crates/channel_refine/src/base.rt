@@ -9,8 +9,8 @@ use level_topology::Level;
 use mask_rules::Scheme;
 use std::marker::Model;
 
-/// A channel before it is refined: its level 0 and its scheme, the greatest amount of its control numbers, and the denominator
-/// that all of them stand over.
+/// A channel before refinement: level 0, the scheme, the greatest amount of its control numbers, and their common denominator. The values
+/// of the channel do not contain that denominator; it only bounds numbers.
 #[derive(Drop)]
 pub struct BaseChannel {
     level: Level,
@@ -32,7 +32,7 @@ impl Model for BaseChannel {
 }
 
 impl BaseChannel {
-    /// The channel of a level 0, where both numbers are at most 2^126 - 1.
+    /// Returns the channel of a level 0. `greatest` is the greatest amount of a control number, `common` the denominator of all of them.
     pub fn new(level: Level, scheme: Scheme, greatest: u128, common: u128) -> BaseChannel
         requires base { IsBase level }
         requires short { max greatest common ≤ number_bound }
@@ -74,7 +74,7 @@ impl BaseChannel {
         &self.level
     }
 
-    /// Level 0 without the rest.
+    /// Gives back level 0 and drops the rest.
     pub fn into_level(self) -> Level
         ensures base { IsBase result }
         ensures level { result.level ≡ self.base }

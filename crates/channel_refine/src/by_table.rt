@@ -1,4 +1,4 @@
-//! A channel refined to a depth by its table.
+//! A channel refined by its table.
 
 ghost use Rattle.std.specs.Prelude.{◌≡◌, ◌+◌, ◌≤◌, map, IfOk, OnOk};
 ghost use Rattle.subdiv_model.specs.Channel.{Tables};
@@ -16,7 +16,7 @@ use ratio128::{Memory, Primvar, Steps};
 use std::alloc::Global;
 use std::sync::ledger::Ledger;
 
-// A channel's level with the values of its table over the controls.
+// The level with the values of its table over the controls.
 fn with_values<P: Primvar<L>, L: Ledger>(
     alloc: Global,
     composed: ComposedChannel,
@@ -34,11 +34,15 @@ fn with_values<P: Primvar<L>, L: Ledger>(
     RefinedChannel::of(level, values)
 }
 
-/// A channel refined to a depth of at most 10 by its table, which is composed level by level and then evaluated once over the
-/// control values of the points of level 0. It is one step for each face of the levels after the first, and one for each entry
-/// of the last level's table.
+/// Returns the last level of a channel with the values of its points. The call composes the table of the channel level by level, then
+/// evaluates it once over `controls`.
 ///
-/// A fault is that of the first level that has no table, as [`compose_channel`] finds it.
+/// `controls` has one value for each point of level 0: whole numbers, as many for each point, none above the channel's greatest amount.
+/// Each value returned has the common denominator of its point. The call counts one step for each entry of the last table, and at most
+/// one for each face of the levels from 1 to `depth`.
+///
+/// The error is the fault of the first level, counted from 1, that has no table; [`compose_channel`] gives the order. The call drops the
+/// channel in any case.
 pub fn refine_by_table<P: Primvar<L>, L: Ledger>(
     alloc: Global,
     base: BaseChannel,

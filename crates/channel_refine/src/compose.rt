@@ -18,18 +18,21 @@ use stencil_apply::StencilTable;
 use stencil_factory::identity;
 use uniform_walk::Uniform;
 
-/// A level, and the table of its points over those of level 0.
+/// A level and the table of its points over the points of level 0.
 #[derive(Drop)]
 pub struct ComposedChannel {
+    /// The level.
     pub level: Level,
+    /// The table of its points over the points of level 0.
     pub table: StencilTable,
 }
 
-/// The table of a channel at a depth of at most 10, composed level by level, of which two are kept at a time. It is one step for
-/// each face of the levels after the first.
+/// Returns the last level of a channel and the table of its points over the points of level 0. The call composes the table level by level
+/// and keeps two levels at a time. It counts at most one step for each face of the levels from 1 to `depth`.
 ///
-/// A fault is that of the first level that has no table: too many faces, and then the first number that passes its bound, in the
-/// order of the variants of [`OverflowKind`](level_walk::OverflowKind), with too many entries before the last.
+/// The error is the first fault of the first level, counted from 1, that has no table. Too many faces comes first; then the variants of
+/// [`OverflowKind`](level_walk::OverflowKind) in their order, with `TooManyEntries` before the last. `Memory` has level 0 if memory runs
+/// out outside the walk. The call drops the channel in any case.
 pub fn compose_channel<L: Ledger>(
     alloc: Global,
     base: BaseChannel,

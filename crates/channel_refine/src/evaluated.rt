@@ -1,4 +1,4 @@
-//! A table evaluated over controls.
+//! The values of a table over controls.
 
 ghost use Rattle.std.specs.Prelude.{◌≡◌, ◌+◌, ◌≤◌, [], length, map, get_or, IfOk, OnOk};
 ghost use Rattle.std.specs.Vec.{vec_capacity};
@@ -12,7 +12,7 @@ use std::alloc::Global;
 use std::sync::ledger::Ledger;
 use stencil_apply::{StencilTable, sum_at, sum_width};
 
-// Adds the sum of each row over its denominator, for which there is room.
+// Adds the value of each row to `values`, which has capacity for all.
 fn push_rows<P: Primvar<L>, L: Ledger>(
     table: &StencilTable,
     controls: &[P],
@@ -38,10 +38,10 @@ fn push_rows<P: Primvar<L>, L: Ledger>(
     }
 }
 
-/// The sum of each row of a table over its denominator, in one step for each entry.
+/// Returns the value of each row of a table over `controls`, with the row's denominator. The call counts exactly one step for each entry.
 ///
-/// There is a control for each control point, all of as many numbers. The greatest denominator of the table times each amount
-/// in the controls is at most 2^126 - 1.
+/// `controls` has one value for each control point, as many numbers for each. The greatest denominator of the table times each amount in
+/// the controls is at most 2^126 - 1.
 pub fn evaluate<P: Primvar<L>, L: Ledger>(
     alloc: Global,
     table: &StencilTable,

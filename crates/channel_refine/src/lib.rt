@@ -1,4 +1,7 @@
-//! A channel of values refined to a depth, level by level or by its table, and the table of a channel, composed level by level.
+//! Refines a channel of values to a depth, level by level or by one table, and composes the table of a channel. A `BaseChannel` holds
+//! level 0, the scheme and the bounds of the control numbers. The controls are whole numbers; each refined value has the common
+//! denominator of its point. Each call returns the last level of at most 10, or the first level that it cannot make, counted from 1, with
+//! the cause.
 #![tactic(auto)]
 
 mod base;

@@ -15,16 +15,16 @@ use ratio128::{Memory, Primvar, Steps};
 use std::alloc::Global;
 use std::sync::ledger::Ledger;
 
-/// How a channel comes to a depth.
+/// The way to refine a channel. Both ways return the same values, but only tables have `TooManyEntries`.
 #[derive(Clone, Copy, Debug, PartialEq, Eq)]
 pub enum Path {
-    /// By its table, which is evaluated once.
+    /// By its table, which the call evaluates once.
     Table,
     /// Level by level.
     Levels,
 }
 
-// Control numbers as values, each over 1.
+// Control numbers as values over 1.
 fn controls_of<P: Copy + Drop>(alloc: Global, numbers: &[P]) -> Result<Vec<Valued<P>>, Memory>
     ensures { IfOk result (λ controls. controls.items ≡ map control_of numbers.now) }
 {
@@ -55,8 +55,8 @@ fn refine_by_levels<P: Primvar<L> + Copy, L: Ledger>(
     refine_channel(alloc, base, values, depth, steps)
 }
 
-/// A channel refined to a depth of at most 10 from the control values of the points of level 0, by its table or level by level:
-/// see [`refine_by_table`] and [`refine_channel`].
+/// Returns the last level of a channel with the values of its points, by the path. [`refine_by_table`] and [`refine_channel`] describe
+/// the two paths and their errors.
 pub fn refine_along<P: Primvar<L> + Copy, L: Ledger>(
     alloc: Global,
     base: BaseChannel,

@@ -1,4 +1,4 @@
-//! A channel refined to a depth.
+//! A channel refined level by level.
 
 ghost use Rattle.std.specs.Prelude.{◌≡◌, ◌≤◌, Err, IsOkAnd, MatchResult};
 ghost use Rattle.subdiv_model.specs.Channel.{Values};
@@ -17,15 +17,17 @@ use std::marker::PhantomData;
 use std::sync::ledger::Ledger;
 use uniform_walk::Uniform;
 
-/// A level and the value of each of its points.
+/// A level with the value of each of its points.
 #[derive(Drop)]
 pub struct RefinedChannel<P> {
+    /// The level.
     pub level: Level,
+    /// The value of each point, over the point's common denominator.
     pub values: Vec<Valued<P>>,
 }
 
 impl<P> RefinedChannel<P> {
-    // A level and the values of its points, if they were found.
+    // A level with its values, or the error of the values.
     pub(crate) fn of<E>(
         level: Level,
         values: Result<Vec<Valued<P>>, E>,
@@ -38,11 +40,15 @@ impl<P> RefinedChannel<P> {
     }
 }
 
-/// A channel refined to a depth of at most 10, level by level, of which two are kept at a time, from the control values of the
-/// points of level 0, each over 1. It is one step for each face of the levels after the first, and one for each mask term.
+/// Returns the last level of a channel with the values of its points. The call refines level by level and keeps two levels at a time. It
+/// counts one step for each mask term, and at most one for each face of the levels from 1 to `depth`.
 ///
-/// A fault is that of the first level that cannot be made: too many faces, and then the first number that passes its bound, in
-/// the order of the variants of [`OverflowKind`](level_walk::OverflowKind).
+/// `controls` has one value over 1 for each point of level 0: as many numbers for each point, none above the channel's greatest amount.
+/// Each value returned has the common denominator of its point.
+///
+/// The error is the first fault of the first level, counted from 1, that the call cannot make. Too many faces comes first; then the
+/// variants of [`OverflowKind`](level_walk::OverflowKind) in their order. `TooManyEntries` never comes. `Memory` has level 0 if memory
+/// runs out outside the walk. The call drops the channel and the controls in any case.
 pub fn refine_channel<P: Primvar<L>, L: Ledger>(
     alloc: Global,
     base: BaseChannel,

@@ -1,4 +1,4 @@
-//! The table of a channel, carried from level to level within the bounds of its numbers.
+//! The table of a channel, carried from level to level within the bounds of numbers.
 
 ghost use Rattle.std.specs.Prelude.{◌≡◌, length, IfOk};
 ghost use Rattle.subdiv_model.specs.Mask.{CatmullClark};
@@ -16,7 +16,7 @@ use std::sync::ledger::Ledger;
 use stencil_apply::{StencilTable, scale_fits};
 use stencil_factory::{TableFault, compose_level};
 
-// Why the points of a child have no table.
+// The cause of a walk for a fault of a table.
 fn table_cause(fault: TableFault) -> Cause
     ensures { result ≡ cause_of_table fault }
 {
@@ -28,7 +28,8 @@ fn table_cause(fault: TableFault) -> Cause
     }
 }
 
-// The table of the points of a child. The greatest new denominator times `most` is within the bound of numbers.
+// The table of the points of a child level. The greatest new denominator times `most` is at most 2^126 - 1, else the call returns the
+// cause.
 fn next_table(
     alloc: Global,
     level: &Level,
@@ -54,11 +55,13 @@ fn next_table(
     Ok(next)
 }
 
-/// A table is carried along, over the points of the level where the walk starts. The greatest denominator of each level after the
-/// first, times `most`, is at most 2^126 - 1.
+/// Carries a table over the points of the first level of the walk. The greatest denominator of each later level, times `most`, is at most
+/// 2^126 - 1. Carrying a table takes no step.
 #[derive(Clone, Copy)]
 pub struct ByTable {
+    /// The scheme of the channel.
     pub scheme: Scheme,
+    /// The greater of the greatest control number and the common denominator.
     pub most: u128,
 }
 

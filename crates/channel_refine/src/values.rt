@@ -1,4 +1,4 @@
-//! The values of a channel, carried from level to level within the bounds of their numbers.
+//! The values of a channel, carried from level to level within the bounds of numbers.
 
 ghost use Rattle.std.specs.Prelude.{◌≡◌, ◌+◌, ◌*◌, ◌≤◌, nat_le, map, IfOk, OnOk};
 ghost use Rattle.subdiv_model.specs.Channel.{number_bound};
@@ -20,7 +20,7 @@ use std::alloc::Global;
 use std::marker::PhantomData;
 use std::sync::ledger::Ledger;
 
-// The greatest denominator of the values, and 1 of none.
+// The greatest denominator of the values, or 1 if there are none.
 fn greatest_den<P>(values: &[Valued<P>]) -> u128
     ensures { result ≡ greatest_of (map (λ v. v.den) values.now) }
 {
@@ -31,14 +31,14 @@ fn greatest_den<P>(values: &[Valued<P>]) -> u128
     greatest
 }
 
-// The greatest denominator times an amount is within the bound of numbers.
+// Whether the greatest denominator times an amount is at most 2^126 - 1.
 fn fits<P>(values: &[Valued<P>], most: u128) -> bool
     ensures { result ≡ nat_le (greatest_of (map (λ v. v.den) values.now) * most) number_bound }
 {
     times_within(greatest_den(values), most, NUMBER_BOUND).is_some()
 }
 
-// Why the points of a child have no values.
+// The cause of a walk for a fault of values.
 fn value_cause(fault: ValueFault) -> Cause
     ensures { result ≡ cause_of_value fault }
 {
@@ -50,8 +50,8 @@ fn value_cause(fault: ValueFault) -> Cause
     }
 }
 
-// The values of the points of a child. No value of the level is above `most` in amount, and the greatest new denominator times
-// `most` is within the bound of numbers.
+// The values of the points of a child level. No value of the level has an amount above `most`. The greatest new denominator times `most`
+// is at most 2^126 - 1, else the call returns the cause.
 fn next_values<P: Primvar<L>, L: Ledger>(
     alloc: Global,
     level: &Level,
@@ -81,13 +81,15 @@ fn next_values<P: Primvar<L>, L: Ledger>(
     Ok(next)
 }
 
-/// Values are carried along, each over the common denominator of its point. No value is above `most` in amount; the greatest
-/// denominator of each level after the first, times `most`, is at most 2^126 - 1.
+/// Carries values, each over the common denominator of its point. No value has an amount above `most`. The greatest denominator of each
+/// later level, times `most`, is at most 2^126 - 1. Carrying values counts one step for each mask term.
 #[derive(Drop)]
 pub struct ByValues<P> {
+    /// The scheme of the channel.
     pub scheme: Scheme,
+    /// The greater of the greatest control number and the common denominator.
     pub most: u128,
-    /// Of which type the values are.
+    /// The type of the values.
     pub of: PhantomData<P>,
 }
 

@@ -1,4 +1,4 @@
--- What a mask adds to a survey, and that a defined mask adds the same as an equal one of the code.
+-- The addition of a mask to a survey: a defined mask adds the same as an equal mask of the code.
 use Rattle.std.proofs.Common.{◌≡◌, ℕ, ◌<◌, true, false, ◌||◌, List, [], ◌∷◌, ◌++◌, length, get_or, arith, refl, ap, sym, ◌∙◌, subst}
 use Rattle.std.proofs.lemmas.List.{get_or_default}
 use Rattle.subdiv_model.specs.Polygons.{polygon_at}
@@ -18,7 +18,7 @@ use Rattle.child_masks.proofs.FaceLemmas.{face-corners, corners-three, positive-
 use Rattle.child_masks.proofs.MeanLemmas.{mean-positive}
 use Rattle.child_masks.proofs.AmongLemmas.{sources-same}
 
--- the two lists of a survey tell the denominators of the sources of a level
+-- the two lists of a survey have the denominators of the sources of a level
 pub tells : (t : Topology) (dens faces : List ℕ) → IsTopology t → ArePointDenominators t.level dens → AreFaceDenominators t.level dens faces
     → Tell (source_denominator t.level dens) dens faces
 tells t dens faces is points known = record { positive = positive; point = point; face = face }
@@ -38,7 +38,7 @@ tells t dens faces is points known = record { positive = positive; point = point
         subst (λ n. 0 < n) (face-same t.level f (length polygon) dens (face-mask t.level f (length polygon) is.simple inside refl))
         (product-positive (length polygon) _ (omega arith) (positive-lcm dens polygon points.positive (face-corners t is f inside dens points)))
 
--- a mask adds what an equal one adds
+-- equal masks add the same
 pub added-mask : (value : SourcePoint → ℕ) (dens faces : List ℕ) (mask defined : Mask) (terms : List Term) (q : ℕ) (old new : Survey)
     → Tell value dens faces → IsMask mask defined → is_joined defined ≡ true → terms ≡ mask.terms → q ≡ mask.denominator
     → ((f : SourcePoint → ℕ) → Tell f dens faces → 0 < q → IsAdded (mask_denominator f (record { terms = terms; denominator = q })) terms old new)

@@ -38,13 +38,13 @@ among-from level points faces (OfFace f) e k h = subst (λ n. f < n) (sym k) (lt
 permuted : (mask defined : Mask) → IsMask mask defined → is_joined defined ≡ true → IsPermutation mask.terms defined.terms
 permuted mask defined is joined = same_weights-permuted mask defined is.joined joined is.same
 
--- it names the same sources
+-- an equal mask uses the same sources
 pub sources-same : (mask defined : Mask) (source : SourcePoint) → IsMask mask defined → is_joined defined ≡ true
     → has_source mask.terms source ≡ has_source defined.terms source
 sources-same mask defined source is joined =
     list_any-IsPermutation (λ (t : model.Term). same_source source t.source) mask.terms defined.terms (permuted mask defined is joined)
 
--- and each of the code's terms names a point or a face of the level
+-- each of the code's terms uses a point or a face of the level
 pub among-level : (level : Level) (points faces : ℕ) (mask defined : Mask) (terms : List Term) → IsMask mask defined → is_joined defined ≡ true
     → list_all (λ t. is_source_of level t.source) defined.terms ≡ true → terms_of terms ≡ mask.terms → points ≡ level.point_count → faces ≡ length level.polygons
     → All (λ t. IsAmong points faces (source_of t.at)) terms

@@ -1,4 +1,4 @@
--- The denominators of all that is made: they are above 0, and that of a face that some mask names divides the mask's.
+-- The denominators of all new values. They are above 0, and that of a face that some mask uses divides the mask's.
 use Rattle.std.proofs.Common.{◌≡◌, inl, inr, ◌⊎◌, ℕ, zero, suc, ◌*◌, ◌<◌, ◌≤◌, Bool, true, false, nat_lt, nat_le, List, [], ◌∷◌, length, map, get_or, arith, refl, ap, sym, ◌∙◌, subst}
 use Rattle.std.specs.List.{All, AllByRecursion, list_any}
 use Rattle.std.specs.Int.{◌∣◌}
@@ -34,7 +34,7 @@ dens-positive dens each v = at (cases_lt v (length dens))
     at (inl inside) = each v 1 inside
     at (inr past) = let gone : get_or dens v 1 ≡ 1 = get_or_past dens v 1 past in omega (arith, gone)
 
--- and so is that of a face
+-- the denominator of a face is above 0
 pub face-positive : (level : Level) (dens : List ℕ) (f : ℕ) → All (λ den. 0 < den) dens → 0 < length (polygon_at level.polygons f)
     → 0 < mask_denominator (source_denominator level dens) (face_mask level f)
 face-positive level dens f each some =
@@ -47,7 +47,7 @@ face-positive level dens f each some =
     of-terms [] h = tt
     of-terms (t ∷ terms) h = (h.0, of-terms terms h.1)
 
--- what passes in a list has a place
+-- an item that passes a test has a place in the list
 pub record Place {X : Type 0} (test : X → Bool) (xs : List X) (d : X) : Type 0 where
   pub at : ℕ
   pub inside : at < length xs
@@ -72,7 +72,7 @@ vertex-positive : (parent : Topology) (scheme : Scheme) (v : ℕ) → IsTopology
 vertex-positive parent CatmullClark v is h = mean-positive (vertex_mask parent.level CatmullClark v) (vertex-mean parent v is (h refl))
 vertex-positive parent Linear v is h = omega arith
 
--- of an edge, by its sharpness
+-- the denominator of an edge's mask is above 0, whatever its sharpness
 mask-of-edge-positive : (s : Sharpness) (edge : ℕ × ℕ) (faces : List ℕ) → 0 < (mask_of_edge s edge faces).denominator
 mask-of-edge-positive Smooth edge faces = omega arith
 mask-of-edge-positive (Semi x y) edge faces =
@@ -83,7 +83,7 @@ mask-of-edge-positive (Semi x y) edge faces =
     above x (suc y) h = omega arith
 mask-of-edge-positive Infinite edge faces = omega arith
 
--- of an edge by either scheme
+-- the denominator of an edge's mask is above 0 under either scheme
 edge-positive : (level : Level) (scheme : Scheme) (edge : ℕ × ℕ) → 0 < (edge_mask level scheme edge).denominator
 edge-positive level CatmullClark edge = mask-of-edge-positive (edge_sharpness_of level edge) edge (faces_of_edge level.polygons edge)
 edge-positive level Linear edge = omega arith
@@ -96,7 +96,7 @@ module _ (parent : Topology) (child : ChildTopology) (scheme : Scheme) (dens : L
   abbrev Within : PointOrigin → Type 0
   Within = IsOriginWithin parent.level.point_count (length parent.level.polygons) (length (edges_of parent.level.polygons))
 
-  -- of each part that a point comes from
+  -- the denominator of the mask of each origin is above 0
   mask-positive : (origin : PointOrigin) → has_origin child.origins origin ≡ true → Within origin → 0 < (mask_from parent.level scheme origin).denominator
   mask-positive (FromVertex v) there within = vertex-positive parent scheme v is (λ e. can.boundary e v there)
   mask-positive (FromFace f) there within = some-corners parent is f within
@@ -118,13 +118,13 @@ module _ (parent : Topology) (child : ChildTopology) (scheme : Scheme) (dens : L
       lower : (a b : ℕ) → nat_lt a b ≡ true → a < b
       lower a b e = grind (arith, nat_tests, e)
 
-  -- and so are those of all terms
+  -- the denominators of the sources of all terms are above 0
   positive-terms : (terms : List Term) → AllByRecursion (λ t. is_source_of parent.level t.source ≡ true) terms
       → AllByRecursion (λ a. 0 < a) (map (λ t. source_denominator parent.level dens t.source) terms)
   positive-terms [] h = tt
   positive-terms (t ∷ terms) h = (source-positive t.source h.0, positive-terms terms h.1)
 
-  -- that of a face is at most that of a mask that names it
+  -- the denominator of a face is at most that of a mask that uses the face
   pub named-den : (p f : ℕ) → p < length child.origins → has_source (mask_from parent.level scheme (origin_at child.origins p)).terms (OfFace f) ≡ true
       → source_denominator parent.level dens (OfFace f) ≤ den_of (origin_at child.origins p)
   named-den p f inside named =

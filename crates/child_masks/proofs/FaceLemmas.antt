@@ -29,16 +29,16 @@ abbrev dens_at : List ℕ → List ℕ → List ℕ
 dens_at dens points = map (λ v. get_or dens v 1) points
 
 module _ (dens points : List ℕ) (positive : All (λ den. 0 < den) dens) (within : All (λ v. v < length dens) points) where
-  -- all are at least 1
+  -- the denominators of some corners are above 0
   positive-at : (some : List ℕ) → AllByRecursion (λ v. v < length dens) some → ArePositive (dens_at dens some)
   positive-at [] h = tt
   positive-at (v ∷ some) h = (positive v 1 h.0, positive-at some h.1)
 
-  -- those of all corners too
+  -- the denominators of all corners are above 0
   positive-points : ArePositive (dens_at dens points)
   positive-points = positive-at points (recursion_from_All (λ v. v < length dens) points within)
 
-  -- their least common multiple with one corner more
+  -- the least common multiple with one corner more
   pub points-more : (i m r : ℕ) → All (λ den. den ≤ number_bound) dens → i < length points → m ≡ within_bound (fold lcm_of 1 (take i (dens_at dens points)))
       → ((a b : ℕ) → 0 < a → 0 < b → m ≡ within_bound a → get_or dens (get_or points i 0) 0 ≡ within_bound b → r ≡ within_bound (lcm_of a b))
       → r ≡ within_bound (fold lcm_of 1 (take (i + 1) (dens_at dens points)))
@@ -56,7 +56,7 @@ module _ (dens points : List ℕ) (positive : All (λ den. 0 < den) dens) (withi
   points-all i m past h =
       joined-all (dens_at dens points) i m positive-points (subst (λ n. n ≤ i) (sym (length-map points (λ v. get_or dens v 1))) past) h
 
-  -- it is at least 1
+  -- the least common multiple of the corners is above 0
   pub positive-lcm : 0 < lcm_of_all (dens_at dens points)
   positive-lcm = lcm_of_all-positive (dens_at dens points) positive-points
 
@@ -72,7 +72,7 @@ module _ (t : Topology) (is : IsTopology t) (f : ℕ) (below : f < length t.leve
   corners-within c d inside =
       ltb-true _ _ (AllPass-from_list_all (λ v. nat_lt v t.level.point_count) (polygon_at t.level.polygons f) corners-over c d inside)
 
-  -- each with a denominator
+  -- each corner has a denominator
   pub face-corners : (dens : List ℕ) → ArePointDenominators t.level dens → All (λ v. v < length dens) (polygon_at t.level.polygons f)
   face-corners dens h = subst (λ n. All (λ v. v < n) (polygon_at t.level.polygons f)) (sym h.count) corners-within
 
@@ -104,7 +104,7 @@ faces-more level dens faces new f den e here pushed =
     pushed ∙ ap (λ xs. xs ++ den ∷ []) e ∙ ap (λ n. map of (range_with_len 0 f) ++ n ∷ []) here
     ∙ sym (map-range_with_len_more of 0 f f (omega arith))
 
--- a list of them, one for each face
+-- a list of the denominators, one for each face
 pub face-list : (level : Level) (dens faces : List ℕ) (n : ℕ) → n ≡ length level.polygons
     → faces ≡ map (λ f. within_bound (source_denominator level dens (OfFace f))) (range_with_len 0 n) → AreFaceDenominators level dens faces
 face-list level dens faces n count e = record {

@@ -11,11 +11,11 @@ use Rattle.subdiv_model.specs.Multiples.{lcm_of, lcm_of_all}
 use Rattle.number_laws.proofs.MultipleLemmas.{all-divide_lcm, least-of-all, fold-lcm-positive, fold-lcm-divided, fold-lcm-least}
 use Rattle.child_masks.specs.Survey.{within_bound}
 
--- all are at least 1
+-- all numbers are above 0
 abbrev pub ArePositive : List ℕ → Type 0
 ArePositive numbers = AllByRecursion (λ a. 0 < a) numbers
 
--- so are the first of them
+-- the first of some numbers above 0 are above 0
 positive-take : (numbers : List ℕ) (i : ℕ) → ArePositive numbers → ArePositive (take i numbers)
 positive-take [] zero h = tt
 positive-take [] (suc i) h = tt
@@ -42,7 +42,7 @@ joined-more numbers i m c r positive inside h k joined =
     recursion-at : (xs : List ℕ) (i : ℕ) → ArePositive xs → i < length xs → 0 < get_or xs i 1
     recursion-at xs i all below = All-from_recursion (λ a. 0 < a) xs all i 1 below
 
--- all of them
+-- all numbers are joined
 pub joined-all : (numbers : List ℕ) (i m : ℕ) → ArePositive numbers → length numbers ≤ i → m ≡ within_bound (fold lcm_of 1 (take i numbers))
     → m ≡ within_bound (lcm_of_all numbers)
 joined-all numbers i m positive past h =

@@ -1,4 +1,4 @@
--- What the zeros of a list of denominators within their bound tell.
+-- The zeros of a list of denominators, each 0 if it is above its bound.
 use Rattle.std.proofs.Common.{◌≡◌, ◌≢◌, inl, inr, ℕ, ◌<◌, ◌≤◌, List, [], ◌∷◌, length, map, get_or, arith, refl, ap, sym, ◌∙◌, subst}
 use Rattle.std.specs.List.{All, AllByRecursion}
 use Rattle.std.proofs.lemmas.Bool.{cases_lt}
@@ -13,15 +13,15 @@ use Rattle.child_masks.proofs.WithinLemmas.{within-kept, within-zero}
 
 -- the denominators of the points within their bound, and 0 for those that pass it
 module _ (all found : List ℕ) (positive : All (λ den. 0 < den) all) (is : found ≡ map within_bound all) where
-  -- there are as many
+  -- the two lists have one length
   within-count : length found ≡ length all
   within-count = ap length is ∙ length-map all within_bound
 
-  -- each at its place
+  -- each entry is the denominator, or 0 above the bound
   within-at : (q : ℕ) → q < length all → get_or found q 1 ≡ within_bound (get_or all q 1)
   within-at q inside = ap (λ xs. get_or xs q 1) is ∙ get_or-map within_bound all q 1 1 inside
 
-  -- one that is not 0 is within
+  -- an entry that is not 0 is within the bound
   short-at : (q : ℕ) → get_or found q 1 ≢ 0 → get_or all q 1 ≤ number_bound
   short-at q some = elim (cases_lt q (length all)) [ inl inside ↦ short q inside some | inr past ↦ beyond all q past ]
     where
@@ -31,12 +31,12 @@ module _ (all found : List ℕ) (positive : All (λ den. 0 < den) all) (is : fou
       beyond : (xs : List ℕ) (q : ℕ) → length xs ≤ q → get_or xs q 1 ≤ number_bound
       beyond xs q past = let one = get_or-eq_default xs 1 past in omega arith
 
-  -- where none is 0 all are within
+  -- if none is 0, all are within the bound
   pub short-all : ((q : ℕ) → q < length found → get_or found q 1 ≢ 0) → All (λ den. den ≤ number_bound) all
   short-all none q d inside =
       subst (λ n. n ≤ number_bound) (get_or_default all q 1 d inside) (short-at q (none q (subst (λ n. q < n) (sym within-count) inside)))
 
-  -- and are what was found
+  -- if none is 0, they are the denominators themselves
   pub found-all : ((q : ℕ) → q < length found → get_or found q 1 ≢ 0) → found ≡ all
   found-all none = is ∙ same all (short-all none)
     where

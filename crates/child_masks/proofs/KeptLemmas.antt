@@ -16,7 +16,7 @@ blank = record { start = 0; end = 0; denominator = 0 }
 abbrev IsInside : ℕ → Kept → Type 0
 IsInside n kept = (kept.start ≤ kept.end) × (kept.end ≤ n)
 
--- a part of a list stays where more comes after it, and what comes is the rest
+-- a part of a list is also that part of a longer list, and the rest of the longer list is the addition
 range-append : {X : Type 0} (xs ys : List X) (a b : ℕ) → b ≤ length xs → slice_range (xs ++ ys) a b ≡ slice_range xs a b
 range-append xs ys a b h = grind (arith, common_steps)
 
@@ -27,7 +27,7 @@ last-of : {X : Type 0} (xs : List X) (x d : X) → get_or (xs ++ x ∷ []) (leng
 last-of [] x d = refl
 last-of (y ∷ xs) x d = last-of xs x d
 
--- a mask stays where others come after it
+-- a mask is unchanged if others come after it
 mask-stays : (masks more : List Kept) (terms extra : List Term) (place : ℕ) → place ≤ length masks → AllByRecursion (IsInside (length terms)) masks
     → mask_at (masks ++ more) (terms ++ extra) place ≡ mask_at masks terms place
 mask-stays masks more terms extra zero h all = refl
@@ -61,7 +61,7 @@ length-pushed : (mask : Mask) (masks : List Kept) (terms : List Term) (new_masks
     → length new_masks ≡ length masks + 1
 length-pushed mask masks terms new_masks new_terms is = ap length is.masks_are ∙ length-append masks _
 
--- a list with another item has what all its items have
+-- a list with one item replaced keeps a property that the new item has
 all-set : {X : Type 0} (P : X → Type 0) (xs : List X) (i : ℕ) (y : X) → AllByRecursion P xs → P y → AllByRecursion P (set xs i y)
 all-set P [] i y h p = tt
 all-set P (x ∷ xs) zero y h p = (p, h.1)
@@ -91,7 +91,7 @@ kept-list places masks terms v place mask new_masks new_terms are is e =
     ap (λ l. record { masks = l; count = length new_masks }) all
     ∙ ap (λ n. record { masks = set (map (mask_at masks terms) places) v (Some mask); count = n }) (length-pushed mask masks terms new_masks new_terms is)
 
--- and all is as it should be
+-- each place still has a mask, and each mask its terms
 pub kept-still : (places : List ℕ) (masks : List Kept) (terms : List Term) (v place : ℕ) (mask : Mask) (new_masks : List Kept) (new_terms : List Term)
     → AreKept places masks terms → IsPushed mask masks terms new_masks new_terms → place ≡ length new_masks → AreKept (set places v place) new_masks new_terms
 kept-still places masks terms v place mask new_masks new_terms are is e =
@@ -106,7 +106,7 @@ kept-still places masks terms v place mask new_masks new_terms are is e =
           (omega arith, omega (arith, grown)));
     }
 
--- longer terms alone change nothing
+-- longer terms change no mask
 pub kept-longer : (places : List ℕ) (masks : List Kept) (terms : List Term) (new_masks : List Kept) (new_terms : List Term)
     → AreKept places masks terms → new_masks ≡ masks → length terms ≤ length new_terms → AreKept places new_masks new_terms
 kept-longer places masks terms new_masks new_terms are e longer =

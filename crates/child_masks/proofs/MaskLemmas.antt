@@ -140,7 +140,7 @@ stored-next parent scheme v old some new mask same e is inside count =
     put-next parent scheme v old new (Some mask) (old.count + 1) (e ∙ ap (λ (k : KeptList). record { masks = set k.masks v (Some mask); count = k.count + 1 }) same) (omega arith)
     (subst (λ n. v < n) (sym count) inside) is
 
--- what was added stays where masks alone change
+-- an addition to a survey holds still if only masks change
 pub added-still : (den : ℕ) (terms : List Term) (old some new : Survey) → IsAdded den terms old some → new.faces.items ≡ some.faces.items → new.dens.items ≡ some.dens.items
     → new.named.items ≡ some.named.items → IsAdded den terms old new
 added-still den terms old some new added faces dens named = record {

@@ -7,6 +7,6 @@ use Rattle.subdiv_model.specs.Mask.{Mask, total_weight, is_mean}
 pub mean-positive : (mask : Mask) → IsTrue (is_mean mask) → 0 < mask.denominator
 mean-positive mask mean = grind (arith, nat_tests, mean)
 
--- and it is the sum of the weights
+-- the denominator of a mean is the sum of its weights
 pub mean-total : (mask : Mask) → IsTrue (is_mean mask) → total_weight mask.terms ≡ mask.denominator
 mean-total mask mean = grind (arith, nat_tests, mean)

@@ -22,7 +22,7 @@ module _ (parent : Topology) (scheme : Scheme) (origins : List PointOrigin) (den
     few = omega (arith, so_far.masks.few, length-take p origins, inside, short);
   }
 
-  -- and is the survey of the points with it
+  -- the new survey is that of the points with one more
   pub survey-more : (origin : PointOrigin) (new : Survey) → origin ≡ get_or origins p (FromVertex 0) → IsPointAdded parent scheme dens origin old new
       → IsSurveyOf parent scheme (take (p + 1) origins) dens new
   survey-more origin new e is = survey-next parent scheme origins dens p origin old new inside (sym e) so_far is.added is.fine (kept origin (sym e) is.kept)

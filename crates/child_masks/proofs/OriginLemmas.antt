@@ -15,7 +15,7 @@ use Rattle.child_masks.specs.Masks.{origin_at, has_origin, CanRefine}
 use Rattle.child_masks.specs.Known.{IsPartKnown}
 use Rattle.child_masks.proofs.SourceLemmas.{test-at}
 
--- what passes at a place passes in the list
+-- a list has an item that passes if the item at some place passes
 pub any-at : {X : Type 0} (p : X → Bool) (xs : List X) (i : ℕ) (d : X) → i < length xs → p (get_or xs i d) ≡ true → list_any p xs ≡ true
 any-at p [] i d h e = absurd (omega arith)
 any-at p (x ∷ xs) zero d h e = grind (arith, nat_tests, e)
@@ -65,17 +65,17 @@ face-within child count p f has same inside from =
 
 -- the part that a child point comes from
 module _ (parent : Topology) (child : ChildTopology) (scheme : Scheme) (p : ℕ) (has : HasParent child) (can : CanRefine parent child scheme) (inside : p < length child.origins) where
-  -- is one of those that points come from
+  -- the origin is one from which a point comes
   origin-has : (origin : PointOrigin) → origin ≡ get_or child.origins p (FromVertex 0) → has_origin child.origins origin ≡ true
   origin-has origin is = any-at (same_origin origin) child.origins p (FromVertex 0) inside (ap (same_origin origin) (sym is) ∙ same_origin-refl origin)
 
-  -- and one of the level
+  -- the origin is a part of the level
   origin-among : (origin : PointOrigin) → origin ≡ get_or child.origins p (FromVertex 0)
       → IsOriginWithin parent.level.point_count (length parent.level.polygons) (length (edges_of parent.level.polygons)) origin
   origin-among origin is =
       subst (IsOriginWithin parent.level.point_count (length parent.level.polygons) (length (edges_of parent.level.polygons))) (sym is) (origin-within parent child scheme has can p inside)
 
-  -- and has what its mask asks
+  -- the origin meets the conditions of its mask
   pub origin-known : (origin : PointOrigin) → origin ≡ get_or child.origins p (FromVertex 0) → IsPartKnown parent scheme origin
   origin-known (FromVertex v) is =
       let from = origin-has (FromVertex v) is in

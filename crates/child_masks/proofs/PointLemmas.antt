@@ -24,12 +24,12 @@ use Rattle.child_masks.proofs.SourceLemmas.{corner-dens}
 use Rattle.child_masks.proofs.AmongLemmas.{sources-same}
 use Rattle.child_masks.proofs.AddLemmas.{tells}
 
--- the mask of a face has its points alone
+-- the mask of a face uses only points
 no-face : (points : List ℕ) (g : ℕ) → has_source (weigh_points 1 points) (OfFace g) ≡ false
 no-face [] g = refl
 no-face (v ∷ points) g = no-face points g
 
--- so the point of a face adds the denominator of the face, and no mark
+-- the point of a face adds the denominator of the face, and no mark
 pub added-face : (t : Topology) (dens faces : List ℕ) (f : ℕ) (old new : Survey) → IsTopology t → ArePointDenominators t.level dens → AreFaceDenominators t.level dens faces
     → f < length t.level.polygons → ((den : ℕ) → 0 < den → get_or faces f 0 ≡ within_bound den → IsAdded den [] old new)
     → IsAdded (mask_denominator (source_denominator t.level dens) (face_mask t.level f)) (face_mask t.level f).terms old new
@@ -59,7 +59,7 @@ either : (a b : Bool) → (a || b) ≡ true → (a ≡ true) ⊎ (b ≡ true)
 either true b h = inl refl
 either false b h = inr h
 
--- what never holds adds nothing
+-- a test that never holds adds nothing
 or-none : (b : Bool) → (b || false) ≡ b
 or-none true = refl
 or-none false = refl
@@ -122,7 +122,7 @@ no-vertex-edge level scheme e w h = cc
 pub no-vertex-face : (level : Level) (scheme : Scheme) (f w : ℕ) → FromFace f ≡ FromVertex w → transition_overflows_at level scheme w ≡ false
 no-vertex-face level scheme f w h = cc
 
--- both outcomes say what follows from them
+-- weaker claims hold for both outcomes
 pub outcome-weaker : {E : Type 0} (r : Result (Unit {0}) E) (P Q : Type 0) (R S : E → Type 0) → (P → Q) → ((e : E) → R e → S e)
     → MatchResult r (λ _. P) R → MatchResult r (λ _. Q) S
 outcome-weaker (Ok x) P Q R S f g h = f h

@@ -1,4 +1,4 @@
--- Where the sources of the masks of points are found.
+-- The places of the sources of the masks of points.
 use Rattle.std.proofs.Common.{◌≡◌, ℕ, zero, suc, ◌*◌, ◌<◌, Bool, true, nat_lt, nat_eq, List, [], ◌∷◌, length, map, get_or, arith, refl, ap, ◌∙◌}
 use Rattle.std.specs.List.{AllByRecursion, list_all}
 use Rattle.std.proofs.lemmas.Bool.{and_parts, and_from, cond_both, lt-ltb}
@@ -26,7 +26,7 @@ test-at p [] i d h inside = absurd (omega arith)
 test-at p (x ∷ xs) zero d h inside = (and_parts (p x) (list_all p xs) h).0
 test-at p (x ∷ xs) (suc i) d h inside = test-at p xs i d (and_parts (p x) (list_all p xs) h).1 (omega arith)
 
--- what follows from a test that all pass
+-- if all pass a test, all pass a weaker one
 weaker : {X : Type 0} (p q : X → Bool) → ((x : X) → p x ≡ true → q x ≡ true) → (xs : List X) → list_all p xs ≡ true → list_all q xs ≡ true
 weaker p q f [] h = refl
 weaker p q f (x ∷ xs) h = let parts = and_parts (p x) (list_all p xs) h in and_from _ _ (f x parts.0) (weaker p q f xs parts.1)
@@ -89,7 +89,7 @@ module _ (level : Level) (f : ℕ) where
       points [] = tt
       points (v ∷ corners) = (each v, points corners)
 
-  -- its denominator
+  -- the denominator of a face's mask is that of its points
   pub corner-dens : (dens : List ℕ) → mask_denominator (corner_denominator dens) (face_mask level f) ≡ mask_denominator (source_denominator level dens) (face_mask level f)
   corner-dens dens =
       ap (λ l. (face_mask level f).denominator * lcm_of_all l)

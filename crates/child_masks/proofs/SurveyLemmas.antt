@@ -17,7 +17,7 @@ module _ (parent : Topology) (scheme : Scheme) (origins : List PointOrigin) (den
   all : IsSurveyOf parent scheme origins dens survey
   all = subst (λ xs. IsSurveyOf parent scheme xs dens survey) (take_all p origins past) so_far
 
-  -- where no denominator is 0
+  -- if no denominator is 0, the survey is whole
   pub survey-whole : ((q : ℕ) → q < length survey.dens.items → get_or survey.dens.items q 1 ≢ 0) → IsSurvey parent scheme origins dens survey
   survey-whole none =
       let ds = dens_from parent.level scheme dens origins in
@@ -32,12 +32,12 @@ module _ (parent : Topology) (scheme : Scheme) (origins : List PointOrigin) (den
         masks = all.masks;
       }
 
-  -- and where one is the first
+  -- if one is 0, the first such point has a denominator above the bound
   pub survey-over : (q : ℕ) → q < length survey.dens.items → get_or survey.dens.items q 1 ≡ 0 → ((r : ℕ) → r < q → get_or survey.dens.items r 1 ≢ 0)
       → HasNoTransition parent.level scheme origins × IsFirstDenominator (dens_from parent.level scheme dens origins) q
   survey-over q inside none before = (all.fine, first-over (dens_from parent.level scheme dens origins) survey.dens.items all.positive all.found q inside none before)
 
--- there is a denominator for each point at most
+-- there is at most one denominator for each point
 pub survey-short : (parent : Topology) (scheme : Scheme) (origins : List PointOrigin) (dens : List ℕ) (p : ℕ) (survey : Survey) → IsSurveyOf parent scheme (take p origins) dens survey
     → length survey.dens.items ≤ length origins
 survey-short parent scheme origins dens p survey is =
@@ -47,7 +47,7 @@ survey-short parent scheme origins dens p survey is =
     let kept = length-map (dens_from parent.level scheme dens points) within_bound in
     omega (arith, ap length is.found, masks, found, kept, length-take p origins)
 
--- and one for each where the survey is whole
+-- a whole survey has one denominator for each point
 pub survey-count : (parent : Topology) (scheme : Scheme) (origins : List PointOrigin) (dens : List ℕ) (survey : Survey) → IsSurvey parent scheme origins dens survey
     → length survey.dens.items ≡ length origins
 survey-count parent scheme origins dens survey is =

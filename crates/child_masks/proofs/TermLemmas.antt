@@ -18,7 +18,7 @@ use Rattle.child_masks.proofs.FoldLemmas.{ArePositive, joined-more, joined-all}
 abbrev dens_named : (SourcePoint → ℕ) → List Term → List ℕ
 dens_named denominator terms = map (λ t. denominator t.source) (terms_of terms)
 
--- there is one for each term
+-- there is one denominator for each term
 length-named : (denominator : SourcePoint → ℕ) (terms : List Term) → length (dens_named denominator terms) ≡ length terms
 length-named denominator terms = length-map (terms_of terms) (λ (t : model.Term). denominator t.source) ∙ length-map terms term_of
 
@@ -30,12 +30,12 @@ named-at denominator terms i d inside =
     ∙ ap (λ (t : model.Term). denominator t.source) (get_or-map term_of terms i d (term_of d) inside)
 
 module _ (denominator : SourcePoint → ℕ) (dens faces : List ℕ) (tell : Tell denominator dens faces) where
-  -- all are at least 1
+  -- the denominators of the terms are above 0
   named-positive : (terms : List Term) → AllByRecursion (λ t. IsAmong (length dens) (length faces) (source_of t.at)) terms → ArePositive (dens_named denominator terms)
   named-positive [] h = tt
   named-positive (t ∷ terms) h = (tell.positive (source_of t.at) h.0, named-positive terms h.1)
 
-  -- the same, from what holds at each place
+  -- the denominators of terms are above 0, from a claim for each place
   positive-named : (terms : List Term) → All (λ t. IsAmong (length dens) (length faces) (source_of t.at)) terms → ArePositive (dens_named denominator terms)
   positive-named terms h = named-positive terms (recursion_from_All (λ (t : Term). IsAmong (length dens) (length faces) (source_of t.at)) terms h)
 
@@ -48,13 +48,13 @@ module _ (denominator : SourcePoint → ℕ) (dens faces : List ℕ) (tell : Tel
       joined-more (dens_named denominator terms) i m c r (positive-named terms among) (subst (λ n. i < n) (sym (length-named denominator terms)) inside) h
       (k ∙ ap within_bound (sym (named-at denominator terms i d inside))) joined
 
-  -- and with all
+  -- the least common multiple over all terms
   pub multiple-all : (terms : List Term) (i m : ℕ) → All (λ t. IsAmong (length dens) (length faces) (source_of t.at)) terms → length terms ≤ i
       → m ≡ within_bound (fold lcm_of 1 (take i (dens_named denominator terms))) → m ≡ within_bound (lcm_of_all (dens_named denominator terms))
   multiple-all terms i m among past h =
       joined-all (dens_named denominator terms) i m (positive-named terms among) (subst (λ n. n ≤ i) (sym (length-named denominator terms)) past) h
 
-  -- so is their least common multiple
+  -- the least common multiple over all terms is above 0
   pub multiple-positive : (terms : List Term) → All (λ t. IsAmong (length dens) (length faces) (source_of t.at)) terms → 0 < lcm_of_all (dens_named denominator terms)
   multiple-positive terms among = lcm_of_all-positive (dens_named denominator terms) (positive-named terms among)
 

@@ -16,7 +16,7 @@ any-first p (x ∷ xs) = either (p x) (any-first p xs)
     either true h = grind (arith, nat_tests)
     either false h = grind (arith, nat_tests)
 
--- one passes where there is a first that does
+-- a list has an item that passes exactly where it has a first one
 any-position : {X : Type 0} (p : X → Bool) (xs : List X) → is_some (position p xs) ≡ list_any p xs
 any-position p xs = either (nat_lt (position_or_len p xs) (length xs)) ∙ sym (any-first p xs)
   where
@@ -29,7 +29,7 @@ pub has-point : (origins : List PointOrigin) (origin : PointOrigin) (r : Option 
     → has_origin origins origin ≡ not none
 has-point origins origin r none h e = sym (any-position (same_origin origin) origins) ∙ ap is_some (sym e) ∙ h
 
--- and it is none where no point does
+-- a part from which no point comes has no first point
 pub no-point : (origins : List PointOrigin) (origin : PointOrigin) (r : Option ℕ) (none : Bool) → is_some r ≡ not none → r ≡ position (same_origin origin) origins
     → none ≡ true → has_origin origins origin ≡ true → ⊥
 no-point origins origin r none h e is has = different (sym has ∙ has-point origins origin r none h e ∙ ap not is)

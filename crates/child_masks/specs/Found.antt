@@ -1,4 +1,4 @@
--- How far a survey has come, and what each mask adds to it.
+-- The progress of a survey, and what each mask adds to it.
 use Rattle.std.specs.Prelude.{ℕ, ◌≡◌, ◌+◌, ◌^◌, ◌<◌, ◌≤◌, Bool, true, false, ◌||◌, List, [], ◌∷◌, ◌++◌, length, map, get_or}
 use Rattle.std.specs.List.{All, list_any}
 use Rattle.subdiv_model.specs.Level.{Level}
@@ -14,17 +14,17 @@ use Rattle.child_masks.specs.declared.survey.Survey.{Survey}
 use Rattle.child_masks.specs.declared.fault.SurveyFault.{SurveyFault}
 use Rattle.child_masks.specs.declared.fault.SurveyFault.TheVariants.{Transition, Denominator, Memory}
 
--- one of so many points, or of the new points of so many faces
+-- the source is one of this many points, or the new point of one of this many faces
 abbrev pub IsAmong : ℕ → ℕ → SourcePoint → Type 0
 IsAmong points faces (OfPoint v) = v < points
 IsAmong points faces (OfFace f) = f < faces
 
--- a face is one of so many
+-- a source that is a face is one of this many faces
 abbrev pub IsFaceAmong : ℕ → SourcePoint → Type 0
 IsFaceAmong faces (OfPoint v) = Unit {0}
 IsFaceAmong faces (OfFace f) = f < faces
 
--- two lists have the denominators of the sources, all of at least 1, and 0 where one passes the bound
+-- two lists have the denominators of the sources, each at least 1, and 0 for one above the bound
 pub record Tell (denominator : SourcePoint → ℕ) (dens faces : List ℕ) : Type 0 where
   pub positive : (source : SourcePoint) → IsAmong (length dens) (length faces) source → 0 < denominator source
   pub point : (v : ℕ) → v < length dens → get_or dens v 0 ≡ within_bound (denominator (OfPoint v))
@@ -36,30 +36,31 @@ pub record ArePointDenominators (level : Level) (dens : List ℕ) : Type 0 where
   pub positive : All (λ den. 0 < den) dens
   pub short : All (λ den. den ≤ number_bound) dens
 
--- those of the new points of its faces, 0 where one passes the bound
+-- the denominators of the new points of the faces, with 0 for one above the bound
 pub record AreFaceDenominators (level : Level) (dens faces : List ℕ) : Type 0 where
   pub count : length faces ≡ length level.polygons
   pub each : (f : ℕ) → f < length level.polygons → get_or faces f 0 ≡ within_bound (source_denominator level dens (OfFace f))
 
--- the faces that the terms name are marked too
+-- the faces that the terms use are marked, besides those marked before
 pub record AreMarked (old : List Bool) (terms : List Term) (new : List Bool) : Type 0 where
   pub count : length new ≡ length old
   pub each : (f : ℕ) → f < length old → get_or new f false ≡ (get_or old f false || has_source terms (OfFace f))
 
--- a denominator is put after the others, and the faces that the terms name are marked
+-- one denominator is added, and the faces that the terms use are marked
 pub record IsAdded (den : ℕ) (terms : List Term) (old new : Survey) : Type 0 where
   pub positive : 0 < den
   pub faces : new.faces.items ≡ old.faces.items
   pub dens : new.dens.items ≡ old.dens.items ++ within_bound den ∷ []
   pub named : AreMarked old.named.items terms new.named.items
 
--- the mask of a child point is added, that of a vertex kept unless the vertex is plain, and no weight is refused there
+-- The mask of a child point is added, and no weight is refused there. The mask of a vertex is kept, unless the vertex is
+-- plain.
 pub record IsPointAdded (parent : Topology) (scheme : Scheme) (dens : List ℕ) (origin : PointOrigin) (old new : Survey) : Type 0 where
   pub added : IsAdded (mask_denominator (source_denominator parent.level dens) (mask_from parent.level scheme origin)) (mask_from parent.level scheme origin).terms old new
   pub fine : (v : ℕ) → origin ≡ FromVertex v → transition_overflows_at parent.level scheme v ≡ false
   pub kept : AreKeptWith parent scheme origin old.masks new.masks
 
--- a survey has a place for each part of the level, and room for one mask more
+-- a survey has a place for each part of the level, and can count one mask more
 pub record CanAdd (parent : Topology) (dens : List ℕ) (survey : Survey) : Type 0 where
   pub points : ArePointDenominators parent.level dens
   pub faces : AreFaceDenominators parent.level dens survey.faces.items
@@ -67,7 +68,7 @@ pub record CanAdd (parent : Topology) (dens : List ℕ) (survey : Survey) : Type
   pub kept : length survey.masks.masks ≡ parent.level.point_count
   pub few : survey.masks.count + 1 < 2 ^ 32
 
--- the survey of the child points so far: none is refused
+-- the survey of the child points so far, none of which has a fault
 pub record IsSurveyOf (parent : Topology) (scheme : Scheme) (origins : List PointOrigin) (dens : List ℕ) (survey : Survey) : Type 0 where
   pub positive : All (λ den. 0 < den) (dens_from parent.level scheme dens origins)
   pub found : survey.dens.items ≡ map within_bound (dens_from parent.level scheme dens origins)
@@ -78,7 +79,7 @@ pub record IsSurveyOf (parent : Topology) (scheme : Scheme) (origins : List Poin
       → get_or survey.named.items f false ≡ list_any (λ mask. has_source mask.terms (OfFace f)) (masks_from parent.level scheme origins)
   pub masks : AreKeptFor parent scheme origins survey.masks
 
--- why a child point has no denominator
+-- the reason why a child point has no denominator
 abbrev pub IsPointFault : Level → Scheme → PointOrigin → SurveyFault → Type 0
 IsPointFault level scheme origin (Transition v) = (origin ≡ FromVertex v) × (transition_overflows_at level scheme v ≡ true)
 IsPointFault level scheme origin (Denominator p) = ⊥

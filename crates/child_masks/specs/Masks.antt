@@ -1,5 +1,5 @@
--- The mask of a point of a child of a level: that of the part of the level that the point comes from.
--- Source: this profile.
+-- The mask of a point of a child of a level: the mask of the part of the level that the point comes from. Source: this
+-- library.
 use Rattle.std.specs.Prelude.{ℕ, ◌≡◌, ◌+◌, ◌<◌, ◌≤◌, ◌⊎◌, Bool, true, false, not, ◌&&◌, IsTrue, List, length, map, get_or}
 use Rattle.std.specs.List.{filter, list_any, sum_by, range_with_len}
 use Rattle.subdiv_model.specs.Edges.{edges_of, faces_of_edge}
@@ -14,7 +14,7 @@ use Rattle.level_topology.specs.Child.{PointOrigin, FromVertex, FromFace, FromEd
 use Rattle.mask_rules.specs.Masks.{is_at_least_one}
 use Rattle.mask_rules.specs.Around.{HasSharpBoundaryAt}
 
--- the mask of a point, by where it comes from
+-- the mask of a point, by its origin
 abbrev pub mask_from : Level → Scheme → PointOrigin → Mask
 mask_from level scheme (FromVertex v) = vertex_mask level scheme v
 mask_from level scheme (FromFace f) = face_mask level f
@@ -37,21 +37,21 @@ is_from_face (FromEdge e) = false
 abbrev pub has_origin : List PointOrigin → PointOrigin → Bool
 has_origin origins origin = list_any (same_origin origin) origins
 
--- the faces that some mask names although no point comes from them
+-- the faces that some mask uses although no point comes from them
 abbrev pub hidden_faces : Level → Scheme → List PointOrigin → List ℕ
 hidden_faces level scheme origins =
     filter (λ f. list_any (λ mask. has_source mask.terms (OfFace f)) (masks_from level scheme origins) && not (has_origin origins (FromFace f)))
     (range_with_len 0 (length level.polygons))
 
--- the terms of all masks, and those of the hidden faces
+-- the number of terms of all masks, and of those of the hidden faces
 abbrev pub step_terms : Level → Scheme → List PointOrigin → ℕ
 step_terms level scheme origins =
     sum_by (λ mask. length mask.terms) (masks_from level scheme origins)
     + sum_by (λ f. length (face_mask level f).terms) (hidden_faces level scheme origins)
 
--- The child has a place for each part of the parent, and each mask that it asks for can be had: its vertices are complete,
--- and under Catmull and Clark's scheme its edges have two faces or a sharpness of at least 1, the boundary is sharp about its
--- vertices, and no half of an edge is refused there.
+-- The child has a place for each part of the parent, and each mask that it needs exists. Its vertices are complete. Under
+-- Catmull and Clark's scheme its edges have two faces or a sharpness of at least 1. The boundary about its vertices is sharp
+-- then, and no half of an edge is refused there.
 pub record CanRefine (parent : Topology) (child : ChildTopology) (scheme : Scheme) : Type 0 where
   pub vertices : child.parent_points ≡ parent.level.point_count
   pub faces : length child.parent_sizes ≡ length parent.level.polygons
@@ -67,7 +67,7 @@ pub record CanRefine (parent : Topology) (child : ChildTopology) (scheme : Schem
 abbrev pub dens_from : Level → Scheme → List ℕ → List PointOrigin → List ℕ
 dens_from level scheme dens origins = map (mask_denominator (source_denominator level dens)) (masks_from level scheme origins)
 
--- the values of the points, from those of the level's
+-- the values of the points, from those of the points of the level
 abbrev pub values_from : Level → Scheme → List PointOrigin → List Value → List Value
 values_from level scheme origins values = map (mask_value (source_value level values)) (masks_from level scheme origins)
 
@@ -82,7 +82,7 @@ pub record IsFirstTransition (level : Level) (scheme : Scheme) (origins : List P
   pub refused : transition_overflows_at level scheme v ≡ true
   pub first : (u : ℕ) → u < v → IsTrue (has_origin origins (FromVertex u)) → transition_overflows_at level scheme u ≡ false
 
--- the least point whose denominator passes its bound
+-- the least point whose denominator is above the bound
 pub record IsFirstDenominator (dens : List ℕ) (p : ℕ) : Type 0 where
   pub exists : p < length dens
   pub great : number_bound < get_or dens p 1

@@ -1,4 +1,4 @@
--- What is known of a step before any value of it is made.
+-- The result of a survey.
 use Rattle.std.specs.Prelude.{ℕ, ◌≡◌, ◌<◌, ◌≤◌, nat_le, false, List, length, get_or, if◌then◌else◌}
 use Rattle.std.specs.List.{All, list_any}
 use Rattle.subdiv_model.specs.Level.{Level}
@@ -13,12 +13,13 @@ use Rattle.child_masks.specs.declared.survey.Survey.{Survey}
 use Rattle.child_masks.specs.declared.fault.SurveyFault.{SurveyFault}
 use Rattle.child_masks.specs.declared.fault.SurveyFault.TheVariants.{Transition, Denominator, Memory}
 
--- the number, and 0 where it passes the bound of denominators
+-- the number, or 0 if it is above the bound of denominators
 abbrev pub within_bound : ℕ → ℕ
 within_bound n = if nat_le n number_bound then n else 0
 
--- The denominators of the points follow from those before them and are within their bound, and no weight is refused. Those of
--- the new points of faces are 0 where they pass it, and a face is marked where some mask names it. The masks of vertices that are not plain are kept.
+-- The denominators of the points follow from those before them and are within their bound, and no weight is refused. The
+-- denominator of the new point of a face is 0 if it is above the bound; a face is marked where some mask uses it. The masks
+-- of vertices that are not plain are kept.
 pub record IsSurvey (parent : Topology) (scheme : Scheme) (origins : List PointOrigin) (before : List ℕ) (survey : Survey) : Type 0 where
   pub dens : survey.dens.items ≡ dens_from parent.level scheme before origins
   pub fine : HasNoTransition parent.level scheme origins
@@ -30,7 +31,7 @@ pub record IsSurvey (parent : Topology) (scheme : Scheme) (origins : List PointO
       → get_or survey.named.items f false ≡ list_any (λ mask. has_source mask.terms (OfFace f)) (masks_from parent.level scheme origins)
   pub masks : AreKeptFor parent scheme origins survey.masks
 
--- the first fault, each kind over the whole level; memory may run out at any step
+-- the first fault of each kind over the whole level; memory may run out at any step
 abbrev pub IsSurveyFault : Level → Scheme → List PointOrigin → List ℕ → SurveyFault → Type 0
 IsSurveyFault level scheme origins dens (Transition v) = IsFirstTransition level scheme origins v
 IsSurveyFault level scheme origins dens (Denominator p) = HasNoTransition level scheme origins × IsFirstDenominator (dens_from level scheme dens origins) p

@@ -1,4 +1,4 @@
-//! Common denominators up to their bound, as whole numbers that are 0 where they pass it.
+//! Common denominators. A number 0 represents one above the bound.
 
 ghost use Rattle.std.specs.Prelude.{◌≡◌, ℕ, ◌*◌, ◌<◌, true};
 ghost use Rattle.std.specs.Int.{◌∣◌};
@@ -8,7 +8,7 @@ ghost use Rattle.child_masks.specs.Survey.{within_bound};
 use ratio128::limits::NUMBER_BOUND;
 use ratio128::{lcm_within, times_within};
 
-// Whether a number is a power of two that divides another, by their lowest bits alone.
+// Returns whether a number is a power of two that divides another, from their lowest bits.
 fn is_shift(c: u128, m: u128) -> bool
     requires c { 0 < c }
     requires m { 0 < m }
@@ -18,7 +18,7 @@ fn is_shift(c: u128, m: u128) -> bool
     twos <= m.trailing_zeros() && c >> twos == 1
 }
 
-// The least common multiple of two numbers that are not 0.
+// Returns the least common multiple of two numbers, neither of them 0.
 fn multiple(m: u128, c: u128) -> u128
     requires m { 0 < m }
     requires c { 0 < c }
@@ -27,7 +27,8 @@ fn multiple(m: u128, c: u128) -> u128
     lcm_within(m, c, NUMBER_BOUND).unwrap_or(0)
 }
 
-/// The least common multiple of two common denominators, each of which is 0 where it passes 2^126 - 1. So is the answer. It takes no memory.
+/// Returns the least common multiple of two common denominators. Each of the three is 0 if it is above 2^126 - 1. The call
+/// takes no memory.
 pub fn common_multiple(m: u128, c: u128) -> u128
     ensures { (a b : ℕ) → 0 < a → 0 < b → m ≡ within_bound a → c ≡ within_bound b → result ≡ within_bound (lcm_of a b) }
 {
@@ -46,7 +47,7 @@ pub fn common_multiple(m: u128, c: u128) -> u128
     multiple(m, c)
 }
 
-/// A denominator times a number.
+/// Returns a denominator times a number, or 0 if the product is above 2^126 - 1.
 pub(crate) fn scaled(q: u128, m: u128) -> u128
     ensures { (a : ℕ) → 0 < q → 0 < a → m ≡ within_bound a → result ≡ within_bound (q * a) }
 {

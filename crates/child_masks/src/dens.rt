@@ -2,7 +2,7 @@
 
 ghost use Rattle.std.specs.Prelude.{◌≡◌, ◌≢◌, ℕ, ◌<◌, ◌^◌, length, get_or, MatchOption};
 
-/// The first place of 0.
+/// Returns the first place with 0.
 pub(crate) fn first_zero(dens: &Vec<u128>) -> Option<u32>
     requires { length dens.now.items < 2 ^ 32 }
     ensures { MatchOption result

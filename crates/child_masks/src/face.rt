@@ -15,7 +15,7 @@ use mask_rules::face_mask;
 use ratio128::Memory;
 use std::alloc::Global;
 
-// The least common multiple of the denominators of points.
+// Returns the least common multiple of the denominators of points.
 fn multiple_of_points(points: &[u32], dens: &[u128]) -> u128
     requires within { All (λ v. v < length dens.now) points.now }
     requires positive { All (λ den. 0 < den) dens.now }
@@ -29,7 +29,7 @@ fn multiple_of_points(points: &[u32], dens: &[u128]) -> u128
     multiple
 }
 
-// The denominator of the new point of a face.
+// Returns the denominator of the new point of a face.
 fn face_denominator(level: &Level, f: u32, dens: &[u128]) -> u128
     requires known { f < length level.now.level.polygons }
     requires dens { ArePointDenominators level.now.level dens.now }
@@ -40,7 +40,7 @@ fn face_denominator(level: &Level, f: u32, dens: &[u128]) -> u128
     scaled(size, multiple_of_points(level.face_vertices(f), dens))
 }
 
-/// The denominators of the new points of all faces.
+/// Returns the denominators of the new points of all faces.
 pub(crate) fn face_denominators(
     alloc: Global,
     level: &Level,

@@ -1,11 +1,11 @@
-//! Why child points have no masks.
+//! The reason why child points have no masks.
 
 use ratio128::Memory;
 
-/// Why the child points of a level have no masks, or no common denominators within the bound.
+/// The reason why the child points of a level have no masks, or no common denominators within the bound.
 #[derive(Clone, Copy, Debug, PartialEq, Eq)]
 pub enum SurveyFault {
-    /// At this vertex of the parent the weight between the rules of two levels has a denominator above 2^60.
+    /// At this vertex of the parent, the weight between the rules of two levels has a denominator above 2^60.
     Transition(u32),
     /// The common denominator of this child point is above 2^126 - 1.
     Denominator(u32),

@@ -1,4 +1,4 @@
-//! Masks of vertices, kept as they were made, one after another.
+//! Masks of vertices, kept in the order in which they were made.
 
 ghost use Rattle.std.specs.Prelude.{◌≡◌, ◌+◌, ◌<◌, ◌≤◌, ◌^◌, Some, None, List, ◌∷◌, ◌++◌, length, get_or, replicate, set, IfOk, OnOk, OnErr, MatchOption};
 ghost use Rattle.mask_rules.specs.View.{terms_of, seen_vertex};
@@ -11,7 +11,7 @@ use ratio128::Memory;
 use std::alloc::Global;
 use std::marker::Model;
 
-// Where the terms of a mask are among those of all, and its denominator.
+// The end of a mask's terms in the list of all terms, and its denominator.
 #[derive(Clone, Copy)]
 pub(crate) struct Kept {
     start: usize,
@@ -19,7 +19,7 @@ pub(crate) struct Kept {
     denominator: u128,
 }
 
-/// The masks that are kept, by the vertices of the parent that they are of.
+/// The kept masks, by the vertices of the parent.
 #[derive(Drop)]
 pub struct KeptMasks {
     places: Vec<u32>,
@@ -37,7 +37,7 @@ impl Model for KeptMasks {
     ghost invariant = { λ k. AreKept k.places.items k.masks.items k.terms.items };
 }
 
-/// A mask that is kept.
+/// A kept mask.
 #[derive(Drop)]
 pub struct KeptMask<'a> {
     terms: &'a [Term],
@@ -45,14 +45,14 @@ pub struct KeptMask<'a> {
 }
 
 impl KeptMask<'_> {
-    /// The terms, each with a place of its own and a weight above 0.
+    /// Returns the terms. Each source occurs once, with a weight above 0.
     pub fn terms(&self) -> &[Term]
         ensures { terms_of result.now ≡ (seen_kept self.now).terms }
     {
         self.terms
     }
 
-    /// What the weights sum to.
+    /// Returns the denominator, which is the sum of the weights.
     pub fn denominator(&self) -> u128
         ensures { result ≡ (seen_kept self.now).denominator }
     {
@@ -60,7 +60,7 @@ impl KeptMask<'_> {
     }
 }
 
-// A mask more after the others.
+// Adds a mask after the others.
 fn push_mask(masks: &mut Vec<Kept>, terms: &mut Vec<Term>, mask: &VertexMask) -> Result<(), Memory>
     ensures pushed { OnOk result (IsPushed (seen_vertex mask.now) masks.old.items terms.old.items masks.new.items terms.new.items) }
     ensures failed { OnErr result ((masks.new.items ≡ masks.old.items) × (length terms.old.items ≤ length terms.new.items)) }
@@ -76,7 +76,7 @@ fn push_mask(masks: &mut Vec<Kept>, terms: &mut Vec<Term>, mask: &VertexMask) ->
 }
 
 impl KeptMasks {
-    /// So many vertices, of which none has a mask.
+    /// Returns an empty list for this many vertices.
     pub(crate) fn new(alloc: Global, vertices: u32) -> Result<KeptMasks, Memory>
         ensures { IfOk result (λ kept. kept ≡ record { masks = replicate vertices None; count = 0 }) }
     {
@@ -87,7 +87,7 @@ impl KeptMasks {
         })
     }
 
-    /// The vertex has no mask.
+    /// Records that the vertex has no kept mask.
     pub(crate) fn leave(&mut self, v: u32)
         requires { v < length self.old.masks }
         ensures { self.new ≡ record { masks = set self.old.masks v None; count = self.old.count } }
@@ -95,7 +95,7 @@ impl KeptMasks {
         self.places[v as usize] = 0;
     }
 
-    /// The vertex has this mask.
+    /// Keeps the mask of the vertex.
     pub(crate) fn keep(&mut self, v: u32, mask: &VertexMask) -> Result<(), Memory>
         requires known { v < length self.old.masks }
         requires few { self.old.count + 1 < 2 ^ 32 }
@@ -106,7 +106,7 @@ impl KeptMasks {
         Ok(())
     }
 
-    /// The mask of a vertex, if it is kept.
+    /// Returns the mask of the vertex, if it is kept.
     pub(crate) fn find(&self, v: u32) -> Option<KeptMask<'_>>
         requires { v < length self.now.masks }
         ensures { MatchOption result

@@ -1,6 +1,8 @@
-//! The masks of the points of a child of a level, and their common denominators.
+//! Finds the mask of each point of a child of a level, and the common denominators of its values.
 //!
-//! Source: Catmull and Clark 1978 and DeRose, Kass and Truong 1998 for the masks; the common denominators are this profile's.
+//! A survey computes all denominators and reports the first fault of a mask or a denominator before any value is made. It
+//! keeps the masks of vertices that are not plain. The masks are those of Catmull and Clark 1978 and of DeRose, Kass and
+//! Truong 1998; the common denominators are this library's own.
 #![tactic(auto)]
 
 mod common;

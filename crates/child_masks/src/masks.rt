@@ -19,14 +19,14 @@ pub enum PointMask<'a> {
 /// The mask of a vertex or an edge.
 #[derive(Drop)]
 pub enum TermMask<'a> {
-    /// It stands where it was made.
+    /// The mask is the last one that was made in `made`.
     Made,
-    /// It is one that is kept.
+    /// The mask is a kept one.
     Kept(KeptMask<'a>),
 }
 
 impl TermMask<'_> {
-    /// The terms, each with a place of its own and a weight above 0, where the last mask was made in `made`.
+    /// Returns the terms; `made` must contain the last mask that was made. Each source occurs once, with a weight above 0.
     pub fn terms<'b>(&'b self, made: &'b MadeMask) -> &'b [Term]
         ensures { terms_of result.now ≡ (seen_terms made.now self.now).terms }
     {
@@ -36,7 +36,7 @@ impl TermMask<'_> {
         }
     }
 
-    /// What the weights sum to, where the last mask was made in `made`.
+    /// Returns the denominator, which is the sum of the weights; `made` must contain the last mask that was made.
     pub fn denominator(&self, made: &MadeMask) -> u128
         ensures { result ≡ (seen_terms made.now self.now).denominator }
     {

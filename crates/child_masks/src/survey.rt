@@ -1,4 +1,4 @@
-//! What is known of the masks of child points before any value is made.
+//! The survey of child points: their denominators, before any value is made.
 
 ghost use Rattle.std.specs.Prelude.{◌≡◌, ℕ, ◌^◌, ◌<◌, false, List, [], length, get_or, OnOk, MatchResult, IfOk};
 ghost use Rattle.std.specs.List.{All};
@@ -30,20 +30,20 @@ use mask_rules::{MadeMask, MaskFault, Scheme, Term, is_plain, vertex_mask};
 use ratio128::Memory;
 use std::alloc::Global;
 
-/// What the survey of the child points of a level found.
+/// The result of a survey of the child points of a level.
 #[derive(Drop)]
 pub struct Survey {
-    /// The common denominator of each child point, in their order.
+    /// The common denominator of each child point, in the order of the points.
     pub dens: Vec<u128>,
-    /// The common denominator of the new point of each face of the parent; 0 where it passes 2^126 - 1.
+    /// The common denominator of the new point of each face of the parent, or 0 if it is above 2^126 - 1.
     pub faces: Vec<u128>,
-    /// Whether some mask of a child point names the new point of the face.
+    /// For each face of the parent, whether the mask of some child point uses its new point.
     pub named: Vec<bool>,
     masks: KeptMasks,
 }
 
 impl Survey {
-    // The denominators of the faces, and nothing of the child points.
+    // Starts a survey with the denominators of the faces, and no child point.
     fn start(alloc: Global, parent: &Level, dens: &[u128], points: u32) -> Result<Survey, Memory>
         requires { ArePointDenominators parent.now.level dens.now }
         ensures { IfOk result (λ survey. (scheme : model.Scheme) → IsSurveyOf parent.now scheme [] dens.now survey) }
@@ -59,7 +59,7 @@ impl Survey {
         })
     }
 
-    // What the mask of a child point tells.
+    // Adds the mask of a child point.
     fn add_mask(&mut self, dens: &[u128], terms: &[Term], denominator: u128) -> Result<(), Memory>
         requires among { All (λ t. IsAmong (length dens.now) (length self.old.faces.items) (source_of t.at)) terms.now }
         requires beside { length self.old.named.items ≡ length self.old.faces.items }
@@ -73,7 +73,7 @@ impl Survey {
         Ok(())
     }
 
-    // What a child point of a plain vertex tells.
+    // Adds a child point of a plain vertex.
     fn add_plain(
         &mut self,
         parent: &Level,
@@ -94,7 +94,7 @@ impl Survey {
         Ok(())
     }
 
-    // What a child point of any vertex tells by its mask, which is kept.
+    // Adds a child point of a vertex, and keeps its mask.
     fn add_kept(
         &mut self,
         alloc: Global,
@@ -121,7 +121,7 @@ impl Survey {
         }
     }
 
-    // What a child point of a vertex tells.
+    // Adds a child point of a vertex.
     fn add_vertex(
         &mut self,
         alloc: Global,
@@ -144,7 +144,7 @@ impl Survey {
         Ok(())
     }
 
-    // What a child point of an edge tells.
+    // Adds a child point of an edge.
     fn add_edge(
         &mut self,
         parent: &Level,
@@ -162,7 +162,7 @@ impl Survey {
         self.add_mask(dens, made.terms(), made.denominator())
     }
 
-    // What a child point of a face tells: its mask names no face.
+    // Adds a child point of a face. Its mask uses no face.
     fn add_face(&mut self, f: u32) -> Result<(), Memory>
         requires { f < length self.old.faces.items }
         ensures added { OnOk result ((den : ℕ) → 0 < den → get_or self.old.faces.items f 0 ≡ within_bound den → IsAdded den [] self.old self.new) }
@@ -172,7 +172,7 @@ impl Survey {
         Ok(())
     }
 
-    // What a child point tells, by where it comes from.
+    // Adds a child point, by its origin.
     fn add_point(
         &mut self,
         alloc: Global,
@@ -204,7 +204,7 @@ impl Survey {
 }
 
 impl Survey {
-    // The mask of a vertex, made unless it is kept.
+    // Returns the mask of a vertex, and makes it unless it is kept.
     fn mask_of_vertex(
         &self,
         parent: &Level,
@@ -226,8 +226,8 @@ impl Survey {
         }
     }
 
-    /// The mask of a child point: one that is kept, or else one that is made in `made`. It takes no memory, and looks at no
-    /// sharpness of a vertex.
+    /// Returns the mask of child point `p`, counted from 0: a kept one, or one that it makes in `made`. The call takes no
+    /// memory and reads no sharpness of a vertex.
     pub fn mask(
         &self,
         parent: &Level,
@@ -254,7 +254,7 @@ impl Survey {
     }
 }
 
-// The fault of a whole step where a child point has one.
+// Returns the fault of a whole step in which a child point has a fault.
 fn fault_of_all(
     alloc: Global,
     parent: &Level,
@@ -275,9 +275,11 @@ fn fault_of_all(
     }
 }
 
-/// The survey of a child of a level, from the denominators of the level's points, each from 1 to 2^126 - 1; or the first fault:
-/// `Transition` with the least vertex, of those with a child point, whose mask is refused, and then `Denominator` with the least
-/// child point whose denominator passes 2^126 - 1.
+/// Returns the survey of a child of a level. `dens` has the denominator of each point of the level, from 1 to 2^126 - 1.
+///
+/// Reports the first fault of these kinds, each over the whole level. `Transition` names the least vertex of the parent, of
+/// those with a child point, whose mask is refused. `Denominator` names the least child point whose denominator is above
+/// 2^126 - 1. Both count from 0. Reports `Memory` where memory runs out.
 pub fn survey_over(
     alloc: Global,
     parent: &Level,

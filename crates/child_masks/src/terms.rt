@@ -1,4 +1,4 @@
-//! What the terms of a mask name: denominators and faces.
+//! The denominators and faces that the terms of a mask use.
 
 ghost use Rattle.std.specs.Prelude.{◌≡◌, ℕ, [], ◌∷◌, length, map};
 ghost use Rattle.std.specs.List.{All};
@@ -11,7 +11,7 @@ ghost use Rattle.child_masks.specs.Found.{IsAmong, IsFaceAmong, Tell, AreMarked}
 use crate::common::common_multiple;
 use mask_rules::{At, Term};
 
-// The denominator of a source, from those of the points and of the new points of the faces.
+// Returns the denominator of a source, from those of the points and of the new points of the faces.
 fn denominator_at(at: At, dens: &[u128], faces: &[u128]) -> u128
     requires { IsAmong (length dens.now) (length faces.now) (source_of at) }
     ensures { (denominator : SourcePoint → ℕ) → Tell denominator dens.now faces.now → result ≡ within_bound (denominator (source_of at)) }
@@ -22,7 +22,7 @@ fn denominator_at(at: At, dens: &[u128], faces: &[u128]) -> u128
     }
 }
 
-/// The least common multiple of the denominators of all sources.
+/// Returns the least common multiple of the denominators of all sources.
 pub(crate) fn multiple_of_terms(terms: &[Term], dens: &[u128], faces: &[u128]) -> u128
     requires { All (λ t. IsAmong (length dens.now) (length faces.now) (source_of t.at)) terms.now }
     ensures { (denominator : SourcePoint → ℕ) → Tell denominator dens.now faces.now
@@ -35,7 +35,7 @@ pub(crate) fn multiple_of_terms(terms: &[Term], dens: &[u128], faces: &[u128]) -
     multiple
 }
 
-// The mark of the face that a term names.
+// Marks the face that a term uses.
 fn mark_face(named: &mut [bool], term: &Term)
     requires { IsFaceAmong (length named.old) (source_of term.now.at) }
     ensures { AreMarked named.old (term_of term.now ∷ []) named.new }
@@ -45,7 +45,7 @@ fn mark_face(named: &mut [bool], term: &Term)
     }
 }
 
-/// A mark for each face that a term names.
+/// Marks each face that a term uses.
 pub(crate) fn mark_faces(named: &mut [bool], terms: &[Term])
     requires { All (λ t. IsFaceAmong (length named.old) (source_of t.at)) terms.now }
     ensures { AreMarked named.old (terms_of terms.now) named.new }

@@ -1,4 +1,4 @@
-//! The least vertex that is refused.
+//! The least vertex whose mask is refused.
 
 ghost use Rattle.std.specs.Prelude.{◌≡◌, ℕ, ◌<◌, true, false, List, IsTrue, MatchOption};
 ghost use Rattle.subdiv_model.specs.Channel.{transition_overflows_at};
@@ -13,7 +13,7 @@ use level_topology::{Child, Level};
 use mask_rules::{MaskFault, Scheme, vertex_mask};
 use std::alloc::Global;
 
-// Why a vertex has no mask, if it has a child point.
+// Returns the reason why a vertex has no mask, if it has a child point.
 fn refusal(
     alloc: Global,
     parent: &Level,
@@ -37,7 +37,7 @@ fn refusal(
     }
 }
 
-/// The fault of a step in which a vertex is refused: the least of those that are.
+/// Returns the fault of a step in which some mask is refused; it names the least such vertex.
 pub(crate) fn least_refused(
     alloc: Global,
     parent: &Level,

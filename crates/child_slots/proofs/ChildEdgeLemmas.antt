@@ -36,7 +36,7 @@ module _ (t : Topology) (is : IsTopology t) (p : Part) (n : Slotted) (are : AreP
   all-quads : take (length p.places) quads ≡ quads
   all-quads = take_all (length p.places) quads (omega (arith, quads-count points polygons (over-of t is) is.simple p are.part))
 
-  -- they are numbered by first appearance
+  -- the child edges are numbered by first appearance
   pub numbering-all : IsNumbering quads [] (numbered_of n)
   numbering-all = subst (λ (qs : List Polygon). IsNumbering qs [] (numbered_of n)) all-quads are.numbering
 
@@ -50,7 +50,7 @@ module _ (t : Topology) (is : IsTopology t) (p : Part) (n : Slotted) (are : AreP
   pub slot-number : (a : ℕ) (s : ℕ × ℕ) → IsPartSlot points polygons p a s → number_at n.slots a ≡ edge_number quads s
   slot-number a s slot = (slot-known points polygons (over-of t is) is.simple p are.part n a s has-slots slot).1 ∙ ap (λ edges. number_in edges s) ends-all
 
-  -- and it has one where it is a side of a child face
+  -- the slot of a side of a child face has an edge
   pub slot-among : (a : ℕ) (s : ℕ × ℕ) (k : ℕ) → IsPartSlot points polygons p a s → has_side s (polygon_at quads k) ≡ true → is_among n.slots a ≡ true
   slot-among a s k slot has = (slot-known points polygons (over-of t is) is.simple p are.part n a s has-slots slot).0 ∙ ap (list_any (same_edge s)) ends-all ∙ side-named quads k s has
 
@@ -65,7 +65,7 @@ module _ (t : Topology) (is : IsTopology t) (p : Part) (n : Slotted) (are : AreP
     quad-here : polygon_at quads i ≡ quad
     quad-here = quad-at-place points polygons (over-of t is) is.simple p are.part i h
 
-    -- all have edges
+    -- each slot of a side of the child face has an edge
     pub slots-there : All (λ a. is_among n.slots a ≡ true) (slots_at polygons place.0 place.1)
     slots-there =
         let all = part-slots t is p are.part i h in
@@ -77,7 +77,7 @@ module _ (t : Topology) (is : IsTopology t) (p : Part) (n : Slotted) (are : AreP
         (slot-among _ _ i (all 2 (0, (0, 0)) (omega arith)) (side _ sides.2))
         (slot-among _ _ i (all 3 (0, (0, 0)) (omega arith)) (side _ sides.3))
 
-    -- and their numbers are those of the face's edges
+    -- the numbers of a child face's edges are those at its slots
     pub numbers-quad : map (number_at n.slots) (slots_at polygons place.0 place.1) ≡ face_edges_of quads (polygon_at quads i)
     numbers-quad =
         let all = part-slots t is p are.part i h in

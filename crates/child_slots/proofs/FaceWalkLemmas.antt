@@ -38,7 +38,7 @@ walked-none points polygons p n is made = subst (λ x. IsWalked points polygons 
   count_is = refl;
 })
 
--- so there are few edges
+-- the first k child faces have at most 4k edges
 pub walked-few : (points : ℕ) (polygons : List Polygon) (p : Part) (k : ℕ) (n : Slotted) → IsWalked points polygons p k n → length n.ends ≤ 4 * k
 walked-few points polygons p k n walked =
     let sides = all_sides (take k (part_polygons points polygons p)) in
@@ -69,7 +69,7 @@ module _ (t : Topology) (is : IsTopology t) where
     abbrev quad : Polygon
     quad = whole_quad points polygons place
 
-    -- there are few places
+    -- a place is below 2^28
     pub place-low : i < 2 ^ 28
     place-low = omega (arith, place-below points polygons (over-of t is) is.simple p part i h, is.small.corners)
 
@@ -79,7 +79,7 @@ module _ (t : Topology) (is : IsTopology t) where
         let has = quad-has (get_or quad 0 0) (get_or quad 1 0) (get_or quad 2 0) (get_or quad 3 0) in
         all-four (λ n. p.has n ≡ true) _ _ _ _ (part.corners i _ h has.0) (part.corners i _ h has.1) (part.corners i _ h has.2) (part.corners i _ h has.3)
 
-    -- so each of their sides has a slot
+    -- each side of a child face has a slot
     pub part-slots : All (λ s. IsPartSlot points polygons p s.0 s.1) (quad_sides (slots_at polygons place.0 place.1) (map p.number quad))
     part-slots =
         let all = sides-slots points polygons place.0 place.1 (part.within i h) in
@@ -101,7 +101,7 @@ module _ (t : Topology) (is : IsTopology t) where
         let same : m ≡ with_slots i n (quad_sides (slots_at polygons place.0 place.1) (map p.number quad)) = made ∙ ap (λ k. with_slots k n (quad_sides slots corners)) number ∙ ap (λ xs. with_slots i n (quad_sides xs corners)) s ∙ ap (λ xs. with_slots i n (quad_sides (slots_at polygons place.0 place.1) xs)) q in
         walked-step points polygons (over-of t is) is.simple p part is.sides_once i n m (quad_sides (slots_at polygons place.0 place.1) (map p.number quad)) h walked part-slots (ap sides_of (sym (quad-at-place points polygons (over-of t is) is.simple p part i h))) same
 
-    -- where the face and the corner of the place are known
+    -- the face and the corner of the place are f and c
     module _ (f c : ℕ) (at : get_or p.places i (0, 0) ≡ (f, c)) where
       pub corner-at : c < length (polygon_at t.level.polygons f)
       corner-at = subst (λ (x : ℕ × ℕ). x.1 < length (polygon_at t.level.polygons x.0)) at (part.within i h)

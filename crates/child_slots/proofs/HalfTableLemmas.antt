@@ -30,7 +30,7 @@ module _ (t : Topology) (is : IsTopology t) where
   abbrev polygons : List Polygon
   polygons = t.level.polygons
 
-  -- a slot tells its edge and its end
+  -- equal slots of halves have equal edges and equal ends
   one-slot : (u w e d : ℕ) → has_end u (edge_at polygons e) ≡ true → has_end w (edge_at polygons d) ≡ true → half_slot polygons u e ≡ half_slot polygons w d → (e ≡ d) × (u ≡ w)
   one-slot u w e d h k same =
       let edges : e ≡ d = omega (arith, same, end-low polygons u e, end-low polygons w d) in
@@ -75,7 +75,7 @@ module _ (t : Topology) (is : IsTopology t) where
     pub ring-at : (i : ℕ) → i < length items → (i < length (ring_listed t v)) × (get_or (ring_listed t v) i Smooth ≡ kept (get_or items i 0))
     ring-at i inside = (omega (arith, inside, length-map items kept), get_or-map kept items i 0 Smooth inside)
 
-    -- they are no more than all edges
+    -- a point has no more edges than there are edges
     pub ring-short : length items < 2 ^ 28
     ring-short =
         omega (
@@ -102,7 +102,7 @@ module _ (t : Topology) (is : IsTopology t) where
         ap (λ k. is_chaikin k && chaikin_overflows (map sharpness_of ring)) m ∙ ap (λ xs. is_chaikin t.level.method && chaikin_overflows xs) r
         ∙ ap (λ b. is_chaikin t.level.method && b) (sym (overflow-any_order (ring_at t.level v) (ring_listed t v) ring-permuted))
 
-    -- and so is a half
+    -- the half of an edge has the sharpness of the definition in any order of the edges
     pub half-is : (method : Method) (ring : List rules.Sharpness) (i : ℕ) (s half : Sharpness) → method_of method ≡ t.level.method → map sharpness_of ring ≡ ring_listed t v → i < length items → s ≡ get_or (map sharpness_of ring) i Smooth
         → half ≡ half_child (method_of method) (map sharpness_of ring) s → half ≡ half_sharpness t.level (edge_at polygons (get_or items i 0)) v
     half-is method ring i s half m r inside at made =
@@ -141,7 +141,7 @@ module _ (t : Topology) (is : IsTopology t) where
             let earlier : k ≢ i = λ same. differ (ap (λ n. half_slot polygons v (get_or items n 0)) same ∙ sym at) in
             other v (get_or items k 0) differ (put.places k (omega (arith, less, earlier)) within)
 
-    -- all at the point
+    -- all halves at the point are done
     pub point-done : (has : ℕ → Bool) (i : ℕ) (halves : List Sharpness) → length items ≤ i → chaikin_overflows_at t.level v ≡ false → AreHalvesPut t has v i halves → AreHalvesPut t has (v + 1) 0 halves
     point-done has i halves all fine put = record {
       count = put.count;

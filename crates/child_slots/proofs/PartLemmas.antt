@@ -21,7 +21,7 @@ use Rattle.child_slots.specs.Parts.{Part, IsPart, place_number, whole_quad, part
 use Rattle.child_slots.proofs.SlotLemmas.{first-below}
 use Rattle.child_slots.proofs.QuadLemmas.{child-quad, face-below}
 
--- numbers that tell points tell them to a test
+-- a function that is injective at two numbers preserves the test of equality
 number-test : (f : ℕ → ℕ) (a b : ℕ) → (f a ≡ f b → a ≡ b) → nat_eq (f a) (f b) ≡ nat_eq a b
 number-test f a b tells = go (nat_eq a b) refl
   where
@@ -29,7 +29,7 @@ number-test f a b tells = go (nat_eq a b) refl
     go true e = eq-eqb (f a) (f b) (ap f (eqb-true a b e))
     go false e = ne_eqb (f a) (f b) (λ same. let yes = eq-eqb a b (tells same) in absurd (cc))
 
--- and so edges
+-- a function that is injective at the ends preserves the test of equal edges
 pub edge-renumbered : (f : ℕ → ℕ) (s t : ℕ × ℕ) → (f s.0 ≡ f t.0 → s.0 ≡ t.0) → (f s.1 ≡ f t.1 → s.1 ≡ t.1) → (f s.0 ≡ f t.1 → s.0 ≡ t.1) → (f s.1 ≡ f t.0 → s.1 ≡ t.0) → same_edge (renumbered f s) (renumbered f t) ≡ same_edge s t
 edge-renumbered f s t p q r u =
     let one = number-test f s.0 t.0 p in
@@ -105,7 +105,7 @@ module _ (points : ℕ) (polygons : List Polygon) (over : is_over points polygon
   whole-at : (i : ℕ) → i < length p.places → polygon_at (child_polygons points polygons) (place_number polygons (place i)) ≡ whole_quad points polygons (place i)
   whole-at i h = child-quad points polygons (place i).0 (place i).1 (face-below polygons (place i).0 (place i).1 (is.within i h)) (is.within i h)
 
-  -- there are no more places than corners
+  -- a part has no more places than the level has corners
   place-few : (i : ℕ) → i < length p.places → i ≤ place_number polygons (place i)
   place-few zero h = omega arith
   place-few (suc i) h = let before = place-few i (omega (arith, h)) in let more = is.ascend i (suc i) (omega arith) h in omega (arith, before, more)
@@ -160,7 +160,7 @@ module _ (points : ℕ) (polygons : List Polygon) (over : is_over points polygon
         let here : has_side s (polygon_at quads found.0) ≡ true = ap (has_side s) (sym (get_or-take k quads found.0 [] below)) ∙ found.2 in
         side-owner found.0 k s below h here has)
 
-    -- so the first child faces have each side once
+    -- the first child faces have each side at most once
     side-once : (k : ℕ) (s : ℕ × ℕ) → k ≤ length p.places → count_by (same_side s) (all_sides (take k quads)) ≤ 1
     side-once zero s h = omega arith
     side-once (suc k) s h =

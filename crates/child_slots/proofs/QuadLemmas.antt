@@ -24,7 +24,7 @@ last-is : {X : Type 0} (d : X) (x : X) (xs : List X) → last_of d (x ∷ xs) �
 last-is d x [] = refl
 last-is d x (y ∷ xs) = last-is d y xs
 
--- the item before another, where the last stands before the first
+-- the item before another; the last item comes before the first
 before-is : {X : Type 0} (d : X) (xs : List X) (c : ℕ) → c < length xs → get_or (last_of d xs ∷ xs) c d ≡ get_or xs (corner_before (length xs) c) d
 before-is d [] c h = absurd (omega arith)
 before-is d (x ∷ xs) zero h = let n : length (x ∷ xs) - 1 ≡ length xs = omega arith in last-is d x xs ∙ ap (λ k. get_or (x ∷ xs) k d) (sym n)
@@ -71,7 +71,7 @@ module _ (points : ℕ) (polygons : List Polygon) (f c : ℕ) (h : c < length (p
       first-end : (s e : ℕ × ℕ) → same_edge s e ≡ true → has_end s.0 e ≡ true
       first-end s e same = grind (arith, nat_tests)
 
-  -- and of the edge before it
+  -- the corner is an end of the edge before it
   back-end : has_end (corner_at polygons f c) (edge_at polygons (edge_from polygons f (before_in polygons f c))) ≡ true
   back-end =
       let b = before_in polygons f c in

@@ -24,7 +24,7 @@ starts-end (a ∷ (b ∷ starts)) (p ∷ polygons) end g asc =
     let rest : gaps (b ∷ starts) ≡ map length polygons = cc in
     omega (arith, asc.0, size, starts-end (b ∷ starts) polygons end rest asc.1, sum_by-cons length p polygons)
 
--- and each begins after those before it
+-- each list begins after those before it
 starts-rise : (starts : List ℕ) (polygons : List Polygon) (end f : ℕ) → gaps starts ≡ map length polygons → Ascend starts end → f ≤ length polygons → (f < length starts) × (get_or starts f 0 ≡ get_or starts 0 0 + sum_by length (take f polygons))
 starts-rise [] polygons end f g asc h = absurd asc
 starts-rise (a ∷ starts) polygons end zero g asc h = (omega arith, omega arith)
@@ -37,7 +37,7 @@ starts-rise (a ∷ (b ∷ starts)) (p ∷ polygons) end (suc f) g asc h =
     let behind = starts-rise (b ∷ starts) polygons end f rest asc.1 (omega arith) in
     (omega (arith, behind.0), omega (arith, asc.0, size, behind.1, sum_by-cons length p (take f polygons)))
 
--- so the places of corners are the numbers of first child faces
+-- the places of corners are the numbers of first child faces
 pub start-is : (starts : List ℕ) (polygons : List Polygon) (f : ℕ) → gaps starts ≡ map length polygons → Ascend starts (sum_by length polygons) → f ≤ length polygons → (f < length starts) × (get_or starts f 0 ≡ first_child polygons f)
 start-is starts polygons f g asc h =
     let rise = starts-rise starts polygons (sum_by length polygons) f g asc h in

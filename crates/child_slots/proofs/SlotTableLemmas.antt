@@ -26,13 +26,13 @@ none-number (x ∷ slots) a h = go (nat_eq a x) refl (none-number slots a)
         let none : is_among slots a ≡ false = grind (arith, nat_tests) in
         rw e (omega (arith, behind none))
 
--- what the table has at a slot
+-- the entry of the table at a slot
 module _ (slots table : List ℕ) (a e : ℕ) (is : IsInverse slots table) (inside : a < length table) (few : length slots ≤ 2 ^ 31) (there : e ≡ get_or table a 0) where
-  -- where an edge has it
+  -- the entry of a slot that has an edge is the number of the edge
   pub entry-of : is_among slots a ≡ true → e ≡ number_at slots a
   entry-of h = there ∙ is a inside ∙ ap kept_place (position-there (nat_eq a) slots (number_at slots a) refl (among-number slots a h))
 
-  -- it says whether an edge has it
+  -- an empty entry means that no edge has the slot
   pub entry-none : e ≡ 2 ^ 32 - 1 → is_among slots a ≡ false
   entry-none none = false_from_ne_true _ (λ h. absurd (omega (arith, entry-of h, among-number slots a h, none, few)))
 

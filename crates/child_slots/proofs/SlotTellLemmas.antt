@@ -28,7 +28,7 @@ first-order (p ∷ polygons) (suc f) (suc g) c less h =
     let behind = first-order polygons f g c (omega arith) h in
     omega (arith, behind, sum_by-cons length p (take f polygons), sum_by-cons length p (take g polygons))
 
--- so a child face's number tells its face
+-- equal numbers of child faces have equal parents
 pub first-tells : (polygons : List Polygon) (f g c d : ℕ) → c < length (polygon_at polygons f) → d < length (polygon_at polygons g) → first_child polygons f + c ≡ first_child polygons g + d → f ≡ g
 first-tells polygons f g c d h k e = go (nat_lt f g) (nat_lt g f) refl refl
   where
@@ -72,7 +72,7 @@ module _ (points : ℕ) (polygons : List Polygon) (over : is_over points polygon
       go true h p q = omega (arith, eqb-true _ _ h)
       go false h p q = let other : nat_eq v (edge_at polygons e).1 ≡ true = grind (arith, nat_tests) in omega (arith, eqb-true _ _ other)
 
-  -- an end tells the point
+  -- the points of equal ends of one edge are equal
   pub end-tells : (e u v : ℕ) → has_end u (edge_at polygons e) ≡ true → has_end v (edge_at polygons e) ≡ true → end_of polygons u e ≡ end_of polygons v e → u ≡ v
   end-tells e u v h k same = go (nat_eq u (edge_at polygons e).0) (nat_eq v (edge_at polygons e).0) refl refl
     where
@@ -85,7 +85,7 @@ module _ (points : ℕ) (polygons : List Polygon) (over : is_over points polygon
           let b : nat_eq v (edge_at polygons e).1 ≡ true = grind (arith, nat_tests) in
           eqb-true _ _ a ∙ sym (eqb-true _ _ b)
 
-  -- what two tests say of each other
+  -- a test that holds exactly for equal numbers is their test of equality
   same-test : (m n : ℕ) (b : Bool) → (m ≡ n → b ≡ true) → (b ≡ true → m ≡ n) → nat_eq m n ≡ b
   same-test m n true f g = eq-eqb m n (g refl)
   same-test m n false f g = ne_eqb m n (λ same. let yes = f same in absurd (cc))
@@ -153,7 +153,7 @@ module _ (points : ℕ) (polygons : List Polygon) (over : is_over points polygon
       face-below (p ∷ polygons) zero c h = omega arith
       face-below (p ∷ polygons) (suc f) c h = let behind = face-below polygons f c h in omega (arith, behind)
 
-  -- so slots tell sides
+  -- two slots are equal exactly where their sides are
   pub slots-tell : (a b : ℕ) (s t : ℕ × ℕ) → IsSlot points polygons a s → IsSlot points polygons b t → nat_eq a b ≡ same_edge s t
   slots-tell a b s t (inl h) (inl k) = half-half a b s t h k
   slots-tell a b s t (inl h) (inr k) = let both = half-inner a b s t h k in both.0 ∙ sym both.1

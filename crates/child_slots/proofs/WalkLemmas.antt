@@ -22,7 +22,7 @@ use Rattle.level_topology.specs.Numbering.{number_in, with_side, with_sides, IsN
 use Rattle.level_topology.proofs.NumberingLemmas.{numbering-sides, numbering-face}
 use Rattle.child_slots.proofs.PartLemmas.{edge-renumbered, quads-count, quads-simple, fresh-side, first-distinct}
 
--- where slots tell sides, a slot is among others exactly where its side is, and at the same place
+-- where equal slots mean equal sides, a slot is in the list exactly where its side is, and at the same place
 pub told-alike : (a : ℕ) (s : ℕ × ℕ) (slots : List ℕ) (ends : List (ℕ × ℕ)) → length slots ≡ length ends → ((e : ℕ) → e < length ends → nat_eq a (get_or slots e 0) ≡ same_edge s (get_or ends e (0, 0))) → (is_among slots a ≡ list_any (same_edge s) ends) × (number_at slots a ≡ number_in ends s)
 told-alike a s [] [] long tells = (refl, refl)
 told-alike a s [] (t ∷ ends) long tells = absurd (omega (arith, long))
@@ -32,7 +32,7 @@ told-alike a s (b ∷ slots) (t ∷ ends) long tells =
     let rest = told-alike a s slots ends (omega (arith, long)) (λ e h. tells (suc e) (omega (arith, h))) in
     (rw (first, rest.0) refl, rw (first, rest.1) refl)
 
--- where a slot and a side are known alike, both give the same edges
+-- a slot and a side that are found alike give the same edges
 side-of-slot : (face : ℕ) (n : Slotted) (a : ℕ) (s : ℕ × ℕ) → is_among n.slots a ≡ list_any (same_edge s) n.ends → number_at n.slots a ≡ number_in n.ends s → numbered_of (with_slot face n (a, s)) ≡ with_side face (numbered_of n) s
 side-of-slot face n a s known number = go (list_any (same_edge s) n.ends) refl
   where
@@ -41,7 +41,7 @@ side-of-slot face n a s known number = go (list_any (same_edge s) n.ends) refl
     go false e = let none = known ∙ e in let more = map-append (λ (t : ℕ × ℕ). Smooth) n.ends (s ∷ []) in rw (none, e, more) refl
 
 module _ (points : ℕ) (polygons : List Polygon) (over : is_over points polygons ≡ true) (simple : list_all is_simple polygons ≡ true) (p : Part) (is : IsPart points polygons p) where
-  -- slots tell the sides of the part
+  -- two slots of the part are equal exactly where their sides are
   part-slots-tell : (a b : ℕ) (s t : ℕ × ℕ) → IsPartSlot points polygons p a s → IsPartSlot points polygons p b t → nat_eq a b ≡ same_edge s t
   part-slots-tell a b s t h k =
       let u = h.whole in
@@ -58,7 +58,7 @@ module _ (points : ℕ) (polygons : List Polygon) (over : is_over points polygon
   pub slot-known : (n : Slotted) (a : ℕ) (s : ℕ × ℕ) → HasSlots n → IsPartSlot points polygons p a s → (is_among n.slots a ≡ list_any (same_edge s) n.ends) × (number_at n.slots a ≡ number_in n.ends s)
   slot-known n a s has slot = told-alike a s n.slots n.ends has.listed (λ e h. part-slots-tell a (get_or n.slots e 0) s (get_or n.ends e (0, 0)) slot (has.slots e h))
 
-  -- and with one side more
+  -- with one side more, each edge still has its slot
   has-more : (face : ℕ) (n : Slotted) (a : ℕ) (s : ℕ × ℕ) → HasSlots n → IsPartSlot points polygons p a s → HasSlots (with_slot face n (a, s))
   has-more face n a s has slot = go (is_among n.slots a) refl
     where
@@ -85,7 +85,7 @@ module _ (points : ℕ) (polygons : List Polygon) (over : is_over points polygon
                   let end : get_or (n.ends ++ s ∷ []) k (0, 0) ≡ s = ap (λ i. get_or (n.ends ++ s ∷ []) i (0, 0)) last ∙ get_or-append_seam n.ends s [] (0, 0) in
                   rw (number, end) slot
 
-  -- so the sides of a face give the same edges by their slots
+  -- the sides of a face give the same edges by their slots
   sides-of-slots : (face : ℕ) (n : Slotted) (pairs : List (ℕ × (ℕ × ℕ))) → HasSlots n → All (λ s. IsPartSlot points polygons p s.0 s.1) pairs → HasSlots (with_slots face n pairs) × (numbered_of (with_slots face n pairs) ≡ with_sides face (numbered_of n) (map (λ s. s.1) pairs))
   sides-of-slots face n [] has all = (has, refl)
   sides-of-slots face n (s ∷ pairs) has all =

@@ -1,4 +1,4 @@
--- The sharpness of the halves of edges while they are put, point by point.
+-- The table of the sharpness of halves, while points are visited one by one.
 use Rattle.std.specs.Prelude.{ℕ, ◌≡◌, ◌*◌, ◌<◌, Bool, true, false, List, [], length, map, get_or}
 use Rattle.subdiv_model.specs.Edges.{edges_of, has_end}
 use Rattle.subdiv_model.specs.Sharpness.{Sharpness, Smooth}
@@ -10,11 +10,11 @@ use Rattle.child_slots.specs.Slots.{half_slot}
 use Rattle.child_slots.specs.declared.fault.HalfFault.{HalfFault}
 use Rattle.child_slots.specs.declared.fault.HalfFault.TheVariants.{Chaikin, Memory}
 
--- the half of an edge at an end is put
+-- the half of an edge at an end has its sharpness in the table
 abbrev pub IsHalfPut : Level → List Sharpness → ℕ → ℕ → Type 0
 IsHalfPut level halves v e = get_or halves (half_slot level.polygons v e) Smooth ≡ half_sharpness level (edge_at level.polygons e) v
 
--- the sharpness of each half by its slot, at the points of a part
+-- each half at a point of a part has its sharpness at its slot
 pub record HasHalves (level : Level) (has : ℕ → Bool) (halves : List Sharpness) : Type 0 where
   pub count : length halves ≡ 2 * length (edges_of level.polygons)
   pub each : (e v : ℕ) → e < length (edges_of level.polygons) → has v ≡ true → has_end v (edge_at level.polygons e) ≡ true → IsHalfPut level halves v e
@@ -23,26 +23,27 @@ pub record HasHalves (level : Level) (has : ℕ → Bool) (halves : List Sharpne
 abbrev pub ring_listed : Topology → ℕ → List Sharpness
 ring_listed t v = map (λ e. get_or t.level.edge_sharpness e Smooth) (get_or t.edges_at v [])
 
--- at the part's points before this one no halves overflow and all are put, and at this one those of the first edges are
+-- at the part's points before this one all halves are written and none overflows; at this one those of the first edges are
+-- written
 pub record AreHalvesPut (t : Topology) (has : ℕ → Bool) (v i : ℕ) (halves : List Sharpness) : Type 0 where
   pub count : length halves ≡ 2 * length (edges_of t.level.polygons)
   pub fine : (u : ℕ) → u < v → has u ≡ true → chaikin_overflows_at t.level u ≡ false
   pub points : (u e : ℕ) → u < v → has u ≡ true → e < length (edges_of t.level.polygons) → has_end u (edge_at t.level.polygons e) ≡ true → IsHalfPut t.level halves u e
   pub places : (k : ℕ) → k < i → k < length (get_or t.edges_at v []) → IsHalfPut t.level halves v (get_or (get_or t.edges_at v []) k 0)
 
--- the halves of all edges are put at the points of a part, and at none of these they overflow
+-- all halves at the points of a part are written, and none overflows
 pub record AreAllHalves (t : Topology) (has : ℕ → Bool) (halves : List Sharpness) : Type 0 where
   pub put : HasHalves t.level has halves
   pub fine : (v : ℕ) → v < t.level.point_count → has v ≡ true → chaikin_overflows_at t.level v ≡ false
 
--- at this point of a part halves overflow, and at none of its points before it
+-- halves overflow at this point of a part, and at none of its points before
 pub record IsFirstOverflow (t : Topology) (has : ℕ → Bool) (v : ℕ) : Type 0 where
   pub exists : v < t.level.point_count
   pub there : has v ≡ true
   pub overflows : chaikin_overflows_at t.level v ≡ true
   pub first : (u : ℕ) → u < v → has u ≡ true → chaikin_overflows_at t.level u ≡ false
 
--- halves overflow at this point of a part first; memory may run out at any level
+-- the fault names the first point of a part at which halves overflow; memory may run out at any level
 abbrev pub IsHalfRefusal : Topology → (ℕ → Bool) → HalfFault → Type 0
 IsHalfRefusal t has (Chaikin v) = IsFirstOverflow t has v
 IsHalfRefusal t has Memory = Unit {0}

@@ -1,12 +1,11 @@
--- Edges numbered by first appearance, each known by its slot.
+-- Edges numbered by first appearance, each with its slot.
 use Rattle.std.specs.Prelude.{ℕ, ◌≡◌, ◌^◌, ◌≤◌, nat_eq, List, [], ◌∷◌, ◌++◌, length, get_or, if◌then◌else◌}
 use Rattle.std.specs.List.{position_or_len}
 use Rattle.subdiv_model.specs.Polygons.{is_among}
 use Rattle.level_topology.specs.Numbering.{with_last_face}
 use Rattle.level_topology.specs.ChildTables.{IsInverse}
 
--- how many slots there may be, and for each edge its slot, its ends in the direction of its first appearance, and its first
--- and its last face
+-- the number of slots; for each edge its slot, its ends in the direction of its first appearance, and its first and last face
 pub record Slotted : Type 0 where
   pub count : ℕ
   pub slots : List ℕ
@@ -19,11 +18,11 @@ slotted count slots ends faces = record { count = count; slots = slots; ends = e
 abbrev pub no_slots : ℕ → Slotted
 no_slots count = slotted count [] [] []
 
--- the number of the edge with a slot, and how many there are where there is none
+-- the number of the edge with a slot, or the number of edges where the slot has none
 abbrev pub number_at : List ℕ → ℕ → ℕ
 number_at slots a = position_or_len (nat_eq a) slots
 
--- a side of a face more, with its slot
+-- the edges after one more side, at its slot
 abbrev pub with_slot : ℕ → Slotted → ℕ × (ℕ × ℕ) → Slotted
 with_slot face n s =
     if is_among n.slots s.0
@@ -39,12 +38,12 @@ quad_sides slots corners =
     ∷ (get_or slots 3 0, (get_or corners 3 0, get_or corners 0 0))
     ∷ []
 
--- all sides of a face more
+-- the edges after all sides of one more face
 abbrev pub with_slots : ℕ → Slotted → List (ℕ × (ℕ × ℕ)) → Slotted
 with_slots face n [] = n
 with_slots face n (s ∷ sides) = with_slots face (with_slot face n s) sides
 
--- a table has the number of each slot
+-- the table has the number of the edge of each slot
 pub record IsSlotTable (table : List ℕ) (n : Slotted) : Type 0 where
   pub inverse : IsInverse n.slots table
   pub end_count : length n.ends ≡ length n.slots

@@ -1,4 +1,4 @@
--- The edges of a part of the next level while its faces are gone over in their order.
+-- The edges of a part of the next level, while its faces are visited in order.
 use Rattle.std.specs.Prelude.{ℕ, ◌≡◌, ◌<◌, ◌⊎◌, true, List, [], length, map, take, get_or}
 use Rattle.subdiv_model.specs.Polygons.{Polygon, polygon_at, same_edge}
 use Rattle.subdiv_model.specs.Edges.{edges_of, has_end}
@@ -31,7 +31,7 @@ pub record IsInner (points : ℕ) (polygons : List Polygon) (slot : ℕ) (side :
 abbrev pub IsSlot : ℕ → List Polygon → ℕ → ℕ × ℕ → Type 0
 IsSlot points polygons slot side = IsHalf points polygons slot side ⊎ IsInner points polygons slot side
 
--- the slot is that of a side of the whole next level whose ends the part has, and the side is that one with the part's numbers
+-- the slot is that of a side of the whole next level; the part has its ends, and the side has the part's numbers
 pub record IsPartSlot (points : ℕ) (polygons : List Polygon) (p : Part) (slot : ℕ) (side : ℕ × ℕ) : Type 0 where
   pub whole : ℕ × ℕ
   pub slot_is : IsSlot points polygons slot whole

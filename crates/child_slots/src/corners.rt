@@ -1,4 +1,4 @@
-//! The child face of a corner, and the parts of the level that its sides come from.
+//! The child face of a corner, and the slots of its sides.
 
 ghost use Rattle.std.specs.Prelude.{◌≡◌, ◌+◌, ◌<◌, ◌≤◌, length};
 ghost use Rattle.subdiv_model.specs.Polygons.{polygon_at};
@@ -8,7 +8,8 @@ ghost use Rattle.child_slots.specs.Slots.{first_child, half_slot, inner_slot, nu
 
 use level_topology::{Level, corner_before};
 
-/// The number of the first child face of a face, and for the number of faces that of all child faces.
+/// Returns the number of the first child face of face `f`, which is the number of corners of the faces before it. For the
+/// number of faces it returns the number of all child faces.
 pub fn first_child_of(level: &Level, f: u32) -> u32
     requires { f ≤ length level.now.level.polygons }
     ensures { result ≡ first_child level.now.level.polygons f }
@@ -16,7 +17,7 @@ pub fn first_child_of(level: &Level, f: u32) -> u32
     level.corner_starts()[f as usize]
 }
 
-// 0 where a point is the first end of an edge, and 1 elsewhere.
+// Returns 0 if a point is the first end of an edge, and 1 otherwise.
 fn end(level: &Level, v: u32, e: u32) -> u32
     requires { e < length (edges_of level.now.level.polygons) }
     ensures { result ≡ end_of level.now.level.polygons v e }
@@ -25,7 +26,7 @@ fn end(level: &Level, v: u32, e: u32) -> u32
     if v == first { 0 } else { 1 }
 }
 
-/// The slot of the half of an edge at an end.
+/// Returns the slot of the half of edge `e` at its end `v`: 2e at the first end, 2e + 1 at the other.
 pub fn half_slot_of(level: &Level, v: u32, e: u32) -> u32
     requires { e < length (edges_of level.now.level.polygons) }
     ensures { result ≡ half_slot level.now.level.polygons v e }
@@ -34,7 +35,7 @@ pub fn half_slot_of(level: &Level, v: u32, e: u32) -> u32
     2 * e + end(level, v, e)
 }
 
-/// The slot of the edge inside a face that begins at the edge after a corner.
+/// Returns the slot of an edge inside face `f`: the one that begins at the point of the edge after corner `c`.
 pub fn inner_slot_of(level: &Level, f: u32, c: usize) -> u32
     requires { c < length (polygon_at level.now.level.polygons f) }
     ensures { result ≡ inner_slot level.now.level.polygons f c }
@@ -43,7 +44,7 @@ pub fn inner_slot_of(level: &Level, f: u32, c: usize) -> u32
     2 * level.edges() + (first_child_of(level, f) + c as u32)
 }
 
-/// The point of the next level at an edge.
+/// Returns the number, in the whole next level, of the point of edge `e`.
 pub fn edge_point_of(level: &Level, e: u32) -> u32
     requires { e < length (edges_of level.now.level.polygons) }
     ensures { result ≡ numbered_edge_point level.now.level.point_count level.now.level.polygons e }
@@ -52,7 +53,8 @@ pub fn edge_point_of(level: &Level, e: u32) -> u32
     level.points() + level.faces() + e
 }
 
-/// The corners of the child face of a corner.
+/// Returns the four corners of the child face of corner `c` of face `f`, with numbers of the whole next level. Their order is
+/// the corner, the point of the edge after it, the point of the face, the point of the edge before it.
 pub fn child_corners(level: &Level, f: u32, c: usize) -> [u32; 4]
     requires { c < length (polygon_at level.now.level.polygons f) }
     ensures { result ≡ quad_at level.now.level.point_count level.now.level.polygons f c }
@@ -69,7 +71,7 @@ pub fn child_corners(level: &Level, f: u32, c: usize) -> [u32; 4]
     ]
 }
 
-/// The slots of the sides of the child face of a corner.
+/// Returns the slots of the four sides of the child face of corner `c`, in the order of the sides.
 pub fn side_slots(level: &Level, f: u32, c: usize) -> [u32; 4]
     requires { c < length (polygon_at level.now.level.polygons f) }
     ensures { result ≡ slots_at level.now.level.polygons f c }

@@ -1,11 +1,11 @@
-//! Why the halves of edges are not put.
+//! The reason why the halves of edges have no sharpness.
 
 use ratio128::Memory;
 
-/// Why the halves of edges are not put.
+/// The reason why the halves of edges have no sharpness.
 #[derive(Clone, Copy, Debug, PartialEq, Eq)]
 pub enum HalfFault {
-    /// At this vertex the halves of semi-sharp edges pass the bounds of a sharpness.
+    /// The halves of semi-sharp edges at this vertex exceed the bounds of a sharpness.
     Chaikin(u32),
     /// Memory ran out.
     Memory,

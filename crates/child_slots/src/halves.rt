@@ -1,4 +1,4 @@
-//! The sharpness of the halves of all edges, by their slots. No half sees the order of the edges at its point.
+//! The sharpness of the halves of all edges, by their slots. No half depends on the order of the edges at its point.
 
 ghost use Rattle.std.specs.Prelude.{◌≡◌, ℕ, ◌+◌, ◌*◌, ◌<◌, Bool, true, false, List, length, map, get_or, IfOk, MatchResult, OnOk};
 ghost use Rattle.subdiv_model.specs.Sharpness.{half_child};
@@ -17,7 +17,7 @@ use ratio128::Memory;
 use sharpness_rules::{Halves, Sharpness};
 use std::alloc::Global;
 
-// The sharpness of the edges at a point, in the order of its list. The room of the ring is kept.
+// Writes the sharpness of the edges at a point, in the order of its list. The call reuses the memory of `ring`.
 fn put_ring(level: &Level, v: u32, ring: &mut Vec<Sharpness>) -> Result<(), Memory>
     requires known { v < level.now.level.point_count }
     ensures { OnOk result (map sharpness_of ring.new.items ≡ ring_listed level.now v) }
@@ -31,7 +31,7 @@ fn put_ring(level: &Level, v: u32, ring: &mut Vec<Sharpness>) -> Result<(), Memo
     Ok(())
 }
 
-// The half of an edge, by its sharpness, of a ring whose halves do not overflow.
+// Returns the sharpness of the half of an edge, in a ring whose halves do not overflow.
 fn half_of(around: Halves, s: Sharpness) -> Sharpness
     ensures { (method : Method) (ring : List Sharpness) (at : ℕ) → AreHalves method ring around → halves_overflow method ring ≡ false
         → at < length ring → s ≡ get_or ring at s → sharpness_of result ≡ half_child (method_of method) (map sharpness_of ring) (sharpness_of s) }
@@ -42,7 +42,7 @@ fn half_of(around: Halves, s: Sharpness) -> Sharpness
     }
 }
 
-// Puts the halves of the edges at a point, if they do not overflow.
+// Writes the halves of the edges at a point, if they do not overflow.
 fn put_halves(
     level: &Level,
     v: u32,
@@ -68,7 +68,7 @@ fn put_halves(
     Ok(())
 }
 
-/// A table for the halves of all edges, two an edge, each smooth. It answers `Memory` where memory runs out.
+/// Returns a table of two places for each edge, each smooth. Reports `Memory` where memory runs out.
 pub fn half_table(alloc: Global, level: &Level) -> Result<Vec<Sharpness>, Memory>
     ensures { IfOk result (λ halves. length halves.items ≡ 2 * length (edges_of level.now.level.polygons)) }
 {
@@ -77,7 +77,7 @@ pub fn half_table(alloc: Global, level: &Level) -> Result<Vec<Sharpness>, Memory
     Ok(vec![in alloc; Sharpness::Smooth; count]?)
 }
 
-// Puts the halves of the edges at a point that a part has, if they do not overflow. The ring is room.
+// Writes the halves of the edges at a point, if the part has the point and they do not overflow. `ring` is working memory.
 fn put_point<P: ChildPoints>(
     level: &Level,
     points: &P,
@@ -96,7 +96,7 @@ fn put_point<P: ChildPoints>(
     put_halves(level, v, ring, halves)
 }
 
-// Puts the halves of all edges, or finds the first point at which they overflow. The ring is room.
+// Writes the halves of all edges, or returns the first point at which they overflow. `ring` is working memory.
 fn put_by_points<P: ChildPoints>(
     level: &Level,
     points: &P,
@@ -113,9 +113,10 @@ fn put_by_points<P: ChildPoints>(
     Ok(())
 }
 
-/// Puts the halves of edges by their slots, at the vertices whose points a part has.
+/// Writes the sharpness of each half at its slot, for the points that a part has.
 ///
-/// It answers `Chaikin` with the first of these vertices at which halves overflow, and `Memory` where memory runs out.
+/// Reports `Chaikin` with the first of these points, counted from 0, at which halves overflow. Reports `Memory` where memory
+/// runs out. After an error the table has the halves of some points.
 pub fn put_all_halves<P: ChildPoints>(
     alloc: Global,
     level: &Level,

@@ -1,4 +1,8 @@
-//! The edges of child faces by the parts of a level that they come from, numbered without a map.
+//! Gives each edge of the next level a slot, so that a table finds its number without a map.
+//!
+//! The slots come from the parts of the level. The crate numbers the edges of a part of the next level as the part's faces
+//! name them first. It also writes the sharpness of each half at its slot. The split of a face is that of Catmull and Clark
+//! 1978; the halves of sharp edges follow DeRose, Kass and Truong 1998.
 #![tactic(auto)]
 
 mod corners;

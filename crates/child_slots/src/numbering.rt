@@ -1,4 +1,4 @@
-//! The edges of the next level, numbered as they first appear. A table by their slots tells which are there.
+//! The edges of the next level, numbered by first appearance. A table by slots gives the number of each edge.
 
 ghost use Rattle.std.specs.Prelude.{◌≡◌, ◌+◌, ◌^◌, ◌<◌, ◌≤◌, true, false, length, get_or, IfOk, OnOk};
 ghost use Rattle.std.specs.List.{All};
@@ -9,13 +9,13 @@ use ratio128::Memory;
 use std::alloc::Global;
 use std::marker::Model;
 
-// What stands in the table where an edge is not there yet.
+// The mark in the table of a slot without an edge.
 const NOWHERE: u32 = u32::MAX;
 
-/// The edges so far, each with a slot of its own. An edge of one face has that face's number twice.
+/// The edges numbered so far, each with its slot. An edge with one face has that face's number twice.
 #[derive(Drop)]
 pub struct SlotEdges {
-    // For each slot the number of its edge.
+    // The number of the edge of each slot.
     table: Vec<u32>,
     // The slot, the ends and the faces of each edge.
     slots: Vec<u32>,
@@ -35,7 +35,7 @@ impl Model for SlotEdges {
 }
 
 impl SlotEdges {
-    // No edges yet, with a table for so many slots.
+    // Returns no edges, with a table of `count` slots.
     pub(crate) fn with_table(alloc: Global, count: u32) -> Result<SlotEdges, Memory>
         ensures { IfOk result (λ edges. edges ≡ no_slots count) }
     {
@@ -48,14 +48,14 @@ impl SlotEdges {
         })
     }
 
-    /// How many edges there are.
+    /// Returns the number of edges.
     pub fn len(&self) -> u32
         ensures { result ≡ length self.now.ends }
     {
         self.ends.len() as u32
     }
 
-    // An edge more, whose slot has none yet.
+    // Adds an edge whose slot has none yet.
     fn add_new(&mut self, slot: u32, side: (u32, u32), face: u32) -> Result<(), Memory>
         requires slot { slot < self.old.count }
         requires few { length self.old.ends < 2 ^ 31 }
@@ -72,7 +72,7 @@ impl SlotEdges {
         Ok(())
     }
 
-    // A side of a face more, with its slot. An edge that is there gets the face as its second one.
+    // Adds a side of a face at its slot. An edge that is already there gets the face as its second one.
     fn add(&mut self, slot: u32, side: (u32, u32), face: u32) -> Result<(), Memory>
         requires slot { slot < self.old.count }
         requires few { length self.old.ends < 2 ^ 31 }
@@ -86,7 +86,7 @@ impl SlotEdges {
         Ok(())
     }
 
-    // The four sides of a face more, with their slots.
+    // Adds the four sides of a face at their slots.
     pub(crate) fn add_quad(
         &mut self,
         slots: [u32; 4],
@@ -103,7 +103,7 @@ impl SlotEdges {
         self.add(slots[3], (corners[3], corners[0]), face)
     }
 
-    /// The number of the edge with a slot, which has one.
+    /// Returns the number of the edge with a slot, counted from 0. Some edge must have the slot.
     pub fn number(&self, slot: u32) -> u32
         requires slot { slot < self.now.count }
         requires there { is_among self.now.slots slot ≡ true }
@@ -112,7 +112,7 @@ impl SlotEdges {
         self.table[slot as usize]
     }
 
-    /// The slot of an edge.
+    /// Returns the slot of an edge.
     pub fn slot(&self, e: u32) -> u32
         requires { e < length self.now.ends }
         ensures { result ≡ get_or self.now.slots e 0 }
@@ -120,7 +120,7 @@ impl SlotEdges {
         self.slots[e as usize]
     }
 
-    /// The ends of an edge, in the direction in which a face names it first.
+    /// Returns the two ends of an edge, in the direction in which a face names it first.
     pub fn ends(&self, e: u32) -> (u32, u32)
         requires { e < length self.now.ends }
         ensures { result ≡ get_or self.now.ends e (0, 0) }
@@ -128,7 +128,7 @@ impl SlotEdges {
         self.ends[e as usize]
     }
 
-    /// The first and the last face of an edge.
+    /// Returns the first and the last face of an edge.
     pub fn faces(&self, e: u32) -> (u32, u32)
         requires { e < length self.now.ends }
         ensures { result ≡ get_or self.now.faces e (0, 0) }
@@ -136,7 +136,8 @@ impl SlotEdges {
         self.faces[e as usize]
     }
 
-    /// The ends and the faces of all edges, in the order of their numbers. An edge of one face has that face's number twice.
+    /// Returns the ends of all edges, then their first and last faces, in the order of their numbers. An edge with one face
+    /// has that face's number twice.
     pub fn into_parts(self) -> (Vec<(u32, u32)>, Vec<(u32, u32)>)
         ensures ends { result.0.items ≡ self.ends }
         ensures faces { result.1.items ≡ self.faces }

@@ -1,4 +1,4 @@
-//! The lists at a point of the next level.
+//! The lists of the edges and faces at a point of the next level.
 
 ghost use Rattle.std.specs.Prelude.{◌≡◌, ◌<◌, [], length, map, replicate, OnOk};
 ghost use Rattle.std.specs.List.{All};
@@ -7,7 +7,7 @@ ghost use Rattle.child_slots.specs.Slotted.{end_in};
 use crate::numbering::SlotEdges;
 use ratio128::Memory;
 
-/// Puts one corner for so many faces. It answers `Memory` where memory runs out.
+/// Fills an empty list with `count` copies of a corner. Reports `Memory` where memory runs out.
 pub fn put_corner(corner: u16, count: usize, at: &mut Vec<u16>) -> Result<(), Memory>
     requires none { at.old.items ≡ [] }
     ensures { OnOk result (at.new.items ≡ replicate count corner) }
@@ -18,7 +18,8 @@ pub fn put_corner(corner: u16, count: usize, at: &mut Vec<u16>) -> Result<(), Me
     Ok(())
 }
 
-/// Puts the ends of these edges that a point is. It answers `Memory` where memory runs out.
+/// Fills an empty list with one number for each edge of `list`: 0 where `point` is its first end, 1 where it is its second.
+/// Reports `Memory` where memory runs out.
 pub fn put_ends(
     edges: &SlotEdges,
     point: u32,
@@ -35,7 +36,7 @@ pub fn put_ends(
     Ok(())
 }
 
-// The end of an edge that a point is: 0 for the first, and 1 for the second.
+// Returns which end of an edge a point is: 0 for the first, 1 for the second.
 fn end_at(edges: &SlotEdges, point: u32, e: u32) -> u16
     requires { e < length edges.now.ends }
     ensures { result ≡ end_in edges.now.ends point e }

@@ -15,7 +15,7 @@ use level_topology::{FacePlace, Level};
 use ratio128::Memory;
 use std::alloc::Global;
 
-// The corners of a child face by their numbers in a part.
+// Returns the corners of a child face by their numbers in a part.
 fn numbers_of<P: ChildPoints>(points: &P, quad: [u32; 4]) -> [u32; 4]
     requires { All (λ n. P.has points.now n ≡ true) quad }
     ensures { result ≡ map (P.number points.now) quad }
@@ -28,7 +28,7 @@ fn numbers_of<P: ChildPoints>(points: &P, quad: [u32; 4]) -> [u32; 4]
     ]
 }
 
-/// No edges yet, with a table for the slots of a level. It answers `Memory` where memory runs out.
+/// Returns no edges, with a table for all slots of a level. Reports `Memory` where memory runs out.
 pub fn no_edges(alloc: Global, level: &Level) -> Result<SlotEdges, Memory>
     ensures { IfOk result (λ edges. edges ≡ no_slots (slot_count level.now.level.polygons)) }
 {
@@ -37,9 +37,10 @@ pub fn no_edges(alloc: Global, level: &Level) -> Result<SlotEdges, Memory>
     SlotEdges::with_table(alloc, count)
 }
 
-/// Numbers the edges of a part of the next level as its faces name them first. The places of these faces ascend.
+/// Numbers the edges of a part of the next level as its faces name them first. Each place is a face and a corner of the
+/// level; the places ascend.
 ///
-/// It answers `Memory` where memory runs out.
+/// Reports `Memory` where memory runs out. Some of the edges are numbered then.
 pub fn number_edges<P: ChildPoints>(
     level: &Level,
     places: &[FacePlace],

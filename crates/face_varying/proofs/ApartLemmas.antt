@@ -38,7 +38,7 @@ module _ (mesh : ObjMesh) (base : Topology) (cuttable : IsCuttable mesh base) (i
   abbrev numbers : ℕ → ℕ × ℕ → ℕ × ℕ
   numbers f edge = (texture_number mesh f edge.0, texture_number mesh f edge.1)
 
-  -- the texture numbers of a side stand at its corners
+  -- the texture numbers of a side are those at its corners
   numbers-there : (f c : ℕ) → c < length (polygon_at faces f) → side_at (polygon_at mesh.texture_corners f) c ≡ numbers f (side_at (polygon_at faces f) c)
   numbers-there f c inside =
       let row = polygon_at mesh.texture_corners f in
@@ -106,7 +106,7 @@ module _ (mesh : ObjMesh) (base : Topology) (cuttable : IsCuttable mesh base) (i
     one-owner : (f g : ℕ) (s : ℕ × ℕ) → has_side s (polygon_at faces f) ≡ true → has_side s (polygon_at faces g) ≡ true → f ≡ g
     one-owner f g s at_f at_g = owner-unique faces s f g (distinct-count s (all_sides faces) is.sides_once) at_f at_g
 
-    -- of two faces one has its numbers in either
+    -- of two faces each has its numbers in one of the two lists
     two-noted : (f g : ℕ) → f ≢ g → IsNotedAlong f ⊎ IsNotedAgainst f → IsNotedAlong g ⊎ IsNotedAgainst g → differ (get_or along e (0, 0)) (get_or against e (0, 0)) ≡ differ (numbers f edge) (numbers g edge)
     two-noted f g apart (inl a) (inl b) = absurd (apart (one-owner f g edge a.0 b.0))
     two-noted f g apart (inl a) (inr b) = ap (λ (p : ℕ × ℕ). differ p (get_or against e (0, 0))) a.1 ∙ ap (differ (numbers f edge)) b.1

@@ -17,7 +17,7 @@ use Rattle.mesh_check.proofs.BaseFaceLemmas.{sides-new, faces-more, faces-all}
 use Rattle.face_varying.specs.Built.{AreFit, cut_face, cut_by}
 use Rattle.face_varying.proofs.BuiltLemmas.{cut-there}
 
--- what is asked of the next face of the cut mesh before it is added
+-- the conditions on the next face of the cut mesh, before it is added
 module _ {points : ℕ} (faces : List Polygon) (numbers : List ℕ) (fit : AreFit points (cut_by faces numbers)) (f end : ℕ) (polygon : Polygon) (before : f < end) (all : end ≡ length faces) (are : polygon ≡ cut_face faces numbers f) where
   inside : f < length (cut_by faces numbers)
   inside = omega (arith, before, all, length-map-range_with_len (cut_face faces numbers) 0 (length faces))

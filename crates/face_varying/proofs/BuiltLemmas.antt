@@ -26,7 +26,7 @@ use Rattle.face_varying.proofs.CornerLemmas.{start-at, start-next}
 pub start-within : (faces : List Polygon) (f : ℕ) → f < length faces → start_of faces f + length (polygon_at faces f) ≤ sum_by length faces
 start-within faces f h = sum_by_more_le length faces f [] h
 
--- how long a part of a list is
+-- the length of a part of a list
 pub part-length : (xs : List ℕ) (a b : ℕ) → a ≤ b → b ≤ length xs → length (slice_range xs a b) ≡ b - a
 part-length xs a b h k = grind (arith, common_steps)
 
@@ -108,7 +108,7 @@ side-named edges corners c b h is all =
     ap (λ (k : ℕ). list_any (same_edge (get_or corners c 0, k)) edges) is ∙ ap (λ (side : ℕ × ℕ). list_any (same_edge side) edges) (sym (side-there corners c h))
     ∙ all-at (λ side. list_any (same_edge side) edges) (sides_of corners) c (0, 0) (omega (arith, h, sides_of-length corners)) all
 
--- what is asked of a face of the cut mesh before its sides are set
+-- the conditions on a face of the cut mesh, before its sides get their sharpness
 pub cut-named : (faces : List Polygon) (numbers : List ℕ) (f : ℕ) (polygons : List Polygon) (corners : Polygon) → f < length faces → polygons ≡ cut_by faces numbers → corners ≡ cut_face faces numbers f → list_all (λ side. list_any (same_edge side) (edges_of polygons)) (sides_of corners) ≡ true
 cut-named faces numbers f polygons corners h are is =
     ap (λ (ps : List Polygon). list_all (λ side. list_any (same_edge side) (edges_of ps)) (sides_of corners)) are

@@ -1,4 +1,4 @@
--- Where each vertex has its labels, the labels of corners are equal exactly where the corners have one channel point.
+-- If each vertex has its labels, the labels of corners are equal exactly where the corners have one channel point.
 use Rattle.std.proofs.Common.{◌≡◌, ℕ, ◌+◌, ◌<◌, Bool, true, List, [], length, get_or, arith, refl, ap, sym, ◌∙◌, subst, ◌↔◌}
 use Rattle.std.specs.List.{All, sum_by}
 use Rattle.std.proofs.lemmas.List.{get_or_default}

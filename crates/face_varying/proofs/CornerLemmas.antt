@@ -9,11 +9,11 @@ use Rattle.subdiv_model.specs.Polygons.{Polygon, polygon_at}
 use Rattle.level_topology.specs.Packed.{gaps, Ascend}
 use Rattle.face_varying.specs.CornerPlaces.{start_of}
 
--- what each corner of each face gives, where the first face has this number
+-- the values of a function for each corner of each face; the first face has this number
 abbrev pub from_corners : {X : Type 0} → (ℕ → ℕ → X) → ℕ → List Polygon → List X
 from_corners g place faces = flat_map (λ face. map (g face.0) face.1) (enumerate_from place faces)
 
--- there are as many as all faces have corners
+-- there is one value for each corner of each face
 pub corners-length : {X : Type 0} (g : ℕ → ℕ → X) (place : ℕ) (faces : List Polygon) → length (from_corners g place faces) ≡ sum_by length faces
 corners-length g place [] = refl
 corners-length g place (face ∷ faces) =
@@ -38,7 +38,7 @@ corner-from g place (face ∷ faces) (suc f) c d inside corner =
     ∙ corner-from g (place + 1) faces f c d (omega arith) corner
     ∙ ap (λ n. g n (get_or (polygon_at faces f) c 0)) number
 
--- at the place of a corner stands what it gives
+-- the list has the value for a corner at the place of the corner
 pub place-of-corner : {X : Type 0} (g : ℕ → ℕ → X) (faces : List Polygon) (f c : ℕ) (d : X) → f < length faces → c < length (polygon_at faces f)
     → get_or (from_corners g 0 faces) (start_of faces f + c) d ≡ g f (get_or (polygon_at faces f) c 0)
 place-of-corner g faces f c d inside corner =

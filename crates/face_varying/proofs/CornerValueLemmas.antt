@@ -19,7 +19,7 @@ use Rattle.face_varying.proofs.CuttableLemmas.{same-faces, texture-length}
 use Rattle.face_varying.proofs.FirstOneStepLemmas.{joined_lists}
 use Rattle.face_varying.proofs.TextureNumberLemmas.{point-number-at}
 
--- what is said of all corners, and then of that
+-- one function after another, over all corners
 mapped-corners : {X Y : Type 0} (k : X → Y) (g : ℕ → ℕ → X) (n : ℕ) (faces : List Polygon) → map k (from_corners g n faces) ≡ from_corners (λ f v. k (g f v)) n faces
 mapped-corners k g n [] = refl
 mapped-corners {X} {Y} k g n (face ∷ faces) =

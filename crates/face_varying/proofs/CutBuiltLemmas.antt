@@ -24,13 +24,13 @@ use Rattle.face_varying.specs.Built.{AreFit, cut_by, sides_before, with_sides, p
 use Rattle.face_varying.proofs.CutFitLemmas.{point-few, cut-is-faces, numbers-all, marks-all, holes-all, vertices-within, cut-fit, cut-fans, accepted-manifold}
 use Rattle.face_varying.proofs.CutSharpLemmas.{own_sharpness, own-alike, sides-own, sides-set}
 
--- what two functions give for numbers is the same where they give the same
+-- two functions that agree on a range give the same list
 range-agree : {X : Type 0} (f g : ℕ → X) (a n : ℕ) → ((k : ℕ) → k < a + n → f k ≡ g k) → map f (range_with_len a n) ≡ map g (range_with_len a n)
 range-agree f g a zero same = refl
 range-agree f g a (suc n) same = ap (λ x. x ∷ map f (range_with_len (a + 1) n)) (same a (omega arith)) ∙ ap (λ xs. g a ∷ xs) (range-agree f g (a + 1) n (λ k h. same k (omega (arith, h))))
 
 module _ (mesh : ObjMesh) (mode : SeamMode) (level : Level) (base : level ≡ base_level mesh) where
-  -- the faces alone, all smooth
+  -- only the faces, all smooth
   abbrev faced : Built
   faced = smooth_built (cut_point_count mesh) (base_level mesh).method (cut_faces mesh) (base_level mesh).holes
 
@@ -40,7 +40,7 @@ module _ (mesh : ObjMesh) (mode : SeamMode) (level : Level) (base : level ≡ ba
       built_of (cut_point_count mesh) (cut_faces mesh) (base_level mesh).holes (map (own_sharpness mesh) (edges_of (cut_faces mesh))) (replicate (cut_point_count mesh) Smooth) (base_level mesh).method
       (replicate (cut_point_count mesh) false)
 
-  -- the points alone
+  -- only the points
   pub points-there : (points : ℕ) (alone : Built) → points ≡ cut_point_count mesh → alone ≡ only_points points level.method → alone ≡ only_points (cut_point_count mesh) (base_level mesh).method
   points-there points alone count is = is ∙ ap (λ (n : ℕ). only_points n level.method) count ∙ ap (λ (l : Level). only_points (cut_point_count mesh) l.method) base
 
@@ -66,7 +66,7 @@ module _ (mesh : ObjMesh) (mode : SeamMode) (level : Level) (base : level ≡ ba
       ∙ ap (λ (tags : List ((ℕ × ℕ) × Sharpness)). with_sides tags faced) (sides-own mesh simple once)
       ∙ sides-set (own_sharpness mesh) (own-alike mesh) points (cut_faces mesh) (base_level mesh).holes (replicate points Smooth) (base_level mesh).method (replicate points false)
 
-  -- what a point gets is its sharpness in the cut mesh
+  -- the sharpness of each point is that of the cut mesh
   points-own : (vertices : List ℕ) (kept : List Bool) → vertices ≡ map (λ point. point.0) (channel_points mesh) → kept ≡ map (stays_sharp mode (cut_faces mesh)) (range_with_len 0 (cut_point_count mesh))
       → map (point_sharpness level vertices kept) (range_with_len 0 (cut_point_count mesh)) ≡ (cut_level mode mesh).vertex_sharpness
   points-own vertices kept are are_kept =
@@ -100,7 +100,7 @@ module _ (mesh : ObjMesh) (mode : SeamMode) (level : Level) (base : level ≡ ba
       finished sharpness complete =
           built_of (cut_point_count mesh) (cut_faces mesh) (base_level mesh).holes (map (own_sharpness mesh) (edges_of (cut_faces mesh))) sharpness (base_level mesh).method complete
 
--- what the cut mesh of an accepted mesh is put together from
+-- the parts from which the cut mesh of an accepted mesh is made
 pub record AreParts (mesh : ObjMesh) (mode : SeamMode) (level : Level) (apart : List Bool) (numbers vertices : List ℕ) (kept : List Bool) : Type 0 where
   pub within : IsWithin mesh
   pub base : level ≡ base_level mesh
@@ -111,7 +111,7 @@ pub record AreParts (mesh : ObjMesh) (mode : SeamMode) (level : Level) (apart : 
   pub vertices_are : vertices ≡ map (λ point. point.0) (channel_points mesh)
   pub kept_are : kept ≡ map (stays_sharp mode (cut_faces mesh)) (range_with_len 0 (cut_point_count mesh))
 
--- the parts are what the clauses say
+-- the parts are those of the clauses
 pub parts-of : {mesh : ObjMesh} {t : Topology} {apart : List Bool} {numbers vertices : List ℕ} {kept : List Bool} (mode : SeamMode) → IsCuttable mesh t → IsTopology t → apart ≡ apart_marks mesh → numbers ≡ corner_numbers mesh
     → vertices ≡ map (λ point. point.0) (channel_points mesh) → kept ≡ map (stays_sharp mode (cut_faces mesh)) (range_with_len 0 (cut_point_count mesh)) → AreParts mesh mode t.level apart numbers vertices kept
 parts-of {mesh = mesh} mode cuttable facts are_apart are_numbers are_vertices are_kept = record {
@@ -141,7 +141,7 @@ module _ {mesh : ObjMesh} {mode : SeamMode} {level : Level} {apart : List Bool} 
   pub few-points : length vertices < 2 ^ 28
   few-points = omega (arith, point-count, point-few mesh, ap (λ (faces : List Polygon). sum_by length faces) faces-are, are.small.corners)
 
-  -- what is asked of the faces
+  -- the conditions on the faces
   pub parts-fit : (alone : Built) → alone ≡ only_points (length vertices) level.method → AreFit alone.level.point_count (cut_by level.polygons numbers)
   parts-fit alone is = cut-fit mesh level are.base numbers alone.level.point_count are.manifold are.small are.numbers_are (ap (λ (b : Built). b.level.point_count) is ∙ point-count)
 
@@ -165,7 +165,7 @@ module _ {mesh : ObjMesh} {mode : SeamMode} {level : Level} {apart : List Bool} 
   pub parts-vertices : All (λ v. v < level.point_count) vertices
   parts-vertices = vertices-within mesh level are.base vertices are.within are.vertices_are
 
-  -- the points alone are as many as they are
+  -- the builder that has only the points is the one with their number
   pub alone-itself : (alone : Built) → alone ≡ only_points (length vertices) level.method → alone ≡ only_points alone.level.point_count alone.level.method
   alone-itself alone is = is ∙ ap (λ (b : Built). only_points b.level.point_count b.level.method) (sym is)
 
@@ -176,7 +176,7 @@ module _ {mesh : ObjMesh} {mode : SeamMode} {level : Level} {apart : List Bool} 
       sides-there mesh mode level are.base apart numbers faces sides (all-simple (length mesh.points) mesh.faces are.manifold) are.manifold.sides_once are.apart_are are.numbers_are
       (faces-there mesh mode level are.base numbers alone faces are.numbers_are (points-there mesh mode level are.base (length vertices) alone point-count is_alone) is_faces) is_sides
 
-  -- there are still as many points
+  -- the sides change no number of points
   pub sides-points : (sides : Built) → sides ≡ sided mesh mode level are.base → sides.level.point_count ≡ length vertices
   sides-points sides is = ap (λ (b : Built). b.level.point_count) is ∙ sym point-count
 

@@ -49,7 +49,7 @@ one-of-two n a b h = here (or_cases (nat_eq n a) (is_among (b ∷ []) n) h)
     here (inl same) = inl (eqb-true n a same)
     here (inr more) = inr (one-of n b more)
 
--- what passes the second test passes the first, so that its places are among those of the first
+-- an item that passes the second test passes the first, so its place is among those of the first
 places-kept : {X : Type 0} (d : X) (p q : X → Bool) (test : ℕ → Bool) (n : ℕ) (xs : List X) → ((x : X) → q x ≡ true → p x ≡ true) → ((i : ℕ) → i < length xs → test (n + i) ≡ q (get_or xs i d)) → places_from n q xs ≡ filter test (places_from n p xs)
 places-kept d p q test n [] weaker same = refl
 places-kept {X} d p q test n (x ∷ xs) weaker same =
@@ -128,7 +128,7 @@ module _ (mesh : ObjMesh) where
           let point = end-point g v at_f is_end h in
           sym (joined-number mesh simple once v f g ((joins-number mesh v f g at_f point.0).0 (sym point.1)))
 
-      -- where the edge is no seam each face of it has it in the cut mesh
+      -- if the edge is no seam, each of its faces has it in the cut mesh
       joined-end : (g v : ℕ) → has_corner v (polygon_at mesh.faces f) ≡ true → has_end v s ≡ true → is_seam mesh s ≡ false → has_edge s (polygon_at mesh.faces g) ≡ true → point_of mesh g v ≡ point_of mesh f v
       joined-end g v at_f is_end joins at_g =
           let joined = sym (joins-edge mesh v f f g s at_f is_end joins there at_g) ∙ joins-itself mesh v f at_f in
@@ -146,7 +146,7 @@ module _ (mesh : ObjMesh) where
       joined-side : (g : ℕ) → is_seam mesh s ≡ false → has_edge s (polygon_at mesh.faces g) ≡ true → has_cut_side g ≡ true
       joined-side g joins at_g = has-points g at_g (joined-end g s.0 starts (first-end s.0 s.1) joins at_g) (joined-end g s.1 ends (last-end s.0 s.1) joins at_g)
 
-      -- of the one or two faces of the edge only this one has it in the cut mesh where there is no other, or a seam
+      -- of the at most two faces of the edge, only this one has it in the cut mesh if there is no other or the edge is a seam
       decide : (faces : List ℕ) → length faces ≤ 2 → is_among faces f ≡ true → (is_seam_of mesh s faces ≡ false → (g : ℕ) → is_among faces g ≡ true → has_cut_side g ≡ true)
           → nat_eq (length (filter has_cut_side faces)) 1 ≡ (nat_eq (length faces) 1 || is_seam_of mesh s faces)
       decide [] few at_f joins = absurd (cc)

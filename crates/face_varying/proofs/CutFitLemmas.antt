@@ -1,4 +1,4 @@
--- The faces of the cut mesh by the numbers of all corners, and what is asked of them.
+-- The faces of the cut mesh, from the numbers of all corners, and the conditions on them.
 use Rattle.std.proofs.Common.{◌≡◌, ℕ, ◌+◌, ◌<◌, ◌≤◌, Bool, true, not, nat_lt, List, [], ◌∷◌, length, map, get_or, slice_range, arith, refl, ap, sym, ◌∙◌, None}
 use Rattle.std.specs.List.{All, list_all, position_or_len, enumerate_from, sum_by}
 use Rattle.std.proofs.lemmas.Bool.{lt-ltb, ltb-true}
@@ -41,7 +41,7 @@ sum-named : (name : ℕ → ℕ) (polygons : List Polygon) → sum_by length (ma
 sum-named name [] = refl
 sum-named name (polygon ∷ polygons) = omega (arith, sum_by-cons length (map name polygon) (map (map name) polygons), sum_by-cons length polygon polygons, length-map polygon name, sum-named name polygons)
 
--- what is listed once is no longer
+-- a list without repetitions is no longer than the list
 once-length : (xs : List (ℕ × ℕ)) → length (each_once_by same_side xs) ≤ length xs
 once-length [] = omega arith
 once-length (x ∷ xs) =
@@ -66,7 +66,7 @@ module _ (mesh : ObjMesh) where
       get_or-map (λ point. position_or_len (same_side point) (channel_points mesh)) (corner_points mesh) (start_of mesh.faces f + c) (0, 0) 0 within
       ∙ ap (λ (point : ℕ × ℕ). position_or_len (same_side point) (channel_points mesh)) (place-of-corner (channel_point mesh) mesh.faces f c (0, 0) inside corner)
 
-  -- the number of a corner's point stands at the place of the corner
+  -- the list has the number of a corner's point at the place of the corner
   pub corner-there : (f c : ℕ) → f < length mesh.faces → c < length (polygon_at mesh.faces f) → get_or (corner_numbers mesh) (start_of mesh.faces f + c) 0 ≡ get_or (polygon_at (cut_faces mesh) f) c 0
   corner-there f c inside corner = number-there f c inside corner ∙ sym (ap (λ (polygon : Polygon). get_or polygon c 0) (cut-at mesh f) ∙ get_or-map (point_of mesh f) (polygon_at mesh.faces f) c 0 0 corner)
 
@@ -85,7 +85,7 @@ module _ (mesh : ObjMesh) where
       ext_get_or [] (cut_by mesh.faces (corner_numbers mesh)) (cut_faces mesh) (size ∙ sym (cut-count mesh)) (λ f h.
       cut-there mesh.faces (corner_numbers mesh) f (omega (arith, h, size)) ∙ face-there f (omega (arith, h, size)))
 
-  -- what holds of an accepted mesh
+  -- the facts of an accepted mesh
   module _ (level : Level) (base : level ≡ base_level mesh) where
     -- the level has the faces of the mesh
     base-faces : level.polygons ≡ mesh.faces

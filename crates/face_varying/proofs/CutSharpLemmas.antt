@@ -28,7 +28,7 @@ use Rattle.face_varying.proofs.CutEdgeLemmas.{side-apart, side-vertices, apart-a
 use Rattle.face_varying.proofs.SideListLemmas.{map-at, with_own, sides-listed, all-listed}
 use Rattle.face_varying.proofs.CutFitLemmas.{face-there}
 
--- of the edges that are done the sharpness is its own, and else smooth
+-- the edges that are done have their sharpness, and the others are smooth
 abbrev reached : (ℕ × ℕ → Sharpness) → (ℕ × ℕ → Bool) → ℕ × ℕ → Sharpness
 reached target done edge = if done edge then target edge else Smooth
 
@@ -36,7 +36,7 @@ reached target done edge = if done edge then target edge else Smooth
 abbrev tagged : ℕ × ℕ → Sharpness → (ℕ × ℕ) × Sharpness
 tagged side sharpness = (side, sharpness)
 
--- what is not sharp is smooth
+-- a sharpness that is not sharp is smooth
 not-sharp : (s : Sharpness) → is_sharp s ≡ false → s ≡ Smooth
 not-sharp Smooth h = refl
 not-sharp (Semi num den) h = absurd (cc)
@@ -124,7 +124,7 @@ module _ (target : ℕ × ℕ → Sharpness) (alike : (s t : ℕ × ℕ) → sam
       all-smooth (e ∷ edges) = ap (λ xs. Smooth ∷ xs) (all-smooth edges)
 
 module _ (mesh : ObjMesh) where
-  -- how sharp an edge of the cut mesh is
+  -- the sharpness of an edge of the cut mesh
   abbrev pub own_sharpness : ℕ × ℕ → Sharpness
   own_sharpness = cut_edge_sharpness (base_level mesh) (channel_points mesh) (cut_faces mesh)
 
@@ -142,7 +142,7 @@ module _ (mesh : ObjMesh) where
         let e : ℕ = get_or (face_edges_of mesh.faces (polygon_at mesh.faces f)) c 0 in
         get_or-map (is_apart mesh) (edges_of mesh.faces) e (0, 0) false (edge-exists mesh.faces f c h) ∙ sym (apart-alike mesh (side_at (polygon_at mesh.faces f) c) (edge_at mesh.faces e) (edge-joins mesh.faces f c h)) ∙ sym (side-apart mesh simple once f c h)
 
-    -- what a side gets is the sharpness of its edge in the cut mesh
+    -- the sharpness of a side is that of its edge in the cut mesh
     side-own : (f c : ℕ) → c < length (polygon_at mesh.faces f)
         → side_sharpness (base_level mesh) (apart_marks mesh) (get_or (face_edges_of mesh.faces (polygon_at mesh.faces f)) c 0) ≡ own_sharpness (side_at (polygon_at (cut_faces mesh) f) c)
     side-own f c h =

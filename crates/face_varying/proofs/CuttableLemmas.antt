@@ -1,4 +1,4 @@
--- What is so of a mesh with texture that was accepted.
+-- The facts of an accepted mesh with texture.
 use Rattle.std.proofs.Common.{◌≡◌, ℕ, List, [], length, map, get_or, ap, sym, ◌∙◌}
 use Rattle.std.proofs.Math.ListN.{get_or-map}
 use Rattle.subdiv_model.specs.Polygons.{Polygon, polygon_at}

@@ -113,11 +113,11 @@ module _ (mesh : ObjMesh) (t : Topology) (cuttable : IsCuttable mesh t) (is : Is
           let side : has_side (s.0, v) (polygon_at t.level.polygons f) ≡ true = ap (λ (n : ℕ). has_side (s.0, n) (polygon_at t.level.polygons f)) same ∙ there in
           inl (number ∙ ap (λ (n : ℕ). edge_number t.level.polygons (s.0, n)) (sym same) ∙ sym (before-is t.level.polygons is.simple is.sides_once v f s.0 side))
 
-  -- a face at the vertex stands at a place
+  -- a face at the vertex has a place there
   pub face-place : (f : ℕ) → has_corner v (polygon_at t.level.polygons f) ≡ true → (i : ℕ) × (i < face_count t v) × (face i ≡ f)
   face-place f has = among-at f (get_or t.faces_at v []) (faces-all t v f is inside ∙ has)
 
-  -- an edge of a face at the vertex stands at the place of the face or at the next
+  -- an edge of a face at the vertex has the place of the face or the next place
   pub edge-place : (i e : ℕ) → i < face_count t v → e < length (edges_of t.level.polygons) → has_edge (edge_at t.level.polygons e) (polygon_at t.level.polygons (face i)) ≡ true → has_end v (edge_at t.level.polygons e) ≡ true → (e ≡ edge_in i) ⊎ (e ≡ edge_in (next i))
   edge-place i e h exists has ends = go (edge-numbers (face i) (edge_at t.level.polygons e) has ends)
     where
@@ -125,7 +125,7 @@ module _ (mesh : ObjMesh) (t : Topology) (cuttable : IsCuttable mesh t) (is : Is
       go (inl n) = inl (sym (own-number t.level.polygons e exists) ∙ n ∙ sym (fan.before i h))
       go (inr n) = inr (sym (own-number t.level.polygons e exists) ∙ n ∙ (after-next i h).1)
 
-  -- one edge stands at one place
+  -- each edge has one place
   pub edge-once : (i j : ℕ) → i < edge_count → j < edge_count → edge_in i ≡ edge_in j → i ≡ j
   edge-once i j hi hj e = distinct-places (get_or t.edges_at v []) i j (edges-once t v is inside) hi hj e
 

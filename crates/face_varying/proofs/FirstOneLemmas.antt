@@ -1,4 +1,4 @@
--- Items numbered by first appearance: the numbers, what they are places of, and where an item is new.
+-- Items numbered by first appearance: the numbers, their meaning as places, and the new items.
 use Rattle.std.proofs.Common.{◌≡◌, ℕ, ◌+◌, ◌≤◌, Bool, true, false, not, ◌||◌, nat_eq, cond, List, [], ◌∷◌, ◌++◌, length, map, arith, refl, ap, sym, ◌∙◌, if◌then◌else◌}
 use Rattle.std.specs.List.{filter, list_any, position_or_len}
 use Rattle.std.proofs.lemmas.Bool.Decides.{nat_tests}
@@ -10,7 +10,7 @@ use Rattle.subdiv_model.specs.Lists.{each_once_by}
 use Rattle.texture_laws.proofs.OnceLemmas.{first-within}
 use Rattle.face_varying.specs.FirstOnes.{met_with, met_after, numbers_after, first_ones}
 
--- where nothing passes, the first place is the length
+-- if no item passes, the first place is the length
 pub none-place : {X : Type 0} (p : X → Bool) (xs : List X) → list_any p xs ≡ false → position_or_len p xs ≡ length xs
 none-place p [] h = refl
 none-place p (x ∷ xs) h =
@@ -64,7 +64,7 @@ module _ {X : Type 0} (same : X → X → Bool) where
       here true e = rw (new-number met x, e) (omega arith)
       here false e = rw (new-number met x, e) (length_push met x)
 
-  -- what was met before stays before what comes
+  -- the items so far stay before the new ones
   pub met-some : (met xs : List X) → (more : List X) × (met_after same met xs ≡ met ++ more)
   met-some met [] = ([], sym (append-nil met))
   met-some met (x ∷ xs) = here (list_any (same x) met) refl (met-some (met_with same met x) xs)
@@ -100,7 +100,7 @@ module _ {X : Type 0} (same : X → X → Bool) where
         let here : position_or_len (same x) met ≡ position_or_len (same x) (met_after same next xs) = sym (ap (position_or_len (same x)) some.1 ∙ place-kept (same x) next some.0 (with-listed met x) ∙ with-place met x) in
         ap (λ (n : ℕ). n ∷ numbers_after same next xs) here ∙ ap (λ (ns : List ℕ). position_or_len (same x) (met_after same next xs) ∷ ns) (numbers-are next xs)
 
-  -- of the items of all values, those that are new are what was met
+  -- the new ones of the items' values are the values of the items in the end
   pub first-ones-are : {Y : Type 0} (f : X → Y) (met xs : List X) → map f met ++ first_ones (length met) (numbers_after same met xs) (map f xs) ≡ map f (met_after same met xs)
   first-ones-are f met [] = append-nil (map f met)
   first-ones-are {Y} f met (x ∷ xs) = here (list_any (same x) met) refl (first-ones-are f (met_with same met x) xs)
@@ -139,7 +139,7 @@ module _ {X : Type 0} (same : X → X → Bool) where
         here false e true k = (ap (same x) (equal y x k) ∙ itself x) ∙ sym k
         here false e false k = e ∙ sym k
 
-    -- what is met in the end: what was met, and what is new of the list by first appearance
+    -- the items in the end: those so far, then the new ones of the list by first appearance
     pub met-are : (met xs : List X) → met_after same met xs ≡ met ++ filter (λ y. not (list_any (same y) met)) (each_once_by same xs)
     met-are met [] = sym (append-nil met)
     met-are met (x ∷ xs) = here (list_any (same x) met) refl (met-are (met_with same met x) xs)
@@ -168,7 +168,7 @@ module _ {X : Type 0} (same : X → X → Bool) where
             other : (y : X) → same x y ≡ false → not (list_any (same y) met) ≡ not (list_any (same y) (met ++ x ∷ []))
             other y h = ap not (sym (list_any-append (same y) met (x ∷ []) ∙ ap (λ b. list_any (same y) met || (b || false)) (sym (same-swap x y) ∙ h) ∙ or-none (list_any (same y) met)))
 
-    -- from nothing, what is met is each item once, by first appearance
+    -- from nothing, the items in the end are each item once, by first appearance
     pub met-once : (xs : List X) → met_after same [] xs ≡ each_once_by same xs
     met-once xs = met-are [] xs ∙ keeps-all (each_once_by same xs)
       where
@@ -180,7 +180,7 @@ module _ {X : Type 0} (same : X → X → Bool) where
     pub numbers-once : (xs : List X) → numbers_after same [] xs ≡ map (λ x. position_or_len (same x) (each_once_by same xs)) xs
     numbers-once xs = numbers-are itself [] xs ∙ ap (λ (ys : List X). map (λ x. position_or_len (same x) ys) xs) (met-once xs)
 
-    -- of the items of all values, those that are new are those of each value once
+    -- the new ones of the items' values are the values of each item once
     pub first-ones-once : {Y : Type 0} (f : X → Y) (xs : List X) → first_ones 0 (map (λ x. position_or_len (same x) (each_once_by same xs)) xs) (map f xs) ≡ map f (each_once_by same xs)
     first-ones-once f xs = ap (λ (ns : List ℕ). first_ones 0 ns (map f xs)) (sym (numbers-once xs)) ∙ first-ones-are f [] xs ∙ ap (map f) (met-once xs)
 

@@ -10,12 +10,12 @@ use Rattle.face_varying.specs.FirstOnes.{first_ones}
 abbrev pub joined_lists : List Polygon → List ℕ
 joined_lists lists = flat_map (λ numbers. numbers) lists
 
--- how many there are after a corner
+-- the number of items after a corner
 pub counted : {X : Type 0} (done next : List X) (new : Bool) (x : X) → next ≡ (if new then done ++ x ∷ [] else done) → length next ≡ (if new then length done + 1 else length done)
 counted done next true x step = ap length step ∙ length_push done x
 counted done next false x step = ap length step
 
--- a corner more: what is done, and what is left, stay together the same
+-- one more corner: the items so far and the rest together are unchanged
 pub corner-round : {X : Type 0} (done next : List X) (count count' n c : ℕ) (x d : X) (numbers : List ℕ) (xs : List X)
     → c < length numbers → c < length xs → n ≡ get_or numbers c 0 → x ≡ get_or xs c d
     → next ≡ (if nat_eq n count then done ++ x ∷ [] else done) → count' ≡ (if nat_eq n count then count + 1 else count)
@@ -56,7 +56,7 @@ first-ones-append {X} count (n ∷ ns) ms (x ∷ xs) ys h = here (nat_eq n count
     here true e first further = rw e (ap (λ (zs : List X). x ∷ zs) (first ∙ ap (λ k. first_ones (count + 1) ns xs ++ first_ones k ms ys) one_more))
     here false e first further = rw e further
 
--- how many there are depends on the numbers alone
+-- the number of items depends only on the numbers
 pub first-ones-length : {X Y : Type 0} (count : ℕ) (ns : List ℕ) (xs : List X) (ys : List Y) → length xs ≡ length ys → length (first_ones count ns xs) ≡ length (first_ones count ns ys)
 first-ones-length count ns [] [] h = refl
 first-ones-length count ns [] (y ∷ ys) h = absurd (omega arith)
@@ -68,7 +68,7 @@ first-ones-length count (n ∷ ns) (x ∷ xs) (y ∷ ys) h = here (nat_eq n coun
     here true e first further = rw e (ap suc first)
     here false e first further = rw e further
 
--- a face more: what is done, and what is left, stay together the same
+-- one more face: the items so far and the rest together are unchanged
 pub face-round : {X : Type 0} (done next : List X) (count count' : ℕ) (own others rest : List ℕ) (xs ys zs : List X)
     → rest ≡ own ++ others → length own ≡ length xs → zs ≡ xs ++ ys → next ≡ done ++ first_ones count own xs → count' ≡ count + length (first_ones count own xs)
     → next ++ first_ones count' others ys ≡ done ++ first_ones count rest zs
@@ -79,7 +79,7 @@ face-round {X} done next count count' own others rest xs ys zs split same whole 
     ∙ ap (λ (ns : List ℕ). done ++ first_ones count ns (xs ++ ys)) (sym split)
     ∙ ap (λ (ws : List X). done ++ first_ones count rest ws) (sym whole)
 
--- of the lists from a place on, the first and the others
+-- the lists from a place on are the first and the others
 pub joined-drop : (lists : List Polygon) (f : ℕ) → f < length lists → joined_lists (drop f lists) ≡ polygon_at lists f ++ joined_lists (drop (f + 1) lists)
 joined-drop lists f inside = at_drop_more joined_lists lists f [] inside
 
@@ -87,6 +87,6 @@ joined-drop lists f inside = at_drop_more joined_lists lists f [] inside
 pub joined-end : (lists : List Polygon) (f : ℕ) → length lists ≤ f → joined_lists (drop f lists) ≡ []
 joined-end lists f end = ap joined_lists (drop_all f lists end)
 
--- how long they are together
+-- the length of the lists together
 pub lengths-drop : (lists : List Polygon) (f : ℕ) → f < length lists → sum_by length (drop f lists) ≡ length (polygon_at lists f) + sum_by length (drop (f + 1) lists)
 lengths-drop lists f inside = at_drop_more (sum_by length) lists f [] inside ∙ sum_by-cons length (polygon_at lists f) (drop (f + 1) lists)

@@ -59,7 +59,7 @@ counted-more numbers i p old new inside before is = go (nat_eq p (get_or numbers
     go false e =
         let now : new ≡ old = is ∙ ap chosen e in omega (arith, now, before, count_by_more_no (nat_eq p) numbers i 0 inside e)
 
--- a count that stands as 255 is not one
+-- a count that became 255 is not one
 one-below : (n : ℕ) → nat_eq (min n 255) 1 ≡ nat_eq n 1
 one-below n = grind (arith, nat_tests)
 
@@ -106,7 +106,7 @@ face-ends-more level apart numbers f start edges old now new is_start are_edges 
     ∙ sym (with-append (ends_before level apart numbers f) (ends_at level apart numbers f) old)
     ∙ ap (λ (sides : List ((ℕ × ℕ) × Bool)). with_ends sides old) (sym more)
 
--- there are as many marks
+-- the marks of a side keep the number of marks
 one-length : (b : Bool) (first last : ℕ) (marks : List Bool) → length (with_ends_of ((first, last), b) marks) ≡ length marks
 one-length true first last marks = length-set (slice_set marks first true) last true ∙ length-set marks first true
 one-length false first last marks = refl
@@ -169,7 +169,7 @@ corners-counted test g number place (face ∷ faces) =
     ∙ ap (λ (n : ℕ). count_by test (map (λ v. number (g place v)) face) + n) (corners-counted test g number (place + 1) faces)
     ∙ sym (sum_by-cons (count_by test) (map (λ v. number (g place v)) face) (map (λ face. map (λ v. number (g face.0 v)) face.1) (enumerate_from (place + 1) faces)))
 
--- what is the same for an edge in both directions, holds of a side where it holds of an edge
+-- a property that both directions of an edge share holds for a side where it holds for an edge
 other-sides : (q : ℕ × ℕ → Bool) (s : ℕ × ℕ) (edges : List (ℕ × ℕ)) → ((t : ℕ × ℕ) → same_edge s t ≡ true → q s ≡ q t) → q s ≡ false → list_any q (filter (λ t. not (same_edge s t)) edges) ≡ list_any q edges
 other-sides q s [] alike none = refl
 other-sides q s (t ∷ edges) alike none = here (same_edge s t) refl (other-sides q s edges alike none)
@@ -180,7 +180,7 @@ other-sides q s (t ∷ edges) alike none = here (same_edge s t) refl (other-side
         rw (e, fails) behind
     here false e behind = rw e (ap (λ (b : Bool). q t || b) behind)
 
--- it holds of some side exactly where it holds of some edge
+-- such a property holds for some side exactly where it holds for some edge
 pub sides-edges : (q : ℕ × ℕ → Bool) (sides : List (ℕ × ℕ)) → ((s t : ℕ × ℕ) → same_edge s t ≡ true → q s ≡ q t) → list_any q (first_named sides) ≡ list_any q sides
 sides-edges q [] alike = refl
 sides-edges q (s ∷ sides) alike = here (q s) refl (sides-edges q sides alike)

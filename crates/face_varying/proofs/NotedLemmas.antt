@@ -12,7 +12,7 @@ use Rattle.face_varying.specs.Sides.{AreNoted, is_along, by_end, noted}
 use Rattle.face_varying.proofs.CornerLemmas.{place-once}
 use Rattle.face_varying.proofs.EdgeSideLemmas.{side-place-once}
 
--- what is noted in one direction of an edge stands there
+-- the note in one direction of an edge is there
 noted-here : (along against next_along next_against : List (ℕ × ℕ)) (forward : Bool) (e s t : ℕ) → e < length along → e < length against
     → next_along ≡ (if forward then slice_set along e (s, t) else along) → next_against ≡ (if forward then against else slice_set against e (t, s))
     → noted next_along next_against forward e ≡ by_end forward (s, t)

@@ -47,7 +47,7 @@ module _ {X Y : Type 0} (same : Y → Y → Bool) (f : X → Y) where
   places-at once (x ∷ xs) =
       ap (λ (n : ℕ). n ∷ map (λ y. position_or_len (same y) (map f once)) (map f xs)) (place-at (same (f x)) once) ∙ ap (λ (ns : List ℕ). position_or_len (same_at x) once ∷ ns) (places-at once xs)
 
-  -- the numbers of what items give are those of the items, where the test is of what they give
+  -- the numbers of the items' values are those of the items, by the test of the values
   numbers-at : (xs : List X) → numbers_by same (map f xs) ≡ numbers_by same_at xs
   numbers-at xs = ap (λ (once : List Y). map (λ y. position_or_len (same y) once) (map f xs)) (once-at xs) ∙ places-at (each_once_by same_at xs) xs
 
@@ -118,6 +118,6 @@ label-numbers items labels are =
     same-is : (p q : ℕ × ℕ) → p ≡ q → same_side p q ≡ true
     same-is p q e = ap (same_side p) (sym e) ∙ same_side-refl p
 
--- what is numbered by the labels of all corners is numbered by their channel points
+-- numbers by the labels of all corners are numbers by their channel points
 pub labelled-numbers : (mesh : ObjMesh) (labels slice numbers : List ℕ) → AreLabels (corner_points mesh) labels → slice ≡ labels → numbers ≡ numbers_of slice → numbers ≡ corner_numbers mesh
 labelled-numbers mesh labels slice numbers are same is = is ∙ ap numbers_of same ∙ label-numbers (corner_points mesh) labels are

@@ -14,7 +14,7 @@ module _ (test : ℕ → Bool) where
   pub last-more : (given n start next : ℕ) → start ≡ last_before test given n → next ≡ (if test n then n else start) → next ≡ last_before test given (n + 1)
   last-more given n start next e h = h ∙ ap (λ (k : ℕ). if test n then n else k) e ∙ sym (rw add-one refl)
 
-  -- what is found is one of the places
+  -- the place found is one of the places
   pub last-within : (given n size : ℕ) → given < size → n ≤ size → last_before test given n < size
   last-within given zero size inside h = inside
   last-within given (suc n) size inside h = go (test n) refl (last-within given n size inside (omega arith))
@@ -47,8 +47,8 @@ module _ (test : ℕ → Bool) where
           let again : last_before test (last_before test given n) (suc n) ≡ last_before test given n = rw e before in
           ap (λ (k : ℕ). last_before test k (suc n)) less ∙ again ∙ sym less
 
-  -- What holds of each place with itself, goes on from a place to the next where that does not pass, and from the last place to the
-  -- first, holds of each place with the beginning of its run.
+  -- A relation that holds for each place with itself, and that passes on from a place to the next and from the last to the
+  -- first inside a run, holds for each place with the start of its run.
   module _ (size : ℕ) (J : ℕ → ℕ → Type 0) (itself : (i : ℕ) → i < size → J i i) (goes : (i k : ℕ) → i + 1 < size → test (i + 1) ≡ false → J i k → J (i + 1) k) (closes : (k : ℕ) → 0 < size → test 0 ≡ false → J (size - 1) k → J 0 k) where
     climbs : (given d : ℕ) → given + d < size → ((j : ℕ) → given < j → j < size → test j ≡ false) → J (given + d) given
     climbs given zero h none = let same : given ≡ given + 0 = omega arith in subst (λ (n : ℕ). J n given) same (itself given (omega arith))

@@ -1,4 +1,4 @@
--- The sides of all faces, each with what it is worth.
+-- The sides of all faces, each with a value.
 use Rattle.std.proofs.Common.{◌≡◌, ℕ, zero, suc, ◌+◌, ◌<◌, List, [], ◌∷◌, ◌++◌, length, map, get_or, arith, refl, ap, sym, ◌∙◌}
 use Rattle.std.specs.List.{flat_map, range_with_len}
 use Rattle.std.proofs.lemmas.List.{get_or-map, length-map, ext_get_or, map-append}
@@ -10,12 +10,12 @@ use Rattle.level_laws.proofs.FaceLemmas.{sides_of-length}
 use Rattle.level_topology.specs.Topology.{side_at}
 use Rattle.level_topology.proofs.PlaceLemmas.{side-there}
 
--- what two functions give is the same list where they give the same at each item
+-- two functions that agree on each item give the same list
 pub map-at : {X Y : Type 0} (d : X) (f g : X → Y) (xs : List X) → ((k : ℕ) → k < length xs → f (get_or xs k d) ≡ g (get_or xs k d)) → map f xs ≡ map g xs
 map-at d f g [] same = refl
 map-at d f g (x ∷ xs) same = ap (λ y. y ∷ map f xs) (same 0 (omega arith)) ∙ ap (λ ys. g x ∷ ys) (map-at d f g xs (λ k h. same (suc k) (omega arith)))
 
--- a side with what it is worth
+-- a side with its value
 abbrev pub with_own : {Y : Type 0} → (ℕ × ℕ → Y) → ℕ × ℕ → (ℕ × ℕ) × Y
 with_own own side = (side, own side)
 
@@ -27,12 +27,12 @@ flat-places parts polygons =
     ext_get_or [] polygons (map (polygon_at polygons) (range_with_len 0 (length polygons))) (sym size) (λ f h. sym (get_or-map-range_with_len (polygon_at polygons) 0 (length polygons) f f [] h (omega arith))) in
     ap (flat_map parts) same ∙ flat_map-map parts (polygon_at polygons) (range_with_len 0 (length polygons))
 
--- joined lists are the same where their parts are
+-- lists that are joined are equal if their parts are
 flat-agree : {X : Type 0} (f g : ℕ → List X) (a n : ℕ) → ((k : ℕ) → k < a + n → f k ≡ g k) → flat_map f (range_with_len a n) ≡ flat_map g (range_with_len a n)
 flat-agree f g a zero same = refl
 flat-agree f g a (suc n) same = ap (λ xs. xs ++ flat_map f (range_with_len (a + 1) n)) (same a (omega arith)) ∙ ap (λ xs. g a ++ xs) (flat-agree f g (a + 1) n (λ k h. same k (omega arith)))
 
--- what is said of joined lists is said of each part
+-- a function over lists that are joined is the function over each part
 map-flat : {X Y Z : Type 0} (h : Y → Z) (parts : X → List Y) (xs : List X) → map h (flat_map parts xs) ≡ flat_map (λ x. map h (parts x)) xs
 map-flat h parts [] = refl
 map-flat h parts (x ∷ xs) = map-append h (parts x) (flat_map parts xs) ∙ ap (λ ys. map h (parts x) ++ ys) (map-flat h parts xs)

@@ -23,7 +23,7 @@ edge-among polygons edge face h =
     ap (is_among (faces_of_edge polygons edge)) (sym number) ∙ places-at (has_edge edge) [] refl 0 face polygons ∙ h
 
 module _ (mesh : ObjMesh) where
-  -- where an edge of two faces at most is no seam, its faces have one texture number at each end
+  -- if an edge with at most two faces is no seam, its faces have one texture number at each end
   unseamed : (edge : ℕ × ℕ) (faces : List ℕ) (v f g : ℕ) → length faces ≤ 2 → is_seam_of mesh edge faces ≡ false → has_end v edge ≡ true → is_among faces f ≡ true → is_among faces g ≡ true → texture_number mesh f v ≡ texture_number mesh g v
   unseamed edge [] v f g few joins ends at_f at_g = absurd (cc)
   unseamed edge (x ∷ []) v f g few joins ends at_f at_g = ap (λ n. texture_number mesh n v) (one f at_f ∙ sym (one g at_g))

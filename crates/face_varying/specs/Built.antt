@@ -1,4 +1,5 @@
--- The cut mesh put together from the numbers of the channel points at all corners: its faces, and what its sides and points get.
+-- The construction of the cut mesh from the numbers of the channel points at all corners: its faces, and the sharpness of its
+-- sides and points.
 use Rattle.std.specs.Prelude.{ℕ, ◌+◌, ◌^◌, ◌<◌, ◌≤◌, Bool, true, false, List, [], ◌∷◌, ◌++◌, length, map, get_or, drop, slice_range, replicate, IsTrue, if◌then◌else◌}
 use Rattle.std.specs.List.{All, list_all, flat_map, sum_by, range_with_len}
 use Rattle.subdiv_model.specs.Polygons.{Polygon, polygon_at, has_distinct_sides, is_over}
@@ -19,7 +20,7 @@ cut_face faces numbers f = slice_range numbers (start_of faces f) (start_of face
 abbrev pub cut_by : List Polygon → List ℕ → List Polygon
 cut_by faces numbers = map (cut_face faces numbers) (range_with_len 0 (length faces))
 
--- what is asked of faces that are put together over so many points
+-- the conditions on faces that a builder gets, over this many points
 pub record AreFit (points : ℕ) (polygons : List Polygon) : Type 0 where
   pub over : IsTrue (is_over points polygons)
   pub simple : IsTrue (list_all is_simple polygons)
@@ -28,25 +29,26 @@ pub record AreFit (points : ℕ) (polygons : List Polygon) : Type 0 where
   pub corners : sum_by length polygons < 2 ^ 28
   pub sizes : All (λ polygon. length polygon ≤ 2 ^ 16) polygons
 
--- a side whose edge in the mesh has this number is infinitely sharp where the faces there are apart, and else as sharp as the edge
+-- a side whose edge in the mesh has this number is infinitely sharp if the faces there are apart, and else as sharp as the
+-- edge
 abbrev pub side_sharpness : Level → List Bool → ℕ → Sharpness
 side_sharpness level apart e = if get_or apart e false then Infinite else get_or level.edge_sharpness e Smooth
 
--- the first so many sides of a face with their sharpness, by the numbers of their edges in the mesh
+-- the first `count` sides of a face with their sharpness, from the numbers of its edges in the mesh
 abbrev pub first_sides : Level → List Bool → Polygon → List ℕ → ℕ → List ((ℕ × ℕ) × Sharpness)
 first_sides level apart corners edges count = map (λ c. (side_at corners c, side_sharpness level apart (get_or edges c 0))) (range_with_len 0 count)
 
 abbrev pub face_sides : Level → List Bool → Polygon → List ℕ → List ((ℕ × ℕ) × Sharpness)
 face_sides level apart corners edges = first_sides level apart corners edges (length corners)
 
--- the sides of the face with a number, and of all faces before a number
+-- the sides of the face with a number, and those of all faces before a number
 abbrev pub sides_at : Level → List Bool → List ℕ → ℕ → List ((ℕ × ℕ) × Sharpness)
 sides_at level apart numbers f = face_sides level apart (cut_face level.polygons numbers f) (face_edges_of level.polygons (polygon_at level.polygons f))
 
 abbrev pub sides_before : Level → List Bool → List ℕ → ℕ → List ((ℕ × ℕ) × Sharpness)
 sides_before level apart numbers f = flat_map (sides_at level apart numbers) (range_with_len 0 f)
 
--- an edge gets its sharpness, where it is not smooth
+-- an edge gets its sharpness, unless it is smooth
 abbrev pub with_side : (ℕ × ℕ) × Sharpness → Built → Built
 with_side side built = if is_sharp side.1 then with_sharp_edge side.0 side.1 built else built
 
@@ -54,11 +56,11 @@ abbrev pub with_sides : List ((ℕ × ℕ) × Sharpness) → Built → Built
 with_sides [] built = built
 with_sides (side ∷ sides) built = with_sides sides (with_side side built)
 
--- a point is infinitely sharp where it is kept so, and else as sharp as its vertex
+-- a point is infinitely sharp if the mode keeps it so, and else as sharp as its vertex
 abbrev pub point_sharpness : Level → List ℕ → List Bool → ℕ → Sharpness
 point_sharpness level vertices kept p = if get_or kept p false then Infinite else get_or level.vertex_sharpness (get_or vertices p 0) Smooth
 
--- the first so many points have this sharpness and are complete
+-- the first points have this sharpness and are complete
 abbrev pub with_points : (ℕ → Sharpness) → ℕ → Built → Built
 with_points sharpness count built = record {
   level = record {

@@ -4,7 +4,7 @@ use Rattle.std.specs.List.{sum_by}
 use Rattle.subdiv_model.specs.Polygons.{Polygon}
 use Rattle.level_topology.specs.Topology.{corner_of}
 
--- how many corners the faces before a face have
+-- the number of corners of the faces before a face
 abbrev pub start_of : List Polygon → ℕ → ℕ
 start_of faces f = sum_by length (take f faces)
 

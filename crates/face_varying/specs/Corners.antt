@@ -1,4 +1,4 @@
--- The corners of all faces, one after another, and what stands at each: by the mesh, and by numbers.
+-- The corners of all faces, one after another, with the channel point of each and its number.
 use Rattle.std.specs.Prelude.{ℕ, ◌≡◌, ◌<◌, Bool, ◌||◌, nat_eq, List, length, map, get_or, ◌↔◌}
 use Rattle.std.specs.List.{All, flat_map, position_or_len, enumerate_from}
 use Rattle.subdiv_model.specs.Lists.{each_once_by}
@@ -7,7 +7,7 @@ use Rattle.subdiv_model.specs.Edges.{edges_of, is_boundary}
 use Rattle.subdiv_model.specs.ObjMesh.{ObjMesh}
 use Rattle.subdiv_model.specs.Cut.{is_seam, channel_point, channel_points}
 
--- the faces on the two sides of the edge are apart: it has one face, or is a seam
+-- the faces on the two sides of the edge are apart: the edge has one face or is a seam
 abbrev pub is_apart : ObjMesh → ℕ × ℕ → Bool
 is_apart mesh edge = is_boundary mesh.faces edge || is_seam mesh edge
 
@@ -23,7 +23,7 @@ corner_points mesh = flat_map (λ face. map (channel_point mesh face.0) face.1) 
 abbrev pub corner_numbers : ObjMesh → List ℕ
 corner_numbers mesh = map (λ point. position_or_len (same_side point) (channel_points mesh)) (corner_points mesh)
 
--- a label for each item, equal exactly where the items are
+-- a label for each item; labels are equal exactly where the items are
 pub record AreLabels (items : List (ℕ × ℕ)) (labels : List ℕ) : Type 0 where
   pub each : length labels ≡ length items
   pub within : All (λ label. label < length labels) labels

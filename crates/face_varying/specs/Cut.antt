@@ -1,5 +1,4 @@
--- The cut mesh of a texture channel, as it is asked for and as it is answered.
--- Source: this profile.
+-- The conditions and the result of the cut of a texture channel. Source: this library.
 use Rattle.std.specs.Prelude.{◌≡◌, true, List, length, map, replicate}
 use Rattle.subdiv_model.specs.ObjMesh.{ObjMesh}
 use Rattle.subdiv_model.specs.Cut.{SeamMode, channel_points, channel_values, cut_level}
@@ -9,13 +8,13 @@ use Rattle.level_topology.specs.Topology.{Topology}
 use Rattle.mesh_check.specs.Checked.{IsAccepted}
 use Rattle.ratio128.specs.declared.point.Point2.{Point2}
 
--- a mesh with texture that was accepted, and its level 0
+-- an accepted mesh with texture, and its level 0
 pub record IsCuttable (mesh : ObjMesh) (base : Topology) : Type 0 where
   pub within : IsWithin mesh
   pub textured : mesh.has_texture ≡ true
   pub accepted : IsAccepted mesh base
 
--- a channel as contracts see it: its level 0 and its values
+-- a channel in the terms of contracts: its level 0 and its values
 pub record CutChannel : Type 0 where
   pub level : Topology
   pub points : List Point2

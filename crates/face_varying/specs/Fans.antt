@@ -3,7 +3,7 @@ use Rattle.std.specs.Prelude.{ℕ, zero, suc, ◌≡◌, ◌+◌, ◌<◌, Bool,
 use Rattle.level_topology.specs.Topology.{Topology}
 use Rattle.face_varying.specs.CornerPlaces.{corner_at}
 
--- the last place below so many that passes, or else what is given
+-- the last place below a bound that passes, or else the given place
 abbrev pub last_before : (ℕ → Bool) → ℕ → ℕ → ℕ
 last_before test given zero = given
 last_before test given (suc n) = if test n then n else last_before test given n
@@ -12,7 +12,7 @@ last_before test given (suc n) = if test n then n else last_before test given n
 abbrev pub is_cut : Topology → List Bool → ℕ → ℕ → Bool
 is_cut t apart v i = get_or apart (get_or (get_or t.edges_at v []) i 0) false
 
--- how many faces there are at a vertex
+-- the number of faces at a vertex
 abbrev pub face_count : Topology → ℕ → ℕ
 face_count t v = length (get_or t.faces_at v [])
 
@@ -20,7 +20,7 @@ face_count t v = length (get_or t.faces_at v [])
 abbrev pub corner_in : Topology → ℕ → ℕ → ℕ
 corner_in t v i = corner_at t.level.polygons v (get_or (get_or t.faces_at v []) i 0)
 
--- the place at which the last run of faces that are not apart begins; about a cycle it goes on over the first face
+-- the place at which the last run of faces that are not apart begins; about a cycle it goes on past the first face
 abbrev pub last_run : Topology → List Bool → ℕ → ℕ
 last_run t apart v = last_before (is_cut t apart v) 0 (face_count t v)
 
@@ -28,6 +28,6 @@ last_run t apart v = last_before (is_cut t apart v) 0 (face_count t v)
 abbrev pub run_of : Topology → List Bool → ℕ → ℕ → ℕ
 run_of t apart v i = last_before (is_cut t apart v) (last_run t apart v) (i + 1)
 
--- of so many faces at a vertex each has the corner at which its run begins for a label
+-- each of the first faces at a vertex has as its label the corner at which its run begins
 pub record HasRuns (t : Topology) (apart : List Bool) (v count : ℕ) (labels : List ℕ) : Type 0 where
   pub each : (i : ℕ) → i < count → get_or labels (corner_in t v i) 0 ≡ corner_in t v (run_of t apart v i)

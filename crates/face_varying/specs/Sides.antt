@@ -1,4 +1,4 @@
--- The texture numbers at the ends of edges, as the sides of faces give them.
+-- The texture numbers at the ends of edges, from the sides of faces.
 use Rattle.std.specs.Prelude.{ℕ, ◌≡◌, ◌+◌, ◌<◌, Bool, nat_eq, List, length, get_or, if◌then◌else◌}
 use Rattle.subdiv_model.specs.Polygons.{Polygon, polygon_at}
 use Rattle.subdiv_model.specs.Edges.{edges_of, edge_number}
@@ -14,11 +14,11 @@ is_along polygons side = nat_eq (edge_at polygons (edge_number polygons side)).0
 abbrev pub by_end : Bool → ℕ × ℕ → ℕ × ℕ
 by_end forward pair = if forward then pair else (pair.1, pair.0)
 
--- what is noted for an edge, of the side that goes along it or of the one that goes against it
+-- the note for an edge, from the side that goes along it or from the one that goes against it
 abbrev pub noted : List (ℕ × ℕ) → List (ℕ × ℕ) → Bool → ℕ → ℕ × ℕ
 noted along against forward e = if forward then get_or along e (0, 0) else get_or against e (0, 0)
 
--- the sides of so many corners are noted
+-- the sides of the first `count` corners are noted
 pub record AreNoted (polygons : List Polygon) (texture : List (List ℕ)) (along against : List (ℕ × ℕ)) (count : ℕ) : Type 0 where
   pub along_size : length along ≡ length (edges_of polygons)
   pub against_size : length against ≡ length (edges_of polygons)

@@ -1,4 +1,4 @@
--- The types of this crate, seen as those of the definitions.
+-- The types of this crate in the terms of the definitions.
 use Rattle.subdiv_model.specs.Cut as model
 use Rattle.face_varying.specs.declared.mode.SeamMode.{SeamMode}
 use Rattle.face_varying.specs.declared.mode.SeamMode.TheVariants.{Smooth, Corners, Boundaries}

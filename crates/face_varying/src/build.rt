@@ -18,8 +18,8 @@ use raw_mesh::RawMesh;
 use std::alloc::Global;
 use std::sync::ledger::Ledger;
 
-// Level 0 of the cut mesh: by the edges whose faces are apart, the number of the channel point of each corner, the vertex of each
-// point, and the points that the mode keeps sharp. Each face takes a step. The mesh and the mode are there for the contract alone.
+// Returns level 0 of the cut mesh. It needs the edges whose faces are apart, the channel point of each corner, the vertex of
+// each point, and the points that stay sharp. Each face is one step. Only the contract uses `raw` and `mode`.
 fn cut_level<L: Ledger>(
     alloc: Global,
     raw: &RawMesh,
@@ -50,7 +50,7 @@ fn cut_level<L: Ledger>(
     builder.finish()
 }
 
-// Level 0 of the cut mesh, with the points that the mode keeps sharp. Each face takes a step.
+// Returns level 0 of the cut mesh, with the points that the mode keeps sharp. Each face is one step.
 pub(crate) fn level_with<L: Ledger>(
     alloc: Global,
     raw: &RawMesh,

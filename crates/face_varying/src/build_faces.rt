@@ -13,7 +13,7 @@ use ratio128::{Memory, Steps};
 use std::alloc::Global;
 use std::sync::ledger::Ledger;
 
-// The key of the faces: the point of every corner counts, and the size of every face.
+// Returns the key of the faces. It depends on the point of every corner and the size of every face.
 fn key_of(level: &Level, numbers: &[u32]) -> u128 {
     let mut key = MeshKey::new();
     key.add(level.corner_starts());
@@ -21,7 +21,8 @@ fn key_of(level: &Level, numbers: &[u32]) -> u128 {
     key.finish()
 }
 
-// How many edges the cut mesh has at most: one for each edge of the mesh, and one more where the faces there are apart.
+// Returns a bound of the number of edges of the cut mesh: one for each edge of the mesh, and one more where the faces there
+// are apart.
 fn edge_room(level: &Level, apart: &[bool]) -> u32 {
     let mut room = level.edges();
     for mark in apart {
@@ -30,7 +31,7 @@ fn edge_room(level: &Level, apart: &[bool]) -> u32 {
     room
 }
 
-// The points alone, with room for all that comes.
+// Returns a builder that has only the points, with memory for all that follows.
 pub(crate) fn points_alone(
     alloc: Global,
     level: &Level,

@@ -9,7 +9,7 @@ use level_builder::LevelBuilder;
 use level_topology::Level;
 use sharpness_rules::Sharpness;
 
-// How sharp a point is: infinitely where it is kept so, and else as its vertex.
+// Returns the sharpness of a point: infinite if the mode keeps it so, or else that of its vertex.
 fn point_sharpness(level: &Level, vertices: &[u32], kept: &[bool], p: usize) -> Sharpness
     requires point { p < length vertices.now }
     requires kept { length kept.now ≡ length vertices.now }
@@ -23,7 +23,7 @@ fn point_sharpness(level: &Level, vertices: &[u32], kept: &[bool], p: usize) -> 
     }
 }
 
-// Sets the sharpness of all points, and marks them complete.
+// Sets the sharpness of all points, and marks them as complete.
 pub(crate) fn add_points(builder: &mut LevelBuilder, level: &Level, vertices: &[u32], kept: &[bool])
     requires points { builder.old.level.point_count ≡ length vertices.now }
     requires sharpness { length builder.old.level.vertex_sharpness ≡ length vertices.now }

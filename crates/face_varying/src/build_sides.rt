@@ -12,7 +12,8 @@ use level_builder::LevelBuilder;
 use level_topology::{Level, corner_after};
 use sharpness_rules::Sharpness;
 
-// How sharp a side is whose edge in the mesh has this number: infinitely where the faces there are apart.
+// Returns the sharpness of a side whose edge in the mesh has this number: infinite if the faces there are apart, or else that
+// of the edge.
 fn side_sharpness(level: &Level, apart: &[bool], e: u32) -> Sharpness
     requires edge { e < length (edges_of level.now.level.polygons) }
     requires apart { length apart.now ≡ length (edges_of level.now.level.polygons) }
@@ -25,7 +26,7 @@ fn side_sharpness(level: &Level, apart: &[bool], e: u32) -> Sharpness
     }
 }
 
-// Sets the sharpness of a side's edge, where it is not smooth.
+// Sets the sharpness of a side's edge, unless it is smooth.
 fn add_side(builder: &mut LevelBuilder, a: u32, b: u32, s: Sharpness)
     requires { IsTrue (list_any (same_edge (a, b)) (edges_of builder.old.level.polygons)) }
     ensures { builder.new ≡ with_side ((a, b), sharpness_of s) builder.old }
@@ -36,7 +37,7 @@ fn add_side(builder: &mut LevelBuilder, a: u32, b: u32, s: Sharpness)
     }
 }
 
-// Sets the sharpness of the sides of a face, by its corners and the numbers of its edges in the mesh.
+// Sets the sharpness of the sides of a face, from its corners and the numbers of its edges in the mesh.
 fn add_face_sides(
     builder: &mut LevelBuilder,
     level: &Level,

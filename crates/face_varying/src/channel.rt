@@ -6,8 +6,8 @@ use level_topology::Level;
 use ratio128::Point2;
 use std::marker::Model;
 
-/// Level 0 of the cut mesh of a texture channel, and the texture value of each of its points: whole numbers over the channel's
-/// common denominator.
+/// Level 0 of the cut mesh of a texture channel, and the texture value of each of its points: whole numbers over the
+/// channel's common denominator.
 #[derive(Drop)]
 pub struct Channel {
     level: Level,
@@ -23,7 +23,7 @@ impl Model for Channel {
 }
 
 impl Channel {
-    // A level and as many values as it has points.
+    // Returns a channel of a level and the values of its points.
     pub(crate) fn new(level: Level, points: Vec<Point2>) -> Channel
         ensures level { result.level ≡ level }
         ensures points { result.points ≡ points.items }
@@ -31,21 +31,21 @@ impl Channel {
         Channel { level, points }
     }
 
-    /// Level 0 of the cut mesh.
+    /// Returns level 0 of the cut mesh.
     pub fn level(&self) -> &Level
         ensures { result.now ≡ self.now.level }
     {
         &self.level
     }
 
-    /// The texture value of each point.
+    /// Returns the texture value of each point.
     pub fn points(&self) -> &[Point2]
         ensures { result.now ≡ self.now.points }
     {
         &self.points
     }
 
-    /// The level and the values. It takes no memory.
+    /// Returns the level and the values. The call takes no memory.
     pub fn into_parts(self) -> (Level, Vec<Point2>)
         ensures level { result.0 ≡ self.level }
         ensures points { result.1.items ≡ self.points }

@@ -6,7 +6,7 @@ ghost use Rattle.face_varying.specs.Built.{cut_face};
 
 use level_topology::Level;
 
-// The numbers at the corners of a face.
+// Returns the numbers at the corners of a face.
 pub(crate) fn cut_face<'a>(level: &Level, numbers: &'a [u32], f: u32) -> &'a [u32]
     requires face { f < length level.now.level.polygons }
     requires numbers { length numbers.now ≡ sum_by length level.now.level.polygons }

@@ -19,7 +19,7 @@ use raw_mesh::RawMesh;
 use std::alloc::Global;
 use std::sync::ledger::Ledger;
 
-// The number of the channel point of each corner, by the edges whose faces are apart. The mesh is there for the contract alone.
+// Returns the number of the channel point of each corner, from the edges whose faces are apart. Only the contract uses `raw`.
 fn point_numbers(
     alloc: Global,
     raw: &RawMesh,
@@ -34,7 +34,7 @@ fn point_numbers(
     number_corners(alloc, &labels)
 }
 
-// The cut mesh, by the edges whose faces are apart and the number of the channel point of each corner.
+// Returns the cut mesh, from the edges whose faces are apart and the number of the channel point of each corner.
 fn cut_numbered<L: Ledger>(
     alloc: Global,
     raw: &RawMesh,
@@ -65,7 +65,7 @@ fn cut_numbered<L: Ledger>(
     Ok(Channel::new(level, points.values))
 }
 
-// The cut mesh, by the edges whose faces are apart.
+// Returns the cut mesh, from the edges whose faces are apart.
 fn cut_apart<L: Ledger>(
     alloc: Global,
     raw: &RawMesh,
@@ -84,14 +84,16 @@ fn cut_apart<L: Ledger>(
     cut_numbered(alloc, raw, level, apart, &numbers, mode, steps)
 }
 
-/// The cut mesh of a mesh with a texture channel, from the mesh and its level 0: the same faces, in which the corners at a vertex have one
-/// point exactly where they are joined through edges that are no seams. An edge of two faces is a seam where their texture numbers differ
-/// at either end. Points are numbered from 0 by first appearance over faces and corners, each with its corners' texture value, over the
-/// channel's common denominator. An edge of one face of the cut mesh is infinitely sharp, any other has the sharpness of its edge in the
-/// mesh, and a point has that of its vertex, but where the mode keeps it infinitely sharp. Holes are those of the mesh.
+/// Returns the cut mesh of a mesh with a texture channel, from the mesh and its level 0. The cut mesh has the same faces and
+/// holes. An edge with two faces is a seam where their texture numbers differ at either end. Two corners at a vertex have one
+/// point exactly where edges that are not seams join them. Points are numbered from 0 by first appearance over faces and
+/// corners. Each has the texture value of its corners, over the channel's common denominator.
 ///
-/// Every point of the level is complete. `Memory` may come at any time. It takes at most one step for each face, and time linear in how
-/// many corners all faces have. Source: this profile; the words are those of OpenSubdiv's face-varying channels.
+/// An edge of the cut mesh with one face is infinitely sharp; any other has the sharpness of its edge in the mesh. A point
+/// has the sharpness of its vertex, unless `mode` makes it infinitely sharp. Every point is complete.
+///
+/// Reports `Memory` where memory runs out. Each face takes at most one step, and the time is linear in the number of corners.
+/// Source: this library; the terms are those of OpenSubdiv's face-varying channels.
 pub fn cut<L: Ledger>(
     alloc: Global,
     raw: &RawMesh,

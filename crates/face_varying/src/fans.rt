@@ -1,4 +1,4 @@
-//! The corners at a vertex that are joined through edges.
+//! The corners at a vertex that edges join.
 
 ghost use Rattle.std.specs.Prelude.{◌≡◌, ◌≢◌, ℕ, ◌+◌, ◌<◌, length, get_or, IfOk, if◌then◌else◌};
 ghost use Rattle.std.specs.List.{sum_by};
@@ -13,7 +13,7 @@ use level_topology::Level;
 use ratio128::Memory;
 use std::alloc::Global;
 
-// The corner of one of the faces at a vertex, by its place there.
+// Returns the corner of one of the faces at a vertex, by its place there.
 fn corner_in(level: &Level, v: u32, i: usize) -> u32
     requires vertex { v < level.now.level.point_count }
     requires place { i < face_count level.now v }
@@ -25,8 +25,8 @@ fn corner_in(level: &Level, v: u32, i: usize) -> u32
     level.corner_starts()[face as usize] + u32::from(place)
 }
 
-// Where the run of the face at this place begins: here, where it is apart from the face before it, and else where the run before it
-// did.
+// Returns the start of the run of the face at this place: the place itself if the face is apart from the face before it, or
+// else the start of the run before.
 fn run_start(level: &Level, apart: &[bool], v: u32, i: usize, before: usize) -> usize
     requires vertex { v < level.now.level.point_count }
     requires place { i < face_count level.now v }
@@ -38,7 +38,7 @@ fn run_start(level: &Level, apart: &[bool], v: u32, i: usize, before: usize) -> 
     if is_cut { i } else { before }
 }
 
-// Where the last run at a vertex begins.
+// Returns the start of the last run at a vertex.
 fn last_run(level: &Level, apart: &[bool], v: u32) -> usize
     requires { v < level.now.level.point_count }
     ensures { result ≡ last_run level.now apart.now v }
@@ -50,7 +50,7 @@ fn last_run(level: &Level, apart: &[bool], v: u32) -> usize
     start
 }
 
-// Labels the corners at a vertex, each with the corner at which its run begins.
+// Labels each corner at a vertex with the corner at which its run begins.
 fn label_vertex(labels: &mut Vec<u32>, level: &Level, apart: &[bool], v: u32)
     requires vertex { v < level.now.level.point_count }
     requires corners { length labels.old.items ≡ sum_by length level.now.level.polygons }
@@ -67,15 +67,15 @@ fn label_vertex(labels: &mut Vec<u32>, level: &Level, apart: &[bool], v: u32)
     }
 }
 
-// How many corners all faces have.
+// Returns the number of corners of all faces together.
 fn corner_count(level: &Level) -> u32
     ensures { result ≡ sum_by length level.now.level.polygons }
 {
     level.corner_starts()[level.faces() as usize]
 }
 
-// For each corner, by how many corners the faces before its face have and its place there, the corner at which those that are joined
-// with it begin in fan order: one walk about each vertex.
+// Returns for each corner, in the order of faces and corners, the first in fan order of the corners joined with it. It walks
+// once about each vertex.
 pub(crate) fn joined_corners(
     alloc: Global,
     level: &Level,

@@ -15,7 +15,7 @@ use level_topology::Level;
 use ratio128::Memory;
 use std::alloc::Global;
 
-// None of so many points marked.
+// Returns marks of this many points, none of them set.
 fn no_points(alloc: Global, points: usize) -> Result<Vec<bool>, Memory>
     ensures { IfOk result (λ marks. marks.items ≡ replicate points false) }
 {
@@ -23,7 +23,7 @@ fn no_points(alloc: Global, points: usize) -> Result<Vec<bool>, Memory>
     Ok(marks)
 }
 
-// For each of so many channel points whether the mode keeps it sharp: none, those of one corner, or the ends of apart edges.
+// Returns for each channel point whether the mode keeps it sharp: none, those with one corner, or the ends of apart edges.
 pub(crate) fn kept_points(
     alloc: Global,
     level: &Level,

@@ -1,4 +1,4 @@
-//! The channel points of one corner.
+//! The channel points with one corner.
 
 ghost use Rattle.std.specs.Prelude.{◌≡◌, ℕ, ◌+◌, ◌<◌, nat_eq, length, map, get_or, min, IfOk, if◌then◌else◌};
 ghost use Rattle.std.specs.List.{count_by, range_with_len};
@@ -6,7 +6,7 @@ ghost use Rattle.std.specs.List.{count_by, range_with_len};
 use ratio128::Memory;
 use std::alloc::Global;
 
-// Counts a corner at its point, where there is such a point. Counts above 255 stand as 255.
+// Counts a corner at its point, if there is such a point. Counts above 255 become 255.
 fn count_corner(counts: &mut Vec<u8>, point: u32)
     ensures size { length counts.new.items ≡ length counts.old.items }
     ensures counts { (p : ℕ) → p < length counts.old.items → get_or counts.new.items p 0 ≡ (if nat_eq p point then min (get_or counts.old.items p 0 + 1) 255 else get_or counts.old.items p 0) }
@@ -16,7 +16,7 @@ fn count_corner(counts: &mut Vec<u8>, point: u32)
     }
 }
 
-// How many corners each of so many points has, by the points of all corners.
+// Returns the number of corners of each point, from the points of all corners.
 fn corner_counts(alloc: Global, numbers: &[u32], points: usize) -> Result<Vec<u8>, Memory>
     ensures size { IfOk result (λ counts. length counts.items ≡ points) }
     ensures counts { IfOk result (λ counts. (p : ℕ) → p < points → get_or counts.items p 0 ≡ min (count_by (nat_eq p) numbers.now) 255) }
@@ -28,14 +28,14 @@ fn corner_counts(alloc: Global, numbers: &[u32], points: usize) -> Result<Vec<u8
     Ok(counts)
 }
 
-// Whether a point of so many corners has one.
+// Returns whether a count is 1.
 fn is_single(count: u8) -> bool
     ensures { result ≡ nat_eq count 1 }
 {
     count == 1
 }
 
-// For each of so many points whether it has one corner.
+// Returns for each point whether it has one corner.
 pub(crate) fn single_points(
     alloc: Global,
     numbers: &[u32],

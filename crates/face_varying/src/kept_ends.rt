@@ -7,7 +7,7 @@ use level_topology::{Level, corner_after};
 use ratio128::Memory;
 use std::alloc::Global;
 
-// Marks a point, where there is such a point.
+// Marks a point, if there is such a point.
 fn mark_point(marks: &mut Vec<bool>, point: u32)
     ensures { marks.new.items ≡ slice_set marks.old.items point true }
 {
@@ -16,7 +16,7 @@ fn mark_point(marks: &mut Vec<bool>, point: u32)
     }
 }
 
-// Marks the ends of a side, where the faces at its edge are apart.
+// Marks the ends of a side, if the faces at its edge are apart.
 fn mark_ends(marks: &mut Vec<bool>, start: u32, end: u32, is_apart: bool)
     ensures { marks.new.items ≡ with_ends_of ((start, end), is_apart) marks.old.items }
 {
@@ -26,22 +26,22 @@ fn mark_ends(marks: &mut Vec<bool>, start: u32, end: u32, is_apart: bool)
     }
 }
 
-// The point of the corner with this place among all.
+// Returns the point of the corner with this place among all corners.
 fn point_at(numbers: &[u32], place: usize) -> u32
     ensures { result ≡ get_or numbers.now place 0 }
 {
     numbers.get(place).copied().unwrap_or(0)
 }
 
-// Whether the faces at an edge are apart.
+// Returns whether the faces at an edge are apart.
 fn is_apart(apart: &[bool], edge: u32) -> bool
     ensures { result ≡ get_or apart.now edge false }
 {
     apart.get(edge as usize).copied().unwrap_or(false)
 }
 
-// Marks the ends of the sides of a face at which the faces are apart, by the numbers of its edges in the mesh and the place of its first
-// corner among all.
+// Marks the ends of the sides of a face at which the faces are apart, from the numbers of its edges in the mesh and the place
+// of its first corner among all corners.
 fn mark_face(marks: &mut Vec<bool>, apart: &[bool], numbers: &[u32], start: usize, edges: &[u32])
     requires few { start + length edges.now < 2 ^ 32 }
     ensures { marks.new.items ≡ with_ends (first_ends apart.now numbers.now start edges.now (length edges.now)) marks.old.items }
@@ -53,7 +53,7 @@ fn mark_face(marks: &mut Vec<bool>, apart: &[bool], numbers: &[u32], start: usiz
     }
 }
 
-// Of so many points those marked that are an end of a side at which the faces are apart.
+// Returns marks of the points that are an end of a side at which the faces are apart.
 pub(crate) fn end_points(
     alloc: Global,
     level: &Level,

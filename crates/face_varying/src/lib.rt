@@ -1,4 +1,7 @@
-//! The cut mesh of a texture channel: the faces of a mesh over points that texture seams divide, with their texture values.
+//! Cuts a mesh along its texture seams, and returns the cut mesh with its texture values.
+//!
+//! The cut mesh has the faces of the mesh. A vertex has one point for each group of corners that no seam separates. The cut
+//! mesh is an ordinary level 0, so the refiners and walks for positions also refine texture.
 #![tactic(auto)]
 
 mod build;

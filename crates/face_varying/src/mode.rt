@@ -1,13 +1,13 @@
-//! What stays sharp where seams cut the texture.
+//! The points that stay sharp where seams cut the texture.
 
-/// What stays sharp where seams cut the texture, beside what the mesh has. Source: this profile; the names are near those of OpenSubdiv's
-/// linear interpolation of face-varying channels.
+/// The points that a texture channel keeps infinitely sharp, besides the sharp vertices of the mesh. Source: this library;
+/// the names are close to those of OpenSubdiv's linear interpolation of face-varying channels.
 #[derive(Clone, Copy, Debug, PartialEq, Eq)]
 pub enum SeamMode {
-    /// Nothing more.
+    /// No further points.
     Smooth,
-    /// The points of one face.
+    /// The points with one face: the corners of charts.
     Corners,
-    /// The points on the boundary of the cut mesh.
+    /// The points on the boundary of the cut mesh: the rims of charts.
     Boundaries,
 }

@@ -8,10 +8,10 @@ ghost use Rattle.face_varying.specs.FirstOnes.{met_with, AreKnown};
 use ratio128::Memory;
 use std::alloc::Global;
 
-// What stands in the table where a label was not met yet.
+// The mark in the table of a label without a number.
 const UNMET: u32 = u32::MAX;
 
-// The number that the table knows of a label, or else the next one, which it knows from then on.
+// Returns the number of a label. A label without one gets `next`.
 fn number_of(known: &mut Vec<u32>, label: u32, next: u32) -> u32
     requires within { label < length known.old.items }
     requires few { next < 2 ^ 28 }
@@ -27,7 +27,7 @@ fn number_of(known: &mut Vec<u32>, label: u32, next: u32) -> u32
     next
 }
 
-// The labels numbered by first appearance, through a table with a place for each label.
+// Numbers the labels by first appearance, through a table with a place for each label.
 pub(crate) fn number_corners(alloc: Global, labels: &[u32]) -> Result<Vec<u32>, Memory>
     requires within { All (λ label. label < length labels.now) labels.now }
     requires few { length labels.now < 2 ^ 28 }

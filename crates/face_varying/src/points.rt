@@ -1,4 +1,4 @@
-//! What is at each channel point.
+//! The vertex and the texture value of each channel point.
 
 ghost use Rattle.std.specs.Prelude.{◌≡◌, ◌<◌, ◌++◌, ◌∷◌, [], length, map, IfOk, OnOk};
 ghost use Rattle.std.specs.List.{All};
@@ -21,7 +21,7 @@ pub(crate) struct ChannelPoints {
     pub(crate) values: Vec<Point2>,
 }
 
-// Puts a point: its vertex, and the value of a texture number.
+// Adds a point: its vertex, and the value of a texture number.
 fn push_point(
     points: &mut ChannelPoints,
     vertex: u32,
@@ -37,7 +37,8 @@ fn push_point(
     Ok(())
 }
 
-// The point of a corner, where its number is as great as how many points came before: its vertex, and the value of its texture number.
+// Adds the point of a corner, if its number equals the number of points so far. The point gets the corner's vertex and the
+// value of its texture number.
 fn add_corner(
     points: &mut ChannelPoints,
     number: u32,
@@ -55,7 +56,8 @@ fn add_corner(
     Ok(())
 }
 
-// The points of the corners of a face that come first there: by the number, the vertex and the texture number of each corner.
+// Adds the points of the corners of a face that appear first there, from the number, the vertex and the texture number of
+// each corner.
 fn add_face(
     points: &mut ChannelPoints,
     numbers: &[u32],
@@ -75,8 +77,7 @@ fn add_face(
     Ok(())
 }
 
-// The vertex and the value of each channel point, from the corner where it appears first: its number is there as great as how many
-// points came before.
+// Returns the vertex and the value of each channel point. Both come from the corner at which the point appears first.
 pub(crate) fn channel_points(
     alloc: Global,
     raw: &RawMesh,

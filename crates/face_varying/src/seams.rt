@@ -13,15 +13,15 @@ use ratio128::Memory;
 use raw_mesh::RawMesh;
 use std::alloc::Global;
 
-// For each edge the texture numbers at its first end and at its second, as they are in the face whose side goes along the edge, and
-// in the one whose side goes against it. In a manifold there is one of each at most.
+// For each edge the texture numbers at its two ends: once from the side that goes along it, once from the side that goes
+// against it. A manifold has at most one of each.
 #[derive(Drop)]
 struct SideNumbers {
     along: Vec<(u32, u32)>,
     against: Vec<(u32, u32)>,
 }
 
-// Whether two pairs of numbers differ at either place.
+// Returns whether two pairs of numbers differ at either place.
 fn differ(pair: (u32, u32), other: (u32, u32)) -> bool
     ensures { result ≡ (not (nat_eq pair.0 other.0) || not (nat_eq pair.1 other.1)) }
 {
@@ -29,7 +29,7 @@ fn differ(pair: (u32, u32), other: (u32, u32)) -> bool
 }
 
 impl SideNumbers {
-    // Nothing is noted of so many edges.
+    // Returns notes for this many edges, all empty.
     fn none(alloc: Global, edges: usize) -> Result<SideNumbers, Memory>
         ensures along { IfOk result (λ sides. sides.along.items ≡ replicate edges (0, 0)) }
         ensures against { IfOk result (λ sides. sides.against.items ≡ replicate edges (0, 0)) }
@@ -40,7 +40,7 @@ impl SideNumbers {
         })
     }
 
-    // Notes the texture numbers at the start and at the end of a side of an edge.
+    // Notes the texture numbers at the start and the end of a side of an edge.
     fn note(&mut self, edge: u32, along: bool, start: u32, end: u32)
         requires along { edge < length self.old.along.items }
         requires against { edge < length self.old.against.items }
@@ -54,7 +54,7 @@ impl SideNumbers {
         }
     }
 
-    // Notes the sides of a face, after those of the faces before it.
+    // Notes the sides of a face.
     fn note_face(&mut self, raw: &RawMesh, level: &Level, f: u32)
         requires cuttable { IsCuttable raw.now level.now }
         requires face { f < length level.now.level.polygons }
@@ -73,7 +73,7 @@ impl SideNumbers {
         }
     }
 
-    // Whether an edge has one face, or texture numbers that differ at either end.
+    // Returns whether an edge has one face, or texture numbers that differ at either end.
     fn is_apart(&self, raw: &RawMesh, level: &Level, edge: u32) -> bool
         requires cuttable { IsCuttable raw.now level.now }
         requires edge { edge < length (edges_of level.now.level.polygons) }
@@ -88,7 +88,7 @@ impl SideNumbers {
     }
 }
 
-// The texture numbers of the sides of all faces.
+// Returns the texture numbers of the sides of all faces.
 fn side_numbers(alloc: Global, raw: &RawMesh, level: &Level) -> Result<SideNumbers, Memory>
     requires { IsCuttable raw.now level.now }
     ensures { IfOk result (λ sides. AreAllNoted level.now.level.polygons raw.now.texture_corners sides) }
@@ -100,7 +100,7 @@ fn side_numbers(alloc: Global, raw: &RawMesh, level: &Level) -> Result<SideNumbe
     Ok(sides)
 }
 
-// For each edge of the mesh whether its faces are apart, by the texture numbers of the sides of all faces.
+// Returns for each edge of the mesh whether its faces are apart, from the texture numbers of the sides of all faces.
 fn marks_by(
     alloc: Global,
     raw: &RawMesh,
@@ -118,8 +118,8 @@ fn marks_by(
     Ok(apart)
 }
 
-// For each edge of the mesh whether its faces are apart: it has one, or their texture numbers differ at either end. No face is
-// searched: each side notes the texture numbers at its ends once.
+// Returns for each edge of the mesh whether its faces are apart: it has one face, or their texture numbers differ at either
+// end. Each side notes the texture numbers at its ends once, so the call searches no face.
 pub(crate) fn apart_edges(alloc: Global, raw: &RawMesh, level: &Level) -> Result<Vec<bool>, Memory>
     requires { IsCuttable raw.now level.now }
     ensures { IfOk result (λ apart. apart.items ≡ apart_marks raw.now) }

@@ -1,5 +1,4 @@
-//! The program `far`: it hands its words, standard input, standard output and standard error to
-//! `far_engine::program`, and ends with the answer.
+//! The program `far`: it passes its words and the standard streams to `far_engine::program`, and ends with the exit status.
 #![tactic(auto)]
 
 ghost use Rattle.std.specs.Prelude.{◌≡◌, ◌<◌, ℕ};
@@ -15,8 +14,7 @@ use std::process::ExitCode;
 use std::rt::Env;
 use std::sync::ledger::{Blank, Ledger};
 
-// The words after the program's name. Where one of them is not text there are none, which is no
-// command.
+// The words after the program's name. If one of them is not text there are none, which is not a command.
 fn words(rt: &HostRuntime) -> Result<Vec<String>, FarFault> {
     let mut args = match env::args(rt) {
         Ok(args) => args,
@@ -30,7 +28,7 @@ fn words(rt: &HostRuntime) -> Result<Vec<String>, FarFault> {
     }
 }
 
-// The whole run, with a counter of its own.
+// The whole run, with a new counter of steps.
 fn run_counted<L: Ledger>(rt: &HostRuntime, blank: Blank) -> u8
     requires name { blank.name ≡ L.name }
     requires parts { blank.parts ≡ L.parts }

@@ -1,4 +1,4 @@
--- What an input is refused for, by its length, its text and its mesh.
+-- The refusals of an input for its length, its text and its mesh.
 use Rattle.std.proofs.Common.{◌≡◌, ℕ, ◌<◌, ◌≤◌, Bool, true, false, cond, nat_lt, List, ◌++◌, length, Option, Some, None, arith, refl, ap, sym, ◌∙◌}
 use Rattle.std.proofs.lemmas.Bool.Decides.{nat_tests}
 use Rattle.subdiv_model.specs.Lists.{first_of}
@@ -21,7 +21,7 @@ unless-text : (fault : Option Fault) (text : List ℕ) → (answer_unless fault 
 unless-text None text h = refl
 unless-text (Some fault) text h = absurd (cc)
 
--- so has a mesh
+-- without a fault a mesh has its text
 checked-text : (command : ReadCommand) (fault : Option MeshFault) (mesh : ObjMesh) → (answer_of_checked command fault mesh).refusal ≡ None →
     (answer_of_checked command fault mesh).text ≡ command_text command mesh
 checked-text command None mesh h = unless-text (first_of (count_faults mesh ++ command_faults command mesh)) (command_text command mesh) h
@@ -36,7 +36,7 @@ within n m h = grind (arith, nat_tests)
 beyond : (n m : ℕ) → m < n → nat_lt m n ≡ true
 beyond n m h = grind (arith, nat_tests)
 
--- an input that is too long is refused for its length, and another has its answer
+-- an input that is too long is refused for its length, and any other has its answer
 module _ (answer : List ℕ → Answer) (bytes : List ℕ) where
   by-length : (long : Bool) → nat_lt byte_limit (length bytes) ≡ long → unless_long answer bytes ≡ cond long (refused Long) (answer bytes)
   by-length long is = ap (λ b. cond b (refused Long) (answer bytes)) is
@@ -47,7 +47,7 @@ module _ (answer : List ℕ → Answer) (bytes : List ℕ) where
   pub answer-short : length bytes ≤ byte_limit → unless_long answer bytes ≡ answer bytes
   answer-short short = by-length false (within (length bytes) byte_limit short)
 
--- whichever command reads it
+-- the answer, for any command that reads the input
 pub long-refusal : (command : Command) (bytes : List ℕ) → ReadsWhole command → byte_limit < length bytes → (answer_of_command command bytes).refusal ≡ Some Long
 long-refusal (Reads command) bytes whole long =
     ap (λ (a : Answer). a.refusal) (answer-long (λ text. answer_of_read command (read_obj_fault text 0) (read_obj_mesh text 0)) bytes long)
@@ -66,7 +66,7 @@ module _ (command : ReadCommand) (bytes : List ℕ) where
     pub text-refusal : (fault : reader.ObjFault) → read_obj_fault bytes 0 ≡ Some fault → (answer_of_bytes command bytes).refusal ≡ Some (Obj fault)
     text-refusal fault is = ap (λ (a : Answer). a.refusal) (by-text (Some fault) is)
 
-    -- and else for what its mesh is refused for
+    -- without a fault of its text, an input is refused as its mesh is
     module _ (good : read_obj_fault bytes 0 ≡ None) where
       pub mesh-refusal : (answer_of_bytes command bytes).refusal ≡ refusal_of_mesh command (read_obj_mesh bytes 0)
       mesh-refusal =
@@ -79,7 +79,7 @@ module _ (command : ReadCommand) (bytes : List ℕ) where
           let same = by-text None good in
           ap (λ (a : Answer). a.text) same ∙ checked-text command (first_mesh_fault (length mesh.points) mesh.faces) mesh (ap (λ (a : Answer). a.refusal) (sym same) ∙ none)
 
--- a fault that was found is an answer
+-- a fault that was found is the answer
 pub found-answers : (fault : Fault) (refusal : Option Fault) → IsFound fault refusal → IsAnswered (Some fault) refusal
 found-answers Memory refusal found = tt
 found-answers (Obj fault) refusal found = found

@@ -1,4 +1,4 @@
--- The frame lines, one after another: where a reader moves on to, what is answered there, and how the run ends.
+-- The frame lines, one after another: the moves of a reader, the answers, and the end of the run.
 use Rattle.std.proofs.Common.{◌≡◌, ℕ, suc, ◌+◌, ◌-◌, ◌<◌, ◌≤◌, Bool, true, false, List, [], ◌∷◌, ◌++◌, ◌⊎◌, inl, inr, length, Option, Some, None, Result, Ok, Err, arith, refl, ap, sym, subst, ◌∙◌, length-append, if◌then◌else◌}
 use Rattle.std.proofs.lemmas.List.Sums.{sum_by-append}
 use Rattle.far_io.specs.Bytes.{Rose, Took, AddedPrefix}
@@ -43,7 +43,7 @@ use Rattle.far_engine.proofs.InputLemmas.{all-taken}
 use Rattle.far_engine.proofs.StepLemmas.{HasFrameLines, has-last, takes-lines, takes-steps}
 use Rattle.far_engine.proofs.StreamLemmas.{all-told, split-more, begins-line, took-closed, took-pending, took-all, took-long, ends-failed, ends-long, ends-at-start, ends-at-line, ends-at-last, ends-after-last, ends-after-lines, written-more, rose-later, runs-end, runs-cut}
 
--- where a line is closed, it and its LF are passed
+-- a closed line and its line feed are passed
 pub line-shorter : {S : Type 0} (source : Source S) (t u : S) (old new : LineInput) → ReadsLine source old new t u (Ok Closed)
     → length new.pending + new.allowed < length old.pending + old.allowed
 line-shorter source t u old new reads =
@@ -78,7 +78,7 @@ module _ {S : Type 0} (source : Source S) (options : FramesOptions) (s t u : S) 
         took = all.took;
       }
 
-  -- bytes of a line are pending, which nothing closes
+  -- the pending bytes are a line without a line feed
   moves-pending : (bytes : List ℕ) → Took (source.left t) (source.left u) bytes → old.reader.pending ++ bytes ≡ new.pending
       → new.allowed + length bytes ≡ old.reader.allowed → source.faults t ≤ source.faults u → TookLines source s u lines new.pending new.allowed
   moves-pending bytes took is counted later = took-pending source s t u lines old.reader.pending bytes new.pending old.reader.allowed new.allowed at.took took is counted later
@@ -126,7 +126,7 @@ module _ {S : Type 0} (source : Source S) (options : FramesOptions) (s t u : S) 
         took = took.took;
       }
 
-  -- whatever it finds
+  -- the result of a move, for any bytes
   pub moves-on : (number : ℕ) → number ≡ old.passed + 1 → (found : Result NextLine ReadFailed) → ReadsLine source old.reader new t u found
       → MovesOn source options s u lines text new (next_of number found)
   moves-on number same (Ok Closed) reads = moves-closed reads
@@ -146,7 +146,7 @@ found-shorter source t u old new number (Ok Full) is reads = absurd (cc)
 found-shorter source t u old new number (Ok Long) is reads = absurd (cc)
 found-shorter source t u old new number (Err failed) is reads = absurd (cc)
 
--- an answer is refused, or nothing of it is
+-- an answer is refused, or no part of it is
 unless-refused : (fault : Option Fault) (text : List ℕ) (other : Fault) → (answer_unless fault text).refusal ≡ Some other → answer_unless fault text ≡ refused other
 unless-refused (Some fault) text other e = ap (λ (r : Option Fault). record { text = []; refusal = r }) e
 unless-refused None text other e = absurd (cc)
@@ -154,7 +154,7 @@ unless-refused None text other e = absurd (cc)
 not-refused-answer : (answer : Answer) → answer.refusal ≡ None → answer ≡ answer_with answer.text None
 not-refused-answer answer e = ap (λ r. record { text = answer.text; refusal = r }) e
 
--- what a fault of an answer says: a write failed in its text, or it is the refusal
+-- the meaning of a fault of an answer: a write failed in its text, or it is the refusal
 pub record IsCut {K : Type 0} (sink : Sink K) (answer : Answer) (k k' : K) : Type 0 where
   pub good : answer.refusal ≡ None
   pub some : answer.text ≡ [] → ⊥
@@ -180,7 +180,7 @@ fault-of sink answer k k' (answered.Differs row) is = inr is
 fault-of sink answer k k' (answered.Controls count) is = inr is
 fault-of sink answer k k' answered.Memory is = inr is
 
--- All lines so far were answered, and a reader moves on.
+-- All lines so far are answered, and a reader moves on.
 module _ {S K : Type 0} (source : Source S) (sink : Sink K) (from : Origin source sink) (t : S) (k : K) (at : FrameLines) (posed : Posed) (n : ℕ)
     (is : IsStreaming from t k at posed n) where
   abbrev depth-of : ℕ
@@ -227,7 +227,7 @@ module _ {S K : Type 0} (source : Source S) (sink : Sink K) (from : Origin sourc
     of-lines : (fault : Fault) → answer-of.refusal ≡ Some fault → IsOfLines (Some fault)
     of-lines fault e = subst IsOfLines e ((frames-refuses from.options).line is.lines line)
 
-    -- with its steps
+    -- a frame line is answered, with its steps
     mesh-stays : frames_mesh from.options (mesh_words (is.lines ++ line ∷ [])) ≡ mesh-of
     mesh-stays = ap (frames_mesh from.options) (line-mesh_stays is.lines line is.read.frames)
 
@@ -256,7 +256,7 @@ module _ {S K : Type 0} (source : Source S) (sink : Sink K) (from : Origin sourc
       least-after : from.steps + start_least depth-of (frames_mesh from.options (mesh_words (is.lines ++ line ∷ []))) ≤ n'
       least-after = subst (λ m. from.steps + start_least depth-of m ≤ n') (sym mesh-stays) least-here
 
-      -- its text is in the answer to all bytes
+      -- the text of the line is in the answer to all bytes
       begins : (bytes : List ℕ) → source.left from.first ≡ Some bytes → answer-of.refusal ≡ None
           → (after : List ℕ) × ((answer_of_lines (rule_of (Frames from.options)) byte_limit bytes).text ≡ is.text ++ (answer-of.text ++ after))
       begins bytes had good =
@@ -288,7 +288,7 @@ module _ {S K : Type 0} (source : Source S) (sink : Sink K) (from : Origin sourc
             most = most-after (Ok tt) answers;
           }
 
-      -- or it is refused, or its answer is cut
+      -- a closed line is refused, or its answer is cut
       pub stream-fails : (fault : FarFault) → AnswersHere (Err fault) → RunsFrames from u k' (Some (fault_of fault)) n'
       stream-fails fault answers = record {
         run = run-fails (fault-of sink answer-of k k' fault (answers-rule (Err fault) answers));
@@ -321,7 +321,7 @@ module _ {S K : Type 0} (source : Source S) (sink : Sink K) (from : Origin sourc
           (λ all had. subst (λ bytes. HasFrameLines bytes (mesh_words is.lines) (frame_words is.lines ++ line_words line ∷ []))
           (all-taken (source.left from.first) (source.left u) taken all moved.took.took moved.took.dry had) has)
 
-      -- its text is in the answer to all bytes
+      -- the text of the last line is in the answer to all bytes
       begins-last : (bytes : List ℕ) → source.left from.first ≡ Some bytes → answer-of.refusal ≡ None
           → (after : List ℕ) × ((answer_of_lines (rule_of (Frames from.options)) byte_limit bytes).text ≡ is.text ++ (answer-of.text ++ after))
       begins-last bytes had good =
@@ -334,7 +334,7 @@ module _ {S K : Type 0} (source : Source S) (sink : Sink K) (from : Origin sourc
                 ∙ found.1,
           )
 
-      -- a last line that nothing closes is answered
+      -- a last line without a line feed is answered
       pub stream-stops : AnswersHere (Ok tt) → RunsFrames from u k' None n'
       stream-stops answers =
           let good = answers-rule (Ok tt) answers in
@@ -349,7 +349,7 @@ module _ {S K : Type 0} (source : Source S) (sink : Sink K) (from : Origin sourc
             taken = takes-last (Ok tt) None answers;
           }
 
-      -- or it is refused, or its answer is cut
+      -- a last line is refused, or its answer is cut
       pub stream-fails-last : (fault : FarFault) → AnswersHere (Err fault) → RunsFrames from u k' (Some (fault_of fault)) n'
       stream-fails-last fault answers = record {
         run = run-fails (fault-of sink answer-of k k' fault (answers-rule (Err fault) answers));
@@ -370,7 +370,7 @@ module _ {S K : Type 0} (source : Source S) (sink : Sink K) (from : Origin sourc
               (subst (λ l. IsWritten sink from.before l is.text) (sym refusal.1) is.written)
               (λ e. absurd (not-memory (of-lines (fault_of fault) refusal.0) e))
 
--- where no line may follow, the run has ended
+-- if no line may follow, the run has ended
 pub stopped : {S K : Type 0} (source : Source S) (sink : Sink K) (from : Origin source sink) (s : S) (k : K) (at : FrameLines) (posed : Posed) (n : ℕ) (more : Bool) → more ≡ false
     → GoesOn from s k at posed n (Ok more) → RunsFrames from s k None n
 stopped source sink from s k at posed n false e goes = goes

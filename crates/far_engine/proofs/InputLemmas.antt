@@ -1,4 +1,4 @@
--- What comes of reading a source, and of a command over what was read.
+-- The results of reading a source, and of a command over its bytes.
 use Rattle.std.proofs.Common.{◌≡◌, ℕ, ◌≤◌, List, ◌++◌, length, Option, Some, None, Result, Ok, Err, IsErr, IsErrAnd, MatchResult, arith, append-nil, length-append, refl, ap, sym, subst, ◌∙◌}
 use Rattle.far_io.specs.Bytes.{Rose, Took, TookPrefix, TookMore, IsDry}
 use Rattle.far_io.specs.declared.source.Source.{Ghosts}
@@ -24,14 +24,14 @@ use Rattle.far_engine.specs.Outcome.{IsAnswered}
 use Rattle.far_engine.specs.StepCounts.{least_steps, step_limit}
 use Rattle.far_engine.proofs.AnswerLemmas.{answer-short, found-answers, long-refusal, mesh-refusal, mesh-text, text-refusal}
 
--- what was taken to the end is what there was
+-- the bytes taken up to the end are all bytes
 pub all-taken : (old new : Option (List ℕ)) (taken bytes : List ℕ) → Took old new taken → IsDry new → old ≡ Some bytes → taken ≡ bytes
 all-taken (Some old) (Some new) taken bytes took dry had =
     let same : old ≡ bytes = cc in sym (append-nil taken) ∙ ap (λ rest. taken ++ rest) (sym dry) ∙ sym took ∙ same
 all-taken (Some old) None taken bytes took dry had = absurd took
 all-taken None new taken bytes took dry had = absurd (cc)
 
--- as many bytes were there as were taken
+-- the number of bytes is that of the taken ones
 taken-within : (old new : Option (List ℕ)) (taken bytes : List ℕ) → Took old new taken → old ≡ Some bytes → length taken ≤ length bytes
 taken-within (Some old) (Some new) taken bytes took e =
     let same : old ≡ bytes = cc in omega (arith, ap length (sym same ∙ took), length-append taken new)
@@ -39,7 +39,7 @@ taken-within (Some old) None taken bytes took e = absurd took
 taken-within None new taken bytes took e = absurd (cc)
 
 module _ {S : Type 0} (source : Ghosts S) (command : Command) (whole : ReadsWhole command) (s s' : S) where
-  -- too much came
+  -- too many bytes came
   read-long : source.faults s ≤ source.faults s' → TookMore byte_limit (source.left s) (source.left s') → IsRefused source command s s' Long
   read-long later more = record {
     answer = λ bytes e. long-refusal command bytes whole (omega (arith, more.2, taken-within (source.left s) (source.left s') more.0 bytes more.1 e));
@@ -78,7 +78,7 @@ module _ {S : Type 0} (source : Ghosts S) (command : Command) (whole : ReadsWhol
     later = later;
   }
 
-  -- whichever of these it was
+  -- any of these faults
   pub read-fault : (fault : Fault) (input : InputFault) → fault ≡ input_fault_of input → source.faults s ≤ source.faults s' → TookPrefix (source.left s) (source.left s') →
       (input ≡ TooLong → TookMore byte_limit (source.left s) (source.left s')) → (input ≡ ReadFailed → Rose (source.faults s) (source.faults s')) → IsRefused source command s s' fault
   read-fault fault TooLong is later taken more rose = subst (IsRefused source command s s') (sym is) (read-long later (more refl))
@@ -104,7 +104,7 @@ module _ {S : Type 0} (source : Ghosts S) (command : Command) (whole : ReadsWhol
     same-bytes : (other : List ℕ) → source.left s ≡ Some other → bytes ≡ other
     same-bytes other e = all-taken (source.left s) (source.left s') bytes other took dry e
 
-    -- and its answer is one that is defined for it
+    -- its answer is one that is defined for the bytes
     module _ (answer : Answer) (said : answer_of_command command bytes ≡ answer) where
       answer-of : (other : List ℕ) → source.left s ≡ Some other → answer_of_command command other ≡ answer
       answer-of other e = ap (answer_of_command command) (sym (same-bytes other e)) ∙ said
@@ -124,7 +124,7 @@ module _ {S : Type 0} (source : Ghosts S) (command : Command) (whole : ReadsWhol
           other-fault fault (λ other e. subst (λ (a : Answer). IsAnswered (Some fault) a.refusal) (sym (answer-of other e)) (found-answers fault answer.refusal found))
           answer.refusal found dry (bytes, took) later
 
-    -- so what is found of the bytes is what the command finds
+    -- the result for the bytes is the result of the command
     pub finds-by : (r : Result Reply FarFault) (old new : ℕ) → MatchResult r (λ reply. IsReady source command s s' reply) (λ fault. IsRefused source command s s' (fault_of fault))
         → StepsTaken r old new (least_steps command bytes) (step_limit command bytes) → FindsReply source command s s' r old new
     finds-by r old new reply taken = record {
@@ -133,7 +133,7 @@ module _ {S : Type 0} (source : Ghosts S) (command : Command) (whole : ReadsWhol
       of_told = λ other e. subst (λ b. StepsTaken r old new (least_steps command b) (step_limit command b)) (same-bytes other e) taken;
     }
 
-  -- a fault of the source alone
+  -- a fault of the source only
   pub finds-fault : (fault : FarFault) (steps : ℕ) → IsRefused source command s s' (fault_of fault) → FindsReply source command s s' (Err fault) steps steps
   finds-fault fault steps is = record {
     reply = is;
@@ -144,7 +144,7 @@ module _ {S : Type 0} (source : Ghosts S) (command : Command) (whole : ReadsWhol
 -- The text of a mesh, which was read to its end.
 module _ {S : Type 0} (source : Ghosts S) (command : ReadCommand) (s s' : S) (bytes : List ℕ) (took : Took (source.left s) (source.left s') bytes) (dry : IsDry (source.left s'))
     (short : length bytes ≤ byte_limit) (later : source.faults s ≤ source.faults s') where
-  -- it has a fault
+  -- the text has a fault
   pub text-fault : (fault : Fault) → IsTextFault bytes 0 fault → IsRefused source (Reads command) s s' fault
   text-fault (Obj fault) is =
       refused-by source (Reads command) tt s s' bytes took dry short later (answer_of_bytes command bytes) refl (Obj fault) (text-refusal command bytes short fault is)
@@ -162,7 +162,7 @@ module _ {S : Type 0} (source : Ghosts S) (command : ReadCommand) (s s' : S) (by
   text-fault (Controls count) is = absurd is
   text-fault Write is = absurd is
 
-  -- or it has none, and a command finds a reply to its mesh, or a fault of it
+  -- the text has none, and a command finds a reply to its mesh or a fault of it
   module _ (good : read_obj_fault bytes 0 ≡ None) where
     abbrev answer : Answer
     answer = answer_of_bytes command bytes
@@ -209,19 +209,19 @@ pub finds-reply : {S : Type 0} (source : Ghosts S) (command : ReadCommand) (s s'
 finds-reply source command s s' mesh r old new of is =
     finds-mesh source command s s' of.bytes of.took of.dry of.short of.later of.text.good r old new (subst (λ m. IsAnswerTo command m r old new) of.text.mesh_is is)
 
--- a fault that is handed on is the same
+-- a fault that is passed on is the same
 pub handed-on : {X E : Type 0} (P : Result X E → Type 0) (r : Result X E) (fault : E) → IsErr r → IsErrAnd r (λ g. g ≡ fault) → P (Err fault) → P r
 handed-on P (Ok x) fault err same is = absurd (cc)
 handed-on P (Err other) fault err same is = subst (λ f. P (Err f)) (sym same) is
 
--- what was refused before is refused
+-- a refusal from before is the refusal
 pub still-refused : {S : Type 0} (source : Ghosts S) (s s' : S) (r : Result ObjMesh FarFault) (fault : FarFault) → IsErr r → IsErrAnd r (λ g. g ≡ fault) →
     ((command : Command) → ReadsWhole command → IsRefused source command s s' (fault_of fault)) →
     MatchResult r (λ mesh. IsMeshOf source s s' mesh) (λ f. (command : ReadCommand) → IsRefused source (Reads command) s s' (fault_of f))
 still-refused source s s' (Ok mesh) fault err same is = absurd (cc)
 still-refused source s s' (Err other) fault err same is = λ command. subst (λ f. IsRefused source (Reads command) s s' (fault_of f)) (sym same) (is (Reads command) tt)
 
--- what comes of the text of a source that was read to its end
+-- the result for the text of a source that was read to its end
 pub mesh-of-text : {S : Type 0} (source : Ghosts S) (s s' : S) (bytes text : List ℕ) (r : Result ObjMesh FarFault) → text ≡ bytes → Took (source.left s) (source.left s') bytes → IsDry (source.left s') →
     length bytes ≤ byte_limit → source.faults s ≤ source.faults s' → MatchResult r (λ mesh. IsMeshText text 0 mesh) (λ fault. IsTextFault text 0 (fault_of fault)) →
     MatchResult r (λ mesh. IsMeshOf source s s' mesh) (λ fault. (command : ReadCommand) → IsRefused source (Reads command) s s' (fault_of fault))

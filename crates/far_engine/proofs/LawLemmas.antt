@@ -1,4 +1,4 @@
--- What a run answers where no count of faults rises.
+-- The answer of a run whose counts of faults do not rise.
 use Rattle.std.proofs.Common.{◌≡◌, ℕ, ◌+◌, ◌<◌, ◌⊎◌, inl, inr, List, length, take, Option, Some, None, arith, length-append, length-take-le, refl, ap, sym, subst, ◌∙◌}
 use Rattle.std.proofs.lemmas.Bool.Decides.{nat_tests}
 use Rattle.far_io.specs.Bytes.{Rose, AddedPrefix}
@@ -32,7 +32,7 @@ module _ {S K : Type 0} (source : Source S) (sink : Sink K) (s s' : S) (k k' : K
   whole answer (Some (Differs row)) is no_read no_write kept = inl (sym is.answered, λ e. absurd (cc))
   whole answer (Some (Controls count)) is no_read no_write kept = inl (sym is.answered, λ e. absurd (cc))
 
-  -- so is an answer line by line
+  -- an answer line by line is one of the whole input
   by-lines : (answer : Answer) (outcome : Option Fault) → AnswersLines sink answer k k' outcome → (outcome ≡ Some Read → ⊥) → (outcome ≡ Some Write → ⊥) → (outcome ≡ Some Memory → k' ≡ k) →
       IsAnsweredBy sink answer k k' outcome
   by-lines answer outcome is no_read no_write kept = by is.answered
@@ -43,7 +43,7 @@ module _ {S K : Type 0} (source : Source S) (sink : Sink K) (s s' : S) (k k' : K
       by (inr (inr (inl write))) = absurd (no_write write)
       by (inr (inr (inr memory))) = inr (memory, kept memory)
 
-  -- what a command does, of whichever kind
+  -- the effect of a command of any kind
   pub record HasAnswered (answer : Answer) (outcome : Option Fault) : Type 0 where
     pub ran : Ran source sink s s' k k' outcome
     pub answers : (outcome ≡ Some Read → ⊥) → (outcome ≡ Some Write → ⊥) → IsAnsweredBy sink answer k k' outcome
@@ -67,7 +67,7 @@ module _ {S K : Type 0} (source : Source S) (sink : Sink K) (s s' : S) (k k' : K
         subst (λ (a : Answer). HasAnswered a outcome) (sym (ap (λ place. answer_of_words (read_or place words) bytes) good))
         (of-command (command_of words) bytes outcome (run.command good) had)
 
-    -- words that are no command are refused
+    -- words that are not a command are refused
     refused-words : (word : ℕ) → usage_of command_table words ≡ Some word → outcome ≡ Some (Usage word)
     refused-words word is = (run.usage word).1 is
 
@@ -80,7 +80,7 @@ module _ {S K : Type 0} (source : Source S) (sink : Sink K) (s s' : S) (k k' : K
         some-none : (o : Option Fault) (word : ℕ) → o ≡ Some (Usage word) → o ≡ None → ⊥
         some-none o word e f = cc
 
-    -- where a write fails, a prefix of the text was added
+    -- if a write fails, a prefix of the text was appended
     cut-by : (usage : Option ℕ) → usage_of command_table words ≡ usage → outcome ≡ Some Write →
         Rose (sink.faults k) (sink.faults k') × AddedPrefix (sink.held k) (sink.held k') (answer words bytes).text × (sink.fixed k' ≡ sink.fixed k)
     cut-by None is e = let all = of-words is in (all.ran.write e, all.prefix e, all.ran.sink_fixed)
@@ -113,11 +113,11 @@ pub not-to-zero : (before : ℕ) → Rose before 0 → ⊥
 not-to-zero before (inl h) = omega arith
 not-to-zero before (inr h) = omega arith
 
--- while a sink in memory has room its count is 0
+-- while a sink in memory has capacity its count is 0
 no-faults : (s : SureOutput) → length s.store.held < s.store.room → sure_faults s ≡ 0
 no-faults s h = grind (arith, nat_tests)
 
--- so it does not fail for a text that it has room for, and a byte more
+-- a sink with capacity for a text and one byte more does not fail
 pub no-write : (text : List ℕ) (before after : SureOutput) → length before.store.held + length text < before.store.room → after.store.room ≡ before.store.room →
     AddedPrefix (Some before.store.held) (Some after.store.held) text → Rose (sure_faults before) (sure_faults after) → ⊥
 no-write text before after fits same prefix rose =

@@ -1,4 +1,4 @@
--- All levels of a mesh that is accepted, and of its cut mesh, are manifolds.
+-- All levels of an accepted mesh and of its cut mesh are manifolds.
 use Rattle.std.proofs.Common.{◌≡◌, ℕ, ◌<◌, true, List, length, None, arith, sym, subst, ◌∙◌}
 use Rattle.std.specs.List.{filter, count_by}
 use Rattle.std.proofs.lemmas.List.{length-map}
@@ -47,7 +47,7 @@ lines-manifold lines least good fine =
     let mesh = mesh_of_lines lines least in
     levels-manifold mesh (lines-over lines least good) ((manifold-decides (length mesh.points) mesh.faces).0 ((fault-decides (length mesh.points) mesh.faces).0 fine))
 
--- whichever command it is, in the range of its options
+-- any command, with options in their ranges
 pub accepted-manifolds : (command : Command) (bytes : List ℕ) (mesh : ObjMesh) → IsInRange command → IsAcceptedMesh command bytes mesh → HasManifolds mesh
 accepted-manifolds (Reads command) bytes mesh within is =
     subst HasManifolds is.1

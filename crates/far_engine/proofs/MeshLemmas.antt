@@ -1,4 +1,4 @@
--- The lines of a mesh, one after another, and what ends them.
+-- The lines of a mesh, one after another, and their end.
 use Rattle.std.proofs.Common.{◌≡◌, ℕ, suc, ◌+◌, ◌<◌, ◌≤◌, true, false, List, [], ◌∷◌, ◌++◌, length, Option, Some, None, Result, Ok, Err, arith, refl, ap, sym, subst, ◌∙◌, append_assoc, append-nil, length-append, true≢false, ⊎_elim, eq-zero-or-pos}
 use Rattle.far_io.specs.Bytes.{Took, IsDry}
 use Rattle.far_io.specs.Text.{TextInput, passed, ReadsText}
@@ -35,7 +35,7 @@ use Rattle.far_engine.proofs.StreamLemmas.{all-told, took-closed, took-pending, 
 one-more : (lines : List (List ℕ)) (line : List ℕ) → suc (length lines) ≡ length (lines ++ line ∷ [])
 one-more lines line = omega (arith, length-append lines (line ∷ []))
 
--- a line with words has bytes behind the mark
+-- a line with words has bytes after the mark
 some-bytes : (lines : List (List ℕ)) (line : List ℕ) → is_frames_line (words_after lines line) ≡ true → 0 < length (bytes_after lines line)
 some-bytes lines line is = here (bytes_after lines line) (ap is_frames_line (sym (words-bytes lines line)) ∙ is)
   where
@@ -43,7 +43,7 @@ some-bytes lines line is = here (bytes_after lines line) (ap is_frames_line (sym
     here [] e = absurd (true≢false (sym e))
     here (b ∷ bytes) e = omega arith
 
--- the lines of a text have no line `frames`, where the last has none that nothing closes
+-- the lines of a text have no line `frames` if its last, unclosed line is none
 last-none : (lines : List (List ℕ)) (line : List ℕ) → are_lines lines ≡ true → have_frames lines ≡ false → has_lf line ≡ false → 0 < length line
     → is_frames_line (words_after lines line) ≡ false → has_frames (obj_lines (text_of_lines lines ++ line)) ≡ false
 last-none lines line closed none plain some no-frames =
@@ -62,18 +62,18 @@ module _ {S : Type 0} (source : Source S) (options : FramesOptions) (s s' : S) (
   before-handled : IsHandled (rule_of (Frames options)) lines []
   before-handled = mesh-handled options.depth (frames_refusal options) (frames_mesh options) lines closed none
 
-  -- at the line `frames` the mesh is judged
+  -- the line `frames` ends the mesh
   at-frames : (line : List ℕ) (refusal : Option Fault) → is_frames_line (words_after lines line) ≡ true → frames_refusal options (obj_lines (text_of_lines lines)) ≡ refusal
       → (rule_of (Frames options)).line lines line ≡ answer_unless refusal []
   at-frames line refusal is e =
       frames-line options.depth (frames_refusal options) (frames_mesh options) lines line none is
       ∙ ap (λ fault. answer_unless fault []) (ap (frames_refusal options) (sym text-is) ∙ e)
 
-  -- which is of the lines
+  -- the end belongs to these lines
   of-lines : (words : List (List (List ℕ))) (refusal : Option Fault) → frames_refusal options words ≡ refusal → IsOfLines refusal
   of-lines words refusal e = subst IsOfLines e (frames-refusal options words)
 
-  -- a line `frames` that LF closes
+  -- a line `frames` that a line feed closes
   module _ (line pending : List ℕ) (allowed : ℕ) (took : TookLines source s s' (lines ++ line ∷ []) pending allowed) (plain : has_lf line ≡ false)
       (is : is_frames_line (words_after lines line) ≡ true) where
     has-mesh : (more : List ℕ) → frames_lines (text_of_lines (lines ++ line ∷ []) ++ more) ≡ obj_lines (text_of_lines lines)
@@ -105,7 +105,7 @@ module _ {S : Type 0} (source : Source S) (options : FramesOptions) (s s' : S) (
           number_is = one-more lines line;
         }
 
-  -- the input ended, behind these bytes
+  -- the input ended after these bytes
   whole-read : (bytes rest taken : List ℕ) → Took (source.left s) (source.left s') taken → IsDry (source.left s') → source.faults s ≤ source.faults s'
       → taken ≡ bytes ++ rest → length taken ≤ byte_limit → frames_lines taken ≡ obj_lines bytes
       → ((refusal : Option Fault) → frames_refusal options (obj_lines bytes) ≡ refusal → IsEnd source (rule_of (Frames options)) s s' [] refusal)
@@ -146,7 +146,7 @@ module _ {S : Type 0} (source : Source S) (options : FramesOptions) (s s' : S) (
         ∙ ap (answer_with []) (sym (last-refusal options lines line closed all.plain some) ∙ e))
         (of-lines (obj_lines bytes) refusal e))
 
-    -- after a line `frames` that nothing closes
+    -- after a line `frames` without a line feed
     pub whole-frames : is_frames_line (words_after lines line) ≡ true → IsWholeMesh source options s s' (text_of_lines lines)
     whole-frames is =
         let words = last-words lines line closed all.plain (some-bytes lines line is) in
@@ -163,15 +163,15 @@ module _ {S : Type 0} (source : Source S) (options : FramesOptions) (s s' : S) (
             ends-after-last source (rule_of (Frames options)) s s' lines [] before-handled line all [] None some (at-frames line None is e)
             (frames-end options.depth (frames_refusal options) (frames_mesh options) (lines ++ line ∷ []) (line-there lines line is)) tt
 
--- where a line is closed, it and its LF are passed
+-- a closed line and its line feed are passed
 pub mesh-shorter : {S : Type 0} (source : Source S) (t u : S) (old new : TextInput) → ReadsText source old new t u (Ok Closed)
     → length new.pending + new.allowed < length old.pending + old.allowed
 mesh-shorter source t u old new reads =
     omega (arith, ap length reads.next.0.0, length-append old.pending reads.bytes, length-append new.line (10 ∷ new.pending), reads.counted)
 
--- One line more is read of a text.
+-- One more line of a text is read.
 module _ {S : Type 0} (source : Source S) (s t u : S) (lines : List (List ℕ)) (old new : TextInput) (at : IsMeshLines source s t old lines) where
-  -- what it stands behind
+  -- the text before the line
   pub stands-behind : (r : Result NextText InputFault) → ReadsText source old new t u r → new.before ≡ text_of_lines lines
   stands-behind r reads = reads.before ∙ at.passed_is
 

@@ -1,4 +1,4 @@
--- A mesh that was read, and then refined: what is refused of it, and what follows.
+-- A mesh that was read and then refined: its refusals, and the lines behind it.
 use Rattle.std.proofs.Common.{◌≡◌, ℕ, ◌+◌, ◌≤◌, List, [], ◌∷◌, ◌++◌, length, Option, Some, None, Result, Ok, Err, MatchResult, IfOk, IfSome, arith, refl, ap, sym, subst, ◌∙◌, length-append}
 use Rattle.far_io.specs.Text.{TextInput}
 use Rattle.far_io.specs.declared.source.Source.{Ghosts as Source}
@@ -49,13 +49,13 @@ found-is P Read refusal found is short = absurd found
 found-is P Long refusal found is short = absurd found
 found-is P Write refusal found is short = absurd found
 
--- so is a fault of the text
+-- a fault of the text is the refusal, or memory ran out
 text-fault-is : (P : Fault → Type 0) (bytes : List ℕ) (options : FramesOptions) (fault : Fault) → IsTextFault bytes options.scale fault
     → (frames_refusal options (obj_lines bytes) ≡ Some fault → P fault) → P Memory → P fault
 text-fault-is P bytes options fault is refused short =
     found-is P fault (frames_refusal options (obj_lines bytes)) (text-fault-found options.depth options.scale bytes fault is) refused short
 
--- each line has its LF
+-- each line has its line feed
 lines-fit : (lines : List (List ℕ)) → length lines ≤ length (text_of_lines lines)
 lines-fit [] = omega arith
 lines-fit (line ∷ lines) =
@@ -76,7 +76,7 @@ module _ {S : Type 0} (source : Source S) (options : FramesOptions) (s t : S) wh
   pub part-counts : (part : MeshPart) → IsPart source options s t part → IfSome part.lines CanCount
   part-counts part is = rest-counts is.bytes part.lines is.rest
 
-  -- a mesh was made of a text, beside what follows it, or it was not
+  -- the text has a mesh, with the lines that follow it, or a fault
   pub part-made : (bytes : List ℕ) (lines : Option FrameLines) → IsRest source options s t bytes lines → (r : Result MeshPart FarFault)
       → MatchResult r (λ part. IsMeshText bytes options.scale part.mesh) (λ fault. IsTextFault bytes options.scale (fault_of fault))
       → IfOk r (λ part. part.lines ≡ lines) → IsPartOr source options s t r
@@ -141,7 +141,7 @@ module _ {S K : Type 0} (source : Source S) (sink : Sink K) (options : FramesOpt
       taken = takes-start (Some fault) later (λ e. absurd (cc)) most;
     }
 
-    -- or it is not, and there are no frame lines
+    -- the mesh is not refused, and there are no frame lines
     whole-ends : IsWholeMesh source options s t bytes → refusal_of_mesh (Stencils options.depth) mesh ≡ None → n + start_least options.depth mesh ≤ n'
         → n' ≤ n + start_limit options.depth mesh → RunsFrames (begun source sink options s k n) t k None n'
     whole-ends whole good least most = record {
@@ -150,7 +150,7 @@ module _ {S K : Type 0} (source : Source S) (sink : Sink K) (options : FramesOpt
       taken = takes-start None (omega (arith, least)) (λ e. least) most;
     }
 
-    -- or there are
+    -- the mesh is not refused, and there are frame lines
     frames-begin : (at : FrameLines) (before : IsBeforeFrames source options s t bytes at.reader.pending at.reader.allowed at.passed) → at.reader.room ≡ 65536
         → refusal_of_mesh (Stencils options.depth) mesh ≡ None → (posed : Posed) → posed.depth ≡ options.depth → IsPosedAfter mesh [] posed
         → n + start_least options.depth mesh ≤ n' → n' ≤ n + start_limit options.depth mesh → IsStreaming (begun source sink options s k n) t k at posed n'

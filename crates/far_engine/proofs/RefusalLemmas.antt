@@ -1,4 +1,4 @@
--- What `frames` may refuse: a line, the mesh, a count or a number, and an input that is too long.
+-- The possible refusals of `frames`: a line, the mesh, a count or a number, and an input that is too long.
 use Rattle.std.proofs.Common.{◌≡◌, ℕ, suc, ◌&&◌, Bool, true, false, ◌⊎◌, inl, inr, nat_lt, List, [], ◌∷◌, ◌++◌, length, map, take, Option, Some, None, option_map, refl, subst, if◌then◌else◌}
 use Rattle.std.specs.Option.{option_or}
 use Rattle.std.specs.List.{flat_map, range_with_len}
@@ -18,7 +18,7 @@ use Rattle.far_model.specs.Frames.{words_of_lines, words_after, has_frames, is_f
 use Rattle.far_model.specs.Answer.{answer_of_read, answer_of_checked, table_faults, positions_of, command_text, frames_refusal, frames_mesh, rule_of}
 use Rattle.subdiv_model.specs.ObjLine.{line_words}
 
--- a refusal, if there is one, that has its cause in the lines
+-- a refusal, if there is one, for a cause in the lines
 abbrev pub IsOfLines : Option Fault → Type 0
 IsOfLines None = Unit {0}
 IsOfLines (Some (Obj fault)) = Unit {0}
@@ -27,7 +27,7 @@ IsOfLines (Some (TooLarge counted)) = Unit {0}
 IsOfLines (Some (Overflow track level kind)) = Unit {0}
 IsOfLines (Some other) = ⊥
 
--- or in the length of the input
+-- a refusal for the length of the input
 abbrev pub IsOfInput : Option Fault → Type 0
 IsOfInput refusal = IsOfLines refusal ⊎ (refusal ≡ Some Long)
 
@@ -91,7 +91,7 @@ module _ (depth : ℕ) (mesh : ObjMesh) where
 pub frames-refusal : (options : FramesOptions) (lines : List (List (List ℕ))) → IsOfLines (frames_refusal options lines)
 frames-refusal options lines = read-is options.depth (mesh_of_lines lines options.scale) (lines_fault lines options.scale)
 
--- what a rule refuses has its cause in the lines
+-- the refusal of a rule has its cause in the lines
 pub record RefusesLines (rule : LineRule) : Type 0 where
   pub line : (before : List (List ℕ)) (line : List ℕ) → IsOfLines (rule.line before line).refusal
   pub unclosed : (before : List (List ℕ)) (bytes : List ℕ) → IsOfLines (rule.unclosed before bytes)
@@ -154,7 +154,7 @@ module _ {rule : LineRule} (is : RefusesLines rule) where
   all-is : (bytes : List ℕ) → IsOfLines (answer_of_all rule bytes).refusal
   all-is bytes = from-is _ (end-is (unclosed_of bytes)) [] (closed_of bytes)
 
-  -- so has what is refused of an input
+  -- the refusal of an input has its cause in the lines
   pub input-is : (limit : ℕ) (bytes : List ℕ) → IsOfInput (answer_of_lines rule limit bytes).refusal
   input-is limit bytes = by (nat_lt limit (length bytes))
     where
@@ -162,7 +162,7 @@ module _ {rule : LineRule} (is : RefusesLines rule) where
       by true = then-long (answer_so_far rule (take limit bytes)).refusal (answer_so_far rule (take limit bytes)).text (so-far-is (take limit bytes))
       by false = inl (all-is bytes)
 
--- which excludes those that have a cause of their own
+-- this excludes the faults of streams and of memory
 module _ {refusal : Option Fault} where
   pub not-usage : IsOfLines refusal → (word : ℕ) → refusal ≡ Some (Usage word) → ⊥
   not-usage is word e = subst IsOfLines e is

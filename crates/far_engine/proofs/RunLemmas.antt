@@ -1,4 +1,4 @@
--- What a run owes at each of its ends.
+-- The obligations of a run at each of its ends.
 use Rattle.std.proofs.Common.{◌≡◌, ℕ, ◌+◌, ◌≤◌, List, [], take, Option, Some, None, Result, Ok, Err, IsErr, IsErrAnd, arith, append-nil, refl, sym, subst, ◌∙◌}
 use Rattle.far_io.specs.Bytes.{Rose, Took, Added, AddedPrefix}
 use Rattle.far_io.specs.declared.source.Source.{Ghosts as Source}
@@ -30,7 +30,7 @@ took-nothing : (o : Option (List ℕ)) → Took o o []
 took-nothing (Some old) = refl
 took-nothing None = tt
 
--- what holds of every command holds of each kind
+-- a fact about every command is one about each kind
 ran-of : {S K : Type 0} (source : Source S) (sink : Sink K) (command : Command) (s s' : S) (k k' : K) (outcome : Option Fault) →
     RunsCommand source sink command s s' k k' outcome → Ran source sink s s' k k' outcome
 ran-of source sink (Reads command) s s' k k' outcome runs = runs.ran
@@ -59,7 +59,7 @@ module _ {S K : Type 0} (source : Source S) (sink : Sink K) where
       kept = λ other e f. refl;
     }
 
-  -- the text of a reply stands in the sink
+  -- the sink contains the text of a reply
   module _ (command : Command) (s s' : S) (k k' : K) (reply : Reply) (is : IsReady source command s s' reply) (later : sink.faults k ≤ sink.faults k') (fixed : sink.fixed k' ≡ sink.fixed k) where
     read-written : Added (sink.held k) (sink.held k') (reply_text reply) → RunsRead source sink command s s' k k' None
     read-written added = record {
@@ -83,7 +83,7 @@ module _ {S K : Type 0} (source : Source S) (sink : Sink K) where
       kept = λ other e f. absurd (cc);
     }
 
-    -- or a prefix of it, where the sink failed
+    -- the sink failed, and contains a prefix of the text
     read-cut : Rose (sink.faults k) (sink.faults k') → AddedPrefix (sink.held k) (sink.held k') (reply_text reply) → RunsRead source sink command s s' k k' (Some Write)
     read-cut rose prefix = record {
       ran = record {
@@ -106,7 +106,7 @@ module _ {S K : Type 0} (source : Source S) (sink : Sink K) where
       kept = λ other e f. absurd (f (cc));
     }
 
-  -- whatever was found, and whatever the sink answers
+  -- any result, and any answer of the sink
   pub runs-read : (command : Command) (s s' : S) (k k' : K) (found : Result Reply FarFault) (result : Result (Unit {0}) FarFault) (old new : ℕ) →
       FindsReply source command s s' found old new → PutsFound sink found k k' result → RunsRead source sink command s s' k k' (outcome_of result)
   runs-read command s s' k k' (Err fault) result old new finds puts =
@@ -120,7 +120,7 @@ module _ {S K : Type 0} (source : Source S) (sink : Sink K) where
       subst (λ (f : FarFault). RunsRead source sink command s s' k k' (Some (fault_of f))) (sym put.0)
       (read-cut command s s' k k' reply finds.reply puts.later puts.fixed put.1 put.2)
 
-  -- the steps are those of what was found
+  -- the steps are those of the result
   found-steps : (k k' : K) (found : Result Reply FarFault) (result : Result (Unit {0}) FarFault) (old new least most : ℕ) → PutsFound sink found k k' result →
       StepsTaken found old new least most → outcome_of result ≡ None → old + least ≤ new
   found-steps k k' (Ok reply) result old new least most puts taken none = taken.least
@@ -160,7 +160,7 @@ module _ {S K : Type 0} (source : Source S) (sink : Sink K) where
       sink_fixed = fixed;
     }
 
-    -- what its faults are not
+    -- the faults that a command that makes its mesh never has
     not-as : (fault : Fault) → IsFound fault (refusal_of_made command) → ((word : ℕ) → fault ≡ Usage word → ⊥) × (fault ≡ Read → ⊥) × (fault ≡ Long → ⊥) × (fault ≡ Write → ⊥)
     not-as fault found = (
       λ word e. subst (λ f. IsFound f (refusal_of_made command)) e found,
@@ -238,7 +238,7 @@ module _ {S K : Type 0} (source : Source S) (sink : Sink K) where
         of_told = λ bytes e. within bytes;
       }
 
-  -- a command as it is named runs as what it is
+  -- a command runs as the kind that its name says
   module _ (named command : Command) (same : named ≡ command) (s s' : S) where
     pub runs-as : (k k' : K) (outcome : Option Fault) → RunsCommand source sink command s s' k k' outcome → RunsCommand source sink named s s' k k' outcome
     runs-as k k' outcome runs = subst (λ c. RunsCommand source sink c s s' k k' outcome) (sym same) runs
@@ -271,7 +271,7 @@ module _ {S K : Type 0} (source : Source S) (sink : Sink K) where
     pub steps-mesh : TakesSteps source named s s' (outcome_of result) old new
     steps-mesh = steps-as named (Reads command) same s s' (outcome_of result) old new (read-steps (Reads command) s s' k k' found result old new (finds-reply source command s s' mesh found old new of is) puts)
 
-  -- what is found of a stored table is an answer of the command
+  -- a result for a stored table is an answer of the command
   module _ (named : Command) (command : StoredCommand) (same : named ≡ Stored command) (s s' : S) (found : Result Reply FarFault) (old new : ℕ)
       (finds : FindsReply source (Stored command) s s' found old new) (k k' : K) (result : Result (Unit {0}) FarFault) (puts : PutsFound sink found k k' result) where
     pub runs-stored : RunsCommand source sink named s s' k k' (outcome_of result)
@@ -280,7 +280,7 @@ module _ {S K : Type 0} (source : Source S) (sink : Sink K) where
     pub steps-stored : TakesSteps source named s s' (outcome_of result) old new
     steps-stored = steps-as named (Stored command) same s s' (outcome_of result) old new (read-steps (Stored command) s s' k k' found result old new finds puts)
 
-  -- words that say a command run it
+  -- words that spell a command run it
   pub runs-words : (words : List (List ℕ)) (command : Command) (s s' : S) (k k' : K) (outcome : Option Fault) → usage_of command_table words ≡ None → command ≡ command_of words →
       RunsCommand source sink command s s' k k' outcome → Runs source sink words s s' k k' outcome
   runs-words words command s s' k k' outcome none said runs =

@@ -1,4 +1,4 @@
--- The steps of `frames`, with the bytes that were taken and with all bytes.
+-- The steps of `frames`, for the bytes that were taken and for all bytes.
 use Rattle.std.proofs.Common.{◌≡◌, ℕ, ◌+◌, ◌<◌, ◌≤◌, true, false, List, [], ◌∷◌, ◌++◌, length, map, Option, Some, None, arith, ap, sym, subst, ◌∙◌, append_assoc, append-nil}
 use Rattle.std.proofs.lemmas.List.Sums.{sum_by-append}
 use Rattle.far_io.specs.Bytes.{Took}
@@ -37,7 +37,7 @@ has-lines (line ∷ lines) more closed some =
       frames_are = ap frame_lines words ∙ frames-more (words_of_lines (line ∷ lines)) others some;
     }
 
--- and bytes that end with a frame line that nothing closes
+-- bytes that end with a frame line without a line feed
 pub has-last : (lines : List (List ℕ)) (line : List ℕ) → are_lines lines ≡ true → have_frames lines ≡ true → has_lf line ≡ false → 0 < length line
     → HasFrameLines (text_of_lines lines ++ line) (mesh_words lines) (frame_words lines ++ line_words line ∷ [])
 has-last [] line closed some plain long = absurd (cc)
@@ -66,7 +66,7 @@ module _ {S : Type 0} (source : Source S) (options : FramesOptions) (s s' : S) (
         least = λ e. subst (λ words. old + start_least options.depth (frames_mesh options words) ≤ new) (sym has.mesh_is) (least e);
       }
 
-  -- The steps are within what is asked, with the bytes that were taken and with all bytes.
+  -- The steps are within the bounds, for the bytes that were taken and for all bytes.
   pub takes-steps : (taken : List ℕ) → Took (source.left s) (source.left s') taken → HasFrameLines taken mesh frames
       → ((all : List ℕ) → source.left s ≡ Some all → HasFrameLines all mesh frames) → TakesSteps source (Streams (Frames options)) s s' outcome old new
   takes-steps taken took has told = record {
@@ -75,7 +75,7 @@ module _ {S : Type 0} (source : Source S) (options : FramesOptions) (s s' : S) (
     of_told = λ all had. within all (told all had);
   }
 
--- where what was taken begins with lines, one of which is a line `frames`
+-- the bytes that were taken begin with lines, one of which is a line `frames`
 pub takes-lines : {S : Type 0} (source : Source S) (options : FramesOptions) (s s' : S) (lines : List (List ℕ)) (more : List ℕ) → are_lines lines ≡ true → have_frames lines ≡ true
     → Took (source.left s) (source.left s') (text_of_lines lines ++ more) → (outcome : Option Fault) (old new : ℕ) → old ≤ new
     → (outcome ≡ None → old + start_least options.depth (frames_mesh options (mesh_words lines)) ≤ new)

@@ -1,4 +1,4 @@
--- How a stream ends, by what was taken and handled.
+-- The end of a stream, from the bytes that were taken and handled.
 use Rattle.std.proofs.Common.{◌≡◌, ℕ, ◌+◌, ◌-◌, ◌<◌, ◌≤◌, false, ◌⊎◌, inl, inr, List, [], ◌∷◌, ◌++◌, length, take, Option, Some, None, arith, refl, ap, sym, subst, ◌∙◌, append_assoc, append-nil, length-append, ⊎_elim}
 use Rattle.std.proofs.Math.Seq.{take-append-add}
 use Rattle.std.proofs.lemmas.Bool.{cases_lt}
@@ -31,12 +31,12 @@ all-told (Some old) (Some new) taken all took had = let same : old ≡ all = cc 
 all-told (Some old) None taken all took had = absurd took
 all-told None new taken all took had = absurd (cc)
 
--- bytes after others, where two parts are one
+-- bytes after others, joined from two parts
 pub split-more : (first pending rest : List ℕ) (bytes : List ℕ) → bytes ≡ (first ++ pending) ++ rest → bytes ≡ first ++ (pending ++ rest)
 split-more first pending rest bytes is = is ∙ append_assoc first pending rest
 
 module _ {S : Type 0} (source : Source S) (s t u : S) where
-  -- a line more was taken
+  -- one more line was taken
   pub took-closed : (lines : List (List ℕ)) (pending bytes line rest : List ℕ) (old new : ℕ) → TookLines source s t lines pending old
       → Took (source.left t) (source.left u) bytes → pending ++ bytes ≡ line ++ 10 ∷ rest → has_lf line ≡ false → new + length bytes ≡ old
       → source.faults t ≤ source.faults u → TookLines source s u (lines ++ line ∷ []) rest new
@@ -51,7 +51,7 @@ module _ {S : Type 0} (source : Source S) (s t u : S) where
         later = omega (arith, before.later, later);
       }
 
-  -- bytes more were taken, and no line
+  -- more bytes were taken, but no line
   pub took-pending : (lines : List (List ℕ)) (pending bytes rest : List ℕ) (old new : ℕ) → TookLines source s t lines pending old
       → Took (source.left t) (source.left u) bytes → pending ++ bytes ≡ rest → new + length bytes ≡ old → source.faults t ≤ source.faults u
       → TookLines source s u lines rest new
@@ -65,7 +65,7 @@ module _ {S : Type 0} (source : Source S) (s t u : S) where
         later = omega (arith, before.later, later);
       }
 
-  -- all that there is was taken
+  -- all bytes were taken
   pub took-all : (lines : List (List ℕ)) (pending bytes rest : List ℕ) (old new : ℕ) → TookLines source s t lines pending old
       → Took (source.left t) (source.left u) bytes → pending ++ bytes ≡ rest → new + length bytes ≡ old → has_lf rest ≡ false → IsDry (source.left u)
       → source.faults t ≤ source.faults u → TookAll source s u lines rest
@@ -80,7 +80,7 @@ module _ {S : Type 0} (source : Source S) (s t u : S) where
         later = all.later;
       }
 
-  -- as many bytes as may come were taken, and one more
+  -- one byte more than the limit was taken
   pub took-long : (lines : List (List ℕ)) (pending bytes rest : List ℕ) (byte old : ℕ) → TookLines source s t lines pending old
       → Took (source.left t) (source.left u) bytes → pending ++ bytes ≡ rest ++ byte ∷ [] → length bytes ≡ old + 1
       → Took (source.left s) (source.left u) (text_of_lines lines ++ (rest ++ byte ∷ [])) × (length (text_of_lines lines ++ rest) ≡ byte_limit)
@@ -92,7 +92,7 @@ module _ {S : Type 0} (source : Source S) (s t u : S) where
       )
 
 module _ {S : Type 0} (source : Source S) (rule : LineRule) (s s' : S) where
-  -- with a refusal that has its cause in the lines, or with none
+  -- the end with a refusal for a cause in the lines, or with none
   ends-of-lines : (text : List ℕ) (outcome : Option Fault) → IsOfLines outcome
       → ((bytes : List ℕ) → source.left s ≡ Some bytes → answer_of_lines rule byte_limit bytes ≡ answer_with text outcome)
       → (outcome ≡ None → IsDry (source.left s')) → TookPrefix (source.left s) (source.left s') → source.faults s ≤ source.faults s'
@@ -124,7 +124,7 @@ module _ {S : Type 0} (source : Source S) (rule : LineRule) (s s' : S) where
   }
 
   module _ (lines : List (List ℕ)) (text : List ℕ) (handled : IsHandled rule lines text) where
-    -- a read failed, and nothing that is pending is refused
+    -- a read failed, and no pending byte is refused
     pub ends-failed : (pending : List ℕ) (allowed : ℕ) → TookLines source s s' lines pending allowed → has_lf pending ≡ false → rule.unclosed lines pending ≡ None
         → Rose (source.faults s) (source.faults s') → IsEnd source rule s s' text (Some Read)
     ends-failed pending allowed read plain good rose = record {
@@ -139,7 +139,7 @@ module _ {S : Type 0} (source : Source S) (rule : LineRule) (s s' : S) where
       later = read.later;
     }
 
-    -- a byte more came than may come
+    -- one byte came after the limit
     pub ends-long : (pending : List ℕ) (byte : ℕ) → Took (source.left s) (source.left s') (text_of_lines lines ++ (pending ++ byte ∷ []))
         → length (text_of_lines lines ++ pending) ≡ byte_limit → has_lf pending ≡ false → rule.unclosed lines pending ≡ None → source.faults s ≤ source.faults s'
         → IsEnd source rule s s' text (Some Long)
@@ -162,7 +162,7 @@ module _ {S : Type 0} (source : Source S) (rule : LineRule) (s s' : S) where
           later = later;
         }
 
-    -- what is pending is refused, whatever follows
+    -- the pending bytes are refused, for any bytes after them
     pub ends-at-start : (pending : List ℕ) (allowed : ℕ) (fault : Fault) → TookLines source s s' lines pending allowed → has_lf pending ≡ false → 0 < length pending
         → IsRefusedStart rule lines pending fault → IsOfLines (Some fault) → IsEnd source rule s s' text (Some fault)
     ends-at-start pending allowed fault read plain some is of =
@@ -193,14 +193,14 @@ module _ {S : Type 0} (source : Source S) (rule : LineRule) (s s' : S) where
       fits-all : (bytes : List ℕ) → source.left s ≡ Some bytes → length bytes ≤ byte_limit
       fits-all bytes had = omega (arith, ap length (told-all bytes had), read.short)
 
-      -- a last line that nothing closes is refused
+      -- a last line without a line feed is refused
       pub ends-at-last : (fault : Fault) → 0 < length line → rule.line lines line ≡ refused fault → IsOfLines (Some fault) → IsEnd source rule s s' text (Some fault)
       ends-at-last fault some is of =
           ends-of-lines text (Some fault) of
           (λ bytes had. last-line-refused byte_limit bytes line fault handled read.plain some is (told-all bytes had) (fits-all bytes had))
           (λ e. absurd (cc)) (text_of_lines lines ++ line, read.took) read.later
 
-      -- or it adds a text, and the end is judged
+      -- a last line adds a text, and the end decides
       pub ends-after-last : (more : List ℕ) (refusal : Option Fault) → 0 < length line → rule.line lines line ≡ answer_with more None
           → rule.end (lines ++ line ∷ []) ≡ answer_with [] refusal → IsOfLines refusal → IsEnd source rule s s' (text ++ more) refusal
       ends-after-last more refusal some added end of =
@@ -208,7 +208,7 @@ module _ {S : Type 0} (source : Source S) (rule : LineRule) (s s' : S) where
           (λ bytes had. ended-unclosed byte_limit bytes line more refusal handled read.plain some (told-all bytes had) (fits-all bytes had) added end)
           (λ e. read.dry) (text_of_lines lines ++ line, read.took) read.later
 
-    -- the end is judged after closed lines
+    -- the end decides after closed lines
     pub ends-after-lines : (read : TookAll source s s' lines []) (refusal : Option Fault) → rule.end lines ≡ answer_with [] refusal → IsOfLines refusal → IsEnd source rule s s' text refusal
     ends-after-lines read refusal end of =
         ends-of-lines text refusal of
@@ -235,7 +235,7 @@ pub rose-later : (start old new : ℕ) → start ≤ old → Rose old new → Ro
 rose-later start old new later (inl rose) = inl (omega (arith, later, rose))
 rose-later start old new later (inr end) = inr end
 
--- nothing is within nothing
+-- an empty text is a prefix of an empty text
 middle-nil : (text more rest : List ℕ) → text ++ (more ++ rest) ≡ [] → more ≡ []
 middle-nil [] [] rest e = refl
 middle-nil [] (b ∷ more) rest e = absurd (cc)
@@ -290,7 +290,7 @@ module _ {S K : Type 0} (source : Source S) (sink : Sink K) {rule : LineRule} (r
 
   -- A write failed, in the text of a line.
   module _ (k1 k' : K) (text more : List ℕ) (written : IsWritten sink k k1 text) (cut : AddedPrefix (sink.held k1) (sink.held k') more) where
-    -- a prefix of each text was added that begins with it
+    -- a prefix of a text is a prefix of each text that begins with it
     added-of : (all rest : List ℕ) → all ≡ text ++ (more ++ rest) → AddedPrefix (sink.held k) (sink.held k') all
     added-of all rest is =
         let n = length text + cut.0 in
@@ -330,7 +330,7 @@ module _ {S K : Type 0} (source : Source S) (sink : Sink K) {rule : LineRule} (r
           kept = λ e. absurd (cc);
         }
 
--- one answer and then another begin with what the first begins with
+-- two answers, one after the other, begin with each prefix of the first
 then-begins : (text : List ℕ) (first next : Answer) → (rest : List ℕ) × ((then_answer (after_text text first) next).text ≡ text ++ rest)
 then-begins text first next = by first.refusal
   where
@@ -338,7 +338,7 @@ then-begins text first next = by first.refusal
     by None = (first.text ++ next.text, append_assoc text first.text next.text)
     by (Some fault) = (first.text, refl)
 
--- what is written of handled lines stays, whatever bytes follow, and also where they are too many
+-- the text of handled lines stays for any bytes after them, even too many
 pub begins-handled : {rule : LineRule} {lines : List (List ℕ)} {text : List ℕ} (limit : ℕ) (more : List ℕ) → IsHandled rule lines text → length (text_of_lines lines) ≤ limit
     → (rest : List ℕ) × ((answer_of_lines rule limit (text_of_lines lines ++ more)).text ≡ text ++ rest)
 begins-handled {rule = rule} {lines = lines} {text = text} limit more handled fits =
@@ -356,7 +356,7 @@ begins-handled {rule = rule} {lines = lines} {text = text} limit more handled fi
     (λ short. ((all-of rule lines more).text, ap (λ (a : Answer). a.text) (within rule limit (first ++ more) short ∙ all-after more handled)))
     (cases_lt limit (length (first ++ more)))
 
--- and so does what is written of one line more
+-- the text of one more line stays too
 pub begins-line : {rule : LineRule} {lines : List (List ℕ)} {text : List ℕ} (limit : ℕ) (line rest : List ℕ) → IsHandled rule lines text → has_lf line ≡ false
     → (rule.line lines line).refusal ≡ None → length (text_of_lines (lines ++ line ∷ [])) ≤ limit
     → (after : List ℕ) × ((answer_of_lines rule limit (text_of_lines (lines ++ line ∷ []) ++ rest)).text ≡ text ++ ((rule.line lines line).text ++ after))

@@ -1,4 +1,4 @@
--- The mesh that a source has, or why there is none; and what a command finds before anything is written.
+-- The mesh of a source or its fault, and the reply that a command finds before it writes.
 use Rattle.std.specs.Prelude.{ℕ, ◌≡◌, ◌≢◌, ◌≤◌, List, length, Some, None, Result, Ok, Err, IsTrue, MatchResult}
 use Rattle.far_io.specs.Bytes.{Rose, Took, TookPrefix, TookMore, Added, AddedPrefix, IsDry}
 use Rattle.far_io.specs.declared.sink.Sink.{Ghosts as Sink}
@@ -21,7 +21,7 @@ use Rattle.mesh_answers.specs.MeshText.{IsMeshText}
 use Rattle.far_engine.specs.Outcome.{IsAnswered, is_after_reading}
 use Rattle.far_engine.specs.StepCounts.{least_steps, step_limit}
 
--- why a source could not be read to its end
+-- the cause why a source could not be read to its end
 abbrev pub input_fault_of : InputFault → Fault
 input_fault_of ReadFailed = model.Read
 input_fault_of TooLong = model.Long
@@ -43,7 +43,7 @@ ReadsWhole (Stored command) = Unit {0}
 ReadsWhole (Makes command) = ⊥
 ReadsWhole (Streams command) = ⊥
 
--- a command has no reply for this fault, which is neither one of the words nor one of writing
+-- a command has no reply for this fault, which is neither Usage nor Write
 pub record IsRefused {S : Type 0} (source : Ghosts S) (command : Command) (s s' : S) (fault : Fault) : Type 0 where
   pub answer : (bytes : List ℕ) → source.left s ≡ Some bytes → IsAnswered (Some fault) (answer_of_command command bytes).refusal
   pub whole : IsTrue (is_after_reading (Some fault)) → IsDry (source.left s')
@@ -54,7 +54,7 @@ pub record IsRefused {S : Type 0} (source : Ghosts S) (command : Command) (s s' 
   pub taken : TookPrefix (source.left s) (source.left s')
   pub later : source.faults s ≤ source.faults s'
 
--- nothing is refused of the input, which was read to its end, and this is the reply
+-- the input was read to its end, nothing of it is refused, and this is the reply
 pub record IsReady {S : Type 0} (source : Ghosts S) (command : Command) (s s' : S) (reply : Reply) : Type 0 where
   pub good : (bytes : List ℕ) → source.left s ≡ Some bytes → (answer_of_command command bytes).refusal ≡ None
   pub says : (bytes : List ℕ) → source.left s ≡ Some bytes → reply_text reply ≡ (answer_of_command command bytes).text
@@ -63,7 +63,7 @@ pub record IsReady {S : Type 0} (source : Ghosts S) (command : Command) (s s' : 
   pub taken : TookPrefix (source.left s) (source.left s')
   pub later : source.faults s ≤ source.faults s'
 
--- what a command finds of a source: a reply, or why there is none, in so many steps with the bytes that came
+-- the reply of a command to a source, or the fault, within the bounds of steps for the bytes that came
 pub record FindsReply {S : Type 0} (source : Ghosts S) (command : Command) (s s' : S) (result : Result Reply FarFault) (old new : ℕ) : Type 0 where
   pub reply : MatchResult result (λ reply. IsReady source command s s' reply) (λ fault. IsRefused source command s s' (fault_of fault))
   pub of_taken : (bytes : List ℕ) × Took (source.left s) (source.left s') bytes
@@ -71,7 +71,7 @@ pub record FindsReply {S : Type 0} (source : Ghosts S) (command : Command) (s s'
   pub of_told : (bytes : List ℕ) → source.left s ≡ Some bytes
       → StepsTaken result old new (least_steps command bytes) (step_limit command bytes)
 
--- what is found was written into a sink, or it is a fault and the sink was not called
+-- the reply was written into a sink; or this is the fault, and the sink was not called
 pub record PutsFound {K : Type 0} (sink : Sink K) (found : Result Reply FarFault) (k k' : K) (result : Result (Unit {0}) FarFault) : Type 0 where
   pub refused : (fault : FarFault) → found ≡ Err fault → (result ≡ Err fault) × (k' ≡ k)
   pub written : (reply : Reply) → found ≡ Ok reply → result ≡ Ok tt → Added (sink.held k) (sink.held k') (reply_text reply)

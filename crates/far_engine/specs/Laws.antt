@@ -1,4 +1,4 @@
--- What a run answers where no count of faults rises.
+-- The answer of a run whose counts of faults do not rise.
 use Rattle.std.specs.Prelude.{ℕ, ◌≡◌, ◌+◌, ◌<◌, ◌⊎◌, List, length, Option, Some, None}
 use Rattle.far_io.specs.Bytes.{Added, Rose}
 use Rattle.far_io.specs.Memory.{SureOutput}
@@ -9,12 +9,12 @@ use Rattle.far_model.specs.Refusal.{Answer}
 use Rattle.far_model.specs.Answer.{answer}
 use Rattle.far_engine.specs.Runs.{Runs}
 
--- the refusal of the answer, or its whole text; or want of memory, and the sink is as it was
+-- the refusal that is defined, or the whole text; or no memory, and the sink is as it was
 abbrev pub IsAnsweredBy : {K : Type 0} → Sink K → Answer → K → K → Option Fault → Type 0
 IsAnsweredBy sink answer k k' outcome =
     ((outcome ≡ answer.refusal) × (outcome ≡ None → Added (sink.held k) (sink.held k') answer.text)) ⊎ ((outcome ≡ Some Memory) × (k' ≡ k))
 
--- a run of words over a source that tells its bytes, in which neither count of faults rises
+-- a run of words over a source that gives all its bytes, in which neither count of faults rises
 pub record RunWithoutFaults {S K : Type 0} (source : Source S) (sink : Sink K) : Type 0 where
   pub words : List (List ℕ)
   pub bytes : List ℕ
@@ -28,7 +28,7 @@ pub record RunWithoutFaults {S K : Type 0} (source : Source S) (sink : Sink K) :
   pub no_read_failed : Rose (source.faults first) (source.faults last) → ⊥
   pub no_write_failed : Rose (sink.faults before) (sink.faults after) → ⊥
 
--- a run of words and bytes in memory that never fails, whose sink has room for the text and a byte more
+-- a run of words and bytes in memory that never fails, whose sink has capacity for the text and one byte more
 pub record RunInRoom (source : Source (List ℕ)) (sink : Sink SureOutput) : Type 0 where
   pub words : List (List ℕ)
   pub bytes : List ℕ

@@ -1,4 +1,4 @@
--- The lines of a mesh at the beginning of a source, and what follows them.
+-- The lines of a mesh at the beginning of a source, and the lines behind them.
 use Rattle.std.specs.Prelude.{ℕ, ◌≡◌, ◌^◌, ◌≤◌, true, false, List, [], ◌∷◌, ◌++◌, length, Option, Some, None, Result, Ok, Err}
 use Rattle.far_io.specs.Bytes.{Took}
 use Rattle.far_io.specs.Text.{TextInput, passed}
@@ -20,7 +20,7 @@ use Rattle.far_engine.specs.declared.mesh_part.MeshEnd.TheVariants.{Closed, Last
 use Rattle.far_engine.specs.declared.mesh_part.MeshPart.{MeshPart}
 use Rattle.far_engine.specs.declared.frame_lines.FrameLines.{FrameLines}
 
--- so far these lines were read, and none of them is a line `frames`
+-- these lines were read so far, and none of them is a line `frames`
 pub record IsMeshLines {S : Type 0} (source : Source S) (s s' : S) (text : TextInput) (lines : List (List ℕ)) : Type 0 where
   pub took : TookLines source s s' lines text.pending text.allowed
   pub none : have_frames lines ≡ false
@@ -28,20 +28,20 @@ pub record IsMeshLines {S : Type 0} (source : Source S) (s s' : S) (text : TextI
 
 -- All lines of a mesh were read, and these bytes are their text.
 pub record IsMeshRead {S : Type 0} (source : Source S) (options : FramesOptions) (s s' : S) (bytes : List ℕ) : Type 0 where
-  -- what is refused of them is refused of all bytes of the source, and memory may run out
+  -- a refusal of these lines is the refusal of all bytes of the source, and memory may run out
   pub refused : (fault : Fault) → frames_refusal options (obj_lines bytes) ≡ Some fault → IsEnd source (rule_of (Frames options)) s s' [] (Some fault)
   pub no_memory : IsEnd source (rule_of (Frames options)) s s' [] (Some Memory)
-  -- they are the mesh's lines in the bytes that were taken, and in all bytes
+  -- these are the lines of the mesh in the bytes that were taken, and in all bytes
   pub of_taken : (taken : List ℕ) × Took (source.left s) (source.left s') taken × (frames_lines taken ≡ obj_lines bytes)
   pub of_told : (all : List ℕ) → source.left s ≡ Some all → frames_lines all ≡ obj_lines bytes
   pub short : length bytes ≤ 2 ^ 28
 
--- The input ended with them, or with a line `frames` behind them.
+-- The input ended with the lines of the mesh, or with a line `frames` behind them.
 pub record IsWholeMesh {S : Type 0} (source : Source S) (options : FramesOptions) (s s' : S) (bytes : List ℕ) : Type 0 where
   pub read : IsMeshRead source options s s' bytes
   pub ended : frames_refusal options (obj_lines bytes) ≡ None → IsEnd source (rule_of (Frames options)) s s' [] None
 
--- A line `frames` stands behind them, of this number, which LF closes.
+-- A line `frames` of this number follows the lines of the mesh, and a line feed closes it.
 pub record IsBeforeFrames {S : Type 0} (source : Source S) (options : FramesOptions) (s s' : S) (bytes pending : List ℕ) (allowed number : ℕ) : Type 0 where
   pub read : IsMeshRead source options s s' bytes
   pub lines : List (List ℕ)
@@ -52,7 +52,7 @@ pub record IsBeforeFrames {S : Type 0} (source : Source S) (options : FramesOpti
   pub none : frame_words lines ≡ []
   pub number_is : number ≡ length lines
 
--- where the lines of a mesh end in a text, or why they do not
+-- the end of the lines of a mesh in a text, or the fault
 abbrev pub EndsMesh : {S : Type 0} → Source S → S → S → TextInput → Result MeshEnd InputFault → Type 0
 EndsMesh source s s' text (Ok (Closed number)) =
     (options : FramesOptions) → IsBeforeFrames source options s s' text.before text.pending text.allowed number
@@ -60,19 +60,19 @@ EndsMesh source s s' text (Ok Last) = (options : FramesOptions) → IsWholeMesh 
 EndsMesh source s s' text (Ok Input) = (options : FramesOptions) → IsWholeMesh source options s s' (passed text)
 EndsMesh source s s' text (Err fault) = (options : FramesOptions) → IsEnd source (rule_of (Frames options)) s s' [] (Some (input_fault_of fault))
 
--- one line more of a text, after these lines
+-- one more line of a text, after these lines
 abbrev pub FindsMeshEnd : {S : Type 0} → Source S → S → S → List (List ℕ) → TextInput → Result (Option MeshEnd) InputFault → Type 0
 FindsMeshEnd source s s' lines text (Ok None) = IsMeshLines source s s' text (lines ++ text.line ∷ [])
 FindsMeshEnd source s s' lines text (Ok (Some end)) = EndsMesh source s s' text (Ok end)
 FindsMeshEnd source s s' lines text (Err fault) = EndsMesh source s s' text (Err fault)
 
--- what may follow the mesh, behind so many lines: nothing, or frame lines
+-- the text behind the mesh, after this number of lines: nothing, or frame lines
 abbrev pub IsRest : {S : Type 0} → Source S → FramesOptions → S → S → List ℕ → Option FrameLines → Type 0
 IsRest source options s s' bytes None = IsWholeMesh source options s s' bytes
 IsRest source options s s' bytes (Some lines) =
     IsBeforeFrames source options s s' bytes lines.reader.pending lines.reader.allowed lines.passed × (lines.reader.room ≡ 65536)
 
--- the frame lines behind a text, by the number of the line that it stands at
+-- the frame lines behind a text, by the number of its present line
 abbrev pub AreLinesAfter : TextInput → ℕ → Option FrameLines → Type 0
 AreLinesAfter text number (Some lines) =
     (lines.passed ≡ number) × (lines.reader.pending ≡ text.pending) × (lines.reader.allowed ≡ text.allowed) × (lines.reader.room ≡ 65536)
@@ -84,7 +84,7 @@ pub record IsPart {S : Type 0} (source : Source S) (options : FramesOptions) (s 
   pub text : IsMeshText bytes options.scale part.mesh
   pub rest : IsRest source options s s' bytes part.lines
 
--- or there is none, and the stream ends
+-- the source has no mesh, and the stream ends
 abbrev pub IsPartOr : {S : Type 0} → Source S → FramesOptions → S → S → Result MeshPart FarFault → Type 0
 IsPartOr source options s s' (Ok part) = IsPart source options s s' part
 IsPartOr source options s s' (Err fault) = IsEnd source (rule_of (Frames options)) s s' [] (Some (fault_of fault))

@@ -1,4 +1,4 @@
-//! A command that is read already, over a source and a sink.
+//! A run of a command that is already read.
 
 ghost use Rattle.std.specs.Prelude.{IfOk};
 ghost use Rattle.far_model.specs.Command.{IsInRange, IsStoredInRange, Stored};
@@ -32,7 +32,7 @@ fn put_reply<K: Sink>(reply: &Reply, sink: &mut K) -> Result<(), FarFault>
     }
 }
 
-// Writes what was found into the sink, or hands its fault on.
+// Writes a reply into the sink, or returns its fault.
 fn put_found<K: Sink>(found: Result<Reply, FarFault>, sink: &mut K) -> Result<(), FarFault>
     requires { IfOk found (λ reply. CanPut reply) }
     ensures { PutsFound K.Sink found sink.old sink.new result }
@@ -41,7 +41,7 @@ fn put_found<K: Sink>(found: Result<Reply, FarFault>, sink: &mut K) -> Result<()
     put_reply(&reply, sink)
 }
 
-// What a command makes of an input with a stored table, which is read to its end.
+// The reply of `verify` or `apply`, which read their input to its end.
 fn find_stored<S: Source, L: Ledger>(
     alloc: Global,
     command: &StoredCommand,
@@ -58,12 +58,11 @@ fn find_stored<S: Source, L: Ledger>(
     }
 }
 
-/// Runs a command that is read already: reads the source, and writes the answer into the sink.
+/// Runs a command: reads the source, and writes the answer into the sink. The numbers of the command are in the ranges of its options, as
+/// [`Command::is_in_range`] tests. [`run`](crate::run) describes the answers, the errors and the steps; `Usage` never comes here.
 ///
-/// A command that reads a mesh or a stored table reads the source to its end before it writes. One that makes its mesh does not call the source.
-/// `frames` answers each line before it reads on. The numbers of the command are those that its options allow, as
-/// [`Command::is_in_range`] tests. [`run`](crate::run) tells what each command answers and refuses, and the steps that it
-/// takes; its fault `Usage` never comes here.
+/// A command that reads a mesh or a stored table reads the source to its end before it writes. `gen` does not call the source. `frames`
+/// answers each line before it reads the next.
 pub fn run_command<S: Source, K: Sink, L: Ledger>(
     alloc: Global,
     command: &Command,

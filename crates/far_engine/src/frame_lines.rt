@@ -1,4 +1,4 @@
-//! The frame lines of a source: what stands behind the line `frames`, line by line.
+//! The frame lines of a source: the lines behind the line `frames`.
 
 ghost use Rattle.std.specs.Prelude.{◌≡◌, ◌^◌, ◌+◌, ◌-◌, ◌<◌, ◌≤◌, length, Ok, IfOk, IfErr, true};
 ghost use Rattle.far_io.specs.declared.text.NextText.TheVariants.{Closed};
@@ -15,18 +15,17 @@ use ratio128::Steps;
 use std::alloc::Global;
 use std::sync::ledger::Ledger;
 
-// How many bytes a frame line may have, with the LF that closes it.
+// The greatest number of bytes of a frame line, with its line feed.
 const ROOM: usize = 65_536;
 
-/// A reader of frame lines, and how many lines of the input it has passed.
+/// A reader of frame lines, and the number of lines of the input that it has passed.
 #[derive(Drop)]
 pub(crate) struct FrameLines {
     pub(crate) reader: LineReader,
     pub(crate) passed: u32,
 }
 
-// What was found at a line of this number: where the line ends, or why there is none. A line that is too long is one for which
-// the reader has no room.
+// The end of a line, or the fault of the reader. A line that does not fit into the reader is too long.
 fn line_found(found: Result<NextLine, ReadFailed>, number: u32) -> Result<NextText, FarFault>
     ensures { next_of_code result ≡ next_of number found }
 {
@@ -40,7 +39,7 @@ fn line_found(found: Result<NextLine, ReadFailed>, number: u32) -> Result<NextTe
     }
 }
 
-// A line of this number is too long.
+// The fault of a line that is too long.
 fn too_long(number: u32) -> FarFault
     ensures { fault_of result ≡ long_line number }
 {
@@ -51,7 +50,7 @@ fn too_long(number: u32) -> FarFault
 }
 
 impl FrameLines {
-    /// The lines behind the line that a reader of a text stands at, which has this number.
+    /// The lines behind the present line of a reader of a text. `line` is the number of that line.
     pub(crate) fn after(
         alloc: Global,
         text: &TextReader,
@@ -71,7 +70,7 @@ impl FrameLines {
         })
     }
 
-    // Moves on to the next line. The error is `Obj` where the line is too long, `Long` where too many bytes came, and `Read`.
+    // Moves on to the next line. The error is `Obj` for a line that is too long, `Long` for too many bytes, or `Read`.
     fn next<S: Source>(&mut self, source: &mut S) -> Result<NextText, FarFault>
         requires { CanCount self.old }
         ensures moved { Moves S.Source source.old source.new self.old self.new result }
@@ -82,7 +81,7 @@ impl FrameLines {
         line_found(found, self.passed + 1)
     }
 
-    // Answers the line that it stands at.
+    // Answers the present line.
     fn answer<K: Sink, L: Ledger>(
         &mut self,
         posed: &mut PosedMesh,
@@ -99,7 +98,7 @@ impl FrameLines {
         posed.answer_line(self.passed, self.reader.line(), sink, steps)
     }
 
-    // Answers the next line, and returns whether another may follow.
+    // Answers the next line, and returns whether another one may follow.
     fn answer_next<S: Source, K: Sink, L: Ledger>(
         &mut self,
         posed: &mut PosedMesh,
@@ -126,9 +125,8 @@ impl FrameLines {
         }
     }
 
-    /// Answers one line after another, up to the end of the input, and takes no memory.
-    ///
-    /// The answer to a line is flushed before the source is called again.
+    /// Answers one line after another, up to the end of the input. It takes no memory, and flushes each answer before it calls the source
+    /// again.
     pub(crate) fn answer_all<S: Source, K: Sink, L: Ledger>(
         &mut self,
         posed: &mut PosedMesh,

@@ -1,4 +1,4 @@
-//! The command `frames`: a mesh is read, and each line behind it is answered.
+//! The command `frames`: it reads a mesh, then answers each line behind it.
 
 ghost use Rattle.std.specs.Prelude.{◌≡◌, ◌≤◌, IfSome};
 ghost use Rattle.far_fault.specs.View.{outcome_of};
@@ -18,7 +18,7 @@ use raw_mesh::RawMesh;
 use std::alloc::Global;
 use std::sync::ledger::Ledger;
 
-// The mesh as it is, refined to a depth; the mesh that was read is dropped.
+// The mesh refined to a depth. The function drops the mesh that was read.
 fn start<L: Ledger>(
     alloc: Global,
     mesh: RawMesh,
@@ -31,7 +31,7 @@ fn start<L: Ledger>(
     PosedMesh::start(alloc, &mesh, depth, steps)
 }
 
-// Answers the frame lines, where there are any.
+// Answers the frame lines, if there are any.
 fn answer_lines<S: Source, K: Sink, L: Ledger>(
     posed: &mut PosedMesh,
     lines: Option<FrameLines>,
@@ -49,7 +49,7 @@ fn answer_lines<S: Source, K: Sink, L: Ledger>(
     }
 }
 
-// Answers a mesh that was read, and the frame lines behind it.
+// Answers the lines behind a mesh that was read.
 fn answer_part<S: Source, K: Sink, L: Ledger>(
     alloc: Global,
     part: MeshPart,
@@ -68,9 +68,8 @@ fn answer_part<S: Source, K: Sink, L: Ledger>(
     answer_lines(&mut posed, lines, source, sink, steps)
 }
 
-/// Runs `frames`: reads a mesh up to the line `frames`, and answers each line behind it before it reads on.
-///
-/// It takes no memory once the mesh is refined.
+/// Runs `frames`: reads a mesh up to the line `frames`, then answers each line behind it before it reads the next. It takes no memory
+/// once the mesh is refined.
 pub(crate) fn run_frames<S: Source, K: Sink, L: Ledger>(
     alloc: Global,
     options: &FramesOptions,

@@ -1,4 +1,4 @@
-//! What a source has: its bytes, and the mesh that they are the text of.
+//! The bytes of a source, and the mesh of their text.
 
 ghost use Rattle.std.specs.Prelude.{◌≡◌, ◌≤◌, ◌^◌, length, IfOk, IfErr, MatchResult, OnOk};
 ghost use Rattle.far_model.specs.Answer.{byte_limit};
@@ -14,7 +14,7 @@ use mesh_answers::mesh_of_text;
 use raw_mesh::RawMesh;
 use std::alloc::Global;
 
-/// How many bytes an input may have.
+/// The greatest number of bytes of an input.
 pub(crate) const LIMIT: usize = 1 << 28;
 
 /// The fault of a source that could not be read to its end.
@@ -28,7 +28,7 @@ pub(crate) fn fault_of_input(fault: InputFault) -> FarFault
     }
 }
 
-/// All bytes that a source has.
+/// All bytes of a source.
 pub(crate) fn bytes_of<S: Source>(alloc: Global, source: &mut S) -> Result<Vec<u8>, FarFault>
     ensures all { IfOk result (λ bytes. Took (S.left source.old) (S.left source.new) bytes.items) }
     ensures dry { OnOk result (IsDry (S.left source.new)) }
@@ -42,7 +42,7 @@ pub(crate) fn bytes_of<S: Source>(alloc: Global, source: &mut S) -> Result<Vec<u
     }
 }
 
-/// The mesh of a source, which is read to its end.
+/// The mesh of a source, which the function reads to its end.
 pub(crate) fn read_mesh<S: Source>(alloc: Global, source: &mut S) -> Result<RawMesh, FarFault>
     ensures { MatchResult result (λ mesh. IsMeshOf S.Source source.old source.new mesh)
         (λ fault. (command : ReadCommand) → IsRefused S.Source (Reads command) source.old source.new (fault_of fault)) }

@@ -20,18 +20,18 @@ use obj_text::words_of;
 use raw_mesh::RawMesh;
 use std::alloc::Global;
 
-/// What ends the lines of a mesh.
+/// The end of the lines of a mesh.
 #[derive(Clone, Copy, Debug, PartialEq, Eq)]
 pub(crate) enum MeshEnd {
-    /// A line `frames` that LF closes, with its number, which counts from 1.
+    /// A line `frames` that a line feed closes, with its number, counted from 1.
     Closed { number: u32 },
-    /// A line `frames` at the end of the input, which nothing closes.
+    /// A line `frames` at the end of the input, without a line feed.
     Last,
     /// The end of the input.
     Input,
 }
 
-/// A mesh that was read, and the frame lines, where a line `frames` was closed behind it.
+/// A mesh that was read, and the frame lines, if a closed line `frames` follows it.
 #[derive(Drop)]
 pub(crate) struct MeshPart {
     pub(crate) mesh: RawMesh,
@@ -48,7 +48,7 @@ fn is_frames(line: &[u8]) -> bool
     }
 }
 
-// Whether the first word of a line is `frames`, by the bytes before the line. Before the first line there are none.
+// Whether the first word of a line is `frames`. `before` has the bytes before the line, none for the first line.
 fn is_frames_after(before: &[u8], line: &[u8]) -> bool
     ensures { (lines : List (List ℕ)) → before.now ≡ text_of_lines lines → result ≡ is_frames_line (words_after lines line.now) }
 {
@@ -59,7 +59,7 @@ fn is_frames_after(before: &[u8], line: &[u8]) -> bool
     }
 }
 
-// Moves on to the next line, and returns what ends the mesh there. The line has this number.
+// Moves on to the next line, and returns the end of the mesh if it is there.
 fn next_mesh_line<S: Source>(
     text: &mut TextReader,
     number: u32,
@@ -138,7 +138,7 @@ fn part_before(
     part_of(alloc, text.before(), scale, Some(lines))
 }
 
-// Reads the lines of a mesh, and makes the mesh of them.
+// Reads the lines of a mesh, and makes the mesh from them.
 fn part_of_text<S: Source>(
     alloc: Global,
     options: &FramesOptions,
@@ -161,10 +161,9 @@ fn part_of_text<S: Source>(
     }
 }
 
-/// Reads the mesh of a source up to the line `frames`, or else up to the end of the input.
+/// Reads the mesh of a source up to the line `frames`, or to the end of the input. The function drops the text before it returns.
 ///
-/// The text that was read is dropped before this returns. The error is `Obj` with the least line that is refused, `Long` where
-/// more than 2^28 bytes came, `Read` where a read failed, or `Memory`.
+/// The error is `Obj` with the first bad line, `Long` for more than 2^28 bytes, `Read` if a read failed, or `Memory`.
 pub(crate) fn read_part<S: Source>(
     alloc: Global,
     options: &FramesOptions,

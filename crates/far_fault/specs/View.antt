@@ -1,4 +1,4 @@
--- The faults and the outcomes of the code, as those of the definitions.
+-- The faults and the outcomes of the code as those of the definitions.
 use Rattle.std.specs.Prelude.{Option, Some, None, Result, Ok, Err}
 use Rattle.subdiv_model.specs.Fault as model
 use Rattle.obj_tags.specs.View.{cause_of}
@@ -15,22 +15,26 @@ use Rattle.far_fault.specs.declared.fault.PlaceFault.TheVariants.{NoFace, NotReg
 use Rattle.far_fault.specs.declared.fault.FarFault.{FarFault}
 use Rattle.far_fault.specs.declared.fault.FarFault.TheVariants.{Usage, Read, Long, Obj, Mesh, TooLarge, Overflow, Limit, Place, Table, Differs, Controls, Write, Memory}
 
+-- a track of the code as one of the definitions
 abbrev pub track_of : Track → model.Track
 track_of Positions = model.Positions
 track_of Texture = model.Texture
 track_of LimitRows = model.LimitRows
 track_of Patch = model.Patch
 
+-- a cause why a point has no limit point, as one of the definitions
 abbrev pub limit_cause_of : LimitCause → model.LimitCause
 limit_cause_of (Dart v) = model.Dart v
 limit_cause_of (SemiSharp v) = model.SemiSharp v
 
+-- a fault of a place as one of the definitions
 abbrev pub place_fault_of : PlaceFault → model.PlaceFault
 place_fault_of (NoFace count) = model.NoFace count
 place_fault_of (NotRegular face) = model.NotRegular face
 place_fault_of (NoCorner count) = model.NoCorner count
 place_fault_of (IsHole face) = model.IsHole face
 
+-- a fault of the code as one of the definitions
 abbrev pub fault_of : FarFault → model.Fault
 fault_of (Usage word) = model.Usage word
 fault_of Read = model.Read
@@ -47,7 +51,7 @@ fault_of (Controls count) = model.Controls count
 fault_of Write = model.Write
 fault_of Memory = model.Memory
 
--- the fault of a run, where it has one
+-- the fault of a run, or none
 abbrev pub outcome_of : Result (Unit {0}) FarFault → Option model.Fault
 outcome_of (Ok done) = None
 outcome_of (Err fault) = Some (fault_of fault)

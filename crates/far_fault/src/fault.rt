@@ -14,7 +14,7 @@ use std::fmt;
 use table_file::{TableCause, TableFault};
 use text_pieces::Pieces;
 
-/// The values in which a number passes its bound.
+/// A group of values whose numbers can pass their bounds.
 #[derive(Clone, Copy, Debug, PartialEq, Eq)]
 pub enum Track {
     /// The positions of the points.
@@ -27,34 +27,34 @@ pub enum Track {
     Patch,
 }
 
-/// Why a point of a level has no limit point. The field is the point, counted from 0.
+/// The cause why a point of a level has no limit point. The field is the point, counted from 0.
 #[derive(Clone, Copy, Debug, PartialEq, Eq)]
 pub enum LimitCause {
     /// One infinitely sharp edge ends at the point.
     Dart(u32),
-    /// The point or an edge at it is semi-sharp.
+    /// The point or one of its edges is semi-sharp.
     SemiSharp(u32),
 }
 
-/// Why a place on a level has no answer. Faces and corners are counted from 0.
+/// The cause why a place of a face has no patch or no leaf. Faces and corners are counted from 0.
 #[derive(Clone, Copy, Debug, PartialEq, Eq)]
 pub enum PlaceFault {
-    /// The level has no face of the number that is asked for. `count` is how many it has.
+    /// The level does not have the requested face. `count` is the number of its faces.
     NoFace { count: u32 },
-    /// The face is no quad, or one of its corners is at the boundary, sharp, or without four quads around it.
+    /// The face is not a quad, or one of its corners is sharp, on a boundary, or not surrounded by four quads.
     NotRegular { face: u32 },
-    /// The face has no place with the corner that is asked for. `count` is how many corners it has. Each of them has places, unless
-    /// there are four: then corner 0 has all of them.
+    /// The face has no places with the requested corner. `count` is the number of its corners. A quad has all its places at corner 0; any
+    /// other face has places at each corner.
     NoCorner { count: u32 },
     /// The face is a hole.
     IsHole { face: u32 },
 }
 
-/// The fault of a run. Each fault has a status and a line on standard error.
+/// The fault of a run. Each fault has an exit status and a line on standard error.
 #[derive(Clone, Copy, Debug, PartialEq, Eq)]
 pub enum FarFault {
-    /// The words are no command. `word` is the place of the first bad one, counted from 0, or the
-    /// number of words where a required option is missing.
+    /// The words are not a command. `word` is the place of the first bad word, counted from 0, or the number of words if a required
+    /// option is missing.
     Usage {
         word: u32,
     },
@@ -62,18 +62,18 @@ pub enum FarFault {
     Read,
     /// The input has more than 2^28 bytes.
     Long,
-    /// A line of the input is refused. `line` is the least such line, counted from 1, and `cause` tells what is wrong with it.
+    /// A line of the input is refused. `line` is the first such line, counted from 1, and `cause` its fault.
     Obj {
         line: u32,
         cause: ObjCause,
     },
-    /// The mesh is no manifold. The field is its first fault, in which faces and vertices are counted from 0.
+    /// The mesh is not a manifold. The field is its first fault; it counts faces and vertices from 0.
     Mesh(MeshFault),
-    /// The mesh is a manifold, and a count passes its limit. The field is the first such count. It counts levels from 1, and faces
-    /// and vertices from 0.
+    /// The mesh is a manifold, but a count passes its limit. The field is the first such count. It counts levels from 1, and faces and
+    /// vertices from 0.
     TooLarge(Counted),
-    /// A number passes its bound. `track` names the values, `level` is the first such level, and `kind` names the number. The level
-    /// is at least 1, and 0 only where the rows of a patch lie on the mesh itself.
+    /// A number passes its bound. `track` is its group of values, `level` the first level with such a number, and `kind` its kind. Levels
+    /// are counted from 1; only the rows of a patch on the mesh itself have level 0.
     Overflow {
         track: Track,
         level: u32,
@@ -81,18 +81,18 @@ pub enum FarFault {
     },
     /// A point has no limit point. The field names the least such point.
     Limit(LimitCause),
-    /// A place on a level has no answer. The level is the last one, or for a map that of the mesh.
+    /// A place of a face has no patch or no leaf. The face is one of the last level, or for a map one of the mesh.
     Place(PlaceFault),
     /// A stored table is refused. `line` is its first bad line, counted from 1 over the whole input.
     Table {
         line: u32,
         cause: TableCause,
     },
-    /// A stored table differs from that of the mesh. `row` is the first such row, counted from 0.
+    /// A stored table differs from the table of the mesh. `row` is the first different row, counted from 0.
     Differs {
         row: u32,
     },
-    /// There are not as many points as the stored table has control points. `count` is how many there are.
+    /// The number of points is not the stored table's number of control points. `count` is the number of points.
     Controls {
         count: u32,
     },
@@ -112,7 +112,7 @@ impl From<Memory> for FarFault {
     }
 }
 
-/// Returns the exit status of a fault, from 2 to 11 or from 13 to 16, as `docs/formats.md` lists it.
+/// Returns the exit status of a fault: 2 to 11 or 13 to 16. The page of refusals in the guide lists them.
 pub fn status(fault: &FarFault) -> u8
     ensures { result ≡ fault_status (fault_of fault.now) }
 {
@@ -134,7 +134,7 @@ pub fn status(fault: &FarFault) -> u8
     }
 }
 
-// Returns the words of an overflow before its level, which name the track.
+// Returns the words that name the track, before the level.
 fn track_words(track: Track) -> &'static str
     ensures { result.now ≡ track_text (track_of track) ++ codes " level " }
 {
@@ -146,7 +146,7 @@ fn track_words(track: Track) -> &'static str
     }
 }
 
-// Returns the words of an overflow after its level, which name the kind.
+// Returns the words that name the kind, after the level.
 fn kind_words(kind: OverflowKind) -> &'static str
     ensures { result.now ≡ codes ": " ++ (kind_text (kind_of kind) ++ codes " overflow") }
 {
@@ -158,7 +158,7 @@ fn kind_words(kind: OverflowKind) -> &'static str
     }
 }
 
-// Returns the words of a point that has no limit point.
+// Returns the words of the cause why a point has no limit point.
 fn limit_pieces(cause: LimitCause) -> Pieces
     ensures { result ≡ limit_cause_text (limit_cause_of cause) }
 {
@@ -168,7 +168,7 @@ fn limit_pieces(cause: LimitCause) -> Pieces
     }
 }
 
-// Returns the words of a place that has no answer.
+// Returns the words of the cause why a place has no patch or no leaf.
 fn place_pieces(fault: PlaceFault) -> Pieces
     ensures { result ≡ place_fault_text (place_fault_of fault) }
 {

@@ -42,10 +42,10 @@ fn put_line<K: Sink>(out: &mut Out<'_, K>, pieces: &Pieces) -> Result<(), WriteF
     put_piece(out, &Piece::Text("\n"))
 }
 
-/// Writes the fault's line, which begins with `far: ` and ends with LF, and flushes. The call takes no memory.
+/// Writes the line of a fault, from `far: ` to the line feed, and flushes. It takes no memory.
 ///
-/// The call returns `WriteFailed` only where the sink's count of faults rose. The sink then holds what it held and a prefix of the
-/// line, or all of it where the flush failed.
+/// Error `WriteFailed`, only if the sink's count of faults rose: the sink then holds a prefix of the line, or the whole line if the flush
+/// failed.
 pub fn report<K: Sink>(fault: &FarFault, sink: &mut K) -> Result<(), WriteFailed>
     ensures { Writes K.Sink sink.old sink.new (fault_line (fault_of fault.now)) result }
 {

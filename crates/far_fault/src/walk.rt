@@ -1,4 +1,4 @@
-//! The fault of a walk over levels as that of a run.
+//! The fault of a walk over levels as the fault of a run.
 
 ghost use Rattle.std.specs.Prelude.{◌≡◌};
 ghost use Rattle.far_fault.specs.View.{fault_of, track_of};
@@ -8,9 +8,10 @@ use crate::fault::{FarFault, Track};
 use level_topology::Counted;
 use level_walk::{Cause, WalkFault};
 
-/// Returns the fault of a run for the fault of a walk over the levels of a track.
+/// Returns the fault of a run for the fault of a walk over the levels of a track. A number that passes its bound gives `Overflow` with
+/// the track. Too many faces or entries give `TooLarge`, without the track.
 ///
-/// The level is the first that the walk did not reach, counted from 1. `TooLarge` names no track, and `Memory` names no level.
+/// The level is the first that the walk did not reach, counted from 1. `Memory` names no level.
 pub fn fault_of_walk(fault: WalkFault, track: Track) -> FarFault
     ensures { fault_of result ≡ walk_fault_of (track_of track) fault }
 {

@@ -1,4 +1,4 @@
--- What stands where in a buffer, after each of its changes.
+-- The parts of a buffer after each of its changes.
 use Rattle.std.proofs.Common.{◌≡◌, ℕ, ◌+◌, ◌-◌, ◌<◌, ◌≤◌, List, ◌∷◌, ◌++◌, length, take, drop, Some, None, Result, Ok, Err, IsErr, arith, sym, ap, ◌∙◌, subst, length-drop}
 use Rattle.std.specs.List.{position, list_any}
 use Rattle.std.proofs.Math.Seq.{take-add}
@@ -27,7 +27,7 @@ rest-part at k count bytes h =
     let split : k + (count - k) ≡ count = omega (arith, h) in
     ap (λ n. drop k (take n (drop at bytes))) (sym split) ∙ drop-take k (count - k) (drop at bytes) ∙ ap (take (count - k)) (drop-drop k at bytes)
 
--- where no LF was found, all that is pending is known
+-- If no LF was found, every pending byte was searched.
 pub placed-plain : {bytes pending : List ℕ} {start size from count searched : ℕ} → IsPlaced bytes start size from count searched →
     part from count bytes ≡ pending → None ≡ position is_lf pending → IsPlaced bytes start 0 from count count × HasNoLf (part from count bytes)
 placed-plain {bytes} {pending} {start} {size} {from} {count} {searched} p same none =
@@ -41,7 +41,7 @@ placed-plain {bytes} {pending} {start} {size} {from} {count} {searched} p same n
       plain,
     )
 
--- where one was found, the line and what came after it
+-- If an LF was found, the line and the bytes after it.
 pub placed-closed : {bytes pending : List ℕ} {start size from count searched k : ℕ} → IsPlaced bytes start size from count searched →
     part from count bytes ≡ pending → Some k ≡ position is_lf pending →
     (k < count) × IsClosed pending (part from k bytes) (part (from + (k + 1)) (count - (k + 1)) bytes)
@@ -61,14 +61,14 @@ placed-closed {bytes} {pending} {start} {size} {from} {count} {searched} {k} p s
 kept-part : (from count : ℕ) (old new : List ℕ) → take (from + count) new ≡ take (from + count) old → part from count new ≡ part from count old
 kept-part from count old new same = sym (drop-take from count new) ∙ ap (drop from) same ∙ drop-take from count old
 
--- what was written behind what is pending
+-- The bytes written behind the pending ones.
 grown-part : (from count n : ℕ) (old new : List ℕ) → take (from + count) new ≡ take (from + count) old →
     part from (count + n) new ≡ part from count old ++ take n (drop (from + count) new)
 grown-part from count n old new same =
     take-add count n (drop from new) ∙ ap (λ r. take count (drop from new) ++ take n r) (drop-drop count from new)
     ∙ ap (λ r. r ++ take n (drop (from + count) new)) (kept-part from count old new same)
 
--- a slice of the buffer was written to behind what is pending, and was written back whole
+-- A slice of the buffer behind the pending bytes was written, and written back whole.
 module _ {start size from count searched : ℕ} (len : ℕ) (old slice new rest : List ℕ) (placed : IsPlaced old start size from count searched)
     (lent : slice ≡ old) (before : take (from + count) new ≡ take (from + count) slice) (same : length new ≡ length slice) (long : length slice ≡ len) where
   back : take len (new ++ rest) ≡ new

@@ -3,7 +3,7 @@ use Rattle.std.proofs.Common.{◌≡◌, ℕ, ◌+◌, ◌-◌, ◌≤◌, List,
 use Rattle.std.proofs.Math.Seq.{take-add}
 use Rattle.far_io.specs.Bytes.{Took, Added}
 
--- what two calls took
+-- Two reads take the bytes of both.
 pub Took-more : (a b c : Option (List ℕ)) (xs ys : List ℕ) → Took a b xs → Took b c ys → Took a c (xs ++ ys)
 Took-more (Some a) (Some b) (Some c) xs ys p q = p ∙ ap (λ r. xs ++ r) q ∙ sym (append_assoc xs ys c)
 Took-more (Some a) (Some b) None xs ys p q = q
@@ -12,7 +12,7 @@ Took-more None (Some b) c xs ys p q = absurd p
 Took-more None None (Some c) xs ys p q = q
 Took-more None None None xs ys p q = tt
 
--- what two calls added
+-- Two writes add the bytes of both.
 pub Added-more : (a b c : Option (List ℕ)) (xs ys : List ℕ) → Added a b xs → Added b c ys → Added a c (xs ++ ys)
 Added-more (Some a) (Some b) (Some c) xs ys p q = q ∙ ap (λ r. r ++ ys) p ∙ append_assoc a xs ys
 Added-more (Some a) (Some b) None xs ys p q = q

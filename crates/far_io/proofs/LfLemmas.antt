@@ -11,7 +11,7 @@ use Rattle.std.proofs.lemmas.List.Quantifiers.{position-Some}
 use Rattle.far_io.specs.Lines.{is_lf, HasNoLf, IsClosed}
 
 module _ (test : ℕ → Bool) where
-  -- what is known not to pass is skipped
+  -- A search may skip a prefix that is known not to pass.
   skip : (searched : ℕ) (xs : List ℕ) → searched ≤ length xs → list_any test (take searched xs) ≡ false →
       position_or_len test xs ≡ searched + position_or_len test (drop searched xs)
   skip zero xs h e = omega arith
@@ -50,11 +50,11 @@ some-or : (test : Bool) (place : ℕ) → cond test (Some place) None ≡ None �
 some-or true place e = cc
 some-or false place e = refl
 
--- none was found
+-- No LF was found.
 pub has-none : (xs : List ℕ) → position is_lf xs ≡ None → HasNoLf xs
 has-none xs e = list_any_none is_lf xs (none-passes is_lf xs (ltb-false (position_or_len is_lf xs) (length xs) (some-or _ _ e)))
 
--- LF stands at the place that was found
+-- The place found holds an LF.
 pub lf-at : (xs : List ℕ) (k : ℕ) → position is_lf xs ≡ Some k → get_or xs k 0 ≡ 10
 lf-at xs k e =
     let at = position-Some is_lf xs k 0 e in

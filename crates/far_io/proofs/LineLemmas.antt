@@ -18,7 +18,7 @@ pub rose-later : (start old new : ℕ) → start ≤ old → Rose old new → Ro
 rose-later start old new later (inl rose) = inl (omega (arith, later, rose))
 rose-later start old new later (inr end) = inr end
 
--- what was pending at first, and all that came
+-- The bytes pending at first, and all bytes that came.
 pub joined : (first pending bytes more : List ℕ) → pending ≡ first ++ bytes → first ++ (bytes ++ more) ≡ pending ++ more
 joined first pending bytes more kept = sym (append_assoc first bytes more) ∙ ap (λ r. r ++ more) (sym kept)
 
@@ -103,7 +103,7 @@ module _ {S : Type 0} {source : Ghosts S} where
     room = room;
   }
 
-  -- a read that put no byte behind what is pending
+  -- A read that added no byte.
   pub none-came : (a b : LineInput) (old new : BufferedLine) (s t : S) (most n : ℕ) → n ≡ 0 → FillsBy source old new s t most n → old.pending ≡ a.pending →
       new.pending ≡ b.pending → HasNoLf a.pending → b.line ≡ [] → b.allowed + n ≡ a.allowed → source.faults s ≤ source.faults t → b.room ≡ a.room →
       ReadsOn source a b s t

@@ -1,4 +1,4 @@
--- Pieces of what is left and of what is written.
+-- Pieces of the bytes left and of the bytes written.
 use Rattle.std.proofs.Common.{◌≡◌, ℕ, ◌<◌, ◌≤◌, List, [], ◌∷◌, ◌++◌, length, take, drop, min, arith, sym, ap, ◌∙◌, ◌%◌, Result, Ok, Err, IfOk}
 use Rattle.std.specs.List.{All}
 use Rattle.std.proofs.Math.Nat.{mod-lt}
@@ -6,7 +6,7 @@ use Rattle.std.proofs.lemmas.List.{take-append-drop, drop-append-le}
 use Rattle.std.proofs.lemmas.List.Elements.{All-get_or}
 use Rattle.far_io.specs.Memory.{piece_of}
 
--- a call passes on a byte at least, where there is one
+-- A call passes on at least one byte, if there is one.
 pub piece_of-some : (sizes : List ℕ) (call n : ℕ) → All (λ size. 0 < size) sizes → 0 < n → 0 < piece_of sizes call n
 piece_of-some [] call n positive some = some
 piece_of-some (size ∷ sizes) call n positive some =
@@ -14,7 +14,7 @@ piece_of-some (size ∷ sizes) call n positive some =
     let here = All-get_or (λ s. 0 < s) (size ∷ sizes) (call % length (size ∷ sizes)) 1 place positive in
     omega (arith, here, some)
 
--- what a read leaves of the part that it is lent, it leaves of the whole buffer
+-- The bytes that a read leaves in its part of a buffer, it leaves in the whole buffer.
 pub rest-of_part : (size n : ℕ) (part buf : List ℕ) → n ≤ length part → length part ≡ length (take size buf) →
     drop n part ≡ drop n (take size buf) → drop n (part ++ drop size buf) ≡ drop n buf
 rest-of_part size n part buf within same rest =
@@ -23,7 +23,7 @@ rest-of_part size n part buf within same rest =
     ∙ sym (drop-append-le n (take size buf) (drop size buf) (omega (arith, within, same)))
     ∙ ap (drop n) (take-append-drop size buf)
 
--- what a read that succeeded leaves of the part that it is lent, it leaves of the whole buffer
+-- The bytes that a successful read leaves in its part of a buffer, it leaves in the whole buffer.
 pub OnOk-rest : {E : Type 0} (r : Result ℕ E) (size most : ℕ) (part buf : List ℕ) → IfOk r (λ n. n ≡ min most (length (take size buf))) →
     length part ≡ length (take size buf) → IfOk r (λ n. drop n part ≡ drop n (take size buf)) →
     IfOk r (λ n. drop n (part ++ drop size buf) ≡ drop n buf)

@@ -1,4 +1,4 @@
--- What stands where in a text, and one read of it after another.
+-- The parts of a text, and one read after another.
 use Rattle.std.proofs.Common.{◌≡◌, ℕ, ◌+◌, ◌-◌, ◌<◌, ◌≤◌, List, [], ◌∷◌, ◌++◌, length, take, drop, Option, Some, None, Result, Ok, Err, arith, refl, sym, ap, ◌∙◌, append_assoc, append-nil, length-append, length-drop}
 use Rattle.std.specs.List.{position, list_any}
 use Rattle.std.proofs.Math.Seq.{take-add}
@@ -17,7 +17,7 @@ use Rattle.far_io.proofs.BytesLemmas.{Took-more}
 use Rattle.far_io.proofs.LfLemmas.{has-none, found-at, lf-at}
 use Rattle.far_io.proofs.LineLemmas.{Took-none, rose-later, joined}
 
--- all before a place is what stands before the line, the line, and its end
+-- The bytes before a place are those before the line, the line, and its end.
 pub before-place : {bytes : List ℕ} {start size from searched : ℕ} → IsTextPlaced bytes start size from searched →
     take from bytes ≡ take start bytes ++ (part start size bytes ++ part (start + size) (from - (start + size)) bytes)
 before-place {bytes} {start} {size} {from} {searched} placed =
@@ -40,7 +40,7 @@ text-plain {bytes} {pending} {start} {size} {from} {searched} {all} placed same 
       plain,
     )
 
--- where one was found, the line and what came after it
+-- If an LF was found, the line and the bytes after it.
 pub text-closed : (bytes pending : List ℕ) (from k : ℕ) → drop from bytes ≡ pending → Some k ≡ position is_lf pending →
     IsClosed pending (part from k bytes) (drop (from + (k + 1)) bytes)
 text-closed bytes pending from k same found =
@@ -56,12 +56,12 @@ text-end bytes pending from k n same found one =
     ap (λ m. take m (drop (from + k) bytes)) one ∙ ap (take 1) (sym (drop-drop k from bytes)) ∙ ap (take 1) (drop_more (drop from bytes) k 0 at.0)
     ∙ ap (λ b. b ∷ []) (lf-at (drop from bytes) k is)
 
--- it stands behind all that was passed
+-- A reader between lines is behind all that it passed.
 pub passed-between : (a : TextInput) → IsBetween a → a.before ≡ passed a
 passed-between a between =
     sym (append-nil a.before) ∙ ap (λ r. a.before ++ r) (sym (ap (λ r. r ++ a.end) between.line ∙ between.end))
 
--- behind the first LF stands less than came with it, where no LF was pending
+-- If no LF was pending, fewer bytes follow the first LF than came with it.
 fewer-than-came : (pending piece line after : List ℕ) → HasNoLf pending → pending ++ piece ≡ line ++ (10 ∷ after) → length after < length piece
 fewer-than-came [] piece line after plain is = omega (arith, ap length is, length-append line (10 ∷ after))
 fewer-than-came (x ∷ pending) piece [] after plain is = absurd (grind (arith, common_steps, plain, is))
@@ -69,7 +69,7 @@ fewer-than-came (x ∷ pending) piece (y ∷ line) after plain is =
     let less : HasNoLf pending = grind (arith, common_steps, plain) in
     fewer-than-came pending piece line after less (ap (drop 1) is)
 
--- where a line was found, no more is pending than came last
+-- If a line was found, no more bytes are pending than came last.
 found-few : (pending : List ℕ) (new : TextInput) (piece : List ℕ) (left : Option (List ℕ)) (found : NextText) → HasNoLf pending →
     IsNextText pending new piece left (Ok found) → length new.pending ≤ length piece
 found-few pending new piece left Closed plain next = omega (arith, fewer-than-came pending piece new.line new.pending plain next.0.0)
@@ -102,7 +102,7 @@ counted-later a b c bytes more (Err Long) h k = (omega (arith, h, k.0, length-ap
 counted-later a b c bytes more (Err Memory) h k = omega (arith, h, k, length-append bytes more)
 
 module _ {S : Type 0} {source : Ghosts S} where
-  -- where nothing came, and what was passed was passed before
+  -- Before the first read nothing came, and all passed bytes were passed earlier.
   pub text-at-first : (a b : TextInput) (s : S) → b.pending ≡ a.pending → HasNoLf b.pending → IsBetween b → b.before ≡ passed a → b.allowed ≡ a.allowed →
       ReadsOnText source a b s s
   text-at-first a b s same plain between before allowed = record {

@@ -1,8 +1,7 @@
--- What contracts see of a reader or a writer of std.
+-- What contracts see of a reader or writer of std.
 use Rattle.std.specs.Prelude.{ℕ, List, Option}
 
--- the bytes that a reader has left or a writer holds, where its type tells them, and how many calls
--- failed
+-- The bytes that the reader has left or the writer holds, if its type reports them, and the count of failed calls.
 pub record Stream : Type 0 where
   pub known : Option (List ℕ)
   pub faults : ℕ

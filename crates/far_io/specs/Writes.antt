@@ -1,10 +1,9 @@
--- What a call that writes a text does to the sink that it is lent.
+-- The effect of a call that writes a text to a borrowed sink.
 use Rattle.std.specs.Prelude.{ℕ, ◌≡◌, ◌≤◌, List, Result, OnOk, OnErr}
 use Rattle.far_io.specs.Bytes.{Rose, Added, AddedPrefix}
 use Rattle.far_io.specs.declared.sink.Sink.{Ghosts}
 
--- The whole text stands after what was held. After a fault a prefix of it does, which may be all of it, and the count of
--- faults rose.
+-- On `Ok` the sink added the whole text. After an error it added a prefix, perhaps the whole text, and its count of faults rose.
 pub record Writes {K E : Type 0} (sink : Ghosts K) (old new : K) (text : List ℕ) (result : Result (Unit {0}) E) : Type 0 where
   pub ok : OnOk result (Added (sink.held old) (sink.held new) text)
   pub prefix : OnErr result (AddedPrefix (sink.held old) (sink.held new) text)

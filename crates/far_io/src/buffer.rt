@@ -10,14 +10,14 @@ use ratio128::Memory;
 use std::alloc::Global;
 use std::marker::Model;
 
-// A line and what came after it, in a buffer of a fixed length.
+// The current line and the bytes read after it, in a buffer of fixed length.
 #[derive(Drop)]
 pub(crate) struct LineBuffer {
     bytes: Vec<u8>,
-    // Where the line begins, and how long it is.
+    // Where the line begins, and its length.
     start: usize,
     size: usize,
-    // Where what is pending begins, how long it is, and how many of its first bytes are known to be no LF.
+    // Where the pending bytes begin, their count, and how many of them were already searched for LF.
     from: usize,
     count: usize,
     searched: usize,
@@ -35,7 +35,7 @@ impl Model for LineBuffer {
 }
 
 impl LineBuffer {
-    // A buffer of this length, which begins with these bytes.
+    // Returns a buffer of `room` bytes with the bytes of `first` pending.
     pub(crate) fn new(alloc: Global, room: usize, first: &[u8]) -> Result<LineBuffer, Memory>
         requires { length first.now ≤ room }
         ensures line { IfOk result (λ b. b.line ≡ []) }
@@ -65,7 +65,7 @@ impl LineBuffer {
         &self.bytes[self.from..self.from + self.count]
     }
 
-    // Whether what is pending fills the buffer.
+    // Whether the pending bytes fill the buffer.
     pub(crate) fn is_full(&self) -> bool
         ensures full { result ≡ true → self.now.room ≤ length self.now.pending }
         ensures short { result ≡ false → length self.now.pending < self.now.room }
@@ -73,14 +73,14 @@ impl LineBuffer {
         self.count >= self.bytes.len()
     }
 
-    // The place of the first LF that is pending.
+    // The place of the first pending LF.
     fn next_lf(&self) -> Option<usize>
         ensures { result ≡ position is_lf self.now.pending }
     {
         first_lf(self.pending(), self.searched)
     }
 
-    // Moves on to the next line, where the LF that closes it is here.
+    // Moves to the next line if its LF is pending. Returns whether it was.
     pub(crate) fn close(&mut self) -> bool
         ensures closed { result ≡ true → IsClosed self.old.pending self.new.line self.new.pending }
         ensures line { result ≡ false → self.new.line ≡ [] }
@@ -101,7 +101,7 @@ impl LineBuffer {
         true
     }
 
-    // Makes all that is pending the line, and returns whether it is not empty.
+    // Makes all pending bytes the line. Returns whether the line has any bytes.
     pub(crate) fn finish(&mut self) -> bool
         ensures some { result ≡ true → 0 < length self.new.line }
         ensures none { result ≡ false → self.new.line ≡ [] }
@@ -117,7 +117,7 @@ impl LineBuffer {
         self.size > 0
     }
 
-    // Moves what is pending to the front, where it ends at the end of the buffer.
+    // Moves the pending bytes to the front if no space follows them.
     fn make_space(&mut self)
         requires { length self.old.pending < self.old.room }
         ensures same { self.new.pending ≡ self.old.pending }
@@ -130,7 +130,7 @@ impl LineBuffer {
         }
     }
 
-    // Reads once behind what is pending, at most so many bytes, and gives up the line.
+    // Reads once behind the pending bytes, at most `most` bytes. The line becomes empty.
     fn read<S: Source>(&mut self, source: &mut S, most: usize) -> Result<usize, ReadFailed>
         requires space { 0 < self.old.space }
         requires some { 0 < most }
@@ -146,7 +146,7 @@ impl LineBuffer {
         Ok(n)
     }
 
-    // Reads once behind what is pending, at most so many bytes, and gives up the line.
+    // Reads once behind the pending bytes, at most `most` bytes, after making space. The line becomes empty.
     pub(crate) fn fill<S: Source>(
         &mut self,
         source: &mut S,
@@ -164,7 +164,7 @@ impl LineBuffer {
     }
 }
 
-// These bytes, and zeros behind them up to this length.
+// The bytes of `first`, padded with zeros to `room` bytes.
 fn padded(alloc: Global, room: usize, first: &[u8]) -> Result<Vec<u8>, Memory>
     requires { length first.now ≤ room }
     ensures first { IfOk result (λ bytes. take (length first.now) bytes.items ≡ first.now) }
@@ -176,7 +176,7 @@ fn padded(alloc: Global, room: usize, first: &[u8]) -> Result<Vec<u8>, Memory>
     Ok(bytes)
 }
 
-// Moves all bytes from this place on to the front.
+// Moves the bytes from `from` on to the front.
 fn to_front(bytes: &mut [u8], from: usize)
     requires { from ≤ length bytes.old }
     ensures moved { (count : ℕ) → from + count ≤ length bytes.old → take count bytes.new ≡ take count (drop from bytes.old) }

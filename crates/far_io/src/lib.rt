@@ -1,8 +1,8 @@
-//! Where bytes come from and where they go: sources and sinks that count their faults.
+//! Sources and sinks of bytes that count their failed calls, readers of lines over them, and implementations in memory and over std.
 //!
-//! A [`Source`] and a [`Sink`] tell contracts what bytes they have left or hold, if they know, and
-//! how many of their calls have failed. Code that is generic over them cannot raise that count, so
-//! a contract that ties a fault to it refuses a body that gives up without one.
+//! Contracts see the bytes a [`Source`] has left and a [`Sink`] holds, if its type reports them, and the count of its failed calls. Generic
+//! code cannot raise that count. A contract that ties an error to a raised count therefore rejects code that gives up without a failed
+//! call.
 #![tactic(auto)]
 
 mod buffer;

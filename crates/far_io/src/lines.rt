@@ -10,24 +10,24 @@ use ratio128::Memory;
 use std::alloc::Global;
 use std::marker::Model;
 
-/// What a reader of lines found next.
+/// What a [`LineReader`] found next.
 #[derive(Clone, Copy, Debug, PartialEq, Eq)]
 pub enum NextLine {
-    /// A line that LF closes.
+    /// A line closed by LF.
     Closed,
-    /// The input ended, and the line is all that came after the last LF. It is not empty.
+    /// The bytes after the last LF, at the end of the input. They are not empty.
     Last,
-    /// The input ended, and there is no line.
+    /// The end of the input, with no line.
     End,
-    /// As many bytes as the reader holds came without LF.
+    /// The pending bytes fill the reader and contain no LF.
     Full,
-    /// More bytes came than are allowed.
+    /// More bytes came than the reader allows.
     Long,
 }
 
-/// A reader of lines of a bounded length.
+/// A reader of lines of bounded length.
 ///
-/// It takes all its memory when it is made. It reads only where no LF is pending.
+/// It takes all its memory in `new`. It reads from the source only if no LF is pending.
 #[derive(Drop)]
 pub struct LineReader {
     buffer: LineBuffer,
@@ -44,10 +44,9 @@ impl Model for LineReader {
 }
 
 impl LineReader {
-    /// A reader that holds up to `room` bytes of one line, with its LF, and to which up to `allowed` bytes may come.
+    /// Returns a reader that holds one line of up to `room` bytes, LF included, and takes up to `allowed` bytes from its source.
     ///
-    /// The bytes of `first` were read before, and are not counted. The room is not below the length of `first`.
-    /// `Memory` is returned where memory ran out.
+    /// The bytes of `first` were read earlier: they are pending, and do not count as taken. `Memory`: memory ran out.
     pub fn new(
         alloc: Global,
         room: usize,
@@ -64,18 +63,18 @@ impl LineReader {
         Ok(LineReader { buffer, allowed })
     }
 
-    /// The line that it stands at, without its LF.
+    /// The current line, without its LF. It is empty before the first `next` and after `End`, `Full`, `Long` or an error.
     pub fn line(&self) -> &[u8]
         ensures { result.now ≡ self.now.line }
     {
         self.buffer.line()
     }
 
-    /// Moves on to the next line, and takes no memory.
+    /// Moves to the next line. The call takes no memory.
     ///
-    /// A line whose LF is pending is returned without a read. `Full` and `Long` drop no byte that is pending, and neither
-    /// does `ReadFailed`, which is returned only where the source's count of faults rose. The byte after the last allowed
-    /// one is read and dropped by `Long`.
+    /// If the LF of that line is pending, the call does not read. `Full`, `Long` and `ReadFailed` keep every pending byte; after
+    /// `ReadFailed` a later call goes on from there. `Long` reads one byte more than `allowed` and drops it. `ReadFailed`: a read of the
+    /// source failed.
     pub fn next<S: Source>(&mut self, source: &mut S) -> Result<NextLine, ReadFailed>
         ensures reads { ReadsLine S.Source self.old self.new source.old source.new result }
         ensures still { list_any is_lf self.old.pending ≡ true → source.new ≡ source.old }
@@ -99,7 +98,7 @@ impl LineReader {
         }
     }
 
-    // Reads once, where there is room.
+    // Reads once if the buffer has space and bytes are allowed.
     fn read_more<S: Source>(&mut self, source: &mut S) -> Result<Option<NextLine>, ReadFailed>
         requires plain { HasNoLf self.old.pending }
         requires line { self.old.line ≡ [] }
@@ -114,7 +113,7 @@ impl LineReader {
         self.read_some(source)
     }
 
-    // Reads once behind what is pending.
+    // Reads once behind the pending bytes.
     fn read_some<S: Source>(&mut self, source: &mut S) -> Result<Option<NextLine>, ReadFailed>
         requires plain { HasNoLf self.old.pending }
         requires room { length self.old.pending < self.old.room }
@@ -132,7 +131,7 @@ impl LineReader {
         Ok(None)
     }
 
-    // Reads one byte, which is one too many.
+    // Tries to read one byte more than is allowed.
     fn past_bound<S: Source>(&mut self, source: &mut S) -> Result<Option<NextLine>, ReadFailed>
         requires plain { HasNoLf self.old.pending }
         requires line { self.old.line ≡ [] }
@@ -146,7 +145,7 @@ impl LineReader {
         Ok(Some(self.ended()))
     }
 
-    // What is found where the input has ended.
+    // The result of a read at the end of the input.
     fn ended(&mut self) -> NextLine
         requires { HasNoLf self.old.pending }
         ensures next { (left : Option (List ℕ)) → IsDry left → IsNext self.old self.new [] left (Ok result) }

@@ -8,8 +8,8 @@ use ratio128::Memory;
 use std::alloc::Global;
 use std::marker::Model;
 
-/// Bytes in memory, whose calls with stated numbers fail, and which may pass on its bytes in pieces.
-/// It is for tests of what a failing or a short read leaves.
+/// A source of bytes in memory. Planned calls fail, and the others may return the bytes in pieces. It serves tests of failing and short
+/// reads.
 #[derive(Drop)]
 pub struct MemSource {
     source: SureSource,
@@ -26,8 +26,7 @@ impl Model for MemSource {
 }
 
 impl MemSource {
-    /// A source of these bytes. The calls whose numbers, counted from 0, stand in `fails` fail, and
-    /// no others.
+    /// Returns a source of these bytes. Exactly the calls whose numbers, counted from 0, are in `fails` fail.
     pub fn new(bytes: Vec<u8>, fails: Vec<u32>) -> MemSource
         ensures left { result.left ≡ bytes.items }
         ensures plan { (result.fails ≡ fails.items) × (result.calls ≡ 0) }
@@ -41,11 +40,9 @@ impl MemSource {
         }
     }
 
-    /// A source of these bytes, whose calls pass on no more bytes than their size. The calls whose
-    /// numbers, counted from 0, stand in `fails` fail, and no others.
+    /// Returns a source of these bytes that reads them in pieces. Exactly the calls whose numbers, counted from 0, are in `fails` fail.
     ///
-    /// The calls take the sizes in turn, and begin again after the last: the size of call k, counted
-    /// from 0, is the one in place k mod `sizes.len()`. There is a size, and each is at least 1.
+    /// Call k, counted from 0, reads at most `sizes[k mod sizes.len()]` bytes. `sizes` is not empty, and each size is at least 1.
     pub fn in_pieces(bytes: Vec<u8>, fails: Vec<u32>, sizes: Vec<u32>) -> MemSource
         requires some { 0 < length sizes.items }
         requires positive { All (λ size. 0 < size) sizes.items }
@@ -67,9 +64,8 @@ impl Source for MemSource {
 
     ghost faults = { λ s. s.faults };
 
-    /// Reads as many bytes as are left and fit into the buffer, and no more than the size of this
-    /// call, unless the call is one of those that fail. That one counts a fault, and leaves the
-    /// bytes and the buffer as they were.
+    /// Reads as many bytes as are left, fit into the buffer, and fit the size of this call. A planned failure counts one fault, takes no
+    /// byte and leaves the buffer unchanged.
     fn read(&mut self, buf: &mut [u8]) -> Result<usize, ReadFailed>
         ensures planned { IsErr result ↔ Contains self.old.fails self.old.calls }
         ensures count { IfOk result (λ n. n ≡ piece_of self.old.sizes self.old.calls (min (length self.old.left) (length buf.old))) }
@@ -92,8 +88,8 @@ impl Source for MemSource {
     }
 }
 
-/// A sink of a fixed size in memory, whose calls with stated numbers fail, and which may take what is
-/// written in pieces. It is for tests of what a failing or a short write leaves.
+/// A sink of fixed size in memory. Planned calls fail, and the others may take a written piece in parts. It serves tests of failing and
+/// short writes.
 #[derive(Drop)]
 pub struct MemSink {
     sink: SureSink,
@@ -110,9 +106,10 @@ impl Model for MemSink {
 }
 
 impl MemSink {
-    /// A sink that holds up to `n` bytes, and takes all its memory here. The calls whose numbers,
-    /// counted from 0 over writes and flushes, stand in `fails` fail; the others do what those of a
-    /// `SureSink` do. `Memory` is returned where memory ran out.
+    /// Returns a sink that holds up to `n` bytes. It takes all its memory here.
+    ///
+    /// The calls whose numbers are in `fails` fail, counted from 0 over writes and flushes. Every other call acts as a call of `SureSink`.
+    /// `Memory`: memory ran out.
     pub fn with_room(alloc: Global, n: usize, fails: Vec<u32>) -> Result<MemSink, Memory>
         ensures empty { IfOk result (λ s. (s.store.held ≡ []) × (s.store.room ≡ n)) }
         ensures plan { IfOk result (λ s. (s.fails ≡ fails.items) × (s.calls ≡ 0)) }
@@ -127,11 +124,10 @@ impl MemSink {
         })
     }
 
-    /// A sink that holds up to `n` bytes, whose calls take no more bytes than their size. The calls
-    /// whose numbers, counted from 0 over writes and flushes, stand in `fails` fail.
+    /// Returns a sink that holds up to `n` bytes and takes each written piece in parts. It takes all its memory here.
     ///
-    /// The calls take the sizes in turn, and begin again after the last: the size of call k is the
-    /// one in place k mod `sizes.len()`. There is a size, and each is at least 1.
+    /// The calls whose numbers are in `fails` fail, counted from 0 over writes and flushes. Call k takes at most `sizes[k mod sizes.len()]`
+    /// bytes. `sizes` is not empty, and each size is at least 1. `Memory`: memory ran out.
     pub fn in_pieces(
         alloc: Global,
         n: usize,
@@ -153,7 +149,7 @@ impl MemSink {
         })
     }
 
-    /// What it holds.
+    /// The bytes that the sink holds.
     pub fn bytes(&self) -> &[u8]
         ensures { result.now ≡ self.now.store.held }
     {
@@ -168,9 +164,10 @@ impl Sink for MemSink {
 
     ghost fixed = { λ s. s.store.room };
 
-    /// Adds as much of the piece as there is room for, and no more than the size of this call,
-    /// unless the call is one of those that fail. It also fails where the piece is not empty and
-    /// there is no room. A failed call adds nothing and counts one fault.
+    /// Adds as many bytes of the piece as fit into the room and into the size of this call.
+    ///
+    /// `WriteFailed`: the plan names this call, or the piece is not empty and there is no room. A failed call adds nothing and counts one
+    /// fault.
     fn write(&mut self, piece: &[u8]) -> Result<usize, WriteFailed>
         ensures fails { IsErr result ↔ (Contains self.old.fails self.old.calls ⊎ IsFull self.old.store piece.now) }
         ensures count { IfOk result (λ n. n ≡ piece_of self.old.sizes self.old.calls (fitting self.old.store piece.now)) }
@@ -197,7 +194,7 @@ impl Sink for MemSink {
         }
     }
 
-    /// Changes nothing that is held, and fails where this call is one of those that fail.
+    /// Leaves the held bytes unchanged. `WriteFailed`: the plan names this call.
     fn flush(&mut self) -> Result<(), WriteFailed>
         ensures planned { IsErr result ↔ Contains self.old.fails self.old.calls }
         ensures same { self.new.store ≡ self.old.store }

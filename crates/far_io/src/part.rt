@@ -1,4 +1,4 @@
-//! Parts of what is read: the first LF, and reads of a bounded number of bytes.
+//! Parts of the bytes read: the first LF, and reads of a bounded number of bytes.
 
 ghost use Rattle.std.specs.Prelude.{◌≡◌, ℕ, ◌+◌, ◌<◌, ◌≤◌, [], ◌∷◌, length, take, drop, IfOk, OnErr, true, false};
 ghost use Rattle.std.specs.List.{position};
@@ -7,7 +7,7 @@ ghost use Rattle.far_io.specs.Lines.{is_lf, HasNoLf};
 
 use crate::{ReadFailed, Source};
 
-// The place of the first LF, where none stands before the place from which it is sought.
+// The place of the first LF. The first `searched` bytes contain none.
 pub(crate) fn first_lf(bytes: &[u8], searched: usize) -> Option<usize>
     requires within { searched ≤ length bytes.now }
     requires plain { HasNoLf (take searched bytes.now) }
@@ -26,7 +26,7 @@ fn lf_of(bytes: &[u8]) -> Option<usize>
     bytes.iter().position(|byte| *byte == b'\n')
 }
 
-// Reads once, and puts at most so many bytes at the start of the piece.
+// Reads once, at most `most` bytes, to the start of the piece.
 pub(crate) fn read_within<S: Source>(
     source: &mut S,
     piece: &mut [u8],
@@ -46,7 +46,7 @@ pub(crate) fn read_within<S: Source>(
     source.read(&mut piece[..size])
 }
 
-// Reads once, and puts at most so many bytes at this place of the buffer.
+// Reads once, at most `most` bytes, into the buffer from place `end` on.
 pub(crate) fn read_behind<S: Source>(
     source: &mut S,
     bytes: &mut [u8],
@@ -68,7 +68,7 @@ pub(crate) fn read_behind<S: Source>(
     read_within(source, &mut bytes[end..], most)
 }
 
-// Reads one byte, and returns whether there was one.
+// Reads one byte and drops it. Returns whether there was one.
 pub(crate) fn has_more<S: Source>(source: &mut S) -> Result<bool, ReadFailed>
     ensures came { IfOk result (λ more. more ≡ true → TookOne (S.left source.old) (S.left source.new)) }
     ensures same { IfOk result (λ more. more ≡ false → Took (S.left source.old) (S.left source.new) []) }

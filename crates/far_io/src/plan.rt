@@ -4,8 +4,7 @@ ghost use Rattle.far_io.specs.Memory.{one_more, piece_of};
 
 use std::marker::Model;
 
-// What the calls of a source or a sink in memory do: those with stated numbers fail, and the others
-// pass on no more bytes than their size, where there are sizes.
+// The plan of a source or sink in memory: which calls fail, and how many bytes the others may pass on.
 #[derive(Drop)]
 pub(crate) struct Plan {
     fails: Vec<u32>,
@@ -26,7 +25,7 @@ impl Model for Plan {
 }
 
 impl Plan {
-    // A plan whose calls pass on all that they can.
+    // A plan whose calls pass on all the bytes they can.
     pub(crate) fn new(fails: Vec<u32>) -> Plan
         ensures fails { (result.fails ≡ fails.items) × (result.calls ≡ 0) }
         ensures sizes { result.sizes ≡ [] }
@@ -39,7 +38,7 @@ impl Plan {
         }
     }
 
-    // A plan whose calls take these sizes in turn.
+    // A plan whose calls use these sizes in turn.
     pub(crate) fn in_pieces(fails: Vec<u32>, sizes: Vec<u32>) -> Plan
         requires { All (λ size. 0 < size) sizes.items }
         ensures fails { (result.fails ≡ fails.items) × (result.calls ≡ 0) }
@@ -52,7 +51,7 @@ impl Plan {
         }
     }
 
-    // Counts this call, and returns how many of so many bytes it may pass on; `None` where it fails.
+    // Counts this call. Returns how many of `n` bytes it may pass on, or `None` if it fails.
     pub(crate) fn begin(&mut self, n: usize) -> Option<usize>
         ensures planned { IsNone result ↔ Contains self.old.fails self.old.calls }
         ensures piece { IfSome result (λ piece. piece ≡ piece_of self.old.sizes self.old.calls n) }
@@ -70,14 +69,14 @@ impl Plan {
     }
 }
 
-// Whether this call is one of those that fail.
+// Whether the plan makes this call fail.
 fn is_planned(fails: &[u32], call: u64) -> bool
     ensures { IsTrue result ↔ Contains fails.now call }
 {
     fails.iter().any(|f| u64::from(*f) == call)
 }
 
-// How many of so many bytes this call passes on.
+// How many of `n` bytes this call passes on.
 fn piece_size(sizes: &[u32], call: u64, n: usize) -> usize
     ensures { result ≡ piece_of sizes.now call n }
 {

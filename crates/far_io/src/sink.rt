@@ -3,7 +3,7 @@ ghost use Rattle.far_io.specs.Bytes.{Rose, Added, AddedProperPrefix};
 
 use std::fmt;
 
-/// A write or a flush failed. The sink's count of faults has risen.
+/// A write or a flush failed. The sink added nothing and counted the fault.
 #[derive(Clone, Copy, Debug, PartialEq, Eq)]
 pub struct WriteFailed;
 
@@ -19,22 +19,20 @@ impl fmt::Display for WriteFailed {
 
 impl std::error::Error for WriteFailed {}
 
-/// Where bytes go.
+/// Where bytes go. Clauses about held bytes apply to sinks that report them.
 pub trait Sink {
-    /// The bytes that it holds, where the sink tells them.
+    /// The held bytes, if the sink reports them.
     ghost held: { Self → Option (List ℕ) };
 
-    /// How many calls have failed. It never falls, and it stays at 2^64 - 1 once it is there.
+    /// How many calls have failed. The count never falls, and stops at 2^64 - 1.
     ghost faults: { Self → ℕ };
 
-    /// What no call changes, such as the room of a sink that never grows; 0 where there is nothing
-    /// of that kind.
+    /// A number that no call changes, such as the room of a sink of fixed size; 0 if there is none.
     ghost fixed: { Self → ℕ };
 
-    /// Adds the first bytes of the piece after what is held, and returns how many: at least one,
-    /// unless the piece is empty.
+    /// Adds the first bytes of the piece after the held bytes. Returns how many: at least one, unless the piece is empty.
     ///
-    /// `WriteFailed` is returned only where the count of faults rose, and then nothing was added.
+    /// `WriteFailed`: the call failed and added nothing.
     fn write(&mut self, piece: &[u8]) -> Result<usize, WriteFailed>
         ensures count { IfOk result (λ n. n ≤ length piece.now) }
         ensures some { IfOk result (λ n. 0 < length piece.now → 0 < n) }
@@ -44,9 +42,7 @@ pub trait Sink {
         ensures later { faults self.old ≤ faults self.new }
         ensures fixed { fixed self.new ≡ fixed self.old };
 
-    /// Hands on what it holds, and changes none of it.
-    ///
-    /// `WriteFailed` is returned only where the count of faults rose.
+    /// Passes on the held bytes and changes none of them. `WriteFailed`: the call failed.
     fn flush(&mut self) -> Result<(), WriteFailed>
         ensures same { held self.new ≡ held self.old }
         ensures cause { OnErr result (Rose (faults self.old) (faults self.new)) }
@@ -54,10 +50,9 @@ pub trait Sink {
         ensures fixed { fixed self.new ≡ fixed self.old };
 }
 
-/// Adds the whole text, or a prefix of it where the sink fails.
+/// Adds the whole text. The call takes no memory and does not flush.
 ///
-/// `WriteFailed` is returned only where the sink's count of faults rose; the prefix that was added is
-/// then shorter than the text, and stays. The call takes no memory and does not flush.
+/// `WriteFailed`: a write failed. A prefix of the text, shorter than the text, then stays in the sink.
 pub fn write_all_of<K: Sink>(sink: &mut K, text: &[u8]) -> Result<(), WriteFailed>
     ensures ok { OnOk result (Added (K.held sink.old) (K.held sink.new) text.now) }
     ensures prefix { OnErr result (AddedProperPrefix (K.held sink.old) (K.held sink.new) text.now) }
@@ -72,7 +67,7 @@ pub fn write_all_of<K: Sink>(sink: &mut K, text: &[u8]) -> Result<(), WriteFaile
     Ok(())
 }
 
-// Writes once from this place of the text on, and returns the place after what was added.
+// Writes once from place `at` of the text. Returns the place after the added bytes.
 fn write_from<K: Sink>(sink: &mut K, text: &[u8], at: usize) -> Result<usize, WriteFailed>
     requires { at < length text.now }
     ensures next { IfOk result (λ next. (at < next) × (next ≤ length text.now)) }

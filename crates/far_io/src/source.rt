@@ -6,7 +6,7 @@ ghost use Rattle.far_io.specs.Reads.{HasRead};
 use std::alloc::{AllocError, Global};
 use std::fmt;
 
-/// A read failed. The source's count of faults has risen, and nothing was taken from it.
+/// A read failed. The source gave up no byte and counted the fault.
 #[derive(Clone, Copy, Debug, PartialEq, Eq)]
 pub struct ReadFailed;
 
@@ -22,19 +22,18 @@ impl fmt::Display for ReadFailed {
 
 impl std::error::Error for ReadFailed {}
 
-/// Where bytes come from.
+/// Where bytes come from. Clauses about the bytes left apply to sources that report them.
 pub trait Source {
-    /// The bytes that are left, where the source tells them.
+    /// The bytes left, if the source reports them.
     ghost left: { Self → Option (List ℕ) };
 
-    /// How many calls have failed. It never falls, and it stays at 2^64 - 1 once it is there.
+    /// How many calls have failed. The count never falls, and stops at 2^64 - 1.
     ghost faults: { Self → ℕ };
 
-    /// Moves the first bytes that are left to the start of the buffer, and returns how many.
+    /// Moves the first bytes left to the start of the buffer. Returns how many.
     ///
-    /// For a buffer that is not empty, 0 is the end of input. `ReadFailed` is returned only where
-    /// the count of faults rose, and leaves the bytes as they were. No clause says what stands in the
-    /// rest of the buffer, or in all of it after `ReadFailed`.
+    /// For a buffer that is not empty, 0 means the end of the input. `ReadFailed`: the call failed and took no byte. No clause describes
+    /// the rest of the buffer, nor any of it after `ReadFailed`.
     fn read(&mut self, buf: &mut [u8]) -> Result<usize, ReadFailed>
         ensures count { IfOk result (λ n. n ≤ length buf.old) }
         ensures taken { IfOk result (λ n. Took (left self.old) (left self.new) (take n buf.new)) }
@@ -44,12 +43,12 @@ pub trait Source {
         ensures later { faults self.old ≤ faults self.new };
 }
 
-/// Why a whole input was not read.
+/// The fault that stopped a read of a whole input.
 #[derive(Clone, Copy, Debug, PartialEq, Eq)]
 pub enum InputFault {
-    /// A read failed.
+    /// A read of the source failed.
     Read,
-    /// More bytes came than were allowed.
+    /// More bytes came than the bound allows.
     Long,
     /// Memory ran out.
     Memory,
@@ -83,7 +82,7 @@ impl From<AllocError> for InputFault {
     }
 }
 
-// Whether so many bytes are more than are allowed.
+// Whether `count` bytes are more than the bound allows.
 fn is_long(count: usize, bound: usize) -> bool
     ensures long { result ≡ true → bound < count }
     ensures short { result ≡ false → count ≤ bound }
@@ -91,7 +90,7 @@ fn is_long(count: usize, bound: usize) -> bool
     count > bound
 }
 
-// Reads once, and returns how many bytes it put at the start of the piece.
+// Reads once to the start of the piece. Returns how many bytes came.
 fn read_piece<S: Source>(source: &mut S, piece: &mut [u8]) -> Result<usize, InputFault>
     ensures count { IfOk result (λ n. n ≤ length piece.old) }
     ensures taken { IfOk result (λ n. Took (S.left source.old) (S.left source.new) (take n piece.new)) }
@@ -107,8 +106,7 @@ fn read_piece<S: Source>(source: &mut S, piece: &mut [u8]) -> Result<usize, Inpu
     }
 }
 
-// Reads all bytes up to the end of input behind none, where there are at most `bound` of them. Those of a piece that
-// memory is wanting for are dropped.
+// Reads all bytes up to the end of the input into an empty list. If memory runs out for a piece, the bytes of that piece are lost.
 fn read_into<S: Source>(source: &mut S, bound: usize, bytes: &mut Vec<u8>) -> Result<(), InputFault>
     requires bound { bound < 2 ^ 32 }
     requires none { bytes.old.items ≡ [] }
@@ -117,7 +115,7 @@ fn read_into<S: Source>(source: &mut S, bound: usize, bytes: &mut Vec<u8>) -> Re
     ensures later { S.faults source.old ≤ S.faults source.new }
 {
     let mut piece = [0u8; 4096];
-    // Each turn but the last takes a byte at least.
+    // Each turn but the last takes at least one byte.
     for _ in 0..bound + 1 {
         let n = read_piece(source, &mut piece)?;
         if n == 0 {
@@ -131,11 +129,13 @@ fn read_into<S: Source>(source: &mut S, bound: usize, bytes: &mut Vec<u8>) -> Re
     Err(InputFault::Long)
 }
 
-/// Reads all bytes up to the end of input, where there are at most `bound` of them.
+/// Returns all bytes up to the end of the input, at most `bound`, which is below 2^32.
 ///
-/// `bound` is below 2^32. `Long` is returned exactly where more than `bound` bytes came, `Read` only
-/// where the source's count of faults rose, and `Memory` where memory ran out. Whatever is returned,
-/// what went from the source is a prefix of the bytes that it had left; an error drops them.
+/// - `Long`: more than `bound` bytes came.
+/// - `Read`: a read of the source failed.
+/// - `Memory`: memory ran out.
+///
+/// An input of more than `bound` bytes never gives `Ok`. After an error the bytes taken from the source are lost.
 pub fn read_all<S: Source>(
     alloc: Global,
     source: &mut S,

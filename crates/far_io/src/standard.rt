@@ -6,8 +6,8 @@ use crate::{ReadFailed, Sink, Source, WriteFailed};
 use std::io::{Read, Write};
 use std::marker::Model;
 
-/// A reader of std as a source that tells no bytes, since nothing is claimed of what a file or a
-/// terminal holds. Where the reader's own type knows them, as for a slice, `read` says what it took.
+/// A reader of std as a source. It reports no bytes as a source, because no contract can say what a file or a terminal holds. If the type
+/// of the reader knows its bytes, as a slice does, the clause `bytes` of `read` says which came.
 #[derive(Drop)]
 pub struct StdSource<R: Read + Drop> {
     reader: R,
@@ -23,7 +23,7 @@ impl<R: Read + Drop> Model for StdSource<R> {
 }
 
 impl<R: Read + Drop> StdSource<R> {
-    /// A source over the reader, with no faults so far.
+    /// Returns a source over the reader, with a fault count of 0.
     pub fn new(reader: R) -> StdSource<R>
         ensures known { result.known ≡ R.remaining reader }
         ensures faults { result.faults ≡ 0 }
@@ -37,7 +37,7 @@ impl<R: Read + Drop> Source for StdSource<R> {
 
     ghost faults = { λ s. s.faults };
 
-    /// Reads once. It fails where the reader does, and counts that.
+    /// Reads once. `ReadFailed`: the reader failed; the source counts the fault.
     fn read(&mut self, buf: &mut [u8]) -> Result<usize, ReadFailed>
         ensures count { IfOk result (λ n. n ≤ length buf.old) }
         ensures bytes { ReadConsumes self.old.known self.new.known result buf.new }
@@ -55,8 +55,8 @@ impl<R: Read + Drop> Source for StdSource<R> {
     }
 }
 
-/// A writer of std as a sink that tells no bytes. Where the writer's own type knows them, as for a
-/// `Vec`, `write` says what it added.
+/// A writer of std as a sink. It reports no bytes as a sink. If the type of the writer knows its bytes, as a `Vec` does, the clause `bytes`
+/// of `write` says which it added.
 #[derive(Drop)]
 pub struct StdSink<W: Write + Drop> {
     writer: W,
@@ -72,7 +72,7 @@ impl<W: Write + Drop> Model for StdSink<W> {
 }
 
 impl<W: Write + Drop> StdSink<W> {
-    /// A sink over the writer, with no faults so far.
+    /// Returns a sink over the writer, with a fault count of 0.
     pub fn new(writer: W) -> StdSink<W>
         ensures known { result.known ≡ W.contents writer }
         ensures faults { result.faults ≡ 0 }
@@ -88,8 +88,7 @@ impl<W: Write + Drop> Sink for StdSink<W> {
 
     ghost fixed = { λ _. 0 };
 
-    /// Writes once, and not at all for an empty piece. It fails where the writer does, and where
-    /// the writer takes nothing, and counts that.
+    /// Writes once, and not at all if the piece is empty. `WriteFailed`: the writer failed or took no byte; the sink counts the fault.
     fn write(&mut self, piece: &[u8]) -> Result<usize, WriteFailed>
         ensures count { IfOk result (λ n. n ≤ length piece.now) }
         ensures some { IfOk result (λ n. 0 < length piece.now → 0 < n) }
@@ -103,7 +102,7 @@ impl<W: Write + Drop> Sink for StdSink<W> {
         }
         match self.writer.write(piece) {
             Ok(n) if n > 0 => Ok(n),
-            // A write that takes nothing of a piece that is not empty would be tried for ever.
+            // A retry after a write that took no byte of a nonempty piece could go on forever.
             _ => {
                 self.count = self.count.saturating_add(1);
                 Err(WriteFailed)
@@ -111,7 +110,7 @@ impl<W: Write + Drop> Sink for StdSink<W> {
         }
     }
 
-    /// Flushes the writer. It fails where that does, and counts that.
+    /// Flushes the writer. `WriteFailed`: the writer failed; the sink counts the fault.
     fn flush(&mut self) -> Result<(), WriteFailed>
         ensures bytes { Keeps self.old.known self.new.known }
         ensures counted { OnErr result (self.new.faults ≡ one_more self.old.faults) }

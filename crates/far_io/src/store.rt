@@ -5,7 +5,7 @@ use ratio128::Memory;
 use std::alloc::Global;
 use std::marker::Model;
 
-// A buffer of a fixed size, which takes all its memory when it is made.
+// A buffer of fixed size, which takes all its memory when it is made.
 #[derive(Drop)]
 pub(crate) struct FixedBuffer {
     bytes: Vec<u8>,
@@ -38,7 +38,7 @@ impl FixedBuffer {
         &self.bytes
     }
 
-    // Adds as much of the piece as there is room for, and returns how much that is.
+    // Adds as much of the piece as fits. Returns how many bytes that is.
     pub(crate) fn add(&mut self, piece: &[u8]) -> usize
         ensures count { result ≡ fitting self.old piece.now }
         ensures added { self.new.held ≡ self.old.held ++ take result piece.now }
@@ -46,13 +46,13 @@ impl FixedBuffer {
         ensures within { length self.old.held ≤ self.old.room }
     {
         let n = piece.len().min(self.room - self.bytes.len());
-        // There is capacity for all of it, so this takes no memory and does not fail.
+        // The capacity suffices, so this call takes no memory and does not fail.
         let _ = self.bytes.extend_from_slice(&piece[..n]);
         n
     }
 }
 
-// Copies a prefix of the bytes to the start of the buffer, and returns how many bytes it has.
+// Copies the longest prefix of the bytes that fits to the start of the buffer. Returns its length.
 pub(crate) fn copy_prefix(bytes: &[u8], buf: &mut [u8]) -> usize
     ensures count { result ≡ min (length bytes.now) (length buf.old) }
     ensures copied { take result buf.new ≡ take result bytes.now }

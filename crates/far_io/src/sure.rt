@@ -7,7 +7,7 @@ use ratio128::Memory;
 use std::alloc::Global;
 use std::marker::Model;
 
-/// Bytes in memory, whose reads never fail.
+/// A source of bytes in memory whose reads never fail.
 #[derive(Drop)]
 pub struct SureSource {
     bytes: Vec<u8>,
@@ -25,7 +25,7 @@ impl Model for SureSource {
 }
 
 impl SureSource {
-    /// A source of these bytes.
+    /// Returns a source of these bytes.
     pub fn new(bytes: Vec<u8>) -> SureSource
         ensures { result ≡ bytes.items }
     {
@@ -38,7 +38,7 @@ impl Source for SureSource {
 
     ghost faults = { λ _. 0 };
 
-    /// Reads as many bytes as are left and fit into the buffer, and leaves the rest of the buffer.
+    /// Reads as many bytes as are left and fit into the buffer. The rest of the buffer keeps its bytes.
     fn read(&mut self, buf: &mut [u8]) -> Result<usize, ReadFailed>
         ensures fine { IsOk result }
         ensures count { IfOk result (λ n. n ≡ min (length self.old) (length buf.old)) }
@@ -51,8 +51,7 @@ impl Source for SureSource {
     }
 }
 
-/// A sink of a fixed size in memory. Its writes do not fail while there is room for one byte more,
-/// and its flushes never do.
+/// A sink of fixed size in memory. Its writes succeed while it has room for one byte, and its flushes always do.
 #[derive(Drop)]
 pub struct SureSink {
     buffer: FixedBuffer,
@@ -68,8 +67,7 @@ impl Model for SureSink {
 }
 
 impl SureSink {
-    /// A sink that holds up to `n` bytes, and takes all its memory here. `Memory` is returned where
-    /// memory ran out.
+    /// Returns an empty sink that holds up to `n` bytes. It takes all its memory here. `Memory`: memory ran out.
     pub fn with_room(alloc: Global, n: usize) -> Result<SureSink, Memory>
         ensures empty { IfOk result (λ s. (s.store.held ≡ []) × (s.store.room ≡ n)) }
         ensures failures { IfOk result (λ s. s.failures ≡ 0) }
@@ -78,7 +76,7 @@ impl SureSink {
         Ok(SureSink { buffer, count: 0 })
     }
 
-    /// What it holds.
+    /// The bytes that the sink holds.
     pub fn bytes(&self) -> &[u8]
         ensures { result.now ≡ self.now.store.held }
     {
@@ -93,8 +91,8 @@ impl Sink for SureSink {
 
     ghost fixed = { λ s. s.store.room };
 
-    /// Adds as much of the piece as there is room for. It fails exactly where the piece is not
-    /// empty and there is no room; it then adds nothing and counts one fault.
+    /// Adds as much of the piece as fits. `WriteFailed`: the piece is not empty and there is no room; the call adds nothing and counts one
+    /// fault.
     fn write(&mut self, piece: &[u8]) -> Result<usize, WriteFailed>
         ensures full { IsErr result ↔ IsFull self.old.store piece.now }
         ensures count { IfOk result (λ n. n ≡ fitting self.old.store piece.now) }
@@ -114,7 +112,7 @@ impl Sink for SureSink {
         Ok(n)
     }
 
-    /// Changes nothing, and never fails.
+    /// Changes nothing and never fails.
     fn flush(&mut self) -> Result<(), WriteFailed>
         ensures fine { IsOk result }
         ensures same { self.new ≡ self.old }

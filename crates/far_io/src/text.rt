@@ -11,27 +11,27 @@ use crate::{InputFault, ReadFailed, Source};
 use std::alloc::Global;
 use std::marker::Model;
 
-/// What a reader of a text found next.
+/// What a [`TextReader`] found next.
 #[derive(Clone, Copy, Debug, PartialEq, Eq)]
 pub enum NextText {
-    /// A line that LF closes.
+    /// A line closed by LF.
     Closed,
-    /// The input ended, and the line is all that came after the last LF. It is not empty.
+    /// The bytes after the last LF, at the end of the input. They are not empty.
     Last,
-    /// The input ended, and there is no line.
+    /// The end of the input, with no line.
     End,
 }
 
-/// A reader of lines of any length that keeps all bytes.
+/// A reader of lines of any length that keeps all bytes it took.
 ///
-/// It reads only where no LF is pending.
+/// It reads from the source only if no LF is pending.
 #[derive(Drop)]
 pub struct TextReader {
     text: Vec<u8>,
-    // Where the line begins, and how long it is.
+    // Where the line begins, and its length.
     start: usize,
     size: usize,
-    // Where what is pending begins, and how many of its first bytes are known to be no LF.
+    // Where the pending bytes begin, and how many of them were already searched for LF.
     from: usize,
     searched: usize,
     allowed: usize,
@@ -48,7 +48,7 @@ impl Model for TextReader {
 }
 
 impl TextReader {
-    /// A reader that has taken nothing, and to which up to `allowed` bytes may come. It takes no memory yet.
+    /// Returns a reader that takes up to `allowed` bytes from its source. It takes no memory yet.
     pub fn new(alloc: Global, allowed: usize) -> TextReader
         ensures before { result.before ≡ [] }
         ensures line { result.line ≡ [] }
@@ -66,48 +66,49 @@ impl TextReader {
         }
     }
 
-    /// All bytes before the line that it stands at.
+    /// All bytes before the current line.
     pub fn before(&self) -> &[u8]
         ensures { result.now ≡ self.now.before }
     {
         &self.text[..self.start]
     }
 
-    /// The line that it stands at, without its LF.
+    /// The current line, without its LF. It is empty before the first `next` and after `End` or an error.
     pub fn line(&self) -> &[u8]
         ensures { result.now ≡ self.now.line }
     {
         &self.text[self.start..self.start + self.size]
     }
 
-    /// All bytes up to the end of the line that it stands at: those before it, the line, and its LF where it has one.
+    /// All bytes up to the end of the current line, with its LF if it has one.
     pub fn passed(&self) -> &[u8]
         ensures { result.now ≡ passed self.now }
     {
         &self.text[..self.from]
     }
 
-    /// All bytes that came after the line and its LF.
+    /// The bytes read but not yet passed: those after the current line and its LF.
     pub fn pending(&self) -> &[u8]
         ensures { result.now ≡ self.now.pending }
     {
         &self.text[self.from..]
     }
 
-    /// How many bytes may still come.
+    /// How many bytes the reader may still take from its source.
     pub fn allowed(&self) -> usize
         ensures { result ≡ self.now.allowed }
     {
         self.allowed
     }
 
-    /// Moves on to the next line.
+    /// Moves to the next line.
     ///
-    /// A line whose LF is pending is returned without a read. One call of the source reads at most 4,096 bytes, and none
-    /// more than are allowed; where none is allowed it reads one byte. `Long` is returned exactly where that byte comes,
-    /// and drops it. `Read` is returned only where the source's count of faults rose. `Memory` is returned where memory
-    /// ran out, and drops what one call read. No other byte is dropped. On `Ok` at most 4,096 bytes are pending, where no
-    /// more were before.
+    /// If the LF of that line is pending, the call does not read. One read of the source takes at most 4,096 bytes and never more than
+    /// `allowed`; if none is allowed, it takes one.
+    ///
+    /// - `Read`: a read of the source failed. It loses no byte, so a later call goes on from there.
+    /// - `Long`: a byte came after the last allowed one. That byte is lost.
+    /// - `Memory`: memory ran out. The bytes of the last read are lost.
     pub fn next<S: Source>(&mut self, source: &mut S) -> Result<NextText, InputFault>
         ensures reads { ReadsText S.Source self.old self.new source.old source.new result }
         ensures still { list_any is_lf self.old.pending ≡ true → source.new ≡ source.old }
@@ -153,7 +154,7 @@ impl TextReader {
         self.read_some(source, piece)
     }
 
-    // Reads once, where bytes may come.
+    // Reads once; at least one byte is allowed.
     fn read_some<S: Source>(
         &mut self,
         source: &mut S,
@@ -175,7 +176,7 @@ impl TextReader {
         self.keep(&piece[..n])
     }
 
-    // Reads one byte, which is one too many.
+    // Tries to read one byte more than is allowed.
     fn past_bound<S: Source>(&mut self, source: &mut S) -> Result<Option<NextText>, InputFault>
         requires none { self.old.allowed ≡ 0 }
         requires plain { HasNoLf self.old.pending }
@@ -189,7 +190,7 @@ impl TextReader {
         Ok(Some(self.ended()))
     }
 
-    // Keeps a piece, and moves on to the next line where the LF that closes it is here.
+    // Keeps a piece, and moves to the next line if its LF is now pending.
     fn keep(&mut self, piece: &[u8]) -> Result<Option<NextText>, InputFault>
         requires plain { HasNoLf self.old.pending }
         requires between { IsBetween self.old }
@@ -204,7 +205,7 @@ impl TextReader {
         Ok(None)
     }
 
-    // Puts a piece behind what is pending.
+    // Adds a piece behind the pending bytes.
     fn add(&mut self, piece: &[u8]) -> Result<(), InputFault>
         ensures kept { OnOk result (self.new.pending ≡ self.old.pending ++ piece.now) }
         ensures failed { OnErr result (self.new.pending ≡ self.old.pending) }
@@ -218,7 +219,7 @@ impl TextReader {
         Ok(())
     }
 
-    // Moves on to the next line, where the LF that closes it is here, and else behind the line.
+    // Moves to the next line if its LF is pending, and behind the current line otherwise. Returns whether it was.
     fn close(&mut self) -> bool
         ensures closed { result ≡ true → IsClosed self.old.pending self.new.line self.new.pending }
         ensures end { result ≡ true → self.new.end ≡ 10 ∷ [] }
@@ -241,14 +242,14 @@ impl TextReader {
         true
     }
 
-    // The place of the first LF that is pending.
+    // The place of the first pending LF.
     fn next_lf(&self) -> Option<usize>
         ensures { result ≡ position is_lf self.now.pending }
     {
         first_lf(self.pending(), self.searched)
     }
 
-    // What is found where the input has ended.
+    // The result of a read at the end of the input.
     fn ended(&mut self) -> NextText
         requires { HasNoLf self.old.pending }
         ensures next { (left : Option (List ℕ)) → IsDry left → IsNextText self.old.pending self.new [] left (Ok result) }
@@ -268,7 +269,7 @@ impl TextReader {
     }
 }
 
-// Reads once, and puts at most so many bytes at the start of the piece.
+// Reads once, at most `most` bytes, to the start of the piece.
 fn read_input<S: Source>(source: &mut S, piece: &mut [u8], most: usize) -> Result<usize, InputFault>
     requires room { 0 < length piece.old }
     requires some { 0 < most }
@@ -287,7 +288,7 @@ fn read_input<S: Source>(source: &mut S, piece: &mut [u8], most: usize) -> Resul
     }
 }
 
-// Reads one byte, and returns whether there was one.
+// Reads one byte and drops it. Returns whether there was one.
 fn has_more_input<S: Source>(source: &mut S) -> Result<bool, InputFault>
     ensures came { IfOk result (λ more. more ≡ true → TookOne (S.left source.old) (S.left source.new)) }
     ensures same { IfOk result (λ more. more ≡ false → Took (S.left source.old) (S.left source.new) []) }

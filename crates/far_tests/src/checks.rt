@@ -1,4 +1,4 @@
-// Meshes with the counts of their level 0, or what is wrong with them.
+// Meshes with the counts of their level 0, or their faults.
 
 ghost use Rattle.std.specs.Prelude.{◌≡◌, ◌<◌};
 
@@ -40,7 +40,7 @@ fn counts_by<L: Ledger>(alloc: Global, mesh: &RawMesh, blank: Blank) -> Result<C
     Ok(listed(LevelCounts::of(&level)))
 }
 
-// The counts of level 0 of a mesh that was read.
+// The counts of level 0 of a mesh from a text.
 fn counts_of(alloc: Global, mesh: &RawMesh) -> Result<Counts, CheckFault> {
     counts_by::<Brand>(alloc, mesh, Blank::new(1))
 }
@@ -59,12 +59,12 @@ fn counts_of_text(
 type Check = (&'static str, Result<Counts, CheckFault>);
 
 const CHECKS: &[Check] = &[
-    // Two quads that share an edge, with a crease of them, one of no edge, and a point without a face.
+    // Two quads that share an edge, with a crease on it, one that is no edge, and a point without a face.
     (
         "v 0 0 0\nv 1 0 0\nv 2 0 0\nv 0 1 0\nv 1 1 0\nv 2 1 0\nv 9 9 9\nf 1 2 5 4\nf 2 3 6 5\nt crease 2/1/0 4 1 1/2\nt crease 2/1/0 0 5 2\n",
         Ok((7, 7, 2, 1, 6, 0, 1, 0)),
     ),
-    // The same hidden with the boundary, and only one of them by a tag.
+    // The same two quads, one hidden with the boundary, the other only by a tag.
     (
         "v 0 0 0\nv 1 0 0\nv 2 0 0\nv 0 1 0\nv 1 1 0\nv 2 1 0\nf 1 2 5 4\nf 2 3 6 5\nt interpolateboundary 1/0/0 0\n",
         Ok((6, 7, 2, 1, 6, 2, 0, 0)),
@@ -86,7 +86,7 @@ const CHECKS: &[Check] = &[
         "v 0 0 0\nv 1 0 0\nv 0 1 0\nf 1 2 3\nf 3 2 1 2\nf 1 2 1\n",
         Err(CheckFault::Mesh(MeshFault::RepeatedVertex(1))),
     ),
-    // The edge is named as the first face goes, though a later one goes the other way.
+    // The edge has the direction of the first face, though a later face goes the other way.
     (
         "v 0 0 0\nv 1 0 0\nv 0 1 0\nv 0 0 1\nv 1 1 1\nf 2 1 3\nf 1 2 4\nf 1 2 5\n",
         Err(CheckFault::Mesh(MeshFault::NonManifoldEdge(1, 0))),
@@ -95,12 +95,12 @@ const CHECKS: &[Check] = &[
         "v 0 0 0\nv 1 0 0\nv 0 1 0\nv 0 0 1\nf 1 2 3\nf 1 2 4\n",
         Err(CheckFault::Mesh(MeshFault::WindingClash(0, 1))),
     ),
-    // Two triangles that meet at one vertex, after a vertex that is fine.
+    // Two triangles that touch in one vertex, after a valid vertex.
     (
         "v 0 0 0\nv 1 0 0\nv 0 1 0\nv 0 0 1\nv 1 1 1\nf 1 2 3\nf 2 4 5\n",
         Err(CheckFault::Mesh(MeshFault::SplitVertex(1))),
     ),
-    // A vertex of two closed fans: two tetrahedra that share it.
+    // A vertex of two closed fans, which two tetrahedra share.
     (
         "v 0 0 0\nv 1 0 0\nv 0 1 0\nv 0 0 1\nv 2 0 0\nv 0 2 0\nv 0 0 2\nf 2 3 4\nf 1 3 2\nf 1 2 4\nf 1 4 3\nf 5 6 7\nf 1 6 5\nf 1 5 7\nf 1 7 6\n",
         Err(CheckFault::Mesh(MeshFault::SplitVertex(0))),
@@ -124,7 +124,7 @@ pub fn put_text(text: &mut String, piece: String) -> Result<(), AllocError> {
     text.push_str(piece.as_str())
 }
 
-// So many lines of points.
+// This number of lines of points.
 fn points_text(alloc: Global, points: u32) -> Result<String, Fail> {
     let mut text = String::new(alloc);
     for _ in 0..points {
@@ -133,7 +133,7 @@ fn points_text(alloc: Global, points: u32) -> Result<String, Fail> {
     Ok(text)
 }
 
-// A text of one face of so many corners.
+// A text with one face of this number of corners.
 pub fn one_face(alloc: Global, corners: u32) -> Result<String, Fail> {
     let mut text = points_text(alloc, corners)?;
     text.push_str("f")?;
@@ -143,7 +143,7 @@ pub fn one_face(alloc: Global, corners: u32) -> Result<String, Fail> {
     Ok(text)
 }
 
-// How many corners one face has, and the counts of level 0 or the fault.
+// The number of corners of one face, and the counts of level 0 or the fault.
 type Face = (u32, Result<Counts, CheckFault>);
 
 const FACES: &[Face] = &[

@@ -1,4 +1,4 @@
-// Texts that end early: each is answered as its last line is, and as if it came in pieces.
+// Texts that end early. The answer is that of the last line so far, also if the text comes in pieces.
 
 use crate::engine::run_within;
 use crate::expect::{expect_answer, expect_same};
@@ -7,7 +7,7 @@ use far_engine::{FarFault, status};
 use std::process::Abort;
 use std::test::Fail;
 
-// The number of a line of a mesh, the line, and after each of its bytes the status of a run on what has come so far.
+// The number of a line of a mesh, the line, and the status of a run on the text up to each of its bytes.
 type Ending = (u32, &'static str, &'static str);
 
 const ENDINGS: &[Ending] = &[
@@ -15,11 +15,11 @@ const ENDINGS: &[Ending] = &[
     (2, "v 4 0 0\n", "55555500"),
     (3, "v 4 4 0\n", "55555500"),
     (4, "v 0 4 0\n", "55555500"),
-    // One number of texture is enough.
+    // One texture number is enough.
     (5, "vt 0 0\n", "5550000"),
-    // A face whose corners are whole may have too few of them.
+    // A face with whole corners may have too few of them.
     (6, "f 1/1 2/1 3/1 4/1\n", "556566556655005500"),
-    // Without its fraction the last numeral stands too.
+    // Without its fraction the last numeral is valid too.
     (7, "t crease 2/1/0 0 1 3/2\n", "55555555555555555550500"),
     (8, "t corner 1/1/0 2 2\n", "5555555555555555500"),
 ];
@@ -39,7 +39,7 @@ fn told(given: &Result<(), FarFault>) -> (u8, Option<u32>) {
     }
 }
 
-// An answer has this status, names this line where a line is refused, and comes with no text where it is a fault.
+// An answer has this status, names this line if it refuses one, and has no text after a fault.
 fn expect_status(
     rt: &impl Abort,
     input: &[u8],
@@ -54,7 +54,7 @@ fn expect_status(
     expect_same(rt, &told, &(digit, line, true), &input);
 }
 
-// A run on this text answers so and writes so where each read gives one byte.
+// A run on this text, with one byte from each read, has this answer and this text.
 fn expect_in_pieces(
     rt: &(impl Abort + AllocGlobal),
     input: &[u8],
@@ -66,7 +66,7 @@ fn expect_in_pieces(
     Ok(())
 }
 
-// A run on this text has what is wanted, and the same where each read gives one byte.
+// A run on this text has the expected answer, also with one byte from each read.
 fn expect_ended(
     rt: &(impl Abort + AllocGlobal),
     input: &[u8],
@@ -77,7 +77,7 @@ fn expect_ended(
     expect_in_pieces(rt, input, &given, sink.bytes())
 }
 
-// A run on this text answers so and writes so without its last byte.
+// A run on this text without its last byte has this answer and this text.
 fn expect_without_end(
     rt: &(impl Abort + AllocGlobal),
     input: &[u8],
@@ -92,13 +92,13 @@ fn expect_without_end(
     Ok(())
 }
 
-// A run on this text answers the same without its last byte.
+// A run on this text without its last byte has the same answer.
 fn expect_same_without_end(rt: &(impl Abort + AllocGlobal), input: &[u8]) -> Result<(), Fail> {
     let (given, sink) = run_within(rt.alloc(), WORDS, input.to_vec(rt.alloc())?, 4096)?;
     expect_without_end(rt, input, &given, sink.bytes())
 }
 
-// The text so far gets this line, byte by byte.
+// This line is added to the text, byte by byte.
 fn expect_line(
     rt: &(impl Abort + AllocGlobal),
     input: &mut Vec<u8>,

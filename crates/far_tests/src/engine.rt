@@ -79,7 +79,7 @@ fn command_counted<L: Ledger>(
     )
 }
 
-// A run, a command, and the program, each with a counter of its own.
+// A run, a command, and the program, each with a new counter of steps.
 fn run_on(
     alloc: Global,
     words: &Vec<String>,
@@ -118,7 +118,7 @@ pub fn words_of(alloc: Global, text: &str) -> Result<Vec<String>, AllocError> {
     Ok(words)
 }
 
-// A source and a sink of which one call fails.
+// A source and a sink, one call of which fails.
 pub fn failing_source(alloc: Global, text: &str, call: u32) -> Result<MemSource, AllocError> {
     Ok(MemSource::new(text.as_bytes().to_vec(alloc)?, vec![in alloc; call]?))
 }
@@ -127,7 +127,7 @@ pub fn failing_sink(alloc: Global, room: usize, call: u32) -> Result<MemSink, Me
     MemSink::with_room(alloc, room, vec![in alloc; call]?)
 }
 
-// The answer of a run on these bytes, and what is written into so much room.
+// The answer of a run on these bytes, and its text in a sink of this capacity.
 pub fn run_within(
     alloc: Global,
     text: &str,
@@ -141,7 +141,7 @@ pub fn run_within(
     Ok((given, sink))
 }
 
-// The answer of a run on a mesh and a line after it, and what is written into so much room.
+// The answer of a run on a mesh and one more line, and its text in a sink of this capacity.
 pub fn run_alone(
     alloc: Global,
     text: &str,
@@ -154,8 +154,8 @@ pub fn run_alone(
     run_within(alloc, text, input, room)
 }
 
-// Words; the call of the source, of the sink and of the sink for errors that fails, and none from 9 on; the room of the sink;
-// the status, the line of the fault, and what is written.
+// Words; the failing call of the source, of the sink and of the sink for errors (9 for none); the capacity of the sink; the status, the
+// line of the fault, and the text.
 type FailedCalls = (
     &'static str,
     u32,
@@ -208,7 +208,7 @@ const FAILED_CALLS: &[FailedCalls] = &[
         "far: writing failed\n",
         "level 0 point",
     ),
-    // A sheet that the program makes needs no input.
+    // A sheet of `gen` needs no input.
     (GEN, 0, 9, 9, 4096, 0, "", SHEET),
     (GEN, 0, 0, 9, 4096, 10, "far: writing failed\n", ""),
     (
@@ -234,7 +234,7 @@ fn expect_ended(rt: &impl Abort, given: u8, told: &[u8], held: &[u8], row: &Fail
     expect_same(rt, &held, &written.as_bytes(), row);
 }
 
-// The program with these words, this source and this sink does what the row tells.
+// The program with these words, this source and this sink has the results of the row.
 fn expect_told(
     rt: &(impl Abort + AllocGlobal),
     words: &Vec<String>,
@@ -284,7 +284,7 @@ fn answers_calls_that_fail(rt: HostRuntime) -> Result<(), Fail> {
     Ok(())
 }
 
-// A command that no words said, and what it writes of a mesh.
+// A command that does not come from words, and its text for a mesh.
 type Direct = (Command, &'static str, &'static str);
 
 const COMMANDS: &[Direct] = &[

@@ -1,9 +1,9 @@
-// What each row of a table is compared by.
+// The comparison of each row of a table.
 
 use std::fmt;
 use std::process::Abort;
 
-// What was given is what is wanted, at this row.
+// The value is the expected one, at this row.
 pub fn expect_same<T: PartialEq + fmt::Debug>(
     rt: &impl Abort,
     given: &T,
@@ -13,7 +13,7 @@ pub fn expect_same<T: PartialEq + fmt::Debug>(
     assert_eq!(rt; given, want, "at {row:?}");
 }
 
-// What was answered and written is what is wanted, at this row.
+// The answer and the text are the expected ones, at this row.
 pub fn expect_answer<E: PartialEq + fmt::Debug>(
     rt: &impl Abort,
     given: &Result<(), E>,

@@ -12,7 +12,7 @@ use obj_tags::ObjCause;
 use std::process::Abort;
 use std::test::Fail;
 
-// A fault, its status and its line: one of each status, and those that no small input has. The others are in `cases/`.
+// A fault, its status and its line: one of each status, and those that no small input has. `cases/` has the others.
 type Fault = (FarFault, u8, &'static str);
 
 const FAULTS: &[Fault] = &[
@@ -172,7 +172,7 @@ fn faults() -> &'static [Fault] {
     FAULTS
 }
 
-// The status of a fault, its line as it is reported, and as it is displayed.
+// The status of a fault, the line that `report` writes, and the text of the fault.
 fn expect_reported(rt: &(impl Abort + AllocGlobal), row: &Fault) -> Result<(), Fail> {
     let (fault, number, text) = row;
     expect_same(rt, &status(fault), number, row);
@@ -198,8 +198,8 @@ fn names_faults_of_runs(rt: HostRuntime) -> Result<(), Fail> {
     Ok(())
 }
 
-// A fault, the room of the sink, the call that fails, the answer, and what the sink holds. The line is handed on whole, and
-// the call after that is the flush.
+// A fault, the capacity of the sink, the call that fails, the answer, and the contents of the sink. One call writes the whole line, and
+// the next one flushes.
 type Report = (FarFault, usize, u32, Result<(), WriteFailed>, &'static str);
 
 const REPORTS: &[Report] = &[

@@ -1,4 +1,4 @@
-// Whole runs over sources and sinks that pass on pieces, of which one call fails.
+// Whole runs over sources and sinks that pass pieces. One of their calls fails.
 
 ghost use Rattle.std.specs.Prelude.{◌≡◌, ◌<◌};
 
@@ -37,7 +37,7 @@ fn run_counted<L: Ledger>(
     )
 }
 
-// A run with a counter of its own.
+// A run with a new counter of steps.
 fn run_in_memory(
     alloc: Global,
     words: &Vec<String>,
@@ -47,7 +47,7 @@ fn run_in_memory(
     run_counted::<Brand>(alloc, Blank::new(1), words, source, sink)
 }
 
-// A source whose reads give so many bytes in turn, and of which one call fails.
+// A source whose reads give these numbers of bytes in turn, and one of whose calls fails.
 fn source_in_pieces(
     alloc: Global,
     input: &[u8],
@@ -62,14 +62,14 @@ fn source_in_pieces(
     Ok(MemSource::in_pieces(input.to_vec(alloc)?, fails, sizes))
 }
 
-// A sink whose writes take so many bytes, and of which one call fails.
+// A sink whose writes take this number of bytes, and one of whose calls fails.
 fn sink_in_pieces(alloc: Global, call: u32, size: u32) -> Result<MemSink, Memory>
     requires { 0 < size }
 {
     MemSink::in_pieces(alloc, 4096, vec![in alloc; call]?, vec![in alloc; size]?)
 }
 
-// The answer of a run into this sink, and what is written.
+// The answer of a run into this sink, and the text.
 fn run_into(
     alloc: Global,
     words: &Vec<String>,
@@ -81,7 +81,7 @@ fn run_into(
     Ok((given, sink))
 }
 
-// The same from this source, into a sink of which no call fails.
+// The answer of a run from this source, into a sink that never fails, and the text.
 fn run_from(
     alloc: Global,
     words: &Vec<String>,
@@ -96,7 +96,7 @@ fn run_from(
     )
 }
 
-// The same from a source of which no call fails, into a sink whose writes take so many bytes.
+// The answer of a run from a source that never fails, into a sink whose writes take this number of bytes, and the text.
 fn write_in_pieces(
     alloc: Global,
     words: &Vec<String>,
@@ -110,7 +110,7 @@ fn write_in_pieces(
     run_into(alloc, words, &mut source, sink_in_pieces(alloc, call, size))
 }
 
-// The answer of a run whose reads give so many bytes in turn, and what is written.
+// The answer of a run whose reads give these numbers of bytes in turn, and the text.
 pub fn run_read_in_pieces(
     alloc: Global,
     text: &str,
@@ -130,7 +130,7 @@ pub fn run_read_in_pieces(
     )
 }
 
-// The answer of a run whose writes take so many bytes, and what is written.
+// The answer of a run whose writes take this number of bytes, and the text.
 pub fn run_written_in_pieces(
     alloc: Global,
     text: &str,
@@ -144,7 +144,8 @@ pub fn run_written_in_pieces(
     write_in_pieces(alloc, &words, mesh, call, size)
 }
 
-// How many bytes the reads of the cube give in turn, and how many reads there are: one more than pieces, since the last finds the end.
+// The numbers of bytes that the reads of the cube give in turn, and the number of reads: one more than pieces, since the last one finds
+// the end.
 type Reads = (u32, u32, u32);
 
 const READS: &[Reads] = &[(1, 1, 137), (7, 7, 21), (1, 64, 7)];
@@ -153,7 +154,7 @@ fn reads() -> &'static [Reads] {
     READS
 }
 
-// The cube is refined so where this read fails.
+// A run on the cube, the given read of which fails, has this answer.
 fn expect_read(
     rt: &(impl Abort + AllocGlobal),
     row: &Reads,
@@ -187,7 +188,7 @@ fn fails_at_each_read(rt: HostRuntime) -> Result<(), Fail> {
     Ok(())
 }
 
-// Words, a mesh, how many bytes a write takes, and how many calls there are: one more than pieces, since the last is the flush.
+// Words, a mesh, the number of bytes of a write, and the number of calls: one more than pieces, since the last one flushes.
 type Writes = (&'static str, &'static str, u32, u32);
 
 const WRITES: &[Writes] = &[
@@ -210,7 +211,7 @@ fn writes() -> &'static [Writes] {
     WRITES
 }
 
-// A run whose sink fails at this call answers so, and its sink then holds this.
+// A run whose sink fails at this call has this answer, and the sink has this text.
 fn expect_write(
     rt: &(impl Abort + AllocGlobal),
     row: &Writes,
@@ -225,7 +226,7 @@ fn expect_write(
     Ok(())
 }
 
-// Where a call of the sink fails, it holds the pieces before it, and where none does, it holds all.
+// If a call of the sink fails, the sink has the pieces before it; else it has all.
 fn expect_each_write(
     rt: &(impl Abort + AllocGlobal),
     row: &Writes,

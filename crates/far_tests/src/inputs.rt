@@ -17,7 +17,7 @@ macro_rules! cube_of {
 
 pub const CUBE: &str = cube_of!("1");
 
-// One more than can be refined once.
+// One more than the greatest amount that can be refined once.
 pub const GREATER_CUBE: &str = cube_of!("2363071992506517107384545884942834802");
 
 pub const CUBE_REFINED: &str =
@@ -78,13 +78,13 @@ pub const SQUARE_LIMITS: &str = "\
     f 3 8 5 7\n\
     f 4 9 5 8\n";
 
-// Three by three quads, whose points are at the squares of their places in a row.
+// Three by three quads. The height of a point is the square of its place in a row.
 pub const CURVED_SHEET: &str =
     "v 0 0 0\nv 1 0 1\nv 2 0 4\nv 3 0 9\nv 0 1 0\nv 1 1 1\nv 2 1 4\nv 3 1 9\nv 0 2 0\nv 1 2 1\nv 2 2 4\nv 3 2 9\n\
     v 0 3 0\nv 1 3 1\nv 2 3 4\nv 3 3 9\nf 1 2 6 5\nf 2 3 7 6\nf 3 4 8 7\nf 5 6 10 9\nf 6 7 11 10\nf 7 8 12 11\n\
     f 9 10 14 13\nf 10 11 15 14\nf 11 12 16 15\n";
 
-// The patch of the quad in its middle. A uniform cubic curve through squares lies a third above them.
+// The patch of the middle quad. A uniform cubic curve through squares is a third above them.
 pub const CURVED_PATCH: &str = "\
     patch face 4 grid 2\n\
     s 0 0 1 1 4/3\n\
@@ -122,12 +122,12 @@ pub const TWO_CHARTS_LEVEL: &str =
     "level 0 points 6 faces 2 texture 8\nv 0 0 0\nv 1 0 0\nv 1 1 0\nv 0 1 0\nv 2 0 0\nv 2 1 0\nvt 0 0\nvt 1 0\n\
     vt 1 1\nvt 0 1\nvt 4 0\nvt 5 0\nvt 5 1\nvt 4 1\nf l 0 1/1 2/2 3/3 4/4\nf l 1 2/5 5/6 6/7 3/8\n";
 
-// The leaves of the corners of the cube's first face, which is refined once.
+// The leaves of the corners of the cube's first face, after one step.
 pub const CUBE_LEAVES: &str =
     "p 0 0 level 1 face 0 corner 0 at 0 0\np 1 0 level 1 face 1 corner 0 at 0 0\n\
     p 0 1 level 1 face 3 corner 0 at 0 0\np 1 1 level 1 face 2 corner 0 at 0 0\n";
 
-// The two charts, of which the first corner of the second has a great texture value.
+// The two charts. The first corner of the second has a great texture value.
 pub const GREAT_CHART: &str =
     "v 0 0 0\nv 1 0 0\nv 1 1 0\nv 0 1 0\nv 2 0 0\nv 2 1 0\nvt 0 0\nvt 1 0\nvt 1 1\nvt 0 1\nvt 1e36 0\nvt 5 0\n\
     vt 5 1\nvt 4 1\nf 1/1 2/2 3/3 4/4\nf 2/5 5/6 6/7 3/8\n";

@@ -11,7 +11,7 @@ use std::io;
 use std::process::Abort;
 use std::test::Fail;
 
-// A bound, the call that fails, and none from 9 on, and the fault.
+// A bound, the failing call (9 for none), and the fault.
 type Reading = (usize, u32, Option<InputFault>);
 
 const READINGS: &[Reading] = &[
@@ -42,7 +42,7 @@ fn reads_an_input_or_refuses_it(rt: HostRuntime) -> Result<(), Fail> {
     Ok(())
 }
 
-// What is written, the answer, and what the sink then holds.
+// The text, the answer, and the contents of the sink afterwards.
 type Writing = (&'static str, Result<(), WriteFailed>, &'static str);
 
 const WRITINGS: &[Writing] = &[

@@ -1,4 +1,4 @@
-//! Tests of the program: whole runs, the streams that they read and write, and their words and faults.
+//! Tests the program: whole runs, the streams that they read and write, their words and their faults.
 #![tactic(auto)]
 
 #[cfg(test)]

@@ -1,4 +1,4 @@
-// Runs at what can be counted and kept, and one past it.
+// Runs at the limits of counts and of memory, and one past them.
 
 use crate::checks::{one_face, put_text};
 use crate::engine::run_within;
@@ -12,7 +12,7 @@ use std::alloc::Global;
 use std::process::Abort;
 use std::test::Fail;
 
-// The points of a wheel: the hub is point 0, and point k stands at k.
+// The points of a wheel: the hub is point 0, and point k is at k.
 fn push_points(text: &mut String, alloc: Global, spokes: u32) -> Result<(), Fail> {
     for k in 0..spokes {
         put_text(text, format!(in alloc; "v {} 0 0\n", u64::from(k) + 1)?)?;
@@ -20,13 +20,13 @@ fn push_points(text: &mut String, alloc: Global, spokes: u32) -> Result<(), Fail
     Ok(())
 }
 
-// A triangle at the hub, by what the line of a face calls its other points.
+// A triangle at the hub, by the numbers of its other points in the line of the face.
 fn push_triangle(text: &mut String, alloc: Global, second: u64, third: u64) -> Result<(), Fail> {
     put_text(text, format!(in alloc; "f 1 {second} {third}\n")?)?;
     Ok(())
 }
 
-// A wheel of so many triangles about its hub.
+// A wheel of this number of triangles about its hub.
 fn wheel(alloc: Global, spokes: u32) -> Result<String, Fail> {
     let mut text = String::from_str(alloc, "v 0 0 0\n")?;
     push_points(&mut text, alloc, spokes)?;
@@ -37,7 +37,7 @@ fn wheel(alloc: Global, spokes: u32) -> Result<String, Fail> {
     Ok(text)
 }
 
-// The spokes of a wheel, words, the answer, and what is written.
+// The number of spokes of a wheel, words, the answer, and the text.
 type Wheel = (u32, &'static str, Result<(), FarFault>, &'static str);
 
 const WHEELS: &[Wheel] = &[
@@ -82,7 +82,7 @@ fn takes_so_many_spokes_and_no_more(rt: HostRuntime) -> Result<(), Fail> {
     Ok(())
 }
 
-// The beginning of a text, a piece of it and how often that stands there, its end, and why a run refuses it.
+// The beginning of a text, a piece with the number of its copies, the end, and the fault of a run.
 type LongText = (&'static str, &'static str, u32, &'static str, FarFault);
 
 const LONG_TEXTS: &[LongText] = &[
@@ -93,7 +93,7 @@ const LONG_TEXTS: &[LongText] = &[
         "",
         FarFault::TooLarge(Counted::Points(1_048_577)),
     ),
-    // A tube of triangles: each point has two with the point before it and those a turn before, of five points.
+    // A tube of triangles. Each point has two with the point before it and those one turn before, at five points a turn.
     (
         "v 0 0 0\nv 0 0 0\nv 0 0 0\nv 0 0 0\nv 0 0 0\nv 0 0 0\n",
         "v 0 0 0\nf -1 -6 -2\nf -2 -6 -7\n",
@@ -135,7 +135,7 @@ fn expect_long_refused(rt: &(impl Abort + AllocGlobal), row: &LongText) -> Resul
     Ok(())
 }
 
-// Neither is answered as want of memory.
+// Neither run ends with `Memory`.
 #[test]
 fn counts_points_faces_and_lines_past_their_limits(rt: HostRuntime) -> Result<(), Fail> {
     for row in long_texts() {
@@ -154,13 +154,13 @@ fn expect_face_refused(rt: &(impl Abort + AllocGlobal)) -> Result<(), Fail> {
     expect_run(rt, given, Err(refused), "", &"a face")
 }
 
-// A face of more than 65,536 corners is refused, and told of with how many it has.
+// A face of more than 65,536 corners is refused, with its number of corners.
 #[test]
 fn refuses_a_face_of_65537_corners(rt: HostRuntime) -> Result<(), Fail> {
     expect_face_refused(&rt)
 }
 
-// How many lines begin so.
+// The number of lines that begin so.
 fn count_lines(text: &str, start: &str) -> u32 {
     let mut count: u32 = 0;
     for line in text.lines() {
@@ -169,7 +169,7 @@ fn count_lines(text: &str, start: &str) -> u32 {
     count
 }
 
-// What is written has so many points and faces.
+// The text has these numbers of points and faces.
 fn expect_counts(rt: &impl Abort, written: &[u8], points: u32, faces: u32) -> Result<(), Fail> {
     let written = str::from_utf8(written)?;
     expect_same(rt, &count_lines(written, "v "), &points, &"points");

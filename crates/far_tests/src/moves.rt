@@ -12,8 +12,7 @@ use std::test::Fail;
 
 const WORDS: &str = "frames depth=1";
 
-// The number of a line after the square, the line, what it adds, and after each of its bytes the status of a run on what has come
-// so far.
+// The number of a line after the square, the line, its answer, and the status of a run on the text up to each of its bytes.
 type Line = (u32, &'static str, &'static str, &'static str);
 
 const LINES: &[Line] = &[
@@ -37,7 +36,7 @@ fn lines() -> &'static [Line] {
     LINES
 }
 
-// The square, and the lines after it up to a number of them, with what they add.
+// The square and the lines after it, up to a number, with their answers.
 fn session_of(alloc: Global, count: usize) -> Result<(String, String), Fail> {
     let mut input = String::from_str(alloc, SQUARE)?;
     let mut added = String::new(alloc);
@@ -58,7 +57,7 @@ fn digit_of(given: &Result<(), FarFault>) -> (u8, Option<u32>) {
     }
 }
 
-// A run on this text has this status at this line, and writes what the lines before it add, and what this one adds where it is good.
+// A run on this text has this status at this line, and writes the answers of the lines before it, and of this one if it is valid.
 fn expect_cut(
     rt: &(impl Abort + AllocGlobal),
     input: &[u8],
@@ -81,7 +80,7 @@ fn expect_cut(
     Ok(())
 }
 
-// The text so far gets this line, byte by byte.
+// This line is added to the text, byte by byte.
 fn expect_line(
     rt: &(impl Abort + AllocGlobal),
     input: &mut Vec<u8>,
@@ -108,7 +107,7 @@ fn answers_moves_that_end_early(rt: HostRuntime) -> Result<(), Fail> {
     Ok(())
 }
 
-// What the lines add that end within so many bytes of the input.
+// The answers of the lines that end within this number of bytes.
 fn added_within(alloc: Global, bytes: usize) -> Result<String, Fail> {
     let mut end = SQUARE.len();
     let mut added = String::new(alloc);
@@ -122,7 +121,7 @@ fn added_within(alloc: Global, bytes: usize) -> Result<String, Fail> {
     Ok(added)
 }
 
-// Where this read of 7 bytes fails, the answers to the lines before stand.
+// If this read of 7 bytes fails, the sink has the answers of the lines before.
 fn expect_read(
     rt: &(impl Abort + AllocGlobal),
     input: &str,
@@ -155,7 +154,7 @@ fn keeps_answers_before_a_failed_read(rt: HostRuntime) -> Result<(), Fail> {
     expect_read(&rt, input.as_str(), 18, &refused)
 }
 
-// How many bytes stand where this call of the sink fails: each answer is written in pieces of 16 bytes, and then flushed.
+// The number of bytes in the sink if this call of it fails. Each answer is written in pieces of 16 bytes, then flushed.
 fn held_at(call: usize) -> usize {
     let mut held: usize = 0;
     let mut left = call;
@@ -173,7 +172,7 @@ fn held_at(call: usize) -> usize {
     held
 }
 
-// Where this call of the sink fails, it holds the pieces before it.
+// If this call of the sink fails, the sink has the pieces before it.
 fn expect_write(
     rt: &(impl Abort + AllocGlobal),
     input: &str,
@@ -200,7 +199,7 @@ fn fails_at_each_write_of_an_answer(rt: HostRuntime) -> Result<(), Fail> {
     expect_write(&rt, input.as_str(), added.as_str(), 15, &Ok(()))
 }
 
-// How many blanks a third line has, what ends it, and the answer.
+// The number of blanks of a third line, its end, and the answer.
 type Blanks = (usize, &'static str, Result<(), FarFault>);
 
 const LONG_LINE: Result<(), FarFault> = Err(FarFault::Obj {

@@ -8,7 +8,7 @@ use std::alloc::{AllocError, Global};
 use std::process::Abort;
 use std::test::Fail;
 
-// A source that gives so many bytes a call, and of which one call fails.
+// A source that gives this number of bytes a call, and one of whose calls fails.
 fn pieces_of(alloc: Global, text: &str, size: u32, call: u32) -> Result<MemSource, AllocError>
     requires { 0 < size }
 {
@@ -16,10 +16,11 @@ fn pieces_of(alloc: Global, text: &str, size: u32, call: u32) -> Result<MemSourc
     Ok(MemSource::in_pieces(text.as_bytes().to_vec(alloc)?, fails, sizes))
 }
 
-// What is pending at first, the text, and how many bytes may come; how many bytes a call gives, and which call fails.
+// The bytes that are pending first, the text, and the number of bytes that may come; the number of bytes a call gives, and the failing
+// call.
 type Input = (&'static str, &'static str, usize, u32, u32);
 
-// An input, the room of a reader, and the answers of its calls with the lines, up to the first that is no line.
+// An input, the capacity of a reader, and the answers of its calls with the lines, up to the first that is not a line.
 type Lines = (Input, usize, &'static str);
 
 const LINES: &[Lines] = &[
@@ -39,7 +40,7 @@ const LINES: &[Lines] = &[
         "Closed a, Closed bc, Closed , End ",
     ),
     (("x\ny", "z\n", 99, 1, 99), 4, "Closed x, Closed yz, End "),
-    // A line of one byte less than the room, with LF, and as many bytes as the room without it.
+    // A line of one byte less than the capacity, with its line feed, and as many bytes as the capacity without one.
     (
         ("", "abc\nabc\n", 99, 1, 99),
         4,
@@ -60,7 +61,7 @@ const LINES: &[Lines] = &[
     (("q", "a\n", 2, 7, 99), 9, "Closed qa, End "),
     (("", "", 0, 1, 99), 9, "End "),
     (("", "a", 0, 1, 99), 9, "Long "),
-    // A line that is here already is answered before the call that fails.
+    // A line that is already here is answered before the call that fails.
     (("", "a\nb\nc", 99, 7, 0), 9, "Failed "),
     (("", "a\nb\nc", 99, 7, 1), 9, "Closed a, Closed b, Failed "),
     (("", "a\nb\nc", 99, 1, 3), 9, "Closed a, Failed "),
@@ -127,8 +128,8 @@ fn reads_lines_of_a_bounded_length(rt: HostRuntime) -> Result<(), Fail> {
     Ok(())
 }
 
-// An input, and the answers of the calls up to the first that is no line; what is passed and pending then, and how many
-// bytes may still come.
+// An input, and the answers of the calls up to the first that is not a line; the passed and the pending bytes then, and the number of
+// bytes that may still come.
 type Texts = (Input, &'static str, &'static str, &'static str, usize);
 
 const TEXTS: &[Texts] = &[

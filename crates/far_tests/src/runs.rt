@@ -1,4 +1,4 @@
-// Whole runs: each command, and each kind of fault as a value. Other runs on small meshes are cases of `cases/`.
+// Whole runs: each command, and each kind of fault as a value. `cases/` has other runs on small meshes.
 
 use crate::engine::run_alone;
 use crate::expect::expect_answer;
@@ -16,7 +16,7 @@ use std::fmt;
 use std::process::Abort;
 use std::test::Fail;
 
-// Words, a mesh and a line after it, the answer, and what is written.
+// Words, a mesh and a line after it, the answer, and the text.
 type Run = (
     &'static str,
     &'static str,
@@ -233,7 +233,7 @@ fn runs() -> &'static [Run] {
     RUNS
 }
 
-// A run of these words on a mesh and a line after it has this answer, and this is written, where there is room for a byte more.
+// A run of these words on a mesh and a line after it has this answer and this text, in a sink with one byte to spare.
 pub fn expect_run(
     rt: &(impl Abort + AllocGlobal),
     given: (&str, &str, &str),

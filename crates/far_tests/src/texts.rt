@@ -13,7 +13,7 @@ use std::alloc::{AllocError, Global};
 use std::process::Abort;
 use std::test::Fail;
 
-// Writes a word and a fraction. The contract follows from nothing but the clauses of the calls.
+// Writes a word and a fraction. The contract follows from the clauses of the calls only.
 fn put_word_and_fraction<K: Sink>(sink: &mut K, f: &Frac) -> Result<(), WriteFailed>
     requires positive { 0 < f.now.den }
     requires kept { unsigned_abs f.now.num < 2 ^ 127 }
@@ -25,7 +25,7 @@ fn put_word_and_fraction<K: Sink>(sink: &mut K, f: &Frac) -> Result<(), WriteFai
     out.end()
 }
 
-// A numerator, a denominator, how many digits, and the text.
+// A numerator, a denominator, the number of digits, and the text.
 type Decimal = (i128, u128, u32, &'static str);
 
 const DECIMALS: &[Decimal] = &[
@@ -216,7 +216,7 @@ fn puts_texts_around_the_end_of_the_buffer(rt: HostRuntime) -> Result<(), Fail> 
     Ok(())
 }
 
-// Puts a text in four calls and ends it, whatever fails, and says how many calls succeeded.
+// Puts a text in four calls and ends it, whatever fails, and returns the number of calls that succeeded.
 fn count_successes<K: Sink>(sink: &mut K) -> usize {
     let letters = [b'a'; 5000];
     let mut out = Out::new(sink);
@@ -230,8 +230,8 @@ fn count_successes<K: Sink>(sink: &mut K) -> usize {
     answers.iter().filter(|answer| answer.is_ok()).count()
 }
 
-// The room of the sink, its call that fails, and none from 9 on, how many calls of the `Out` succeed, and how many bytes the
-// sink holds then.
+// The capacity of the sink, its failing call (9 for none), the number of calls of the `Out` that succeed, and the number of bytes in the
+// sink then.
 type Stop = (usize, u32, usize, usize);
 
 const STOPS: &[Stop] = &[

@@ -1,4 +1,4 @@
-// The words of a command line: the commands that they say, and the places of bad words.
+// The words of a command line: the commands that they spell, and the places of bad words.
 
 use crate::engine::words_of;
 use crate::expect::expect_same;
@@ -10,7 +10,7 @@ use far_words::{
 use std::process::Abort;
 use std::test::Fail;
 
-// Refining with these options.
+// `refine` with these options.
 macro_rules! refine {
     ($depth:literal, $decimals:expr, $uv:ident, $by:ident, $tags:literal) => {
         Ok(Command::Read(ReadCommand::Refine(RefineOptions {
@@ -23,7 +23,7 @@ macro_rules! refine {
     };
 }
 
-// Refining selected faces with these options.
+// `sparse` with these options.
 macro_rules! sparse {
     ($depth:literal, $select:ident, $decimals:expr, $uv:ident) => {
         Ok(Command::Read(ReadCommand::Sparse(SparseOptions {
@@ -49,7 +49,7 @@ macro_rules! patch {
     };
 }
 
-// The leaves of the places of a face, on a grid, where faces are selected to a depth.
+// The leaves of the places of a face on a grid, with faces selected to a depth.
 macro_rules! map {
     ($depth:literal, $face:literal, $grid:literal, $corner:literal, $select:ident) => {
         Ok(Command::Read(ReadCommand::Map(MapOptions {
@@ -76,7 +76,7 @@ macro_rules! moves {
     };
 }
 
-// Words, and the command that they say or the place of the first bad one. More words that are no command are in `cases/words`.
+// Words, and their command or the place of the first bad one. `cases/words` has more words that are not a command.
 type Words = (&'static str, Result<Command, u32>);
 
 const WORDS: &[Words] = &[

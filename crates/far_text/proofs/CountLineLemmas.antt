@@ -1,4 +1,4 @@
--- A line is what is put first, its words and its end.
+-- A line is its first part, its words and its end.
 use Rattle.std.proofs.Common.{◌≡◌, ℕ, [], ◌∷◌, ◌++◌, codes, ap}
 use Rattle.subdiv_model.specs.NumberText.{number_text}
 use Rattle.subdiv_model.specs.LevelText.{whole_text}

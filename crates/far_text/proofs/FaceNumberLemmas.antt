@@ -1,4 +1,4 @@
--- Faces that are found by their numbers.
+-- A search for faces by their numbers.
 use Rattle.std.proofs.Common.{◌≡◌, ℕ, zero, suc, ◌+◌, ◌<◌, ◌≤◌, Bool, true, false, cond, not, nat_eq, nat_le, List, [], ◌∷◌, length, map, get_or, Some, None, arith, refl, ap, sym, subst, ◌∙◌, inl, inr, ◌&&◌, nat_lt, ltb-true}
 use Rattle.std.specs.Prelude.{option_map, find}
 use Rattle.std.specs.List.Sorted.{IsStrictlyIncreasing}
@@ -13,7 +13,7 @@ use Rattle.sparse_faces.specs.View.{face_at}
 use Rattle.far_text.specs.TexturedLines.{place_in}
 use Rattle.far_text.proofs.SparseLemmas.{no_face}
 
--- The first item of a list that passes, where its place is known, and none.
+-- The first item of a list that passes, by its place, or none.
 module _ {X : Type 0} (p : X → Bool) where
   pub find-is : (xs : List X) (i : ℕ) (d : X) → i < length xs → ((k : ℕ) → k < i → p (get_or xs k d) ≡ false) → p (get_or xs i d) ≡ true → find p xs ≡ Some (get_or xs i d)
   find-is [] i d within fails passes = absurd (omega arith)
@@ -28,7 +28,7 @@ module _ {X : Type 0} (p : X → Bool) where
       ap (λ b. cond b (Some x) (find p xs)) (fails zero (omega arith))
       ∙ find-none xs d (λ k h. fails (suc k) (omega (arith, h)))
 
--- what a test on two numbers tells
+-- the meaning of a test on two numbers
 not-le : (a b : ℕ) → b < a → nat_le a b ≡ false
 not-le a b h = grind (arith, nat_tests)
 
@@ -62,7 +62,7 @@ module _ (level : WrittenLevel) where
   at-place : (number : ℕ) → place_in level number < length level.faces → number ≤ (face_at level (place_in level number)).number
   at-place number h = true-le number (face_at level (place_in level number)).number (passes_at_first (λ face. nat_le number face.number) level.faces no_face h)
 
-  -- a face whose number is below stands before the place
+  -- a face with a lower number is before the place
   pub next-place : (number place : ℕ) → place ≤ place_in level number → place < length level.faces → (face_at level place).number < number
       → place + 1 ≤ place_in level number
   next-place number place low within below = elim (cases_lt place (place_in level number)) [
@@ -74,7 +74,7 @@ module _ (level : WrittenLevel) where
         absurd (omega (arith, high, below))
   ]
 
-  -- a face whose number is not below stands at the place, if none before it does
+  -- a face whose number is not below is at the place, if none before it is so
   pub stopped-place : (number place : ℕ) → place ≤ place_in level number → (place < length level.faces → number ≤ (face_at level place).number)
       → place ≡ place_in level number
   stopped-place number place low high =
@@ -92,11 +92,11 @@ module _ (level : WrittenLevel) where
     | inr past ↦ past
   ]
 
-  -- there is a face at this place, and it has the number
+  -- the face at this place exists and has the number
   abbrev is_numbered : ℕ → ℕ → Bool
   is_numbered place number = nat_lt place (length level.faces) && nat_eq number (face_at level place).number
 
-  -- a face at the place of a number that does not have it has a greater one
+  -- the face at the place of a number has that number or a greater one
   above : (number place : ℕ) → place ≡ place_in level number → is_numbered place number ≡ false → place < length level.faces → number < (face_at level place).number
   above number place is missing within = go (nat_eq number (face_at level place).number) refl
     where
@@ -110,7 +110,7 @@ module _ (level : WrittenLevel) where
           cc)
       go false other = let unequal = eqb-false number (face_at level place).number other in omega (arith, high, unequal)
 
-  -- the face with the number stands at its place
+  -- the face with the number is at its place
   pub face-there : (number place : ℕ) → place ≡ place_in level number → is_numbered place number ≡ true
       → Some (face_at level place).corners ≡ corners_of_face level number
   face-there number place is there =
@@ -121,7 +121,7 @@ module _ (level : WrittenLevel) where
       (λ k h. not-eq number (face_at level k).number (before-place number k (omega (arith, is, h))))
       both.1))
 
-  -- or there is no such face, where the numbers ascend
+  -- the face does not exist, if the numbers ascend
   pub face-missing : (number place : ℕ) → IsStrictlyIncreasing (map (λ face. face.number) level.faces) → place ≡ place_in level number
       → is_numbered place number ≡ false → None ≡ corners_of_face level number
   face-missing number place ascending is missing =

@@ -7,7 +7,7 @@ use Rattle.std.proofs.lemmas.List.FromFn.{get_or-range_with_len, get_or-map-rang
 use Rattle.subdiv_model.specs.Patch.{patch_places}
 use Rattle.far_text.proofs.ListLemmas.{all-pairs, pair-at, pair-there}
 
--- the places of a row, of so many
+-- the places of a row of this length
 abbrev row : ℕ → ℕ → List (ℕ × ℕ)
 row side j = map (λ i. (i, j)) (range_with_len 0 side)
 
@@ -22,7 +22,7 @@ take-range first count zero h = refl
 take-range first zero (suc n) h = absurd (omega arith)
 take-range first (suc count) (suc n) h = ap (λ rest. first ∷ rest) (take-range (first + 1) count n (omega (arith, h)))
 
--- the place of a number in rows of so many
+-- the place of a number in rows of this length
 place-in-rows : (side i j : ℕ) (d : ℕ × ℕ) → i < side → j < side → get_or (flat_map (row side) (range_with_len 0 side)) (j * side + i) d ≡ (i, j)
 place-in-rows side i j d before below =
     let there : get_or (range_with_len 0 side) j 0 ≡ j = omega (arith, get_or-range_with_len 0 side j 0 below) in
@@ -39,7 +39,7 @@ place-in-rows side i j d before below =
 row-within : (side i j : ℕ) → j * side + i < side * side → j < side
 row-within side i j h = lt_of_mul-lt-mul_right side (omega (arith, h))
 
--- the places with what is seen of their items
+-- the places with views of their items
 abbrev pub placed : {X Y : Type 0} → ℕ → (X → Y) → List X → List ((ℕ × ℕ) × Y)
 placed grid view items = zip (patch_places grid) (map view items)
 
@@ -50,7 +50,7 @@ module _ {X Y : Type 0} (grid : ℕ) (view : X → Y) (items : List X) (each : l
   pub within-places : (n : ℕ) → n < length items → n < length (placed grid view items)
   within-places n within = pair-there (patch_places grid) (map view items) n views-each (omega (arith, within, each))
 
-  -- the place of a number, with what is seen of its item
+  -- the place of a number, with the view of its item
   pub place-at : (n : ℕ) (place : ℕ × ℕ) (item : X) (d : (ℕ × ℕ) × Y) → n < length items → place.0 < grid + 1 → place.1 * (grid + 1) + place.0 ≡ n
       → item ≡ get_or items n item → (place, view item) ≡ get_or (placed grid view items) n d
   place-at n place item d within before number is =

@@ -1,4 +1,4 @@
--- The lines of a list's items, where a test says which items have one.
+-- The lines of a list's items, with a test that says which items have a line.
 use Rattle.std.proofs.Common.{◌≡◌, ℕ, suc, ◌+◌, ◌<◌, ◌≤◌, Bool, true, false, not, ◌&&◌, ◌||◌, List, [], ◌∷◌, ◌++◌, length, map, zip, get_or, take, take_all, arith, refl, ap, sym, ◌∙◌, IsTrue, if◌then◌else◌}
 use Rattle.std.specs.List.{flat_map, filter, range_with_len}
 use Rattle.std.proofs.Math.ListN.{get_or-map}
@@ -11,13 +11,13 @@ use Rattle.subdiv_model.specs.Level.{Level, is_hole, is_well_formed}
 use Rattle.subdiv_model.specs.Text.{face_line, textured_face_line, shown}
 use Rattle.far_text.specs.Lines.{text_where, shown_face, shown_textured_face}
 
--- one item, and the others
+-- one item and the others
 one-item : {X : Type 0} (b : Bool) (text : X → List ℕ) (x : X) (others : List X) →
     (if b then text x else []) ++ flat_map text others ≡ flat_map text (if b then x ∷ others else others)
 one-item true text x others = refl
 one-item false text x others = refl
 
--- the texts of those that pass, and nothing of the others
+-- the texts of the items that pass, and nothing of the others
 pub texts-filter : {X : Type 0} (test : X → Bool) (text : X → List ℕ) (xs : List X) →
     flat_map (text_where test text) xs ≡ flat_map text (filter test xs)
 texts-filter test text [] = refl
@@ -31,7 +31,7 @@ one-marked : {X : Type 0} (b : Bool) (text : X → List ℕ) (x : X) (mark : Boo
 one-marked true text x mark others = refl
 one-marked false text x mark others = refl
 
--- the texts of a face's item where the face is shown, from the faces' numbers
+-- the text of a face's item if the face is shown, from the faces' numbers
 module _ {X : Type 0} (all : Bool) (level : Level) (text : X → List ℕ) (item_at : ℕ → X) (none : X) where
   -- from number k on, where `items` and `holes` are those of the level's faces
   shown-from : (k : ℕ) (items : List X) (holes : List Bool) → length holes ≡ length items →
@@ -76,18 +76,18 @@ pub shown-faces : (all : Bool) (level : Level) → IsTrue (is_well_formed level)
     flat_map (shown_face all level) (range_with_len 0 (length level.polygons)) ≡ flat_map face_line (shown all level level.polygons)
 shown-faces all level formed = shown-items all level face_line (polygon_at level.polygons) [] level.polygons formed refl (λ i within. refl)
 
--- two lists of faces that are alike are as long, and so are the corners of their faces
+-- two lists of faces with as many corners each have the same length, and so have the corners of their faces
 pub alike-faces : (ps qs : List Polygon) → map length qs ≡ map length ps → length qs ≡ length ps
 alike-faces ps qs alike = sym (length-map qs length) ∙ ap length alike ∙ length-map ps length
 
 pub alike-corners : (ps qs : List Polygon) (f : ℕ) → map length qs ≡ map length ps → length (polygon_at qs f) ≡ length (polygon_at ps f)
 alike-corners ps qs f alike = sym (get_or-map length qs f []) ∙ ap (λ (sizes : List ℕ). get_or sizes f 0) alike ∙ get_or-map length ps f []
 
--- as many pairs as items in the first of two lists that are as long
+-- the number of pairs is that of items in the first of two lists of one length
 pub zip-long : {X Y : Type 0} (xs : List X) (ys : List Y) → length ys ≡ length xs → length (zip xs ys) ≡ length xs
 zip-long xs ys e = sym (length-map (zip xs ys) (λ p. p.0)) ∙ ap length (firsts-zip xs ys e)
 
--- there is a pair for each item, and it is the item and that at its place
+-- each item has a pair: the item, and the one at its place in the other list
 pub pair-there : {X Y : Type 0} (xs : List X) (ys : List Y) (i : ℕ) → length ys ≡ length xs → i < length xs → i < length (zip xs ys)
 pair-there xs ys i e within = omega (arith, within, zip-long xs ys e)
 

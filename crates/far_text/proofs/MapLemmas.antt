@@ -35,13 +35,13 @@ leaf-line-by-words grid place leaf =
     ∙ ap (λ rest. count_words (codes "p") place.0 ++ ((32 ∷ number_text place.1) ++ rest)) (sym (ended-words (leaf_words grid leaf)))
     ∙ ap (λ rest. codes "p" ++ rest) (ended-words (number_text place.0 ∷ number_text place.1 ∷ leaf_words grid leaf))
 
--- the lines of pairs with what is told of each
+-- the lines of pairs with their leaves
 each-pair : (grid : ℕ) (leaf : ℕ × ℕ → Location) (pairs : List (ℕ × ℕ)) →
     flat_map (placed_leaf_line grid) (zip pairs (map leaf pairs)) ≡ flat_map (λ pair. leaf_line grid pair (leaf pair)) pairs
 each-pair grid leaf [] = refl
 each-pair grid leaf (pair ∷ pairs) = ap (λ rest. leaf_line grid pair (leaf pair) ++ rest) (each-pair grid leaf pairs)
 
--- where the leaves are those of the pairs of the grid, the text is the definition's
+-- if the leaves are those of the grid's pairs, the text is the definition's
 pub map-text : (leaves : MapLeaves) (leaf : ℕ × ℕ → Location) → map location_of leaves.leaves.items ≡ map leaf (grid_pairs leaves.grid)
     → map_lines leaves ≡ flat_map (λ pair. leaf_line leaves.grid pair (leaf pair)) (grid_pairs leaves.grid)
 map-text leaves leaf is =

@@ -19,7 +19,7 @@ there : (n i : ℕ) → i < n → get_or (range_with_len 0 n) i 0 ≡ i
 there n i within = omega (arith, get_or-range_with_len 0 n i 0 within)
 
 module _ {K : Type 0} {sink : Ghosts K} (text : ℕ → List ℕ) (n i : ℕ) (within : i < n) where
-  -- the texts of the first numbers, and then the next one's
+  -- the texts of the first numbers, then that of the next one
   pub number-next : {a b c : Out K} {r : Result (Unit {0}) WriteFailed} → Puts sink a b (flat_map text (take i (range_with_len 0 n))) (Ok tt) →
       Puts sink b c (text i) r → Puts sink a c (flat_map text (take (i + 1) (range_with_len 0 n))) r
   number-next p q = puts-next text (range_with_len 0 n) i 0 (inside n i within) p (puts-same (ap text (sym (there n i within))) q)

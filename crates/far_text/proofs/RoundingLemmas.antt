@@ -7,7 +7,7 @@ use Rattle.std.proofs.lemmas.Int.{unsigned_abs-mul}
 use Rattle.subdiv_model.specs.NumberText.{sign_text, goes_up, half_to_even, rounded_sign, decimal_text, rounded_text}
 use Rattle.number_laws.proofs.WholeNumberLemmas.{sign-stays}
 
--- a number above 0 times a number is as much as times another only where the two are one
+-- a number above 0 times two numbers is equal only if the two are equal
 times-cancel : (k a b : ℕ) → 0 < k → k * a ≡ k * b → a ≡ b
 times-cancel k a b positive e = sym (mul-div_cancel_left a {n = k} positive) ∙ ap (λ n. n / k) e ∙ mul-div_cancel_left b {n = k} positive
 
@@ -32,7 +32,7 @@ same-cases k a b positive false true h g = sym (eq-eqb a b (times-cancel k a b p
 same-scaled : (k a b : ℕ) → 0 < k → nat_eq (k * a) (k * b) ≡ nat_eq a b
 same-scaled k a b positive = same-cases k a b positive (nat_eq a b) (nat_eq (k * a) (k * b)) refl refl
 
--- what is left of a multiple, over the same multiple
+-- the remainder of a multiple, over the same multiple
 rest-scaled : (k a b : ℕ) → 0 < k → k * a % (k * b) ≡ k * (a % b)
 rest-scaled k a b positive =
     let whole : k * b * (a / b) + k * a % (k * b) ≡ k * a =
@@ -57,7 +57,7 @@ half-scaled k a b positive =
     ∙ ap (λ r. if goes_up (a / b) r (k * b) then a / b + 1 else a / b) (rest-scaled k a b positive)
     ∙ ap (λ t. if t then a / b + 1 else a / b) (goes_up-scaled k (a / b) (a % b) b positive)
 
--- by both being multiples of one
+-- by both fractions as multiples of one
 half-same : (a b c d : ℕ) → 0 < b → 0 < d → a * d ≡ c * b → half_to_even a b ≡ half_to_even c d
 half-same a b c d above below crossed =
     let nums : d * a ≡ b * c = omega (arith, crossed) in

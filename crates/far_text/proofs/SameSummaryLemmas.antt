@@ -1,4 +1,4 @@
--- The summary of a sheet has the text that is defined of its mesh.
+-- The summary of a sheet has the text that the definitions give its mesh.
 use Rattle.std.proofs.Common.{◌≡◌, ℕ, zero, suc, ◌+◌, List, [], ◌∷◌, ◌++◌, length, get_or, codes, None, arith, refl, ap, sym, ◌∙◌, subst}
 use Rattle.std.specs.List.{All, AllZip, AllByRecursion}
 use Rattle.std.proofs.lemmas.List.{get_or-map}
@@ -39,7 +39,7 @@ last-same (p ∷ []) (q ∷ (r ∷ qs)) above below same = absurd same.1
 last-same (p ∷ (r ∷ ps)) (q ∷ []) above below same = absurd same.1
 last-same (p ∷ (r ∷ ps)) (q ∷ (s ∷ qs)) above below same = last-same (r ∷ ps) (s ∷ qs) above.1 below.1 same.1
 
--- and the point that it is of
+-- the line of the last point and the point itself
 last-at : (points : List Point) (at : ℕ) (d : Point) → at + 1 ≡ length points → last_line points ≡ line_text (codes "last") (point_words (get_or points at d))
 last-at [] at d e = absurd (omega (arith, e))
 last-at (p ∷ []) zero d e = refl
@@ -57,7 +57,7 @@ last-of-values values at d e =
     last-at (points_of 1 values) at (point_of 1 d) (e ∙ sym (length-points values))
     ∙ ap (λ p. line_text (codes "last") (point_words p)) (get_or-map (point_of 1) values at d (point_of 1 d) (omega (arith, e)))
 
--- a summary can be written where its last point can
+-- a summary can be written if its last point can
 pub summary-written : (summary : Summary) (common : ℕ) → common ≡ 1 → CanBeWritten common summary.last → CanSummaryBeWritten summary
 summary-written summary common one written = subst (λ (n : ℕ). CanBeWritten n summary.last) one written
 

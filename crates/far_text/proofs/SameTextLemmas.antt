@@ -27,7 +27,7 @@ point-same decimals p q above below same =
     ∙ ap (λ t. words (value_text_with decimals q.0) t (value_text_with decimals p.2)) (value-same decimals p.1 q.1 above.y below.y same.y)
     ∙ ap (λ t. words (value_text_with decimals q.0) (value_text_with decimals q.1) t) (value-same decimals p.2 q.2 above.z below.z same.z)
 
--- the line of a changed point, where both denominators are at least 1
+-- the line of a changed point, with both denominators at least 1
 pub changed-same : (number : ℕ) (p q : Point) → HasDenominators p → HasDenominators q → IsSamePoint p q → changed_line number p ≡ changed_line number q
 changed-same number p q above below same =
     let words : List ℕ → List ℕ → List ℕ → List ℕ = λ x y z. line_text (codes "p") (number_text number ∷ x ∷ y ∷ z ∷ []) in
@@ -35,7 +35,7 @@ changed-same number p q above below same =
     ∙ ap (λ t. words (value_text q.0) t (value_text p.2)) (value-same None p.1 q.1 above.y below.y same.y)
     ∙ ap (λ t. words (value_text q.0) (value_text q.1) t) (value-same None p.2 q.2 above.z below.z same.z)
 
--- that of a point that can be written, which is the definition's point in other terms
+-- the line of a point that can be written and is the definition's point in other terms
 pub valued-changed-same : (common number : ℕ) (p : Valued Point3) (q : Point) → CanBeWritten common p → HasDenominators q → IsSamePoint (point_of common p) q →
     valued_changed_line common number p ≡ changed_line number q
 valued-changed-same common number p q written below same =
@@ -51,7 +51,7 @@ points-same decimals (p ∷ ps) (q ∷ qs) above below same =
     ap (λ t. t ++ flat_map (point_line decimals) ps) (point-same decimals p q above.0 below.0 same.0)
     ∙ ap (λ t. point_line decimals q ++ t) (points-same decimals ps qs above.1 below.1 same.1)
 
--- the text of a mesh, where all denominators are at least 1
+-- the text of a mesh, with all denominators at least 1
 pub mesh_text-same : (decimals : Option ℕ) (holes : Bool) (level : Level) (ps qs : List Point) →
     All HasDenominators ps → All HasDenominators qs → AllZip IsSamePoint ps qs → mesh_text decimals holes level ps ≡ mesh_text decimals holes level qs
 mesh_text-same decimals holes level ps qs above below same =

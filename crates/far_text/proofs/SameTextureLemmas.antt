@@ -30,7 +30,7 @@ texture-same decimals (p ∷ ps) (q ∷ qs) above below same =
     ap (λ t. t ++ flat_map (texture_line decimals) ps) (texture-point-same decimals p q above.0 below.0 same.0)
     ∙ ap (λ t. texture_line decimals q ++ t) (texture-same decimals ps qs above.1 below.1 same.1)
 
--- the text of a mesh with its texture, where all denominators are at least 1
+-- the text of a mesh with its texture, with all denominators at least 1
 pub textured_mesh_text-same : (decimals : Option ℕ) (holes : Bool) (level : Level) (ps qs : List Point) (cut : Level) (us vs : List (Value × Value)) →
     All HasDenominators ps → All HasDenominators qs → AllZip IsSamePoint ps qs →
     All HasTextureDenominators us → All HasTextureDenominators vs → AllZip IsSameTexturePoint us vs →

@@ -80,7 +80,7 @@ module _ (common : ℕ) (levels : List (SparseValues Point3)) where
   pub all-levels : (decimals : Option ℕ) (k : ℕ) → length levels ≤ k → flat_map (numbered_level decimals) (take k numbered) ≡ sparse_lines decimals 0 (map (level_over common) levels)
   all-levels decimals k past = ap (flat_map (numbered_level decimals)) (take_all k numbered (omega (arith, past, numbered-count)))
 
--- the text of sparse levels is that of what is written of each
+-- the text of sparse levels is that of the written part of each
 lines-over : (decimals : Option ℕ) (level : ℕ → PointedLevel) (first count : ℕ)
     → sparse_lines decimals first (map level (range_with_len first count)) ≡ flat_map (λ k. sparse_level_text decimals k (level k).written (level k).points) (range_with_len first count)
 lines-over decimals level first zero = refl
@@ -117,7 +117,7 @@ lines-same decimals first (x ∷ xs) (y ∷ ys) same =
     ap (λ t. t ++ sparse_lines decimals (first + 1) xs) (level-same decimals first x y same.0)
     ∙ ap (λ t. numbered_level decimals (first, y) ++ t) (lines-same decimals (first + 1) xs ys same.1)
 
--- where each level is that of the definitions with its points in other terms, the text is the definition's
+-- if each level is that of the definitions with its points in other terms, the text is the definition's
 pub sparse-text-same : (mesh : SparseMesh) (points : ℕ → List Point) (base : Level) (meeting : Meeting) (depth : ℕ)
     → AllZip AreSameLevels (map (level_over mesh.common) mesh.levels.items) (map (defined_level points base meeting) (range_with_len 0 (depth + 1)))
     → sparse_mesh_text mesh ≡ sparse_text mesh.decimals points base meeting depth

@@ -30,7 +30,7 @@ use Rattle.far_text.proofs.SameTextLemmas.{points-same}
 use Rattle.far_text.proofs.SameTextureLemmas.{texture-same}
 use Rattle.far_text.proofs.SparseLemmas.{AreSameLevels, defined_level, no_face}
 
--- the corners, alone and with texture points
+-- the corners, by themselves and with texture points
 pub plain-words : (corners : Polygon) → flat_map corner_word corners ≡ spaced (corner_words corners None)
 plain-words corners = sym (flat_map-map (λ word. 32 ∷ word) (λ corner. number_text (corner + 1)) corners)
 
@@ -80,7 +80,7 @@ textured-level-by-parts decimals k common over level texture points texture_poin
     ∙ ap (λ values. first ++ (flat_map (point_line decimals) (points_of common values) ++ (flat_map (texture_line decimals) (texture_points_of over texture_points) ++ faces))) is
     ∙ ap (λ values. first ++ (flat_map (point_line decimals) (points_of common level.values.items) ++ (flat_map (texture_line decimals) (texture_points_of over values) ++ faces))) texture_is
 
--- a face that both have has as many corners
+-- a face of the level and of the texture has as many corners in both
 pub alike-at : (level texture : WrittenLevel) (found : Option Polygon) (f : ℕ) → AreFacesAlike level texture → f < length level.faces
     → found ≡ corners_of_face texture (face_at level f).number → IfSome found (λ points. length points ≡ length (face_at level f).corners)
 alike-at level texture found f are within is =
@@ -170,7 +170,7 @@ level-text-same decimals k a b s t is texture_is same texture_same =
     ∙ ap (text b.level t.level (flat_map (point_line decimals) b.values)) texture_same
 
 module _ (decimals : Option ℕ) (common over : ℕ) (points : SparseTrack Point) (texture : SparseTrack (Value × Value)) where
-  -- that of the level with a number
+  -- the text of the level with a number
   part-same : (k : ℕ) (level : SparseValues Point3) (texture_level : SparseValues Point2)
       → AreSameLevels (level_over common level) (defined_level points.values points.base points.meeting k)
       → AreSameTextures (texture_part_over over texture_level) (texture_part texture k)
@@ -198,7 +198,7 @@ module _ (decimals : Option ℕ) (common over : ℕ) (points : SparseTrack Point
       ∙ ap (λ rest. textured_level_text decimals first (points_part points first) (texture_part texture first) ++ rest)
       (lines-same (first + 1) count levels textures same.1 texture_same.1)
 
--- where each level is that of the definitions with its points and its texture points in other terms, the text is the definition's
+-- if each level is that of the definitions with its points and texture points in other terms, the text is the definition's
 pub textured-sparse-text-same : (sparse : TexturedSparse) (points : SparseTrack Point) (texture : SparseTrack (Value × Value)) (depth : ℕ)
     → AllZip AreSameLevels (map (level_over sparse.mesh.common) sparse.mesh.levels.items) (map (defined_level points.values points.base points.meeting) (range_with_len 0 (depth + 1)))
     → AllZip AreSameTextures (map (texture_part_over sparse.texture.common) sparse.texture.levels.items) (map (texture_part texture) (range_with_len 0 (depth + 1)))

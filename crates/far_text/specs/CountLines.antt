@@ -1,13 +1,13 @@
--- The lines of counts and of a summary, by the pieces in which they are put.
+-- The lines of counts and of a summary, piece by piece.
 use Rattle.std.specs.Prelude.{ℕ, List, [], ◌∷◌, ◌++◌, codes}
 use Rattle.subdiv_model.specs.NumberText.{number_text}
 use Rattle.level_counts.specs.Counts.{Counts}
 
--- a name, and a count after a space
+-- a name, a space and a count
 abbrev pub count_words : List ℕ → ℕ → List ℕ
 count_words name count = name ++ (32 ∷ number_text count)
 
--- how many edges, faces and points of a kind there are, and the end of the line
+-- the numbers of edges, faces and points of each kind, and the end of the line
 abbrev pub kind_words : Counts → List ℕ
 kind_words counts =
     count_words (codes " boundary") counts.boundary

@@ -1,4 +1,4 @@
--- The lines of levels' counts.
+-- The lines with the counts of levels.
 use Rattle.std.specs.Prelude.{ℕ, List, [], ◌∷◌, codes}
 use Rattle.std.specs.List.{flat_map, enumerate_from}
 use Rattle.subdiv_model.specs.NumberText.{number_text}
@@ -20,12 +20,14 @@ line_words k counts =
     ∷ codes "extraordinary" ∷ number_text counts.extraordinary
     ∷ []
 
+-- the line of a level with these counts
 abbrev pub counts_line : ℕ → Counts → List ℕ
 counts_line k counts = line_text (codes "level") (line_words k counts)
 
+-- the line of a numbered level
 abbrev pub numbered_line : ℕ × Counts → List ℕ
 numbered_line level = counts_line level.0 level.1
 
--- the lines of levels with these counts, where the first of them has this number
+-- the lines of levels with these counts, numbered from the first number
 abbrev pub levels_lines : ℕ → List Counts → List ℕ
 levels_lines first counts = flat_map numbered_line (enumerate_from first counts)

@@ -7,11 +7,11 @@ use Rattle.subdiv_model.specs.Leaf.{Location, grid_pairs, leaf_line}
 use Rattle.patch_map.specs.View.{location_of}
 use Rattle.far_text.specs.declared.map.MapLeaves.{MapLeaves}
 
--- where a place lies on its leaf
+-- the position of a place on its leaf
 abbrev pub position_words : ℕ → ℕ × ℕ → List (List ℕ)
 position_words grid position = codes "at" ∷ ratio_text (lowest (position.0, grid)) ∷ ratio_text (lowest (position.1, grid)) ∷ []
 
--- a leaf, and where a place lies on it
+-- a leaf and the position of a place on it
 abbrev pub leaf_words : ℕ → Location → List (List ℕ)
 leaf_words grid leaf =
     codes "level" ∷ number_text leaf.level
@@ -23,10 +23,11 @@ leaf_words grid leaf =
 abbrev pub placed_leaf_line : ℕ → (ℕ × ℕ) × Location → List ℕ
 placed_leaf_line grid placed = leaf_line grid placed.0 placed.1
 
+-- the lines of all places of a grid with their leaves, row by row
 abbrev pub map_lines : MapLeaves → List ℕ
 map_lines leaves = flat_map (placed_leaf_line leaves.grid) (zip (grid_pairs leaves.grid) (map location_of leaves.leaves.items))
 
--- the grid has a step along each side, and each place has a leaf
+-- the grid has at least one step, and each place has a leaf
 pub record CanMapBePut (leaves : MapLeaves) : Type 0 where
   pub positive : 0 < leaves.grid
   pub each : length leaves.leaves.items ≡ length (grid_pairs leaves.grid)

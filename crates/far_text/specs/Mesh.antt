@@ -1,4 +1,4 @@
--- The text of a refined mesh, with its texture, and what must hold so that it can be put.
+-- The text of a refined mesh with its texture, and the conditions for putting it.
 use Rattle.std.specs.Prelude.{ℕ, ◌≡◌, ◌≤◌, Bool, false, true, List, [], ◌++◌, length, map, Option, Some, None, IfSome}
 use Rattle.std.specs.List.{All}
 use Rattle.subdiv_model.specs.Level.{Level}
@@ -19,16 +19,17 @@ textured_lines mesh texture form =
     textured_mesh_text form.decimals form.tags mesh.level.level (points_of mesh.common mesh.values.items)
     texture.level.level (texture_points_of texture.common texture.values.items)
 
--- the lines of a mesh with its texture, where it has one
+-- the lines of a mesh with its texture, if it has one
 abbrev pub lines_of : Option RefinedTexture → RefinedMesh → MeshForm → List ℕ
 lines_of None mesh form = plain_lines mesh form
 lines_of (Some texture) mesh form = textured_lines mesh texture form
 
--- the lines of the tags, where they are written
+-- the lines of the tags, if the text has them
 abbrev pub tag_lines : Bool → Level → List ℕ
 tag_lines false level = []
 tag_lines true level = tags_text level
 
+-- the text of a refined mesh in a form
 abbrev pub refined_text : RefinedMesh → MeshForm → List ℕ
 refined_text mesh form = lines_of mesh.texture mesh form ++ tag_lines form.tags mesh.level.level
 
@@ -37,7 +38,7 @@ pub record CanTextureBePut (level : Level) (texture : RefinedTexture) : Type 0 w
   pub written : All (CanTextureBeWritten texture.common) texture.values.items
   pub alike : map length texture.level.level.polygons ≡ map length level.polygons
 
--- all numbers can be written, in at most 18 decimals
+-- all numbers can be written, and there are at most 18 decimals
 pub record CanBePut (mesh : RefinedMesh) (form : MeshForm) : Type 0 where
   pub written : All (CanBeWritten mesh.common) mesh.values.items
   pub texture : IfSome mesh.texture (CanTextureBePut mesh.level.level)

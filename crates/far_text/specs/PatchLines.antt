@@ -7,11 +7,11 @@ use Rattle.subdiv_model.specs.Patch.{patch_places, place_line}
 use Rattle.far_text.specs.Points.{CanBeWritten, points_of}
 use Rattle.far_text.specs.declared.patch.PatchPoints.{PatchPoints}
 
--- the line of the face and of the steps of its grid
+-- the line of the face and its grid
 abbrev pub face_line : ℕ → ℕ → List ℕ
 face_line face grid = line_text (codes "patch") (codes "face" ∷ number_text face ∷ codes "grid" ∷ number_text grid ∷ [])
 
--- that line, and one for each place with its point
+-- the line of the face, and one for each place with its point
 abbrev pub patch_lines : PatchPoints → List ℕ
 patch_lines patch = face_line patch.face patch.grid ++ flat_map place_line (zip (patch_places patch.grid) (points_of patch.common patch.values.items))
 

@@ -1,4 +1,4 @@
--- The text of a reply, and what must hold so that it can be put.
+-- The text of a reply, and the conditions for putting it.
 use Rattle.std.specs.Prelude.{ℕ, List, map}
 use Rattle.level_counts.specs.View.{seen_counts}
 use Rattle.far_text.specs.Levels.{levels_lines}
@@ -13,6 +13,7 @@ use Rattle.subdiv_model.specs.TableText.{text_of_table}
 use Rattle.far_text.specs.declared.reply.Reply.{Reply}
 use Rattle.far_text.specs.declared.reply.Reply.TheVariants.{Refined, Table, Counts, Sheet, Sparse, TexturedSparse, Patch, Map, Agreement, Points}
 
+-- the text of a reply
 abbrev pub reply_text : Reply → List ℕ
 reply_text (Refined mesh form) = refined_text mesh form
 reply_text (Table table) = text_of_table table

@@ -8,19 +8,20 @@ use Rattle.sparse_faces.specs.declared.values.SparseValues.{SparseValues}
 use Rattle.far_text.specs.Points.{CanBeWritten, points_of}
 use Rattle.far_text.specs.declared.sparse.SparseMesh.{SparseMesh}
 
--- what is written of a level, and its points
+-- the written part of a level, and its points
 pub record PointedLevel : Type 0 where
   pub written : WrittenLevel
   pub points : List Point
 
+-- a written level with its points
 abbrev pub pointed : WrittenLevel → List Point → PointedLevel
 pointed written points = record { written = written; points = points }
 
--- the lines of a sparse level with its number
+-- the lines of a numbered sparse level
 abbrev pub numbered_level : Option ℕ → ℕ × PointedLevel → List ℕ
 numbered_level decimals level = sparse_level_text decimals level.0 level.1.written level.1.points
 
--- the lines of sparse levels, where the first of them has this number
+-- the lines of sparse levels, numbered from the first number
 abbrev pub sparse_lines : Option ℕ → ℕ → List PointedLevel → List ℕ
 sparse_lines decimals first levels = flat_map (numbered_level decimals) (enumerate_from first levels)
 
@@ -28,10 +29,11 @@ sparse_lines decimals first levels = flat_map (numbered_level decimals) (enumera
 abbrev pub level_over : ℕ → SparseValues Point3 → PointedLevel
 level_over common level = pointed level.faces (points_of common level.values.items)
 
+-- the text of the sparse levels of a mesh
 abbrev pub sparse_mesh_text : SparseMesh → List ℕ
 sparse_mesh_text mesh = sparse_lines mesh.decimals 0 (map (level_over mesh.common) mesh.levels.items)
 
--- all its numbers can be written
+-- all numbers of the mesh can be written
 pub record CanSparseBePut (mesh : SparseMesh) : Type 0 where
   pub written : All (λ level. All (CanBeWritten mesh.common) level.values.items) mesh.levels.items
   pub decimals : IfSome mesh.decimals (λ digits. digits ≤ 18)

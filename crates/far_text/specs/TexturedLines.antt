@@ -24,7 +24,7 @@ spaced words = flat_map (λ word. 32 ∷ word) words
 abbrev pub sparse_line_with : WrittenFace → Option Polygon → List ℕ
 sparse_line_with face texture = line_text (codes "f") (kind_text face.kind ∷ number_text face.number ∷ corner_words face.corners texture)
 
--- the place of the first face whose number is not below this one, or how many faces there are
+-- the place of the first face whose number is not below this one, or the number of faces if none is
 abbrev pub place_in : WrittenLevel → ℕ → ℕ
 place_in level number = position_or_len (λ face. nat_le number face.number) level.faces
 
@@ -32,10 +32,11 @@ place_in level number = position_or_len (λ face. nat_le number face.number) lev
 abbrev pub points_part_over : ℕ → SparseValues Point3 → SparsePart Point
 points_part_over common level = record { level = level.faces; values = points_of common level.values.items }
 
+-- a level of texture with its values over a common denominator
 abbrev pub texture_part_over : ℕ → SparseValues Point2 → SparsePart (Value × Value)
 texture_part_over common level = record { level = level.faces; values = texture_points_of common level.values.items }
 
--- the lines of a level and its texture with its number
+-- the lines of a numbered level with its texture
 abbrev pub numbered_parts : Option ℕ → ℕ × (SparsePart Point × SparsePart (Value × Value)) → List ℕ
 numbered_parts decimals level = textured_level_text decimals level.0 level.1.0 level.1.1
 
@@ -44,6 +45,7 @@ abbrev pub level_parts : TexturedSparse → List (SparsePart Point × SparsePart
 level_parts sparse =
     zip (map (points_part_over sparse.mesh.common) sparse.mesh.levels.items) (map (texture_part_over sparse.texture.common) sparse.texture.levels.items)
 
+-- the text of sparse levels with texture
 abbrev pub textured_text : TexturedSparse → List ℕ
 textured_text sparse = flat_map (numbered_parts sparse.mesh.decimals) (enumerate_from 0 (level_parts sparse))
 
@@ -59,7 +61,7 @@ pub record CanLevelBePut (common texture_common : ℕ) (level : SparseValues Poi
   pub texture_written : All (CanTextureBeWritten texture_common) texture.values.items
   pub faces : AreFacesAlike level.faces texture.faces
 
--- there are as many levels of the texture, each level and its texture can be put, and there are at most 18 decimals
+-- the texture has the same number of levels, each level can be put with its texture, and there are at most 18 decimals
 pub record CanTexturedBePut (sparse : TexturedSparse) : Type 0 where
   pub as_many : length sparse.texture.levels.items ≡ length sparse.mesh.levels.items
   pub each : (k : ℕ) (level : SparseValues Point3) (texture : SparseValues Point2) → k < length sparse.mesh.levels.items

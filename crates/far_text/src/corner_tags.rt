@@ -26,7 +26,7 @@ fn put_corner<K: Sink>(
     out.put_byte(b'\n')
 }
 
-// Puts the line of a vertex that is sharp, and nothing for another.
+// Puts the line of a sharp vertex, or nothing for another.
 fn put_vertex<K: Sink>(out: &mut Out<'_, K>, level: &Level, v: u32) -> Result<(), WriteFailed>
     requires fine { out.old.failed ≡ false }
     requires exists { v < level.now.level.point_count }
@@ -39,7 +39,7 @@ fn put_vertex<K: Sink>(out: &mut Out<'_, K>, level: &Level, v: u32) -> Result<()
     Ok(())
 }
 
-// Puts a line for each vertex that is sharp.
+// Puts a line for each sharp vertex.
 pub(crate) fn put_corners<K: Sink>(out: &mut Out<'_, K>, level: &Level) -> Result<(), WriteFailed>
     requires fine { out.old.failed ≡ false }
     ensures { Puts K.Sink out.old out.new (flat_map (corner_where_sharp level.now.level) (range_with_len 0 level.now.level.point_count)) result }

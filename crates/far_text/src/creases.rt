@@ -23,7 +23,7 @@ fn sharpness_at(level: &Level, e: u32) -> Sharpness
     level.edge_sharpness(e)
 }
 
-// Puts the line of a crease with these ends.
+// Puts the line of a crease between two vertices.
 fn put_crease<K: Sink>(
     out: &mut Out<'_, K>,
     ends: (u32, u32),
@@ -39,7 +39,7 @@ fn put_crease<K: Sink>(
     out.put_byte(b'\n')
 }
 
-// Puts the line of an edge that has two faces and is sharp, and nothing for another.
+// Puts the line of a sharp edge of two faces, or nothing for another.
 fn put_edge<K: Sink>(out: &mut Out<'_, K>, level: &Level, e: u32) -> Result<(), WriteFailed>
     requires fine { out.old.failed ≡ false }
     requires exists { e < length (edges_of level.now.level.polygons) }
@@ -52,7 +52,7 @@ fn put_edge<K: Sink>(out: &mut Out<'_, K>, level: &Level, e: u32) -> Result<(), 
     Ok(())
 }
 
-// Puts a line for each edge that has two faces and is sharp.
+// Puts a line for each sharp edge of two faces.
 pub(crate) fn put_creases<K: Sink>(out: &mut Out<'_, K>, level: &Level) -> Result<(), WriteFailed>
     requires fine { out.old.failed ≡ false }
     ensures { Puts K.Sink out.old out.new (flat_map (crease_where_sharp level.now.level) (edges_of level.now.level.polygons)) result }

@@ -37,7 +37,7 @@ fn put_face<K: Sink>(out: &mut Out<'_, K>, corners: &[u32]) -> Result<(), WriteF
     out.put_byte(b'\n')
 }
 
-// Puts the line of a face, unless it is a hole and holes are left out.
+// Puts the line of a face; with `holes` false it puts nothing for a hole.
 fn put_shown_face<K: Sink>(
     out: &mut Out<'_, K>,
     level: &Level,
@@ -54,7 +54,7 @@ fn put_shown_face<K: Sink>(
     Ok(())
 }
 
-// Puts a line for each face, or for each that is no hole.
+// Puts a line for each face; with `holes` false it leaves out the holes.
 pub(crate) fn put_faces<K: Sink>(
     out: &mut Out<'_, K>,
     level: &Level,

@@ -10,7 +10,7 @@ use far_io::{Sink, WriteFailed};
 use obj_out::Out;
 use ratio128::{Point3, Valued};
 
-/// Puts the first line of a frame: how many points are changed. It takes no memory.
+/// Puts the first line of a frame: the number of changed points. It takes no memory.
 pub fn put_frame_count<K: Sink>(out: &mut Out<'_, K>, count: u32) -> Result<(), WriteFailed>
     ensures { Puts K.Sink out.old out.new (frame_line count) result }
 {
@@ -18,8 +18,8 @@ pub fn put_frame_count<K: Sink>(out: &mut Out<'_, K>, count: u32) -> Result<(), 
     out.put_byte(b'\n')
 }
 
-/// Puts the line of a changed point: its number, which counts from 0, and its coordinates in lowest terms. The coordinates stand
-/// over the point's own denominator times the common one. It takes no memory.
+/// Puts the line of a changed point: its number, counted from 0, and its coordinates in lowest terms. The numerators of `point` are over
+/// its own denominator times `common`. The call takes no memory.
 pub fn put_changed<K: Sink>(
     out: &mut Out<'_, K>,
     number: u32,

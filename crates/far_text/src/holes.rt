@@ -19,7 +19,7 @@ fn put_hole<K: Sink>(out: &mut Out<'_, K>, f: u32) -> Result<(), WriteFailed>
     out.put_byte(b'\n')
 }
 
-// Puts the line of a face that is a hole, and nothing for another.
+// Puts the line of a hole, or nothing for another face.
 fn put_face<K: Sink>(out: &mut Out<'_, K>, level: &Level, f: u32) -> Result<(), WriteFailed>
     requires fine { out.old.failed ≡ false }
     requires exists { f < length level.now.level.polygons }

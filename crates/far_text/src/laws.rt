@@ -1,4 +1,4 @@
-//! The lines of levels are those of their counts, and of what is written of sparse levels.
+//! Laws: the text of levels follows from their counts, and the text of sparse levels from what they contain.
 //!
 //! Each public function here takes nothing, does nothing and returns nothing: its clauses are the laws.
 
@@ -14,17 +14,17 @@ ghost use Rattle.level_counts.specs.Counts.{counts_of};
 ghost use Rattle.far_text.specs.Levels.{counts_line, levels_lines};
 ghost use Rattle.far_text.specs.SparseLines.{pointed, sparse_lines};
 
-/// The line of a level is that of its counts.
+/// The line of a level follows from the level's counts.
 pub fn line_of_a_level()
     ensures { (k : ℕ) (level : Level) → level_line k level ≡ counts_line k (counts_of level) }
 {}
 
-/// The lines of the levels to a depth are those of their counts.
+/// The lines of the levels up to a depth follow from their counts.
 pub fn lines_of_the_levels()
     ensures { (base : Level) (depth : ℕ) → levels_text base depth ≡ levels_lines 0 (map (λ k. counts_of (refined_level base k)) (range_with_len 0 (depth + 1))) }
 {}
 
-/// The lines of the sparse levels to a depth are those of what is written of each, with its points.
+/// The lines of the sparse levels up to a depth follow from the written part of each level and its points.
 pub fn lines_of_sparse_levels()
     ensures { (decimals : Option ℕ) (points : ℕ → List Point) (base : Level) (meeting : Meeting) (depth : ℕ)
         → sparse_text decimals points base meeting depth ≡ sparse_lines decimals 0

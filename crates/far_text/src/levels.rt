@@ -1,4 +1,4 @@
-//! The lines of levels' counts.
+//! The lines with the counts of levels.
 
 ghost use Rattle.std.specs.Prelude.{◌≡◌, ◌++◌, false, map, codes};
 ghost use Rattle.subdiv_model.specs.NumberText.{sign_text};
@@ -12,7 +12,7 @@ use far_io::{Sink, WriteFailed};
 use level_counts::LevelCounts;
 use obj_out::Out;
 
-// Puts `-` where Euler's number is below 0, and nothing else.
+// Puts `-` if Euler's number is below 0.
 fn put_sign<K: Sink>(out: &mut Out<'_, K>, counts: &LevelCounts) -> Result<(), WriteFailed>
     ensures { Puts K.Sink out.old out.new (sign_text counts.now.euler) result }
 {
@@ -28,7 +28,7 @@ fn put_euler<K: Sink>(out: &mut Out<'_, K>, counts: &LevelCounts) -> Result<(), 
     out.put_number(counts.euler.unsigned_abs())
 }
 
-// Puts how many edges, faces and points of a kind there are, and the end of the line.
+// Puts the numbers of edges, faces and points of each kind, and the end of the line.
 fn put_kinds<K: Sink>(out: &mut Out<'_, K>, counts: &LevelCounts) -> Result<(), WriteFailed>
     ensures { Puts K.Sink out.old out.new (kind_words (seen_counts counts.now)) result }
 {
@@ -39,7 +39,7 @@ fn put_kinds<K: Sink>(out: &mut Out<'_, K>, counts: &LevelCounts) -> Result<(), 
     out.put_byte(b'\n')
 }
 
-// Puts the line of the level with this number.
+// Puts the line of a level.
 fn put_level_line<K: Sink>(
     out: &mut Out<'_, K>,
     number: u64,
@@ -55,7 +55,7 @@ fn put_level_line<K: Sink>(
     put_kinds(out, counts)
 }
 
-/// Puts the lines of levels with these counts, from level 0 on.
+/// Puts a line with the counts of each level, numbered from 0.
 pub fn put_levels<K: Sink>(out: &mut Out<'_, K>, counts: &[LevelCounts]) -> Result<(), WriteFailed>
     requires fine { out.old.failed ≡ false }
     ensures { Puts K.Sink out.old out.new (levels_lines 0 (map seen_counts counts.now)) result }

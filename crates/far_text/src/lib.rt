@@ -1,7 +1,9 @@
-//! The texts that the program writes, put through an [`obj_out::Out`].
+//! Writes the replies of the program as text, exactly or rounded to decimals. A [`Reply`] holds the result of a command as a value. Its
+//! text consists of lines with whole numbers and fractions in digits. Points are numerators over their own denominators, all over a
+//! common one.
 //!
-//! A [`Reply`] is what a command writes, as a value: a refined mesh, say, or a table of stencils. Each has its text in lines, of numbers
-//! and fractions in digits. No call takes memory.
+//! Each call puts text into an [`obj_out::Out`] and takes no memory. After the error `WriteFailed` the sink holds a prefix of the text,
+//! and every later call of that `Out` fails.
 #![tactic(auto)]
 
 mod corner_tags;

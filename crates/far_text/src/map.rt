@@ -1,4 +1,4 @@
-//! The lines of a map: a line for each place of a face, with the leaf of the sparse levels that has it.
+//! The lines of a map: one for each place of a face, with the leaf of the sparse levels that contains it.
 
 ghost use Rattle.std.specs.Prelude.{◌≡◌, ◌<◌, [], ◌∷◌, false};
 ghost use Rattle.subdiv_model.specs.Fractions.{lowest};
@@ -15,16 +15,18 @@ use obj_out::Out;
 use patch_map::Leaf;
 use ratio128::Frac;
 
-/// The leaves that have the places of a face, on a grid of so many steps along each side, row by row.
+/// The leaves that contain the places of a face, row by row, on a grid of `grid` steps along each side.
 ///
-/// The leaf of the place (i, j) has the number j * (grid + 1) + i. Where the place lies on its leaf is over `grid`.
+/// The leaf of the place (i, j) has the number j * (grid + 1) + i. The position of the place on its leaf is in steps of the grid.
 #[derive(Drop)]
 pub struct MapLeaves {
+    /// The number of steps along each side.
     pub grid: u32,
+    /// The leaf of each place.
     pub leaves: Vec<Leaf>,
 }
 
-// Puts a space and how many steps of the grid these are of its side, in lowest terms.
+// Puts a space and a number of steps as a fraction of the grid, in lowest terms.
 fn put_steps<K: Sink>(out: &mut Out<'_, K>, steps: u64, grid: u32) -> Result<(), WriteFailed>
     requires { 0 < grid }
     ensures { Puts K.Sink out.old out.new (32 ∷ ratio_text (lowest (steps, grid))) result }
@@ -36,14 +38,14 @@ fn put_steps<K: Sink>(out: &mut Out<'_, K>, steps: u64, grid: u32) -> Result<(),
     out.put_frac_after(b' ', &f)
 }
 
-// Returns where a place lies on its leaf, over the size of the grid.
+// Returns the position of a place on its leaf, in steps of the grid.
 fn position_on(leaf: &Leaf) -> (u64, u64)
     ensures { result ≡ ((location_of leaf.now).s, (location_of leaf.now).t) }
 {
     (leaf.s, leaf.t)
 }
 
-// Puts where a place lies on its leaf, and the end of the line.
+// Puts the position of a place on its leaf, and the end of the line.
 fn put_position<K: Sink>(
     out: &mut Out<'_, K>,
     position: (u64, u64),
@@ -58,7 +60,7 @@ fn put_position<K: Sink>(
     out.put_byte(b'\n')
 }
 
-// Puts a leaf, where a place lies on it, and the end of the line.
+// Puts a leaf, the position of a place on it, and the end of the line.
 fn put_leaf<K: Sink>(out: &mut Out<'_, K>, leaf: &Leaf, grid: u32) -> Result<(), WriteFailed>
     requires { 0 < grid }
     ensures { Puts K.Sink out.old out.new (line_text [] (leaf_words grid (location_of leaf.now))) result }

@@ -18,30 +18,39 @@ use ratio128::{Point2, Point3, Valued};
 
 /// The texture of a refined mesh: the last level of its cut mesh, and the texture points of that level.
 ///
-/// The faces of the level are those of the mesh, corner by corner, with the numbers of texture points in the place of the
-/// numbers of points. The points are numerators over their own denominators, all over `common`.
+/// The faces of this level are those of the mesh, corner by corner, but each corner is a texture point. The texture points are numerators
+/// over their own denominators, all over `common`.
 #[derive(Drop)]
 pub struct RefinedTexture {
+    /// The last level of the cut mesh.
     pub level: Level,
+    /// The texture points of that level.
     pub values: Vec<Valued<Point2>>,
+    /// The common denominator of all texture points.
     pub common: u128,
 }
 
-/// A refined mesh: its last level, the points of that level, and its texture, where it has one.
+/// A refined mesh: its last level, the points of that level, and its texture if it has one.
 ///
 /// The points are numerators over their own denominators, all over `common`.
 #[derive(Drop)]
 pub struct RefinedMesh {
+    /// The last level.
     pub level: Level,
+    /// The points of that level.
     pub values: Vec<Valued<Point3>>,
+    /// The common denominator of all points.
     pub common: u128,
+    /// The texture, or `None`.
     pub texture: Option<RefinedTexture>,
 }
 
-/// How a refined mesh is written: in how many decimals, if not in lowest terms, and whether with its tags and holes.
+/// The form of a refined mesh: the number of decimals, or `None` for lowest terms, and whether it has its tags and holes.
 #[derive(Clone, Copy, Debug, PartialEq, Eq)]
 pub struct MeshForm {
+    /// The number of decimals, at most 18, or `None` for lowest terms.
     pub decimals: Option<u32>,
+    /// Whether the text has tags and holes.
     pub tags: bool,
 }
 
@@ -78,7 +87,7 @@ fn put_textured<K: Sink>(
     put_textured_faces(out, &mesh.level, &texture.level, form.tags)
 }
 
-// Puts the lines of the points, of the texture, where there is one, and of the faces.
+// Puts the lines of the points, of the texture if there is one, and of the faces.
 fn put_lines<K: Sink>(
     out: &mut Out<'_, K>,
     mesh: &RefinedMesh,
@@ -94,7 +103,7 @@ fn put_lines<K: Sink>(
     }
 }
 
-// Puts the tags of a level, where they are written.
+// Puts the tags of a level if `tags` is true.
 fn put_tags_of<K: Sink>(out: &mut Out<'_, K>, level: &Level, tags: bool) -> Result<(), WriteFailed>
     requires fine { out.old.failed ≡ false }
     ensures { Puts K.Sink out.old out.new (tag_lines tags level.now.level) result }
@@ -105,10 +114,10 @@ fn put_tags_of<K: Sink>(out: &mut Out<'_, K>, level: &Level, tags: bool) -> Resu
     Ok(())
 }
 
-/// Puts a line for each point, one for each texture point, and one for each face; and then the tags, where they are written.
+/// Puts a line for each point, one for each texture point and one for each face; then the tags if `form` has them.
 ///
-/// Points are written as fractions in lowest terms, or rounded to so many decimals, at most 18. Faces that are holes have a
-/// line only where the tags are written. In the lines of faces points and texture points are counted from 1.
+/// Coordinates are fractions in lowest terms, or rounded half to even to at most 18 decimals. Faces count points and texture points from
+/// 1, tags count from 0. A hole has a line only if `form` has tags.
 pub fn put_refined<K: Sink>(
     out: &mut Out<'_, K>,
     mesh: &RefinedMesh,
@@ -117,7 +126,7 @@ pub fn put_refined<K: Sink>(
     requires written { CanBePut mesh.now form }
     ensures { Puts K.Sink out.old out.new (refined_text mesh.now form) result }
 {
-    // the empty text fails where a call before has failed
+    // the empty text fails if a call before has failed
     out.put_bytes(b"")?;
     put_lines(out, mesh, form)?;
     put_tags_of(out, &mesh.level, form.tags)

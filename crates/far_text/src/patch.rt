@@ -1,4 +1,4 @@
-//! The lines of the patch of a face: a line with the face and the steps of its grid, and a line for each place with its point.
+//! The lines of the patch of a face: one for the face and its grid, and one for each place with its point.
 
 ghost use Rattle.std.specs.Prelude.{◌≡◌, ◌<◌, ◌+◌, ◌*◌, ◌∷◌, ◌++◌, codes, false};
 ghost use Rattle.std.specs.List.{flat_map, zip};
@@ -14,19 +14,23 @@ use far_io::{Sink, WriteFailed};
 use obj_out::Out;
 use ratio128::{Point3, Valued};
 
-/// The points of the patch of a face on a grid of so many steps along each side, row by row: numerators over their own denominators,
-/// all over `common`.
+/// The points of the patch of a face, row by row, on a grid of `grid` steps along each side: numerators over their own denominators, all
+/// over `common`.
 ///
 /// The face is counted from 0. The point of the place (i, j) has the number j * (grid + 1) + i.
 #[derive(Drop)]
 pub struct PatchPoints {
+    /// The number of the face.
     pub face: u32,
+    /// The number of steps along each side.
     pub grid: u32,
+    /// The point of each place.
     pub values: Vec<Valued<Point3>>,
+    /// The common denominator of all points.
     pub common: u128,
 }
 
-// Puts the line of the face and of the steps of its grid.
+// Puts the line of the face and its grid.
 fn put_face<K: Sink>(out: &mut Out<'_, K>, face: u32, grid: u32) -> Result<(), WriteFailed>
     ensures { Puts K.Sink out.old out.new (face_line face grid) result }
 {
@@ -35,7 +39,7 @@ fn put_face<K: Sink>(out: &mut Out<'_, K>, face: u32, grid: u32) -> Result<(), W
     out.put_byte(b'\n')
 }
 
-// Returns the place (i, j) of the point with this number, where each row has so many points.
+// Returns the place (i, j) of a point, given the number of points in a row.
 pub(crate) fn place_of(number: u64, side: u64) -> (u64, u64)
     requires { 0 < side }
     ensures within { result.0 < side }
@@ -44,7 +48,7 @@ pub(crate) fn place_of(number: u64, side: u64) -> (u64, u64)
     (number % side, number / side)
 }
 
-// Puts how the line of a place begins: a keyword and the place.
+// Puts the start of a place's line: a keyword and the place.
 pub(crate) fn put_place<K: Sink>(
     out: &mut Out<'_, K>,
     keyword: &[u8],
@@ -84,8 +88,8 @@ fn put_places<K: Sink>(out: &mut Out<'_, K>, patch: &PatchPoints) -> Result<(), 
     Ok(())
 }
 
-/// Puts the text of a patch: a line with its face and the steps of its grid, and a line for each place with its point in lowest
-/// terms, row by row. It takes no memory.
+/// Puts the text of a patch: a line with the face and its grid, then a line for each place with its point in lowest terms, row by row. It
+/// takes no memory.
 pub fn put_patch<K: Sink>(out: &mut Out<'_, K>, patch: &PatchPoints) -> Result<(), WriteFailed>
     requires fine { out.old.failed ≡ false }
     requires written { CanPatchBePut patch.now }

@@ -12,7 +12,7 @@ use far_io::{Sink, WriteFailed};
 use obj_out::Out;
 use ratio128::{Frac, Point3, Valued};
 
-// Puts a space and a coordinate, in lowest terms, or rounded where decimals are given.
+// Puts a space and a coordinate, in lowest terms or rounded to the decimals.
 pub(crate) fn put_coordinate<K: Sink>(
     out: &mut Out<'_, K>,
     num: &i128,
@@ -32,7 +32,7 @@ pub(crate) fn put_coordinate<K: Sink>(
     }
 }
 
-// Puts the coordinates of a point, which are all over one denominator, and the end of the line.
+// Puts the coordinates of a point over one denominator, and the end of the line.
 pub(crate) fn put_coordinates<K: Sink>(
     out: &mut Out<'_, K>,
     point: &Point3,

@@ -1,4 +1,4 @@
-//! What the program writes, as values that are found before anything is written.
+//! The results of commands, as values.
 
 ghost use Rattle.std.specs.Prelude.{◌≡◌, false};
 ghost use Rattle.far_io.specs.Writes.{Writes};
@@ -19,16 +19,16 @@ use obj_out::Out;
 use stencil_apply::StencilTable;
 use table_file::put_table;
 
-/// What the program writes, as values that are found before anything is written.
+/// The result of a command. It is complete before the program writes its first byte.
 #[derive(Drop)]
 pub enum Reply {
-    /// A refined mesh, and how it is written.
+    /// A refined mesh and the form of its text.
     Refined(RefinedMesh, MeshForm),
     /// The table of stencils of a mesh at a depth.
     Table(StencilTable),
     /// The counts of the levels from 0 on.
     Counts(Vec<LevelCounts>),
-    /// The summary of a sheet that the program makes.
+    /// The summary of a sheet of the command `gen`.
     Sheet(Summary),
     /// The sparse levels of a mesh.
     Sparse(SparseMesh),
@@ -36,9 +36,9 @@ pub enum Reply {
     TexturedSparse(TexturedSparse),
     /// The points of the patch of a face.
     Patch(PatchPoints),
-    /// The leaves of the sparse levels that have the places of a face.
+    /// The leaves of the sparse levels that contain the places of a face.
     Map(MapLeaves),
-    /// A stored table agrees with the table of a mesh. `rows` is how many rows both have.
+    /// A stored table agrees with the table of a mesh. Both have `rows` rows.
     Agreement { rows: u32 },
     /// The points of a stored table.
     Points(TablePoints),
@@ -64,7 +64,9 @@ pub fn put_reply<K: Sink>(out: &mut Out<'_, K>, reply: &Reply) -> Result<(), Wri
     }
 }
 
-/// Writes the text of a reply and hands it on, or writes a prefix of it where the sink fails. It takes no memory.
+/// Writes the text of a reply to a sink and flushes it. It takes no memory.
+///
+/// Error `WriteFailed`: the sink holds a prefix of the text.
 pub fn write_reply<K: Sink>(sink: &mut K, reply: &Reply) -> Result<(), WriteFailed>
     requires { CanPut reply.now }
     ensures { Writes K.Sink sink.old sink.new (reply_text reply.now) result }

@@ -11,7 +11,7 @@ use far_io::{Sink, WriteFailed};
 use obj_out::Out;
 use sharpness_rules::Sharpness;
 
-// Puts the numerator, and the denominator after it where that is not 1.
+// Puts the numerator, and the denominator after it unless that is 1.
 fn put_ratio<K: Sink>(out: &mut Out<'_, K>, num: u64, den: u64) -> Result<(), WriteFailed>
     ensures { Puts K.Sink out.old out.new (ratio_text (num, den)) result }
 {
@@ -22,7 +22,7 @@ fn put_ratio<K: Sink>(out: &mut Out<'_, K>, num: u64, den: u64) -> Result<(), Wr
     }
 }
 
-// Puts a sharpness in lowest terms, in which it is kept, and 10 where it is infinite.
+// Puts a sharpness in lowest terms, or 10 for an infinite one.
 fn put_sharpness<K: Sink>(out: &mut Out<'_, K>, sharpness: Sharpness) -> Result<(), WriteFailed>
     ensures { Puts K.Sink out.old out.new (sharpness_text (sharpness_of sharpness)) result }
 {

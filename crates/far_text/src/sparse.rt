@@ -1,4 +1,4 @@
-//! The lines of sparse levels: of each a line with its counts, a line for each point, and a line for each present face.
+//! The lines of sparse levels: for each level a line with its counts, a line for each point, and a line for each present face.
 
 ghost use Rattle.std.specs.Prelude.{◌≡◌, ◌∷◌, ◌++◌, ◌<◌, ◌≤◌, false, length, codes, IfSome};
 ghost use Rattle.std.specs.List.{All, flat_map};
@@ -17,16 +17,19 @@ use sparse_faces::{FaceKind, SparseFaces, SparseValues};
 
 /// The sparse levels of a mesh, from level 0 on, with their points.
 ///
-/// The points are numerators over their own denominators, all over `common`. They are written in `decimals` decimals, at most 18, or
-/// in lowest terms.
+/// The points are numerators over their own denominators, all over `common`. Their text has `decimals` decimals, at most 18, or is in
+/// lowest terms.
 #[derive(Drop)]
 pub struct SparseMesh {
+    /// The levels with the points that each writes.
     pub levels: Vec<SparseValues<Point3>>,
+    /// The common denominator of all points.
     pub common: u128,
+    /// The number of decimals, or `None` for lowest terms.
     pub decimals: Option<u32>,
 }
 
-// Puts how the line of a face of this kind begins.
+// Puts the start of the line of a face of this kind.
 pub(crate) fn put_kind<K: Sink>(out: &mut Out<'_, K>, kind: FaceKind) -> Result<(), WriteFailed>
     ensures { Puts K.Sink out.old out.new (codes "f" ++ (32 ∷ kind_text (kind_of kind))) result }
 {
@@ -60,7 +63,7 @@ fn put_faces<K: Sink>(out: &mut Out<'_, K>, level: &SparseFaces) -> Result<(), W
     Ok(())
 }
 
-// Puts the line with the counts of the level with this number.
+// Puts the line with the counts of a level.
 fn put_counts<K: Sink>(
     out: &mut Out<'_, K>,
     number: u64,
@@ -74,7 +77,7 @@ fn put_counts<K: Sink>(
     out.put_byte(b'\n')
 }
 
-// Puts the lines of the level with this number: its counts, its points and its faces.
+// Puts the lines of a level: its counts, its points and its faces.
 fn put_sparse_level<K: Sink>(
     out: &mut Out<'_, K>,
     number: u64,
@@ -92,7 +95,7 @@ fn put_sparse_level<K: Sink>(
     put_faces(out, &level.faces)
 }
 
-/// Puts the lines of sparse levels, from level 0 on.
+/// Puts the lines of sparse levels, numbered from 0.
 pub fn put_sparse<K: Sink>(out: &mut Out<'_, K>, mesh: &SparseMesh) -> Result<(), WriteFailed>
     requires fine { out.old.failed ≡ false }
     requires written { CanSparseBePut mesh.now }

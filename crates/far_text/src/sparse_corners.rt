@@ -1,4 +1,4 @@
-//! The corners of the faces of a sparse level, with their texture points where the texture has the face.
+//! The corners of the faces of a sparse level, with their texture points if the texture has the face.
 
 ghost use Rattle.std.specs.Prelude.{◌≡◌, ◌≤◌, false, ◌&&◌, nat_eq, nat_lt, length, map, IfSome};
 ghost use Rattle.std.specs.Option.{option_map};
@@ -13,7 +13,7 @@ use far_io::{Sink, WriteFailed};
 use obj_out::Out;
 use sparse_faces::SparseFaces;
 
-// Returns the first place, from `from` on, of a face whose number is not below this one, or how many faces there are.
+// Returns the first place, from `from` on, of a face whose number is not below `number`, or the number of faces if none is.
 pub(crate) fn place_from(texture: &SparseFaces, from: u32, number: u64) -> u32
     requires { from ≤ place_in texture.now number }
     ensures { result ≡ place_in texture.now number }
@@ -25,15 +25,15 @@ pub(crate) fn place_from(texture: &SparseFaces, from: u32, number: u64) -> u32
     place
 }
 
-// Whether there is a face at this place, and it has the number.
+// Whether the place has a face with this number.
 fn is_numbered(texture: &SparseFaces, place: u32, number: u64) -> bool
     ensures { result ≡ (nat_lt place (length texture.now.faces) && nat_eq number (face_at texture.now place).number) }
 {
     place < texture.len() && texture.number(place) == number
 }
 
-// Returns the corners of the face with this number, where the texture has it. The place is the first of a face whose number is not
-// below this one.
+// Returns the corners of the face with this number, if the texture has it. `place` is the first place of a face whose number is not below
+// it.
 pub(crate) fn corners_at(texture: &SparseFaces, place: u32, number: u64) -> Option<&[u32]>
     requires place { place ≡ place_in texture.now number }
     requires ascending { IsStrictlyIncreasing (map (λ face. face.number) texture.now.faces) }
@@ -45,7 +45,7 @@ pub(crate) fn corners_at(texture: &SparseFaces, place: u32, number: u64) -> Opti
     None
 }
 
-// Puts the corners of a face, with their texture points where there are any.
+// Puts the corners of a face, with their texture points if there are any.
 pub(crate) fn put_sparse_corners<K: Sink>(
     out: &mut Out<'_, K>,
     corners: &[u32],

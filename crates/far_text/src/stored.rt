@@ -1,4 +1,4 @@
-//! What is written of a stored table: that it agrees with the table of a mesh, or its points.
+//! The replies about a stored table: its agreement with the table of a mesh, and its points.
 
 ghost use Rattle.std.specs.Prelude.{◌≡◌, false};
 ghost use Rattle.obj_out.specs.Puts.{Puts};
@@ -12,11 +12,13 @@ use ratio128::{Point3, Valued};
 /// The points of a stored table, row by row: numerators over their own denominators, all over `common`.
 #[derive(Drop)]
 pub struct TablePoints {
+    /// The point of each row.
     pub values: Vec<Valued<Point3>>,
+    /// The common denominator of all points.
     pub common: u128,
 }
 
-/// Puts the line of a stored table that agrees with the table of a mesh, with how many rows both have. It takes no memory.
+/// Puts the line that a stored table of `rows` rows agrees with the table of a mesh. It takes no memory.
 pub fn put_agreement<K: Sink>(out: &mut Out<'_, K>, rows: u32) -> Result<(), WriteFailed>
     ensures { Puts K.Sink out.old out.new (agreement_line rows) result }
 {

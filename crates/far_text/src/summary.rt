@@ -1,4 +1,4 @@
-//! The summary of a sheet that the program makes.
+//! The summary of a sheet of the command `gen`.
 
 ghost use Rattle.std.specs.Prelude.{◌≡◌, false};
 ghost use Rattle.obj_out.specs.Puts.{Puts};
@@ -10,24 +10,28 @@ use far_io::{Sink, WriteFailed};
 use obj_out::Out;
 use ratio128::{Point3, Valued};
 
-/// A sheet, the table of its points at a depth, and the last point there.
+/// A sheet, the table of its points at a depth, and the last of these points.
 #[derive(Drop)]
 pub struct Summary {
-    /// How many points and faces the sheet has.
+    /// The number of points of the sheet.
     pub points: u32,
+    /// The number of faces of the sheet.
     pub faces: u32,
-    /// The depth, and how many points and faces its level has.
+    /// The depth.
     pub depth: u32,
+    /// The number of points of the level.
     pub level_points: u32,
+    /// The number of faces of the level.
     pub level_faces: u32,
-    /// How many entries its table has, and the greatest denominator of a row.
+    /// The number of entries of the table.
     pub entries: u64,
+    /// The greatest denominator of a row.
     pub greatest: u128,
     /// The last point of the level, over its own denominator.
     pub last: Valued<Point3>,
 }
 
-// Puts how many points and faces the sheet has.
+// Puts the numbers of points and faces of the sheet.
 fn put_sheet<K: Sink>(out: &mut Out<'_, K>, summary: &Summary) -> Result<(), WriteFailed>
     ensures { Puts K.Sink out.old out.new (sheet_line summary.now.points summary.now.faces) result }
 {
@@ -45,7 +49,7 @@ fn put_greatest<K: Sink>(out: &mut Out<'_, K>, greatest: u128) -> Result<(), Wri
     out.put_byte(b'\n')
 }
 
-// Puts the depth, the counts of its level and of its table, and the greatest denominator.
+// Puts the depth, the counts of the level and of the table, and the greatest denominator.
 fn put_depth<K: Sink>(out: &mut Out<'_, K>, summary: &Summary) -> Result<(), WriteFailed>
     ensures { Puts K.Sink out.old out.new (depth_line summary.now) result }
 {
@@ -56,8 +60,8 @@ fn put_depth<K: Sink>(out: &mut Out<'_, K>, summary: &Summary) -> Result<(), Wri
     put_greatest(out, summary.greatest)
 }
 
-/// Puts three lines: how many points and faces a sheet has; the depth with the counts of its level and its table and the greatest
-/// denominator; and the coordinates of the last point, in lowest terms. It takes no memory.
+/// Puts three lines. The first has the numbers of points and faces of the sheet. The second has the depth, the counts of its level and
+/// table, and the greatest denominator. The third has the coordinates of the last point, in lowest terms. The call takes no memory.
 pub fn put_summary<K: Sink>(out: &mut Out<'_, K>, summary: &Summary) -> Result<(), WriteFailed>
     requires fine { out.old.failed ≡ false }
     requires written { CanSummaryBeWritten summary.now }

@@ -12,7 +12,7 @@ use level_topology::Level;
 use obj_out::Out;
 use sharpness_rules::Method;
 
-// Puts the line of the method `chaikin`, and nothing for the other.
+// Puts the line of the method `chaikin`, or nothing for the other method.
 fn put_method<K: Sink>(out: &mut Out<'_, K>, level: &Level) -> Result<(), WriteFailed>
     requires fine { out.old.failed ≡ false }
     ensures { Puts K.Sink out.old out.new (method_line level.now.level.method) result }
@@ -23,9 +23,8 @@ fn put_method<K: Sink>(out: &mut Out<'_, K>, level: &Level) -> Result<(), WriteF
     }
 }
 
-/// Puts the tags that give a level again: the boundary mode of sharp boundary edges, the method where it is chaikin, the
-/// sharpness of each sharp edge of two faces and of each sharp vertex, and each hole. Numbers are counted from 0, and an
-/// infinite sharpness is written as 10.
+/// Puts the tags that describe a level: the boundary mode of sharp boundary edges, and the method if it is chaikin. A line follows for
+/// each sharp edge of two faces, each sharp vertex and each hole. Tags count from 0. An infinite sharpness is 10.
 pub fn put_tags<K: Sink>(out: &mut Out<'_, K>, level: &Level) -> Result<(), WriteFailed>
     ensures { Puts K.Sink out.old out.new (tags_text level.now.level) result }
 {

@@ -12,7 +12,7 @@ use far_io::{Sink, WriteFailed};
 use obj_out::Out;
 use ratio128::{Point2, Valued};
 
-// Puts the line of a texture point, whose coordinates are both over one denominator.
+// Puts the line of a texture point, whose coordinates are over one denominator.
 fn put_point<K: Sink>(
     out: &mut Out<'_, K>,
     point: &Point2,

@@ -60,7 +60,7 @@ fn put_face<K: Sink>(
     out.put_byte(b'\n')
 }
 
-// Puts the line of a face, unless it is a hole and holes are left out.
+// Puts the line of a face; with `holes` false it puts nothing for a hole.
 fn put_shown_face<K: Sink>(
     out: &mut Out<'_, K>,
     level: &Level,
@@ -79,7 +79,7 @@ fn put_shown_face<K: Sink>(
     Ok(())
 }
 
-// Puts a line for each face, or for each that is no hole; the faces of the cut level have texture points for corners.
+// Puts a line for each face; with `holes` false it leaves out the holes. The corners of the cut level's faces are texture points.
 pub(crate) fn put_textured_faces<K: Sink>(
     out: &mut Out<'_, K>,
     level: &Level,

@@ -1,5 +1,5 @@
-//! The lines of sparse levels with their texture: of each a line with its counts, a line for each point, one for each texture point, and
-//! one for each present face.
+//! The lines of sparse levels with texture: for each level a line with its counts, then lines for its points, texture points and present
+//! faces.
 
 ghost use Rattle.std.specs.Prelude.{◌≡◌, ◌<◌, ◌≤◌, false, length, IfSome};
 ghost use Rattle.std.specs.Option.{option_map};
@@ -18,24 +18,27 @@ use obj_out::Out;
 use ratio128::{Point2, Point3};
 use sparse_faces::{SparseFaces, SparseValues};
 
-/// The texture of sparse levels, from level 0 on. The corners of its faces are texture points, each counted from 0 among those of the
-/// level.
+/// The texture of sparse levels, from level 0 on. The corners of its faces are texture points, counted from 0 in each level.
 ///
 /// The texture points are numerators over their own denominators, all over `common`.
 #[derive(Drop)]
 pub struct SparseTexture {
+    /// The levels with the texture points that each writes.
     pub levels: Vec<SparseValues<Point2>>,
+    /// The common denominator of all texture points.
     pub common: u128,
 }
 
-/// The sparse levels of a mesh, and their texture at as many levels. Both are written in the decimals of the mesh.
+/// The sparse levels of a mesh, and its texture at the same levels. Both have the decimals of the mesh.
 #[derive(Drop)]
 pub struct TexturedSparse {
+    /// The levels of the mesh.
     pub mesh: SparseMesh,
+    /// The levels of the texture.
     pub texture: SparseTexture,
 }
 
-// How a level is written: over which common denominators of its points and of its texture points, and in how many decimals.
+// The form of a level: the common denominators of its points and texture points, and the number of decimals.
 #[derive(Clone, Copy)]
 struct LevelForm {
     common: u128,
@@ -43,7 +46,7 @@ struct LevelForm {
     decimals: Option<u32>,
 }
 
-// Puts the line with the counts of the level with this number, and of its texture.
+// Puts the line with the counts of a level and of its texture.
 fn put_counts<K: Sink>(
     out: &mut Out<'_, K>,
     number: u64,
@@ -59,7 +62,7 @@ fn put_counts<K: Sink>(
     out.put_byte(b'\n')
 }
 
-// Puts the line of a face: its kind, its number in the uniform level, and its corners, with their texture points where there are any.
+// Puts the line of a face: its kind, its number in the uniform level, and its corners, with their texture points if there are any.
 fn put_face<K: Sink>(
     out: &mut Out<'_, K>,
     level: &SparseFaces,
@@ -76,7 +79,7 @@ fn put_face<K: Sink>(
     out.put_byte(b'\n')
 }
 
-// Puts a line for each face, with the texture points of its corners where the texture has the face. Each list of faces is passed once.
+// Puts a line for each face, with the texture points of its corners if the texture has the face. It goes through each list of faces once.
 fn put_faces<K: Sink>(
     out: &mut Out<'_, K>,
     level: &SparseFaces,
@@ -95,7 +98,7 @@ fn put_faces<K: Sink>(
     Ok(())
 }
 
-// Puts the lines of the level with this number: its counts, its points, its texture points and its faces.
+// Puts the lines of a level: its counts, its points, its texture points and its faces.
 fn put_level<K: Sink>(
     out: &mut Out<'_, K>,
     number: u64,
@@ -115,7 +118,7 @@ fn put_level<K: Sink>(
     put_faces(out, &level.faces, &texture.faces)
 }
 
-/// Puts the lines of sparse levels with their texture, from level 0 on. It takes no memory.
+/// Puts the lines of sparse levels with their texture, numbered from 0. It takes no memory.
 pub fn put_textured_sparse<K: Sink>(
     out: &mut Out<'_, K>,
     sparse: &TexturedSparse,

@@ -1,4 +1,4 @@
-//! The pieces of which lines are made.
+//! The pieces of lines.
 
 ghost use Rattle.std.specs.Prelude.{◌≡◌, ◌++◌, codes};
 ghost use Rattle.subdiv_model.specs.NumberText.{number_text};

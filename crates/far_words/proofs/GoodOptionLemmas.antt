@@ -1,4 +1,4 @@
--- Options of a command none of which is bad: there are no more of them than rules, and no two have one name.
+-- Options of a command, all of them good: no more than there are rules, and no two with one name.
 use Rattle.std.proofs.Common.{◌≡◌, ℕ, ◌+◌, ◌≤◌, Bool, true, false, cond, not, ◌&&◌, ◌||◌, inl, inr, List, [], ◌∷◌, ◌++◌, length, map, take, Option, Some, None, arith, refl, ap, sym, ◌∙◌, subst, append_assoc, append-nil}
 use Rattle.std.specs.Prelude.{bytes_eq, MatchOption, if◌then◌else◌}
 use Rattle.std.specs.List.{list_all, list_any, find, range_with_len, IsDistinct, AllByRecursion}
@@ -52,7 +52,7 @@ known-names rules (option ∷ options) known name h =
       | inr there ↦ known-names rules options parts.1 name there
     ]
 
--- good options are no more than the rules
+-- There are no more good options than rules.
 pub length-IsGood : (rules : List OptionRule) (options : List (List ℕ)) → IsGood rules options → length options ≤ length rules
 length-IsGood rules options good =
     let short : length (names_of options) ≤ length (map (λ rule. rule.name) rules) =
@@ -81,7 +81,7 @@ one-more : (before : List (List ℕ)) (option : List ℕ) → length (before ++ 
 one-more [] option = refl
 one-more (o ∷ before) option = omega (arith, one-more before option)
 
--- the first bad option of those after good ones stands no later than the rules are many, and where none is bad all are good
+-- The first bad option after good ones has a place of at most the number of rules. Without a bad option all options are good.
 scanned : (rules : List OptionRule) (before after : List (List ℕ)) → IsGood rules before
     → MatchOption (find (is_bad_option rules (before ++ after)) (range_with_len (length before) (length after)))
     (IsGood rules (before ++ after)) (λ i. i ≤ length rules)

@@ -36,7 +36,7 @@ all-digits digits number i all is past fits =
     let small : fits_u32 (number_of_digits digits) ≡ true = le-leb (number_of_digits digits) 4294967295 (omega arith) in
     ap Some same ∙ sym (ap (λ b. if b then Some (number_of_digits digits) else None) (and_from _ _ (ap (list_all is_digit) (sym whole) ∙ all) small))
 
--- a word that is no number that fits is none of a range that does
+-- A word that is not a number of 32 bits is not a value of a range of 32 bits.
 pub not-between : (word : List ℕ) (least greatest : ℕ) → u32_of_word word ≡ None → greatest ≤ 4294967295
     → false ≡ is_value (Between least greatest) word
 not-between word least greatest none small = go (is_number_word word) refl

@@ -1,4 +1,4 @@
--- An option as what stands around its first `=`.
+-- An option as the parts before and after its first `=`.
 use Rattle.std.proofs.Common.{◌≡◌, ℕ, ◌+◌, ◌<◌, Bool, true, false, cond, not, ◌&&◌, ◌||◌, nat_lt, List, [], ◌∷◌, length, map, take, get_or, arith, refl, ap, sym, ◌∙◌}
 use Rattle.std.specs.Str.{bytes_eq}
 use Rattle.std.specs.List.{list_any, position_or_len}
@@ -22,7 +22,7 @@ pub no-equals : (rules : List model.OptionRule) (word : List ℕ) → position_o
 no-equals rules word none =
     sym (and_left _ _ (has-equals word ∙ le-ltb (position_or_len is_equals word) (length word) (omega arith)))
 
--- a word with one is what stands before and after it
+-- A word with `=` consists of the parts before and after it.
 pub parts-of-option : (rules : List model.OptionRule) (word name value : List ℕ) (r : Bool) → position_or_len is_equals word < length word
     → name ≡ option_name word → value ≡ option_value word
     → r ≡ list_any (λ rule. bytes_eq name rule.name && is_value rule.kind value) rules → r ≡ is_option_of rules word

@@ -1,4 +1,4 @@
--- Options in another order: they are as good, and give each name the same value.
+-- Options in another order are equally good, and give each name the same value.
 use Rattle.std.proofs.Common.{◌≡◌, ℕ, ◌+◌, ◌≤◌, Bool, true, false, cond, not, ◌&&◌, ◌||◌, List, [], ◌∷◌, length, map, Option, Some, None, Ok, refl, ap, sym, ◌∙◌, subst}
 use Rattle.std.specs.Prelude.{bytes_eq, MatchOption, codes, if◌then◌else◌}
 use Rattle.std.specs.Option.{option_map}
@@ -36,7 +36,7 @@ keys-entries (option ∷ options) = ap (λ names. option_name option ∷ names) 
 same-key : (x y : List ℕ) → bytes_eq x y ≡ true → x ≡ y
 same-key x y = (bytes_eq-Decides x y).0
 
--- where keys differ, a look-up finds the same in any order
+-- With distinct keys, a search finds the same value in any order.
 lookup-order : (name : List ℕ) (es fs : List (List ℕ × List ℕ)) → IsDistinct bytes_eq (keys_of es) → IsDistinct bytes_eq (keys_of fs)
     → IsPermutation es fs → lookup (bytes_eq name) fs ≡ lookup (bytes_eq name) es
 lookup-order name es fs d e p = go (lookup (bytes_eq name) es) (lookup (bytes_eq name) fs) refl refl
@@ -118,7 +118,7 @@ pub usage-order : (found : Option CommandRule) (options others : List (List ℕ)
 usage-order None options others p h = absurd (cc)
 usage-order (Some rule) options others p h = understood-order rule.options options others p h
 
--- a command of a name, by what its options say
+-- The command of a name, from the values of its options.
 abbrev command-by : (name : List ℕ) (refine : RefineOptions) (sparse : SparseOptions) (depth : ℕ) (limit : LimitOptions) (frames : FramesOptions) (patch : PatchOptions) (map : MapOptions) (gen : GenOptions) → Command
 command-by name refine sparse depth limit frames patch map gen =
     if bytes_eq name (codes "refine") then Reads (Refine refine)

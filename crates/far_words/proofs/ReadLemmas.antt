@@ -69,7 +69,7 @@ small-numbers rule options small h =
 pub few-rules : (rule : CommandRule) → is_u32_rule rule ≡ true → length rule.options < 4294967295
 few-rules rule small = ltb-true _ _ (and_parts (list_all is_u32_option rule.options) _ small).1
 
--- reading is that of the rule that the first word names
+-- Reading uses the rule that the first word names.
 pub read-by-rule : (table : List CommandRule) (words : List (List ℕ)) (name : List ℕ) (options : List (List ℕ)) (rule : CommandRule) (r : Result Command ℕ)
     → words ≡ name ∷ options → Some rule ≡ rule_named table name → r ≡ read_or (usage_of_rule (Some rule) options) (name ∷ options)
     → r ≡ read_words_by table words

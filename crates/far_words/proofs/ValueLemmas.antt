@@ -9,7 +9,7 @@ use Rattle.far_model.specs.Words.{OptionRule, CommandRule, is_value, option_name
 use Rattle.far_words.proofs.GoodOptionLemmas.{IsGood}
 use Rattle.far_words.proofs.OrderLemmas.{understood-parts}
 
--- what is found passes the search's test, and every test that all pass
+-- A found value passes the test of the search, and every test that all values pass.
 pub find-passes : {X : Type 0} (p q : X → Bool) (xs : List X) (x : X) → list_all p xs ≡ true → find q xs ≡ Some x → (p x ≡ true) × (q x ≡ true)
 find-passes p q [] x all h = absurd (cc)
 find-passes {X = X} p q (y ∷ ys) x all h = go (q y) refl (λ k. find-passes p q ys x parts.1 k) h

@@ -1,4 +1,4 @@
--- The commands that words say.
+-- The commands of words.
 use Rattle.std.proofs.Common.{◌≡◌, ℕ, ◌<◌, ◌≤◌, ◌^◌, Bool, true, false, cond, ◌&&◌, ◌||◌, nat_le, List, [], ◌∷◌, Option, Some, None, Result, Ok, Err, IfOk, codes, arith, refl, ap, sym, subst}
 use Rattle.std.specs.Prelude.{bytes_eq, is_some, IfSome, option_map, unwrap_or}
 use Rattle.std.proofs.lemmas.Bool.Decides.{nat_tests}
@@ -11,7 +11,7 @@ use Rattle.far_words.specs.declared.command.Command.{Command}
 use Rattle.far_words.specs.View.{command_of_code, result_of_code}
 use Rattle.far_words.proofs.ValueLemmas.{allowed-of-rule, required-of-rule}
 
--- what was read is what the table says of the words
+-- The command that was read is the one that the table gives the words.
 understood-by : (usage : Option ℕ) (words : List (List ℕ)) (r : Result Command ℕ) (command : Command) → result_of_code r ≡ read_or usage words →
     r ≡ Ok command → usage ≡ None
 understood-by (Some place) words r command read is = absurd (cc)
@@ -22,7 +22,7 @@ pub understood : (words : List (List ℕ)) (r : Result Command ℕ) (command : C
     r ≡ Ok command → usage_of command_table words ≡ None
 understood words r command read is = understood-by (usage_of command_table words) words r command read is
 
--- and the command is the one that they say
+-- One result contains one command.
 same-ok : (r : Result model.Command ℕ) (a b : model.Command) → r ≡ Ok a → r ≡ Ok b → a ≡ b
 same-ok r a b e f = cc
 
@@ -111,7 +111,7 @@ number_within : (options : List (List ℕ)) (name value : List ℕ) (least great
     (least ≤ required_number options name) × (required_number options name ≤ greatest)
 number_within options name value least greatest is allowed = rw is (within_bounds (is_number_word value) least greatest (number_of_digits value) allowed)
 
--- options that are understood say a depth of at most 10, at most 18 decimals, and a size from 1 to 256
+-- Understood options give a depth of at most 10, at most 18 decimals, and a size from 1 to 256.
 refine_depth : (options : List (List ℕ)) → usage_of_rule (Some refine_rule) options ≡ None → required_number options (codes "depth") ≤ 10
 refine_depth options none =
     let found = some_value (value_of options (codes "depth")) (required-of-rule (Some refine_rule) options refine_rule refl none) in
@@ -189,7 +189,7 @@ patch_numbers options none =
     let grid_within = number_within options (codes "grid") grid.0 1 64 grid.1 (allowed-of-rule (Some patch_rule) options patch_rule (codes "grid") grid.0 refl none grid.1) in
     (depth_within.1, omega (arith, face_within.1), grid_within.0, grid_within.1)
 
--- an option that may be missing says 0 where it is
+-- A missing optional number counts as 0.
 frames_scale : (options : List (List ℕ)) → usage_of_rule (Some frames_rule) options ≡ None → required_number options (codes "scale") ≤ 18
 frames_scale options none = go (value_of options (codes "scale")) refl
   where
@@ -228,7 +228,7 @@ map_numbers options none =
     let grid_within = number_within options (codes "grid") grid.0 1 256 grid.1 (allowed-of-rule (Some map_rule) options map_rule (codes "grid") grid.0 refl none grid.1) in
     (depth_within.1, omega (arith, face_within.1), grid_within.0, grid_within.1, omega (arith, map_corner options none))
 
--- words that are a command say one within the bounds of its options
+-- Understood words give a command within the ranges of its options.
 pub says-in-range : (words : List (List ℕ)) → usage_of command_table words ≡ None → IsInRange (command_of words)
 says-in-range [] none = absurd (cc)
 says-in-range (name ∷ options) none =
@@ -237,7 +237,7 @@ says-in-range (name ∷ options) none =
     (bytes_eq name (codes "verify")) (bytes_eq name (codes "apply")) (bytes_eq name (codes "gen"))
     refl refl refl refl refl refl refl refl refl refl refl none
   where
-    -- the command is that of this name
+    -- The command has this name.
     named : (known : List ℕ) → bytes_eq name known ≡ true → IsInRange (command_of (known ∷ options)) → IsInRange (command_of (name ∷ options))
     named known is built = subst IsInRange (sym (ap (λ n. command_of (n ∷ options)) ((bytes_eq-Decides name known).0 is))) built
 

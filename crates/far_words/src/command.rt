@@ -5,16 +5,16 @@ ghost use Rattle.std.specs.Option.{option_map};
 ghost use Rattle.far_model.specs.Command.{IsInRange, IsMakeInRange, IsReadInRange, IsStoredInRange, IsStreamInRange};
 ghost use Rattle.far_words.specs.View.{command_of_code, make_of_code, read_of_code, sparse_uv_of_code, stored_of_code, stream_of_code, uv_of_code};
 
-/// How the texture is refined, and what stays sharp where seams cut it.
+/// How the texture is refined.
 #[derive(Clone, Copy, Debug, PartialEq, Eq)]
 pub enum Uv {
-    /// As the mesh is, with nothing more sharp.
+    /// No texture point is fixed beyond those that tags fix.
     Smooth,
-    /// With the texture's points of one face sharp.
+    /// Each texture point of only one face is fixed: the corners of charts.
     Corners,
-    /// With all points on the boundary of the cut texture sharp.
+    /// Each texture point on the boundary of a chart is fixed.
     Boundaries,
-    /// Linearly.
+    /// The texture is refined linearly.
     Linear,
 }
 
@@ -27,7 +27,7 @@ pub enum By {
     Level,
 }
 
-/// What `refine` is asked for.
+/// The options of `refine`.
 #[derive(Clone, Copy, Debug, PartialEq, Eq)]
 pub struct RefineOptions {
     /// At most 10.
@@ -40,12 +40,12 @@ pub struct RefineOptions {
     pub tags: bool,
 }
 
-/// Which faces are refined further.
+/// The faces that are refined further.
 #[derive(Clone, Copy, Debug, PartialEq, Eq)]
 pub enum Select {
-    /// Those that are features: no quads, or with a corner that is not regular, and no holes.
+    /// The features: faces that are not quads or have an irregular corner, holes excepted.
     Feature,
-    /// All but holes.
+    /// Every face but holes.
     All,
 }
 
@@ -54,17 +54,17 @@ pub enum Select {
 pub enum SparseUv {
     /// No texture is written.
     NoTexture,
-    /// As the mesh is, with nothing more sharp.
+    /// No texture point is fixed beyond those that tags fix.
     Smooth,
-    /// With the texture's points of one face sharp.
+    /// Each texture point of only one face is fixed: the corners of charts.
     Corners,
-    /// With all points on the boundary of the cut texture sharp.
+    /// Each texture point on the boundary of a chart is fixed.
     Boundaries,
-    /// Linearly.
+    /// The texture is refined linearly.
     Linear,
 }
 
-/// What `sparse` is asked for.
+/// The options of `sparse`.
 #[derive(Clone, Copy, Debug, PartialEq, Eq)]
 pub struct SparseOptions {
     /// At most 10.
@@ -75,7 +75,7 @@ pub struct SparseOptions {
     pub uv: SparseUv,
 }
 
-/// What `limit` is asked for.
+/// The options of `limit`.
 #[derive(Clone, Copy, Debug, PartialEq, Eq)]
 pub struct LimitOptions {
     /// From 1 to 10.
@@ -84,7 +84,7 @@ pub struct LimitOptions {
     pub decimals: Option<u32>,
 }
 
-/// What `patch` is asked for: a depth, a face of the level there, and how many steps its grid has along each side.
+/// The options of `patch`: a depth, a face at that depth, and the steps of its grid along each side.
 #[derive(Clone, Copy, Debug, PartialEq, Eq)]
 pub struct PatchOptions {
     /// At most 10.
@@ -95,8 +95,8 @@ pub struct PatchOptions {
     pub grid: u32,
 }
 
-/// What `map` is asked for: a depth, a face of the mesh, and how many steps its grid has along each side. Of a face that is no quad the
-/// places lie on the child face of a corner.
+/// The options of `map`: a depth, a face of the mesh, and the steps of its grid along each side. The places of a face that is not a quad
+/// are on the child face of one corner.
 #[derive(Clone, Copy, Debug, PartialEq, Eq)]
 pub struct MapOptions {
     /// At most 10.
@@ -105,12 +105,12 @@ pub struct MapOptions {
     pub face: u32,
     /// From 1 to 256.
     pub grid: u32,
-    /// The corner, counted from 0, below 2^16. Of a quad it is 0.
+    /// The corner, counted from 0, below 2^16. For a quad it is 0.
     pub corner: u32,
     pub select: Select,
 }
 
-/// What `gen` is asked for: a sheet of `size` by `size` quads, and its depth.
+/// The options of `gen`: a sheet of `size` by `size` quads, and its depth.
 #[derive(Clone, Copy, Debug, PartialEq, Eq)]
 pub struct GenOptions {
     pub seed: u32,
@@ -120,7 +120,7 @@ pub struct GenOptions {
     pub depth: u32,
 }
 
-/// How the points of a mesh are moved: its depth, and a power of ten that divides the common denominator of its positions.
+/// The options of `frames`: a depth, and a power of ten that divides the common denominator of the positions.
 #[derive(Clone, Copy, Debug, PartialEq, Eq)]
 pub struct FramesOptions {
     /// At most 10.
@@ -129,49 +129,49 @@ pub struct FramesOptions {
     pub scale: u32,
 }
 
-/// A command that reads a mesh and then answers. Each depth is at most 10.
+/// A command that reads a mesh and then writes its output. Each depth is at most 10.
 #[derive(Clone, Copy, Debug, PartialEq, Eq)]
 pub enum ReadCommand {
-    /// Refines a mesh, and writes it.
+    /// Refines a mesh and writes it.
     Refine(RefineOptions),
-    /// Refines the faces of a mesh that are selected, and writes each sparse level to a depth.
+    /// Refines the selected faces of a mesh, and writes each sparse level up to a depth.
     Sparse(SparseOptions),
-    /// Writes the table of a mesh at a depth.
+    /// Writes the stencil table of a mesh at a depth.
     Stencils { depth: u32 },
     /// Writes the limit points of the points of a mesh at a depth, and its faces there.
     Limit(LimitOptions),
-    /// Writes the counts of each level of a mesh to a depth.
+    /// Writes the counts of each level of a mesh up to a depth.
     Levels { depth: u32 },
     /// Writes the points of the patch of a face of a mesh at a depth.
     Patch(PatchOptions),
-    /// Writes the leaf of the sparse levels of a mesh that has each place of a face.
+    /// Writes, for each place of a face, the leaf of the sparse levels that contains it.
     Map(MapOptions),
 }
 
-/// A command that takes a stored table and then answers.
+/// A command that takes a stored table and then writes its output.
 #[derive(Clone, Copy, Debug, PartialEq, Eq)]
 pub enum StoredCommand {
     /// Compares the table with that of the mesh before it, at a depth of at most 10.
     Verify { depth: u32 },
-    /// Evaluates the table over the points behind it.
+    /// Evaluates the table over the points after it.
     Apply,
 }
 
-/// A command that makes its mesh, and reads nothing.
+/// A command that makes its mesh and reads nothing.
 #[derive(Clone, Copy, Debug, PartialEq, Eq)]
 pub enum MakeCommand {
-    /// Makes a sheet of quads, and refines it.
+    /// Makes a sheet of quads and refines it.
     Gen(GenOptions),
 }
 
-/// A command that answers while it reads, line by line.
+/// A command that writes while it reads, line by line.
 #[derive(Clone, Copy, Debug, PartialEq, Eq)]
 pub enum StreamCommand {
     /// Moves points of a mesh, and writes the points at a depth that change.
     Frames(FramesOptions),
 }
 
-/// A command with its options filled in.
+/// A command with all its options.
 #[derive(Clone, Copy, Debug, PartialEq, Eq)]
 pub enum Command {
     Read(ReadCommand),
@@ -181,7 +181,7 @@ pub enum Command {
 }
 
 impl SparseUv {
-    /// Returns how the texture is refined, or `None` where none is written.
+    /// Returns how the texture is refined, or `None` if none is written.
     pub fn texture(self) -> Option<Uv>
         ensures { option_map uv_of_code result ≡ sparse_uv_of_code self }
     {
@@ -196,7 +196,7 @@ impl SparseUv {
 }
 
 impl ReadCommand {
-    /// Whether the numbers of the command are those that its options allow.
+    /// Whether the numbers of the command are in the ranges of its options.
     pub fn is_in_range(&self) -> bool
         ensures { IsTrue result ↔ IsReadInRange (read_of_code self.now) }
     {
@@ -230,7 +230,7 @@ impl ReadCommand {
 }
 
 impl StoredCommand {
-    /// Whether the numbers of the command are those that its options allow.
+    /// Whether the numbers of the command are in the ranges of its options.
     pub fn is_in_range(&self) -> bool
         ensures { IsTrue result ↔ IsStoredInRange (stored_of_code self.now) }
     {
@@ -242,7 +242,7 @@ impl StoredCommand {
 }
 
 impl MakeCommand {
-    /// Whether the numbers of the command are those that its options allow.
+    /// Whether the numbers of the command are in the ranges of its options.
     pub fn is_in_range(&self) -> bool
         ensures { IsTrue result ↔ IsMakeInRange (make_of_code self.now) }
     {
@@ -255,7 +255,7 @@ impl MakeCommand {
 }
 
 impl StreamCommand {
-    /// Whether the numbers of the command are those that its options allow.
+    /// Whether the numbers of the command are in the ranges of its options.
     pub fn is_in_range(&self) -> bool
         ensures { IsTrue result ↔ IsStreamInRange (stream_of_code self.now) }
     {
@@ -266,7 +266,7 @@ impl StreamCommand {
 }
 
 impl Command {
-    /// Whether the numbers of the command are those that its options allow, as they are of a command that was read.
+    /// Whether the numbers of the command are in the ranges of its options. Those of a command that was read always are.
     pub fn is_in_range(&self) -> bool
         ensures { IsTrue result ↔ IsInRange (command_of_code self.now) }
     {

@@ -1,4 +1,4 @@
-//! Laws of the options of a command: their order, their values, and where the first bad word is.
+//! Laws of the options of a command: their order, their values, and the place of the first bad word.
 
 ghost use Rattle.std.specs.Prelude.{◌≡◌, ℕ, ◌+◌, ◌≤◌, not, ◌&&◌, ◌||◌, List, ◌∷◌, length, is_some, bytes_eq, Some, None, IsTrue};
 ghost use Rattle.std.specs.List.{list_all, list_any};
@@ -6,19 +6,19 @@ ghost use Rattle.far_model.specs.Words.{is_value, usage_of, value_of};
 ghost use Rattle.far_model.specs.Command.{read_words_by};
 ghost use Rattle.far_words.specs.Laws.{RefusedWords, ReorderedWords, UnderstoodWords};
 
-/// Words that differ only in the order of their options say one command.
+/// The order of the options does not change the command.
 pub fn options_go_in_any_order()
     ensures understood { (words : ReorderedWords) → usage_of words.table (words.command ∷ words.others) ≡ None }
     ensures same { (words : ReorderedWords)
         → read_words_by words.table (words.command ∷ words.others) ≡ read_words_by words.table (words.command ∷ words.options) }
 {}
 
-/// The first bad word of a command stands no later than right after as many options as the command has.
+/// The place of the first bad word is at most one more than the number of options that the command has.
 pub fn bad_words_come_early()
     ensures { (words : RefusedWords) → words.bad_word ≤ length words.rule.options + 1 }
 {}
 
-/// Each option of a command that is understood has a value that the table allows it, and each required option has one.
+/// Every option of an understood command has a value that the table allows, and every required option has a value.
 pub fn values_are_allowed()
     ensures allowed { (words : UnderstoodWords) (name value : List ℕ) → value_of words.options name ≡ Some value
         → IsTrue (list_any (λ option. bytes_eq name option.name && is_value option.kind value) words.rule.options) }

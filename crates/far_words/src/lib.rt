@@ -1,4 +1,8 @@
-//! The words of a command line as a value: a command with its options filled in. No call takes memory.
+//! Reads the words of a command line as a command with all its options, or reports the place of the first bad word.
+//!
+//! The words are those after the name of the program, and places are counted from 0. A command reads a mesh (`ReadCommand`), takes a stored
+//! table (`StoredCommand`), makes its mesh (`MakeCommand`), or writes while it reads (`StreamCommand`). `command_table` lists the commands
+//! and options. No call takes memory.
 #![tactic(auto)]
 
 mod command;

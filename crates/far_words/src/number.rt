@@ -3,7 +3,7 @@
 ghost use Rattle.std.specs.Prelude.{◌≡◌};
 ghost use Rattle.far_words.specs.Table.{u32_of_digits, u32_of_word};
 
-// The number that digits say; `None` where there is another byte, or past `u32`.
+// The number that digits spell, or `None` for another byte or a number past `u32`.
 fn read_digits(digits: &[u8]) -> Option<u32>
     ensures { result ≡ u32_of_digits digits.now }
 {
@@ -19,8 +19,7 @@ fn read_digits(digits: &[u8]) -> Option<u32>
     Some(number)
 }
 
-/// The number that a word says in decimal digits without a leading zero; `None` for another word, and
-/// past `u32`.
+/// The number that a word spells in decimal digits without a leading zero, or `None` for another word or a number past `u32`.
 pub(crate) fn read_number(word: &[u8]) -> Option<u32>
     ensures { result ≡ u32_of_word word.now }
 {

@@ -1,4 +1,4 @@
-//! Options as `name=value`, and a command's options as a whole.
+//! Options as `name=value`, and the options of a command as a whole.
 
 ghost use Rattle.std.specs.Prelude.{◌≡◌, not, ◌&&◌, ◌||◌, map, string_bytes, bytes_eq};
 ghost use Rattle.std.specs.Option.{option_map};
@@ -45,7 +45,7 @@ fn is_value(kind: &ValueKind, value: &str) -> bool
     }
 }
 
-// Whether one of the options has this name and may have this value.
+// Whether one of the rules has this name and allows this value.
 fn some_rule_allows(rules: &[OptionRule], name: &str, value: &str) -> bool
     ensures { result ≡ list_any (λ rule. bytes_eq name.now rule.name && model.is_value rule.kind value.now) (map option_of_code rules.now) }
 {
@@ -59,7 +59,7 @@ fn some_rule_allows(rules: &[OptionRule], name: &str, value: &str) -> bool
     false
 }
 
-// Whether the word is `name=value`, with the name of one of the options and a value that it may have.
+// Whether the word is `name=value`, with the name of a rule and a value that it allows.
 fn is_option_of(rules: &[OptionRule], word: &str) -> bool
     ensures { result ≡ model.is_option_of (map option_of_code rules.now) word.now }
 {
@@ -69,7 +69,7 @@ fn is_option_of(rules: &[OptionRule], word: &str) -> bool
     }
 }
 
-// What stands before the first `=`.
+// The part before the first `=`.
 fn option_name(word: &str) -> &str
     ensures { result.now ≡ model.option_name word.now }
 {
@@ -79,7 +79,7 @@ fn option_name(word: &str) -> &str
     }
 }
 
-// What stands after the first `=`.
+// The part after the first `=`.
 fn option_value(word: &str) -> &str
     ensures { result.now ≡ model.option_value word.now }
 {
@@ -103,7 +103,7 @@ fn has_option(options: &[String], name: &str) -> bool
     false
 }
 
-// Whether the word is none of the rules' options, or has the name of an earlier one.
+// Whether the word is not an option of the rules, or repeats the name of an earlier one.
 fn is_bad_option(rules: &[OptionRule], earlier: &[String], word: &str) -> bool
     ensures { result ≡ (not (model.is_option_of (map option_of_code rules.now) word.now)
         || model.has_option (map string_bytes earlier.now) (model.option_name word.now)) }
@@ -111,7 +111,7 @@ fn is_bad_option(rules: &[OptionRule], earlier: &[String], word: &str) -> bool
     !is_option_of(rules, word) || has_option(earlier, option_name(word))
 }
 
-/// The place, from 0, of the first bad option.
+/// The place of the first bad option, counted from 0.
 pub(crate) fn first_bad_option(rules: &[OptionRule], options: &[String]) -> Option<usize>
     ensures { result ≡ model.first_bad_option (map option_of_code rules.now) (map string_bytes options.now) }
 {
@@ -123,7 +123,7 @@ pub(crate) fn first_bad_option(rules: &[OptionRule], options: &[String]) -> Opti
     None
 }
 
-/// Whether each required option is there.
+/// Whether every required option is present.
 pub(crate) fn has_required(rules: &[OptionRule], options: &[String]) -> bool
     ensures { result ≡ model.has_required (map option_of_code rules.now) (map string_bytes options.now) }
 {
@@ -151,7 +151,7 @@ pub(crate) fn value_of<'a>(options: &'a [String], name: &str) -> Option<&'a str>
     None
 }
 
-/// The number of the option with this name; `None` also where its value is no number that fits.
+/// The number of the option with this name, or `None` if its value is not a number that fits.
 pub(crate) fn number_of(options: &[String], name: &str) -> Option<u32>
     ensures { result ≡ u32_of_option (map string_bytes options.now) name.now }
 {

@@ -36,7 +36,7 @@ fn by_named(name: &str) -> By
     }
 }
 
-// The number of an option that must be there.
+// The number of a required option.
 fn required_number(options: &[String], name: &str) -> u32
     requires { u32_of_option (map string_bytes options.now) name.now ≡ words.number_of (map string_bytes options.now) name.now }
     ensures { result ≡ words.required_number (map string_bytes options.now) name.now }
@@ -199,8 +199,10 @@ fn rule_named<'a>(table: &'a [CommandRule], name: &str) -> Option<&'a CommandRul
     None
 }
 
-/// The command that the words say by a table, or the place, from 0, of the first word that makes them none of the
-/// table's; where only a required option is missing, the number of words.
+/// Returns the command of the words by a table.
+///
+/// The error is the place, counted from 0, of the first word that no command of the table allows. If only a required option is missing, it
+/// is the number of words.
 pub fn read_words_by(table: &[CommandRule], words: &Vec<String>) -> Result<Command, u32>
     requires { IsTrue (is_u32_table (table_of_code table.now)) }
     ensures { result_of_code result ≡ model.read_words_by (table_of_code table.now) (map string_bytes words.now.items) }
@@ -215,8 +217,9 @@ pub fn read_words_by(table: &[CommandRule], words: &Vec<String>) -> Result<Comma
     }
 }
 
-/// The command that the words say, or the place of the first word that makes them none, by the table of the program. The
-/// numbers of the command are those that the table allows.
+/// Returns the command of the words by the table of the program. Its numbers are in the ranges of the table.
+///
+/// The error is the place of the first bad word, counted from 0, or the number of words if only a required option is missing.
 pub fn read_words(words: &Vec<String>) -> Result<Command, u32>
     ensures read { result_of_code result ≡ model.read_words (map string_bytes words.now.items) }
     ensures in_range { IfOk result (λ command. IsInRange (command_of_code command)) }

@@ -1,15 +1,15 @@
-//! The table of commands: a command or an option is added by a line of it.
+//! The table of commands. One line of it adds a command or an option.
 
 ghost use Rattle.std.specs.Prelude.{◌≡◌};
 ghost use Rattle.far_model.specs.Words as model;
 ghost use Rattle.far_words.specs.View.{table_of_code};
 
-/// What the value of an option may be.
+/// The values that an option may have.
 #[derive(Clone, Copy, Debug)]
 pub enum ValueKind {
-    /// A number, from `least` to `greatest`, in decimal digits without a leading zero.
+    /// A number from `least` to `greatest`, in decimal digits without a leading zero.
     Between { least: u32, greatest: u32 },
-    /// One of some names.
+    /// One of these names.
     OneOf(&'static [&'static str]),
 }
 
@@ -28,21 +28,21 @@ pub struct CommandRule {
     pub options: &'static [OptionRule],
 }
 
-// A number that must be there.
+// A required number.
 macro_rules! required_option {
     ($name:literal, $least:literal, $greatest:literal) => {
         OptionRule { name: $name, kind: ValueKind::Between { least: $least, greatest: $greatest }, required: true }
     };
 }
 
-// A number that may be left out.
+// An optional number.
 macro_rules! number_option {
     ($name:literal, $least:literal, $greatest:literal) => {
         OptionRule { name: $name, kind: ValueKind::Between { least: $least, greatest: $greatest }, required: false }
     };
 }
 
-// One of some names, which may be left out.
+// An optional name, one of several.
 macro_rules! name_option {
     ($name:literal, $names:expr) => {
         OptionRule { name: $name, kind: ValueKind::OneOf($names), required: false }
@@ -127,7 +127,7 @@ const COMMANDS: &[CommandRule] = &[
     },
 ];
 
-/// The commands and their options.
+/// Returns the commands and their options.
 pub fn command_table() -> &'static [CommandRule]
     ensures { table_of_code result.now ≡ model.command_table }
 {

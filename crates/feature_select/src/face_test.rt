@@ -6,13 +6,13 @@ ghost use Rattle.level_topology.specs.View.{facts_of_code};
 
 use level_topology::FaceFacts;
 
-/// A test of faces, by its meaning alone.
+/// A test of faces, given only by its meaning.
 pub trait FaceTest {
-    /// Which faces meet the test, by their facts and by the value of the test that a rule keeps, if any.
+    /// Which faces pass the test, given their facts and the value of the test, if the rule keeps one.
     ghost meets: { Option Self → FaceFacts → Bool };
 }
 
-/// The faces that are features: no holes, and of other than four corners or with a corner that is not regular.
+/// The test that features pass: faces that are not holes, and are not quads or have an irregular corner.
 #[derive(Clone, Copy, Debug, PartialEq, Eq)]
 pub struct Feature;
 
@@ -20,7 +20,7 @@ impl FaceTest for Feature {
     ghost meets = { λ _ facts. is_feature facts };
 }
 
-/// All faces but holes.
+/// The test that every face but a hole passes.
 #[derive(Clone, Copy, Debug, PartialEq, Eq)]
 pub struct Every;
 
@@ -28,14 +28,14 @@ impl FaceTest for Every {
     ghost meets = { λ _ facts. is_selectable facts };
 }
 
-/// Whether a face can be selected: it is no hole.
+/// Whether a face can be selected: it is not a hole.
 pub fn is_selectable(facts: &FaceFacts) -> bool
     ensures { result ≡ is_selectable (facts_of_code facts.now) }
 {
     !facts.hole
 }
 
-/// Whether a face is a feature: no hole, and of other than four corners or with a corner that is not regular.
+/// Whether a face is a feature: it is not a hole, and it is not a quad or has an irregular corner.
 pub fn is_feature(facts: &FaceFacts) -> bool
     ensures { result ≡ is_feature (facts_of_code facts.now) }
 {

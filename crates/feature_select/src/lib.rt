@@ -1,6 +1,9 @@
-//! Rules by which faces are selected to be refined: a caller's closure, beside the meaning of its answers.
+//! Rules that select the faces to refine: the closure of a caller, together with the meaning of its results.
 //!
-//! Source: OpenSubdiv's Far layer for features; which corners are regular is this profile's.
+//! `Feature` selects the features of a mesh, `Every` selects all faces but holes, and a caller may add a type of its own. No call takes
+//! memory or fails. No clause limits how often a closure is called.
+//!
+//! Source: the Far layer of OpenSubdiv for features; which corners are regular is this profile's.
 #![tactic(auto)]
 
 mod face_test;

@@ -1,4 +1,4 @@
-//! A rule: a closure that answers a test.
+//! A rule: a closure that decides a test.
 
 ghost use Rattle.std.specs.Prelude.{◌≡◌, ◌≤◌, Some, None};
 ghost use Rattle.level_topology.specs.View.{facts_of_code};
@@ -8,7 +8,7 @@ use crate::face_test::FaceTest;
 use level_topology::FaceFacts;
 use std::marker::Model;
 
-/// A caller's closure that answers a test, with a value of the test where one is kept.
+/// The closure of a caller that decides a test, with a value of the test if the rule keeps one.
 #[derive(Drop)]
 pub struct SelectRule<T: FaceTest, F: Fn(&FaceFacts) -> bool> {
     select: F,
@@ -24,7 +24,7 @@ impl<T: FaceTest, F: Fn(&FaceFacts) -> bool> Model for SelectRule<T, F> {
 }
 
 impl<T: FaceTest, F: Fn(&FaceFacts) -> bool> SelectRule<T, F> {
-    /// A rule that keeps no value of its test. The closure answers true exactly where the test holds and the face is no hole.
+    /// Returns a rule without a value of its test. The closure returns true exactly if the face passes the test and is not a hole.
     pub fn new(select: F) -> SelectRule<T, F>
         requires { AnswersTest F.Fn select (T.meets None) }
         ensures rule { result ≡ (select, None) }
@@ -33,7 +33,7 @@ impl<T: FaceTest, F: Fn(&FaceFacts) -> bool> SelectRule<T, F> {
         SelectRule { select, test: None }
     }
 
-    /// A rule that keeps a value of its test. The closure answers true exactly where the test holds at it and the face is no
+    /// Returns a rule with a value of its test. The closure returns true exactly if the face passes the test at that value and is not a
     /// hole.
     pub fn with(test: T, select: F) -> SelectRule<T, F>
         requires { AnswersTest F.Fn select (T.meets (Some test)) }
@@ -46,7 +46,7 @@ impl<T: FaceTest, F: Fn(&FaceFacts) -> bool> SelectRule<T, F> {
         }
     }
 
-    /// Whether the rule selects a face of at least three corners.
+    /// Whether the rule selects a face with at least three corners.
     pub fn holds(&self, facts: &FaceFacts) -> bool
         requires size { 3 ≤ facts.now.size }
         requires answers { AnswersTest F.Fn self.now.0 (T.meets self.now.1) }

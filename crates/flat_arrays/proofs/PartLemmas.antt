@@ -12,7 +12,7 @@ pub part-written : {A : Type 0} (at len : ℕ) (out part : List A) → at + len 
     take (at + len) (put_mid at (at + len - at) out part) ≡ take at out ++ part
 part-written at len out part fits e = take-put_mid at (at + len - at) out part (at + len) (omega (arith, e)) (omega (arith, fits))
 
--- what lies behind a part that is written stays
+-- Writing a part keeps the items behind it.
 pub part-rest : {A : Type 0} (n at len : ℕ) (out part old : List A) → at + len ≤ length out → at + len ≤ n → length part ≡ len → drop n out ≡ drop n old →
     drop n (put_mid at (at + len - at) out part) ≡ drop n old
 part-rest n at len out part old inside fits e rest =
@@ -24,7 +24,7 @@ part-length at len out part inside e =
     length-append (take at out) (part ++ post_of at (at + len - at) out)
     ∙ omega (arith, e, inside, length-take at out, length-append part (post_of at (at + len - at) out), length-drop (at + len - at) (drop at out), length-drop at out)
 
--- what lies behind a place lies behind those before it
+-- Items kept behind one place are kept behind every later one.
 pub rest-later : {A : Type 0} (m n : ℕ) (out mid old : List A) → m ≤ n → drop m out ≡ drop m mid → drop n mid ≡ drop n old → drop n out ≡ drop n old
 rest-later m n out mid old h e f =
     let whole : m + (n - m) ≡ n = omega (arith, h) in
@@ -43,7 +43,7 @@ pub counts-more : {X : Type 0} (count : X → ℕ) (xs : List X) (i : ℕ) (d : 
     at + len ≡ sum_by count (take (i + 1) xs)
 counts-more count xs i d at len inside e f = omega (arith, e, f, sum_by_more count xs i d inside)
 
--- with one item more there are no more than of all items
+-- The count up to one more item is at most the count of all items.
 pub counts-room : {X : Type 0} (count : X → ℕ) (xs : List X) (i : ℕ) (d : X) (at len : ℕ) → i < length xs → at ≡ sum_by count (take i xs) → len ≡ count (get_or xs i d) →
     at + len ≤ sum_by count xs
 counts-room count xs i d at len inside e f = omega (arith, e, f, sum_by_more_le count xs i d inside)

@@ -1,5 +1,6 @@
-//! Flat arrays that a caller owns: numbers of 128 bits in two words, and items that are written one after the other.
-//! No call takes memory.
+//! Flat arrays owned by a caller: 128-bit numbers as two words, as C passes them, and items written one after another.
+//!
+//! No call takes memory, and none returns an error.
 #![tactic(auto)]
 
 mod put;

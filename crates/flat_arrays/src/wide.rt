@@ -1,4 +1,4 @@
-//! Numbers of 128 bits in two words.
+//! 128-bit numbers as two words.
 
 ghost use Rattle.std.specs.Prelude.{◌≡◌, ◌+◌, ◌-◌, ◌*◌, ◌^◌, pos, negsuc, ◌≤ℤ◌, ◌<ℤ◌};
 ghost use Rattle.flat_arrays.specs.Words.{natural_of, integer_of, integer_from};
@@ -7,7 +7,7 @@ const WORD: u128 = 0x1_0000_0000_0000_0000;
 
 const SIGN: u128 = 0x8000_0000_0000_0000_0000_0000_0000_0000;
 
-/// A number of 128 bits in two words of 64 bits: a number without a sign, or an integer in two's complement.
+/// A 128-bit number as two words of 64 bits: a natural number, or an integer in two's complement.
 #[repr(C)]
 #[derive(Clone, Copy, Debug, PartialEq, Eq)]
 pub struct Wide {
@@ -17,7 +17,7 @@ pub struct Wide {
     pub high: u64,
 }
 
-// The integer whose two's complement is this number.
+// The integer whose two's complement is `n`.
 fn signed(n: u128) -> i128
     ensures { result ≡ integer_from n }
 {
@@ -40,7 +40,7 @@ fn complement(x: i128) -> u128
 }
 
 impl Wide {
-    /// The words of a number without a sign.
+    /// Returns the words of a natural number.
     pub fn of_natural(n: u128) -> Wide
         ensures { natural_of result ≡ n }
     {
@@ -50,21 +50,21 @@ impl Wide {
         }
     }
 
-    /// The words of an integer, in two's complement.
+    /// Returns the words of an integer, in two's complement.
     pub fn of_integer(x: i128) -> Wide
         ensures { integer_of result ≡ x }
     {
         Wide::of_natural(complement(x))
     }
 
-    /// The number of the words, without a sign.
+    /// The natural number of the words.
     pub fn natural(&self) -> u128
         ensures { result ≡ natural_of self.now }
     {
         (self.high as u128) * WORD + (self.low as u128)
     }
 
-    /// The integer of the words in two's complement.
+    /// The integer of the words, read as two's complement.
     pub fn integer(&self) -> i128
         ensures { result ≡ integer_of self.now }
     {

@@ -1,4 +1,4 @@
--- What each kind of frame line comes to.
+-- The result of each kind of frame line.
 use Rattle.std.proofs.Common.{◌≡◌, ◌≢◌, ℕ, ◌-◌, ◌*◌, ◌≤◌, max, ℤ, unsigned_abs, Bool, true, false, ◌&&◌, nat_lt, List, [], ◌∷◌, ◌++◌, length, map, set, codes, Option, Some, None, Result, Ok, Err, OnOk, IfErr, arith, append-nil, refl, ap, sym, ◌∙◌, subst, option_map, bytes_eq, if◌then◌else◌}
 use Rattle.std.specs.List.{fold}
 use Rattle.std.specs.Option.{option_or}
@@ -42,7 +42,7 @@ use Rattle.frame_answers.specs.StepCounts.{line_steps}
 use Rattle.frame_answers.proofs.MarkLemmas.{is_moved, marks-more, marks-gone, rows-count}
 use Rattle.frame_answers.proofs.PointLemmas.{posed-text}
 
--- a line is not both
+-- a line is not both `move` and `go`
 pub not-go : (words : List (List ℕ)) → is_move_line words ≡ true → is_go_line words ≡ false
 not-go [] move = refl
 not-go (word ∷ words) move = ap (λ w. bytes_eq w (codes "go")) ((bytes_eq-Decides word (codes "move")).0 move)
@@ -59,7 +59,7 @@ same-amount x y z = three (unsigned_abs x) (unsigned_abs y) (unsigned_abs z)
     three : (a b c : ℕ) → max (max (max 0 a) b) c ≡ max a (max b (max c 0))
     three a b c = omega arith
 
--- what was written is an answer that is not refused
+-- a written text is an answer that is not refused
 written-answer : {K : Type 0} (sink : Ghosts K) (k k' : K) (text : List ℕ) (r : Result (Unit {0}) FarFault) → text ≢ [] → Writes sink k k' text r → IfErr r (λ fault. fault ≡ answered.Write) →
     Answers sink (record { text = text; refusal = None }) k k' r
 written-answer sink k k' text (Ok done) some writes fault = (refl, writes.ok)
@@ -77,7 +77,7 @@ module _ {K : Type 0} (sink : Ghosts K) (mesh : ObjMesh) (before : List (List (L
   abbrev frame : Frame
   frame = frame_at mesh before
 
-  -- the answer, by what is wrong with the line, and by whether it overflows and asks for the points
+  -- the answer, from the fault of the line, its overflow, and its request for the points
   abbrev answer_by : Option ObjCause → Bool → Bool → Answer
   answer_by cause over go =
       answer_unless (option_or (option_map (λ c. Obj (record { line = number; cause = c })) cause) (if over then Some (Overflow Positions depth ValueOverflow) else None))
@@ -181,7 +181,7 @@ module _ {K : Type 0} (sink : Ghosts K) (mesh : ObjMesh) (before : List (List (L
     target-is : point_of target ≡ moved_point mesh.common words
     target-is = move.point ∙ ap (λ n. moved_point n words) is.common
 
-    -- what is compared with the bound
+    -- the number that is compared with the bound
     amount-is : greatest_at depth mesh * channel.greatest_amount (model.numbers_of (moved_point mesh.common words)) ≡ greatest_of session.table * greatest_amount (numbers_of target)
     amount-is =
         ap (λ dens. fold max 1 dens * channel.greatest_amount (model.numbers_of (moved_point mesh.common words))) (sym is.table.dens)
@@ -255,7 +255,7 @@ module _ {K : Type 0} (sink : Ghosts K) (mesh : ObjMesh) (before : List (List (L
       fixed = refl;
     }
 
--- What is known of a mesh is known of the fields that it shows.
+-- A fact about a mesh is one about the fields that it shows.
 module _ {K : Type 0} (sink : Ghosts K) (mesh : ObjMesh) (before : List (List (List ℕ))) (number : ℕ) (line : List ℕ) (session : State) (common depth : ℕ)
     (old : Posed) (view : record { session = session; common = common; depth = depth } ≡ old) (is : IsPosedAfter mesh before old) (count : ℕ) (counts : count ≡ session.table.controls) where
   within : IsPosedAfter mesh before (record { session = session; common = common; depth = depth })

@@ -1,4 +1,4 @@
--- Which points the answers of `go` name.
+-- The points that the answers of `go` name.
 use Rattle.std.proofs.Common.{◌≡◌, ℕ, ◌+◌, Bool, true, false, ◌||◌, nat_eq, List, [], ◌∷◌, ◌++◌, map, codes, refl, ap, sym, ◌∙◌, bytes_eq, if◌then◌else◌}
 use Rattle.std.specs.List.{filter, fold}
 use Rattle.std.proofs.lemmas.List.Folds.{list_any-append}
@@ -41,7 +41,7 @@ module _ (depth : ℕ) (mesh : ObjMesh) (point : ℕ) where
   next move go frame words =
       if move then moved_frame mesh.common frame words else if go then record { controls = frame.controls; moved = [] } else frame
 
-  -- what is named among lines or waits behind them
+  -- the points that are named among lines or wait after them
   abbrev IsNamed : Frame → Lines → Type 0
   IsNamed frame lines =
       (is_among (named_from depth mesh frame lines) point || is_among (changed_points depth mesh (fold (frame_after mesh.common) frame lines).moved) point)
@@ -81,7 +81,7 @@ module _ (depth : ℕ) (mesh : ObjMesh) (point : ℕ) where
       ∙ named-from (frame_at mesh []) lines
       ∙ sym (changed-has depth mesh (moved_by lines) point)
 
--- no point is changed where none is moved
+-- no point is changed if none is moved
 no-change : (first : ℕ) (supports : List (List ℕ)) → places_from first (is_moved []) supports ≡ []
 no-change first [] = refl
 no-change first (support ∷ supports) = no-change (first + 1) supports

@@ -17,8 +17,8 @@ use Rattle.frame_answers.proofs.PlaceLemmas.{least-first, none-marked, all-gone}
 puts-nothing : {K : Type 0} {sink : Ghosts K} (out : Out K) → out.failed ≡ false → Puts sink out out [] (Ok tt)
 puts-nothing out fine = search rules
 
--- The session has the table and the controls that it began with. The lines that were put, and those of the points that are marked
--- still, are those of the points that were marked first.
+-- The session has the table and the controls from its start. The lines already put, and those of the points that are still marked, are
+-- those of the points marked at the start.
 pub record IsPutUpTo {K : Type 0} (sink : Ghosts K) (common : ℕ) (first now : State) (start out : Out K) : Type 0 where
   pub table : now.table ≡ first.table
   pub controls : now.controls ≡ first.controls
@@ -27,7 +27,7 @@ pub record IsPutUpTo {K : Type 0} (sink : Ghosts K) (common : ℕ) (first now : 
   pub put : Puts sink start out text (Ok tt)
   pub whole : text ++ flat_map (row_line common first) (marked now.marks) ≡ marked_lines common first
 
--- a row says the same in each session of the table with these controls
+-- a row has the same line in each session of the table with these controls
 row-same : (common row : ℕ) (first now : State) → now.table ≡ first.table → now.controls ≡ first.controls → row_line common now row ≡ row_line common first row
 row-same common row first now table controls = ap (λ t. line t now.controls) table ∙ ap (λ cs. line first.table cs) controls
   where
@@ -38,7 +38,7 @@ pub begun : {K : Type 0} {sink : Ghosts K} (common : ℕ) (first : State) (start
 begun common first start fine = record { table = refl; controls = refl; long = refl; text = []; put = puts-nothing start fine; whole = refl }
 
 module _ {K : Type 0} {sink : Ghosts K} {common : ℕ} {first now : State} {start out : Out K} (so_far : IsPutUpTo sink common first now start out) where
-  -- the next row is the least that is marked
+  -- the next row is the least marked one
   module _ (row : ℕ) (next : State) (least : Some row ≡ least_mark now.marks) (is : next ≡ without_mark now (Some row)) where
     next-row : row_line common next row ≡ row_line common first row
     next-row = row-same common row first next (ap (λ s. s.table) is ∙ so_far.table) (ap (λ s. s.controls) is ∙ so_far.controls)
@@ -49,7 +49,7 @@ module _ {K : Type 0} {sink : Ghosts K} {common : ℕ} {first now : State} {star
     whole : so_far.text ++ (row_line common first row ++ flat_map (row_line common first) (marked next.marks)) ≡ marked_lines common first
     whole = sym (ap (λ rows. so_far.text ++ flat_map (row_line common first) rows) behind) ∙ so_far.whole
 
-    -- fewer are marked
+    -- fewer rows are marked
     pub fewer : length (marked next.marks) + 1 ≡ length (marked now.marks)
     fewer = omega (arith, ap length behind)
 

@@ -1,4 +1,4 @@
--- The marks of rows: before any move, after one more, and where none is left.
+-- The marks of rows: before any move, after one more, and after the last is gone.
 use Rattle.std.proofs.Common.{◌≡◌, ℕ, ◌+◌, Bool, true, false, cond, nat_eq, ◌||◌, List, [], ◌∷◌, ◌++◌, length, map, replicate, arith, refl, ap, sym, ◌∙◌, if◌then◌else◌}
 use Rattle.std.specs.List.{list_any, count_by, sum_by}
 use Rattle.std.proofs.lemmas.Bool.Decides.{nat_tests}
@@ -22,7 +22,7 @@ supports rows = map (λ row. support_of row.shares) rows
 same-test : (a b : ℕ) → nat_eq a b ≡ nat_eq b a
 same-test a b = grind (arith, nat_tests)
 
--- a row has a control where its support has it
+-- a row has a control if its support has it
 has-control : (control : ℕ) (shares : List Share) → list_any (λ share. nat_eq share.0 control) shares ≡ is_among (support_of shares) control
 has-control control [] = refl
 has-control control (share ∷ shares) =
@@ -35,7 +35,7 @@ either true false = refl
 either false true = refl
 either false false = refl
 
--- one control more
+-- one more control
 moved-more : (control : ℕ) (moved : List ℕ) (shares : List Share) →
     (list_any (λ share. nat_eq share.0 control) shares || is_moved moved (support_of shares)) ≡ is_moved (moved ++ control ∷ []) (support_of shares)
 moved-more control moved shares =
@@ -54,12 +54,12 @@ pub marks-none : (rows : List Row) → replicate (length rows) false ≡ map (is
 marks-none [] = refl
 marks-none (row ∷ rows) = ap (λ marks. false ∷ marks) (marks-none rows)
 
--- no mark is left of any
+-- all marks are gone
 pub marks-gone : (moved : List ℕ) (xs : List (List ℕ)) → map (λ is_marked. false) (map (is_moved moved) xs) ≡ map (is_moved []) xs
 marks-gone moved [] = refl
 marks-gone moved (x ∷ xs) = ap (λ marks. false ∷ marks) (marks-gone moved xs)
 
--- how many rows have a control
+-- the number of rows that have a control
 one-more : (control : ℕ) (shares : List Share) → list_any (λ share. nat_eq share.0 control) shares ≡ is_moved (control ∷ []) (support_of shares)
 one-more control shares = has-control control shares ∙ alone (is_among (support_of shares) control)
   where
@@ -81,7 +81,7 @@ rows-count control first (row ∷ rows) =
     one false true same behind = absurd (cc)
     one false false same behind = omega (arith, behind)
 
--- how many entries there are
+-- the number of entries
 pub entries-count : (rows : List Row) → entries_of rows ≡ sum_by length (supports rows)
 entries-count [] = refl
 entries-count (row ∷ rows) =

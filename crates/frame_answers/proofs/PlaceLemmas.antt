@@ -1,4 +1,4 @@
--- Marks and the places where they stand.
+-- Marks and their places.
 use Rattle.std.proofs.Common.{◌≡◌, ℕ, zero, suc, ◌+◌, ◌<◌, Bool, true, false, cond, nat_eq, nat_lt, List, [], ◌∷◌, ◌++◌, length, map, get_or, set, Some, None, arith, refl, ap, sym, ◌∙◌, ◌||◌, if◌then◌else◌}
 use Rattle.std.specs.List.{flat_map, position_or_len}
 use Rattle.std.proofs.lemmas.Bool.Decides.{nat_tests}
@@ -9,12 +9,12 @@ use Rattle.subdiv_model.specs.Polygons.{is_among}
 use Rattle.point_marks.specs.Tree.{least_mark, mark_count}
 use Rattle.frame_answers.specs.Lines.{marked}
 
--- marks that a test gives
+-- marks from a test
 pub places-map : {X : Type 0} (test : X → Bool) (first : ℕ) (xs : List X) → places_from first (λ is_marked. is_marked) (map test xs) ≡ places_from first test xs
 places-map test first [] = refl
 places-map test first (x ∷ xs) = ap (λ rest. if test x then first ∷ rest else rest) (places-map test (first + 1) xs)
 
--- how many there are
+-- the number of marks
 pub places-count : (first : ℕ) (marks : List Bool) → mark_count marks ≡ length (places_from first (λ is_marked. is_marked) marks)
 places-count first [] = refl
 places-count first (true ∷ marks) = omega (arith, sum_by-cons (λ is_marked. cond is_marked 1 0) true marks, places-count (first + 1) marks)
@@ -23,7 +23,7 @@ places-count first (false ∷ marks) = omega (arith, sum_by-cons (λ is_marked. 
 apart : true ≡ false → ⊥
 apart e = cc
 
--- the first place, and the others where its mark is gone
+-- the first place, and the others after its mark is gone
 first-place : (first number : ℕ) (marks : List Bool) → get_or marks number false ≡ true → ((other : ℕ) → other < number → get_or marks other false ≡ false) →
     places_from first (λ is_marked. is_marked) marks ≡ (first + number) ∷ places_from first (λ is_marked. is_marked) (set marks number false)
 first-place first number [] is before = absurd (apart (sym is))
@@ -48,7 +48,7 @@ least-first marks number least =
     zero-plus : (n : ℕ) → 0 + n ≡ n
     zero-plus n = omega arith
 
--- where there is no least mark, there is none
+-- without a least mark there is none
 some-or : (test : Bool) (place : ℕ) → cond test (Some place) None ≡ None → test ≡ false
 some-or true place e = absurd (cc)
 some-or false place e = refl
@@ -69,7 +69,7 @@ no-place first (false ∷ marks) none =
 pub none-marked : (marks : List Bool) → least_mark marks ≡ None → marked marks ≡ []
 none-marked marks least = (no-place 0 marks (none-at marks least)).0
 
--- as many marks as others, and none of them left
+-- as many marks as places, and none of them left
 pub all-gone : (marks others : List Bool) → least_mark marks ≡ None → length marks ≡ length others → marks ≡ map (λ is_marked. false) others
 all-gone marks others least long = (no-place 0 marks (none-at marks least)).1 ∙ same marks others long
   where
@@ -109,7 +109,7 @@ places-after {X} test first number (x ∷ xs) below = one (test x) (places-after
     one true behind = ap (λ b. nat_eq number first || b) behind ∙ grind (arith, nat_tests)
     one false behind = behind
 
--- a place is one of them where the test holds of what stands there
+-- a place is marked exactly if its item passes the test
 places-at : {X : Type 0} (test : X → Bool) (none : X) → test none ≡ false → (first number : ℕ) (xs : List X) →
     is_among (places_from first test xs) (first + number) ≡ test (get_or xs number none)
 places-at test none fails first number [] = sym fails

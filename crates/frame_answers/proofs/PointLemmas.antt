@@ -1,4 +1,4 @@
--- A row of the table of a mesh is the definition's point, in other terms.
+-- A row of the table of a mesh gives the definition's point, in other terms.
 use Rattle.std.proofs.Common.{◌≡◌, ℕ, zero, suc, ◌+◌, ◌*◌, ◌<◌, ℤ, pos, List, [], ◌∷◌, ◌++◌, length, map, get_or, arith, refl, ap, sym, ◌∙◌, subst}
 use Rattle.std.specs.List.{flat_map}
 use Rattle.std.proofs.lemmas.List.{length-map, get_or-map}
@@ -49,7 +49,7 @@ module _ (mesh : ObjMesh) (depth : ℕ) (table : Table) (is : IsTableOf mesh dep
   values-count : (numbers : List ℤ) → length numbers ≡ length mesh.points → length (values numbers) ≡ length table.rows
   values-count numbers each = (is.values numbers each).count ∙ length-map table.rows (value_of numbers)
 
-  -- a row makes the point's value
+  -- a row gives the point's value
   value-same : (numbers : List ℤ) → length numbers ≡ length mesh.points → (p : ℕ) → p < length table.rows →
       IsSameValue (point_value (values numbers) p) (value_of numbers (row_at table p))
   value-same numbers each p inside =
@@ -79,7 +79,7 @@ module _ (mesh : ObjMesh) (depth common : ℕ) (some : 0 < common) (controls : L
   coordinate-each : (of : ℤ × ℤ × ℤ → ℤ) → length (coordinate of) ≡ length mesh.points
   coordinate-each of = length-map controls of ∙ each
 
-  -- what the row makes of the controls
+  -- the value that the row gives from the controls
   row-columns : (p : ℕ) → row_value state p
       ≡ share_sum (coordinate (λ c. c.0)) (row_at state.table p).shares ∷ share_sum (coordinate (λ c. c.1)) (row_at state.table p).shares ∷ share_sum (coordinate (λ c. c.2)) (row_at state.table p).shares ∷ []
   row-columns p =
@@ -130,7 +130,7 @@ module _ (mesh : ObjMesh) (depth common : ℕ) (some : 0 < common) (controls : L
       (record { x = both-same (λ c. c.0) p inside; y = both-same (λ c. c.1) p inside; z = both-same (λ c. c.2) p inside }))
       ∙ sym (ap (changed_line p) (point-is p inside))
 
-  -- so the text of the marked rows is that of the points that depend on the moved ones
+  -- the text of the marked rows is that of the points that depend on the moved ones
   module _ (moved : List ℕ) (marks : state.marks ≡ map (is_moved moved) (refined_supports (base_level mesh) CatmullClark depth)) (long : length state.marks ≡ length state.table.rows) where
     changed-is : marked state.marks ≡ changed_points depth mesh moved
     changed-is = ap marked marks ∙ places-map (is_moved moved) 0 (refined_supports (base_level mesh) CatmullClark depth)
@@ -149,7 +149,7 @@ module _ (mesh : ObjMesh) (depth common : ℕ) (some : 0 < common) (controls : L
     pub text-same : marked_text common state ≡ changed_text points (changed_points depth mesh moved)
     text-same = ap (λ n. frame_line n ++ marked_lines common state) count-is ∙ ap (λ t. frame_line (length (changed_points depth mesh moved)) ++ t) lines-same
 
--- So is the answer of a mesh whose points are moved.
+-- The answer of a posed mesh is that of the definitions.
 pub posed-text : (mesh : ObjMesh) (frame : Frame) (posed : Posed) → IsPosed mesh frame posed → marked_text posed.common posed.session ≡ frame_text posed.depth mesh frame
 posed-text mesh frame posed is =
     let each : length frame.controls ≡ length mesh.points =

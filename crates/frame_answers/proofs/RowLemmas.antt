@@ -36,7 +36,7 @@ module _ (state : State) (row common den : ℕ) (value : Point3) (is : den ≡ (
       let below : den ≤ greatest_of state.table = subst (λ n. n ≤ greatest_of state.table) (sym is) (den-below state.table row inside) in
       written-point common (record { value = value; den = den }) (product-positive den common positive some) (omega (arith, fits, mul-le-mul_right common below)) most
 
-  -- and its line is that of the point
+  -- the line of a row is that of the point
   pub row-line : numbers_of value ≡ row_value state row → valued_changed_line common row (record { value = value; den = den }) ≡ row_line common state row
   row-line numbers = ap (λ d. line d (numbers_of value)) is ∙ ap (λ ns. line (row_at state.table row).den ns) numbers
     where

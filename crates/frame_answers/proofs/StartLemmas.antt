@@ -51,7 +51,7 @@ table-within mesh depth channel is =
       entries = entries-are base depth (composed_of channel) is.composed is.made;
     }
 
--- the points as the session takes them
+-- the points as the session needs them
 pub points-fit : (table : Table) (points : List Point3) (seen : List (ℤ × ℤ × ℤ)) → map point_of points ≡ seen → All (λ p. greatest_of table * greatest_amount (model.numbers_of p) ≤ number_bound) seen →
     (k : ℕ) (d : Point3) → k < length points → greatest_of table * greatest_amount (numbers_of (get_or points k d)) ≤ number_bound
 points-fit table points seen said fits k d h =
@@ -61,7 +61,7 @@ points-fit table points seen said fits k d h =
 pub points-count : (mesh : ObjMesh) (points : List Point3) → map point_of points ≡ mesh.points → length points ≡ length mesh.points
 points-count mesh points said = sym (length-map points point_of) ∙ ap length said
 
--- the session that begins
+-- the session at its start
 pub posed-at-rest : (mesh : ObjMesh) (depth common : ℕ) (table : Table) (points : List Point3) (session : State) → IsTableWithin mesh depth table → map point_of points ≡ mesh.points →
     session ≡ record { table = table; controls = map numbers_of points; marks = replicate (length table.rows) false } → IsState session → common ≡ mesh.common → 0 < mesh.common → mesh.common ≤ 10 ^ 37 →
     IsPosedAfter mesh [] (record { session = session; common = common; depth = depth })
@@ -83,7 +83,7 @@ posed-at-rest mesh depth common table points session is said begun state over so
     numbers [] = refl
     numbers (p ∷ points) = ap (λ rest. numbers_of p ∷ rest) (numbers points)
 
--- what a start answers, by what the session answers
+-- the answer of a start, from the answer of the session
 pub started : {X : Type 0} (mesh : ObjMesh) (depth : ℕ) (shown : X → Posed) (r : Result X FarFault) (old mid new : ℕ) → refusal_of_mesh (Stencils depth) mesh ≡ None →
     MatchResult r (λ x. ((shown x).depth ≡ depth) × IsPosedAfter mesh [] (shown x)) (λ fault. fault ≡ answered.Memory) →
     old ≤ mid → mid ≤ old + level_faces_to depth mesh → StepsTaken r mid new (start_least depth mesh) (start_least depth mesh) → IsStart mesh depth r shown old new
@@ -96,7 +96,7 @@ started mesh depth shown (Err fault) old mid new good memory later most steps = 
   steps = record { least = tt; most = omega (arith, steps.most, most); later = omega (arith, steps.later, later) };
 }
 
--- what it answers where there is no table
+-- the answer of a start without a table
 pub refused : {X : Type 0} (mesh : ObjMesh) (depth : ℕ) (shown : X → Posed) (r : Result X FarFault) (fault : FarFault) (old new : ℕ) → IsErr r → IsErrAnd r (λ f. f ≡ fault) →
     IsFound (fault_of fault) (refusal_of_mesh (Stencils depth) mesh) → old ≤ new → new ≤ old + level_faces_to depth mesh → IsStart mesh depth r shown old new
 refused mesh depth shown (Ok x) fault old new err same found later most = absurd (cc)

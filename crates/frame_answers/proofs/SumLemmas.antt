@@ -9,11 +9,11 @@ use Rattle.stencil_factory.specs.Rows.{share_sum}
 abbrev Place : Type 0
 Place = ℤ × ℤ × ℤ
 
--- three numbers are the same where each is
+-- three numbers are the same if each is
 pub three : {x y z u v w : ℤ} → x ≡ u → y ≡ v → z ≡ w → x ∷ y ∷ z ∷ [] ≡ u ∷ v ∷ w ∷ []
 three {x} {y} {z} {u} {v} {w} f g h = ap (λ t. t ∷ y ∷ z ∷ []) f ∙ ap (λ t. u ∷ t ∷ z ∷ []) g ∙ ap (λ t. u ∷ v ∷ t ∷ []) h
 
--- one point more, and nothing more where there is none
+-- one more point, or none
 no-more : (w x : ℤ) → x ≡ x +ℤ w *ℤ pos 0
 no-more w x = sym (ap (λ t. x +ℤ t) (*ℤ-zero w) ∙ +ℤ_idr x)
 

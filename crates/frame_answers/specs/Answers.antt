@@ -1,4 +1,4 @@
--- What frames answers: to a mesh, and to a line after others.
+-- The answers of frames: to a mesh, and to each line.
 -- Source: this profile.
 use Rattle.std.specs.Prelude.{ℕ, ◌≡◌, ◌≢◌, ◌≤◌, List, [], ◌∷◌, ◌++◌, Some, None, Result, Ok, Err, MatchResult}
 use Rattle.subdiv_model.specs.ObjLine.{line_words}
@@ -16,26 +16,26 @@ use Rattle.mesh_answers.specs.Refusals.{refusal_of_mesh, IsFound}
 use Rattle.frame_answers.specs.Posed.{Posed, IsPosedAfter}
 use Rattle.frame_answers.specs.StepCounts.{line_steps, start_least, start_limit}
 
--- the mesh before any frame line, which is not refused; or what is refused of it, as `stencils` refuses it
+-- the mesh before any frame line, or its refusal by `stencils`
 pub record IsStart {X : Type 0} (mesh : ObjMesh) (depth : ℕ) (result : Result X FarFault) (shown : X → Posed) (old new : ℕ) : Type 0 where
   pub posed : MatchResult result (λ x. (refusal_of_mesh (Stencils depth) mesh ≡ None) × ((shown x).depth ≡ depth) × IsPosedAfter mesh [] (shown x))
       (λ fault. IsFound (fault_of fault) (refusal_of_mesh (Stencils depth) mesh))
   pub steps : StepsTaken result old new (start_least depth mesh) (start_limit depth mesh)
 
--- The sink after an answer: its text was added. After Write a prefix of it was added, and the sink failed; it is not empty. Another
--- fault is the refusal, and the sink is as it was.
+-- The sink after an answer contains the whole text. After Write it contains a prefix of the text and has failed; the text is not empty.
+-- After another fault, which is the refusal, the sink is as it was.
 abbrev pub Answers : {K : Type 0} → Ghosts K → Answer → K → K → Result (Unit {0}) FarFault → Type 0
 Answers sink answer k k' (Ok _) = (answer.refusal ≡ None) × Added (sink.held k) (sink.held k') answer.text
 Answers sink answer k k' (Err answered.Write) =
     (answer.refusal ≡ None) × (answer.text ≢ []) × AddedPrefix (sink.held k) (sink.held k') answer.text × Rose (sink.faults k) (sink.faults k')
 Answers sink answer k k' (Err fault) = (answer.refusal ≡ Some (fault_of fault)) × (k' ≡ k)
 
--- the mesh after the line too, unless it was refused
+-- the mesh after one more line, which was not refused
 abbrev pub IsPosedOn : ObjMesh → List (List (List ℕ)) → List (List ℕ) → Posed → Result (Unit {0}) FarFault → Type 0
 IsPosedOn mesh before words posed (Ok _) = IsPosedAfter mesh (before ++ words ∷ []) posed
 IsPosedOn mesh before words posed (Err _) = Unit {0}
 
--- A line after others, with its number, which counts from 1.
+-- A line after others. Its number is counted from 1.
 pub record AnswersLine {K : Type 0} (sink : Ghosts K) (mesh : ObjMesh) (before : List (List (List ℕ))) (number : ℕ) (line : List ℕ) (old new : Posed) (k k' : K) (result : Result (Unit {0}) FarFault) (taken : ℕ) : Type 0 where
   pub answers : Answers sink (frame_answer old.depth mesh before number line) k k' result
   pub posed : IsPosedOn mesh before (line_words line) new result

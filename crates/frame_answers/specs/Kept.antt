@@ -1,4 +1,4 @@
--- What each mesh whose points are moved keeps of its numbers, and what its table is when it begins.
+-- The facts about the numbers of a posed mesh that every line keeps, and about its table at the start.
 use Rattle.std.specs.Prelude.{ℕ, ◌≡◌, ◌*◌, ◌^◌, ◌<◌, ◌≤◌}
 use Rattle.std.specs.List.{All}
 use Rattle.subdiv_model.specs.Channel.{number_bound}
@@ -15,7 +15,7 @@ pub record CanStandOver (common : ℕ) (table : Table) : Type 0 where
   pub short : common ≤ 10 ^ 37
   pub fits : greatest_of table * common ≤ number_bound
 
--- the table of a mesh, which is within the bounds over the points of the mesh and over their common denominator
+-- the table of a mesh, within the bounds over the mesh's points and over their common denominator
 pub record IsTableWithin (mesh : ObjMesh) (depth : ℕ) (table : Table) : Type 0 where
   pub table_is : IsTableOf mesh depth table
   pub made : IsTable table

@@ -1,4 +1,4 @@
--- The points that frame lines name, and those that they move.
+-- The points that frame lines name and move.
 -- Source: this profile.
 use Rattle.std.specs.Prelude.{ℕ, List, [], ◌∷◌, ◌++◌, map, get_or, if◌then◌else◌}
 use Rattle.std.specs.List.{filter}
@@ -12,7 +12,7 @@ use Rattle.far_model.specs.Frames.{Frame, frame_after, frame_at, changed_points,
 abbrev pub Lines : Type 0
 Lines = List (List (List ℕ))
 
--- the control points that a point at a depth depends on, and none of a point that there is not
+-- the control points on which a point at a depth depends; none for a point that does not exist
 abbrev pub support_at : ℕ → ObjMesh → ℕ → List ℕ
 support_at depth mesh point = get_or (refined_supports (base_level mesh) CatmullClark depth) point []
 
@@ -20,19 +20,20 @@ support_at depth mesh point = get_or (refined_supports (base_level mesh) Catmull
 abbrev pub moved_by : Lines → List ℕ
 moved_by lines = map moved_index (filter is_move_line lines)
 
--- the points that `go` names among lines, one answer after another, where the lines before have come to a frame
+-- the points that `go` names among lines, one answer after another, in a frame that earlier lines began
 abbrev pub named_from : ℕ → ObjMesh → Frame → Lines → List ℕ
 named_from depth mesh frame [] = []
 named_from depth mesh frame (words ∷ lines) =
     (if is_go_line words then changed_points depth mesh frame.moved else []) ++ named_from depth mesh (frame_after mesh.common frame words) lines
 
--- those that `go` names among the lines of a mesh, and those that it would name behind them
+-- the points that `go` names among the lines of a mesh
 abbrev pub named_points : ℕ → ObjMesh → Lines → List ℕ
 named_points depth mesh lines = named_from depth mesh (frame_at mesh []) lines
 
+-- the points that one more `go` after the lines would name
 abbrev pub waiting_points : ℕ → ObjMesh → Lines → List ℕ
 waiting_points depth mesh lines = changed_points depth mesh (frame_at mesh lines).moved
 
--- both together
+-- the points that `go` names among the lines, or would name after them
 abbrev pub points_in_answers : ℕ → ObjMesh → Lines → List ℕ
 points_in_answers depth mesh lines = named_points depth mesh lines ++ waiting_points depth mesh lines

@@ -1,4 +1,4 @@
--- The lines of the marked rows of a session, which stand over a common denominator.
+-- The lines of the marked rows of a session, over a common denominator.
 -- Source: this profile.
 use Rattle.std.specs.Prelude.{ℕ, ◌*◌, pos, Bool, false, List, ◌++◌, map, get_or}
 use Rattle.std.specs.List.{flat_map}
@@ -14,22 +14,26 @@ use Rattle.far_text.specs.Frames.{frame_line, changed_line}
 abbrev pub row_coordinate : ℕ → State → ℕ → ℕ → Value
 row_coordinate common state row column = record { num = get_or (row_value state row) column (pos 0); den = (row_at state.table row).den * common }
 
+-- the point of a row
 abbrev pub row_point : ℕ → State → ℕ → Point
 row_point common state row = (row_coordinate common state row 0, row_coordinate common state row 1, row_coordinate common state row 2)
 
+-- the line of a row
 abbrev pub row_line : ℕ → State → ℕ → List ℕ
 row_line common state row = changed_line row (row_point common state row)
 
--- the numbers that are marked, ascending
+-- the numbers of the marked rows, ascending
 abbrev pub marked : List Bool → List ℕ
 marked marks = places (λ is_marked. is_marked) marks
 
+-- the lines of the marked rows, ascending
 abbrev pub marked_lines : ℕ → State → List ℕ
 marked_lines common state = flat_map (row_line common state) (marked state.marks)
 
+-- the number of marked rows, and their lines
 abbrev pub marked_text : ℕ → State → List ℕ
 marked_text common state = frame_line (mark_count state.marks) ++ marked_lines common state
 
--- without any mark
+-- the session without any mark
 abbrev pub unmarked : State → State
 unmarked state = record { table = state.table; controls = state.controls; marks = map (λ is_marked. false) state.marks }

@@ -1,4 +1,4 @@
--- What a move of a control point comes to.
+-- The result of a move of a control point.
 use Rattle.std.specs.Prelude.{ℕ, ◌≡◌, ◌+◌, ◌*◌, ◌<◌, ◌≤◌, Result, OnOk, IfErr, OnErr}
 use Rattle.subdiv_model.specs.Channel.{number_bound}
 use Rattle.ratio128.specs.Numbers.{greatest_amount}
@@ -9,7 +9,7 @@ use Rattle.far_fault.specs.declared.fault.FarFault.{FarFault}
 use Rattle.far_fault.specs.declared.fault.FarFault.TheVariants.{Overflow}
 use Rattle.far_fault.specs.declared.fault.Track.TheVariants.{Positions}
 
--- The control is moved in so many steps, or its numbers pass their bound over the greatest denominator, and nothing changes.
+-- The control point moves in this number of steps, or its numbers pass their bound over the greatest denominator and nothing changes.
 pub record Moves (depth : ℕ) (old new : State) (move : Move) (result : Result (Unit {0}) FarFault) (before after : ℕ) : Type 0 where
   pub moved : OnOk result (new ≡ after_move old move)
   pub unchanged : OnErr result (new ≡ old)

@@ -1,4 +1,4 @@
--- A mesh whose points are moved, and what frame lines have come to.
+-- A posed mesh, and its state after frame lines.
 -- Source: this profile.
 use Rattle.std.specs.Prelude.{ℕ, ◌≡◌, ◌*◌, ◌^◌, ◌<◌, ◌≤◌, ℤ, List, length, map}
 use Rattle.std.specs.List.{list_any}
@@ -14,7 +14,7 @@ use Rattle.stencil_apply.specs.Table.{Table, greatest_of}
 use Rattle.stencil_factory.specs.Rows.{supports_of, dens_of, row_values, AreSameValues}
 use Rattle.stencil_session.specs.Session.{State, IsState}
 
--- a session, the denominator that all of its controls stand over, and the depth of its table
+-- a session, the common denominator of its controls, and the depth of its table
 pub record Posed : Type 0 where
   pub session : State
   pub common : ℕ
@@ -28,7 +28,7 @@ pub record IsTableOf (mesh : ObjMesh) (depth : ℕ) (table : Table) : Type 0 whe
   pub values : (numbers : List ℤ) → length numbers ≡ length mesh.points
       → AreSameValues (refined_values (base_level mesh) CatmullClark (control_values numbers) depth) (row_values table numbers)
 
--- the session of this table, with these control points now, and with the points marked that depend on the moved ones
+-- the session of this table with these control points now; the points that depend on moved ones are marked
 pub record IsPosed (mesh : ObjMesh) (frame : Frame) (posed : Posed) : Type 0 where
   pub table : IsTableOf mesh posed.depth posed.session.table
   pub state : IsState posed.session

@@ -1,4 +1,4 @@
-//! The points that changed, written line by line.
+//! The answer of `go`: the changed points, line by line.
 
 ghost use Rattle.std.specs.Prelude.{◌≡◌, ◌*◌, ◌<◌, ◌≤◌, false, length, OnOk, IfErr};
 ghost use Rattle.subdiv_model.specs.Channel.{number_bound};
@@ -17,7 +17,7 @@ use obj_out::Out;
 use ratio128::{Point3, Valued};
 use stencil_session::Session;
 
-// Puts the line of a row, whose numbers are these now.
+// Puts the line of a row with its present numbers.
 fn put_row<K: Sink>(
     out: &mut Out<'_, K>,
     session: &Session,
@@ -56,7 +56,7 @@ fn put_rows<K: Sink>(
     Ok(())
 }
 
-// Puts how many rows are marked, and the line of each.
+// Puts the number of marked rows, and the line of each.
 fn put_frame<K: Sink>(
     out: &mut Out<'_, K>,
     session: &mut Session,
@@ -72,7 +72,7 @@ fn put_frame<K: Sink>(
     put_rows(out, session, common)
 }
 
-// Writes how many rows are marked, and the line of each.
+// Writes the number of marked rows, and the line of each.
 fn write_frame<K: Sink>(
     sink: &mut K,
     session: &mut Session,
@@ -89,8 +89,8 @@ fn write_frame<K: Sink>(
     out.end()
 }
 
-/// Writes how many rows are marked, and the line of each, ascending, and unmarks them. Their numbers stand over the denominator of
-/// the row times the common one. The fault is `Write`. It takes no memory.
+/// Writes the number of marked rows and the line of each, ascending, then unmarks them. The numerators of a row are over its denominator
+/// times the common one. The fault is `Write`. The call takes no memory.
 pub(crate) fn answer_go<K: Sink>(
     sink: &mut K,
     session: &mut Session,

@@ -1,4 +1,4 @@
-//! Which points the answers of `go` name.
+//! Laws: the points that the answers of `go` name.
 //!
 //! Each public function here takes nothing, does nothing and returns nothing: its clauses are the laws.
 
@@ -9,14 +9,14 @@ ghost use Rattle.subdiv_model.specs.Polygons.{is_among};
 ghost use Rattle.far_model.specs.Frames.{changed_points, is_go_line};
 ghost use Rattle.frame_answers.specs.Laws.{Lines, support_at, moved_by, points_in_answers, waiting_points};
 
-/// Of some moved control points exactly those points are changed that depend on one of them.
+/// After control points move, exactly the points that depend on one of them are changed.
 pub fn changed_points_depend_on_moved_ones()
     ensures { (depth : ℕ) (mesh : ObjMesh) (moved : List ℕ) (point : ℕ)
         → is_among (changed_points depth mesh moved) point ≡ list_any (is_among (support_at depth mesh point)) moved }
 {}
 
-/// The answers of `go` among some lines, with the points that another `go` behind them would name, name exactly the points that
-/// depend on a control point that a line moves. Right after `go` no point waits.
+/// The answers of `go` among some lines, with the answer of one more `go`, name exactly the points that depend on a moved control point.
+/// Right after `go` no point waits.
 pub fn answers_of_go_name_the_changed_points()
     ensures named { (depth : ℕ) (mesh : ObjMesh) (lines : Lines) (point : ℕ)
         → is_among (points_in_answers depth mesh lines) point ≡ is_among (changed_points depth mesh (moved_by lines)) point }

@@ -1,4 +1,5 @@
-//! What `frames` answers: the mesh whose points are moved, and the text of each line of its moves.
+//! Answers the lines of the command `frames`: it moves control points of a mesh and reports the refined points that changed. A
+//! [`PosedMesh`] keeps the mesh, its table and its refined points. After it starts, no call takes memory.
 #![tactic(auto)]
 
 mod go;

@@ -10,7 +10,7 @@ use ratio128::{Point3, Steps};
 use std::sync::ledger::Ledger;
 use stencil_session::{Session, TooGreat};
 
-/// Moves a control point that there is. The fault is the overflow of a value at this depth. It takes no memory.
+/// Moves a control point of the mesh. The fault is the overflow of a value at this depth. The call takes no memory.
 pub(crate) fn move_control<L: Ledger>(
     session: &mut Session,
     index: u32,

@@ -1,4 +1,4 @@
-//! A mesh whose points are moved.
+//! A mesh whose control points move.
 
 ghost use Rattle.std.specs.Prelude.{◌≡◌, ◌+◌, ◌-◌, ◌≤◌, [], MatchResult};
 ghost use Rattle.subdiv_model.specs.ObjMesh.{ObjMesh};
@@ -24,7 +24,7 @@ use std::sync::ledger::Ledger;
 use stencil_apply::StencilTable;
 use stencil_session::Session;
 
-/// A mesh whose points are moved, with its refined points.
+/// A mesh whose control points move, with its refined points.
 #[derive(Drop)]
 pub struct PosedMesh {
     session: Session,
@@ -44,10 +44,10 @@ impl Model for PosedMesh {
 }
 
 impl PosedMesh {
-    /// The mesh as it is, refined to a depth of at most 10, with no point marked.
+    /// Returns the mesh refined to a depth of at most 10, with no point marked. No later call takes memory. The call counts one step for
+    /// each entry of the table at the depth, and at most one for each face of the levels from 0 to the depth.
     ///
-    /// The faults are those of [`stencils`](mesh_answers::stencils), in the same order. No later call takes memory. The call takes at
-    /// most one step for each face of the levels from 0 to the depth, and one for each entry of the table at the depth.
+    /// The errors are those of [`stencils`](mesh_answers::stencils), in its order.
     pub fn start<L: Ledger>(
         alloc: Global,
         mesh: &RawMesh,
@@ -58,12 +58,12 @@ impl PosedMesh {
         ensures { IsStart mesh.now depth result (λ posed. posed) steps.old steps.new }
     {
         let composed = compose(alloc, mesh, depth, steps)?;
-        // The prover proves a drop by name once for its type.
+        // The prover proves a named drop once for each type.
         drop(composed.level);
         PosedMesh::at_rest(alloc, mesh, composed.table, depth, steps)
     }
 
-    // The mesh as it is, from its table.
+    // The mesh without moves, from its table.
     fn at_rest<L: Ledger>(
         alloc: Global,
         mesh: &RawMesh,
@@ -85,20 +85,20 @@ impl PosedMesh {
         })
     }
 
-    /// Answers a frame line, by its number, which counts from 1.
+    /// Answers a frame line. `number` is its number, counted from 1.
     ///
-    /// A move puts a control point at its new place, and marks the points that depend on it. The word `go` writes how many points
-    /// are marked, and a line for each of them, ascending, and unmarks them. A line without words does nothing.
+    /// A move puts a control point at its new place and marks the points that depend on it, with one step for each. The word `go` writes
+    /// the number of marked points and a line for each, ascending, then unmarks them. A line without words does nothing. The call takes
+    /// no memory.
     ///
-    /// The fault is one of these:
+    /// Errors:
     ///
-    /// - `Obj`, with the number of the line and the first cause of [`read_frame_line`](frame_line::read_frame_line);
-    /// - `Overflow` of a value of the positions at the depth, where the greatest denominator there times a numerator of the move is
-    ///   more than 2^126 - 1;
-    /// - `Write` where the sink fails. It then has a prefix of the text.
+    /// - `Obj`: the number of the line and the first cause of [`read_frame_line`](frame_line::read_frame_line);
+    /// - `Overflow` of the positions at the depth and `Value`: the greatest denominator there times a numerator of the move is above
+    ///   2^126 - 1;
+    /// - `Write`: the sink failed; it holds a prefix of the text.
     ///
-    /// After `Obj` and `Overflow` the sink is as it was. A move takes one step for each point that depends on the control point.
-    /// The call takes no memory.
+    /// After `Obj` and `Overflow` the sink is as it was.
     pub fn answer_line<K: Sink, L: Ledger>(
         &mut self,
         number: u32,

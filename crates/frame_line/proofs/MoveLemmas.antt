@@ -1,4 +1,4 @@
--- What is wrong with a line that begins with `move`.
+-- The fault of a line that begins with `move`.
 use Rattle.std.proofs.Common.{◌≡◌, ℕ, true, List, [], ◌∷◌, refl}
 use Rattle.far_model.specs.Frames.{is_move_line, move_cause, words_cause}
 

@@ -1,4 +1,4 @@
--- What a frame line asks for, and what is read of a move.
+-- The request of a line of `frames`.
 use Rattle.std.specs.Prelude.{ℕ, ◌≡◌, ◌<◌, ◌∷◌, [], true, false, not, nat_le, List, drop, Option, Some, None, if◌then◌else◌}
 use Rattle.subdiv_model.specs.Digits.{number_of_digits}
 use Rattle.far_model.specs.Frames.{is_move_line, is_go_line, moved_index, moved_point, coordinate_fault, frame_cause}
@@ -13,7 +13,7 @@ use Rattle.frame_line.specs.declared.moves.MoveWords.{MoveWords}
 use Rattle.frame_line.specs.declared.line.FrameLine.{FrameLine}
 use Rattle.frame_line.specs.declared.line.FrameLine.TheVariants.{Empty, Move, Go}
 
--- the words are a move, of this control point to this point
+-- The words are a move of this control point to this point.
 pub record IsMove (count common : ℕ) (words : List (List ℕ)) (place : ℕ) (target : Point3) : Type 0 where
   pub keyword : is_move_line words ≡ true
   pub index : place ≡ moved_index words
@@ -21,30 +21,30 @@ pub record IsMove (count common : ℕ) (words : List (List ℕ)) (place : ℕ) (
   pub point : point_of target ≡ moved_point common words
   pub short : IsShortPoint (point_of target)
 
--- the words of a line ask for this
+-- The words of a line make this request.
 abbrev pub Asks : ℕ → ℕ → List (List ℕ) → FrameLine → Type 0
 Asks count common words Empty = words ≡ []
 Asks count common words (Move index point) = IsMove count common words index point
 Asks count common words Go = (is_go_line words ≡ true) × (is_move_line words ≡ false)
 
--- a line without fault asks for this
+-- A line without a fault makes this request.
 abbrev pub IsFrameLine : ℕ → ℕ → List ℕ → FrameLine → Type 0
 IsFrameLine count common line read = (frame_cause count common line ≡ None) × Asks count common (line_words line) read
 
--- the first words of a list
+-- The first four words of a list.
 abbrev pub AreFirst : MoveWords → List (List ℕ) → Type 0
 AreFirst four words = words ≡ four.index.now ∷ (four.x.now ∷ (four.y.now ∷ (four.z.now ∷ drop 4 words)))
 
--- what is wrong with the word that names a control point
+-- The fault of the word that names a control point.
 abbrev pub index_cause : ℕ → List ℕ → Option fault.ObjCause
 index_cause count word =
     if not (are_digits word) then Some fault.BadNumeral else if nat_le count (number_of_digits word) then Some fault.MoveIndex else None
 
--- what is wrong with the coordinates of a move
+-- The first fault of the coordinates of a move.
 abbrev pub point_cause : ℕ → MoveWords → Option fault.ObjCause
 point_cause common words = fault.first_cause (coordinate_fault common) (words.x.now ∷ (words.y.now ∷ (words.z.now ∷ [])))
 
--- the point of these words over the common denominator
+-- The point of these words over the common denominator.
 pub record IsPointOf (common : ℕ) (target : Point3) (words : MoveWords) : Type 0 where
   pub point : point_of target ≡ (number_over common words.x.now, number_over common words.y.now, number_over common words.z.now)
   pub short : IsShortPoint (point_of target)

@@ -10,18 +10,18 @@ use obj_tags::ObjCause;
 use obj_text::{Words, words_of};
 use ratio128::Point3;
 
-/// What a frame line asks for.
+/// The request of a line of `frames`.
 #[derive(Clone, Copy, Debug, PartialEq, Eq)]
 pub enum FrameLine {
-    /// An empty line or a comment asks for nothing.
+    /// An empty line or a comment: no request.
     Empty,
-    /// A move puts a control point, counted from 0, at a point. Its numerators are over the common denominator.
+    /// A move of a control point, counted from 0, to a point. Its numerators are over the common denominator.
     Move { index: u32, point: Point3 },
-    /// The word `go` asks for the points that changed.
+    /// The word `go`: a request for the points that changed.
     Go,
 }
 
-// The most bytes of a frame line.
+// The greatest length of a line, in bytes.
 const LINE_LIMIT: usize = 65_535;
 
 // Whether a word is this text.
@@ -31,7 +31,7 @@ fn is_word(word: &[u8], text: &[u8]) -> bool
     word == text
 }
 
-// Reads the words of a frame line.
+// Reads the words of a line.
 fn read_words(words: &mut Words<'_>, count: u32, common: u128) -> Result<FrameLine, ObjCause>
     requires { common ≤ 10 ^ 37 }
     ensures { let line = words_left words.old in
@@ -49,23 +49,24 @@ fn read_words(words: &mut Words<'_>, count: u32, common: u128) -> Result<FrameLi
     Err(ObjCause::UnknownKeyword)
 }
 
-/// Reads a frame line, by how many control points there are and by their common denominator, which is at most 10^37. It takes
-/// no memory.
+/// Reads a line of `frames`. `count` is the number of control points, and `common` is their common denominator, at most 10^37.
 ///
-/// A line without words asks for nothing. What follows `go`, or the four words after `move`, is dropped unread.
+/// Any words after `go`, or after the four words of a `move`, are dropped unread.
 ///
-/// It refuses a line for the first of these faults:
+/// # Errors
+///
+/// The first of these faults:
 ///
 /// - `LongLine`: the line has more than 65,535 bytes.
-/// - `UnknownKeyword`: its first word is neither `move` nor `go`.
+/// - `UnknownKeyword`: the first word is neither `move` nor `go`.
 /// - `ShortLine`: fewer than four words follow `move`.
-/// - `BadNumeral`: the first of them has a byte that is no digit.
-/// - `MoveIndex`: the number that it says is not less than `count`.
-/// - the first fault of x, of y or of z, in this order.
+/// - `BadNumeral`: the first of them has a byte that is not a digit.
+/// - `MoveIndex`: that number is not below `count`.
+/// - The first fault of x, then of y, then of z.
 ///
-/// It refuses a coordinate for the first of these faults:
+/// The fault of a coordinate is the first of these:
 ///
-/// - `BadNumeral`: the word is no numeral.
+/// - `BadNumeral`: the word is not a numeral.
 /// - `NumberRange`: the numeral is out of range.
 /// - `TooFine`: its denominator in lowest terms does not divide `common`.
 /// - `NumberRange`: its numerator over `common` has more than 37 digits.

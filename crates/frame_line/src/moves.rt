@@ -20,7 +20,7 @@ pub(crate) struct MoveWords<'a> {
     pub(crate) z: &'a [u8],
 }
 
-// The first four words; `None` where there are fewer.
+// The first four words, or `None` if there are fewer.
 fn first_four<'a>(words: &mut Words<'a>) -> Option<MoveWords<'a>>
     ensures { let line = words_left words.old in
         MatchOption result (length line < 4) (λ four. AreFirst four line) }
@@ -56,7 +56,7 @@ fn read_point(words: &MoveWords<'_>, common: u128) -> Result<Point3, ObjCause>
     Ok(Point3 { x, y, z })
 }
 
-/// Reads a move, from the words after its keyword.
+/// Reads a move, given the words after its keyword.
 pub(crate) fn read_move(
     words: &mut Words<'_>,
     count: u32,

@@ -1,4 +1,4 @@
--- Where lists begin that stand one behind the other.
+-- The starts of successive lists.
 use Rattle.std.proofs.Common.{◌≡◌, ℕ, zero, suc, ◌-◌, List, [], ◌∷◌, length, get_or, arith}
 use Rattle.level_topology.specs.Packed.{Ascend}
 

@@ -1,4 +1,4 @@
--- A level in a caller's arrays: how long they have to be, and what is written there.
+-- The arrays of a caller for a level: their lengths, and their contents after the write.
 use Rattle.std.specs.Prelude.{◌≡◌, ◌*◌, ◌&&◌, Bool, nat_le, length, map, take}
 use Rattle.std.specs.List.{sum_by}
 use Rattle.subdiv_model.specs.Edges.{edges_of}
@@ -8,7 +8,7 @@ use Rattle.level_arrays.specs.Flat.{corners_of, ends_of, marks_of}
 use Rattle.level_arrays.specs.declared.counts.LevelCounts.{LevelCounts}
 use Rattle.level_arrays.specs.declared.places.LevelPlaces.{LevelPlaces}
 
--- how many points, edges, faces and corners a level has
+-- The numbers of points, edges, faces and corners of a level.
 abbrev pub counts_of : Topology → LevelCounts
 counts_of level = record {
   points = level.level.point_count;
@@ -17,14 +17,14 @@ counts_of level = record {
   corners = sum_by length level.level.polygons;
 }
 
--- places for so many: two for each edge
+-- Whether each array has a place for each item, with two places for each edge.
 abbrev pub are_long_enough : LevelCounts → LevelPlaces → Bool
 are_long_enough counts places =
     nat_le counts.faces (length places.face_sizes.now)
     && (nat_le counts.corners (length places.corners.now)
     && (nat_le (2 * counts.edges) (length places.edges.now) && nat_le counts.faces (length places.holes.now)))
 
--- the sizes of the faces, their corners, the ends of the edges, and which faces are holes
+-- The arrays begin with the sizes of the faces, their corners, the ends of the edges, and the marks of holes.
 pub record IsWritten (level : model.Level) (places : LevelPlaces) : Type 0 where
   pub face_sizes : take (length level.polygons) places.face_sizes.now ≡ map length level.polygons
   pub corners : take (sum_by length level.polygons) places.corners.now ≡ corners_of level.polygons

@@ -1,4 +1,4 @@
-//! How many points, edges, faces and corners a level has.
+//! The numbers of points, edges, faces and corners of a level.
 
 ghost use Rattle.std.specs.Prelude.{◌≡◌, length};
 ghost use Rattle.std.specs.List.{sum_by};
@@ -6,7 +6,7 @@ ghost use Rattle.level_arrays.specs.Places as spec;
 
 use level_topology::Level;
 
-/// How much a level has of each kind. By these numbers a caller makes arrays that are long enough.
+/// The counts of a level. A caller sizes its arrays by them.
 #[repr(C)]
 #[derive(Clone, Copy, Debug, PartialEq, Eq)]
 pub struct LevelCounts {
@@ -16,11 +16,11 @@ pub struct LevelCounts {
     pub edges: u32,
     /// How many faces there are.
     pub faces: u32,
-    /// How many corners all faces have together.
+    /// How many corners all faces have.
     pub corners: u32,
 }
 
-// How many corners all faces have together.
+// How many corners all faces have.
 fn corners(level: &Level) -> u32
     ensures { result ≡ sum_by length level.now.level.polygons }
 {
@@ -28,7 +28,7 @@ fn corners(level: &Level) -> u32
     starts[starts.len() - 1]
 }
 
-/// How many points, edges, faces and corners a level has.
+/// Returns the numbers of points, edges, faces and corners of a level.
 pub fn counts_of(level: &Level) -> LevelCounts
     ensures { result ≡ spec.counts_of level.now }
 {

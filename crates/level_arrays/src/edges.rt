@@ -6,10 +6,9 @@ ghost use Rattle.level_arrays.specs.Flat.{ends_of};
 
 use level_topology::Level;
 
-/// Writes both ends of each edge, points counted from 0, edge by edge, in the direction in which a face names the edge first.
-/// These are the first places of the array, two for each edge; the others stay.
+/// Writes both ends of each edge to the start of the array, edge by edge, in the direction in which a face first names the edge.
 ///
-/// The array has at least two places for each edge.
+/// Points are counted from 0. The array has at least two places for each edge, and further places keep their contents.
 pub fn put_edges(level: &Level, out: &mut [u32])
     requires fits { 2 * length (edges_of level.now.level.polygons) ≤ length out.old }
     ensures written { take (2 * length (edges_of level.now.level.polygons)) out.new ≡ ends_of (edges_of level.now.level.polygons) }

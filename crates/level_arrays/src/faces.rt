@@ -1,4 +1,4 @@
-//! The sizes of faces, their corners, and which of them are holes.
+//! The sizes of faces, their corners, and the holes among them.
 
 ghost use Rattle.std.specs.Prelude.{◌≡◌, ◌≤◌, length, map, take, drop};
 ghost use Rattle.std.specs.List.{sum_by};
@@ -7,9 +7,9 @@ ghost use Rattle.level_arrays.specs.Flat.{corners_of, marks_of};
 use flat_arrays::put_items;
 use level_topology::Level;
 
-/// Writes how many corners each face has. These are the first places of the array, as many as the level has faces; the others stay.
+/// Writes the number of corners of each face to the start of the array.
 ///
-/// The array has at least as many places as the level has faces.
+/// The array has a place for each face, and further places keep their contents.
 pub fn put_face_sizes(level: &Level, out: &mut [u32])
     requires fits { length level.now.level.polygons ≤ length out.old }
     ensures written { take (length level.now.level.polygons) out.new ≡ map length level.now.level.polygons }
@@ -22,10 +22,9 @@ pub fn put_face_sizes(level: &Level, out: &mut [u32])
     }
 }
 
-/// Writes the points at the corners of all faces, counted from 0, face by face. These are the first places of the array, as many as
-/// all faces have corners; the others stay.
+/// Writes the points at the corners of all faces, counted from 0, to the start of the array, face by face.
 ///
-/// The array has at least as many places as all faces have corners.
+/// The array has a place for each corner, and further places keep their contents.
 pub fn put_corners(level: &Level, out: &mut [u32])
     requires fits { sum_by length level.now.level.polygons ≤ length out.old }
     ensures written { take (sum_by length level.now.level.polygons) out.new ≡ corners_of level.now.level.polygons }
@@ -40,10 +39,9 @@ pub fn put_corners(level: &Level, out: &mut [u32])
     }
 }
 
-/// Writes a number for each face, 1 for a hole and 0 for any other. These are the first places of the array, as many as the level
-/// has faces; the others stay.
+/// Writes 1 for each hole and 0 for any other face to the start of the array.
 ///
-/// The array has at least as many places as the level has faces.
+/// The array has a place for each face, and further places keep their contents.
 pub fn put_holes(level: &Level, out: &mut [u8])
     requires fits { length level.now.level.polygons ≤ length out.old }
     ensures written { take (length level.now.level.polygons) out.new ≡ marks_of level.now.level.holes }

@@ -1,4 +1,6 @@
-//! Levels of a mesh, written into flat arrays that a caller owns. No call takes memory.
+//! Writes a level of a mesh into flat arrays of a caller: the sizes and corners of faces, the ends of edges, and holes.
+//!
+//! `counts_of` returns the lengths that the arrays need. No call takes memory, and none returns an error.
 #![tactic(auto)]
 
 mod counts;

@@ -13,13 +13,13 @@ use level_topology::Level;
 #[repr(C)]
 #[derive(Drop)]
 pub struct LevelPlaces<'a> {
-    /// Of each face, how many corners it has.
+    /// How many corners each face has.
     pub face_sizes: &'a mut [u32],
     /// The points at the corners of all faces, face by face.
     pub corners: &'a mut [u32],
     /// Both ends of each edge, edge by edge.
     pub edges: &'a mut [u32],
-    /// Of each face 1 where it is a hole, and else 0.
+    /// For each face 1 if it is a hole, and 0 otherwise.
     pub holes: &'a mut [u8],
 }
 
@@ -33,7 +33,7 @@ fn are_long_enough(counts: &LevelCounts, places: &LevelPlaces) -> bool
         && counts.faces as u64 <= places.holes.len() as u64
 }
 
-/// Writes a level into arrays, from their front, where each is long enough, and returns whether it did.
+/// Writes a level to the start of the arrays if each of them is long enough. Returns whether it did.
 pub fn put_level(level: &Level, places: &mut LevelPlaces) -> bool
     ensures long_enough { result ≡ spec.are_long_enough (spec.counts_of level.now) places.old }
     ensures written { result ≡ true → spec.IsWritten level.now.level places.new }

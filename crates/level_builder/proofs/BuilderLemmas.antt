@@ -1,4 +1,4 @@
--- What a builder holds after a face more.
+-- The state of a builder after one more face.
 use Rattle.std.proofs.Common.{subst, ◌≡◌, ℕ, zero, suc, ◌+◌, ◌-◌, ◌<◌, ◌≤◌, ◌^◌, Bool, true, false, not, nat_lt, List, [], ◌∷◌, ◌++◌, length, map, slice_set, replicate, arith, refl, ap, sym, ◌∙◌, append-nil, append_assoc, length-append}
 use Rattle.std.specs.List.{All, list_any, list_all, count_by, sum_by}
 use Rattle.std.proofs.lemmas.Bool.Decides.{nat_tests}
@@ -50,7 +50,7 @@ smooth-proper : (k : ℕ) → list_all is_proper_sharpness (replicate k Smooth) 
 smooth-proper zero = refl
 smooth-proper (suc k) = smooth-proper k
 
--- what was numbered in other room is numbered
+-- A numbering with other room is a numbering.
 pub numbering-alike : (polygons : List Polygon) (n m : Numbered) → m.ends ≡ n.ends → m.faces ≡ n.faces → m.sharpness ≡ n.sharpness → IsNumbering polygons [] n → IsNumbering polygons [] m
 numbering-alike polygons n m e f g is = record {
   ends = e ∙ is.ends;
@@ -87,7 +87,7 @@ module _ (b : Built) (n m : Numbered) (numbers : List (List ℕ)) (corners : Pol
   ends-after : named_with_all m.ends (sides_of corners) ≡ edges_of (polygons ++ corners ∷ [])
   ends-after = ap (λ es. named_with_all es (sides_of corners)) ends-are ∙ first_named-all (all_sides polygons) (sides_of corners) ∙ ap first_named (sym (sides-joined polygons corners))
 
-  -- so many edges more
+  -- The number of new edges.
   pub sharp-after : after.sharpness ≡ b.level.edge_sharpness ++ replicate (length (edges_of (polygons ++ corners ∷ [])) - length (edges_of polygons)) Smooth
   sharp-after =
       let found = sides-smooth (length polygons) m (sides_of corners) in
@@ -95,7 +95,7 @@ module _ (b : Built) (n m : Numbered) (numbers : List (List ℕ)) (corners : Pol
       let k : found.0 ≡ length (edges_of (polygons ++ corners ∷ [])) - length (edges_of polygons) = omega (arith, found.2, all, ap length ends-are) in
       found.1 ∙ ap (λ xs. xs ++ replicate found.0 Smooth) (sharp ∙ is.sharpness) ∙ ap (λ j. b.level.edge_sharpness ++ replicate j Smooth) k
 
-  -- the numbers of the new face's edges come after those of the others
+  -- The numbers of the edges of the new face follow those of the others.
   numbers-after : numbers ++ numbers_in m.ends (sides_of corners) ∷ [] ≡ map (face_edges_of (polygons ++ corners ∷ [])) (polygons ++ corners ∷ [])
   numbers-after =
       let old : map (λ polygon. map (number_in (named_with_all m.ends (sides_of corners))) (sides_of polygon)) polygons ≡ map (λ polygon. map (number_in m.ends) (sides_of polygon)) polygons =
@@ -185,7 +185,7 @@ built-edge points some holes vertices method complete n numbers k s proper is = 
   face_edges = is.face_edges;
 }
 
--- the same, for what the tables hold after a face more
+-- The tables after one more face are those of the level after it.
 pub built-added : (points : ℕ) (some : List Polygon) (holes : List Bool) (n : Numbered) (vertices : List Sharpness) (method : Method) (complete : List Bool) (numbers : List (List ℕ)) → IsBuilt (built_of points some holes n.sharpness vertices method complete) n numbers
     → (m last : Numbered) (corners : Polygon) (hole : Bool) (face : ℕ) (lists : List Polygon) (marks : List Bool) (rows : List (List ℕ)) (these : List ℕ)
     → m.ends ≡ n.ends → m.faces ≡ n.faces → m.sharpness ≡ n.sharpness → face ≡ length some → last ≡ with_sides face m (sides_of corners) → these ≡ numbers_in m.ends (sides_of corners)
@@ -251,7 +251,7 @@ built-none points limit method few = record {
   face_edges = refl;
 }
 
--- the same edges in tables of their own
+-- The same edges, in tables of their own.
 pub built-apart : (points : ℕ) (some : List Polygon) (holes : List Bool) (n : Numbered) (vertices : List Sharpness) (method : Method) (complete : List Bool) (numbers : List (List ℕ)) → IsBuilt (built_of points some holes n.sharpness vertices method complete) n numbers
     → (ends faces : List (ℕ × ℕ)) (sharpness : List Sharpness) (limit : ℕ) → ends ≡ n.ends → faces ≡ n.faces → sharpness ≡ n.sharpness
     → IsBuilt (built_of points some holes sharpness vertices method complete) (numbered ends faces sharpness limit) numbers

@@ -1,4 +1,4 @@
--- The numbers of edges, one side more at a time, and the keys that tell them.
+-- The numbers of edges, one side at a time, and the keys of edges.
 use Rattle.std.proofs.Common.{◌≡◌, ℕ, ◌+◌, ◌≤◌, Bool, true, false, List, [], ◌∷◌, ◌++◌, length, map, arith, refl, ap, sym, ◌∙◌, append-nil, append_assoc, length-append, Option, None, Some, MatchOption}
 use Rattle.std.specs.Option.{unwrap_or}
 use Rattle.std.specs.List.{list_any, list_all, position_or_len}
@@ -11,11 +11,11 @@ use Rattle.level_builder.specs.NumberedEdges.{low_first, numbers_in, named_with_
 use Rattle.level_topology.specs.Numbering.{number_in, named_with}
 use Rattle.level_topology.proofs.NumberingLemmas.{first_named-push}
 
--- the lower end first: two sides are the same edge where they are the same so
+-- Two sides are the same edge exactly if they agree with the lower end first.
 pub low-same : (s t : ℕ × ℕ) → same_side (low_first s) (low_first t) ≡ same_edge s t
 low-same s t = grind (arith, nat_tests)
 
--- so the keys tell the edges
+-- The keys distinguish the edges.
 pub any-low : (s : ℕ × ℕ) (edges : List (ℕ × ℕ)) → list_any (same_side (low_first s)) (map low_first edges) ≡ list_any (same_edge s) edges
 any-low s [] = refl
 any-low s (t ∷ edges) = rw (low-same s t, any-low s edges) refl
@@ -24,7 +24,7 @@ pub number-low : (s : ℕ × ℕ) (edges : List (ℕ × ℕ)) → position_or_le
 number-low s [] = refl
 number-low s (t ∷ edges) = rw (low-same s t, number-low s edges) refl
 
--- and so on for all sides that come
+-- The numbering after all further sides.
 pub first_named-all : (done sides : List (ℕ × ℕ)) → named_with_all (first_named done) sides ≡ first_named (done ++ sides)
 first_named-all done [] = ap first_named (sym (append-nil done))
 first_named-all done (s ∷ sides) =
@@ -124,7 +124,7 @@ named-length edges (s ∷ sides) = omega (arith, named-length (named_with edges 
     one true e = rw e (omega arith)
     one false e = rw e (omega (arith, length-append edges (s ∷ [])))
 
--- what the tests of keys say of edges
+-- The results of the tests of keys, for edges.
 pub known-edge : (s key : ℕ × ℕ) (keys edges : List (ℕ × ℕ)) → key ≡ low_first s → keys ≡ map low_first edges → list_any (same_side key) keys ≡ list_any (same_edge s) edges
 known-edge s key keys edges k same = ap (λ t. list_any (same_side t) keys) k ∙ ap (list_any (same_side (low_first s))) same ∙ any-low s edges
 

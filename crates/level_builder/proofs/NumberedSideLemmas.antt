@@ -11,7 +11,7 @@ use Rattle.level_topology.specs.Topology.{side_at}
 use Rattle.level_laws.proofs.FaceLemmas.{sides_of-length}
 use Rattle.level_builder.proofs.EdgeNumberLemmas.{named-length, numbers-push}
 
--- what a side does where its edge is there, and where it is new
+-- The effect of a side, for an edge that exists and for a new one.
 pub known-side : (face : ℕ) (n : Numbered) (s : ℕ × ℕ) (e : ℕ) (pair : ℕ × ℕ) → list_any (same_edge s) n.ends ≡ true → e ≡ number_in n.ends s → pair ≡ get_or n.faces e (0, 0) → numbered n.ends (slice_set n.faces e (pair.0, face)) n.sharpness n.limit ≡ with_side face n s
 known-side face n s e pair there number is = rw (there, is, number) refl
 

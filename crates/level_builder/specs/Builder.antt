@@ -1,4 +1,4 @@
--- What is added to a builder, as the level that it is to be and the points that are marked complete.
+-- The state of a builder: the level under construction, and the points marked complete.
 use Rattle.std.specs.Prelude.{ℕ, ◌-◌, Bool, true, false, not, List, [], ◌∷◌, ◌++◌, length, slice_set, replicate}
 use Rattle.std.specs.List.{list_all, list_any}
 use Rattle.subdiv_model.specs.Polygons.{Polygon, same_side, sides_of}
@@ -6,7 +6,7 @@ use Rattle.subdiv_model.specs.Edges.{all_sides, edges_of, edge_number}
 use Rattle.subdiv_model.specs.Sharpness.{Sharpness, Smooth, Method}
 use Rattle.point_fans.specs.Built.{Built}
 
--- so many points, and nothing else
+-- The state with points only.
 abbrev pub only_points : ℕ → Method → Built
 only_points points method = record {
   level = record {
@@ -20,7 +20,7 @@ only_points points method = record {
   complete = replicate points false;
 }
 
--- with a face more, whose new edges are smooth
+-- The state after one more face, whose new edges are smooth.
 abbrev pub with_polygon : Polygon → Bool → Built → Built
 with_polygon corners hole built = record {
   level = record {
@@ -35,7 +35,7 @@ with_polygon corners hole built = record {
   complete = built.complete;
 }
 
--- with a sharpness for the edge of this number
+-- The state after a sharpness was set for an edge.
 abbrev pub with_sharp_edge : ℕ × ℕ → Sharpness → Built → Built
 with_sharp_edge edge sharpness built = record {
   level = record {
@@ -49,7 +49,7 @@ with_sharp_edge edge sharpness built = record {
   complete = built.complete;
 }
 
--- with a sharpness for a point
+-- The state after a sharpness was set for a point.
 abbrev pub with_sharp_vertex : ℕ → Sharpness → Built → Built
 with_sharp_vertex v sharpness built = record {
   level = record {
@@ -63,10 +63,10 @@ with_sharp_vertex v sharpness built = record {
   complete = built.complete;
 }
 
--- with a point marked complete
+-- The state after a point was marked complete.
 abbrev pub with_complete : ℕ → Built → Built
 with_complete v built = record { level = built.level; complete = slice_set built.complete v true }
 
--- no face before has one of the polygon's sides
+-- No earlier face has one of the polygon's sides.
 abbrev pub has_new_sides : List Polygon → Polygon → Bool
 has_new_sides polygons corners = list_all (λ side. not (list_any (same_side side) (all_sides polygons))) (sides_of corners)

@@ -1,23 +1,22 @@
--- The edges that a builder has so far: the keys that tell them, their numbers and their faces.
+-- The edges of a builder: their keys, their numbers and their faces.
 use Rattle.std.specs.Prelude.{ℕ, ◌≡◌, ◌+◌, ◌^◌, ◌<◌, ◌≤◌, nat_le, List, [], ◌∷◌, length, map, if◌then◌else◌}
 use Rattle.level_topology.specs.Numbering.{number_in, named_with}
 
--- the same two ends, the lower first
+-- The two ends, the lower first.
 abbrev pub low_first : ℕ × ℕ → ℕ × ℕ
 low_first s = if nat_le s.0 s.1 then s else (s.1, s.0)
 
--- the edges with these sides, one after another
+-- The edges after these sides, in order.
 abbrev pub named_with_all : List (ℕ × ℕ) → List (ℕ × ℕ) → List (ℕ × ℕ)
 named_with_all edges [] = edges
 named_with_all edges (s ∷ sides) = named_with_all (named_with edges s) sides
 
--- the numbers of these sides' edges, one side after another
+-- The numbers of the edges of these sides, in order.
 abbrev pub numbers_in : List (ℕ × ℕ) → List (ℕ × ℕ) → List ℕ
 numbers_in edges [] = []
 numbers_in edges (s ∷ sides) = number_in edges s ∷ numbers_in (named_with edges s) sides
 
--- what the tables of edges owe each other: the keys are the edges with the lower end first, and there is room for all
--- that may come
+-- The invariant of the tables of edges: the keys are the edges with the lower end first, and there is room for every edge.
 pub record IsEdgeTable (keys ends faces : List (ℕ × ℕ)) (sharpness limit key_room end_room face_room sharp_room : ℕ) : Type 0 where
   pub keys_are : keys ≡ map low_first ends
   pub faces_listed : length faces ≡ length ends

@@ -1,4 +1,4 @@
-//! A level put together from faces, in linear time.
+//! Builds a level from faces, in linear time.
 
 ghost use Rattle.std.specs.Prelude.{◌≡◌, ◌+◌, ◌^◌, ◌<◌, ◌≤◌, true, false, [], length, map, IfOk, OnOk, OnErr, IsTrue, replicate, vec_len};
 ghost use Rattle.std.specs.Vec.{vec_capacity};
@@ -22,15 +22,14 @@ use std::alloc::Global;
 use std::marker::Model;
 use std::sync::ledger::Ledger;
 
-/// A level that is put together from points, faces, sharp edges, sharp vertices and marks of complete points. After a
-/// call that fails for want of memory it is as it was before.
+/// A level under construction: points, faces, sharp edges, sharp points and marks of complete points.
 #[derive(Drop)]
 pub struct LevelBuilder {
     alloc: Global,
     faces: PackedLists<u32>,
     holes: Vec<bool>,
     edges: NumberedEdges,
-    // The numbers of the edges of the face that comes.
+    // The numbers of the edges of the next face.
     numbers: Vec<u32>,
     vertex_sharpness: Vec<Sharpness>,
     complete: Vec<bool>,
@@ -49,7 +48,7 @@ impl Model for LevelBuilder {
     ghost invariant = { λ b. IsBuilt (built_of (length b.complete.items) b.faces.lists b.holes.items b.edges.sharpness (map sharpness_of b.vertex_sharpness.items) (method_of b.method) b.complete.items) b.edges b.faces.beside };
 }
 
-// Makes room for a face more, which has so many corners.
+// Makes room for one more face with this many corners.
 fn make_room(
     faces: &mut PackedLists<u32>,
     holes: &mut Vec<bool>,
@@ -80,7 +79,7 @@ fn make_room(
     Ok(())
 }
 
-// Room for so many faces with so many corners in all, and for their marks.
+// Room for faces, for their corners in all, and for their marks.
 fn face_room(
     alloc: Global,
     faces: u32,
@@ -93,7 +92,7 @@ fn face_room(
     Ok((PackedLists::with_room(alloc, faces, corners)?, holes))
 }
 
-// Marks for so many points: all smooth, and none complete.
+// Marks for points: all smooth, and none complete.
 fn point_marks(alloc: Global, points: u32) -> Result<(Vec<Sharpness>, Vec<bool>), Memory>
     ensures smooth { IfOk result (λ marks. map sharpness_of marks.0.items ≡ replicate points Smooth) }
     ensures none { IfOk result (λ marks. marks.1.items ≡ replicate points false) }
@@ -103,8 +102,9 @@ fn point_marks(alloc: Global, points: u32) -> Result<(Vec<Sharpness>, Vec<bool>)
 }
 
 impl LevelBuilder {
-    /// So many points, and nothing else. Whoever chooses the numbers of points can make the edges take long to number:
-    /// `with_key` is for meshes from outside.
+    /// Returns a builder with `points` points and no faces. `Memory`: memory ran out.
+    ///
+    /// Use `with_key` for meshes from outside: numbers of points can be chosen so that numbering the edges takes long.
     pub fn new(alloc: Global, points: u32, method: Method) -> Result<LevelBuilder, Memory>
         requires { points ≤ 2 ^ 30 }
         ensures { IfOk result (λ b. b ≡ only_points points (method_of method)) }
@@ -112,9 +112,10 @@ impl LevelBuilder {
         LevelBuilder::with_key(alloc, points, 0, 0, 0, method, 0)
     }
 
-    /// So many points, with room for so many faces, corners of faces in all, and edges. The edges are numbered by a hash
-    /// after a key. Make the key of the whole mesh: then who chooses the mesh cannot choose what collides, and the same
-    /// mesh takes the same time again.
+    /// Returns a builder with `points` points, and room for these numbers of faces, of corners of all faces, and of edges.
+    ///
+    /// A hash under `key` numbers the edges. Compute the key from the whole mesh with `MeshKey`. Nobody who chooses the mesh can then
+    /// choose the collisions, and one mesh always takes the same time. `Memory`: memory ran out.
     pub fn with_key(
         alloc: Global,
         points: u32,
@@ -142,8 +143,10 @@ impl LevelBuilder {
         })
     }
 
-    /// Adds a face with these corners, which are three or more points, each once, and no side of which an earlier face
-    /// has. Its new edges are smooth. It is one step, whatever the answer.
+    /// Adds a face. Its corners are at least three different points, and no earlier face has one of its sides. Its new edges are smooth.
+    /// The call counts one step, whatever its result.
+    ///
+    /// `Memory`: memory ran out, and the builder is unchanged.
     pub fn add_face<L: Ledger>(
         &mut self,
         corners: &[u32],
@@ -192,8 +195,7 @@ impl LevelBuilder {
         self.vertex_sharpness[v as usize] = s;
     }
 
-    /// Marks a point as complete: the caller promises that its faces make one fan when the level is finished, or that it
-    /// has none.
+    /// Marks a point as complete: the caller promises that its faces form one fan in the finished level, or that it has none.
     pub fn mark_complete(&mut self, v: u32)
         requires { v < self.old.level.point_count }
         ensures { self.new ≡ with_complete v self.old }
@@ -219,8 +221,9 @@ impl LevelBuilder {
         NumberedFaces::of(self.alloc, parts)
     }
 
-    /// The level of what was added: its faces in their order, its edges numbered as they first appear over faces and
-    /// corners, and at each point its faces and edges, in fan order where it is marked complete and ascending elsewhere.
+    /// Returns the level: its faces in order, its edges numbered as they first appear over faces and corners, and the lists at each point.
+    ///
+    /// The lists are in fan order at points marked complete, and ascend elsewhere. `Memory`: memory ran out, and the builder is dropped.
     pub fn finish(self) -> Result<Level, Memory>
         requires fans { AreFans self }
         ensures level { IfOk result (λ level. level.level ≡ self.level) }

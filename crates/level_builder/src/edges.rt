@@ -1,4 +1,4 @@
-//! The edges of faces that come one after another, numbered as they first appear.
+//! The edges of successive faces, numbered as they first appear.
 
 ghost use Rattle.std.specs.Prelude.{◌≡◌, ◌+◌, ◌^◌, ◌<◌, ◌≤◌, true, false, [], ◌∷◌, ◌++◌, length, map, get_or, slice_set, IfOk, OnOk, MatchOption, vec_len};
 ghost use Rattle.std.specs.Vec.{vec_capacity};
@@ -18,7 +18,7 @@ use std::alloc::Global;
 use std::hash::{BuildHasher, DefaultHasher, Hasher};
 use std::marker::Model;
 
-// Hashes after a key, so that who does not know the key cannot choose what collides.
+// A hash under a key: nobody can choose the collisions without knowing the key.
 #[derive(Clone, Copy)]
 pub(crate) struct KeyedHashing {
     keyed: DefaultHasher,
@@ -42,7 +42,7 @@ impl BuildHasher for KeyedHashing {
     }
 }
 
-// The edges so far. An edge of one face has that face's number twice.
+// The edges so far. An edge with one face has the number of that face twice.
 #[derive(Drop)]
 pub(crate) struct NumberedEdges {
     keys: IndexSet<(u32, u32), KeyedHashing>,
@@ -72,7 +72,7 @@ impl Model for NumberedEdges {
     ghost invariant = { λ n. IsEdgeTable n.keys.keys n.ends.items n.faces.items (length n.sharpness.items) n.limit (spare n.keys) (vec_capacity n.ends) (vec_capacity n.faces) (vec_capacity n.sharpness) };
 }
 
-// The same two ends, the lower first.
+// The two ends, the lower first.
 fn lower_first(side: (u32, u32)) -> (u32, u32)
     ensures { result ≡ low_first side }
 {
@@ -90,7 +90,7 @@ fn place_of(keys: &IndexSet<(u32, u32), KeyedHashing>, key: (u32, u32)) -> Optio
     keys.get_index_of(&key)
 }
 
-// Adds a key that is not there. There is room for it, so this takes no memory.
+// Adds a key that is absent. There is room for it, so the call takes no memory.
 fn add_key(keys: &mut IndexSet<(u32, u32), KeyedHashing>, key: (u32, u32))
     requires room { 0 < spare keys.old }
     requires absent { list_any (same_side key) keys.old.keys ≡ false }
@@ -109,7 +109,7 @@ fn side_of(corners: &[u32], c: usize) -> (u32, u32)
 }
 
 impl NumberedEdges {
-    // No edges yet, and room for so many.
+    // No edges, with room for `limit` of them.
     pub(crate) fn with_room(alloc: Global, limit: u32, key: u128) -> Result<NumberedEdges, Memory>
         ensures { IfOk result (λ n. n ≡ record { ends = []; faces = []; sharpness = []; limit = limit }) }
     {
@@ -130,7 +130,7 @@ impl NumberedEdges {
         self.ends.len() as u32
     }
 
-    // Makes room for so many edges more.
+    // Makes room for `more` further edges.
     pub(crate) fn make_room(&mut self, more: u32) -> Result<(), Memory>
         requires { length self.old.ends + more < 2 ^ 32 }
         ensures ends { self.new.ends ≡ self.old.ends }
@@ -146,7 +146,7 @@ impl NumberedEdges {
         Ok(())
     }
 
-    // The number of the edge of a side of a face. An edge that is there gets the face as its second one.
+    // The number of the edge of a side of a face. An edge that exists gets the face as its second one.
     pub(crate) fn number(&mut self, side: (u32, u32), face: u32) -> u32
         requires { length self.old.ends < self.old.limit }
         ensures number { result ≡ number_in self.old.ends side }
@@ -165,7 +165,7 @@ impl NumberedEdges {
         e
     }
 
-    // The number of an edge that is there.
+    // The number of an edge that exists.
     pub(crate) fn find(&self, a: u32, b: u32) -> usize
         requires { list_any (same_edge (a, b)) self.now.ends ≡ true }
         ensures { result ≡ number_in self.now.ends (a, b) }
@@ -187,7 +187,7 @@ impl NumberedEdges {
         self.sharpness[e] = s;
     }
 
-    // Numbers the edges of a face, and puts the numbers behind those that are there.
+    // Numbers the edges of a face, and appends their numbers.
     pub(crate) fn number_all(&mut self, corners: &[u32], face: u32, numbers: &mut Vec<u32>)
         requires room { length self.old.ends + length corners.now ≤ self.old.limit }
         requires number_room { vec_len numbers.old + length corners.now ≤ vec_capacity numbers.old }

@@ -2,22 +2,22 @@
 
 use std::hash::{DefaultHasher, Hasher};
 
-/// Makes the key of a mesh from its lists of numbers. Each number counts, and so does the length of each list. Whoever
-/// chooses the mesh cannot choose its key with it.
+/// Computes the key of a mesh from its lists of numbers. Each number and the length of each list count. Nobody who chooses the mesh can
+/// choose the key with it. The calls have no clauses, because a level does not depend on the key.
 #[derive(Clone, Copy)]
 pub struct MeshKey {
     hasher: DefaultHasher,
 }
 
 impl MeshKey {
-    /// The key of no list.
+    /// Returns the key of no lists.
     pub fn new() -> MeshKey {
         MeshKey {
             hasher: DefaultHasher::new(),
         }
     }
 
-    /// Puts a list after those before it.
+    /// Adds a list after the earlier ones.
     pub fn add(&mut self, numbers: &[u32]) {
         self.hasher.write_usize(numbers.len());
         for number in numbers {
@@ -25,7 +25,7 @@ impl MeshKey {
         }
     }
 
-    /// The key of all lists.
+    /// Returns the key of all lists.
     pub fn finish(mut self) -> u128 {
         let half = self.hasher.finish();
         self.hasher.write_u64(half);

@@ -8,7 +8,7 @@ use Rattle.subdiv_model.specs.Base.{is_at_boundary}
 use Rattle.level_topology.specs.Topology.{Topology, IsTopology, edge_at}
 use Rattle.level_topology.proofs.LawLemmas.{numbers-at}
 
--- something passes at the places of what is kept where it is kept and passes
+-- some place of a kept item passes exactly where some item is kept and passes
 any-places : {X : Type 0} (at : ℕ → Bool) (test keep : X → Bool) (d : X) (place : ℕ) (xs : List X) → ((j : ℕ) → j < length xs → at (place + j) ≡ test (get_or xs j d)) → list_any at (places_from place keep xs) ≡ list_any (λ x. test x && keep x) xs
 any-places at test keep d place [] h = refl
 any-places at test keep d place (x ∷ xs) h =

@@ -1,4 +1,4 @@
--- What a walk over whole levels comes to that counts each of them.
+-- The result of a walk over whole levels that counts each of them.
 use Rattle.std.proofs.Common.{◌≡◌, ℕ, zero, suc, ◌+◌, ◌<◌, ◌≤◌, inl, inr, List, [], ◌∷◌, ◌++◌, length, map, arith, ap, sym, ◌∙◌, subst}
 use Rattle.std.specs.List.{sum_by, range_with_len}
 use Rattle.std.proofs.lemmas.List.FromFn.{map-range_with_len_more}
@@ -47,7 +47,7 @@ module _ {C V : Type 0} (counted : V → List Counts) (start : Place Topology C 
   abbrev Takes : V → Topology → C → V → Type 0
   Takes before t carried after = counted after ≡ counted before ++ counts_of t.level ∷ []
 
-  -- the level after so many steps, the counts of those before it, and the steps that were taken
+  -- the level after k steps, the counts of those before it, and the number of steps taken
   abbrev Walked : ℕ → Place Topology C V → Type 0
   Walked k end =
       IsReached base k end.reached.level × ((counted end.visitor ≡ map (λ n. counts_of (refined_level base n)) (range_with_len 0 k))

@@ -1,4 +1,4 @@
--- The counts of this crate, seen as those of the definitions.
+-- The counts of this crate in the terms of the definitions.
 use Rattle.level_counts.specs.declared.counts.LevelCounts.{LevelCounts}
 use Rattle.level_counts.specs.Counts.{Counts}
 

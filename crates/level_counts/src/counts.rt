@@ -10,22 +10,25 @@ use level_topology::Level;
 /// The counts of a level.
 #[derive(Clone, Copy, Debug, PartialEq, Eq)]
 pub struct LevelCounts {
-    /// All points, with those that have no face.
+    /// All points, including those without a face.
     pub points: u32,
+    /// All edges.
     pub edges: u32,
+    /// All faces, including holes.
     pub faces: u32,
-    /// Euler's number: the points that have a face, less the edges, and the faces.
+    /// Euler's number: the points with a face, minus the edges, plus the faces.
     pub euler: i64,
-    /// The edges of one face.
+    /// The edges with one face.
     pub boundary: u32,
+    /// The faces that are holes.
     pub holes: u32,
-    /// The edges of two faces that are sharp.
+    /// The sharp edges with two faces.
     pub sharp: u32,
-    /// The points inside the mesh that have a face and not four edges.
+    /// The points inside the mesh that have a face and a number of edges other than four.
     pub extraordinary: u32,
 }
 
-// The points that have a face, less the edges, and the faces.
+// Returns the points with a face, minus the edges, plus the faces.
 fn euler_number(used: u32, edges: u32, faces: u32) -> i64
     ensures { result ≡ pos (used + faces) -ℤ pos edges }
 {
@@ -33,7 +36,7 @@ fn euler_number(used: u32, edges: u32, faces: u32) -> i64
 }
 
 impl LevelCounts {
-    /// Counts in time linear in the level's tables. It takes no memory.
+    /// Returns the counts of a level, in time linear in its tables. The call takes no memory.
     pub fn of(level: &Level) -> LevelCounts
         ensures { seen_counts result ≡ counts_of level.now.level }
     {

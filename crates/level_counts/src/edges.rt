@@ -10,7 +10,7 @@ ghost use Rattle.level_topology.specs.Topology.{edge_at};
 
 use level_topology::Level;
 
-// Whether an edge has a sharpness above 0.
+// Returns whether an edge has a sharpness above 0.
 fn is_sharp(level: &Level, e: u32) -> bool
     requires { e < length (edges_of level.now.level.polygons) }
     ensures { result ≡ is_sharp (edge_sharpness_of level.now.level (edge_at level.now.level.polygons e)) }
@@ -18,7 +18,7 @@ fn is_sharp(level: &Level, e: u32) -> bool
     level.edge_sharpness(e).is_sharp()
 }
 
-// Whether an edge has two faces and is sharp. The edges of the boundary, which are all sharp, do not count.
+// Returns whether an edge has two faces and is sharp. The edges of the boundary are all sharp and do not count.
 fn is_crease(level: &Level, e: u32) -> bool
     requires { e < length (edges_of level.now.level.polygons) }
     ensures { result ≡ is_written_crease level.now.level (edge_at level.now.level.polygons e) }
@@ -26,7 +26,7 @@ fn is_crease(level: &Level, e: u32) -> bool
     level.is_inner(e) && is_sharp(level, e)
 }
 
-// How many edges have one face.
+// Returns the number of edges with one face.
 pub(crate) fn boundary_edges(level: &Level) -> u32
     ensures { result ≡ boundary_edges level.now.level }
 {
@@ -37,7 +37,7 @@ pub(crate) fn boundary_edges(level: &Level) -> u32
     count
 }
 
-// How many edges have two faces and are sharp.
+// Returns the number of sharp edges with two faces.
 pub(crate) fn sharp_edges(level: &Level) -> u32
     ensures { result ≡ sharp_edges level.now.level }
 {

@@ -5,7 +5,7 @@ ghost use Rattle.subdiv_model.specs.LevelText.{hole_count};
 
 use level_topology::Level;
 
-// How many faces are holes.
+// Returns the number of faces that are holes.
 pub(crate) fn hole_count(level: &Level) -> u32
     ensures { result ≡ hole_count level.now.level }
 {

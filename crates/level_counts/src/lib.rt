@@ -1,4 +1,5 @@
-//! The counts of a level, and the counts of all levels to a depth.
+//! Counts the parts of a level, and of each level to a depth: points, edges, faces, holes, boundary edges, sharp edges and
+//! extraordinary points.
 #![tactic(auto)]
 
 mod counts;

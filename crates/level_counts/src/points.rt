@@ -7,7 +7,7 @@ ghost use Rattle.subdiv_model.specs.LevelText.{used_points, is_extraordinary, ex
 
 use level_topology::Level;
 
-// Whether a point has a face.
+// Returns whether a point has a face.
 fn is_used(level: &Level, v: u32) -> bool
     requires { v < level.now.level.point_count }
     ensures { result ≡ nat_lt 0 (length (faces_at level.now.level v)) }
@@ -16,7 +16,7 @@ fn is_used(level: &Level, v: u32) -> bool
     !level.vertex_faces(v).is_empty()
 }
 
-// Whether a point is an end of an edge of one face.
+// Returns whether a point is an end of an edge with one face.
 fn is_at_boundary(level: &Level, v: u32) -> bool
     requires { v < level.now.level.point_count }
     ensures { result ≡ is_at_boundary level.now.level.polygons v }
@@ -30,7 +30,7 @@ fn is_at_boundary(level: &Level, v: u32) -> bool
     false
 }
 
-// Whether a point with a face is inside the mesh and has not four edges.
+// Returns whether a point has a face, lies inside the mesh and has a number of edges other than four.
 fn is_extraordinary(level: &Level, v: u32) -> bool
     requires { v < level.now.level.point_count }
     ensures { result ≡ is_extraordinary level.now.level v }
@@ -38,7 +38,7 @@ fn is_extraordinary(level: &Level, v: u32) -> bool
     !is_at_boundary(level, v) && is_used(level, v) && level.valence(v) != 4
 }
 
-// How many points have a face.
+// Returns the number of points with a face.
 pub(crate) fn used_points(level: &Level) -> u32
     ensures { result ≡ used_points level.now.level }
 {
@@ -49,7 +49,7 @@ pub(crate) fn used_points(level: &Level) -> u32
     count
 }
 
-// How many points inside the mesh have not four edges.
+// Returns the number of points inside the mesh that have a face and a number of edges other than four.
 pub(crate) fn extraordinary_points(level: &Level) -> u32
     ensures { result ≡ extraordinary_vertices level.now.level }
 {

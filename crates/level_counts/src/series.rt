@@ -1,4 +1,4 @@
-//! The counts of the levels to a depth, of which one is kept at a time.
+//! The counts of the levels to a depth. One level is in memory at a time.
 
 ghost use Rattle.std.specs.Prelude.{◌≡◌, ◌^◌, ◌≤◌, true, map, replicate, [], ◌∷◌, ◌++◌, IfOk, MatchResult, OnOk, IsTrue};
 ghost use Rattle.subdiv_model.specs.Channel.{Channel, Sharpnesses};
@@ -16,14 +16,14 @@ use std::alloc::Global;
 use std::sync::ledger::Ledger;
 use uniform_walk::Uniform;
 
-// The counts of the levels that were left behind.
+// The counts of the levels that the walk left behind.
 #[derive(Drop)]
 struct Counting {
     counts: Vec<LevelCounts>,
 }
 
 impl Counting {
-    // Room for the counts of level 0 and of so many levels after it.
+    // Returns memory for the counts of level 0 and of `depth` levels after it.
     fn with_room(alloc: Global, depth: u32) -> Result<Counting, Memory>
         requires { depth ≤ 10 }
         ensures { IfOk result (λ counting. map seen_counts counting.counts.items ≡ []) }
@@ -32,7 +32,7 @@ impl Counting {
         Ok(Counting { counts })
     }
 
-    // Puts the counts of a level after others.
+    // Adds the counts of a level.
     fn count(&mut self, level: &Level) -> Result<(), Memory>
         ensures { IfOk result (λ _. map seen_counts self.new.counts.items ≡ map seen_counts self.old.counts.items ++ counts_of level.now.level ∷ []) }
     {
@@ -53,7 +53,7 @@ impl Visitor<Level, ()> for Counting {
     }
 }
 
-// The counts of all levels, where those before the last are counted.
+// Returns the counts of all levels, with those of the last one.
 fn with_last(counting: Counting, last: Level) -> Result<Vec<LevelCounts>, Memory>
     ensures { IfOk result (λ counts. map seen_counts counts.items ≡ map seen_counts counting.counts.items ++ counts_of last.level ∷ []) }
 {
@@ -62,8 +62,12 @@ fn with_last(counting: Counting, last: Level) -> Result<Vec<LevelCounts>, Memory
     Ok(all.counts)
 }
 
-/// The counts of each level from 0 to a depth, or why there is no level to that depth. Each level is dropped once the next one
-/// is made. It is one step for each face of the levels after the first.
+/// Returns the counts of each level from 0 to `depth`. The call drops each level once the next one is made. Each face of the
+/// levels after level 0 is at most one step.
+///
+/// Reports the fault of the first level that is not reached, counted from 1. `TooManyFaces` means that it would have more
+/// than 2^22 faces. `Overflow` has the kind `Chaikin`: halves of edges overflow. `Memory` comes where memory runs out, with
+/// the number 0 if that is outside of the walk.
 pub fn count_levels<L: Ledger>(
     alloc: Global,
     base: Level,

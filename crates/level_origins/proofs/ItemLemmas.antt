@@ -4,7 +4,7 @@ use Rattle.std.specs.List.{range_with_len}
 use Rattle.std.proofs.lemmas.List.{map_push}
 use Rattle.std.proofs.lemmas.List.FromFn.{map-range_with_len_more}
 
--- an item more of what is made of each number
+-- one item more of the values of a function for each number
 pub pushed : {X Y : Type 0} (view : X → Y) (f : ℕ → Y) (n : ℕ) (old new : List X) (x : X) → new ≡ old ++ x ∷ [] → view x ≡ f n
     → map view old ≡ map f (range_with_len 0 n) → map view new ≡ map f (range_with_len 0 (n + 1))
 pushed view f n old new x put is before =

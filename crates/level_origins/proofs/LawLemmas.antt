@@ -104,7 +104,7 @@ module _ (base level : Level) (before : Origins) (each : AreOrigins level before
         (λ i h. are.faces i 0 (omega (arith, h, each.faces)));
   }
 
--- so each is a part of level 0
+-- each origin is a part of level 0
 pub origins-parts : (base : Level) (k : ℕ) → IsTrue (is_over base.point_count base.polygons) → AreParts base (origins_to base k)
 origins-parts base zero over = record {
   points = All-map (IsPart base) OnPoint (range_with_len 0 base.point_count) (range-below base.point_count);

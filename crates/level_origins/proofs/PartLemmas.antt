@@ -40,7 +40,7 @@ edge-within points faces edges first second part one two is = subst (IsOriginWit
     go (FromEdge e) (FromVertex v) p q = p
     go (FromEdge e) (FromEdge d) p q = p
 
--- and so does a point
+-- a point comes from a part that exists
 pub point-within : (child : ChildTopology) (points faces edges : ℕ) → HasParent child → points ≡ child.parent_points → faces ≡ length child.parent_sizes
     → edges ≡ child.parent_edges → (p : ℕ) (part : PointOrigin) → p < child.topology.level.point_count → part ≡ point_origin child p → IsOriginWithin points faces edges part
 point-within child points faces edges has one two three p part inside is =

@@ -1,4 +1,4 @@
--- What a walk over whole levels comes to that carries origins.
+-- The result of a walk over whole levels that carries origins.
 use Rattle.std.proofs.Common.{◌≡◌, ℕ, zero, suc, ◌+◌, ◌<◌, ◌≤◌, inl, inr, true, length, arith, ap, sym, ◌∙◌, subst, IsTrue}
 use Rattle.std.specs.List.{sum_by}
 use Rattle.subdiv_model.specs.Polygons.{is_over}
@@ -55,7 +55,7 @@ module _ {C V : Type 0} (seen : C → Origins) (Takes : V → Topology → C →
   abbrev Fail : Topology → ChildTopology → C → Cause → ℕ → ℕ → Type 0
   Fail t child before cause old new = (cause ≡ Memory) × (new ≡ old)
 
-  -- the level after so many steps, its origins, and the steps that were taken
+  -- the level after k steps, its origins, and the number of steps taken
   abbrev Walked : ℕ → Place Topology C V → Type 0
   Walked k end =
       IsReached base k end.reached.level × ((seen end.reached.carried ≡ origins_to base k)

@@ -21,7 +21,7 @@ map-twice : {X Y Z : Type 0} (f : Y → Z) (g : X → Y) (xs : List X) → map f
 map-twice f g [] = refl
 map-twice f g (x ∷ xs) = ap (λ ys. f (g x) ∷ ys) (map-twice f g xs)
 
--- what is made of each item alike
+-- two functions that agree on each item give the same list
 map-alike : {X Y : Type 0} (f g : X → Y) (d : X) (xs : List X) → ((i : ℕ) → i < length xs → f (get_or xs i d) ≡ g (get_or xs i d)) → map f xs ≡ map g xs
 map-alike f g d [] same = refl
 map-alike {X} {Y} f g d (x ∷ xs) same = join (same 0 (omega arith)) (map-alike f g d xs (λ i h. same (suc i) (omega (arith, h))))

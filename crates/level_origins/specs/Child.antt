@@ -1,4 +1,4 @@
--- The origins of a child of a level, whole or of a part, by where its points and its faces come from.
+-- The origins of a child of a level, whole or in part, from the origins of its points and faces in the level.
 use Rattle.std.specs.Prelude.{ℕ, ◌≡◌, ◌^◌, ◌≤◌, length, map, get_or}
 use Rattle.subdiv_model.specs.Edges.{edges_of}
 use Rattle.subdiv_model.specs.Level.{Level}
@@ -6,18 +6,18 @@ use Rattle.level_topology.specs.Child.{ChildTopology}
 use Rattle.level_topology.specs.ChildLaws.{point_origin}
 use Rattle.level_origins.specs.Origins.{Origin, Origins, origin_of_part, part_of_edge}
 
--- there is one for each point, each edge and each face
+-- the level has one origin for each point, edge and face
 pub record AreOrigins (level : Level) (origins : Origins) : Type 0 where
   pub points : length origins.points ≡ level.point_count
   pub edges : length origins.edges ≡ length (edges_of level.polygons)
   pub faces : length origins.faces ≡ length level.polygons
 
--- so few that 32 bits count them
+-- the counts of the origins fit 32 bits
 pub record AreFew (origins : Origins) : Type 0 where
   pub points : length origins.points ≤ 2 ^ 30
   pub faces : length origins.faces ≤ 2 ^ 22
 
--- there is one for each part of the parent
+-- there is an origin for each part of the parent
 pub record AreOfParent (child : ChildTopology) (origins : Origins) : Type 0 where
   pub points : length origins.points ≡ child.parent_points
   pub edges : length origins.edges ≡ child.parent_edges
@@ -26,7 +26,7 @@ pub record AreOfParent (child : ChildTopology) (origins : Origins) : Type 0 wher
 abbrev pub origin_of_child_edge : ChildTopology → Origins → ℕ × ℕ → Origin
 origin_of_child_edge child before edge = origin_of_part before (part_of_edge (point_origin child edge.0) (point_origin child edge.1))
 
--- of a child, from those of its parent
+-- the origins of a child, from those of its parent
 abbrev pub child_origins : ChildTopology → Origins → Origins
 child_origins child before = record {
   points = map (origin_of_part before) child.origins;

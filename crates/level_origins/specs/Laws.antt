@@ -1,4 +1,4 @@
--- What the laws of origins speak of.
+-- The terms of the laws of origins.
 use Rattle.std.specs.Prelude.{◌<◌, length}
 use Rattle.std.specs.List.{All}
 use Rattle.subdiv_model.specs.Edges.{edges_of}
@@ -11,7 +11,7 @@ IsPart base (OnPoint v) = v < base.point_count
 IsPart base (OnEdge e) = e < length (edges_of base.polygons)
 IsPart base (OnFace f) = f < length base.polygons
 
--- level 0 has all of them
+-- level 0 has all parts that the origins name
 pub record AreParts (base : Level) (origins : Origins) : Type 0 where
   pub points : All (IsPart base) origins.points
   pub edges : All (IsPart base) origins.edges

@@ -1,5 +1,4 @@
--- The part of level 0 that each point, each edge and each face of a later level lies on.
--- Source: this profile.
+-- The part of level 0 on which each point, each edge and each face of a later level lies. Source: this library.
 use Rattle.std.specs.Prelude.{ℕ, zero, suc, List, ◌++◌, length, map, replicate, get_or}
 use Rattle.std.specs.List.{flat_map, range_with_len, enumerate_from}
 use Rattle.subdiv_model.specs.Edges.{edges_of}
@@ -20,13 +19,13 @@ number_of (OnPoint v) = v
 number_of (OnEdge e) = e
 number_of (OnFace f) = f
 
--- what each point and the inside of each edge lies on, and the face that each face is a part of
+-- the origin of each point and of the inside of each edge, and the face of level 0 that each face is part of
 pub record Origins : Type 0 where
   pub points : List Origin
   pub edges : List Origin
   pub faces : List ℕ
 
--- of level 0 each is its own
+-- the origins of level 0: each part is its own
 abbrev pub base_origins : Level → Origins
 base_origins base = record {
   points = map OnPoint (range_with_len 0 base.point_count);
@@ -34,14 +33,14 @@ base_origins base = record {
   faces = range_with_len 0 (length base.polygons);
 }
 
--- the new point of a part of a level lies where that part does, from the origins of the level
+-- the origin of the new point of a part of a level, which is that of the part
 abbrev pub origin_of_part : Origins → PointOrigin → Origin
 origin_of_part before (FromVertex v) = get_or before.points v (OnPoint 0)
 origin_of_part before (FromFace f) = OnFace (get_or before.faces f 0)
 origin_of_part before (FromEdge e) = get_or before.edges e (OnEdge 0)
 
--- An edge of the next level joins two new points, of which one is that of an edge. It lies inside the face whose point is the other one,
--- and on the edge where the other one is a point of the level.
+-- An edge of the next level joins two new points, one of them the point of an edge. It lies inside a face if the other is the
+-- face's point, and on the edge if the other is a point of the level.
 abbrev pub part_of_edge : PointOrigin → PointOrigin → PointOrigin
 part_of_edge (FromFace f) other = FromFace f
 part_of_edge (FromVertex v) other = other
@@ -56,7 +55,8 @@ part_of_point level p = numbered_origin level.point_count (length level.polygons
 abbrev pub origin_of_edge : Level → Origins → ℕ × ℕ → Origin
 origin_of_edge level before edge = origin_of_part before (part_of_edge (part_of_point level edge.0) (part_of_point level edge.1))
 
--- of the next level, from those of a level: the points are the level's, then its faces', then its edges'; each child face is where its parent is
+-- the origins of the next level from those of a level: its points are those of vertices, faces and edges; each child face has
+-- the origin of its parent
 abbrev pub next_origins : Level → Origins → Origins
 next_origins level before = record {
   points = before.points ++ (map OnFace before.faces ++ before.edges);
@@ -64,7 +64,7 @@ next_origins level before = record {
   faces = flat_map (λ face. replicate (length face.1) (get_or before.faces face.0 0)) (enumerate_from 0 level.polygons);
 }
 
--- of the level after k steps
+-- the origins of the level after k steps
 abbrev pub origins_to : Level → ℕ → Origins
 origins_to base zero = base_origins base
 origins_to base (suc k) = next_origins (refined_level base k) (origins_to base k)

@@ -1,16 +1,16 @@
--- Origins in a caller's arrays: how long these have to be, and what is written there.
+-- Origins in a caller's arrays: the lengths of the arrays, and what they contain.
 use Rattle.std.specs.Prelude.{ℕ, ◌≡◌, ◌&&◌, Bool, nat_le, length, map, take}
 use Rattle.level_origins.specs.Origins.{Origin, OnPoint, OnEdge, OnFace, number_of, Origins}
 use Rattle.level_origins.specs.declared.places.OriginCounts.{OriginCounts}
 use Rattle.level_origins.specs.declared.places.OriginPlaces.{OriginPlaces}
 
--- 0 for a point of level 0, 1 for an edge, and 2 for a face
+-- 0 for a point of level 0, 1 for the inside of an edge, 2 for the inside of a face
 abbrev pub kind_of : Origin → ℕ
 kind_of (OnPoint v) = 0
 kind_of (OnEdge e) = 1
 kind_of (OnFace f) = 2
 
--- how many points and faces there are
+-- the number of points and faces
 abbrev pub counts_of : Origins → OriginCounts
 counts_of origins = record { points = length origins.points; faces = length origins.faces }
 

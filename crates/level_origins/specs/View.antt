@@ -1,4 +1,4 @@
--- The origins of this crate, seen as those of the definitions.
+-- The origins of this crate in the terms of the definitions.
 use Rattle.std.specs.Prelude.{map}
 use Rattle.level_origins.specs.Origins as model
 use Rattle.level_origins.specs.declared.origin.Origin.{Origin}

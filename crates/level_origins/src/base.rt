@@ -11,7 +11,7 @@ use level_topology::Level;
 use ratio128::Memory;
 use std::alloc::Global;
 
-// So many points, each its own origin.
+// Returns this many points, each its own origin.
 fn own_points(alloc: Global, count: u32) -> Result<Vec<Origin>, Memory>
     ensures { IfOk result (λ points. map seen_origin points.items ≡ map OnPoint (range_with_len 0 count)) }
 {
@@ -22,7 +22,7 @@ fn own_points(alloc: Global, count: u32) -> Result<Vec<Origin>, Memory>
     Ok(points)
 }
 
-// So many edges, each its own origin.
+// Returns this many edges, each its own origin.
 fn own_edges(alloc: Global, count: u32) -> Result<Vec<Origin>, Memory>
     ensures { IfOk result (λ edges. map seen_origin edges.items ≡ map OnEdge (range_with_len 0 count)) }
 {
@@ -33,7 +33,7 @@ fn own_edges(alloc: Global, count: u32) -> Result<Vec<Origin>, Memory>
     Ok(edges)
 }
 
-// So many faces, each a part of itself.
+// Returns this many faces, each a part of itself.
 fn own_faces(alloc: Global, count: u32) -> Result<Vec<u32>, Memory>
     ensures { IfOk result (λ faces. faces.items ≡ range_with_len 0 count) }
 {
@@ -44,7 +44,7 @@ fn own_faces(alloc: Global, count: u32) -> Result<Vec<u32>, Memory>
     Ok(faces)
 }
 
-// The origins of level 0.
+// Returns the origins of level 0.
 pub(crate) fn own_origins(alloc: Global, base: &Level) -> Result<Origins, Memory>
     ensures { IfOk result (λ origins. seen_origins origins ≡ base_origins base.now.level) }
 {

@@ -15,7 +15,7 @@ use level_topology::Child;
 use ratio128::Memory;
 use std::alloc::Global;
 
-// The part of the parent that an edge lies on, which joins points that come from these.
+// Returns the part of the parent on which an edge lies; the ends of the edge come from these parts.
 fn joined_part(
     first: level_topology::Origin,
     second: level_topology::Origin,
@@ -30,7 +30,7 @@ fn joined_part(
     }
 }
 
-// What a part of the parent lies on.
+// Returns the origin of a part of the parent.
 fn origin_of_part(before: &Origins, part: level_topology::Origin) -> Origin
     requires { IsOriginWithin (length before.now.points.items) (length before.now.faces.items) (length before.now.edges.items) (origin_of part) }
     ensures { seen_origin result ≡ origin_of_part (seen_origins before.now) (origin_of part) }
@@ -42,7 +42,7 @@ fn origin_of_part(before: &Origins, part: level_topology::Origin) -> Origin
     }
 }
 
-// What a point of a child lies on.
+// Returns the origin of a point of a child.
 fn origin_of_point(child: &Child, before: &Origins, p: u32) -> Origin
     requires parent { AreOfParent child.now (seen_origins before.now) }
     requires exists { p < child.now.topology.level.point_count }
@@ -52,7 +52,7 @@ fn origin_of_point(child: &Child, before: &Origins, p: u32) -> Origin
     origin_of_part(before, child.origin(p))
 }
 
-// What the inside of an edge of a child lies on.
+// Returns the origin of the inside of an edge of a child.
 fn origin_of_edge(child: &Child, before: &Origins, e: u32) -> Origin
     requires parent { AreOfParent child.now (seen_origins before.now) }
     requires exists { e < length (edges_of child.now.topology.level.polygons) }
@@ -66,7 +66,7 @@ fn origin_of_edge(child: &Child, before: &Origins, e: u32) -> Origin
     )
 }
 
-// The face of level 0 that a face of a child is a part of: its third corner is the point of its parent.
+// Returns the face of level 0 that a face of a child is part of. The third corner of the face is the point of its parent.
 fn base_face(child: &Child, before: &Origins, f: u32) -> u32
     requires parent { AreOfParent child.now (seen_origins before.now) }
     requires exists { f < length child.now.topology.level.polygons }
@@ -77,7 +77,7 @@ fn base_face(child: &Child, before: &Origins, f: u32) -> u32
     number_of(origin_of_point(child, before, corners[2]))
 }
 
-// What the points of a child lie on.
+// Returns the origins of the points of a child.
 fn next_points(alloc: Global, child: &Child, before: &Origins) -> Result<Vec<Origin>, Memory>
     requires { AreOfParent child.now (seen_origins before.now) }
     ensures { IfOk result (λ points. map seen_origin points.items ≡ (child_origins child.now (seen_origins before.now)).points) }
@@ -91,7 +91,7 @@ fn next_points(alloc: Global, child: &Child, before: &Origins) -> Result<Vec<Ori
     Ok(points)
 }
 
-// What the insides of the edges of a child lie on.
+// Returns the origins of the insides of the edges of a child.
 fn next_edges(alloc: Global, child: &Child, before: &Origins) -> Result<Vec<Origin>, Memory>
     requires { AreOfParent child.now (seen_origins before.now) }
     ensures { IfOk result (λ edges. map seen_origin edges.items ≡ (child_origins child.now (seen_origins before.now)).edges) }
@@ -104,7 +104,7 @@ fn next_edges(alloc: Global, child: &Child, before: &Origins) -> Result<Vec<Orig
     Ok(edges)
 }
 
-// The faces of level 0 that the faces of a child are parts of.
+// Returns, for each face of a child, the face of level 0 that it is part of.
 fn next_faces(alloc: Global, child: &Child, before: &Origins) -> Result<Vec<u32>, Memory>
     requires { AreOfParent child.now (seen_origins before.now) }
     ensures { IfOk result (λ faces. faces.items ≡ (child_origins child.now (seen_origins before.now)).faces) }
@@ -118,7 +118,7 @@ fn next_faces(alloc: Global, child: &Child, before: &Origins) -> Result<Vec<u32>
     Ok(faces)
 }
 
-// The origins of a child.
+// Returns the origins of a child.
 pub(crate) fn next_origins(
     alloc: Global,
     child: &Child,

@@ -1,4 +1,7 @@
-//! The part of the mesh that each point, each edge and each face of a later level lies on.
+//! Finds the part of the mesh on which each point, edge and face of a later level lies.
+//!
+//! That part is the origin: a point, the inside of an edge, or the inside of a face of level 0. Origins carry data of the
+//! mesh, such as materials or selections, to refined levels.
 #![tactic(auto)]
 
 mod base;

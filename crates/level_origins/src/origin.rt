@@ -15,7 +15,7 @@ pub enum Origin {
     Face(u32),
 }
 
-// The number of a part of level 0.
+// Returns the number of a part of level 0.
 pub(crate) fn number_of(origin: Origin) -> u32
     ensures { result ≡ number_of (seen_origin origin) }
 {
@@ -24,13 +24,13 @@ pub(crate) fn number_of(origin: Origin) -> u32
     }
 }
 
-/// Where a level lies on level 0.
+/// The origins of a level.
 #[derive(Drop)]
 pub struct Origins {
-    /// The part that each point lies on.
+    /// The part of level 0 on which each point lies.
     pub points: Vec<Origin>,
-    /// The part that the inside of each edge lies on.
+    /// The part of level 0 on which the inside of each edge lies.
     pub edges: Vec<Origin>,
-    /// The face that each face is a part of, counted from 0.
+    /// The face of level 0 that each face is part of, counted from 0.
     pub faces: Vec<u32>,
 }

@@ -10,29 +10,29 @@ ghost use Rattle.level_origins.specs.View.{seen_origin, seen_origins};
 use crate::origin::{Origin, Origins, number_of};
 use flat_arrays::put_items;
 
-/// How many points and faces have origins. By these numbers a caller makes arrays that are long enough.
+/// The number of points and faces with origins. They give a caller the lengths of the arrays of `OriginPlaces`.
 #[repr(C)]
 #[derive(Clone, Copy, Debug, PartialEq, Eq)]
 pub struct OriginCounts {
-    /// How many points there are.
+    /// The number of points.
     pub points: u32,
-    /// How many faces there are.
+    /// The number of faces.
     pub faces: u32,
 }
 
-/// Arrays of a caller for the origins of a level.
+/// The arrays of a caller for the origins of a level.
 #[repr(C)]
 #[derive(Drop)]
 pub struct OriginPlaces<'a> {
-    /// Of each point 0 where it is a point of level 0, 1 where it lies inside an edge, and 2 where it lies inside a face.
+    /// For each point 0 if it is a point of level 0, 1 if it is inside an edge, and 2 if it is inside a face.
     pub kinds: &'a mut [u8],
-    /// Of each point the number of that point, edge or face of level 0, counted from 0.
+    /// For each point the number of that point, edge or face of level 0, counted from 0.
     pub numbers: &'a mut [u32],
-    /// Of each face the number of the face of level 0 that it is a part of, counted from 0.
+    /// For each face the number of the face of level 0 that it is part of, counted from 0.
     pub faces: &'a mut [u32],
 }
 
-// The kind of a part of level 0.
+// Returns the kind of a part of level 0.
 fn kind_of(origin: Origin) -> u8
     ensures { result ≡ spec.kind_of (seen_origin origin) }
 {
@@ -65,7 +65,7 @@ fn put_numbers(origins: &[Origin], out: &mut [u32])
     }
 }
 
-// Whether each array has a place for each item.
+// Returns whether each array has a place for each item.
 fn are_long_enough(origins: &Origins, places: &OriginPlaces) -> bool
     ensures { result ≡ spec.are_long_enough (seen_origins origins.now) places.now }
 {
@@ -74,7 +74,7 @@ fn are_long_enough(origins: &Origins, places: &OriginPlaces) -> bool
         && origins.faces.len() <= places.faces.len()
 }
 
-/// How many points and faces have origins, of a level of at most 2^30 points and 2^22 faces.
+/// Returns the number of points and faces with origins, of a level with at most 2^30 points and 2^22 faces.
 pub fn counts_of(origins: &Origins) -> OriginCounts
     requires few { AreFew (seen_origins origins.now) }
     ensures { result ≡ spec.counts_of (seen_origins origins.now) }
@@ -85,7 +85,8 @@ pub fn counts_of(origins: &Origins) -> OriginCounts
     }
 }
 
-/// Writes the origins of a level into arrays, from their front, where each is long enough, and returns whether it did.
+/// Writes the origins of a level to the front of the arrays, and returns whether it did. It returns `false` and writes
+/// nothing if some array is too short.
 pub fn put_origins(origins: &Origins, places: &mut OriginPlaces) -> bool
     ensures long_enough { result ≡ spec.are_long_enough (seen_origins origins.now) places.old }
     ensures written { result ≡ true → spec.IsWritten (seen_origins origins.now) places.new }

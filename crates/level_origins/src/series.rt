@@ -19,7 +19,7 @@ use std::alloc::Global;
 use std::sync::ledger::Ledger;
 use uniform_walk::Uniform;
 
-// The origins of a level are carried along.
+// Carries the origins of a level along a walk.
 #[derive(Clone, Copy)]
 struct ByOrigins;
 
@@ -50,7 +50,7 @@ impl<L: Ledger> Carrier<L> for ByOrigins {
     }
 }
 
-// The origins that were carried to a level.
+// Returns the origins at the end of a walk.
 fn origins_at_end(end: Reached<Level, Origins>) -> Origins
     requires { AreOrigins end.level.level (seen_origins end.carried) }
     ensures origins { result ≡ end.carried }
@@ -62,13 +62,13 @@ fn origins_at_end(end: Reached<Level, Origins>) -> Origins
     end.carried
 }
 
-/// Returns the origins of the level at a depth of at most 10. Of level 0 each point is complete, and each edge of one face is infinitely sharp.
+/// Returns the origins of the level at `depth`, at most 10. In level 0 each point is complete, and each edge with one face is
+/// infinitely sharp. The call drops each level once the next one is made. Each face of the levels after level 0 is at most
+/// one step.
 ///
-/// The fault names the first level, counted from 1, that is not reached, and why: `TooManyFaces` where it would have more than 2^22
-/// faces, or `Overflow` with `Chaikin` where halves of edges overflow. `Memory` may come of any level. The level is 0 where memory runs out
-/// before the first step.
-///
-/// The call drops each level once the next one is made. It takes at most one step for each face of the levels after the first.
+/// Reports the fault of the first level that is not reached, counted from 1. `TooManyFaces` means that it would have more
+/// than 2^22 faces. `Overflow` has the kind `Chaikin`: halves of edges overflow. `Memory` comes where memory runs out, with
+/// the number 0 if that is before the first step.
 pub fn find_origins<L: Ledger>(
     alloc: Global,
     base: Level,

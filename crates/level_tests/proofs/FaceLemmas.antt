@@ -1,4 +1,4 @@
--- What a builder of levels asks of the faces that it is told, and what it has after each.
+-- The conditions of a builder of levels on its faces, and its content after each.
 use Rattle.std.proofs.Common.{◌≡◌, ◌≢◌, ℕ, ◌+◌, ◌*◌, ◌<◌, ◌≤◌, ◌^◌, Bool, true, false, not, ◌||◌, ◌&&◌, nat_eq, nat_lt, List, [], ◌∷◌, ◌++◌, length, take, get_or, slice_set, Bor, arith, refl, ap, sym, subst, ◌∙◌}
 use Rattle.std.specs.List.{All, sum_by, list_any, list_all}
 use Rattle.std.proofs.lemmas.Bool.{eqb-true, ltb-true}
@@ -97,13 +97,13 @@ unmarked-vertex built new points polygons v s e is = record {
   marks = ap (λ (b : Built). b.complete) e ∙ is.marks;
 }
 
--- where no point is marked, all that are have one fan
+-- a builder without marked points has one fan at each marked point
 pub unmarked-fans : (built : Built) (points : ℕ) (polygons : List Polygon) → IsUnmarked built points polygons → AreFans built
 unmarked-fans built points polygons is v h mark =
     let none : get_or built.complete v false ≡ false = ap (λ (bs : List Bool). get_or bs v false) is.marks ∙ get_or-replicate points v false false (omega (arith, h, is.count)) in
     let no : false ≡ true = sym none ∙ mark in absurd (cc)
 
--- and still, with a mark where there is one
+-- after a mark at a point with one fan, each marked point has one fan
 pub marked-fans : (built new : Built) (v : ℕ) → AreFans built → has_one_fan built.level.polygons v ≡ true → new ≡ with_complete v built → AreFans new
 marked-fans built new v are fan e u h mark =
     ap (λ (b : Built). has_one_fan b.level.polygons u) e

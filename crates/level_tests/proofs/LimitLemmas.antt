@@ -1,4 +1,5 @@
--- What limit points ask of a level in which each point is complete and each edge has two faces, and the rows of a great table.
+-- The conditions of limit points on a level whose points are complete and whose edges have two faces, and the rows of a great
+-- table.
 use Rattle.std.proofs.Common.{◌≡◌, ℕ, zero, suc, ◌<◌, ◌≤◌, Bool, true, false, IsTrue, not, ◌||◌, nat_eq, List, [], ◌∷◌, length, get_or, replicate, arith, refl, ap, ◌∙◌}
 use Rattle.std.proofs.lemmas.List.{get_or_default}
 use Rattle.std.proofs.lemmas.List.Elements.{All-nil, All-cons}

@@ -13,7 +13,7 @@ use Rattle.level_topology.specs.Child.{PointOrigin, same_origin, same_place, IsO
 use Rattle.level_topology.proofs.ChildLemmas.{same_origin-refl, same_origin-true, same_place-refl, same_place-true}
 use Rattle.level_tests.specs.Squares.{square_rows, quarter_rows, quarter_origins, quarter_places, square, quarter}
 
--- what holds of 0, or of the first four numbers, holds of all below 1, or below 4
+-- a claim about 0 holds for all numbers below 1, and one about the first four numbers for all below 4
 by-one : (P : ℕ → Type 0) → P 0 → (k : ℕ) → k < 1 → P k
 by-one P a zero h = a
 by-one P a (suc k) h = absurd (omega arith)
@@ -172,7 +172,7 @@ pub quarter-is : quarter ≡ topology_of quarter_rows
 unfolding quarter
 quarter-is = refl
 
--- how many parts they have
+-- the number of their parts
 pub square-points : square.level.point_count ≡ 4
 unfolding square
 square-points = refl
@@ -189,7 +189,7 @@ pub quarter-points : quarter.level.point_count ≡ 4
 unfolding quarter
 quarter-points = refl
 
--- equal origins and equal places are told by their tests
+-- the tests of origins and places decide equality
 origin-decides : (a b : PointOrigin) → Decides (same_origin a b) (a ≡ b)
 origin-decides a b = ((same_origin-true a b), (λ e. ap (same_origin a) (sym e) ∙ same_origin-refl a))
 

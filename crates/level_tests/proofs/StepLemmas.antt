@@ -33,7 +33,7 @@ edge-below e h =
     let k : (false || (false || (nat_eq e 0 || (nat_eq e 1 || false)))) ≡ true = h in
     grind (arith, nat_tests)
 
--- it is complete, and all edges are infinitely sharp
+-- the one vertex with a child point is complete, and all edges are infinitely sharp
 whole : (v : ℕ) → has_origin quarter_origins (FromVertex v) ≡ true → get_or square_rows.complete v false ≡ true
 whole v h = subst (λ u. get_or square_rows.complete u false ≡ true) (sym (vertex-is v h)) refl
 
@@ -54,7 +54,7 @@ quarter-can-refine = rw (square-is) record {
 pub refines : (level : Topology) → level ≡ square → CanRefine level quarter_child CatmullClark
 refines level e = subst (λ (t : Topology). CanRefine t quarter_child CatmullClark) (sym e) quarter-can-refine
 
--- both have a point 0, which is complete in the square alone
+-- the square and the quarter have a point 0, which is complete only in the square
 quarter-first : get_or quarter.complete 0 false ≡ false
 unfolding quarter
 quarter-first = refl
@@ -68,7 +68,7 @@ complete-is level (inl e) h = e
 complete-is level (inr e) h =
     let no : false ≡ true = sym (ap (λ (t : Topology). get_or t.complete 0 false) e ∙ quarter-first) ∙ h in absurd (cc)
 
--- what holds of the quarter holds of what the step makes
+-- a claim about the quarter holds for the result of the step
 pub where-made : {E : Type 0} (r : Result ChildTopology E) (Q : ChildTopology → Type 0) → Q quarter_child → IfOk r (λ child. child ≡ quarter_child) → IfOk r Q
 where-made r Q q made = IfOk-weaker r (λ child. child ≡ quarter_child) Q (λ child e. subst Q (sym e) q) made
 

@@ -1,4 +1,4 @@
--- What one step of values asks of a level without a boundary, of its child and of the points.
+-- The conditions of one step of values on a level without a boundary, on its child and on the points.
 use Rattle.std.proofs.Common.{◌≡◌, ℕ, ◌<◌, ◌≤◌, inl, ℤ, unsigned_abs, Bool, true, false, ◌||◌, nat_eq, List, [], ◌∷◌, length, get_or, arith, refl, ap, sym, ◌∙◌, subst}
 use Rattle.std.specs.List.{All, AllByRecursion, list_any}
 use Rattle.std.proofs.lemmas.Bool.Decides.{nat_tests}
@@ -40,7 +40,7 @@ within-any points faces edges o (x ∷ origins) all h = go (same_origin o x) ref
     go true same any rest = subst (IsOriginWithin points faces edges) (sym (same-is o x same)) all.0
     go false same any rest = rest any
 
--- where each edge has two faces each mask of the next level can be had
+-- if each edge has two faces, each mask of the next level exists
 module _ (parent : Topology) (child : ChildTopology) (refined : IsRefined parent child) (has : HasParent child) where
   points-are : has.parent.level.point_count ≡ parent.level.point_count
   points-are = sym (ap (λ (c : ChildTopology). c.parent_points) has.of) ∙ ap (λ (c : ChildTopology). c.parent_points) refined.uniform.of

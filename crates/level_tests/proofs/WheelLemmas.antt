@@ -34,7 +34,7 @@ triangle-new n =
     let back = absent (n + 1, 0) 0 n (λ f h k. grind (arith, nat_tests)) in
     and_from _ _ (ap not out) (and_from _ _ (ap not rim) (and_from _ _ (ap not back) refl))
 
--- and those of the last
+-- the sides of the last triangle are new
 pub last-new : (n : ℕ) → 2 ≤ n → has_new_sides (open_wheel n) (last_triangle n) ≡ true
 last-new n enough =
     let out = absent (0, 1) 0 n (λ f h k. grind (arith, nat_tests)) in
@@ -57,7 +57,7 @@ wheel-simple : (n : ℕ) → 2 ≤ n → list_all is_simple (wheel n) ≡ true
 wheel-simple n enough =
     list_all-append is_simple (open_wheel n) (last_triangle n ∷ []) ∙ and_from _ _ (all-simple 0 n) (and_from _ _ (last-simple n enough) refl)
 
--- so many triangles, and so many corners
+-- the number of triangles, and the number of corners
 pub open-length : (n : ℕ) → length (open_wheel n) ≡ n
 open-length n = length-map-range_with_len triangle 0 n
 
@@ -76,7 +76,7 @@ corners-from a (suc n) =
 pub open-corners : (n : ℕ) → sum_by length (open_wheel n) ≡ 3 * n
 open-corners n = corners-from 0 n
 
--- no side stands twice in the triangles and in what comes after
+-- no side occurs twice in the triangles and the sides after them
 distinct-from : (a n : ℕ) (tail : List (ℕ × ℕ)) → has_distinct_sides tail ≡ true → ((f : ℕ) → a ≤ f → f < a + n → list_all (λ s. not (list_any (same_side s) tail)) (sides_of (triangle f)) ≡ true) → has_distinct_sides (all_sides (map triangle (range_with_len a n)) ++ tail) ≡ true
 distinct-from a zero tail distinct none = distinct
 distinct-from a (suc n) tail distinct none =
@@ -108,7 +108,7 @@ at-last n = ap (λ k. get_or (wheel n) k []) (sym (open-length n)) ∙ get_or-ap
 at-past : (n f : ℕ) → n < f → polygon_at (wheel n) f ≡ []
 at-past n f h = get_or_past (wheel n) f [] (omega (arith, h, open-length n, length-append (open_wheel n) (last_triangle n ∷ [])))
 
--- all have the point 0, and there are no more
+-- all triangles have the point 0, and there are no others
 at-center : (n f : ℕ) → has_corner 0 (polygon_at (wheel n) f) ≡ nat_lt f (n + 1)
 at-center n f = go (nat_lt f n) (nat_eq f n) refl refl
   where
@@ -164,7 +164,7 @@ wheel-fan n = record {
     inside : (f : ℕ) → (nat_le 0 f && nat_lt f (0 + suc n)) ≡ nat_lt f (n + 1)
     inside f = grind (arith, nat_tests)
 
--- where 0 alone is marked
+-- only the point 0 is marked
 marked : (points v : ℕ) → v < points → get_or (slice_set (replicate points false) 0 true) v false ≡ true → v ≡ 0
 marked points zero h e = refl
 marked points (suc v) h e =

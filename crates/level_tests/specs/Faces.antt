@@ -1,4 +1,4 @@
--- The faces that a builder of levels is told, as polygons, and what it has before points are marked.
+-- The faces that a builder of levels gets, as polygons, and its content before points are marked.
 use Rattle.std.specs.Prelude.{ℕ, ◌≡◌, false, List, map, replicate}
 use Rattle.std.specs.Borrow.{Bor}
 use Rattle.subdiv_model.specs.Polygons.{Polygon}
@@ -8,7 +8,7 @@ use Rattle.point_fans.specs.Built.{Built}
 abbrev pub corners_of : List (Bor (List ℕ)) → List Polygon
 corners_of faces = map (λ face. face.now) faces
 
--- these faces over so many points, none of which is marked
+-- the builder has these faces over this many points, none of which is marked
 pub record IsUnmarked (built : Built) (points : ℕ) (polygons : List Polygon) : Type 0 where
   pub faces : built.level.polygons ≡ polygons
   pub count : built.level.point_count ≡ points

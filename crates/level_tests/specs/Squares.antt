@@ -1,11 +1,11 @@
--- The tables of a square and of one of its quarters alone.
+-- The tables of a square and of one of its quarters.
 use Rattle.std.specs.Prelude.{ℕ, ◌≡◌, ◌⊎◌, true, false, List, [], ◌∷◌, replicate}
 use Rattle.subdiv_model.specs.Sharpness.{Smooth, Infinite, Normal}
 use Rattle.level_topology.specs.Topology.{Topology}
 use Rattle.level_topology.specs.Rows.{Rows, topology_of}
 use Rattle.level_topology.specs.Child.{PointOrigin, FromVertex, FromFace, FromEdge, ChildTopology, child_of}
 
--- one face, four edges, and four points that are complete; point 3 is infinitely sharp, and so are the edges
+-- one face, four edges, and four complete points; point 3 is infinitely sharp, and so are the edges
 abbrev pub square_rows : Rows
 square_rows = record {
   counts = record { points = 4; edges = 4; faces = 1; corners = 4; face_places = 4; edge_places = 8 };
@@ -24,7 +24,7 @@ square_rows = record {
   complete = true ∷ true ∷ true ∷ true ∷ [];
 }
 
--- the face of the corner 1 alone, over four points, none of them complete
+-- only the child face of corner 1, over four points, none of them complete
 abbrev pub quarter_rows : Rows
 quarter_rows = record {
   counts = record { points = 4; edges = 4; faces = 1; corners = 4; face_places = 4; edge_places = 8 };
@@ -50,7 +50,7 @@ quarter_origins = FromVertex 1 ∷ FromFace 0 ∷ FromEdge 0 ∷ FromEdge 1 ∷ 
 abbrev pub quarter_places : List (ℕ × ℕ)
 quarter_places = (0, 1) ∷ []
 
--- the levels of these tables, which proofs unfold where they say so
+-- the levels of these tables; proofs unfold them where they say so
 unfoldable pub square : Topology
 square = topology_of square_rows
 
@@ -65,7 +65,7 @@ quarter_child = child_of square quarter quarter_origins quarter_places
 abbrev pub IsSquareOrQuarter : Topology → Type 0
 IsSquareOrQuarter level = (level ≡ square) ⊎ (level ≡ quarter)
 
--- how many parts the child that this quarter is has, and how many the square
+-- the number of parts of a child that is this quarter, and of the square
 pub record IsQuarter (child : ChildTopology) : Type 0 where
   pub vertices : child.parent_points ≡ 4
   pub faces : child.parent_sizes ≡ 4 ∷ []

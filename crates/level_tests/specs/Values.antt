@@ -1,4 +1,4 @@
--- Points whose numbers keep their bounds.
+-- Points whose numbers are within their bounds.
 use Rattle.std.specs.Prelude.{◌≡◌, ◌<◌, ◌≤◌, unsigned_abs}
 use Rattle.ratio128.specs.declared.point.Point3.{Point3}
 use Rattle.ratio128.specs.declared.valued.Valued.{Valued}
@@ -11,7 +11,7 @@ pub record IsGoodPoint (p : Valued Point3) : Type 0 where
   pub y : unsigned_abs p.value.y ≤ number_bound
   pub z : unsigned_abs p.value.z ≤ number_bound
 
--- points over 1, whose numbers are at most 8
+-- a point over the denominator 1, whose numbers are at most 8
 pub record IsNearPoint (p : Valued Point3) : Type 0 where
   pub one : p.den ≡ 1
   pub x : unsigned_abs p.value.x ≤ 8

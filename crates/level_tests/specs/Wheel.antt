@@ -1,4 +1,4 @@
--- A wheel: triangles about the point 0 that close to a ring, over a rim of points from 1 on.
+-- A wheel: triangles about the point 0 that close into a ring, over a rim of points from 1 on.
 use Rattle.std.specs.Prelude.{ℕ, ◌+◌, List, [], ◌∷◌, ◌++◌, map}
 use Rattle.std.specs.List.{range_with_len}
 use Rattle.subdiv_model.specs.Polygons.{Polygon}
@@ -7,7 +7,7 @@ use Rattle.subdiv_model.specs.Polygons.{Polygon}
 abbrev pub triangle : ℕ → Polygon
 triangle f = 0 ∷ (f + 2) ∷ (f + 1) ∷ []
 
--- so many of them, one after another
+-- this many triangles, one after another
 abbrev pub open_wheel : ℕ → List Polygon
 open_wheel n = map triangle (range_with_len 0 n)
 

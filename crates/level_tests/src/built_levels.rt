@@ -1,4 +1,4 @@
-// Levels by a builder, against tables.
+// Levels from a builder, compared with tables.
 
 use crate::meshes::{Mesh, with_level};
 use crate::shown::expect_shown;
@@ -59,8 +59,8 @@ point ([1, 4, 3], [2, 3, 2], [5, 6, 10], [1, 0, 1], (0, 1), true)
 point ([1, 5, 4], [3, 3, 2], [6, 7, 11], [1, 0, 1], (0, 1), true)
 ";
 
-// Four quads over three by three points, a hole among them, and a point without faces. Two edges and two points are
-// named twice.
+// Four quads over three by three points. One is a hole, and one point has no faces. Two edges and two points get a sharpness
+// twice.
 const GRID: Mesh<'static> = Mesh {
     solid: &Solid {
         points: 10,
@@ -203,7 +203,7 @@ point ([0], [2], [1, 2], [1, 0], (0, 1), true)
 point ([0], [3], [2, 3], [1, 0], (10, 1), true)
 ";
 
-// Meshes, and what their levels say.
+// Meshes, and the texts of their levels.
 const BUILT: &[(Mesh<'static>, &str)] = &[
     (CUBE, CUBE_LINES),
     (GRID, GRID_LINES),

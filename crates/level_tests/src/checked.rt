@@ -1,4 +1,4 @@
-// What a builder of levels is told: only what it may be told of, since each thing is tested first.
+// A builder that gets a mesh. Each condition of its calls is tested first.
 
 ghost use Rattle.std.specs.Prelude.{◌≡◌, ◌≤◌, ◌<◌, ℕ, nat_lt, List, [], IsTrue, length, OnOk};
 ghost use Rattle.std.specs.List.{All, list_all};
@@ -17,7 +17,7 @@ use std::alloc::Global;
 use std::process::Abort;
 use std::sync::ledger::Ledger;
 
-// Whether each of the corners is one of so many points.
+// Returns whether each of the corners is one of this many points.
 fn are_below(corners: &[u32], points: u32) -> bool
     ensures { result ≡ list_all (λ v. nat_lt v points) corners.now }
 {
@@ -65,7 +65,7 @@ fn add_faces<L: Ledger>(
     Ok(())
 }
 
-// Sets the sharpness of edges of the faces that were added.
+// Sets the sharpness of edges of the added faces.
 fn add_sharp_edges(
     rt: &impl Abort,
     builder: &mut LevelBuilder,
@@ -97,7 +97,7 @@ fn add_sharp_vertices(
     }
 }
 
-// Tells a new builder all of a mesh.
+// Gives a new builder all of a mesh.
 pub fn fill<L: Ledger>(
     rt: &impl Abort,
     alloc: Global,

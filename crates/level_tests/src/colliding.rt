@@ -10,8 +10,8 @@ use sharpness_rules::Method;
 use std::alloc::Global;
 use std::process::Abort;
 
-// Ends of edges whose hashes after the key 0 are the same in their lowest nine bits, so that the search for each begins
-// at one place while the map has at most 512 of them.
+// Ends of edges whose hashes under the key 0 agree in their lowest nine bits. The search for each begins at one place while
+// the map has at most 512 of them.
 const PAIRS: &[(u32, u32)] = &[
     (1, 474),
     (5, 497),
@@ -219,7 +219,7 @@ fn pairs() -> &'static [(u32, u32)] {
     PAIRS
 }
 
-// A triangle at each of the edges, with a point of its own.
+// Returns a triangle at each of the edges, with a point of its own.
 fn triangles(alloc: Global) -> Result<Vec<[u32; 3]>, Memory> {
     let mut triangles = Vec::new(alloc);
     let mut last: u32 = 1000;
@@ -240,7 +240,7 @@ fn faces_of(alloc: Global, triangles: &[[u32; 3]]) -> Result<Vec<&[u32]>, Memory
 
 const KEY: u128 = 0x1234_5678_9abc_def0_0fed_cba9_8765_4321;
 
-// The level says the same under another key.
+// The level is the same under another key.
 fn expect_under_a_key(
     rt: &impl Abort,
     alloc: Global,

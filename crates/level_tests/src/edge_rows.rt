@@ -4,7 +4,7 @@ use crate::solids::{
     CUBE, DISC, GRID, HALF, INFINITE, Mesh, ONE, PAIR, RIM, Solid, THREE_HALVES, TOP, ZERO,
 };
 
-// A mesh with the mask of one of its edges: the weights of its ends, and of new face points.
+// A mesh with the mask of one of its edges: the weights of points and of new face points.
 pub struct EdgeRow {
     pub mesh: Mesh,
     pub edge: u32,
@@ -13,7 +13,7 @@ pub struct EdgeRow {
     pub denominator: u128,
 }
 
-// A solid, one of its faces, and how many corners it has.
+// A solid, one of its faces, and the number of its corners.
 pub type FaceRow = (&'static Solid<'static>, u32, u32);
 
 // An edge of the cube by its sharpness, one of two triangles, and one inside and one at the rim.

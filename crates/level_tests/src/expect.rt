@@ -1,9 +1,9 @@
-// What each row of a table is compared by.
+// The comparison for each row of a table.
 
 use std::fmt;
 use std::process::Abort;
 
-// What was given is what is wanted, at this row.
+// Asserts that the given value is the wanted one, at this row.
 pub fn expect_same<T: PartialEq + fmt::Debug>(
     rt: &impl Abort,
     given: &T,

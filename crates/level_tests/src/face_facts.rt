@@ -1,4 +1,4 @@
-// The facts of faces, on small meshes.
+// The facts of faces, for small meshes.
 
 use crate::expect::expect_same;
 use crate::meshes::{Mesh, with_level};
@@ -11,8 +11,8 @@ use sharpness_rules::Method;
 use std::alloc::Global;
 use std::process::Abort;
 
-// How many corners a face has, whether it is a hole, how many of its corners are not regular, and how many of its edges
-// have two faces and are sharp.
+// The number of corners of a face, whether it is a hole, the number of its corners that are not regular, and the number of
+// its sharp edges with two faces.
 type Facts = (u32, bool, u32, u32);
 
 // A solid with its sharp edges, its sharp points and its holes, and the facts of its faces.
@@ -38,7 +38,7 @@ const STRIP_CORNERS: &[(u32, Fraction)] = &[
     (5, INFINITE),
 ];
 
-// Those of the grid.
+// The points of one face of the grid.
 const GRID_CORNERS: &[(u32, Fraction)] = &[
     (0, INFINITE),
     (2, INFINITE),
@@ -46,7 +46,7 @@ const GRID_CORNERS: &[(u32, Fraction)] = &[
     (8, INFINITE),
 ];
 
-// The last of them is sharp for some levels alone, and so is a point of two faces.
+// The last of these points is sharp for some levels only, and so is a point of two faces.
 const GRID_FALLING: &[(u32, Fraction)] = &[
     (0, INFINITE),
     (2, INFINITE),
@@ -91,7 +91,7 @@ const ROWS: &[Row] = &[
     // sharp edges of the boundary do not count
     (GRID, RIM, &[], &[], &[(4, false, 1, 0); 4]),
     (GRID, RIM, GRID_CORNERS, &[], &[(4, false, 0, 0); 4]),
-    // neither is a point of one face regular that is sharp for some levels, nor one of two faces that is sharp
+    // a point with one face that is sharp for some levels is not regular, nor is a sharp point with two faces
     (
         GRID,
         RIM,
@@ -123,7 +123,7 @@ fn rows() -> &'static [Row] {
     ROWS
 }
 
-// Each face has the facts of the row, under the numbers that are given.
+// Each face has the facts of the row.
 fn expect_facts(rt: &impl Abort, level: &Level, want: &[Facts]) {
     expect_same(rt, &(level.faces() as usize), &want.len(), &"faces");
     for f in 0..level.faces() {
@@ -140,7 +140,7 @@ fn expect_facts(rt: &impl Abort, level: &Level, want: &[Facts]) {
     }
 }
 
-// Builds the level of a row, whose points from a number on are complete, and compares.
+// Builds the level of a row, whose points from a number on are complete, and compares its facts.
 fn expect_row(rt: &impl Abort, alloc: Global, row: &Row, complete_from: u32) -> Result<(), Memory> {
     let (solid, edges, vertices, holes, want) = *row;
     let mesh = Mesh {

@@ -1,4 +1,4 @@
-// What a face and a point must pass before a builder of levels may be told of them, by plain search.
+// The conditions on a face and a point for a builder of levels, tested by plain search.
 
 ghost use Rattle.std.specs.Prelude.{◌≡◌, ◌≤◌, ◌&&◌, ◌||◌, not, IfOk, OnOk, Some, ◌∷◌, ◌++◌, [], length, nat_eq, if◌then◌else◌};
 ghost use Rattle.std.specs.List.{find, list_all, list_any};
@@ -10,7 +10,7 @@ ghost use Rattle.level_tests.specs.Faces.{corners_of};
 use ratio128::Memory;
 use std::alloc::Global;
 
-// Whether no number stands twice.
+// Returns whether no number occurs twice.
 fn is_distinct(numbers: &[u32]) -> bool
     ensures { result ≡ is_distinct numbers.now }
 {
@@ -24,14 +24,14 @@ fn is_distinct(numbers: &[u32]) -> bool
     true
 }
 
-// Whether a face has at least three corners, all distinct.
+// Returns whether a face has at least three corners, all distinct.
 pub fn is_simple(polygon: &[u32]) -> bool
     ensures { result ≡ is_simple polygon.now }
 {
     polygon.len() >= 3 && is_distinct(polygon)
 }
 
-// The face with this number, and no corner where there is none.
+// Returns the face with this number, or no corners if there is none.
 fn polygon_at<'a>(polygons: &[&'a [u32]], face: u32) -> &'a [u32]
     ensures { result.now ≡ polygon_at (corners_of polygons.now) face }
 {
@@ -41,7 +41,7 @@ fn polygon_at<'a>(polygons: &[&'a [u32]], face: u32) -> &'a [u32]
     }
 }
 
-// Whether the face has the directed edge.
+// Returns whether the face has the directed edge.
 fn has_side(side: (u32, u32), polygon: &[u32]) -> bool
     ensures { result ≡ has_side side polygon.now }
 {
@@ -59,7 +59,7 @@ fn has_side(side: (u32, u32), polygon: &[u32]) -> bool
     false
 }
 
-// Whether one of the faces has the directed edge.
+// Returns whether one of the faces has the directed edge.
 fn is_side_of_some(side: (u32, u32), faces: &[&[u32]]) -> bool
     ensures { result ≡ list_any (has_side side) (corners_of faces.now) }
 {
@@ -73,7 +73,7 @@ fn is_side_of_some(side: (u32, u32), faces: &[&[u32]]) -> bool
     false
 }
 
-// Whether none of the faces has a side of the polygon.
+// Returns whether none of the faces has a side of the polygon.
 pub fn has_new_sides(faces: &[&[u32]], polygon: &[u32]) -> bool
     ensures { result ≡ list_all (λ side. not (list_any (has_side side) (corners_of faces.now))) (sides_of polygon.now) }
 {
@@ -91,14 +91,14 @@ pub fn has_new_sides(faces: &[&[u32]], polygon: &[u32]) -> bool
     true
 }
 
-// Whether one of the faces has the edge, in either direction.
+// Returns whether one of the faces has the edge, in either direction.
 pub fn has_edge(faces: &[&[u32]], a: u32, b: u32) -> bool
     ensures { result ≡ (list_any (has_side (a, b)) (corners_of faces.now) || list_any (has_side (b, a)) (corners_of faces.now)) }
 {
     is_side_of_some((a, b), faces) || is_side_of_some((b, a), faces)
 }
 
-// Whether a corner follows v in the face from which the other leads back to v.
+// Returns whether a corner follows v in the face from which the other leads back to v.
 fn leads_to(v: u32, polygon: &[u32], other: &[u32]) -> bool
     ensures { result ≡ list_any (λ side. nat_eq v side.0 && has_side (side.1, v) other.now) (sides_of polygon.now) }
 {
@@ -116,14 +116,14 @@ fn leads_to(v: u32, polygon: &[u32], other: &[u32]) -> bool
     false
 }
 
-// Whether the next face is the successor of the face about v.
+// Returns whether the next face is the successor of the face about v.
 fn is_successor(polygons: &[&[u32]], v: u32, face: u32, next: u32) -> bool
     ensures { result ≡ is_successor (corners_of polygons.now) v face next }
 {
     leads_to(v, polygon_at(polygons, face), polygon_at(polygons, next))
 }
 
-// The first of the faces that is the successor of the face about v.
+// Returns the first of the faces that is the successor of the face about v.
 fn find_successor(polygons: &[&[u32]], v: u32, face: u32, faces: &[u32]) -> Option<u32>
     ensures { result ≡ find (is_successor (corners_of polygons.now) v face) faces.now }
 {
@@ -137,14 +137,14 @@ fn find_successor(polygons: &[&[u32]], v: u32, face: u32, faces: &[u32]) -> Opti
     None
 }
 
-// Takes a number out.
+// Removes a number.
 fn take_out(numbers: &mut Vec<u32>, n: u32)
     ensures { numbers.new.items ≡ without n numbers.old.items }
 {
     numbers.retain(|m| n != *m);
 }
 
-// What is left of the faces after a walk about v from one of them.
+// Returns the faces that a walk about v from one of them does not meet.
 fn faces_left(
     alloc: Global,
     polygons: &[&[u32]],
@@ -168,7 +168,7 @@ fn faces_left(
     Ok(left)
 }
 
-// Whether the walk about v from one of the faces leaves none.
+// Returns whether the walk about v from one of the faces meets all.
 fn some_walk_meets_all(
     alloc: Global,
     polygons: &[&[u32]],
@@ -185,7 +185,7 @@ fn some_walk_meets_all(
     Ok(false)
 }
 
-// Puts the number after the others, where it is wanted.
+// Adds the number to the list, if it is wanted.
 fn push_where(numbers: &mut Vec<u32>, is_wanted: bool, number: u32) -> Result<(), Memory>
     ensures { OnOk result (numbers.new.items ≡ (if is_wanted then numbers.old.items ++ number ∷ [] else numbers.old.items)) }
 {
@@ -195,14 +195,14 @@ fn push_where(numbers: &mut Vec<u32>, is_wanted: bool, number: u32) -> Result<()
     Ok(())
 }
 
-// Whether the face has a corner at the point.
+// Returns whether the face has a corner at the point.
 fn has_corner(v: u32, polygon: &[u32]) -> bool
     ensures { result ≡ has_corner v polygon.now }
 {
     polygon.contains(&v)
 }
 
-// The numbers of the faces that have a corner at the point, ascending.
+// Returns the numbers of the faces that have a corner at the point, ascending.
 fn faces_of_point(alloc: Global, polygons: &[&[u32]], v: u32) -> Result<Vec<u32>, Memory>
     requires { length polygons.now ≤ 1024 }
     ensures { IfOk result (λ faces. faces.items ≡ faces_of_point (corners_of polygons.now) v) }
@@ -214,7 +214,7 @@ fn faces_of_point(alloc: Global, polygons: &[&[u32]], v: u32) -> Result<Vec<u32>
     Ok(faces)
 }
 
-// Whether there is no face at v, or the walk from one of them meets all.
+// Returns whether there is no face at v, or the walk from one of them meets all.
 pub fn has_one_fan(alloc: Global, polygons: &[&[u32]], v: u32) -> Result<bool, Memory>
     requires { length polygons.now ≤ 1024 }
     ensures { IfOk result (λ b. b ≡ has_one_fan (corners_of polygons.now) v) }

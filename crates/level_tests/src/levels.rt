@@ -1,4 +1,4 @@
-// The square, and one of its quarters alone, put together by hand.
+// The square, and one of its quarters, made by hand.
 
 ghost use Rattle.std.specs.Prelude.{◌≡◌, ◌+◌, ◌<◌, ◌≤◌, [], ◌∷◌, length, IfOk};
 ghost use Rattle.std.specs.List.{sum_by};
@@ -22,13 +22,13 @@ const INNER: Sharpness = Sharpness::Smooth;
 
 const OUTER: Sharpness = Sharpness::Infinite;
 
-// The one face alone.
+// The faces of an edge of the only face.
 const ALONE: EdgeFaces = EdgeFaces {
     first: 0,
     second: None,
 };
 
-// Puts a point of the one face: its corner there, and its two edges with its end of each.
+// Adds a point of the only face: its corner there, and its two edges with its end of each.
 fn put_point(
     rows: &mut LevelRows,
     corner: u16,
@@ -93,7 +93,7 @@ fn make_quarter<L: Ledger>(alloc: Global, steps: &mut Steps<L>) -> Result<Level,
     Ok(rows.finish())
 }
 
-// One quarter as a child of the square.
+// Returns one quarter as a child of the square.
 pub fn join_to<L: Ledger>(
     alloc: Global,
     parent: &Level,
@@ -119,8 +119,8 @@ pub fn join_to<L: Ledger>(
     Ok(child)
 }
 
-// Of each point of the quarter its origin; and of the number itself the points that come from the vertex and the edge of
-// the square, and the face of its corner.
+// For each point of the quarter its origin; for its number in the quarter the points that come from the vertex and the edge
+// of the square with that number, and the face of that corner.
 type Part = (Origin, Option<u32>, Option<u32>, Option<u32>);
 
 const PARTS: &[Part] = &[

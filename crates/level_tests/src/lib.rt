@@ -1,5 +1,7 @@
-//! Tests of levels, of the facts of faces and the rules that select them, of sharpness, of masks, of uniform refinement, of one
-//! step of values, of limit points, of patches, and of a walk over a part of a level, on meshes from tables.
+//! Tests levels and the calls that compute on them, on meshes from tables.
+//!
+//! They cover facts of faces, rules of selection, sharpness, masks, uniform refinement, values, limit points and patches. A
+//! walk over part of a level is tested too.
 #![tactic(auto)]
 
 #[cfg(test)]

@@ -1,4 +1,4 @@
-// The limit points of a cube, and why there are none.
+// The limit points of a cube, and the reasons for having none.
 
 ghost use Rattle.std.specs.Prelude.{◌≡◌, ◌<◌, ◌≤◌};
 ghost use Rattle.subdiv_model.specs.Channel.{number_bound};
@@ -18,7 +18,7 @@ use std::process::Abort;
 use stencil_apply::{Entry, StencilTable, TableBuilder};
 use stencil_factory::identity;
 
-// A solid with its sharp edges and points, and why it has no limit points.
+// A solid with its sharp edges and points, and the reason why it has no limit points.
 type Case = (
     &'static Solid<'static>,
     &'static [SharpEdge],
@@ -37,7 +37,7 @@ fn cases() -> &'static [Case] {
     CASES
 }
 
-// The limit points, after what the call asks is tested.
+// Returns the limit points, after tests of the conditions of the call.
 fn limits_of(
     rt: &impl Abort,
     alloc: Global,
@@ -51,7 +51,7 @@ fn limits_of(
     limit_table(alloc, level, table)
 }
 
-// The limit points of control points.
+// Returns the limit points of control points.
 fn limits_of_points(
     rt: &impl Abort,
     alloc: Global,
@@ -62,7 +62,7 @@ fn limits_of_points(
     limits_of(rt, alloc, level, &table)
 }
 
-// 2^125 for point 5, and 1 for each other.
+// Returns 2^125 for point 5, and 1 for each other.
 fn denominator_of(v: u32) -> u128
     ensures positive { 0 < result }
     ensures short { result ≤ number_bound }
@@ -70,7 +70,7 @@ fn denominator_of(v: u32) -> u128
     if v == 5 { 1 << 125 } else { 1 }
 }
 
-// Adds a row for each of so many points, which is the one control point.
+// Adds this many rows, each of the one control point.
 fn add_rows(builder: &mut TableBuilder, points: u32) -> Result<(), Memory>
     requires alone { builder.old.table ≡ no_rows 1 }
     requires few { points ≤ 100 }
@@ -86,7 +86,7 @@ fn add_rows(builder: &mut TableBuilder, points: u32) -> Result<(), Memory>
     Ok(())
 }
 
-// A table over one control point, with a row for each of so many points.
+// Returns a table over one control point, with this many rows.
 fn great_table(alloc: Global, points: u32) -> Result<StencilTable, Memory>
     requires { points ≤ 100 }
 {
@@ -111,7 +111,7 @@ fn told(
     }
 }
 
-// Asserts that there are no limit points, and why.
+// Asserts that there are no limit points, for this reason.
 fn expect_fault(rt: &impl Abort, limits: Result<StencilTable, LimitFault>, want: LimitFault) {
     expect_same(rt, &limits.err(), &Some(want), &"fault");
 }
@@ -132,7 +132,8 @@ fn refuses_levels_without_limit_points(rt: HostRuntime) -> Result<(), LimitFault
     Ok(())
 }
 
-// At point 3 the point itself weighs 9, the ends 1, 2 and 5 weigh 4 and the opposite corners 0, 4 and 7 weigh 1, over 24.
+// At point 3 the point itself has the weight 9, the ends 1, 2 and 5 have 4 and the opposite corners 0, 4 and 7 have 1, over
+// 24.
 fn expect_row(rt: &impl Abort, limits: &StencilTable) {
     assert!(rt; limits.rows() == 8);
     expect_same(rt, &limits.denominator(3), &24, &3);
@@ -164,14 +165,14 @@ fn finds_the_limit_points_of_a_cube(rt: HostRuntime) -> Result<(), LimitFault> {
     expect_cube(&rt, rt.alloc())
 }
 
-// The limit points from the great table.
+// Returns the limit points from the great table.
 fn great_limits(rt: &impl Abort, alloc: Global, level: &Level) -> Result<StencilTable, LimitFault> {
     assert!(rt; level.points() <= 100);
     let table = great_table(alloc, level.points())?;
     limits_of(rt, alloc, level, &table)
 }
 
-// Point 0 alone is without point 5, which stands opposite to it in the cube.
+// Only the row of point 0 lacks point 5, its opposite in the cube.
 fn expect_great(rt: &impl Abort, alloc: Global) -> Result<(), LimitFault> {
     with_level(rt, alloc, &told(CUBE, &[], &[]), |level| {
         expect_fault(

@@ -1,4 +1,4 @@
-// Masks at closed meshes and at an open grid, row by row.
+// Masks of closed meshes and of an open grid, row by row.
 
 ghost use Rattle.std.specs.Prelude.{◌≡◌, ◌<◌, true, false, IsTrue, length, get_or};
 ghost use Rattle.subdiv_model.specs.Edges.{edges_of, faces_of_edge, has_end, is_boundary};
@@ -17,7 +17,7 @@ use sharpness_rules::{Method, Sharpness};
 use std::alloc::Global;
 use std::process::Abort;
 
-// Whether an edge has two faces.
+// Returns whether an edge has two faces.
 pub fn has_two_faces(level: &Level, e: u32) -> bool
     requires { e < length (edges_of level.now.level.polygons) }
     ensures { result ≡ true → length (faces_of_edge level.now.level.polygons (edge_at level.now.level.polygons e)) ≡ 2 }
@@ -28,7 +28,7 @@ pub fn has_two_faces(level: &Level, e: u32) -> bool
     }
 }
 
-// Whether an edge is infinitely sharp.
+// Returns whether an edge is infinitely sharp.
 fn is_infinite(level: &Level, e: u32) -> bool
     requires { e < length (edges_of level.now.level.polygons) }
     ensures { result ≡ true → get_or level.now.level.edge_sharpness e Smooth ≡ Infinite }
@@ -39,7 +39,7 @@ fn is_infinite(level: &Level, e: u32) -> bool
     }
 }
 
-// Whether an edge has two faces or is infinitely sharp.
+// Returns whether an edge has two faces or is infinitely sharp.
 fn is_inner_or_sharp(level: &Level, e: u32) -> bool
     requires { e < length (edges_of level.now.level.polygons) }
     ensures { result ≡ true → IsTrue (is_boundary level.now.level.polygons (edge_at level.now.level.polygons e))
@@ -48,7 +48,7 @@ fn is_inner_or_sharp(level: &Level, e: u32) -> bool
     is_infinite(level, e) || has_two_faces(level, e)
 }
 
-// Whether an edge ends at a point.
+// Returns whether an edge ends at a point.
 fn has_end(level: &Level, v: u32, e: u32) -> bool
     requires { e < length (edges_of level.now.level.polygons) }
     ensures { result ≡ has_end v (edge_at level.now.level.polygons e) }
@@ -57,7 +57,7 @@ fn has_end(level: &Level, v: u32, e: u32) -> bool
     v == first || v == second
 }
 
-// Asserts that each edge of one face at a point is infinitely sharp.
+// Asserts that each edge with one face at a point is infinitely sharp.
 fn assert_sharp_boundary(rt: &impl Abort, level: &Level, v: u32)
     ensures { HasSharpBoundaryAt level.now.level v }
 {
@@ -67,7 +67,7 @@ fn assert_sharp_boundary(rt: &impl Abort, level: &Level, v: u32)
     }
 }
 
-// Whether the halves of edges go down by the uniform rule.
+// Returns whether the sharpness of edges falls by the uniform rule.
 fn is_uniform(level: &Level) -> bool
     ensures { result ≡ true → is_chaikin level.now.level.method ≡ false }
 {
@@ -77,7 +77,7 @@ fn is_uniform(level: &Level) -> bool
     }
 }
 
-// The mask of a vertex, after what it asks is tested.
+// Returns the mask of a vertex, after tests of the conditions of `vertex_mask`.
 pub fn mask_of_vertex(
     rt: &impl Abort,
     alloc: Global,
@@ -92,7 +92,7 @@ pub fn mask_of_vertex(
     vertex_mask(alloc, level, v, scheme)
 }
 
-// The mask of an edge, after what it asks is tested.
+// Returns the mask of an edge, after tests of the conditions of `put_edge`.
 fn mask_of_edge(rt: &impl Abort, level: &Level, e: u32, scheme: Scheme) -> MadeMask {
     assert!(rt; e < level.edges());
     assert!(rt; has_two_faces(level, e) || is_infinite(level, e));
@@ -110,7 +110,7 @@ fn has_term(terms: &[Term], at: At, weight: u128) -> bool {
     false
 }
 
-// These terms in any order and no other; each has a place of its own.
+// The mask has these terms in any order and no others; each source occurs once.
 fn expect_terms(rt: &impl Abort, terms: &[Term], points: &[(u32, u128)], faces: &[(u32, u128)]) {
     expect_same(rt, &terms.len(), &(points.len() + faces.len()), &points);
     for (v, weight) in points {
@@ -121,7 +121,7 @@ fn expect_terms(rt: &impl Abort, terms: &[Term], points: &[(u32, u128)], faces: 
     }
 }
 
-// The linear scheme leaves a vertex where it is.
+// The linear scheme keeps the place of a vertex.
 fn expect_alone(rt: &impl Abort, alloc: Global, level: &Level, v: u32) -> Result<(), MaskFault> {
     let mask = mask_of_vertex(rt, alloc, level, v, Scheme::Linear)?;
     expect_terms(rt, mask.terms(), &[(v, 1)], &[]);
@@ -141,7 +141,7 @@ fn expect_masks(
     expect_alone(rt, alloc, level, row.mesh.2)
 }
 
-// Only the scheme of Catmull and Clark refuses.
+// Only Catmull and Clark's scheme refuses a mask.
 fn expect_refusal(
     rt: &impl Abort,
     alloc: Global,
@@ -153,7 +153,7 @@ fn expect_refusal(
     expect_alone(rt, alloc, level, mesh.2)
 }
 
-// The linear scheme takes the middle of the two points.
+// The linear scheme uses the middle of the two points.
 fn expect_middle(rt: &impl Abort, level: &Level, e: u32, points: &[(u32, u128)]) {
     let mask = mask_of_edge(rt, level, e, Scheme::Linear);
     expect_same(rt, &mask.terms().len(), &2, &points);
@@ -175,7 +175,7 @@ fn expect_size(rt: &impl Abort, level: &Level, f: u32, size: u32) {
     expect_same(rt, &face_mask(level, f).size(), &size, &size);
 }
 
-// What is expected of the level of a mesh.
+// The expected result for the level of a mesh.
 #[derive(Clone, Copy)]
 enum Case {
     Vertex(&'static VertexRow),

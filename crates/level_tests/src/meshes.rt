@@ -1,4 +1,4 @@
-// Meshes of tables, and their levels by a builder.
+// Meshes from tables, and their levels from a builder.
 
 ghost use Rattle.std.specs.Prelude.{◌≡◌, ◌<◌, [], IfOk, OnOk};
 ghost use Rattle.point_fans.specs.Built.{AreFans};
@@ -15,7 +15,7 @@ use std::marker::Brand;
 use std::process::Abort;
 use std::sync::ledger::{Blank, Ledger};
 
-// What a builder is told: the points from a number on are complete, and edges are numbered under a key where there is one.
+// The mesh that a builder gets. The points from a number on are complete. If there is a key, edges are numbered under it.
 #[derive(Clone, Copy)]
 pub struct Mesh<'a> {
     pub solid: &'a Solid<'a>,
@@ -41,7 +41,7 @@ pub fn fraction_of(s: Sharpness) -> Fraction {
     }
 }
 
-// A builder of the points alone.
+// Returns a builder that has only the points.
 fn start(rt: &impl Abort, alloc: Global, mesh: &Mesh) -> Result<LevelBuilder, Memory>
     ensures { IfOk result (λ builder. IsUnmarked builder mesh.now.solid.now.points []) }
 {
@@ -53,7 +53,7 @@ fn start(rt: &impl Abort, alloc: Global, mesh: &Mesh) -> Result<LevelBuilder, Me
     }
 }
 
-// The level of a builder, unless its filling failed.
+// Returns the level of a builder, or the error of its filling.
 pub fn finish(builder: LevelBuilder, filled: Result<(), Memory>) -> Result<Level, Memory>
     requires { OnOk filled (AreFans builder) }
 {
@@ -86,7 +86,7 @@ fn build_alone(rt: &impl Abort, alloc: Global, mesh: &Mesh) -> Result<Level, Mem
     build::<Brand>(rt, alloc, mesh, Blank::new(1))
 }
 
-// Lends the level of a mesh to a test.
+// Passes the level of a mesh to a test.
 pub fn with_level<E: From<Memory>, F: FnOnce(&Level) -> Result<(), E>>(
     rt: &impl Abort,
     alloc: Global,

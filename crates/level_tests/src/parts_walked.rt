@@ -1,4 +1,4 @@
-// A step that makes one quarter of the square alone, walked with values and with a table.
+// A step that makes only one quarter of the square, walked with values and with a table.
 
 ghost use Rattle.std.specs.Prelude.{◌≡◌, ◌<◌, [], ◌∷◌, true, length, IfOk};
 ghost use Rattle.std.specs.List.{All};
@@ -22,7 +22,7 @@ use std::sync::ledger::{Blank, Ledger};
 use stencil_apply::{Entry, StencilTable};
 use stencil_factory::identity;
 
-// The quarter of the square.
+// Returns the quarter of the square.
 fn quarter_of<L: Ledger>(alloc: Global, level: &Level, steps: &mut Steps<L>) -> Result<Child, Cause>
     requires { level.now ≡ square }
     ensures { IfOk result (λ child. child ≡ quarter_child) }
@@ -33,10 +33,10 @@ fn quarter_of<L: Ledger>(alloc: Global, level: &Level, steps: &mut Steps<L>) -> 
     }
 }
 
-// The cause that the quarter has no next level. No other level here has it.
+// The cause for the missing next level of the quarter. No other level here reports it.
 const NO_QUARTER: Cause = Cause::TooManyFaces { count: 0 };
 
-// The next level of the square is one of its quarters, and that has none.
+// The step from the square to one of its quarters. The quarter has no next level.
 #[derive(Clone, Copy)]
 struct Quarter;
 
@@ -85,20 +85,20 @@ impl<L: Ledger> NextLevel<L> for Quarter {
     }
 }
 
-// The quarter has no next level, which is level 2.
+// The fault of level 2, since the quarter has no next level.
 const AFTER_QUARTER: WalkFault = WalkFault {
     level: 2,
     cause: NO_QUARTER,
 };
 
-// Over each denominator the numerators of a point.
+// Points: over each denominator the numerators.
 macro_rules! point {
     ($den:literal, $x:literal, $y:literal, $z:literal) => {
         Valued { value: Point3 { x: $x, y: $y, z: $z }, den: $den }
     };
 }
 
-// The points of the square, and the greatest of their numbers.
+// The points of the square, with numbers up to 8.
 const SQUARE_POINTS: &[Valued<Point3>] = &[
     point!(1, 0, 0, 0),
     point!(1, 8, 0, 4),
@@ -112,7 +112,7 @@ fn square_points() -> &'static [Valued<Point3>] {
 
 const MOST: u128 = 8;
 
-// The points of the quarter: of the vertex 1, which is on a crease, of the face, and of the edges before and after the vertex,
+// The points of the quarter: of vertex 1, which is on a crease, of the face, and of the edges before and after the vertex,
 // which are on the boundary.
 const QUARTER_POINTS: &[Valued<Point3>] = &[
     point!(8, 56, 8, 24),
@@ -121,7 +121,7 @@ const QUARTER_POINTS: &[Valued<Point3>] = &[
     point!(2, 16, 8, 4),
 ];
 
-// A depth, and the values there or where the walk stops.
+// A depth, and the values there or the fault of the walk.
 type ValueCase = (u32, Result<&'static [Valued<Point3>], WalkFault>);
 
 const VALUES: &[ValueCase] = &[
@@ -158,7 +158,7 @@ const QUARTER_ROWS: &[Row] = &[
     (2, entries![1 1, 2 1]),
 ];
 
-// A depth, and the rows there or where the walk stops.
+// A depth, and the rows there or the fault of the walk.
 type TableCase = (u32, Result<&'static [Row], WalkFault>);
 
 const TABLES: &[TableCase] = &[
@@ -171,14 +171,14 @@ fn tables() -> &'static [TableCase] {
     TABLES
 }
 
-// What is carried at the end of a walk, or where it stops.
+// Returns the data at the end of a walk, or its fault.
 fn carried_of<C: Drop>(end: Result<Reached<Level, C>, WalkFault>) -> Result<C, WalkFault> {
     let Reached { level, carried } = end?;
     drop(level);
     Ok(carried)
 }
 
-// The values at a depth, or where the walk stops.
+// Returns the values at a depth, or the fault of the walk.
 fn walk_values<L: Ledger>(
     alloc: Global,
     level: Level,
@@ -198,7 +198,7 @@ fn walk_values<L: Ledger>(
     carried_of(walk(alloc, &Quarter, &by, &mut Dropped, start, depth, steps))
 }
 
-// The table at a depth, or where the walk stops.
+// Returns the table at a depth, or the fault of the walk.
 fn walk_table<L: Ledger>(
     alloc: Global,
     level: Level,
@@ -217,7 +217,7 @@ fn walk_table<L: Ledger>(
     carried_of(walk(alloc, &Quarter, &by, &mut Dropped, start, depth, steps))
 }
 
-// Whether a point is over 1, and within the greatest of the numbers.
+// Returns whether a point has the denominator 1 and no number above the greatest.
 fn is_near(p: &Valued<Point3>) -> bool
     ensures { result ≡ true → IsNearPoint p.now }
 {
@@ -227,7 +227,7 @@ fn is_near(p: &Valued<Point3>) -> bool
         && p.value.z.unsigned_abs() <= MOST
 }
 
-// Asserts that each point is over 1, with numbers up to 8.
+// Asserts that each point has the denominator 1 and numbers up to 8.
 fn assert_near(rt: &impl Abort, points: &[Valued<Point3>])
     ensures { All IsNearPoint points.now }
 {
@@ -235,7 +235,7 @@ fn assert_near(rt: &impl Abort, points: &[Valued<Point3>])
     assert!(rt; are_near);
 }
 
-// The points of the square, as values that can be carried from it.
+// Returns the points of the square, as values that can be carried from it.
 fn near_points(rt: &impl Abort, alloc: Global) -> Result<Vec<Valued<Point3>>, Memory>
     ensures { IfOk result (λ points. AreValues 8 square (rows_of (λ (q : Point3). q.x ∷ q.y ∷ q.z ∷ []) points.items)) }
 {
@@ -245,7 +245,7 @@ fn near_points(rt: &impl Abort, alloc: Global) -> Result<Vec<Valued<Point3>>, Me
     Ok(points)
 }
 
-// The walked values, or where the walk stops, are those of the case.
+// The walked values, or the fault of the walk, are those of the case.
 fn expect_given(rt: &impl Abort, given: &Result<Vec<Valued<Point3>>, WalkFault>, case: &ValueCase) {
     let values = match given {
         Ok(values) => Ok(values.as_slice()),
@@ -268,7 +268,7 @@ fn expect_values<L: Ledger>(
     Ok(())
 }
 
-// A row is read back so.
+// The table returns this row.
 fn expect_row(rt: &impl Abort, table: &StencilTable, row: u32, want: &Row)
     requires { row < length table.now.rows }
 {
@@ -282,7 +282,7 @@ fn expect_row(rt: &impl Abort, table: &StencilTable, row: u32, want: &Row)
     }
 }
 
-// A table has these rows.
+// The table has these rows.
 fn expect_rows(rt: &impl Abort, table: &StencilTable, rows: &[Row]) {
     assert!(rt; rows.len() == table.rows() as usize);
     for row in 0..table.rows() {
@@ -290,7 +290,7 @@ fn expect_rows(rt: &impl Abort, table: &StencilTable, rows: &[Row]) {
     }
 }
 
-// The walked table, or where the walk stops, is that of the case.
+// The walked table, or the fault of the walk, is that of the case.
 fn expect_composed(rt: &impl Abort, given: &Result<StencilTable, WalkFault>, case: &TableCase) {
     expect_same(rt, &given.as_ref().err(), &case.1.as_ref().err(), case);
     if let (Ok(table), Ok(rows)) = (given, case.1) {
@@ -355,7 +355,7 @@ fn expect_all_counted<L: Ledger>(rt: &impl Abort, alloc: Global, blank: Blank) -
     expect_all(rt, alloc, &mut Steps::start(blank.open::<L>()))
 }
 
-// Takes a counter of its own.
+// Makes a counter.
 fn expect_all_alone(rt: &impl Abort, alloc: Global) -> Result<(), Memory> {
     expect_all_counted::<Brand>(rt, alloc, Blank::new(1))
 }

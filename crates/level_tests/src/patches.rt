@@ -1,4 +1,4 @@
-// The patch of a face of a sheet of nine quads, and why there is none.
+// The patch of a face of a sheet of nine quads, and the reasons for having none.
 
 use crate::expect::expect_same;
 use crate::meshes::{self, with_level};
@@ -28,7 +28,7 @@ const SHEET: &Solid<'static> = &Solid {
     ],
 };
 
-// A solid with its sharp edges, a face, and why it has no patch.
+// A solid with its sharp edges, a face, and the reason why it has no patch.
 type Case = (
     &'static Solid<'static>,
     &'static [SharpEdge],
@@ -59,7 +59,7 @@ fn mesh_of(solid: &'static Solid<'static>, edges: &'static [SharpEdge]) -> meshe
     }
 }
 
-// The patch of a face over control points, of two steps along each side, after what the call asks is tested.
+// Returns the patch of a face over control points, with two steps along each side, after tests of the conditions of the call.
 fn patch_of(
     rt: &impl Abort,
     alloc: Global,
@@ -74,7 +74,7 @@ fn patch_of(
     patch_table(alloc, level, &table, face, 2)
 }
 
-// Asserts that there is no patch, and why.
+// Asserts that there is no patch, for this reason.
 fn expect_fault(rt: &impl Abort, patch: Result<StencilTable, PatchFault>, want: PatchFault) {
     expect_same(rt, &patch.err(), &Some(want), &"fault");
 }
@@ -95,7 +95,7 @@ fn refuses_faces_without_patches(rt: HostRuntime) -> Result<(), PatchFault> {
     Ok(())
 }
 
-// Asserts the controls and the numerators of a row, over 2304.
+// Asserts the control points and the numerators of a row, over 2304.
 fn expect_row(
     rt: &impl Abort,
     patch: &StencilTable,

@@ -1,5 +1,5 @@
-// The next levels of a cube and of an open grid: how many parts they have, where their sharp edges come from, and which
-// vertex is refused.
+// The next levels of a cube and of an open grid: the number of their parts, the origins of their sharp edges, and the vertex
+// that is refused.
 
 ghost use Rattle.std.specs.Prelude.{◌≡◌, ℕ, ◌<◌, true, false, length, get_or};
 ghost use Rattle.subdiv_model.specs.Edges.{edges_of};
@@ -19,10 +19,10 @@ use uniform_refiner::{RefineFault, refine};
 // A solid with its sharp edges.
 pub type Mesh = (&'static Solid<'static>, Method, &'static [SharpEdge]);
 
-// The origins of the ends of an edge that is sharp, in its direction, and its sharpness.
+// The origins of the ends of a sharp edge, in its direction, and its sharpness.
 type Sharp = ((Origin, Origin), Fraction);
 
-// How many points, edges, faces and boundary edges a level has.
+// The number of points, edges, faces and boundary edges of a level.
 type Counts = (u32, u32, u32, u32);
 
 // A mesh, and the counts and the sharp edges of its next level in their order.
@@ -84,7 +84,7 @@ fn fine() -> Mesh {
     FINE
 }
 
-// The mesh that a builder is told.
+// Returns the mesh that a builder gets.
 pub fn told((solid, method, edges): Mesh) -> meshes::Mesh<'static> {
     meshes::Mesh {
         solid,
@@ -106,7 +106,7 @@ pub fn assert_whole(rt: &impl Abort, level: &Level)
     }
 }
 
-// How many edges have one face.
+// Returns the number of edges with one face.
 fn boundary_of(level: &Level) -> u32 {
     let mut count: u32 = 0;
     for e in 0..level.edges() {
@@ -126,7 +126,7 @@ fn counts_of(level: &Level) -> Counts {
     )
 }
 
-// Where the ends of an edge come from.
+// Returns the origins of the ends of an edge.
 fn origins_of(rt: &impl Abort, child: &Child, e: u32) -> (Origin, Origin)
     requires { e < length (edges_of child.now.topology.level.polygons) }
 {
@@ -137,7 +137,7 @@ fn origins_of(rt: &impl Abort, child: &Child, e: u32) -> (Origin, Origin)
     (child.origin(a), child.origin(b))
 }
 
-// The sharpness of an edge with the origins of its ends, unless it is smooth.
+// Returns the sharpness of an edge with the origins of its ends, unless it is smooth.
 fn sharp_of(rt: &impl Abort, child: &Child, e: u32) -> Option<Sharp>
     requires { e < length (edges_of child.now.topology.level.polygons) }
 {
@@ -159,7 +159,7 @@ fn expect_sharp(rt: &impl Abort, child: &Child, want: &[Sharp]) {
     expect_same(rt, &count, &want.len(), &"sharp edges");
 }
 
-// A quad alone, and where the points of its next level come from.
+// A single quad, and the origins of the points of its next level.
 const QUAD: Mesh = (
     &Solid {
         points: 4,
@@ -193,7 +193,7 @@ fn expect_origins(rt: &impl Abort, child: &Child, want: &[Origin]) {
     }
 }
 
-// What is expected of the next level of a mesh.
+// The expected next level of a mesh.
 #[derive(Clone, Copy)]
 enum Next {
     Parts(Counts, &'static [Sharp]),
@@ -221,7 +221,7 @@ fn expect_result(rt: &impl Abort, given: &Result<Child, RefineFault>, want: &Nex
     }
 }
 
-// Refines a level, after what that asks is tested.
+// Refines a level, after tests of the conditions of the call.
 fn expect_refined<L: Ledger>(
     rt: &impl Abort,
     alloc: Global,

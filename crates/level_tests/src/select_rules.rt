@@ -11,7 +11,7 @@ use feature_select::{Every, FaceTest, Feature, SelectRule, is_feature, is_select
 use level_topology::FaceFacts;
 use std::process::Abort;
 
-// The faces of more corners than this number.
+// The rule that selects the faces with more corners than this number.
 #[derive(Clone, Copy, Debug)]
 struct LargerThan(u32);
 
@@ -19,7 +19,7 @@ impl FaceTest for LargerThan {
     ghost meets = { λ kept facts. is_larger (option_map (λ test. test.0) kept) facts };
 }
 
-// Whether a rule selects a face.
+// Returns whether a rule selects a face.
 fn is_selected<T: FaceTest, F: Fn(&FaceFacts) -> bool>(
     rule: &SelectRule<T, F>,
     facts: &FaceFacts,
@@ -31,7 +31,7 @@ fn is_selected<T: FaceTest, F: Fn(&FaceFacts) -> bool>(
     rule.holds(facts)
 }
 
-// Whether a face is selected as a feature.
+// Returns whether the rule of features selects a face.
 fn selects_feature(facts: &FaceFacts) -> bool
     requires { 3 ≤ facts.now.size }
     ensures { result ≡ selects is_feature (facts_of_code facts.now) }
@@ -40,7 +40,7 @@ fn selects_feature(facts: &FaceFacts) -> bool
     is_selected(&rule, facts)
 }
 
-// Whether a face is selected with all others.
+// Returns whether the rule of all faces selects a face.
 fn selects_any(facts: &FaceFacts) -> bool
     requires { 3 ≤ facts.now.size }
     ensures { result ≡ selects is_selectable (facts_of_code facts.now) }
@@ -49,7 +49,7 @@ fn selects_any(facts: &FaceFacts) -> bool
     is_selected(&rule, facts)
 }
 
-// Whether a face is selected for more corners than a number.
+// Returns whether the rule of corners selects a face.
 fn selects_larger(size: u32, facts: &FaceFacts) -> bool
     requires { 3 ≤ facts.now.size }
     ensures { result ≡ selects (is_larger (Some size)) (facts_of_code facts.now) }
@@ -60,8 +60,8 @@ fn selects_larger(size: u32, facts: &FaceFacts) -> bool
     is_selected(&rule, facts)
 }
 
-// The size of a face, whether it is a hole, how many irregular corners and how many sharp edges it has; and whether it is
-// selected as a feature, with all others, and for more than four corners.
+// The size of a face, whether it is a hole, the number of its irregular corners and of its sharp edges; then whether it is
+// selected as a feature, by the rule of all faces, and for more than four corners.
 type Row = ((u32, bool, u32, u32), bool, bool, bool);
 
 const ROWS: &[Row] = &[

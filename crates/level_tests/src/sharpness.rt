@@ -1,4 +1,4 @@
-// Sharpness of edges and vertices, its fall from level to level, rules and weights.
+// Sharpness of edges and vertices, its decrease from level to level, rules and weights.
 
 use crate::expect::expect_same;
 use sharpness_rules::{
@@ -8,7 +8,7 @@ use sharpness_rules::{
 use std::process::Abort;
 use std::test::Fail;
 
-// A sharpness as a table names it: `Of(a, b)` is the one that is made of the fraction `a / b`.
+// A sharpness as a table names it. `Of(a, b)` is the one made from the fraction `a / b`.
 #[derive(Clone, Copy, Debug)]
 enum Named {
     Smooth,
@@ -32,7 +32,7 @@ fn sharpness_of(rt: &impl Abort, named: Named) -> Sharpness {
 // The greatest denominator.
 const TOP: u64 = 1 << 60;
 
-// A fraction, and the same in lowest terms.
+// A fraction, and the same fraction in lowest terms.
 type Reduced = ((u64, u64), (u64, u64));
 
 const SEMI_SHARP: &[Reduced] = &[
@@ -61,7 +61,7 @@ fn makes_semi_sharp_fractions(rt: HostRuntime) {
     }
 }
 
-// A sharpness and its uniform child. Smooth and infinite ones, also where they are made of a fraction, stay.
+// A sharpness and its uniform child. Smooth and infinite ones do not change, even if they are made from a fraction.
 const UNIFORM: &[(Named, Named)] = &[
     (Of(0, 7), Smooth),
     (Of(20, 2), Infinite),
@@ -86,7 +86,7 @@ fn makes_uniform_children(rt: HostRuntime) {
     }
 }
 
-// Two edges that meet at a vertex, and the halves of both there; no half where a denominator is too long.
+// Two edges that meet at a vertex, and their halves there; no halves if a denominator is too long.
 type Halves = (Named, Named, Option<(Named, Named)>);
 
 const HALVES: &[Halves] = &[
@@ -120,7 +120,7 @@ fn makes_chaikin_children(rt: HostRuntime) {
     }
 }
 
-// The edges at a vertex that is smooth itself, and its rule.
+// The edges at a vertex that is not sharp itself, and its rule.
 type Ruled = (Four, Rule);
 
 type Four = (Named, Named, Named, Named);
@@ -255,7 +255,7 @@ fn takes_long_rings(rt: HostRuntime) -> Result<(), Fail> {
     Ok(())
 }
 
-// The common denominator of the numbers up to a thousand passes 2^60 early.
+// The common denominator of the numbers up to a thousand exceeds 2^60 early.
 #[test]
 fn takes_many_denominators(rt: HostRuntime) {
     let mut ring = [Sharpness::Smooth; 1000];

@@ -1,4 +1,4 @@
-// A level as a text of what it says, a line for each part.
+// A level as a text, with a line for each part.
 
 ghost use Rattle.std.specs.Prelude.{◌<◌, length};
 ghost use Rattle.subdiv_model.specs.Edges.{edges_of};
@@ -11,8 +11,8 @@ use std::alloc::Global;
 use std::fmt::{self, Display, Formatter, Write};
 use std::process::Abort;
 
-// Shows of a face its corners, its edges and whether it is a hole; of an edge its ends, its faces and its sharpness; of a
-// point its faces with its corners there, its edges with its ends there, its sharpness and its mark.
+// Shows for each face its corners, its edges and whether it is a hole; for each edge its ends, its faces and its sharpness;
+// for each point its faces with its corners there, its edges with its ends there, its sharpness and its mark.
 #[derive(Clone, Copy)]
 struct Shown<'a>(&'a Level);
 
@@ -66,7 +66,7 @@ pub fn text_of(alloc: Global, level: &Level) -> Result<String, Memory> {
     Ok(format!(in alloc; "{}", Shown(level))?)
 }
 
-// The level says what the text does.
+// The text of the level is this one.
 pub fn expect_shown(
     rt: &impl Abort,
     alloc: Global,

@@ -1,4 +1,4 @@
-// Solids for tables of masks, and what a row of such a table says of one.
+// Solids for tables of masks, and the types of the rows of such tables.
 
 // A sharpness as a fraction.
 pub type Fraction = (u64, u64);
@@ -6,14 +6,14 @@ pub type Fraction = (u64, u64);
 // The ends of an edge, and its sharpness.
 pub type SharpEdge = (u32, u32, Fraction);
 
-// So many points, and the corners of each face.
+// The number of points, and the corners of each face.
 #[derive(Clone, Copy)]
 pub struct Solid<'a> {
     pub points: u32,
     pub faces: &'a [&'a [u32]],
 }
 
-// A solid with its sharp edges, and the point whose lists are complete with its sharpness.
+// A solid with its sharp edges, and the point whose lists are complete, with its sharpness.
 pub type Mesh = (&'static Solid<'static>, &'static [SharpEdge], u32, Fraction);
 
 pub const ZERO: Fraction = (0, 1);
@@ -37,7 +37,7 @@ pub const TOP: u64 = 1 << 60;
 
 pub const HALF_OF_TOP: u64 = 1 << 59;
 
-// Edge 1 is from 1 to 3 and has the faces 0 and 4. At point 1 are the ends 0, 3 and 7 and the faces 0, 3 and 4; at point 3
+// Edge 1 runs from 1 to 3 and has the faces 0 and 4. Point 1 has the ends 0, 3 and 7 and the faces 0, 3 and 4; point 3 has
 // the ends 1, 2 and 5 and the faces 0, 1 and 4.
 pub const CUBE: &Solid<'static> = &Solid {
     points: 8,
@@ -57,7 +57,7 @@ pub const GRID: &Solid<'static> = &Solid {
     faces: &[&[0, 1, 4, 3], &[1, 2, 5, 4], &[3, 4, 7, 6], &[4, 5, 8, 7]],
 };
 
-// The edges at its rim.
+// The edges at the rim of the grid.
 pub const RIM: &[SharpEdge] = &[
     (0, 1, INFINITE),
     (1, 2, INFINITE),
@@ -69,7 +69,7 @@ pub const RIM: &[SharpEdge] = &[
     (3, 0, INFINITE),
 ];
 
-// The same, and the edge from 1 to the middle.
+// The edges at the rim of the grid, and the edge from 1 to the middle.
 pub const RIM_AND_SPOKE: &[SharpEdge] = &[
     (0, 1, INFINITE),
     (1, 2, INFINITE),

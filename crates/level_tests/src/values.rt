@@ -1,4 +1,4 @@
-// The values of the points of the next level of a cube, and why there are none.
+// The values of the points of the next level of a cube, and the reasons for having none.
 
 ghost use Rattle.std.specs.Prelude.{◌≡◌, ℕ, ◌<◌, ◌≤◌, ◌^◌, true, false, length, get_or};
 ghost use Rattle.std.specs.List.{All};
@@ -34,7 +34,7 @@ macro_rules! point {
     };
 }
 
-// The points of the cube: a denominator and an amount, with its signs.
+// The points of the cube: a denominator and an amount, with the signs of each coordinate.
 macro_rules! cube_of {
     ($den:literal, $n:literal) => {
         &[point!($den, -$n, -$n, $n), point!($den, $n, -$n, $n), point!($den, -$n, $n, $n), point!($den, $n, $n, $n),
@@ -44,7 +44,7 @@ macro_rules! cube_of {
 
 const CUBE_POINTS: &[Valued<Point3>] = cube_of!(1, 1);
 
-// The same after one step, each with its denominator: of vertices, of faces, and of edges.
+// The points of the cube after one step, each with its denominator: of vertices, of faces, and of edges.
 const CUBE_VALUES: &[Valued<Point3>] = &[
     point!(36, -20, -20, 20),
     point!(36, 20, -20, 20),
@@ -74,7 +74,7 @@ const CUBE_VALUES: &[Valued<Point3>] = &[
     point!(16, -12, -12, 0),
 ];
 
-// Edges of the cube, its points, and the values of the next level or why there are none.
+// Edges of the cube, its points, and the values of the next level or the reason for having none.
 type Case = (
     &'static [SharpEdge],
     &'static [Valued<Point3>],
@@ -113,7 +113,7 @@ fn refused() -> &'static [Case] {
     REFUSED
 }
 
-// Whether the numbers of a point keep their bounds.
+// Returns whether the numbers of a point are within their bounds.
 fn is_good(p: &Valued<Point3>) -> bool
     ensures { result ≡ true → IsGoodPoint p.now }
 {
@@ -124,7 +124,7 @@ fn is_good(p: &Valued<Point3>) -> bool
         && p.value.z.unsigned_abs() <= NUMBER_BOUND
 }
 
-// Asserts that the numbers of each point do.
+// Asserts that the numbers of each point are within their bounds.
 fn assert_good(rt: &impl Abort, points: &[Valued<Point3>])
     ensures { All IsGoodPoint points.now }
 {
@@ -149,7 +149,7 @@ fn expect_result(rt: &impl Abort, given: &Result<Vec<Valued<Point3>>, ValueFault
     expect_same(rt, &values, &case.2, case);
 }
 
-// Refines values, after what that asks is tested.
+// Refines values, after tests of the conditions of the call.
 fn expect_values<L: Ledger>(
     rt: &impl Abort,
     alloc: Global,

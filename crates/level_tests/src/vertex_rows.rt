@@ -47,7 +47,7 @@ const CORNERS: &[VertexRow] = &[
     },
 ];
 
-// A rule that stays: smooth, dart, dart to smooth, crease, corner, two edges, no edge.
+// A rule that does not change: smooth, dart, dart to smooth, crease, corner, two edges, no edge.
 const RULES: &[VertexRow] = &[
     VertexRow {
         mesh: (CUBE, &[], 3, ZERO),
@@ -241,7 +241,7 @@ const FINEST_VERTEX: u128 = 3 * (TOP as u128 - 1) + 9;
 
 const FINEST_REST: u128 = TOP as u128 - 1;
 
-// Weights whose denominator is the greatest, and a rule that stays where it would be too great.
+// Weights with the greatest denominator, and a rule that does not change where a weight would exceed it.
 const LONGEST: &[VertexRow] = &[
     VertexRow {
         mesh: (CUBE, &[(1, 3, FINE), (3, 2, FINE)], 3, ZERO),
@@ -273,7 +273,7 @@ const LONGEST: &[VertexRow] = &[
     },
 ];
 
-// Weights whose denominator is too great: the values that end are 1/2^59 and 1/3, and thrice 1/2^59.
+// Weights whose denominator is too great: the sharpnesses that end are 1/2^59 and 1/3, and thrice 1/2^59.
 const REFUSED: &[Mesh] = &[
     (CUBE, &[(1, 3, FINE), (3, 2, (1, 3))], 3, ZERO),
     (CUBE, &[(1, 3, FINE), (3, 2, FINE)], 3, FINE),

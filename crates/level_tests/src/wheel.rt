@@ -1,4 +1,4 @@
-// A vertex of as many edges as a face may have corners.
+// A vertex with as many edges as a face may have corners.
 
 ghost use Rattle.std.specs.Prelude.{◌≡◌, ◌+◌, ◌<◌, ◌≤◌, ◌^◌, [], OnOk};
 ghost use Rattle.subdiv_model.specs.Sharpness.{Normal};
@@ -38,7 +38,8 @@ fn add_triangles<L: Ledger>(
     Ok(())
 }
 
-// Tells a new builder so many triangles about the point 0, one more that closes the ring, and that the point is complete.
+// Gives a new builder this many triangles about the point 0 and one more that closes the ring, and marks the point as
+// complete.
 fn add_wheel<L: Ledger>(
     builder: &mut LevelBuilder,
     count: u32,
@@ -80,7 +81,7 @@ fn wheel_alone(rt: &impl Abort, alloc: Global, spokes: u32) -> Result<Level, Mem
     wheel_counted::<Brand>(alloc, spokes - 1, Blank::new(1))
 }
 
-// The sum of the weights; that of the vertex is given, and each other one is 1.
+// Returns the sum of the weights; the vertex has the given weight, and each other source has the weight 1.
 fn sum_of_weights(rt: &impl Abort, terms: &[Term], vertex: u128) -> u128 {
     let mut sum = 0;
     for term in terms {
@@ -118,7 +119,7 @@ fn expect_ring(rt: &impl Abort, alloc: Global, spokes: u32) -> Result<(), MaskFa
     expect_mask(rt, alloc, &level, spokes)
 }
 
-// Around the numbers of edges up to which a mask and its rings take no memory, and the greatest.
+// Numbers of edges around the limits up to which a mask and its rings take no memory, and the greatest number.
 const SPOKES: &[u32] = &[3, 7, 8, 16, 17, 65_536];
 
 fn spokes() -> &'static [u32] {

@@ -45,14 +45,14 @@ same_place-true a b h =
     let parts = and_parts (nat_eq a.0 b.0) (nat_eq a.1 b.1) h in
     ap (λ (n : ℕ). (n, a.1)) (eqb-true a.0 b.0 parts.0) ∙ ap (λ (n : ℕ). (b.0, n)) (eqb-true a.1 b.1 parts.1)
 
--- what can be told back from its number has the number of what it is the same as
+-- A thing that its number determines has the number of every thing equal to it.
 numbers-same : {X : Type 0} (number : X → ℕ) (back : ℕ → X) (same : X → X → Bool) → ((a : X) → same a a ≡ true) → ((a b : X) → same a b ≡ true → a ≡ b) → (a b : X) → back (number a) ≡ a → back (number b) ≡ b → nat_eq (number a) (number b) ≡ same a b
 numbers-same number back same itself equal a b told_a told_b =
     same_from_decides (nat_eq (number a) (number b)) (same a b)
     ((λ h. sym told_a ∙ ap back (eqb-true _ _ h) ∙ told_b), (λ e. eq-eqb _ _ (ap number e)))
     ((equal a b), (λ e. ap (same a) (sym e) ∙ itself a))
 
--- the origin of a point is told back from its number in the whole next level
+-- Its number in the whole next level determines the origin of a point.
 pub origin-told : (points faces edges : ℕ) (origin : PointOrigin) → IsOriginWithin points faces edges origin → numbered_origin points faces (point_number points faces origin) ≡ origin
 origin-told points faces edges (FromVertex v) h = let here = lt-ltb v points h in rw here refl
 origin-told points faces edges (FromFace f) h =
@@ -76,7 +76,7 @@ pub origin-numbers : (points faces edges : ℕ) (a b : PointOrigin) → IsOrigin
 origin-numbers points faces edges a b ha hb =
     numbers-same (point_number points faces) (numbered_origin points faces) same_origin same_origin-refl same_origin-true a b (origin-told points faces edges a ha) (origin-told points faces edges b hb)
 
--- the place of a face is told back from its number there
+-- Its number there determines the place of a face.
 head-at : (starts : List ℕ) (end i : ℕ) → Ascend starts end → i < length starts → get_or starts 0 0 ≤ get_or starts i 0
 head-at starts end zero a h = omega arith
 head-at starts end (suc i) a h = omega (arith, head-at starts end i a (omega arith), (ascend_at starts end i a h).0)
@@ -124,7 +124,7 @@ pub place-numbers : (starts : List ℕ) (end : ℕ) (a b : ℕ × ℕ) → Ascen
 place-numbers starts end a b ascend ha hb =
     numbers-same (corner_number starts) (numbered_place 0 starts) same_place same_place-refl same_place-true a b (place-told starts end a ascend ha) (place-told starts end b ascend hb)
 
--- there are no more edges than corners
+-- There are at most as many edges as corners.
 sides-corners : (polygons : List Polygon) → length (all_sides polygons) ≡ sum_by length polygons
 sides-corners [] = refl
 sides-corners (polygon ∷ polygons) =

@@ -20,7 +20,7 @@ number-below points faces edges origins p d within inside =
     let at = get_or-map origin_of origins p d (origin_of d) inside in
     omega (arith, ap (point_number points faces) at, origin-below points faces edges _ (within p (origin_of d) (omega (arith, length-map origins origin_of))))
 
--- different origins have different numbers, and so have different places
+-- Different origins have different numbers, and different places have different numbers.
 pub origin-pairs : (points faces edges : ℕ) (origins : List PointOrigin) → All (IsOriginWithin points faces edges) origins → AllPairs (λ a b. a ≢ b) origins → AllPairs (λ a b. a ≢ b) (map (point_number points faces) origins)
 origin-pairs points faces edges origins within once =
     pairs-map (point_number points faces) (numbered_origin points faces) origins (λ k d h. origin-told points faces edges _ (within k d h)) once
@@ -74,7 +74,7 @@ child_with level points sizes edges origins places = record {
 child-same : (level : Topology) {a b c d : ℕ} {s t : List ℕ} {os ps : List PointOrigin} {ls ms : List (ℕ × ℕ)} → a ≡ b → s ≡ t → c ≡ d → os ≡ ps → ls ≡ ms → child_with level a s c os ls ≡ child_with level b t d ps ms
 child-same level e f g h i = cc
 
--- what is made is the child
+-- The tables that are made are those of the child.
 module _ (parent level : Topology) (origins : List PointOrigin) (places : List (ℕ × ℕ)) (t : ChildTables)
     (parent_is : IsTopology parent) (level_is : IsTopology level) (is : IsChild parent level origins places)
     (vertices : t.vertices ≡ parent.level.point_count) (faces : t.faces ≡ length parent.level.polygons)
@@ -125,7 +125,7 @@ module _ (parent level : Topology) (origins : List PointOrigin) (places : List (
     total = omega (arith, numbered.count);
   }
 
--- the same, from the starts of the parent
+-- The tables made from the starts of the parent are those of the child.
 pub made : (parent level : Topology) (origins : List PointOrigin) (places : List (ℕ × ℕ)) (t : ChildTables) (starts : List ℕ) (edges corners : ℕ)
     → IsTopology parent → IsTopology level → IsChild parent level origins places
     → t.vertices ≡ parent.level.point_count → t.faces ≡ length parent.level.polygons → edges ≡ length (edges_of parent.level.polygons)
@@ -148,7 +148,7 @@ within-same points faces edges m n k (FromVertex v) e f g h = omega (arith, h)
 within-same points faces edges m n k (FromFace v) e f g h = omega (arith, h)
 within-same points faces edges m n k (FromEdge v) e f g h = omega (arith, h)
 
--- what is read is what the child says
+-- The accessors return the values of the child.
 module _ (level : Topology) (t : ChildTables) (is : AreOfChild level t) where
   few-points : length (child_in level t).origins < 2 ^ 32
   few-points = omega (arith, is.parent.is.each_point, is.parent.level_is.small.points)

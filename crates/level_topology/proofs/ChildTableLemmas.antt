@@ -9,7 +9,7 @@ use Rattle.std.proofs.lemmas.List.Sums.{position_or_len_is, prefix_len-le-length
 use Rattle.std.proofs.lemmas.List.Quantifiers.{position-Some}
 use Rattle.level_topology.specs.ChildTables.{kept_place, told_place, IsInverse, numbers_in}
 
--- what stands at the end of a list is found there, if nothing before it passes
+-- An item at the end of a list is found there, if no earlier item passes.
 pub push-new : {X : Type 0} (test : X → Bool) (xs : List X) (y : X) → position_or_len test xs ≡ length xs → test y ≡ true → position_or_len test (xs ++ y ∷ []) ≡ length xs
 push-new test xs y none passes =
     let all = eq-eqb (position_or_len test xs) (length xs) none in
@@ -20,7 +20,7 @@ position-new test xs y none passes =
     let within = lt-ltb (length xs) (length (xs ++ y ∷ [])) (omega (arith, length_push xs y)) in
     rw (push-new test xs y none passes, within) refl
 
--- what fails at the end of a list changes nothing
+-- An item at the end of a list that does not pass changes nothing.
 position-old : {X : Type 0} (test : X → Bool) (xs : List X) (y : X) → test y ≡ false → position test (xs ++ y ∷ []) ≡ position test xs
 position-old test xs y fails = here (nat_eq (position_or_len test xs) (length xs)) refl
   where
@@ -79,7 +79,7 @@ position-own same itself equal xs p d once inside =
 pub position-there : {X : Type 0} (test : X → Bool) (xs : List X) (p : ℕ) → position_or_len test xs ≡ p → p < length xs → position test xs ≡ Some p
 position-there test xs p at inside = let within = lt-ltb p (length xs) inside in rw (at, within) refl
 
--- what differs and can be told back from its number has different numbers
+-- Different things that their numbers determine have different numbers.
 pub pairs-map : {X : Type 0} (number : X → ℕ) (back : ℕ → X) (xs : List X) → All (λ x. back (number x) ≡ x) xs → AllPairs (λ a b. a ≢ b) xs → AllPairs (λ a b. a ≢ b) (map number xs)
 pairs-map number back [] told once i j d before inside = absurd (omega arith)
 pairs-map number back (x ∷ xs) told once i j d before inside = λ same.
@@ -96,7 +96,7 @@ map-back number back (x ∷ xs) told =
     let rest = map-back number back xs (λ k d h. told (suc k) d (omega arith)) in
     cc
 
--- the numbers of a table are those of the list that it is of
+-- The numbers of a table are those of its list.
 pub numbers-back : (numbers table : List ℕ) (count : ℕ) → IsInverse numbers table → count ≡ length numbers → length numbers < 2 ^ 32 → All (λ n. n < length table) numbers → AllPairs (λ a b. a ≢ b) numbers → numbers_in table count ≡ numbers
 numbers-back numbers table count is counted few inside once =
     sym (fill_by_all (λ p. position_or_len (nat_eq p) table) numbers count 0 (sym counted) (λ p h. sym (at p (omega arith))))
@@ -122,7 +122,7 @@ numbers-back numbers table count is counted few inside once =
                 let number : n ≡ get_or numbers q 0 = eqb-true n (get_or numbers q 0) there.1 in
                 rw kept (ne_eqb p q (λ same. absurd (omega (arith, ap (λ k. get_or numbers k 0) same))))
 
--- what a table keeps of a place is told back
+-- A table returns the place that it keeps.
 pub told-kept : {X : Type 0} (test : X → Bool) (xs : List X) → length xs < 2 ^ 32 → told_place (kept_place (position test xs)) ≡ position test xs
 told-kept test xs few = here (nat_lt (position_or_len test xs) (length xs)) refl
   where
@@ -133,7 +133,7 @@ told-kept test xs few = here (nat_lt (position_or_len test xs) (length xs)) refl
         rw (e, other) refl
     here false e = rw e refl
 
--- where numbers are the same exactly where things are, both are found at the same place
+-- If numbers are equal exactly if things are, both are found at the same place.
 pub position-numbered : {X : Type 0} (P : X → Type 0) (number : X → ℕ) (same : X → X → Bool) → ((a b : X) → P a → P b → nat_eq (number a) (number b) ≡ same a b) → (x : X) (xs : List X) → P x → All P xs → position_or_len (nat_eq (number x)) (map number xs) ≡ position_or_len (same x) xs
 position-numbered P number same equal x [] is all = refl
 position-numbered P number same equal x (y ∷ ys) is all =

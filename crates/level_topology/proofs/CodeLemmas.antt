@@ -6,7 +6,7 @@ use Rattle.sharpness_rules.specs.declared.sharpness.Sharpness as declared
 use Rattle.sharpness_rules.specs.View.{sharpness_of}
 use Rattle.level_topology.specs.Coded.{kept, decoded, Kept}
 
--- codes keep what they say when more values come after
+-- Codes keep their values when more values follow.
 decoded-more : (values more : List Sharpness) (codes : List ℕ) → ((k : ℕ) → k < length codes → get_or codes k 0 < length values) → decoded (values ++ more) codes ≡ decoded values codes
 decoded-more values more [] each = refl
 decoded-more values more (code ∷ codes) each =

@@ -1,4 +1,4 @@
--- The facts of faces: what passes a test among the edges at a point, and how many corners and edges of a face do.
+-- The facts of faces: the edges at a point that pass a test, and how many corners and edges of a face do.
 use Rattle.std.proofs.Common.{◌≡◌, ◌≢◌, ℕ, suc, ◌+◌, ◌<◌, ◌≤◌, ◌^◌, Bool, true, false, not, ◌&&◌, ◌||◌, nat_eq, nat_lt, List, [], ◌∷◌, length, map, take, get_or, arith, refl, ap, sym, ◌∙◌}
 use Rattle.std.specs.Int.{from_bool}
 use Rattle.std.specs.List.{All, list_any, list_all, count_by}
@@ -23,7 +23,7 @@ use Rattle.level_topology.specs.Topology.{Topology, IsTopology, edge_at, face_ed
 use Rattle.level_topology.proofs.LawLemmas.{own-number, edges-each, edge-exists, edges-as-many, edge-joins}
 use Rattle.level_topology.proofs.PlaceLemmas.{filter-item, side-there}
 
--- a test of what is mapped
+-- A test of mapped items.
 any-map : {X : Type 0} (at : ℕ → Bool) (test : X → Bool) (number : X → ℕ) (d : X) (xs : List X)
     → ((k : ℕ) → k < length xs → at (number (get_or xs k d)) ≡ test (get_or xs k d)) → list_any at (map number xs) ≡ list_any test xs
 any-map at test number d [] same = refl
@@ -98,7 +98,7 @@ module _ (level : Level) (v n : ℕ) (boundary : is_at_boundary level v ≡ true
       alone n smooth infinite h k = grind (arith, nat_tests)
 
 module _ (t : Topology) (is : IsTopology t) where
-  -- the edges that are listed at a point pass a test as those of the definitions do
+  -- The listed edges at a point pass a test exactly if those of the definitions do.
   pub any-listed : (test : ℕ × ℕ → Bool) (v : ℕ) → v < t.level.point_count
       → list_any (λ e. test (edge_at t.level.polygons e)) (get_or t.edges_at v []) ≡ list_any test (edges_of_point t.level.polygons v)
   any-listed test v inside =

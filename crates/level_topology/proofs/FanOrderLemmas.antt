@@ -1,4 +1,4 @@
--- Lists with the same distinct numbers, and paths of faces about a point put together and turned.
+-- Lists with the same distinct numbers, and paths of faces about a point, joined and turned.
 use Rattle.std.proofs.Common.{subst, ◌≡◌, ℕ, zero, suc, ◌+◌, ◌<◌, Bool, true, false, not, nat_eq, List, [], ◌∷◌, ◌++◌, length, get_or, arith, refl, ap, sym, ◌∙◌, append-nil}
 use Rattle.std.specs.List.Sorted.{IsPermutation}
 use Rattle.std.proofs.lemmas.Bool.Decides.{nat_tests}
@@ -10,7 +10,7 @@ use Rattle.subdiv_model.specs.Lists.{last_of}
 use Rattle.subdiv_model.specs.Manifold.{IsSuccessor, IsPath}
 use Rattle.level_topology.proofs.PlaceLemmas.{distinct-permutation}
 
--- a number among others stands somewhere
+-- A number among others has a place.
 pub among-split : (n : ℕ) (xs : List ℕ) → is_among xs n ≡ true → (front : List ℕ) × (back : List ℕ) × (xs ≡ front ++ n ∷ back)
 among-split n [] h = absurd (cc)
 among-split n (x ∷ xs) h = go (nat_eq n x) refl (λ there. among-split n xs there)
@@ -38,7 +38,7 @@ to-place x [] back = IsPermutation-refl (x ∷ back)
 to-place x (y ∷ front) back =
     IsPermutation-trans _ _ _ (IsPermutation-insert (y ∷ (front ++ back)) 1 x) (IsPermutation-cons y _ _ (to-place x front back))
 
--- distinct numbers, and the same ones, are a rearrangement
+-- Lists with the same distinct numbers are permutations of each other.
 pub same-permutation : (xs ys : List ℕ) → is_distinct xs ≡ true → is_distinct ys ≡ true → ((n : ℕ) → is_among xs n ≡ is_among ys n) → IsPermutation xs ys
 same-permutation [] ys dx dy same = nothing ys same
   where

@@ -179,6 +179,6 @@ module _ (polygons : List Polygon) (simple : list_all is_simple polygons ≡ tru
   fan-permutation start fan is =
       same-permutation (faces_of_point polygons v) fan (ascend-distinct (faces_of_point polygons v) (places-ascend (has_corner v) [] 0 polygons)) is.once (λ n. faces-among polygons v n ∙ sym (is.all n))
 
-  -- two fans from one face are the same, one place after another
+  -- Two fans from one face agree, place by place.
   pub fan-next : (start : ℕ) (fan : List ℕ) (i g : ℕ) → IsFanFrom polygons v start fan → i + 1 < length fan → IsSuccessor polygons v (get_or fan i 0) g → get_or fan (i + 1) 0 ≡ g
   fan-next start fan i g is inside leads = successor-unique polygons simple distinct v (get_or fan i 0) (get_or fan (i + 1) 0) g (path-at polygons v fan i is.path inside) leads

@@ -1,4 +1,4 @@
--- Edges numbered by first appearance, and their faces, while the sides of one face come after those of the faces before it.
+-- Edges numbered by first appearance, and their faces, as the sides of each face follow those of the faces before it.
 use Rattle.std.proofs.Common.{◌≡◌, ℕ, ◌+◌, ◌≤◌, Bool, true, false, not, List, [], ◌∷◌, ◌++◌, length, arith, refl, ap, sym, ◌∙◌, append-nil, append_assoc, length-append, subst, ◌≢◌, ◌<◌, ◌||◌, nat_eq, get_or, if◌then◌else◌}
 use Rattle.std.specs.List.{list_any, list_all, count_by}
 use Rattle.std.proofs.lemmas.Grind.{common_steps, flat_map-append}
@@ -22,7 +22,7 @@ use Rattle.level_topology.specs.View.{faces_of_pair}
 use Rattle.level_topology.proofs.PlaceLemmas.{two-count}
 use Rattle.level_topology.specs.Topology.{edge_at}
 
--- a side names a new edge where no edge before it is the same
+-- A side names a new edge if it equals no earlier edge.
 pub first_named-push : (sides : List (ℕ × ℕ)) (s : ℕ × ℕ) → first_named (sides ++ s ∷ []) ≡ named_with (first_named sides) s
 first_named-push [] s = refl
 first_named-push (t ∷ sides) s =
@@ -33,7 +33,7 @@ faces-few : (polygons : List Polygon) (s : ℕ × ℕ) → list_all is_simple po
 faces-few polygons s simple distinct none =
     omega (arith, faces-count s 0 polygons simple, edge-count-le s (all_sides polygons), count-none (same_side s) (all_sides polygons) none, distinct-count (s.1, s.0) (all_sides polygons) distinct)
 
--- the same edge has the same faces
+-- Equal edges have equal faces.
 pub faces-alike : (s t : ℕ × ℕ) (place : ℕ) (polygons : List Polygon) → same_edge s t ≡ true → places_from place (has_edge s) polygons ≡ places_from place (has_edge t) polygons
 faces-alike s t place [] h = refl
 faces-alike s t place (polygon ∷ polygons) h = rw (has-alike (sides_of polygon), faces-alike s t (place + 1) polygons h) refl
@@ -99,7 +99,7 @@ faces-none polygons s simple none = empty (faces_of_edge polygons s) (omega (ari
     empty [] h = refl
     empty (x ∷ xs) h = absurd (omega arith)
 
--- two of the edges are not the same
+-- No two of the edges are equal.
 pub number-at : (s : ℕ × ℕ) (sides : List (ℕ × ℕ)) (k : ℕ) → k < length (first_named sides) → same_edge s (get_or (first_named sides) k (0, 0)) ≡ true → number_in (first_named sides) s ≡ k
 number-at s sides k inside same = position_or_len_is (same_edge s) (first_named sides) k (0, 0) (omega arith) earlier (λ h. same)
   where

@@ -74,14 +74,14 @@ pub pieces-whole : {X : Type 0} (starts : List ℕ) (xs : List X) → Ascend sta
 pieces-whole [] xs a z = absurd a
 pieces-whole (s ∷ starts) xs a z = omega (arith, sum_by-pieces s starts xs a, z)
 
--- the same, as code counts up
+-- The step from one place to the next, as code counts up.
 pub ascend_next : (starts : List ℕ) (end i : ℕ) → Ascend starts end → i + 1 < length starts → (get_or starts i 0 ≤ get_or starts (i + 1) 0) × (get_or starts (i + 1) 0 ≤ end)
 ascend_next starts end i a h = rw add-one (ascend_at starts end i a (omega arith))
 
 pub piece_next : {X : Type 0} (starts : List ℕ) (xs : List X) (i : ℕ) → i + 1 < length starts → get_or (pieces starts xs) i [] ≡ slice_range xs (get_or starts i 0) (get_or starts (i + 1) 0)
 piece_next starts xs i h = rw add-one (piece_at starts xs i (omega arith))
 
--- one more list, and what stands beside it
+-- One more list, and the items beside it.
 pub IsPacked-push : {X : Type 0} (starts items list : List ℕ) (beside more : List X) {list_limit item_limit a b c a' b' c' : ℕ} → IsPacked starts items beside list_limit item_limit a b c → length more ≡ length list → length (pieces starts items) < list_limit → sum_by length (pieces starts items) + length list ≤ item_limit → a ≤ a' → b ≤ b' → c ≤ c' → IsPacked (starts ++ (length items + length list) ∷ []) (items ++ list) (beside ++ more) list_limit item_limit a' b' c'
 IsPacked-push [] items list beside more is equal few short ha hb hc = absurd is.ascend
 IsPacked-push (s ∷ starts) items list beside more is equal few short ha hb hc = record {

@@ -13,7 +13,7 @@ use Rattle.number_laws.proofs.CountLemmas.{count-cons, count-some, any-count, on
 use Rattle.mesh_laws.proofs.SideLemmas.{distinct-number-count}
 use Rattle.level_topology.specs.Topology.{side_at}
 
--- each place is that of an item that passes
+-- Each place has an item that passes.
 pub places-item : {X : Type 0} (test : X → Bool) (d : X) (place : ℕ) (xs : List X) (k : ℕ) → k < length (places_from place test xs) → (j : ℕ) × (j < length xs) × (get_or (places_from place test xs) k 0 ≡ place + j) × (test (get_or xs j d) ≡ true)
 places-item test d place [] k h = absurd (omega arith)
 places-item test d place (x ∷ xs) k h = here (test x) refl k h (places-item test d (place + 1) xs)
@@ -117,7 +117,7 @@ side-there (v ∷ rest) c h = back-at v (v ∷ rest) c h ∙ last (nat_eq (c + 1
         let within : suc c < length (v ∷ rest) = omega arith in
         rw e (ap (λ x. (get_or (v ∷ rest) c 0, x)) (get_or_default (v ∷ rest) (suc c) v 0 within ∙ ap (λ k. get_or (v ∷ rest) k 0) n))
 
--- where the numbers of items are their places, the numbers of those that pass are the places of what passes
+-- If the numbers of items are their places, the numbers of the items that pass are the places of those items.
 pub numbers-places : {X : Type 0} (number : X → ℕ) (test : X → Bool) (d : X) (place : ℕ) (xs : List X) → ((j : ℕ) → j < length xs → number (get_or xs j d) ≡ place + j) → map number (filter test xs) ≡ places_from place test xs
 numbers-places number test d place [] h = refl
 numbers-places number test d place (x ∷ xs) h =

@@ -10,6 +10,6 @@ use Rattle.level_topology.specs.Topology.{Topology, IsTopology}
 pub edges-counted : (t : Topology) (v : ℕ) → IsTopology t → v < t.level.point_count → length (get_or t.edges_at v []) ≡ length (edges_of_point t.level.polygons v)
 edges-counted t v is inside = length_permutation _ _ (is.listed v inside).edges ∙ length-map (edges_of_point t.level.polygons v) (edge_number t.level.polygons)
 
--- and so no more than all edges
+-- A point has at most as many edges as there are.
 pub edges-at-most : (t : Topology) (v : ℕ) → IsTopology t → v < t.level.point_count → length (get_or t.edges_at v []) ≤ length (edges_of t.level.polygons)
 edges-at-most t v is inside = omega (arith, edges-counted t v is inside, length-filter_both (has_end v) (λ s. not (has_end v s)) (λ s. refl) (edges_of t.level.polygons))

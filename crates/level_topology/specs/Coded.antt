@@ -1,20 +1,21 @@
--- A sharpness for each of many items, of which most are smooth: a code each, and the values that the codes name.
+-- A sharpness for each of many items, most of them smooth: a code for each item, and the values of the codes.
 use Rattle.std.specs.Prelude.{ℕ, ◌≡◌, ◌+◌, ◌^◌, ◌<◌, ◌≤◌, List, length, map, get_or}
 use Rattle.subdiv_model.specs.Sharpness.{Sharpness, Smooth, Infinite}
 
--- the sharpness of each item, and how many items there may be
+-- The sharpness of each item, and the greatest number of items.
 pub record Kept : Type 0 where
   pub sharpness : List Sharpness
   pub limit : ℕ
 
+-- A list of sharpness with its limit.
 abbrev pub kept : List Sharpness → ℕ → Kept
 kept sharpness limit = record { sharpness = sharpness; limit = limit }
 
--- what the codes say
+-- The values of the codes.
 abbrev pub decoded : List Sharpness → List ℕ → List Sharpness
 decoded values codes = map (λ code. get_or values code Smooth) codes
 
--- the first value is that of all smooth items, each code has its value, and there is room for all that may come
+-- The first value is the smooth one, each code has a value, and there is room for every item.
 pub record IsCoded (values : List Sharpness) (codes : List ℕ) (limit value_room code_room : ℕ) : Type 0 where
   pub some : 0 < length values
   pub first : get_or values 0 Infinite ≡ Smooth

@@ -1,8 +1,9 @@
--- What there is too much of, seen as that of the definitions.
+-- Counts that exceed their limits, as in the definitions.
 use Rattle.subdiv_model.specs.Fault as model
 use Rattle.level_topology.specs.declared.counted.Counted.{Counted}
 use Rattle.level_topology.specs.declared.counted.Counted.TheVariants.{Points, Faces, FaceSize, Valence, LevelFaces, Entries, LimitEntries, PatchEntries}
 
+-- An excess as in the definitions.
 abbrev pub counted_of : Counted → model.Counted
 counted_of (Points count) = model.Points count
 counted_of (Faces count) = model.Faces count

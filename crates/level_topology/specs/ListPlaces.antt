@@ -1,17 +1,17 @@
--- Where each number stands in lists that come one after another.
+-- The places of each number in a sequence of lists.
 use Rattle.std.specs.Prelude.{ℕ, List, [], ◌∷◌}
 use Rattle.std.specs.List.{flat_map}
 use Rattle.subdiv_model.specs.Polygons.{Polygon, has_corner}
 use Rattle.subdiv_model.specs.Lists.{places}
 
--- the items of all lists
+-- The items of all lists.
 abbrev pub joined : List Polygon → List ℕ
 joined lists = flat_map (λ list. list) lists
 
--- the numbers of the lists with a number
+-- The numbers of the lists that contain a number.
 abbrev pub lists_with : List Polygon → ℕ → List ℕ
 lists_with lists v = places (has_corner v) lists
 
--- the ends of an edge as a list
+-- The ends of an edge as a list.
 abbrev pub pair_list : ℕ × ℕ → List ℕ
 pair_list edge = edge.0 ∷ (edge.1 ∷ [])

@@ -1,35 +1,36 @@
 -- Lists of lists as one list and the places where each begins.
 use Rattle.std.specs.Prelude.{ℕ, ◌≡◌, ◌+◌, ◌-◌, ◌^◌, ◌<◌, ◌≤◌, List, [], ◌∷◌, length, slice_range, get_or}
 
--- lists of numbers, and beside each a list of as many items; and how many lists and items there may be
+-- Lists of numbers, each beside a list of equal length, and the greatest numbers of lists and items.
 pub record Paired (X : Type 0) : Type 0 where
   pub lists : List (List ℕ)
   pub beside : List (List X)
   pub list_limit : ℕ
   pub item_limit : ℕ
 
+-- The lists with these limits.
 abbrev pub paired : {X : Type 0} → List (List ℕ) → List (List X) → ℕ → ℕ → Paired X
 paired lists beside list_limit item_limit = record { lists = lists; beside = beside; list_limit = list_limit; item_limit = item_limit }
 
--- the pieces of a list between each of these places and the next
+-- The parts of a list between each place and the next.
 abbrev pub pieces : {X : Type 0} → List ℕ → List X → List (List X)
 pieces [] xs = []
 pieces (a ∷ []) xs = []
 pieces (a ∷ (b ∷ places)) xs = slice_range xs a b ∷ pieces (b ∷ places) xs
 
--- how many numbers lie between each of these places and the next
+-- The differences between each place and the next.
 abbrev pub gaps : List ℕ → List ℕ
 gaps [] = []
 gaps (a ∷ []) = []
 gaps (a ∷ (b ∷ places)) = (b - a) ∷ gaps (b ∷ places)
 
--- the places ascend to the end
+-- The places ascend, and the last one is `end`.
 abbrev pub Ascend : List ℕ → ℕ → Type 0
 Ascend [] end = ⊥
 Ascend (a ∷ []) end = a ≡ end
 Ascend (a ∷ (b ∷ places)) end = (a ≤ b) × Ascend (b ∷ places) end
 
--- the places split both lists from their start on, and there is room for all that may come
+-- The places split both lists from the start, and there is room for every list and item.
 pub record IsPacked {X : Type 0} (starts items : List ℕ) (beside : List X) (list_limit item_limit list_room item_room beside_room : ℕ) : Type 0 where
   pub ascend : Ascend starts (length items)
   pub begins : get_or starts 0 0 ≡ 0

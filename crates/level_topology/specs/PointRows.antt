@@ -1,4 +1,4 @@
--- The faces and the edges at a point as a level keeps them: in fan order where the point is complete.
+-- The faces and edges at a point as a level keeps them: in fan order if the point is complete.
 use Rattle.std.specs.Prelude.{ℕ, ◌≡◌, ◌-◌, ◌<◌, Bool, true, false, List, [], length, map, get_or}
 use Rattle.std.specs.List.Sorted.{IsPermutation}
 use Rattle.subdiv_model.specs.Polygons.{Polygon, has_corner, is_among, is_distinct, polygon_at}
@@ -6,7 +6,7 @@ use Rattle.subdiv_model.specs.Edges.{faces_of_point}
 use Rattle.subdiv_model.specs.Manifold.{IsPath, IsSuccessor}
 use Rattle.level_topology.specs.Topology.{IsFan, corner_of, end_of, edge_numbers_at}
 
--- the faces at a point in fan order, from this one on
+-- The faces at a point in fan order, beginning with `start`.
 pub record IsFanFrom (polygons : List Polygon) (v start : ℕ) (fan : List ℕ) : Type 0 where
   pub path : IsPath polygons v fan
   pub once : is_distinct fan ≡ true
@@ -14,11 +14,11 @@ pub record IsFanFrom (polygons : List Polygon) (v start : ℕ) (fan : List ℕ) 
   pub some : 0 < length fan
   pub first : get_or fan 0 0 ≡ start
 
--- the last of a list of faces
+-- The last of a list of faces.
 abbrev pub last_face : List ℕ → ℕ
 last_face fan = get_or fan (length fan - 1) 0
 
--- the lists that a level keeps for a point: in fan order where it is complete, and ascending where it is not
+-- The lists that a level keeps for a point: in fan order if it is complete, and ascending otherwise.
 pub record IsRow (polygons : List Polygon) (v : ℕ) (complete : Bool) (faces at edges ends : List ℕ) : Type 0 where
   pub faces_are : IsPermutation (faces_of_point polygons v) faces
   pub edges_are : IsPermutation (edge_numbers_at polygons v) edges
@@ -28,14 +28,14 @@ pub record IsRow (polygons : List Polygon) (v : ℕ) (complete : Bool) (faces at
   pub corners_are : at ≡ map (corner_of polygons v) faces
   pub ends_are : ends ≡ map (end_of polygons v) edges
 
--- the faces at a point in fan order: a path, to whose first face none leads, or a cycle, whose last face leads to its first
+-- The faces at a point in fan order: a path whose first face has no predecessor, or a cycle whose last face precedes its first.
 pub record IsTurned (polygons : List Polygon) (v : ℕ) (is_path : Bool) (fan : List ℕ) : Type 0 where
   pub start : ℕ
   pub is : IsFanFrom polygons v start fan
   pub alone : is_path ≡ true → (f : ℕ) → IsSuccessor polygons v f start → ⊥
   pub led : is_path ≡ false → IsSuccessor polygons v (last_face fan) start
 
--- the lists of the first points are kept
+-- The lists of the first `count` points.
 pub record AreRows (polygons : List Polygon) (complete : List Bool) (count : ℕ) (faces at edges ends : List (List ℕ)) : Type 0 where
   pub face_count : length faces ≡ count
   pub at_count : length at ≡ count

@@ -1,12 +1,11 @@
--- The tables of a level as whole lists, what they are put together to, and when they are those of a level.
+-- The tables of a level as whole lists: how calls extend them, and when they are those of a level.
 use Rattle.std.specs.Prelude.{ℕ, ◌≡◌, ◌<◌, Bool, List, [], ◌∷◌, ◌++◌, length, map, get_or}
 use Rattle.subdiv_model.specs.Polygons.{Polygon}
 use Rattle.subdiv_model.specs.Edges.{edges_of, faces_of_edge}
 use Rattle.subdiv_model.specs.Sharpness.{Sharpness, Method}
 use Rattle.level_topology.specs.Topology.{Topology, IsTopology, face_edges_of, corner_of, end_of}
 
--- how many points, edges and faces a level has, how many corners its faces have in all, and how many faces and edges
--- stand in the lists of all points together
+-- The numbers of points, edges, faces and corners of a level, and the numbers of faces and edges in the lists of all its points.
 pub record Counts : Type 0 where
   pub points : ℕ
   pub edges : ℕ
@@ -15,11 +14,11 @@ pub record Counts : Type 0 where
   pub face_places : ℕ
   pub edge_places : ℕ
 
--- the lists put so far, in the order of the numbers of faces, edges and points
+-- The lists put so far, in the order of the numbers of faces, edges and points.
 pub record Rows : Type 0 where
   pub counts : Counts
   pub method : Method
-  -- for each face its corners, its edges and its mark
+  -- for each face its corners, its edges, and whether it is a hole
   pub face_vertices : List Polygon
   pub face_edges : List (List ℕ)
   pub holes : List Bool
@@ -27,7 +26,7 @@ pub record Rows : Type 0 where
   pub edge_vertices : List (ℕ × ℕ)
   pub edge_faces : List (List ℕ)
   pub edge_sharpness : List Sharpness
-  -- for each point its faces with its place in each, its edges with its place in each, its sharpness and its mark
+  -- for each point its faces and its corner of each, its edges and its end of each, its sharpness, and whether its lists are in fan order
   pub vertex_faces : List (List ℕ)
   pub vertex_faces_at : List (List ℕ)
   pub vertex_edges : List (List ℕ)
@@ -35,6 +34,7 @@ pub record Rows : Type 0 where
   pub vertex_sharpness : List Sharpness
   pub complete : List Bool
 
+-- The level with these lists.
 abbrev pub topology_of : Rows → Topology
 topology_of rows = record {
   level = record {
@@ -50,7 +50,7 @@ topology_of rows = record {
   complete = rows.complete;
 }
 
--- the lists are those of a level: they make a topology, and what follows from it is as the definitions have it
+-- The lists are those of a level: they form a topology, and the derived lists agree with the definitions.
 pub record AreOfLevel (rows : Rows) : Type 0 where
   pub topology : IsTopology (topology_of rows)
   pub face_edges : rows.face_edges ≡ map (face_edges_of rows.face_vertices) rows.face_vertices
@@ -61,7 +61,7 @@ pub record AreOfLevel (rows : Rows) : Type 0 where
   pub corners : (v : ℕ) → v < length rows.complete → get_or rows.vertex_faces_at v [] ≡ map (corner_of rows.face_vertices v) (get_or rows.vertex_faces v [])
   pub ends : (v : ℕ) → v < length rows.complete → get_or rows.vertex_edges_at v [] ≡ map (end_of rows.face_vertices v) (get_or rows.vertex_edges v [])
 
--- nothing is put yet
+-- The lists before the first call.
 abbrev pub no_rows : Counts → Method → Rows
 no_rows counts method = record {
   counts = counts;
@@ -80,7 +80,7 @@ no_rows counts method = record {
   complete = [];
 }
 
--- the lists with a face more
+-- The lists after one more face.
 abbrev pub with_face : Polygon → List ℕ → Bool → Rows → Rows
 with_face corners edges hole rows = record rows {
   face_vertices = rows.face_vertices ++ corners ∷ [];
@@ -88,7 +88,7 @@ with_face corners edges hole rows = record rows {
   holes = rows.holes ++ hole ∷ [];
 }
 
--- with an edge more
+-- The lists after one more edge.
 abbrev pub with_edge : ℕ × ℕ → List ℕ → Sharpness → Rows → Rows
 with_edge ends faces sharpness rows = record rows {
   edge_vertices = rows.edge_vertices ++ ends ∷ [];
@@ -96,7 +96,7 @@ with_edge ends faces sharpness rows = record rows {
   edge_sharpness = rows.edge_sharpness ++ sharpness ∷ [];
 }
 
--- with a point more
+-- The lists after one more point.
 abbrev pub with_vertex : List ℕ → List ℕ → List ℕ → List ℕ → Sharpness → Bool → Rows → Rows
 with_vertex faces faces_at edges edges_at sharpness complete rows = record rows {
   vertex_faces = rows.vertex_faces ++ faces ∷ [];
@@ -107,7 +107,7 @@ with_vertex faces faces_at edges edges_at sharpness complete rows = record rows 
   complete = rows.complete ++ complete ∷ [];
 }
 
--- as many faces, edges and points are put as there may be
+-- All faces, edges and points that the counts announce have been put.
 pub record AreAllPut (rows : Rows) : Type 0 where
   pub faces : length rows.face_vertices ≡ rows.counts.faces
   pub edges : length rows.edge_vertices ≡ rows.counts.edges

@@ -1,4 +1,4 @@
--- The packed tables, seen as whole lists.
+-- The packed tables as whole lists.
 use Rattle.std.specs.Prelude.{ℕ, ◌≡◌, ◌≤◌, nat_eq, List, [], ◌∷◌, length, map, if◌then◌else◌}
 use Rattle.std.specs.Vec.{vec_capacity}
 use Rattle.std.specs.Option.{option_to_list}
@@ -9,13 +9,15 @@ use Rattle.subdiv_model.specs.Feature as feature
 use Rattle.sharpness_rules.specs.View.{method_of}
 use Rattle.level_topology.specs.Rows.{Rows}
 
--- the faces of an edge from a pair of numbers, which are the same where there is one face
+-- The faces of an edge from a pair of numbers, which are equal if there is one face.
 abbrev pub faces_of_pair : ℕ × ℕ → List ℕ
 faces_of_pair pair = if nat_eq pair.0 pair.1 then pair.0 ∷ [] else pair.0 ∷ (pair.1 ∷ [])
 
+-- The faces of an edge as a list.
 abbrev pub listed : EdgeFaces → List ℕ
 listed faces = faces.first ∷ option_to_list faces.second
 
+-- The facts of a face as in the definitions.
 abbrev pub facts_of_code : FaceFacts → feature.FaceFacts
 facts_of_code facts = record {
   level = facts.level;
@@ -26,6 +28,7 @@ facts_of_code facts = record {
   sharp = facts.sharp;
 }
 
+-- The lists that the tables keep.
 abbrev pub rows_of : LevelTables → Rows
 rows_of t = record {
   counts = record {
@@ -51,7 +54,7 @@ rows_of t = record {
   complete = t.complete.items;
 }
 
--- the lists of faces, of edges and of points are equally long each, and there is room for all that may come
+-- The lists of faces, of edges and of points have equal lengths each, and there is room for every item.
 pub record HaveRoom (t : LevelTables) : Type 0 where
   pub holes : length t.holes.items ≡ length t.faces.lists
   pub edge_vertices : length t.edge_vertices.items ≡ length t.edge_sharpness.sharpness

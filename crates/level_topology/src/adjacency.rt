@@ -1,4 +1,4 @@
-//! What the tables say of an edge with its faces and of a point with its edges.
+//! An edge and its faces, a point and its edges.
 
 ghost use Rattle.std.specs.Prelude.{◌≡◌, ◌<◌, [], nat_eq, length, get_or};
 ghost use Rattle.subdiv_model.specs.Edges.{edges_of, faces_of_edge, is_boundary};
@@ -9,7 +9,7 @@ ghost use Rattle.level_topology.specs.Topology.{edge_at};
 use crate::level::Level;
 
 impl Level {
-    /// Whether an edge has one face.
+    /// Whether an edge has only one face.
     pub fn is_boundary(&self, e: u32) -> bool
         requires { e < length (edges_of self.now.level.polygons) }
         ensures { result ≡ is_boundary self.now.level.polygons (edge_at self.now.level.polygons e) }
@@ -36,7 +36,7 @@ impl Level {
         self.vertex_edges(v).len() as u32
     }
 
-    /// The end of an edge that is not the point.
+    /// The end of an edge other than the point `v`.
     pub fn other_end(&self, v: u32, e: u32) -> u32
         requires { e < length (edges_of self.now.level.polygons) }
         ensures { result ≡ other_end v (edge_at self.now.level.polygons e) }

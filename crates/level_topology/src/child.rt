@@ -1,4 +1,4 @@
-//! A level with where its points and its faces come from.
+//! A level together with the origins of its points and faces.
 
 ghost use Rattle.std.specs.Prelude.{◌≡◌, ◌<◌, length, map, get_or, IfOk};
 ghost use Rattle.level_topology.specs.Child.{FromVertex, FromFace, FromEdge, IsChild, HasParent, child_of, point_from, face_from};
@@ -11,9 +11,10 @@ use ratio128::Memory;
 use std::alloc::Global;
 use std::marker::Model;
 
-/// A level and the tables into it from its parent: the points that come from the vertices, faces and edges of the parent,
-/// and the face that comes from each corner of the parent's faces. It may have children of a part of the parent alone.
-/// No accessor takes memory or searches.
+/// A level and the tables that lead into it from its parent.
+///
+/// The tables give the point of each point, face and edge of the parent, and the face of each corner. A child may contain the children of
+/// only a part of its parent. No accessor takes memory or searches. Points, edges, faces and corners are counted from 0.
 #[derive(Drop)]
 pub struct Child {
     level: Level,
@@ -32,9 +33,10 @@ impl Model for Child {
 }
 
 impl Child {
-    /// The level as a child of its parent: `origins` has the origin of each point of the level, and `places` the place of
-    /// each of its faces, in the order of their numbers. It goes over each list once. It answers `Memory` where memory runs
-    /// out, and the level is dropped then.
+    /// Joins a level to its parent as its child, in time linear in the lists.
+    ///
+    /// `origins` gives the origin of each point of the level, in the order of their numbers. `places` gives the parent corner of each of
+    /// its faces. `Memory`: memory ran out, and the level is dropped.
     pub fn join(
         alloc: Global,
         parent: &Level,
@@ -49,7 +51,7 @@ impl Child {
         Ok(Child { level, tables })
     }
 
-    /// What holds of each child.
+    /// States the facts of every child to a proof; at run time it does nothing.
     pub fn facts(&self)
         ensures { HasParent self.now }
     {
@@ -63,14 +65,14 @@ impl Child {
         &self.level
     }
 
-    /// The level without its tables.
+    /// Returns the level and drops its tables.
     pub fn into_level(self) -> Level
         ensures { result ≡ self.topology }
     {
         self.level
     }
 
-    /// The point that comes from a vertex of the parent, if there is one.
+    /// The point that comes from a point of the parent, if there is one.
     pub fn vertex_point(&self, v: u32) -> Option<u32>
         requires { v < self.now.parent_points }
         ensures { result ≡ point_from self.now (FromVertex v) }
@@ -95,7 +97,7 @@ impl Child {
         told(self.tables.points[first + e as usize])
     }
 
-    /// The child face of a corner of a face of the parent, if there is one: `corner` is the corner's place in the face.
+    /// The face that comes from a corner of a face of the parent, if there is one. `corner` is the place of the corner in the face.
     pub fn child_face(&self, f: u32, corner: u32) -> Option<u32>
         requires { corner < get_or self.now.parent_sizes f 0 }
         ensures { result ≡ face_from self.now (f, corner) }

@@ -5,7 +5,7 @@ ghost use Rattle.level_topology.specs.Topology.{IsTopology};
 ghost use Rattle.level_topology.specs.Child.{PointOrigin, corner_origins, origins_along, point_from, face_from};
 ghost use Rattle.level_topology.specs.ChildLaws.{ParentAndChild, face_count, face_corners, point_origin, face_place, points_from_corner};
 
-/// The origin of a point and the point that comes from a part of the parent are inverse to each other.
+/// A point's origin and the point that comes from a part of the parent are inverse to each other.
 pub fn points_have_their_origins()
     ensures origin { (pair : ParentAndChild) (origin : PointOrigin) (p : ℕ) → point_from pair.child origin ≡ Some p → point_origin pair.child p ≡ origin }
     ensures exists { (pair : ParentAndChild) (origin : PointOrigin) (p : ℕ) → point_from pair.child origin ≡ Some p
@@ -14,15 +14,15 @@ pub fn points_have_their_origins()
         → point_from pair.child (point_origin pair.child p) ≡ Some p }
 {}
 
-/// Each face has one place, and the face that comes from that place is this one.
+/// Each face of a child has exactly one place, and the face that comes from that place is this face.
 pub fn faces_have_their_places()
     ensures place { (pair : ParentAndChild) (place : ℕ × ℕ) (f : ℕ) → face_from pair.child place ≡ Some f → face_place pair.child f ≡ place }
     ensures exists { (pair : ParentAndChild) (place : ℕ × ℕ) (f : ℕ) → face_from pair.child place ≡ Some f → f < face_count pair.child }
     ensures face { (pair : ParentAndChild) (f : ℕ) → f < face_count pair.child → face_from pair.child (face_place pair.child f) ≡ Some f }
 {}
 
-/// The face of a corner is a quad. Its corners are the points that come from the corner, from the edge after it, from the
-/// face and from the edge before it, and so all four are there.
+/// Each face of a child is a quad. Its corners are the points that come from the parent corner, the edge after it, the face, and the edge
+/// before it.
 pub fn corners_come_from_their_places()
     ensures origins { (pair : ParentAndChild) (f : ℕ) → f < face_count pair.child
         → origins_along pair.child.origins (face_corners pair.child f) ≡ corner_origins pair.parent.level.polygons (face_place pair.child f) }

@@ -1,6 +1,6 @@
-//! Where the points and the faces of a child come from.
+//! The origins of the points and faces of a child.
 
-/// The part of the parent that a point comes from, by its number there.
+/// The part of the parent that a point comes from, with its number there.
 #[derive(Clone, Copy, Debug, PartialEq, Eq)]
 pub enum Origin {
     Vertex(u32),
@@ -8,7 +8,7 @@ pub enum Origin {
     Edge(u32),
 }
 
-/// A corner of a face of the parent: `corner` is its place among the corners of `face`.
+/// A corner of a face of the parent. `corner` is its place among the corners of `face`.
 #[derive(Clone, Copy, Debug, PartialEq, Eq)]
 pub struct FacePlace {
     pub face: u32,

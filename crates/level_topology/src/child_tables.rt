@@ -1,8 +1,12 @@
 //! The tables from a parent level into a child.
 //!
-//! A large child of quads has four times as many faces as its parent, and as many points. Its tables take, in bytes a face
-//! of the child: 4 for the number of each point in the whole next level and 4 for the points by these numbers, 4 for the
-//! faces by the parent's corners and 1 for where the corners of the parent's faces begin. That is 13.
+//! A large child of quads has four times as many faces as its parent, and as many points as faces. Its tables take 13 bytes for each face
+//! of the child:
+//!
+//! - 4 for the number of each point in the whole next level;
+//! - 4 for the points by these numbers;
+//! - 4 for the faces by the corners of the parent;
+//! - 1 for the starts of those corners.
 
 ghost use Rattle.std.specs.Prelude.{◌≡◌, ◌≢◌, ℕ, ◌+◌, ◌-◌, ◌<◌, ◌≤◌, ◌^◌, length, map, get_or, IfOk};
 ghost use Rattle.std.specs.List.{All, AllPairs};
@@ -15,7 +19,7 @@ use crate::level::Level;
 use ratio128::Memory;
 use std::alloc::Global;
 
-// What stands in place of a point or a face where there is none. A level has fewer of both.
+// The mark of a missing point or face. A level has fewer of both.
 const NOWHERE: u32 = u32::MAX;
 
 #[derive(Drop)]
@@ -28,14 +32,14 @@ pub(crate) struct ChildTables {
     pub(crate) child_faces: Vec<u32>,
 }
 
-// What a table says of a place.
+// The place in a table, or `None` for the mark of a missing one.
 pub(crate) fn told(place: u32) -> Option<u32>
     ensures { result ≡ told_place place }
 {
     if place == NOWHERE { None } else { Some(place) }
 }
 
-// The origin of the point with a number in the whole next level.
+// The origin of the point with this number in the whole next level.
 pub(crate) fn origin_from(number: u32, vertices: u32, faces: u32) -> Origin
     ensures { origin_of result ≡ numbered_origin vertices faces number }
 {
@@ -60,7 +64,7 @@ fn number_from(origin: Origin, vertices: u32, faces: u32) -> u32
     }
 }
 
-// The number of each point in the whole next level, and for each such number its point.
+// The number of each point in the whole next level, and the point of each such number.
 fn number_points(
     alloc: Global,
     vertices: u32,
@@ -85,7 +89,7 @@ fn number_points(
     Ok((numbers, points))
 }
 
-// For each corner of all faces, where those of a face begin at its start, its child face.
+// The child face of each corner of all faces. The corners of a face begin at its start.
 fn place_faces(
     alloc: Global,
     starts: &[u32],

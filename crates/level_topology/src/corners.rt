@@ -3,7 +3,7 @@
 ghost use Rattle.std.specs.Prelude.{◌≡◌, ◌<◌};
 ghost use Rattle.level_topology.specs.Topology.{corner_after, corner_before};
 
-/// The corner after a corner of a face of so many corners. After the last comes the first.
+/// Returns the corner after corner `c` in a face of `size` corners. The first follows the last.
 pub fn corner_after(size: usize, c: usize) -> usize
     requires { c < size }
     ensures after { result ≡ corner_after size c }
@@ -12,7 +12,7 @@ pub fn corner_after(size: usize, c: usize) -> usize
     if c + 1 == size { 0 } else { c + 1 }
 }
 
-/// The corner before a corner of a face of so many corners. Before the first comes the last.
+/// Returns the corner before corner `c` in a face of `size` corners. The last precedes the first.
 pub fn corner_before(size: usize, c: usize) -> usize
     requires { c < size }
     ensures before { result ≡ corner_before size c }

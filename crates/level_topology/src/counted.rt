@@ -1,4 +1,4 @@
-//! What there is too much of.
+//! Counts that exceed their limits.
 
 ghost use Rattle.std.specs.Prelude.{◌≡◌, Some};
 ghost use Rattle.subdiv_model.specs.Fault.{counted_text};
@@ -7,29 +7,29 @@ ghost use Rattle.level_topology.specs.CountedText.{counted_of};
 use std::fmt;
 use text_pieces::Pieces;
 
-/// What there is too much of, with how much. Faces and vertices are counted from 0.
+/// A count that exceeds its limit. Faces and points are counted from 0. Callers use it for the texts of their refusals.
 #[derive(Clone, Copy, Debug, PartialEq, Eq)]
 pub enum Counted {
-    /// Points.
+    /// Too many points: their count.
     Points(u64),
-    /// Faces.
+    /// Too many faces: their count.
     Faces(u64),
-    /// The corners of a face.
+    /// A face with too many corners.
     FaceSize { face: u32, size: u64 },
-    /// The edges at a vertex.
+    /// A point with too many edges.
     Valence { vertex: u32, count: u64 },
-    /// The faces of a level.
+    /// A level with too many faces.
     LevelFaces { level: u32, count: u64 },
-    /// The entries of a level's table.
+    /// A level whose table has too many entries.
     Entries { level: u32 },
-    /// The entries of the limit rows.
+    /// Limit rows with too many entries.
     LimitEntries,
-    /// The entries of the rows of a patch.
+    /// Rows of a patch with too many entries.
     PatchEntries,
 }
 
 impl Counted {
-    /// What there is too much of, in words.
+    /// The excess in words.
     pub fn pieces(&self) -> Pieces
         ensures { result ≡ counted_text (counted_of self.now) }
     {

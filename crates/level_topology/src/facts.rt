@@ -1,4 +1,4 @@
-//! What is known of a face where faces are selected to be refined.
+//! The facts by which faces are selected for refinement.
 
 ghost use Rattle.std.specs.Prelude.{◌≡◌, ◌<◌, true, not, length};
 ghost use Rattle.std.specs.List.{list_any, count_by};
@@ -18,15 +18,15 @@ use sharpness_rules::Sharpness;
 pub struct FaceFacts {
     /// The number of its level.
     pub level: u32,
-    /// Its own number, counted from 0 over all faces of the whole level.
+    /// Its number among all faces of the whole level, counted from 0.
     pub number: u64,
     /// How many corners it has.
     pub size: u32,
     /// Whether it is a hole.
     pub hole: bool,
-    /// How many of its corners are not regular.
+    /// How many of its corners are irregular.
     pub irregular: u32,
-    /// How many of its edges have two faces and are sharp.
+    /// How many of its edges are sharp and have two faces.
     pub sharp: u32,
 }
 
@@ -39,7 +39,7 @@ impl Level {
         self.edge_sharpness(e).is_sharp()
     }
 
-    // Whether an edge has two faces and is sharp.
+    // Whether an edge is sharp and has two faces.
     fn is_sharp_inside(&self, e: u32) -> bool
         requires { e < length (edges_of self.now.level.polygons) }
         ensures { result ≡ is_sharp_inside self.now.level (edge_at self.now.level.polygons e) }
@@ -61,7 +61,7 @@ impl Level {
         false
     }
 
-    // Whether a point is an end of a sharp edge of two faces.
+    // Whether a point is an end of a sharp edge with two faces.
     fn is_at_crease(&self, v: u32) -> bool
         requires { v < self.now.level.point_count }
         ensures { result ≡ list_any (is_sharp_inside self.now.level) (edges_at self.now.level v) }
@@ -75,7 +75,7 @@ impl Level {
         false
     }
 
-    // Whether neither a point is sharp nor an edge of two faces there.
+    // Whether the point is not sharp, and no sharp edge with two faces ends there.
     fn is_smooth_at(&self, v: u32) -> bool
         requires { v < self.now.level.point_count }
         ensures { result ≡ is_smooth_at self.now.level v }
@@ -91,7 +91,7 @@ impl Level {
         matches!(self.vertex_sharpness(v), Sharpness::Infinite)
     }
 
-    // Whether a point of the boundary is regular: of two faces and smooth, or of one and infinitely sharp.
+    // Whether a boundary point is regular: smooth with two faces, or infinitely sharp with one.
     fn is_regular_on_boundary(&self, v: u32) -> bool
         requires known { v < self.now.level.point_count }
         requires boundary { is_at_boundary self.now.level v ≡ true }
@@ -118,7 +118,7 @@ impl Level {
         }
     }
 
-    // How many corners of a face are not regular.
+    // How many corners of a face are irregular.
     fn irregular_corners(&self, f: u32) -> u32
         requires { f < length self.now.level.polygons }
         ensures { result ≡ count_by (λ v. not (is_regular self.now.level v)) (polygon_at self.now.level.polygons f) }
@@ -131,7 +131,7 @@ impl Level {
         count
     }
 
-    // How many edges of a face have two faces and are sharp.
+    // How many edges of a face are sharp and have two faces.
     fn sharp_edges(&self, f: u32) -> u32
         requires { f < length self.now.level.polygons }
         ensures { result ≡ count_by (is_sharp_inside self.now.level) (sides_of (polygon_at self.now.level.polygons f)) }
@@ -144,7 +144,7 @@ impl Level {
         count
     }
 
-    /// The facts of a face, under a number of its level and a number of its own. It takes time linear in the edges at its
+    /// Returns the facts of face `f`, under the given numbers of its level and of the face. The call takes time linear in the edges at the
     /// corners, and no memory.
     pub fn face_facts(&self, f: u32, level: u32, number: u64) -> FaceFacts
         requires { f < length self.now.level.polygons }

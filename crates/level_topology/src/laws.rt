@@ -7,7 +7,7 @@ ghost use Rattle.subdiv_model.specs.Edges.{edges_of, edge_number, faces_of_point
 ghost use Rattle.level_topology.specs.Topology.{Topology, IsTopology, IsFan, IsFaceAt, IsEdgeAt, IsFaceOf, edge_at, faces_of_edge_at, face_edges_of, edge_numbers_at, side_at};
 ghost use Rattle.level_topology.specs.Laws.{LevelPoint, face_edge_at, listed_faces, listed_edges};
 
-/// Edge `c` of a face joins its corner `c` and the next.
+/// Edge `c` of a face joins corner `c` to the next corner.
 pub fn face_edges_join_corners()
     ensures exists { (polygons : List Polygon) (f c : ℕ) → c < length (polygon_at polygons f)
         → face_edge_at polygons f c < length (edges_of polygons) }
@@ -16,7 +16,7 @@ pub fn face_edges_join_corners()
     ensures as_many { (polygons : List Polygon) (f : ℕ) → length (face_edges_of polygons (polygon_at polygons f)) ≡ length (polygon_at polygons f) }
 {}
 
-/// A face stands once in the list of each of its corners, with the corner's place there, and nothing else stands in it.
+/// The list of faces at a point contains each face with that corner exactly once, and no other face.
 pub fn faces_stand_at_their_corners()
     ensures each { (v : LevelPoint) (i : ℕ) → i < length (listed_faces v)
         → IsFaceAt v.topology.level.polygons v.number (get_or (listed_faces v) i 0) }
@@ -24,7 +24,7 @@ pub fn faces_stand_at_their_corners()
     ensures once { (v : LevelPoint) → IsTrue (is_distinct (listed_faces v)) }
 {}
 
-/// An edge stands once in the list of each of its ends, which is the end that is said there, and nothing else stands in it.
+/// The list of edges at a point contains each edge with that end exactly once, and no other edge.
 pub fn edges_stand_at_their_ends()
     ensures each { (v : LevelPoint) (i : ℕ) → i < length (listed_edges v)
         → IsEdgeAt v.topology.level.polygons v.number (get_or (listed_edges v) i 0) }
@@ -33,14 +33,14 @@ pub fn edges_stand_at_their_ends()
     ensures once { (v : LevelPoint) → IsTrue (is_distinct (listed_edges v)) }
 {}
 
-/// Each edge has its own number, and a pair of points that is the same edge in either direction has it too.
+/// Each edge has its own number, in either direction.
 pub fn edges_have_their_numbers()
     ensures own { (polygons : List Polygon) (e : ℕ) → e < length (edges_of polygons) → edge_number polygons (edge_at polygons e) ≡ e }
     ensures either_way { (polygons : List Polygon) (e : ℕ) (pair : ℕ × ℕ) → e < length (edges_of polygons)
         → IsTrue (same_edge pair (edge_at polygons e)) → edge_number polygons pair ≡ e }
 {}
 
-/// An edge has one face or two, the lower number first, and no other face has it.
+/// An edge has one face or two, the lower number first, and no other face contains it.
 pub fn edges_have_one_face_or_two()
     ensures some { (t : Topology) (e : ℕ) → IsTopology t → e < length (edges_of t.level.polygons)
         → 1 ≤ length (faces_of_edge_at t.level.polygons e) }
@@ -53,9 +53,8 @@ pub fn edges_have_one_face_or_two()
         → get_or (faces_of_edge_at polygons e) i 0 < get_or (faces_of_edge_at polygons e) (i + 1) 0 }
 {}
 
-/// The lists at a point are rearrangements of the faces and the edges there. At a complete point they are in fan order:
-/// the faces are one cycle or one path, the edges are as many or one more, and item `i` of the edges comes to the point
-/// in face `i`. At the others both ascend.
+/// The lists at a point are permutations of its faces and its edges. At a complete point they are in fan order, and at any other point they
+/// ascend. In fan order the faces form one cycle or one path, and the edges are as many or one more. Edge `i` enters the point in face `i`.
 pub fn complete_points_have_fans()
     ensures faces { (v : LevelPoint) → IsPermutation (faces_of_point v.topology.level.polygons v.number) (listed_faces v) }
     ensures edges { (v : LevelPoint) → IsPermutation (edge_numbers_at v.topology.level.polygons v.number) (listed_edges v) }

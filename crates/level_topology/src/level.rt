@@ -16,8 +16,10 @@ use crate::tables::LevelTables;
 use sharpness_rules::{Method, Sharpness};
 use std::marker::Model;
 
-/// A level with six incidence tables: the corners and the edges of each face, the ends and the faces of each edge, and
-/// the faces and the edges at each point. Its size never changes, and no accessor takes memory or searches.
+/// A level in six incidence tables: the corners and edges of each face, the ends and faces of each edge, the faces and edges at each point.
+///
+/// Points, edges, faces and corners are counted from 0. Edges are numbered as they first appear over faces and corners. The size of a level
+/// never changes, and no accessor takes memory or searches.
 #[derive(Drop)]
 pub struct Level {
     pub(crate) tables: LevelTables,
@@ -35,7 +37,7 @@ impl Model for Level {
     ghost invariant = { λ l. AreOfLevel (rows_of l.tables) };
 }
 
-// The faces of an edge from a pair of numbers, which are the same where there is one face.
+// The faces of an edge from a pair of numbers, which are equal if there is one face.
 fn faces_from(pair: (u32, u32)) -> EdgeFaces
     ensures { listed result ≡ faces_of_pair pair }
 {
@@ -45,7 +47,7 @@ fn faces_from(pair: (u32, u32)) -> EdgeFaces
 }
 
 impl Level {
-    /// The level with these tables. It copies none of them.
+    /// Returns the level with these tables, without a copy.
     pub fn of_tables(tables: LevelTables) -> Level
         requires { AreOfLevel (rows_of tables) }
         ensures { result ≡ topology_of (rows_of tables) }
@@ -53,7 +55,7 @@ impl Level {
         Level { tables }
     }
 
-    /// What holds of each level.
+    /// States the facts of every level to a proof; at run time it does nothing.
     pub fn facts(&self)
         ensures { IsTopology self.now }
     {
@@ -81,7 +83,7 @@ impl Level {
         self.tables.faces.len() as u32
     }
 
-    /// The corners of a face, in their order.
+    /// The points at the corners of a face, in order.
     pub fn face_vertices(&self, f: u32) -> &[u32]
         requires { f < length self.now.level.polygons }
         ensures { result.now ≡ polygon_at self.now.level.polygons f }
@@ -89,7 +91,7 @@ impl Level {
         self.tables.faces.list(f as usize)
     }
 
-    /// The edges of a face: edge `c` joins corner `c` and the next.
+    /// The edges of a face. Edge `c` joins corner `c` to the next.
     pub fn face_edges(&self, f: u32) -> &[u32]
         requires { f < length self.now.level.polygons }
         ensures { result.now ≡ face_edges_of self.now.level.polygons (polygon_at self.now.level.polygons f) }
@@ -97,7 +99,7 @@ impl Level {
         self.tables.faces.beside(f as usize)
     }
 
-    /// How many corners the faces before each face have together, and at the end how many all have.
+    /// The number of corners before each face, then the number of all corners.
     pub fn corner_starts(&self) -> &[u32]
         ensures gaps { gaps result.now ≡ map length self.now.level.polygons }
         ensures ascend { Ascend result.now (sum_by length self.now.level.polygons) }
@@ -105,7 +107,7 @@ impl Level {
         self.tables.faces.starts()
     }
 
-    /// The ends of an edge, in the direction in which a face names it first.
+    /// The ends of an edge, in the direction in which a face first names it.
     pub fn edge_vertices(&self, e: u32) -> (u32, u32)
         requires { e < length (edges_of self.now.level.polygons) }
         ensures { result ≡ edge_at self.now.level.polygons e }
@@ -121,7 +123,7 @@ impl Level {
         faces_from(self.tables.edge_faces[e as usize])
     }
 
-    /// The faces at a point, in fan order where the point is complete.
+    /// The faces at a point, in fan order if the point is complete.
     pub fn vertex_faces(&self, v: u32) -> &[u32]
         requires { v < self.now.level.point_count }
         ensures { result.now ≡ get_or self.now.faces_at v [] }
@@ -129,7 +131,7 @@ impl Level {
         self.tables.vertex_faces.list(v as usize)
     }
 
-    /// The place of a point among the corners of each of its faces.
+    /// For each face at a point, the place of the point among the corners of that face.
     pub fn vertex_faces_at(&self, v: u32) -> &[u16]
         requires { v < self.now.level.point_count }
         ensures { result.now ≡ map (corner_of self.now.level.polygons v) (get_or self.now.faces_at v []) }
@@ -137,7 +139,7 @@ impl Level {
         self.tables.vertex_faces.beside(v as usize)
     }
 
-    /// The edges at a point, in fan order where the point is complete.
+    /// The edges at a point, in fan order if the point is complete.
     pub fn vertex_edges(&self, v: u32) -> &[u32]
         requires { v < self.now.level.point_count }
         ensures { result.now ≡ get_or self.now.edges_at v [] }
@@ -145,7 +147,7 @@ impl Level {
         self.tables.vertex_edges.list(v as usize)
     }
 
-    /// For each edge at a point, 0 where the point is its first end, and 1 where it is its second.
+    /// For each edge at a point, 0 if the point is its first end, and 1 if it is its second.
     pub fn vertex_edges_at(&self, v: u32) -> &[u16]
         requires { v < self.now.level.point_count }
         ensures { result.now ≡ map (end_of self.now.level.polygons v) (get_or self.now.edges_at v []) }
@@ -177,7 +179,7 @@ impl Level {
         self.tables.holes[f as usize]
     }
 
-    /// Whether the lists at a point are in fan order. At a point that is not complete they ascend.
+    /// Whether the lists at a point are in fan order. At any other point they ascend.
     pub fn is_complete(&self, v: u32) -> bool
         requires { v < self.now.level.point_count }
         ensures { result ≡ get_or self.now.complete v false }
@@ -185,7 +187,7 @@ impl Level {
         self.tables.complete[v as usize]
     }
 
-    /// How the halves of an edge get their sharpness in the next level.
+    /// The method that gives the halves of an edge their sharpness at the next level.
     pub fn method(&self) -> Method
         ensures { method_of result ≡ self.now.level.method }
     {

@@ -1,4 +1,7 @@
-//! Levels: six incidence tables, and the tables into a child, put together in linear time and read without a search.
+//! Levels of a mesh in incidence tables, and the tables that lead from a level into its child, all read without a search.
+//!
+//! `LevelRows` builds a level list by list, and `Level::of_tables` takes whole tables. The program makes level 0 from faces with
+//! `level_builder`, and each further level with `LevelRows`, as a `Child`. Points, edges, faces and corners are counted from 0.
 #![tactic(auto)]
 
 mod adjacency;

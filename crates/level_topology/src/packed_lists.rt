@@ -1,4 +1,4 @@
-//! Lists of numbers, each with a list of as many items beside it, packed into three arrays.
+//! Lists of numbers, each beside a list of equal length, packed into three arrays.
 
 ghost use Rattle.std.specs.Prelude.{◌≡◌, ◌+◌, ◌^◌, ◌<◌, ◌≤◌, List, [], ◌∷◌, ◌++◌, length, map, get_or, IfOk, OnOk, vec_len};
 ghost use Rattle.std.specs.Vec.{vec_capacity};
@@ -9,7 +9,7 @@ use ratio128::Memory;
 use std::alloc::Global;
 use std::marker::Model;
 
-/// Lists of numbers, each with a list of as many items beside it. They take memory when they are made and in `make_room`.
+/// Lists of numbers, each beside a list of equal length. Only `with_room` and `make_room` take memory.
 #[derive(Drop)]
 pub struct PackedLists<T: Copy> {
     starts: Vec<u32>,
@@ -36,7 +36,7 @@ impl<T: Copy> Model for PackedLists<T> {
     ghost invariant = { λ p. IsPacked p.starts.items p.items.items p.beside.items p.list_limit p.item_limit (vec_capacity p.starts) (vec_capacity p.items) (vec_capacity p.beside) };
 }
 
-// The part of a list between a place and the next.
+// The part of a list from one place to the next.
 fn piece<'a, T>(starts: &[u32], items: &'a [T], i: usize) -> &'a [T]
     requires ascend { Ascend starts.now (length items.now) }
     requires inside { i + 1 < length starts.now }
@@ -47,8 +47,7 @@ fn piece<'a, T>(starts: &[u32], items: &'a [T], i: usize) -> &'a [T]
     &items[from..to]
 }
 
-// Adds a list after the others, its end, and what stands beside it. There is capacity for all of it, so this takes no
-// memory and does not fail.
+// Appends a list, its end, and the items beside it. The capacity suffices, so the call takes no memory and does not fail.
 fn append<T: Copy>(
     starts: &mut Vec<u32>,
     items: &mut Vec<u32>,
@@ -73,7 +72,7 @@ fn append<T: Copy>(
 }
 
 impl<T: Copy> PackedLists<T> {
-    /// Makes room for so many lists, and so many items in all.
+    /// Returns no lists, with room for `lists` lists and `items` items in all. `Memory`: memory ran out.
     pub fn with_room(alloc: Global, lists: u32, items: u32) -> Result<PackedLists<T>, Memory>
         ensures { IfOk result (λ p. p ≡ record { lists = []; beside = []; list_limit = lists; item_limit = items }) }
     {
@@ -88,7 +87,7 @@ impl<T: Copy> PackedLists<T> {
         })
     }
 
-    /// Adds a list after the others, and what stands beside it.
+    /// Appends a list, and the items beside it. There is room for both.
     pub fn push(&mut self, list: &[u32], beside: &[T])
         requires equal { length beside.now ≡ length list.now }
         requires few { length self.old.lists < self.old.list_limit }
@@ -117,7 +116,7 @@ impl<T: Copy> PackedLists<T> {
         self.starts.len() - 1
     }
 
-    // Where each list begins in all lists one after another, and at the end where the last ends.
+    // Where each list begins in the joined lists, then where the last one ends.
     pub(crate) fn starts(&self) -> &[u32]
         ensures gaps { gaps result.now ≡ map length self.now.lists }
         ensures ascend { Ascend result.now (sum_by length self.now.lists) }
@@ -125,7 +124,7 @@ impl<T: Copy> PackedLists<T> {
         &self.starts
     }
 
-    /// The list with a number.
+    /// List `i`, counted from 0.
     pub fn list(&self, i: usize) -> &[u32]
         requires { i < length self.now.lists }
         ensures { result.now ≡ get_or self.now.lists i [] }
@@ -133,7 +132,7 @@ impl<T: Copy> PackedLists<T> {
         piece(&self.starts, &self.items, i)
     }
 
-    /// The items beside the list with a number.
+    /// The items beside list `i`, counted from 0.
     pub fn beside(&self, i: usize) -> &[T]
         requires { i < length self.now.beside }
         ensures { result.now ≡ get_or self.now.beside i [] }
@@ -143,14 +142,14 @@ impl<T: Copy> PackedLists<T> {
 }
 
 impl<T: Copy> PackedLists<T> {
-    /// How many items there are in all lists.
+    /// How many items all lists have.
     pub fn total(&self) -> usize
         ensures { result ≡ sum_by length self.now.lists }
     {
         self.items.len()
     }
 
-    /// Makes room for so many lists more, and so many items more in all. On `Memory` all lists stay.
+    /// Makes room for `lists` further lists and `items` further items in all. `Memory`: memory ran out, and all lists remain.
     pub fn make_room(&mut self, lists: u32, items: u32) -> Result<(), Memory>
         requires few { length self.old.lists + lists < 2 ^ 32 }
         requires short { sum_by length self.old.lists + items < 2 ^ 32 }

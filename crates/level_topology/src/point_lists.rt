@@ -4,7 +4,7 @@ ghost use Rattle.std.specs.Prelude.{◌≡◌, []};
 
 use std::alloc::Global;
 
-/// The faces and the edges at a point, with its corner of each face and its end of each edge.
+/// The faces and edges at a point, with its corner of each face and its end of each edge.
 #[derive(Drop)]
 pub struct PointLists {
     pub faces: Vec<u32>,
@@ -14,7 +14,7 @@ pub struct PointLists {
 }
 
 impl PointLists {
-    /// No faces and no edges. It takes no memory.
+    /// Returns empty lists. The call takes no memory.
     pub fn new(alloc: Global) -> PointLists
         ensures faces { result.faces.items ≡ [] }
         ensures faces_at { result.faces_at.items ≡ [] }

@@ -1,4 +1,4 @@
-//! A level put together from lists that its maker knows.
+//! Builds a level from lists that the caller knows.
 
 ghost use Rattle.std.specs.Prelude.{◌≡◌, ◌+◌, ◌<◌, ◌≤◌, [], ◌∷◌, ◌++◌, length, map, IfOk, IfSome};
 ghost use Rattle.std.specs.List.{sum_by};
@@ -16,7 +16,7 @@ use std::alloc::Global;
 use std::marker::Model;
 use std::sync::ledger::Ledger;
 
-/// The lists of a level, put in the order of the numbers of its faces, edges and points. All memory is taken by `new`.
+/// The lists of a level, put in the order of the numbers of its faces, edges and points. Only `new` takes memory.
 #[derive(Drop)]
 pub struct LevelRows {
     tables: LevelTables,
@@ -34,8 +34,10 @@ impl Model for LevelRows {
 }
 
 impl LevelRows {
-    /// Room for a level with so many points, edges and faces, with so many corners of faces in all, and with so many
-    /// faces and edges in the lists of all points together.
+    /// Returns room for a level with these counts.
+    ///
+    /// `corners` counts the corners of all faces. `face_places` and `edge_places` count the faces and the edges in the lists of all points.
+    /// `Memory`: memory ran out.
     pub fn new(
         alloc: Global,
         points: u32,
@@ -76,7 +78,7 @@ impl LevelRows {
         })
     }
 
-    /// Puts the next face: its corners, the edges from each to the next, and whether it is a hole. It is one step.
+    /// Puts the next face: its corners, the edge from each corner to the next, and whether it is a hole. It counts one step.
     pub fn put_face<L: Ledger>(
         &mut self,
         corners: &[u32],
@@ -95,7 +97,7 @@ impl LevelRows {
         self.tables.holes.push_reserved(hole);
     }
 
-    /// Puts the next edge: its ends in the direction in which a face names it first, its faces, and its sharpness.
+    /// Puts the next edge: its ends in the direction in which a face first names it, its faces, and its sharpness.
     pub fn put_edge(&mut self, first: u32, second: u32, faces: EdgeFaces, s: Sharpness)
         requires edges { length self.old.edge_vertices < self.old.counts.edges }
         requires order { IfSome faces.second (λ second. faces.first < second) }
@@ -106,8 +108,8 @@ impl LevelRows {
         self.tables.edge_sharpness.push(s);
     }
 
-    /// Puts the next point: its faces with its place in each, its edges with its end of each, its sharpness, and whether
-    /// the lists are in fan order.
+    /// Puts the next point: its faces and its corner of each, its edges and its end of each, its sharpness, and whether it is complete. The
+    /// lists at a complete point are in fan order.
     pub fn put_vertex(
         &mut self,
         faces: &[u32],
@@ -130,7 +132,7 @@ impl LevelRows {
         self.tables.complete.push_reserved(complete);
     }
 
-    /// The level that has exactly these lists.
+    /// Returns the level with exactly these lists.
     pub fn finish(self) -> Level
         requires all { AreAllPut self }
         requires of_level { AreOfLevel self }
@@ -141,7 +143,7 @@ impl LevelRows {
     }
 }
 
-// The faces of an edge as a pair of numbers, which are the same where there is one face.
+// The faces of an edge as a pair of numbers, which are equal if there is one face.
 fn pair_of(faces: EdgeFaces) -> (u32, u32)
     requires { IfSome faces.second (λ second. faces.first < second) }
     ensures { faces_of_pair result ≡ listed faces }
@@ -149,7 +151,7 @@ fn pair_of(faces: EdgeFaces) -> (u32, u32)
     (faces.first, faces.second.unwrap_or(faces.first))
 }
 
-// The same tables, with the room given back that no sharpness took.
+// The tables without the capacity that no sharpness used.
 fn fitted(tables: LevelTables) -> LevelTables
     requires edges { length tables.edge_sharpness.sharpness ≡ tables.edge_sharpness.limit }
     requires points { length tables.vertex_sharpness.sharpness ≡ tables.vertex_sharpness.limit }

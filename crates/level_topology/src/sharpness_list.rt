@@ -1,5 +1,4 @@
-//! A sharpness for each of many items, of which most are smooth: four bytes an item, and one value more for each item
-//! that is not smooth.
+//! A sharpness for each of many items, most of them smooth: four bytes for each item, and one value for each item that is not smooth.
 
 ghost use Rattle.std.specs.Prelude.{◌≡◌, ℕ, ◌+◌, ◌^◌, ◌<◌, ◌≤◌, ◌⊎◌, [], ◌∷◌, ◌++◌, length, map, get_or, IfOk, vec_len};
 ghost use Rattle.std.specs.Vec.{vec_capacity};
@@ -12,8 +11,8 @@ use sharpness_rules::Sharpness;
 use std::alloc::Global;
 use std::marker::Model;
 
+// Value 0 is the sharpness of every smooth item.
 /// A sharpness for each of many items. It takes all its memory when it is made.
-// The value with number 0 is that of all smooth items.
 #[derive(Drop)]
 pub struct SharpnessList {
     codes: Vec<u32>,
@@ -34,7 +33,7 @@ impl Model for SharpnessList {
     ghost invariant = { λ s. IsCoded (map sharpness_of s.values.items) s.codes.items s.limit (vec_capacity s.values) (vec_capacity s.codes) };
 }
 
-// The number of a value, which is kept unless it is the smooth one. There is capacity for it, so this takes no memory.
+// The number of a value; the list keeps each value except the smooth one. The capacity suffices, so the call takes no memory.
 fn code_of(values: &mut Vec<Sharpness>, s: Sharpness) -> u32
     requires some { 0 < length values.old.items }
     requires first { get_or (map sharpness_of values.old.items) 0 Infinite ≡ Smooth }
@@ -54,7 +53,7 @@ fn code_of(values: &mut Vec<Sharpness>, s: Sharpness) -> u32
 }
 
 impl SharpnessList {
-    // Room for so many items.
+    // An empty list with room for `limit` items.
     pub(crate) fn with_room(alloc: Global, limit: u32) -> Result<SharpnessList, Memory>
         ensures { IfOk result (λ s. s ≡ record { sharpness = []; limit = limit }) }
     {
@@ -82,7 +81,7 @@ impl SharpnessList {
         self.values[self.codes[i] as usize]
     }
 
-    // Adds an item after the others.
+    // Appends an item.
     pub(crate) fn push(&mut self, s: Sharpness)
         requires { length self.old.sharpness < self.old.limit }
         ensures { self.new ≡ record { sharpness = self.old.sharpness ++ sharpness_of s ∷ []; limit = self.old.limit } }
@@ -91,7 +90,7 @@ impl SharpnessList {
         self.codes.push_reserved(code);
     }
 
-    // The same, with the room given back that no value took.
+    // The list without the capacity that no value used.
     pub(crate) fn fitted(mut self) -> SharpnessList
         requires { length self.sharpness ≡ self.limit }
         ensures { result ≡ self }
@@ -100,7 +99,7 @@ impl SharpnessList {
         self
     }
 
-    /// The list of these values, in their order.
+    /// Returns the list of these values, in order. `Memory`: memory ran out.
     pub fn from_slice(alloc: Global, values: &[Sharpness]) -> Result<SharpnessList, Memory>
         requires { length values.now < 2 ^ 32 }
         ensures { IfOk result (λ s. s ≡ kept (map sharpness_of values.now) (length values.now)) }

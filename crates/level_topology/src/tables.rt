@@ -1,10 +1,12 @@
 //! The six incidence tables of a level, packed.
 //!
-//! A large level of quads has twice as many edges as faces, and as many points. Its tables take, in bytes a face:
-//! 36 for the corners and edges of faces with their starts and 1 for the marks of holes; 16 for the ends of edges, 16 for
-//! their faces and 8 for the codes of their sharpness; 28 for the faces at points and 28 for the edges at points, each
-//! with places and starts, 4 for the codes of the points' sharpness and 1 for their marks. That is 138, and 24 more for
-//! each edge and each point that is not smooth.
+//! A large level of quads has twice as many edges as faces, and as many points as faces. Its tables take 138 bytes for each face:
+//!
+//! - faces: 36 for corners and edges with their starts, 1 for the marks of holes;
+//! - edges: 16 for ends, 16 for faces, 8 for the codes of sharpness;
+//! - points: 28 for faces and 28 for edges, each with places and starts, 4 for the codes of sharpness, 1 for marks.
+//!
+//! Each edge or point that is not smooth takes 24 bytes more.
 
 ghost use Rattle.std.specs.Prelude.{◌≡◌, ◌≤◌, [], IfOk};
 ghost use Rattle.std.specs.Vec.{vec_capacity};
@@ -17,32 +19,32 @@ use ratio128::Memory;
 use sharpness_rules::Method;
 use std::alloc::Global;
 
-/// The tables of a level. An edge of one face has that face's number twice in `edge_faces`.
+/// The tables of a level. An edge with one face has the number of that face twice in `edge_faces`.
 #[derive(Drop)]
 pub struct LevelTables {
-    /// The corners of each face, and beside them its edges.
+    /// The corners of each face, beside its edges.
     pub faces: PackedLists<u32>,
     /// Whether each face is a hole.
     pub holes: Vec<bool>,
-    /// The ends of each edge, as a face first names them.
+    /// The ends of each edge, in the direction in which a face first names it.
     pub edge_vertices: Vec<(u32, u32)>,
     /// The first and the last face of each edge.
     pub edge_faces: Vec<(u32, u32)>,
     /// The sharpness of each edge.
     pub edge_sharpness: SharpnessList,
-    /// The faces at each point, and beside them its corner of each.
+    /// The faces at each point, beside its corner of each.
     pub vertex_faces: PackedLists<u16>,
-    /// The edges at each point, and beside them its end of each.
+    /// The edges at each point, beside its end of each.
     pub vertex_edges: PackedLists<u16>,
     /// The sharpness of each point.
     pub vertex_sharpness: SharpnessList,
     /// Whether the lists at each point are in fan order.
     pub complete: Vec<bool>,
-    /// How the halves of an edge get their sharpness in the next level.
+    /// The method that gives the halves of an edge their sharpness at the next level.
     pub method: Method,
 }
 
-// Room for so many faces, and so many corners in all, and for the marks of holes.
+// Room for faces, for their corners in all, and for the marks of holes.
 pub(crate) fn face_tables(
     alloc: Global,
     faces: u32,
@@ -56,7 +58,7 @@ pub(crate) fn face_tables(
     Ok((PackedLists::with_room(alloc, faces, corners)?, holes))
 }
 
-// Room for the ends, the faces and the sharpness of so many edges.
+// Room for the ends, the faces and the sharpness of edges.
 pub(crate) fn edge_tables(
     alloc: Global,
     edges: u32,
@@ -72,7 +74,7 @@ pub(crate) fn edge_tables(
     Ok((ends, faces, SharpnessList::with_room(alloc, edges)?))
 }
 
-// Room for the sharpness and the marks of so many points.
+// Room for the sharpness and the marks of points.
 pub(crate) fn mark_tables(alloc: Global, points: u32) -> Result<(SharpnessList, Vec<bool>), Memory>
     ensures sharpness { IfOk result (λ made. made.0 ≡ kept [] points) }
     ensures marks { IfOk result (λ made. made.1.items ≡ []) }

@@ -1,11 +1,11 @@
--- What a step promises of a child, for both schemes.
+-- The promise of a step about a child, for both schemes.
 use Rattle.std.proofs.Common.{refl}
 use Rattle.subdiv_model.specs.Mask.{Scheme, CatmullClark}
 use Rattle.level_topology.specs.Topology.{Topology}
 use Rattle.level_topology.specs.Child.{ChildTopology}
 use Rattle.child_masks.specs.Masks.{CanRefine}
 
--- what is asked under Catmull and Clark's scheme is enough for each
+-- the conditions under Catmull and Clark's scheme are enough for each scheme
 pub for-scheme : (parent : Topology) (child : ChildTopology) (scheme : Scheme) → CanRefine parent child CatmullClark → CanRefine parent child scheme
 for-scheme parent child scheme can = record {
   vertices = can.vertices;

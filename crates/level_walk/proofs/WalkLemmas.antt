@@ -11,7 +11,7 @@ use Rattle.level_walk.specs.Walk.{Place, IsAfter, IsWalked, IsStopped}
 pub after-next : {X : Type 0} (Leads : X → X → Type 0) (start : X) (k : ℕ) (before x : X) → IsAfter Leads start k before → Leads before x → IsAfter Leads start (k + 1) x
 after-next Leads start k before x after leads = rw add-one (before, (after, leads))
 
--- before a round one level more is left than after it
+-- before a round there is one level more to go than after it
 pub one-left : (P : ℕ → Type 0) (depth k : ℕ) → k < depth → P (depth - k) → P (suc (depth - (k + 1)))
 one-left P depth k within p = let same : depth - k ≡ suc (depth - (k + 1)) = omega (arith, within) in subst P same p
 
@@ -31,7 +31,7 @@ pub kept-on : {X A B : Type 0} (from : Result X A) (x : X) (fault : A → B) (P 
 kept-on (Ok y) x fault P e p = let same : y ≡ x = cc in subst P same p
 kept-on (Err f) x fault P e p = cc
 
--- and its fault was another
+-- a result whose fault is replaced has the fault of the original
 pub changed : {X A B : Type 0} (from : Result X A) (new : B) (fault : A → B) (P : X → Type 0) (Q : A → Type 0)
     → MatchResult from (λ y. let r : Result X B = Err new in r ≡ Ok y) (λ e. let r : Result X B = Err new in r ≡ Err (fault e)) → MatchResult from P Q
     → (old : A) × ((new ≡ fault old) × Q old)

@@ -1,4 +1,4 @@
--- One level more, or why there is none.
+-- One round of a walk, or the reason why it fails.
 use Rattle.std.specs.Prelude.{ℕ, ◌≡◌, ◌⊎◌}
 use Rattle.level_topology.specs.Topology.{Topology}
 use Rattle.level_topology.specs.Child.{ChildTopology}
@@ -6,7 +6,7 @@ use Rattle.level_walk.specs.declared.fault.Cause.{Cause}
 use Rattle.level_walk.specs.declared.fault.Cause.TheVariants.{Memory}
 use Rattle.level_walk.specs.declared.reached.Reached.{Reached}
 
--- from a level and what is carried there to the next, with the steps taken before and after
+-- from a level and its data to the next level and its data, with the number of steps before and after
 pub record IsNext {W C : Type 0} (level_of : W → Topology) (Makes : W → ChildTopology → W → ℕ → ℕ → Type 0)
     (Follows : Topology → ChildTopology → C → C → ℕ → ℕ → Type 0) (from next : Reached W C) (old new : ℕ) : Type 0 where
   pub child : ChildTopology
@@ -14,7 +14,7 @@ pub record IsNext {W C : Type 0} (level_of : W → Topology) (Makes : W → Chil
   pub made : Makes from.level child next.level old between
   pub followed : Follows (level_of from.level) child from.carried next.carried between new
 
--- the next level is made, and what is carried cannot follow to it
+-- the next level is made, but the data cannot follow to it
 pub record IsLeftBehind {W C : Type 0} (level_of : W → Topology) (Makes : W → ChildTopology → W → ℕ → ℕ → Type 0)
     (Fails : Topology → ChildTopology → C → Cause → ℕ → ℕ → Type 0) (from : Reached W C) (cause : Cause) (old new : ℕ) : Type 0 where
   pub child : ChildTopology
@@ -23,14 +23,14 @@ pub record IsLeftBehind {W C : Type 0} (level_of : W → Topology) (Makes : W �
   pub made : Makes from.level child next old between
   pub fails : Fails (level_of from.level) child from.carried cause between new
 
--- the next level is made and what is carried follows to it, and there is no memory for the visitor
+-- the next level is made and the data follows to it, but memory runs out for the visitor
 pub record IsWithoutMemory {W C : Type 0} (level_of : W → Topology) (Makes : W → ChildTopology → W → ℕ → ℕ → Type 0)
     (Follows : Topology → ChildTopology → C → C → ℕ → ℕ → Type 0) (from : Reached W C) (cause : Cause) (old new : ℕ) : Type 0 where
   pub next : Reached W C
   pub made : IsNext level_of Makes Follows from next old new
   pub memory : cause ≡ Memory
 
--- why the next level is not reached, with the steps taken before and after
+-- the reason why the next level is not reached, with the number of steps before and after
 abbrev pub IsCause : {W C : Type 0} → (W → Topology) → (W → ChildTopology → W → ℕ → ℕ → Type 0) → (W → Cause → ℕ → ℕ → Type 0)
     → (Topology → ChildTopology → C → C → ℕ → ℕ → Type 0) → (Topology → ChildTopology → C → Cause → ℕ → ℕ → Type 0)
     → Reached W C → Cause → ℕ → ℕ → Type 0

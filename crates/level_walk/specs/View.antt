@@ -1,4 +1,4 @@
--- The causes of this crate, seen as the definitions name them.
+-- The causes of this crate in the terms of the definitions.
 use Rattle.subdiv_model.specs.Fault as model
 use Rattle.level_walk.specs.declared.fault.OverflowKind.{OverflowKind}
 use Rattle.level_walk.specs.declared.fault.OverflowKind.TheVariants.{Chaikin, Transition, Denominator, Value}

@@ -1,4 +1,4 @@
-//! The levels to a depth.
+//! A walk from a level to a depth.
 
 ghost use Rattle.std.specs.Prelude.{◌≡◌, Err, MatchResult};
 ghost use Rattle.level_walk.specs.Walk.{IsWalk, at};
@@ -13,7 +13,7 @@ use ratio128::Steps;
 use std::alloc::Global;
 use std::sync::ledger::Ledger;
 
-// What is reached, or why the level with this number is not.
+// Returns the result of a round; a fault gets the number of the level.
 fn numbered<T>(reached: Result<T, Cause>, number: u32) -> Result<T, WalkFault>
     ensures { MatchResult reached
         (λ reached. result ≡ Ok reached)
@@ -28,10 +28,11 @@ fn numbered<T>(reached: Result<T, Cause>, number: u32) -> Result<T, WalkFault>
     }
 }
 
-/// The level so many steps after the one at the start, and what is carried there. Two levels are kept at a time; the visitor
-/// takes each level before the last, with what was carried there, once the next is made.
+/// Walks `depth` levels from the start. Returns the last level and the data that the carrier brought there. The walk keeps
+/// two levels at a time. Once the next level is made, the visitor takes the level before it, with its data.
 ///
-/// A fault is that of the first level that is not reached.
+/// Reports the cause for the first level that is not reached, with the number of that level, counted from 1. The walk then
+/// drops the level and the data it has. The visitor keeps what it took.
 pub fn walk<S: NextLevel<L>, C: Carrier<L>, V: Visitor<S::Level, C::Carried>, L: Ledger>(
     alloc: Global,
     step: &S,

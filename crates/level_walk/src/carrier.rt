@@ -1,4 +1,4 @@
-//! What is carried along.
+//! The data that a walk carries along.
 
 ghost use Rattle.std.specs.Prelude.{◌≡◌, ℕ, IfOk, MatchResult};
 ghost use Rattle.subdiv_model.specs.Mask.{CatmullClark};
@@ -10,25 +10,27 @@ use ratio128::Steps;
 use std::alloc::Global;
 use std::sync::ledger::Ledger;
 
-/// How something is carried from a level to the next. What stays the same on the way, as a scheme, stands in the carrier.
+/// Carries data from a level to the next. Settings that stay the same during the walk, such as a scheme, belong to the
+/// carrier itself.
 pub trait Carrier<L: Ledger> {
-    /// What is carried.
+    /// The data at a level.
     type Carried: Drop;
 
     ghost use Rattle.level_topology.specs.Topology.{Topology};
     ghost use Rattle.level_topology.specs.Child.{ChildTopology};
     ghost use Rattle.level_walk.specs.declared.fault.Cause.{Cause};
 
-    /// What can be carried on from a level.
+    /// The data can be carried from this level on.
     ghost Fits: { Self → Topology → Self.Carried → Type 0 };
 
-    /// A level, its child, what is carried at the one and at the other, and the steps taken before and after.
+    /// Relates a level, its child, the data at both, and the number of steps before and after.
     ghost Follows: { Self → Topology → ChildTopology → Self.Carried → Self.Carried → ℕ → ℕ → Type 0 };
 
-    /// A level, its child, what is carried at the level, why it goes no further, and the steps taken before and after.
+    /// Relates a level, its child, the data at the level, the cause that stops the data, and the number of steps before and
+    /// after.
     ghost Fails: { Self → Topology → ChildTopology → Self.Carried → Cause → ℕ → ℕ → Type 0 };
 
-    /// What is carried at a child of a level, from what is carried at the level.
+    /// Returns the data at a child of a level, from the data at the level.
     fn follow(
         &self,
         alloc: Global,
@@ -45,7 +47,7 @@ pub trait Carrier<L: Ledger> {
         ensures fits { IfOk result (λ next. Fits self.now child.now.topology next) };
 }
 
-/// Nothing is carried.
+/// A carrier without data. It takes no steps and cannot fail.
 #[derive(Clone, Copy)]
 pub struct Nothing;
 

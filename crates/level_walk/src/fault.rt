@@ -1,26 +1,26 @@
-//! Why a walk stops.
+//! The reason why a walk stops.
 
 use ratio128::Memory;
 
-/// What passes its bound.
+/// The kind of a number that exceeds its bound.
 #[derive(Clone, Copy, Debug, PartialEq, Eq)]
 pub enum OverflowKind {
-    /// The denominator of the sharpness of the half of an edge passes 2^60, under the method `Chaikin`.
+    /// The denominator of the sharpness of the half of an edge is above 2^60, under the method `Chaikin`.
     Chaikin,
-    /// The denominator of the weight between the rules of two levels passes 2^60.
+    /// The denominator of the weight between the rules of two levels is above 2^60.
     Transition,
-    /// The common denominator of a point passes 2^126 - 1.
+    /// The common denominator of a point is above 2^126 - 1.
     Denominator,
-    /// A numerator over the greatest common denominator passes 2^126 - 1.
+    /// A numerator over the greatest common denominator is above 2^126 - 1.
     Value,
 }
 
-/// Why a level cannot be made, or why what is carried cannot follow to it.
+/// The reason why a level is not made, or why the data cannot follow to it. All steps and carriers report these causes.
 #[derive(Clone, Copy, Debug, PartialEq, Eq)]
 pub enum Cause {
-    /// The level would have so many faces, and that is too many.
+    /// The level would have this many faces, which is too many.
     TooManyFaces { count: u64 },
-    /// A number passes its bound.
+    /// A number exceeds its bound.
     Overflow(OverflowKind),
     /// The table of the level would have more than 2^27 entries.
     TooManyEntries,
@@ -39,11 +39,13 @@ impl From<Memory> for Cause {
     }
 }
 
-/// Why a walk stops: the number of the first level that is not reached, from 1, and the cause. Where memory runs out outside of
-/// the walk, the number is 0.
+/// The reason why a walk stops: the number of the first level that is not reached, counted from 1, and the cause. The number
+/// is 0 where memory runs out outside of the walk.
 #[derive(Clone, Copy, Debug, PartialEq, Eq)]
 pub struct WalkFault {
+    /// The number of the level.
     pub level: u32,
+    /// The cause.
     pub cause: Cause,
 }
 

@@ -1,5 +1,7 @@
-//! One walk over levels: a step makes each level of the one before, a carrier carries something along, and a visitor takes what
-//! is left behind.
+//! Walks over the levels of a subdivision with one loop for every kind of level.
+//!
+//! A step (`NextLevel`) makes each level from the one before. A `Carrier` brings data along, such as values or a table. A
+//! `Visitor` takes each level that is left behind. Only two levels are in memory at a time.
 #![tactic(auto)]
 
 mod along;

@@ -1,4 +1,4 @@
-//! One level more.
+//! One round of a walk.
 
 ghost use Rattle.std.specs.Prelude.{◌≡◌, ℕ, suc, Ok, Err, IfOk, MatchResult};
 ghost use Rattle.level_walk.specs.Round.{IsNext, IsCause};
@@ -12,7 +12,7 @@ use ratio128::Steps;
 use std::alloc::Global;
 use std::sync::ledger::Ledger;
 
-// A level with what is carried there, or why it cannot be carried there.
+// Returns a level with its data, or the reason why the data cannot follow to it.
 fn joined<W: Drop, C>(level: W, carried: Result<C, Cause>) -> Result<Reached<W, C>, Cause>
     ensures { MatchResult carried (λ carried. result ≡ Ok (record { level = level; carried = carried })) (λ cause. result ≡ Err cause) }
 {
@@ -22,7 +22,7 @@ fn joined<W: Drop, C>(level: W, carried: Result<C, Cause>) -> Result<Reached<W, 
     }
 }
 
-// The next level and what is carried there.
+// Returns the next level and its data.
 fn next<S: NextLevel<L>, C: Carrier<L>, L: Ledger>(
     alloc: Global,
     step: &S,
@@ -49,7 +49,7 @@ fn next<S: NextLevel<L>, C: Carrier<L>, L: Ledger>(
     joined(S::into_level(next), carried)
 }
 
-// Hands over what is left behind.
+// Gives the visitor the level that is left behind.
 fn leave<V: Visitor<W, C>, W: Drop, C: Drop>(
     visitor: &mut V,
     from: Reached<W, C>,
@@ -65,7 +65,7 @@ fn leave<V: Visitor<W, C>, W: Drop, C: Drop>(
     }
 }
 
-// The next level and what is carried there; the visitor takes what is left behind.
+// Returns the next level and its data; the visitor takes the level that is left behind.
 pub(crate) fn round<S: NextLevel<L>, C: Carrier<L>, V: Visitor<S::Level, C::Carried>, L: Ledger>(
     alloc: Global,
     step: &S,

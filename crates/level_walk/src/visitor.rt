@@ -1,20 +1,20 @@
-//! What takes the levels that are left behind.
+//! The receiver of the levels that a walk leaves behind.
 
 ghost use Rattle.std.specs.Prelude.{IfOk};
 
 use ratio128::Memory;
 
-/// What takes each level that is left behind, with what was carried there: it may keep, count, write or drop them.
+/// Takes each level that the walk leaves behind, with its data. It may keep, count, write or drop them.
 pub trait Visitor<W, C> {
-    /// The visitor before, a level, what was carried there, and the visitor after.
+    /// Relates the visitor before, a level, its data, and the visitor after.
     ghost Takes: { Self → W → C → Self → Type 0 };
 
-    /// Takes a level, once the next one is made.
+    /// Takes a level, once the next one is made. Reports `Memory` where memory runs out.
     fn leave(&mut self, level: W, carried: C) -> Result<(), Memory>
         ensures { IfOk result (λ _. Takes self.old level carried self.new) };
 }
 
-/// Each level is dropped.
+/// A visitor that drops each level.
 #[derive(Clone, Copy)]
 pub struct Dropped;
 

@@ -1,4 +1,4 @@
--- What the refinement of a channel asks of level 0 and of its controls.
+-- The conditions on level 0 and on the controls of a channel.
 use Rattle.std.proofs.Common.{◌≡◌, ℕ, ◌*◌, ◌^◌, ◌≤◌, true, ℤ, unsigned_abs, List, [], ◌∷◌, length, replicate, arith, refl, ap, sym, ◌∙◌}
 use Rattle.std.specs.List.{All}
 use Rattle.std.proofs.lemmas.List.{length-map}
@@ -19,7 +19,7 @@ use Rattle.channel_refine.specs.Base.{IsBase}
 use Rattle.channel_refine.specs.Refined.{AreControls}
 use Rattle.library_tests.specs.Controls.{IsControl}
 
--- level 0 of a mesh that is accepted, where it has few points
+-- level 0 of an accepted mesh with few points
 pub base-of : (mesh : ObjMesh) (level : Topology) → IsAccepted mesh level → level.level.point_count ≤ 2 ^ 20 → IsBase level
 base-of mesh level accepted few =
     let manifold = (manifold-decides (length mesh.points) mesh.faces).0 ((fault-decides (length mesh.points) mesh.faces).0 accepted.manifold) in
@@ -30,7 +30,7 @@ base-of mesh level accepted few =
       boundary = rw accepted.level_is (boundary-base mesh manifold);
     }
 
--- points that are controls are so as rows
+-- points that are controls are controls as rows
 module _ (greatest : ℕ) where
   each : (P : Row → Type 0) → ((p : Valued Point3) → IsControl greatest p → P (row_of (λ (q : Point3). q.x ∷ q.y ∷ q.z ∷ []) p))
       → (points : List (Valued Point3)) → All (IsControl greatest) points → All P (rows_of (λ (q : Point3). q.x ∷ q.y ∷ q.z ∷ []) points)
@@ -47,7 +47,7 @@ module _ (greatest : ℕ) where
       → greatest_amount (x ∷ y ∷ z ∷ []) ≤ den * greatest
   below den x y z e a b c = rw e (omega (arith, a, b, c))
 
--- and so the controls of a channel
+-- the points are the controls of a channel
 pub are-controls : (channel : Channel) (points : List (Valued Point3)) → length points ≡ channel.base.point_count → All (IsControl channel.greatest) points
     → AreControls channel (rows_of (λ (q : Point3). q.x ∷ q.y ∷ q.z ∷ []) points)
 are-controls channel points count all =

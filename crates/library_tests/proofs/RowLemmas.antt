@@ -10,7 +10,7 @@ use Rattle.stencil_apply.specs.Table.{Share, IsRow, total_of}
 use Rattle.stencil_apply.specs.Arrays.{shares_of, row_of}
 use Rattle.stencil_apply.specs.declared.entry.Entry.{Entry}
 
--- the entries from here on are from a control point on, ascend, and have the rest of the denominator
+-- the entries from here on ascend from a control point, and have the rest of the denominator
 abbrev pub AreLeft : ℕ → ℕ → ℕ → List Entry → Type 0
 AreLeft controls next left [] = left ≡ 0
 AreLeft controls next left (entry ∷ entries) =
@@ -38,7 +38,7 @@ whole controls next left [] h = omega (arith, h)
 whole controls next left (entry ∷ entries) h =
     omega (arith, h.3, whole controls (entry.index + 1) (left - entry.numerator) entries h.4, sum_by-cons (λ (share : Share). share.1) (entry.index, entry.numerator) (shares_of entries))
 
--- no entries have nothing of the denominator
+-- an empty rest of entries has nothing of the denominator
 none-left : (controls next left : ℕ) (entries : List Entry) → length entries < 1 → left ≡ 0 → AreLeft controls next left entries
 none-left controls next left [] short e = e
 none-left controls next left (entry ∷ entries) short e = absurd (omega (arith, short))
@@ -53,7 +53,7 @@ are-row controls den entries positive short h = record {
   whole = whole controls 0 den entries h;
 }
 
--- entries are a row where all pass once those that are left do, and none is left
+-- entries are a row if all pass once the rest passes, and the rest is empty
 pub is-row : (controls den : ℕ) (entries : List Entry) → 0 < den → den ≤ number_bound → (next left : ℕ) (rest : List Entry)
     → (AreLeft controls next left rest → AreLeft controls 0 den entries) → length rest < 1 → left ≡ 0 → IsRow controls (row_of den entries)
 is-row controls den entries positive short next left rest all none e = are-row controls den entries positive short (all (none-left controls next left rest none e))

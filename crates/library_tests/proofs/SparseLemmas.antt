@@ -1,4 +1,4 @@
--- Controls that are alike, levels around the features as they are written, and what these select.
+-- Equal controls, levels around the features, and the faces that these levels select.
 use Rattle.std.proofs.Common.{◌≡◌, ℕ, zero, suc, ◌*◌, ◌≤◌, List, ◌∷◌, length, map, replicate, Result, Ok, Err, MatchResult, Vec, Global, arith, refl, ap, sym, subst, ◌∙◌}
 use Rattle.std.specs.List.{All}
 use Rattle.std.specs.Result.{IfOk}
@@ -63,6 +63,6 @@ pub feature-result : (base : Channel) (controls : List Row) (depth : ℕ) (resul
 feature-result base controls depth (Ok levels) are = feature-levels base controls depth levels.items are
 feature-result base controls depth (Err fault) are = tt
 
--- what a level selects is a selection of itself
+-- the faces that a level selects are a selection of the level
 pub own-selection : (base : Level) (depth : ℕ) → IsSelection base depth (selected_to base (meeting_to is_feature base depth) depth)
 own-selection base depth = cut-selection base base (record { sizes = refl; holes = refl }) (meeting_to is_feature base depth) depth

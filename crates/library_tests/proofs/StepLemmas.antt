@@ -2,7 +2,7 @@
 use Rattle.std.proofs.Common.{◌≡◌, ℕ, ◌+◌, length, arith, ap}
 use Rattle.stencil_apply.specs.Table.{Table, entries_of, rows_in}
 
--- two ranges that meet take the steps of all rows
+-- two adjacent ranges take the steps of all rows
 pub in-two : (table : Table) (between rows old first last : ℕ) → rows ≡ length table.rows → first ≡ old + entries_of (rows_in table between rows)
     → last ≡ first + entries_of (rows_in table 0 between)
     → entries_of (rows_in table 0 between) + entries_of (rows_in table between (length table.rows)) ≡ entries_of (rows_in table 0 (length table.rows))

@@ -12,6 +12,7 @@ use Rattle.channel_refine.specs.Base.{channel_of}
 use Rattle.sparse_faces.specs.declared.values.SparseValues.{SparseValues}
 use Rattle.sparse_face_varying.specs.Chosen.{AreWritten}
 
+-- the coordinates of a point
 abbrev pub numbers_of : Point3 → List ℤ
 numbers_of p = p.x ∷ p.y ∷ p.z ∷ []
 
@@ -19,7 +20,7 @@ numbers_of p = p.x ∷ p.y ∷ p.z ∷ []
 abbrev pub channel_by : ObjMesh → Channel
 channel_by mesh = channel_of (base_level mesh) CatmullClark 3 1
 
--- these are the levels to a depth, written with the features selected
+-- the levels up to a depth, with the features selected
 pub record AreFeatureLevels (base : Level) (depth : ℕ) (levels : List (SparseValues Point3)) : Type 0 where
   pub count : length levels ≡ depth + 1
   pub written : AreWritten levels base (meeting_to is_feature base depth) depth

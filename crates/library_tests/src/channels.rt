@@ -1,4 +1,4 @@
-// A channel refined to a depth, and the first level whose numbers pass their bounds.
+// Channels refined to a depth, and the first levels whose numbers pass their bounds.
 
 ghost use Rattle.std.specs.Prelude.{◌≡◌, ◌<◌, ◌≤◌, ◌^◌, true};
 ghost use Rattle.std.specs.List.{All};
@@ -24,7 +24,7 @@ use std::test::Fail;
 // The greatest denominator, and the greatest numerator over it.
 const NUMBER_BOUND: u128 = (1 << 126) - 1;
 
-// The greatest amount of the controls and the denominator that they stand over, the scheme, and the depth.
+// The greatest amount of the controls, their common denominator, the scheme, and the depth.
 type Asked = (u128, u128, Scheme, u32);
 
 // Memory ran out before a channel was refined.
@@ -82,7 +82,7 @@ fn points_of(alloc: Global, rows: &[Numbers]) -> Result<Vec<Valued<Point3>>, All
     Ok(points)
 }
 
-// Whether a point is a control of at most this amount.
+// Whether a point is a control with at most this amount.
 fn is_control(p: &Valued<Point3>, greatest: u128) -> bool
     ensures { result ≡ true → IsControl greatest p.now }
 {
@@ -183,7 +183,7 @@ fn refines_the_points_of_triangles(rt: HostRuntime) -> Result<(), Fail> {
     expect_triangles_refined(&rt)
 }
 
-// What is asked, and the fault or none. The greatest denominators are 12 and 768.
+// The request, and its fault or none. The greatest denominators are 12 and 768.
 type Bound = (Asked, Option<WalkFault>);
 
 const BOUNDS: &[Bound] = &[

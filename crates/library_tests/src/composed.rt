@@ -25,7 +25,7 @@ use std::test::Fail;
 use stencil_apply::laws::ranges_cover_the_table;
 use stencil_apply::{StencilTable, apply_range};
 
-// The greatest amount of the controls, the denominator that they stand over, and the depth.
+// The greatest amount of the controls, their common denominator, and the depth.
 type Asked = (u128, u128, u32);
 
 fn compose_by<L: Ledger>(
@@ -78,7 +78,7 @@ fn apply_at_once<L: Ledger>(
     apply_range(table, controls, 0, table.rows(), places, steps);
 }
 
-// The rows from one on and then those before it, in as many steps.
+// The rows from one on, then those before it, in as many steps as the table has entries.
 fn apply_in_two<L: Ledger>(
     table: &StencilTable,
     controls: &[Point3],
@@ -105,7 +105,7 @@ fn apply_in_two<L: Ledger>(
     apply_range(table, controls, 0, between, &mut places[..at], steps);
 }
 
-// Puts the sums of all rows, at once where no row is named and else from that row on first.
+// Puts the sums of all rows: at once, or from the named row on and then those before it.
 fn put_sums<L: Ledger>(
     rt: &impl Abort,
     table: &StencilTable,
@@ -127,7 +127,7 @@ fn put_sums<L: Ledger>(
     }
 }
 
-// The sums of all rows, put so.
+// The sums of all rows, put in this order.
 fn sums_by<L: Ledger>(
     rt: &impl Abort,
     alloc: Global,
@@ -156,7 +156,7 @@ fn sums_of(
     sums_by::<Brand>(rt, alloc, table, controls, between, Blank::new(1))
 }
 
-// A row of the table of the cube, where the table has it.
+// A row of the table of the cube, if the table has it.
 fn expect_row_of(rt: &impl Abort, table: &StencilTable, case: &(u32, Row)) {
     let (row, want) = case;
     assert!(rt; *row < table.rows());
@@ -208,7 +208,7 @@ fn expect_parts(
     Ok(())
 }
 
-// The table has these sums at once, and the same in two ranges.
+// The table has these sums, evaluated at once and in two ranges.
 fn expect_sums(
     rt: &(impl Abort + AllocGlobal),
     table: &StencilTable,

@@ -79,7 +79,7 @@ fn sharp_points(level: &Level) -> u32 {
     count
 }
 
-// A mesh, what stays sharp, and of the cut mesh its points, boundary edges and sharp points, and the last value.
+// A mesh, the rule of its seams, and the points, boundary edges, sharp points and last value of the cut mesh.
 type Cut = (&'static str, SeamMode, u32, u32, u32, Point2);
 
 const CUTS: &[Cut] = &[
@@ -116,7 +116,7 @@ fn cuts() -> &'static [Cut] {
     CUTS
 }
 
-// A cut mesh has what the row tells.
+// A cut mesh has the counts of the row.
 fn expect_parts(rt: &impl Abort, level: &Level, values: &[Point2], row: &Cut) {
     let &(_, _, points, boundary, sharp, last) = row;
     expect_same(rt, &level.points(), &points, row);

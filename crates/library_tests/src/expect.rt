@@ -1,9 +1,9 @@
-// What each row of a table is compared by.
+// The comparison of each row of a table.
 
 use std::fmt;
 use std::process::Abort;
 
-// What was given is what is wanted, at this row.
+// The value is the expected one, at this row.
 pub fn expect_same<T: PartialEq + fmt::Debug>(
     rt: &impl Abort,
     given: &T,

@@ -1,4 +1,4 @@
-// Lines of `frames`, each with what it asks for or why it is refused.
+// Lines of `frames`, each with its request or the cause of its refusal.
 
 use crate::expect::expect_same;
 use frame_line::{FrameLine, read_frame_line};
@@ -61,7 +61,7 @@ fn reads_moves(rt: HostRuntime) {
     }
 }
 
-// Lines that move nothing, each with what it asks for.
+// Lines that move nothing, each with its request.
 const OTHERS: &[(&'static str, FrameLine)] = &[
     ("", FrameLine::Empty),
     (" \t\r", FrameLine::Empty),

@@ -1,5 +1,5 @@
-//! Tests of calls below the program: numbers, words, meshes, cut meshes, marks, tables, channels, sparse levels,
-//! their maps and their textures.
+//! Tests the calls below the program: numbers, words, meshes, cut meshes, marks, tables, channels, sparse levels with their maps, and
+//! textures.
 #![tactic(auto)]
 
 #[cfg(test)]

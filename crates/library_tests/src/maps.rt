@@ -76,7 +76,7 @@ fn grown_once<L: Ledger>(
     }
 }
 
-// The same of a mesh.
+// The map of a mesh's level 0, grown by one step around the features.
 fn grown_by<L: Ledger>(
     rt: &impl Abort,
     alloc: Global,
@@ -122,7 +122,7 @@ macro_rules! leaf {
     };
 }
 
-// Of each pair its leaf, where the cube is refined once and twice.
+// The leaf of each pair after the cube is refined once and twice.
 const ONCE: &[(Pair, Leaf)] = &[
     ((1, 1, 2), leaf!(1, 0, 2, 2)),
     ((2, 0, 2), leaf!(1, 1, 0, 0)),

@@ -1,11 +1,11 @@
-// Marks of numbers: marks and takes of the least one after another, beside a plain list.
+// Marks of numbers: it marks numbers and takes the least one, beside a plain list.
 
 use crate::expect::expect_same;
 use point_marks::Marks;
 use std::process::Abort;
 use std::test::Fail;
 
-// How many numbers there are, by how many the marked number goes on, and after how many marks the least is taken.
+// The number of places, the step from one marked number to the next, and the number of marks before each take.
 type Run = (u32, u32, u32);
 
 const RUNS: &[Run] = &[
@@ -26,7 +26,7 @@ fn runs() -> &'static [Run] {
     RUNS
 }
 
-// The marks are those of the plain list, and as many.
+// The marks are those of the plain list, and so is their number.
 fn expect_plain(rt: &impl Abort, marks: &Marks, plain: &Vec<bool>, run: &Run) {
     let count = plain.iter().filter(|is_marked| **is_marked).count();
     expect_same(rt, &(marks.len() as usize), &plain.len(), run);

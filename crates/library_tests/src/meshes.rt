@@ -9,7 +9,7 @@ use sharpness_rules::{Method, SharpOverflow, Sharpness};
 use std::process::Abort;
 use std::test::Fail;
 
-// The line at fault with its cause, and none where the text was read.
+// The bad line with its cause, or none if the text is a mesh.
 fn fault_of(rt: &(impl Abort + AllocGlobal), text: &[u8]) -> Result<Option<(u32, ObjCause)>, Fail> {
     assert!(rt; text.len() < 1000);
     match read_obj(rt.alloc(), text, 0) {
@@ -19,7 +19,7 @@ fn fault_of(rt: &(impl Abort + AllocGlobal), text: &[u8]) -> Result<Option<(u32,
     }
 }
 
-// Texts, each with the line at fault and the cause, and none where it is read.
+// Texts, each with its bad line and the cause, or none if it is a mesh.
 const FAULTS: &[(&'static str, Option<(u32, ObjCause)>)] = &[
     ("v 1 2 z\n", Some((1, ObjCause::BadNumeral))),
     ("v 1 2 3 4 x", Some((1, ObjCause::BadNumeral))),

@@ -23,8 +23,7 @@ macro_rules! point {
     };
 }
 
-// A control and where it is moved to, what is answered, and the points that change, each with its numerators over its row's
-// denominator.
+// A control and its new place, the answer, and the points that change, each with its numerators over its row's denominator.
 type Moved = (u32, Point3, Result<(), MoveFault>, &'static [(u32, Point3)]);
 
 const MOVES: &[Moved] = &[

@@ -1,4 +1,4 @@
-// Lists of zeros in which numbers are put.
+// Lists of zeros with some numbers put in.
 
 use crate::expect::expect_same;
 use number_width::{NumberList, Width};

@@ -51,7 +51,7 @@ fn reduces(rt: HostRuntime) {
     }
 }
 
-// Two numbers and a bound; their least common multiple and their product, where they are within it.
+// Two numbers and a bound; their least common multiple and their product, if they are within it.
 type Bounded = (u128, u128, u128, Option<u128>, Option<u128>);
 
 const TOP: u128 = u128::MAX;
@@ -80,7 +80,7 @@ fn keeps_within_a_bound(rt: HostRuntime) {
     expect_same(&rt, &times_within(0, TOP, 0), &Some(0), &"no amount");
 }
 
-// A counter has no reader, so the contract tells its steps.
+// A counter has no reader, so the contract states its steps.
 fn step_twice<L: Ledger>(steps: &mut Steps<L>)
     ensures { steps.new ≡ steps.old + 2 }
 {

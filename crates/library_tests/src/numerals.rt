@@ -114,7 +114,7 @@ fn reads_fractions(rt: HostRuntime) {
     }
 }
 
-// Words that are no numerals, and numerals that are out of range, each with its fault.
+// Words that are not numerals, and numerals that are out of range, each with its fault.
 const REFUSED: &[(&'static str, NumeralFault)] = &[
     ("", BadNumeral),
     ("-", BadNumeral),
@@ -185,7 +185,7 @@ fn refuses_numerals(rt: HostRuntime) {
     }
 }
 
-// What stands before and after a thousand zeros, and what the whole is read as.
+// The text before and after a thousand zeros, and the result for the whole.
 const LONG_NUMERALS: &[(&'static str, &'static str, Result<Numeral, NumeralFault>)] = &[
     (
         "0.",
@@ -242,7 +242,7 @@ fn reads_a_thousand_zeros(rt: HostRuntime) -> Result<(), Fail> {
     Ok(())
 }
 
-// Words, each with the index that it is read as.
+// Words, each with its index.
 const INDICES: &[(&'static str, Option<i64>)] = &[
     ("1", Some(1)),
     ("-0", Some(0)),

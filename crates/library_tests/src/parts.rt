@@ -1,4 +1,4 @@
-// Meshes that are made of arrays.
+// Meshes made from arrays.
 
 ghost use Rattle.std.specs.Prelude.{◌≡◌, ◌<◌};
 
@@ -27,7 +27,7 @@ fn cube_corners() -> &'static [u32] {
     CUBE_CORNERS
 }
 
-// So many points, at the origin but for the last, which has this coordinate.
+// This number of points, all at the origin but the last, which has this coordinate.
 fn points_to(alloc: Global, count: usize, x: i128) -> Result<Vec<Point3>, AllocError> {
     let mut points = vec![in alloc; Point3 { x: 0, y: 0, z: 0 }; count]?;
     points.push(Point3 { x, y: 0, z: 0 })?;
@@ -87,8 +87,8 @@ fn tags_to(alloc: Global, end: u32, vertex: u32, hole: u32) -> Result<Tags, Allo
 // The sizes of faces, their corners, and the texture corners.
 type Lists = (&'static [u32], &'static [u32], &'static [u32]);
 
-// The common denominators; a numerator of the last point and of the last texture value; the lists; the last end of a crease,
-// vertex of a corner tag and hole; and what is wrong.
+// The common denominators; a numerator of the last point and of the last texture value; the lists; the last end of a crease, vertex of a
+// corner tag and hole; and the fault.
 type Case = (
     (u128, u128),
     (i128, i128),
@@ -202,7 +202,7 @@ fn parts_of(alloc: Global, case: &Case) -> Result<MeshParts, AllocError> {
     })
 }
 
-// What is wrong with the parts of a case, and nothing where they are a mesh.
+// The fault of the parts of a case, or none if they are a mesh.
 fn bad_part_of(alloc: Global, case: &Case) -> Result<Option<BadPart>, PartsFault> {
     match RawMesh::from_parts(alloc, parts_of(alloc, case)?) {
         Ok(_) => Ok(None),
@@ -232,7 +232,7 @@ fn cube_of_arrays(alloc: Global) -> Result<RawMesh, PartsFault> {
     RawMesh::from_parts(alloc, parts)
 }
 
-// The corners of all faces of a level, and then the ends of all edges.
+// The corners of all faces of a level, then the ends of all edges.
 fn numbers_of(alloc: Global, level: &Level) -> Result<Vec<u32>, Memory> {
     let mut numbers = Vec::new(alloc);
     for f in 0..level.faces() {

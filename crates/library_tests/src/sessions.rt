@@ -13,7 +13,7 @@ use std::test::Fail;
 use stencil_apply::StencilTable;
 use stencil_session::{MoveFault, Session};
 
-// A control and where it is moved to, and what is answered.
+// A control and its new place, and the answer.
 type Case = (u32, Point3, Result<(), MoveFault>);
 
 // The greatest denominator is 8, so 2^123 - 1 is the greatest amount that fits.
@@ -49,7 +49,7 @@ fn moves() -> &'static [Case] {
     MOVES
 }
 
-// What a session is to have: its controls, and which of its points are marked.
+// The expected state of a session: its controls, and the marks of its points.
 #[derive(Drop)]
 struct Plain {
     controls: [Point3; 4],
@@ -92,7 +92,7 @@ fn move_plain(rt: &impl Abort, table: &StencilTable, plain: &mut Plain, control:
     }
 }
 
-// A point has the value that the table has there, and is marked as the plain lists say.
+// A point has the value that the table gives it, and the mark of the plain list.
 fn expect_point(rt: &impl Abort, session: &Session, point: u32, sums: &[Point3], plain: &Plain)
     requires { point < length session.now.table.rows }
 {
@@ -133,7 +133,7 @@ fn expect_moved<L: Ledger>(
     expect_plain(rt, session, plain);
 }
 
-// The least marked point is answered with its value, and is marked no more.
+// The session returns the least marked point with its value, and unmarks it.
 fn expect_next(rt: &impl Abort, session: &mut Session, plain: &mut Plain) {
     let want = plain.marks.iter().position(|is_marked| *is_marked);
     let found = session.next_changed();
@@ -146,7 +146,7 @@ fn expect_next(rt: &impl Abort, session: &mut Session, plain: &mut Plain) {
     expect_plain(rt, session, plain);
 }
 
-// All moves of the list in turn, and then the marked points until none is left.
+// All moves of the list in turn, then the marked points until none is left.
 fn expect_moves<L: Ledger>(
     rt: &impl Abort,
     session: &mut Session,
@@ -161,7 +161,7 @@ fn expect_moves<L: Ledger>(
     }
 }
 
-// Of several moves those before the first that is refused are made.
+// The moves before the first refused one are made.
 fn expect_stopped<L: Ledger>(
     rt: &impl Abort,
     session: &mut Session,

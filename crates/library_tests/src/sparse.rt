@@ -1,4 +1,4 @@
-// The sparse levels of the cube, as they are written.
+// The written sparse levels of the cube.
 
 ghost use Rattle.std.specs.Prelude.{◌≡◌, ◌<◌};
 
@@ -20,7 +20,7 @@ use std::process::Abort;
 use std::sync::ledger::{Blank, Ledger};
 use std::test::Fail;
 
-// How many points and faces are written of each level.
+// The numbers of points and faces that each level writes.
 const CUBE_COUNTS: &[(u32, u32)] = &[(8, 6), (26, 24), (98, 96), (296, 216)];
 
 fn cube_counts() -> &'static [(u32, u32)] {

@@ -1,4 +1,4 @@
-// Sparse levels by the numbers of the faces that are selected.
+// Sparse levels whose selected faces are given by number.
 
 ghost use Rattle.std.specs.Prelude.{◌≡◌, ◌<◌, ◌≤◌, map, IfOk};
 ghost use Rattle.std.specs.List.Sorted.{IsStrictlyIncreasing};
@@ -37,7 +37,7 @@ fn chosen() -> &'static [u64]
     CHOSEN
 }
 
-// How many faces the level of a step has, and the numbers of the faces that the step selects.
+// The number of faces of a step's level, and the numbers of the faces that the step selects.
 fn step_parts(
     rt: &impl Abort,
     alloc: Global,
@@ -118,7 +118,7 @@ fn channel_of<L: Ledger>(
     Ok(BaseChannel::new(level, Scheme::CatmullClark, 3, 1))
 }
 
-// For each point of a mesh the same control.
+// The same control for each point of a mesh.
 fn controls_of(alloc: Global, mesh: &RawMesh) -> Result<Vec<Point3>, Memory>
     ensures { IfOk result (λ controls. AreControls (channel_by mesh.now) (control_rows (map numbers_of controls.items))) }
 {
@@ -143,7 +143,7 @@ fn feature_levels<L: Ledger>(
     refine_sparse(alloc, base, &rule, controls, depth, steps)
 }
 
-// The levels of a channel, where the faces are selected that some levels of its mesh select.
+// The levels of a channel, with the faces that some levels of its mesh select.
 fn levels_like<L: Ledger>(
     alloc: Global,
     base: BaseChannel,
@@ -188,7 +188,7 @@ fn levels_of(rt: &impl Abort, alloc: Global, mesh: &RawMesh) -> Result<Levels, W
     levels_by::<Brand>(rt, alloc, mesh, 2, Blank::new(1))
 }
 
-// How many points and faces are written of each level of the cube.
+// The numbers of points and faces that each level of the cube writes.
 const COUNTS: &[(u32, u32)] = &[(8, 6), (26, 24), (98, 96)];
 
 fn counts() -> &'static [(u32, u32)] {

@@ -1,10 +1,10 @@
-// Texts of stored tables, each with what is read of it or the line that is refused.
+// Texts of stored tables, each with its table or its bad line.
 
 use crate::expect::expect_same;
 use table_file::TableCause::{Count, Form, Range, Sum};
 use table_file::{ReadTable, TableCause, TableReadFault, first_difference, read_table};
 
-// What a table that was read has: its control points, rows and entries, the greatest denominator, and how many bytes its text has.
+// The control points, rows and entries of a table, its greatest denominator, and the length of its text in bytes.
 type Read = (u32, u32, u64, u128, usize);
 
 const READ: &[(&'static str, Read)] = &[
@@ -86,7 +86,7 @@ fn texts_refused() -> &'static [(&'static str, u32, TableCause)] {
     REFUSED
 }
 
-// What is read of a text.
+// The table of a text.
 fn seen(read: &ReadTable) -> Read {
     let table = read.table();
     (

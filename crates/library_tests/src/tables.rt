@@ -1,4 +1,4 @@
-// Tables of stencils that are put together, read back and evaluated.
+// Tables of stencils: put together, read back and evaluated.
 
 ghost use Rattle.std.specs.Prelude.{◌≡◌, ◌*◌, ◌≤◌, ◌<◌, true, length, ◌∷◌, []};
 ghost use Rattle.std.specs.List.{All};
@@ -139,7 +139,7 @@ pub fn table_of(rt: &impl Abort, alloc: Global, rows: &[Row]) -> Result<StencilT
     Ok(builder.finish())
 }
 
-// A row is read back so.
+// A row is read back with these entries.
 pub fn expect_row(rt: &impl Abort, table: &StencilTable, row: u32, want: &Row)
     requires { row < length table.now.rows }
 {
@@ -153,7 +153,7 @@ pub fn expect_row(rt: &impl Abort, table: &StencilTable, row: u32, want: &Row)
     }
 }
 
-// The rows are read back so.
+// The rows are read back with these entries.
 pub fn expect_rows(rt: &impl Abort, table: &StencilTable, rows: &[Row]) -> Result<(), Fail> {
     expect_same(rt, &(table.rows() as usize), &rows.len(), &"rows");
     for row in 0..table.rows() {
@@ -173,7 +173,7 @@ pub fn counts_of(table: &StencilTable) -> (u32, u32, u64, u128) {
     )
 }
 
-// Once its rows were added, a table has these counts, and its rows are read back.
+// The table of these rows has these counts, and its rows are read back.
 fn expect_table(
     rt: &impl Abort,
     added: Result<(), Memory>,
@@ -186,7 +186,7 @@ fn expect_table(
     expect_rows(rt, table, rows)
 }
 
-// A row is taken into a table that has room for it.
+// A table with free capacity takes a row.
 fn expect_taken_in_room(rt: &(impl Abort + AllocGlobal)) -> Result<(), Fail> {
     let mut builder = TableBuilder::with_room(rt.alloc(), 4, 1, 3, Width::Narrow)?;
     expect_same(rt, &builder.room(), &(1, 3), &"before");
@@ -280,7 +280,7 @@ pub fn apply_at(
     );
 }
 
-// Places that hold other numbers get the sums, range by range.
+// Places with other numbers get the sums, range by range.
 fn expect_sums(rt: &impl Abort, table: &StencilTable, ranges: &[(u32, u32)]) {
     let mut places = [Point3 { x: 7, y: 7, z: 7 }; 4];
     for range in ranges {
@@ -301,7 +301,7 @@ fn applies_rows_at_once_and_in_ranges(rt: HostRuntime) -> Result<(), Fail> {
     expect_sums_of_the_square(&rt)
 }
 
-// Rows, an amount, and whether the greatest denominator times it is within the bound.
+// Rows, an amount, and whether the greatest denominator times the amount is within the bound.
 type Scale = (&'static [Row], u128, bool);
 
 const SCALES: &[Scale] = &[

@@ -31,7 +31,7 @@ macro_rules! entries {
 
 const NONE: Point3 = point!(0, 0, 0);
 
-// A point alone, the mean of two, and denominators at 2^63 and at 2^64.
+// A single point, the mean of two, and denominators at 2^63 and at 2^64.
 const ALONE: Row = (1, entries![0 1]);
 
 const MEAN: Row = (2, entries![0 1, 1 1]);
@@ -124,7 +124,7 @@ fn all_sums() -> &'static [Sums] {
     SUMS
 }
 
-// The sums of all rows, in sums of the width that serves them all.
+// The sums of all rows, in a width that fits them all.
 fn expect_sums_by<L: Ledger>(rt: &impl Abort, table: &StencilTable, case: &Sums, blank: Blank)
     requires name { blank.name ≡ L.name }
     requires parts { blank.parts ≡ L.parts }

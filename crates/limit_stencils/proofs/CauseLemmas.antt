@@ -50,7 +50,7 @@ module _ {X : Type 0} (f : ℕ → List X) where
       ∙ first-at (a + 1) n i x (omega arith) (λ j below. let k : a + 1 + j ≡ a + suc j = omega arith in ap f k ∙ h (suc j) (omega arith))
       (ap (λ b. first_of (f b)) next ∙ e)
 
--- one limit has a cause where the other has the same
+-- a limit has a cause if a limit with the same cause has it
 pub same-causes : (limit other : Result Mask LimitCause) → IsSameLimit limit other → cause_of_limit limit ≡ cause_of_limit other
 same-causes (Ok mask) (Ok n) h = refl
 same-causes (Ok mask) (Err cause) h = absurd h
@@ -66,7 +66,7 @@ module _ (level : Level) where
   fine-at v fine inside =
       let e : v ≡ 0 + v = omega arith in ap causes e ∙ none-at causes 0 level.point_count v fine inside
 
-  -- what was found at no point is not there
+  -- a cause that no point has does not exist
   pub none-found : (n : ℕ) → level.point_count ≤ n → ((u : ℕ) → u < n → causes u ≡ []) → limit_causes level ≡ []
   none-found n all h =
       none-before causes 0 level.point_count (λ i inside. let e : 0 + i ≡ i = omega arith in ap causes e ∙ h i (omega arith))
@@ -78,7 +78,7 @@ module _ (level : Level) where
       first-at causes 0 level.point_count v x inside (λ j below. let l : 0 + j ≡ j = omega arith in ap causes l ∙ h j below)
       (ap (λ b. first_of (causes b)) k ∙ e)
 
-  -- the first of a point before which there is none is the first of all
+  -- the first cause of a point is the first of all if no point before has one
   pub first-cause : (v : ℕ) (f : QuadFault) → v < level.point_count → ((u : ℕ) → u < v → causes u ≡ []) → IsFirstCause (causes v) f
       → IsFirstCause (limit_causes level) f
   first-cause v (fault.Dart w) inside h e = first-found v _ inside h e
@@ -87,13 +87,13 @@ module _ (level : Level) where
   first-cause v fault.TooManyEntries inside h e = absurd e
   first-cause v fault.Memory inside h e = absurd e
 
--- what was found is handed on as it came
+-- the result is passed on unchanged
 pub handed-on : (causes : List LimitCause) (result : Result (Unit {0}) QuadFault) (f : QuadFault) → IsErrAnd result (λ g. g ≡ f) → IsFirstCause causes f
     → IsTested causes result
 handed-on causes (Ok _) f same first = absurd same
 handed-on causes (Err g) f same first = subst (IsFirstCause causes) (sym same) first
 
--- a test by the rule and by what is semi-sharp, in the order of the level's lists, is a test of the point
+-- a test by the rule and by semi-sharp elements, in the order of the level's lists, is a test of the point
 pub tested : (t : Topology) (v : ℕ) (semi : Bool) (rule : LastingRule) (result : Result (Unit {0}) QuadFault) → IsTopology t → v < t.level.point_count
     → semi ≡ is_semi_in t v → rule ≡ rule_in t v
     → ((ends opposites : List ℕ) → IsTested (cause_of_limit (limit_by_rule v ends opposites semi rule)) result)

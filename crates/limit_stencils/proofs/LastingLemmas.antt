@@ -1,4 +1,4 @@
--- The lasting rule and what is semi-sharp, with one edge more.
+-- The lasting rule and the semi-sharp elements, after one more edge.
 use Rattle.std.proofs.Common.{◌≡◌, ℕ, ◌+◌, ◌<◌, Bool, true, false, cond, ◌||◌, if◌then◌else◌, List, [], ◌∷◌, ◌++◌, length, map, take, get_or, refl, ap, sym, ◌∙◌}
 use Rattle.std.specs.List.{filter, list_any}
 use Rattle.std.proofs.lemmas.List.{append-nil, map-append, take_more}
@@ -52,7 +52,7 @@ module _ (level : Level) (v : ℕ) where
       ∙ edge-more (take i edges) e
       ∙ ap (λ some. rule_of_ends (lasting_ends level v some)) (sym (take_more edges i 0 inside))
 
--- one edge more, by its sharpness
+-- one more edge, by its sharpness
 pub semi-step : (ring : List Sharpness) (i : ℕ) (s : Sharpness) (now next : Bool) → i < length ring → now ≡ list_any is_semi_sharp (take i ring)
     → s ≡ get_or ring i Smooth → next ≡ (now || is_semi_sharp s) → next ≡ list_any is_semi_sharp (take (i + 1) ring)
 semi-step ring i s now next inside so_far here made =

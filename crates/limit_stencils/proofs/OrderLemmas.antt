@@ -1,4 +1,4 @@
--- The limit mask of a vertex in any order of its edges and faces: in the order of the level's lists it weighs as the definition's.
+-- The limit mask of a vertex in any order of its edges and faces. The order of the level's lists gives the weights of the definition.
 use Rattle.std.proofs.Common.{◌≡◌, ℕ, ◌+◌, ◌*◌, ◌<◌, Bool, true, false, ◌||◌, nat_eq, if◌then◌else◌, List, [], ◌∷◌, ◌++◌, length, map, get_or, Result, Ok, Err, arith, refl, ap, sym, subst, ◌∙◌}
 use Rattle.std.specs.List.{filter, list_any}
 use Rattle.std.specs.List.Sorted.{IsPermutation}
@@ -29,7 +29,7 @@ use Rattle.mask_rules.proofs.AroundLemmas.{map-same}
 use Rattle.limit_stencils.specs.declared.lasting.LastingRule.TheVariants.{Corner}
 use Rattle.limit_stencils.specs.AtVertex.{opposites_in, rule_of_ends, limit_by_rule, limit_in, is_semi_in, IsSameLimit}
 
--- some item passes in any order
+-- whether some item passes is the same in any order
 pub any-permuted : {X : Type 0} (test : X → Bool) (xs ys : List X) → IsPermutation xs ys → list_any test xs ≡ list_any test ys
 any-permuted test = same_in_any_order (list_any test) (λ x b. test x || b) (λ x xs. refl) (λ x y b. swap (test x) (test y) b)
   where
@@ -138,7 +138,7 @@ module _ (t : Topology) (v : ℕ) (is : IsTopology t) (inside : v < t.level.poin
       ap (λ edge. end (edge_number level.polygons edge)) found.2 ∙ ap (λ n. other_end v (edge_at level.polygons n)) (own-number level.polygons found.0 found.1)
       ∙ ap (other_end v) (sym found.2)))
 
-  -- of the sharp edges of the definition, the ends at their places
+  -- the other ends of the sharp edges of the definition, at their places
   ends-of-places : map (λ p. get_or (map end numbers) p 0) (places is_infinite (map kept numbers)) ≡ map end (filter sharp numbers)
   ends-of-places =
       ap (map (λ p. get_or (map end numbers) p 0)) (places_from-map kept is_infinite 0 numbers)

@@ -9,7 +9,7 @@ points-more : (weight : ℕ) (points : List ℕ) (i : ℕ) → i < length points
 points-more weight points i inside =
     ap (weigh_points weight) (take_more points i 0 inside) ∙ map-append (λ v. weigh weight (OfPoint v)) (take i points) (get_or points i 0 ∷ [])
 
--- one point more
+-- one more point
 pub put-more : (weight : ℕ) (points : List ℕ) (i point : ℕ) (before now next : Mask) → i < length points
     → now ≡ with_terms before (weigh_points weight (take i points)) → point ≡ get_or points i 0
     → next ≡ record { terms = now.terms ++ weigh weight (OfPoint point) ∷ []; denominator = now.denominator }

@@ -1,4 +1,4 @@
--- A smooth vertex has edges and as many quads, where each edge of one face is infinitely sharp.
+-- A smooth vertex has as many quads as edges, if each edge of one face is infinitely sharp.
 use Rattle.std.proofs.Common.{◌≡◌, ℕ, ◌<◌, Bool, true, false, not, ◌&&◌, ◌||◌, nat_eq, nat_le, if◌then◌else◌, List, [], ◌∷◌, length, map, get_or, arith, refl, ap, sym, ◌∙◌}
 use Rattle.std.specs.List.{filter, list_all, list_any}
 use Rattle.std.proofs.lemmas.Bool.{and_parts, cond_both, eqb-true, false_from_ne_true, false≢true}
@@ -30,7 +30,7 @@ alike Smooth = refl
 alike (Semi num den) = refl
 alike Infinite = refl
 
--- of edges of one face that are all sharp, one that ends there is a sharp one that ends there
+-- if all edges of one face are sharp, one that ends at a point is a sharp edge there
 any-sharp : {X : Type 0} (alone end sharp : X → Bool) (xs : List X) → list_all (λ x. not (alone x) || sharp x) xs ≡ true
     → list_any (λ x. alone x && end x) xs ≡ true → list_any (λ x. end x && sharp x) xs ≡ true
 any-sharp alone end sharp [] h k = k

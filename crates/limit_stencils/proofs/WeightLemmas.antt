@@ -1,4 +1,4 @@
--- The weights that are put for a vertex are those of its limit mask.
+-- The weights put for a vertex are those of its limit mask.
 use Rattle.std.proofs.Common.{◌≡◌, ℕ, zero, suc, ◌+◌, ◌*◌, ◌<◌, Bool, true, false, ◌&&◌, ◌||◌, nat_eq, nat_lt, if◌then◌else◌, List, [], ◌∷◌, ◌++◌, length, get_or, Result, Ok, Err, OnOk, arith, refl, ap, sym, subst, ◌∙◌}
 use Rattle.std.specs.List.{All, filter, list_all}
 use Rattle.std.proofs.lemmas.Bool.{and_from, and_parts, cond_both, lt-ltb, ltb-true, false≢true}
@@ -204,7 +204,7 @@ module _ (t : Topology) (v : ℕ) (is : IsTopology t) (inside : v < t.level.poin
       own : below v ≡ true
       own = lt-ltb v level.point_count inside
 
-  -- what was put by the lasting rule is the limit mask of the point
+  -- the weights put by the lasting rule are the limit mask of the point
   pub are-weights : HasLimits level → (put : Mask) → put ≡ weights_by_rule v (ends_in t v) (opposites_in t v) (rule_in t v)
       → AreWeightsOf level.point_count (limit_mask level v) put
   are-weights has put e =
@@ -231,14 +231,14 @@ mask-there : (level : Level) (v : ℕ) → v < level.point_count → limit_mask 
 mask-there level v inside =
     let e : 0 + v ≡ v = omega arith in sym (get_or-map-range_with_len (limit_mask level) 0 level.point_count v v no_mask inside e)
 
--- The masks of a level, as they are seen.
+-- The masks of a level as the trait sees them.
 
 module _ (t seen : Topology) (e : t ≡ seen) where
   pub mask-count : length (limit_masks seen.level) ≡ t.level.point_count
   mask-count =
       ap (λ (s : Topology). length (limit_masks s.level)) (sym e) ∙ length-map-range_with_len (limit_mask t.level) 0 t.level.point_count
 
-  -- what was put, or failed for want of memory
+  -- the weights were put, or memory ran out
   pub puts-limit : (v : ℕ) (put : Mask) (result : Result (Unit {0}) Memory) → IsTopology t → v < t.level.point_count → HasLimits t.level
       → OnOk result (put ≡ weights_by_rule v (ends_in t v) (opposites_in t v) (rule_in t v))
       → OnOk result (AreWeightsOf seen.level.point_count (mask_at (limit_masks seen.level) v) put)

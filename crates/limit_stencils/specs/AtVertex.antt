@@ -1,4 +1,4 @@
--- The limit mask of a point of a level of quads, from what stands around it in the order of the level's lists.
+-- The limit mask of a point of a level of quads, from its edges and quads in the order of the level's lists.
 use Rattle.std.specs.Prelude.{◌≡◌, ℕ, ◌+◌, ◌*◌, Bool, ◌||◌, nat_eq, if◌then◌else◌, List, [], ◌∷◌, ◌++◌, length, map, get_or, Some, Result, Ok, Err, MatchResult}
 use Rattle.std.specs.List.{filter}
 use Rattle.subdiv_model.specs.Lists.{first_of}
@@ -18,49 +18,53 @@ use Rattle.limit_stencils.specs.declared.lasting.LastingRule.TheVariants.{Smooth
 use Rattle.limit_stencils.specs.declared.fault.QuadFault.{QuadFault}
 use Rattle.limit_stencils.specs.declared.fault.QuadFault.TheVariants as fault
 
--- the opposite corners of the quads
+-- the opposite corners of the quads at a vertex
 abbrev pub opposites_in : Topology → ℕ → List ℕ
 opposites_in t v = map (λ face. opposite_corner v (polygon_at t.level.polygons face)) (faces_in t v)
 
--- of edges with these numbers those that are infinitely sharp, each by its other end
+-- the other ends of those edges of a list that are infinitely sharp
 abbrev pub lasting_ends : Level → ℕ → List ℕ → List ℕ
 lasting_ends level v edges = map (end_of_edge level.polygons v) (filter (λ e. is_infinite (get_or level.edge_sharpness e Smooth)) edges)
 
--- the rule of a vertex with edges, by the other ends of those that are infinitely sharp
+-- the rule of a vertex that has edges, from the other ends of its infinitely sharp edges
 abbrev pub rule_of_ends : List ℕ → LastingRule
 rule_of_ends [] = SmoothRule
 rule_of_ends (first ∷ []) = Dart first
 rule_of_ends (first ∷ (second ∷ [])) = Crease first second
 rule_of_ends (first ∷ (second ∷ (third ∷ more))) = Corner
 
--- with one infinitely sharp edge more
+-- the rule after one more infinitely sharp edge
 abbrev pub with_end : ℕ → LastingRule → LastingRule
 with_end end SmoothRule = Dart end
 with_end end (Dart first) = Crease first end
 with_end end (Crease first second) = Corner
 with_end end Corner = Corner
 
+-- the rule of a vertex by its edges
 abbrev pub rule_of_edges : Topology → ℕ → LastingRule
 rule_of_edges t v = rule_of_ends (lasting_ends t.level v (get_or t.edges_at v []))
 
+-- the rule of a vertex
 abbrev pub rule_in : Topology → ℕ → LastingRule
 rule_in t v =
     if is_infinite (vertex_sharpness_of t.level v) || nat_eq (length (get_or t.edges_at v [])) 0 then Corner else rule_of_edges t v
 
+-- whether the vertex or one of its edges is semi-sharp
 abbrev pub is_semi_in : Topology → ℕ → Bool
 is_semi_in t v = has_semi_sharp (vertex_sharpness_of t.level v) (ring_in t v)
 
+-- the limit mask of a vertex by its rule, or the cause why there is none
 abbrev pub limit_by_rule : ℕ → List ℕ → List ℕ → Bool → LastingRule → Result Mask LimitCause
 limit_by_rule v ends opposites semi SmoothRule = unless_semi_sharp v semi (Ok (smooth_limit_mask v ends opposites))
 limit_by_rule v ends opposites semi (Dart end) = unless_semi_sharp v semi (Err (model.Dart v))
 limit_by_rule v ends opposites semi (Crease first second) = unless_semi_sharp v semi (Ok (crease_limit_mask v first second))
 limit_by_rule v ends opposites semi Corner = Ok (corner_mask v)
 
--- the limit mask, or why there is none
+-- the limit mask, or the cause why there is none
 abbrev pub limit_in : Topology → ℕ → Result Mask LimitCause
 limit_in t v = limit_by_rule v (ends_in t v) (opposites_in t v) (is_semi_in t v) (rule_in t v)
 
--- one cause, or masks with the same weights
+-- the same cause, or masks with the same weights
 abbrev pub IsSameLimit : Result Mask LimitCause → Result Mask LimitCause → Type 0
 IsSameLimit (Ok mask) (Ok other) = HaveSameWeights mask other
 IsSameLimit (Ok mask) (Err cause) = ⊥
@@ -73,7 +77,7 @@ smooth_weights v ends opposites =
     let n = length ends in
     record { terms = weigh (n * n) (OfPoint v) ∷ (weigh_points 4 ends ++ weigh_points 1 opposites); denominator = n * (n + 5) }
 
--- the terms of a vertex by its rule, over the denominator of the rule
+-- the terms of a vertex by its rule, over the denominator of that rule
 abbrev pub weights_by_rule : ℕ → List ℕ → List ℕ → LastingRule → Mask
 weights_by_rule v ends opposites SmoothRule = smooth_weights v ends opposites
 weights_by_rule v ends opposites (Dart end) = smooth_weights v ends opposites
@@ -81,7 +85,7 @@ weights_by_rule v ends opposites (Crease first second) =
     record { terms = weigh 4 (OfPoint v) ∷ weigh_points 1 (first ∷ second ∷ []); denominator = 6 }
 weights_by_rule v ends opposites Corner = record { terms = weigh 1 (OfPoint v) ∷ []; denominator = 1 }
 
--- weights with terms more
+-- the mask with these terms added
 abbrev pub with_terms : Mask → List Term → Mask
 with_terms weights terms = record { terms = weights.terms ++ terms; denominator = weights.denominator }
 
@@ -93,6 +97,6 @@ IsFirstCause causes (fault.Denominator v) = ⊥
 IsFirstCause causes fault.TooManyEntries = ⊥
 IsFirstCause causes fault.Memory = ⊥
 
--- there is no cause, or the fault is the first
+-- there is no cause, or the fault is the first of them
 abbrev pub IsTested : List LimitCause → Result (Unit {0}) QuadFault → Type 0
 IsTested causes result = MatchResult result (λ _. causes ≡ []) (IsFirstCause causes)

@@ -1,4 +1,4 @@
--- The rows of the limit points of a level, and why there are none.
+-- The table of the limit points of a level, and its faults.
 -- Source: this profile.
 use Rattle.std.specs.Prelude.{ℕ, ◌≡◌, ◌≢◌, ◌<◌, ◌≤◌, true, IsTrue, Some, List, [], length, Result, MatchResult}
 use Rattle.std.specs.List.{All}
@@ -23,20 +23,20 @@ pub record HasLimits (level : Level) : Type 0 where
   pub fine : limit_causes level ≡ []
   pub boundary : IsTrue (has_sharp_boundary level)
 
--- each polygon has four corners, each point a limit mask, and each limit point its row
+-- each polygon has four corners, each point has a limit mask, and each limit point has its row
 pub record IsLimitTable (level : Level) (table limits : Table) : Type 0 where
   pub quads : has_quads level ≡ true
   pub fine : limit_causes level ≡ []
   pub rows : AreMaskRows level (limit_masks level) table limits
 
--- the least polygon that has not four corners
+-- the least polygon that does not have four corners
 pub record IsFirstOther (polygons : List Polygon) (face : ℕ) : Type 0 where
   pub exists : face < length polygons
   pub other : length (polygon_at polygons face) ≢ 4
   pub first : (f : ℕ) → f < face → length (polygon_at polygons f) ≡ 4
 
--- The first fault of a level of quads: the least point without a limit mask; then the least row whose denominator passes its
--- bound; then too many entries. Memory may run out at any step.
+-- The first fault of a level of quads: the least point without a limit mask; the least row whose denominator passes its bound; too many
+-- entries. Memory may run out at any step.
 abbrev pub IsQuadFault : Level → Table → QuadFault → Type 0
 IsQuadFault level table (quad.Dart v) = (has_quads level ≡ true) × (first_of (limit_causes level) ≡ Some (model.Dart v))
 IsQuadFault level table (quad.SemiSharp v) = (has_quads level ≡ true) × (first_of (limit_causes level) ≡ Some (model.SemiSharp v))
@@ -47,7 +47,7 @@ IsQuadFault level table quad.TooManyEntries =
     × (entry_bound < mask_entries level table (limit_masks level))
 IsQuadFault level table quad.Memory = Unit {0}
 
--- the rows of the limit points of a level of quads, or the first fault
+-- the limit table of a level of quads, or the first fault
 abbrev pub IsQuadComposition : Level → Table → Result Table QuadFault → Type 0
 IsQuadComposition level table result = MatchResult result (IsLimitTable level table) (IsQuadFault level table)
 
@@ -60,6 +60,6 @@ IsLimitFault level table (limit.Denominator v) = IsQuadFault level table (quad.D
 IsLimitFault level table limit.TooManyEntries = IsQuadFault level table quad.TooManyEntries
 IsLimitFault level table limit.Memory = Unit {0}
 
--- the rows of the limit points, or the first fault
+-- the limit table of a level, or the first fault
 abbrev pub IsLimitComposition : Level → Table → Result Table LimitFault → Type 0
 IsLimitComposition level table result = MatchResult result (IsLimitTable level table) (IsLimitFault level table)

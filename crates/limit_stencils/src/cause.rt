@@ -1,4 +1,4 @@
-//! The first point that has no limit mask.
+//! The first point without a limit mask.
 
 ghost use Rattle.std.specs.Prelude.{◌<◌, ℕ, List};
 ghost use Rattle.subdiv_model.specs.Limit.{cause_of_limit, limit_causes, limit_of};
@@ -9,7 +9,7 @@ use crate::lasting::{LastingRule, lasting_rule};
 use crate::semi::has_semi_sharp;
 use level_topology::Level;
 
-// Tests a vertex by its rule and by whether something is semi-sharp there.
+// Tests a vertex, given its rule and whether it or one of its edges is semi-sharp.
 fn check_rule(v: u32, semi: bool, rule: LastingRule) -> Result<(), QuadFault>
     ensures { (ends opposites : List ℕ) → IsTested (cause_of_limit (limit_by_rule v ends opposites semi rule)) result }
 {
@@ -41,7 +41,7 @@ fn check_vertex(level: &Level, v: u32) -> Result<(), QuadFault>
     check_rule(v, has_semi_sharp(level, v), lasting_rule(level, v))
 }
 
-/// Tests that each point has a limit mask, or tells why the least that has none has none. It takes no memory.
+/// Tests that each point has a limit mask. The error names the least point without one and the cause. The test takes no memory.
 pub(crate) fn check_points(level: &Level) -> Result<(), QuadFault>
     ensures { IsTested (limit_causes level.now.level) result }
 {

@@ -1,15 +1,15 @@
-//! Why a level has no rows of limit points.
+//! The faults of limit tables.
 
 use ratio128::Memory;
 
-/// Why a level of quads has no rows of limit points: the first reason, each looked for over the whole level.
+/// The first fault that keeps a level of quads from a limit table.
 #[derive(Clone, Copy, Debug, PartialEq, Eq)]
 pub enum QuadFault {
-    /// The least point without a limit mask has one infinitely sharp edge, and nothing semi-sharp.
+    /// The least point without a limit mask is a dart: exactly one of its edges is infinitely sharp, and nothing there is semi-sharp.
     Dart(u32),
-    /// The least point without a limit mask is semi-sharp, or an edge there is.
+    /// The least point without a limit mask is semi-sharp or has a semi-sharp edge.
     SemiSharp(u32),
-    /// The common denominator of a limit point passes 2^126 - 1: the least such point.
+    /// The least point whose limit point has a common denominator above 2^126 - 1. Every point has a limit mask.
     Denominator(u32),
     /// The rows would have more than 2^27 entries.
     TooManyEntries,
@@ -17,16 +17,17 @@ pub enum QuadFault {
     Memory,
 }
 
-/// Why a level has no rows of limit points: the first reason, each looked for over the whole level.
+/// The first fault that keeps a level from a limit table. The variants are in the order of the search, but one search finds `Dart` and
+/// `SemiSharp`.
 #[derive(Clone, Copy, Debug, PartialEq, Eq)]
 pub enum LimitFault {
-    /// A face has not four corners: the least such face.
+    /// The least face that does not have four corners.
     NotQuads(u32),
-    /// The least point without a limit mask has one infinitely sharp edge, and nothing semi-sharp.
+    /// The least point without a limit mask is a dart: exactly one of its edges is infinitely sharp, and nothing there is semi-sharp.
     Dart(u32),
-    /// The least point without a limit mask is semi-sharp, or an edge there is.
+    /// The least point without a limit mask is semi-sharp or has a semi-sharp edge.
     SemiSharp(u32),
-    /// The common denominator of a limit point passes 2^126 - 1: the least such point.
+    /// The least point whose limit point has a common denominator above 2^126 - 1. Every point has a limit mask.
     Denominator(u32),
     /// The rows would have more than 2^27 entries.
     TooManyEntries,

@@ -11,21 +11,21 @@ ghost use Rattle.limit_stencils.specs.AtVertex.{rule_in, rule_of_edges, with_end
 use level_topology::Level;
 use sharpness_rules::Sharpness;
 
-/// The rule of a vertex by what is infinitely sharp there: the other ends of such edges, where there are at most two.
+/// The rule of a vertex, by the number of its infinitely sharp edges. One or two such edges come with their other ends.
 #[derive(Clone, Copy)]
 pub(crate) enum LastingRule {
     /// No edge is infinitely sharp.
     Smooth,
-    /// One edge is.
+    /// One edge is infinitely sharp.
     Dart(u32),
-    /// Two edges are.
+    /// Two edges are infinitely sharp.
     Crease(u32, u32),
-    /// Three edges or more are, the vertex is, or it has no edge.
+    /// Three or more edges are infinitely sharp, or the vertex is, or it has no edge.
     Corner,
 }
 
 impl LastingRule {
-    // The rule with one infinitely sharp edge more.
+    // The rule after one more infinitely sharp edge.
     fn with_end(self, end: u32) -> LastingRule
         ensures { result ≡ with_end end self }
     {
@@ -43,7 +43,7 @@ fn is_infinite(s: Sharpness) -> bool
     matches!(s, Sharpness::Infinite)
 }
 
-// The rule of the edges so far, and with the next one.
+// The rule after one more edge.
 fn with_edge(level: &Level, v: u32, e: u32, rule: LastingRule) -> LastingRule
     requires { e < length (edges_of level.now.level.polygons) }
     ensures { result ≡ (if is_infinite (get_or level.now.level.edge_sharpness e Smooth) then with_end (end_of_edge level.now.level.polygons v e) rule else rule) }
@@ -55,7 +55,7 @@ fn with_edge(level: &Level, v: u32, e: u32, rule: LastingRule) -> LastingRule
     }
 }
 
-// The rule by the edges alone, in one visit of them.
+// The rule by the edges, without the sharpness of the vertex. It visits each edge once.
 fn rule_of_edges(level: &Level, v: u32) -> LastingRule
     requires { v < level.now.level.point_count }
     ensures { result ≡ rule_of_edges level.now v }

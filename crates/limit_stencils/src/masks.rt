@@ -6,7 +6,7 @@ use ratio128::Memory;
 use std::marker::Model;
 use stencil_factory::{PointMasks, PointWeights};
 
-/// The limit masks of the points of a level of quads, each of which has one, and whose boundary is infinitely sharp.
+/// The limit masks of a level of quads. Each point has one, and each edge of one face is infinitely sharp.
 #[derive(Drop)]
 pub(crate) struct LimitMasks<'a> {
     pub(crate) level: &'a Level,

@@ -1,4 +1,4 @@
-//! Quads: whether each face is one, and the opposite corners of those at a vertex.
+//! Whether each face is a quad, and the opposite corners of the quads at a vertex.
 
 ghost use Rattle.std.specs.Prelude.{◌≡◌, ◌+◌, ◌%◌, ◌<◌, true, length, get_or, MatchOption};
 ghost use Rattle.subdiv_model.specs.Limit.{has_quads};
@@ -8,7 +8,7 @@ ghost use Rattle.limit_stencils.specs.Limits.{IsFirstOther};
 
 use level_topology::Level;
 
-/// The least face that has not four corners, where there is one. It takes no memory.
+/// The least face that does not have four corners, or `None`. The search takes no memory.
 pub(crate) fn first_other(level: &Level) -> Option<u32>
     ensures { MatchOption result (has_quads level.now.level ≡ true) (IsFirstOther level.now.level.polygons) }
 {
@@ -21,14 +21,14 @@ pub(crate) fn first_other(level: &Level) -> Option<u32>
     None
 }
 
-// The place of the opposite corner of a quad, two corners further.
+// The place of the opposite corner of a quad.
 fn opposite_place(place: u16) -> usize
     ensures { result ≡ (place + 2) % 4 }
 {
     (usize::from(place) + 2) % 4
 }
 
-/// The opposite corner of one of the quads at a vertex, by its place there.
+/// The corner opposite to a vertex in quad `i` of the vertex.
 pub(crate) fn opposite(level: &Level, v: u32, i: usize) -> u32
     requires known { v < level.now.level.point_count }
     requires quads { has_quads level.now.level ≡ true }

@@ -1,4 +1,4 @@
-//! Whether something at a vertex is semi-sharp.
+//! Whether a vertex or one of its edges is semi-sharp.
 
 ghost use Rattle.std.specs.Prelude.{◌≡◌, ◌<◌};
 ghost use Rattle.std.specs.List.{list_any};
@@ -29,7 +29,7 @@ fn has_semi_edge(level: &Level, v: u32) -> bool
     semi
 }
 
-/// Whether the vertex or an edge there is semi-sharp. It takes no memory.
+/// Whether the vertex or one of its edges is semi-sharp. The test takes no memory.
 pub(crate) fn has_semi_sharp(level: &Level, v: u32) -> bool
     requires { v < level.now.level.point_count }
     ensures { result ≡ is_semi_in level.now v }

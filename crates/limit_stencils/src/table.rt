@@ -1,4 +1,4 @@
-//! The rows of all limit points.
+//! The tables of limit points.
 
 ghost use Rattle.std.specs.Prelude.{◌≡◌, true, IsTrue, length, replicate};
 ghost use Rattle.subdiv_model.specs.Level as model;
@@ -17,7 +17,7 @@ use std::alloc::Global;
 use stencil_apply::StencilTable;
 use stencil_factory::{RowFault, compose_masks};
 
-// The fault of rows that cannot be composed.
+// The fault of the limit table for a fault of its rows.
 fn quad_fault(fault: RowFault) -> QuadFault
     ensures { (level : model.Level) (table : Table) → HasLimits level → IsRowFault level (limit_masks level) table fault → IsQuadFault level table result }
 {
@@ -28,7 +28,7 @@ fn quad_fault(fault: RowFault) -> QuadFault
     }
 }
 
-// The fault of a level of quads as that of a level.
+// The fault of a level for a fault of a level of quads.
 fn limit_fault(fault: QuadFault) -> LimitFault
     ensures { (level : model.Level) (table : Table) → IsQuadFault level table fault → IsLimitFault level table result }
 {
@@ -41,7 +41,7 @@ fn limit_fault(fault: QuadFault) -> LimitFault
     }
 }
 
-// The rows of the limit points of a level in which each point has a limit mask.
+// The limit table of a level in which each point has a limit mask.
 fn limit_rows(alloc: Global, level: &Level, table: &StencilTable) -> Result<StencilTable, QuadFault>
     requires limits { HasLimits level.now.level }
     requires each { length table.now.rows ≡ level.now.level.point_count }
@@ -53,11 +53,18 @@ fn limit_rows(alloc: Global, level: &Level, table: &StencilTable) -> Result<Sten
     }
 }
 
-/// The table of the limit points of a level of quads, from the table of its points, both over the same control points: each row has
-/// the control points that its limit point depends on, ascending, over the common denominator of the limit point.
+/// Returns the table of the limit points of a level of quads, over the control points of `table`. Row v gives the limit point of point v:
+/// the control points that it depends on, ascending, over its common denominator.
 ///
-/// Each point of the level is complete, and each edge of one face is infinitely sharp. The table has a row for each point. The
-/// faults are looked for in the order of the variants of [`QuadFault`], where a dart and a semi-sharp point are looked for together.
+/// `table` has a row for each point of the level. Each point of the level is complete, and each edge of one face is infinitely sharp.
+/// Neither argument changes.
+///
+/// A smooth point of n edges has weight n², each edge's other end 4 and the opposite corner of each quad 1, over n(n + 5). A point of a
+/// crease has weight 4 and its two neighbours on the crease 1 each, over 6. A corner keeps its place.
+///
+/// Errors: the least point without a limit mask (`Dart` or `SemiSharp`), `Denominator`, `TooManyEntries`, in this order. `Memory` may
+/// come at any time. A point that is infinitely sharp, has three infinitely sharp edges or has no edge is a corner. A corner has a limit
+/// mask even if something there is semi-sharp.
 pub fn limit_table_of_quads(
     alloc: Global,
     level: &Level,
@@ -73,8 +80,10 @@ pub fn limit_table_of_quads(
     limit_rows(alloc, level, table)
 }
 
-/// The table of the limit points of a level, from the table of its points, as by [`limit_table_of_quads`], or its least face that
-/// has not four corners.
+/// Returns the table of the limit points of a level, over the control points of `table`. [`limit_table_of_quads`] describes the rows and
+/// the errors.
+///
+/// Error `NotQuads`, before all others: the least face, counted from 0, that does not have four corners.
 pub fn limit_table(
     alloc: Global,
     level: &Level,

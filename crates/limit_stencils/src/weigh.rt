@@ -37,7 +37,7 @@ fn put_opposites(level: &Level, v: u32, weights: &mut PointWeights) -> Result<()
     Ok(())
 }
 
-// Puts the vertex, and no other point yet.
+// Puts the vertex into empty weights.
 fn start(v: u32, weight: u128, denominator: u128, weights: &mut PointWeights) -> Result<(), Memory>
     ensures { OnOk result (weights.new ≡ record { terms = weigh weight (OfPoint v) ∷ []; denominator = denominator }) }
 {
@@ -57,7 +57,7 @@ fn put_smooth(level: &Level, v: u32, weights: &mut PointWeights) -> Result<(), M
     put_opposites(level, v, weights)
 }
 
-// Puts the weights of a vertex on a crease, from the other ends of its sharp edges.
+// Puts the weights of a vertex of a crease and of its two neighbours on the crease.
 fn put_crease(v: u32, first: u32, second: u32, weights: &mut PointWeights) -> Result<(), Memory>
     ensures { OnOk result (weights.new ≡ record { terms = weigh 4 (OfPoint v) ∷ weigh_points 1 (first ∷ second ∷ []); denominator = 6 }) }
 {
@@ -66,7 +66,7 @@ fn put_crease(v: u32, first: u32, second: u32, weights: &mut PointWeights) -> Re
     weights.put(second, 1)
 }
 
-/// Puts the weights of the limit point of a vertex by its lasting rule.
+/// Puts the weights of the limit point of a vertex, by the rule of the vertex.
 pub(crate) fn put_limit(level: &Level, v: u32, weights: &mut PointWeights) -> Result<(), Memory>
     requires known { v < level.now.level.point_count }
     requires quads { has_quads level.now.level ≡ true }

@@ -1,4 +1,4 @@
--- The lists of a level around a point are those of the definitions in another order, and stand once each.
+-- The lists of a level around a point are those of the definitions in another order, with each item once.
 use Rattle.std.proofs.Common.{◌≡◌, ◌≢◌, ℕ, zero, suc, ◌<◌, Bool, true, false, not, ◌&&◌, nat_eq, if◌then◌else◌, List, [], ◌∷◌, length, map, get_or, arith, refl, ap, sym, subst, ◌∙◌}
 use Rattle.std.specs.List.Sorted.{IsPermutation}
 use Rattle.std.proofs.lemmas.Bool.{and_from, and_parts, eq-eqb, eqb-true, false_from_ne_true}
@@ -154,7 +154,7 @@ module _ (t : Topology) (v : ℕ) (is : IsTopology t) (inside : v < t.level.poin
       (weight_overflow-any_order now next vertex vertex_child (edges_at level v) edges edges-permuted))
       ∙ sym (ap (refuses (ring_at level v)) here)
 
-  -- and so is a half
+  -- the half of an edge is refused in every order of the edges or in none
   pub fine-same : chaikin_overflows_at t.level v ≡ false → t.level.method ≡ Chaikin → chaikin_overflows (ring_in t v) ≡ false
   fine-same fine chaikin =
       let own : chaikin_overflows (ring_at t.level v) ≡ chaikin_overflows_at t.level v = sym (ap (λ m. is_chaikin m && chaikin_overflows (ring_at t.level v)) chaikin) in

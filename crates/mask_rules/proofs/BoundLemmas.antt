@@ -113,7 +113,7 @@ pub record Denominators (p r : ℕ) : Type 0 where
   pub second : 0 < r
   pub below : lcm_of p r < 2 ^ 68
 
--- what the masks of two rules sum to
+-- the sums of the masks of two rules
 pub denominators : (parent child : Rule) (n valence p r : ℕ) → valence ≡ n → valence < 2 ^ 32 → p ≡ rule_denominator parent valence
     → r ≡ rule_denominator child valence → IsRuleAmong parent n → IsRuleAmong child n → Denominators p r
 denominators parent child n valence p r same short e k h l =

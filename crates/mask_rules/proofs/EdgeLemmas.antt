@@ -65,7 +65,7 @@ faces-distinct polygons e f g two =
 sharp-mask : (edge : ℕ × ℕ) → is_distinct (edge.0 ∷ edge.1 ∷ []) ≡ true → IsMask (ends_over edge) (sharp_edge_mask edge)
 sharp-mask edge once = points-mask 1 (edge.0 ∷ edge.1 ∷ []) 2 (omega arith) once (mean-sharp_edge edge)
 
--- where the ends alone count
+-- the mask of an edge where only the ends have weights
 ends-mask : (s : Sharpness) (edge : ℕ × ℕ) (faces : List ℕ) → is_distinct (edge.0 ∷ edge.1 ∷ []) ≡ true → is_at_least_one s ≡ true
     → IsMask (ends_over edge) (mask_of_edge s edge faces)
 ends-mask Smooth edge faces once h = cc
@@ -84,7 +84,7 @@ some-below (Semi x y) part (inl h) = lt-leb y x h.0
 some-below (Semi x y) part (inr h) = let no = h.1 in cc
 some-below Infinite part h = cc
 
--- where the faces count too
+-- the mask of an edge where the faces have weights too
 between-mask : (s : Sharpness) (edge : ℕ × ℕ) (f g : ℕ) (part : ℕ × ℕ) → is_distinct (edge.0 ∷ edge.1 ∷ []) ≡ true
     → is_distinct (f ∷ g ∷ []) ≡ true → IsBelowOne s (Some part) → IsMask (around_over part.0 part.1 edge (f, g)) (mask_of_edge s edge (f ∷ g ∷ []))
 between-mask Smooth edge f g part once alone h =
@@ -108,7 +108,7 @@ module _ (t : Topology) (e : ℕ) (is : IsTopology t) (inside : e < length (edge
   kept-is : kept ≡ edge_sharpness_of t.level edge
   kept-is = ap (λ n. get_or t.level.edge_sharpness n Smooth) (sym (own-number t.level.polygons e inside))
 
-  -- the mask where the ends alone count
+  -- the mask in a level where only the ends have weights
   pub edge-without : (scheme : Scheme) → IsPartBelowOne scheme kept None → IsMask (ends_over edge) (edge_mask t.level scheme edge)
   edge-without CatmullClark h =
       ends-mask (edge_sharpness_of t.level edge) edge (faces_of_edge t.level.polygons edge) (ends-distinct t e is inside)

@@ -12,7 +12,7 @@ seen-two [] a b x y h p q = absurd (omega (arith, h))
 seen-two (s ∷ []) a b x y h p q = absurd (omega (arith, h))
 seen-two (s ∷ t ∷ terms) a b x y h p q = cc
 
--- and four
+-- the first four terms after four are written
 pub seen-four : (terms : List Term) (a b c d : Term) (x y z w : model.Term) → 4 ≤ length terms → term_of a ≡ x → term_of b ≡ y → term_of c ≡ z → term_of d ≡ w
     → terms_of (take 4 (set (set (set (set terms 0 a) 1 b) 2 c) 3 d)) ≡ x ∷ y ∷ z ∷ w ∷ []
 seen-four [] a b c d x y z w h p q r s = absurd (omega (arith, h))

@@ -28,7 +28,7 @@ plain-joined t v is inside smooth m e =
     e ∙ ap (λ w. record { terms = positive (terms_around w (λ i. 1) 1 v ends faces); denominator = n * n }) (nothing-added (n * (n - 2))) in
     subst (IsJoinedAs m) (sym (smooth-mask t v smooth)) (one-joined t v is inside SmoothRule (n * n) m refl (omega (arith, smooth.some, ring-long t v)) same)
 
--- what was put one after another is what is around the vertex
+-- the terms added one after another are those around the vertex
 pub put-around : (own : ℕ) (v : ℕ) (ends faces : List ℕ) (first second third : List Term) → first ≡ positive (weigh own (OfPoint v) ∷ [])
     → second ≡ first ++ positive (end_terms (λ i. 1) 0 ends) → third ≡ second ++ positive (weigh_faces 1 faces)
     → third ≡ positive (terms_around own (λ i. 1) 1 v ends faces)

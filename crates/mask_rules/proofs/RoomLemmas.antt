@@ -1,10 +1,10 @@
--- Room for terms that are put one after another.
+-- Memory for terms that are added one after another.
 use Rattle.std.proofs.Common.{◌≡◌, ℕ, ◌+◌, ◌≤◌, arith, ◌∙◌}
 use Rattle.smallvec.specs.SmallVec.{SmallVec, small_vec_len, HasRoomFor}
 use Rattle.mask_rules.specs.declared.mask.Term.{Term}
 use Rattle.mask_rules.specs.Room.{Grows}
 
--- room for both is room for the second after the first
+-- memory for both is memory for the second after the first
 pub room-after : (old now : SmallVec Term) (first second : ℕ) → Grows old first now → HasRoomFor old (first + second) → HasRoomFor now second
 room-after old now first second grown room =
     let kept : now.capacity ≡ old.capacity = grown.kept (omega (arith, room)) in

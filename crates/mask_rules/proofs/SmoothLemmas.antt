@@ -22,7 +22,7 @@ neither false false h = (refl, refl)
 neither true c h = absurd (cc)
 neither false true h = absurd (cc)
 
--- what is not sharp is smooth
+-- a sharpness that is not sharp is smooth
 pub plain-smooth : (s : Sharpness) → is_sharp s ≡ false → s ≡ Smooth
 plain-smooth Smooth h = refl
 plain-smooth (Semi num den) h = absurd (cc)
@@ -88,7 +88,7 @@ module _ (t : Topology) (v : ℕ) (is : IsSmoothAt t v) where
   pub smooth-fine : is_refused_in t v ≡ false
   smooth-fine = needless _ _ same
 
-  -- what was made as the mask of the smooth rule, or failed for want of memory, answers for the vertex
+  -- the mask of the smooth rule, or its lack of memory, is a result for the vertex
   pub smooth-made : (r : Result VertexMask MaskFault) → IfOk r (λ m. IsJoinedAs (seen_vertex m) (mask_of_rule v (ends_in t v) (faces_in t v) SmoothRule))
       → IfErr r (λ f. f ≡ fault.Memory)
       → MatchResult r (λ m. IsJoinedAs (seen_vertex m) (mask_in t v) × (is_refused_in t v ≡ false)) (IsFaultWhere (is_refused_in t v))

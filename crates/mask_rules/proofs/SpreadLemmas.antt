@@ -28,7 +28,7 @@ weight_in-positive (t ∷ terms) source =
       weight_in-cons t (positive terms) source,
     )
 
--- what one term gives follows its weight
+-- the weight of a source is linear in the weight of its term
 weight-linear : (s : SourcePoint) (by rest x y : ℕ) (source : SourcePoint)
     → weight_of (weigh (by * x + rest * y) s) source ≡ by * weight_of (weigh x s) source + rest * weight_of (weigh y s) source
 weight-linear s by rest x y source = either (same_source source s)
@@ -204,7 +204,7 @@ denominator-is DartRule v ends faces = refl
 denominator-is (CreaseRule first second) v ends faces = refl
 denominator-is CornerRule v ends faces = refl
 
--- one rule alone
+-- a blend that is all of one rule has the weights of the rule
 pub one-rule : (rule other : Rule) (v : ℕ) (ends faces : List ℕ) → IsRuleAmong rule (length ends)
     → HaveSameWeights (spread_mask rule other 1 0 (rule_denominator rule (length ends)) v ends faces) (mask_of_rule v ends faces rule)
 one-rule rule other v ends faces h = record {
@@ -245,7 +245,7 @@ two-rules w parent child v ends faces h k multiple e =
     amounts : {a b c d x y z u : ℕ} → a ≡ b → c ≡ d → x ≡ y → z ≡ u → a * x + c * z ≡ b * y + d * u
     amounts e f g h = cc
 
--- whether sources stand once each does not depend on their weights
+-- whether each source occurs once does not depend on the weights
 ends-source : (weight : ℕ → ℕ) (place : ℕ) (ends : List ℕ) (source : SourcePoint) → has_source (end_terms weight place ends) source ≡ has_source (weigh_points 1 ends) source
 ends-source weight place [] source = refl
 ends-source weight place (v ∷ ends) source = ap (λ b. same_source source (OfPoint v) || b) (ends-source weight (place + 1) ends source)
@@ -262,7 +262,7 @@ ends-once weight place (v ∷ ends) faces =
     ap (λ b. not b && has_distinct_sources (end_terms weight (place + 1) ends ++ faces)) alike
     ∙ ap (λ b. not (has_source (weigh_points 1 ends ++ faces) (OfPoint v)) && b) (ends-once weight (place + 1) ends faces)
 
--- a vertex, the other ends of its edges and its faces stand once each
+-- a vertex, the other ends of its edges and its faces occur once each
 around-once : (own : ℕ) (weight : ℕ → ℕ) (face v : ℕ) (ends faces : List ℕ) → is_distinct (v ∷ ends) ≡ true → is_distinct faces ≡ true
     → has_distinct_sources (terms_around own weight face v ends faces) ≡ true
 around-once own weight face v ends faces once alone =

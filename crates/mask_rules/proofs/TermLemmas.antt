@@ -1,4 +1,4 @@
--- Terms of points and of faces that stand once each, and when they are a mask of the definitions.
+-- Terms of points and of faces that occur once each, and when they are a mask of the definitions.
 use Rattle.std.proofs.Common.{◌≡◌, ℕ, ◌<◌, Bool, true, false, not, ◌||◌, nat_eq, nat_lt, List, [], ◌∷◌, ◌++◌, arith, refl, ap, sym, subst, ◌∙◌}
 use Rattle.std.specs.List.{list_all}
 use Rattle.std.proofs.lemmas.List.{append-nil}

@@ -1,4 +1,4 @@
--- The mask of a vertex, from what was put together for it.
+-- The mask of a vertex, from the terms made for it.
 use Rattle.std.proofs.Common.{◌≡◌, ℕ, true, false, MatchResult, ◌-◌, ◌*◌, ◌/◌, ◌<◌, Result, Ok, Err, IfOk, List, [], length, get_or, ap, sym, ◌∙◌, subst}
 use Rattle.subdiv_model.specs.Multiples.{lcm_of}
 use Rattle.subdiv_model.specs.Rule.{Rule}

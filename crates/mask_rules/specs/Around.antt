@@ -1,4 +1,4 @@
--- What stands around a point of a level, in the order of the level's lists.
+-- The edges and faces around a point of a level, in the order of the level's lists.
 use Rattle.std.specs.Prelude.{◌≡◌, ℕ, ◌+◌, ◌<◌, ◌≤◌, Bool, true, not, ◌&&◌, IsTrue, List, [], length, map, get_or}
 use Rattle.subdiv_model.specs.Polygons.{Polygon}
 use Rattle.subdiv_model.specs.Sharpness.{Sharpness, Smooth, Infinite, uniform_child}
@@ -30,7 +30,7 @@ mask_in t v =
     mask_of_vertex (vertex_sharpness_of t.level v) (uniform_child (vertex_sharpness_of t.level v)) (ring_in t v)
     (child_ring t.level.method (ring_in t v)) v (ends_in t v) (faces_in t v)
 
--- the rules of a vertex in its level and in the next name two masks, and the weight between them is refused
+-- the rules of a vertex in its level and in the next have different masks, and the weight between them is refused
 abbrev pub is_refused_in : Topology → ℕ → Bool
 is_refused_in t v =
     let vertex = vertex_sharpness_of t.level v in
@@ -38,17 +38,17 @@ is_refused_in t v =
     let ring_child = child_ring t.level.method ring in
     not (same_mask (vertex_rule vertex ring) (vertex_rule (uniform_child vertex) ring_child)) && transition_overflows vertex (uniform_child vertex) ring ring_child
 
--- the fault of a vertex, where its weight is refused or not
+-- the fault of a vertex whose weight is refused or not
 abbrev pub IsFaultWhere : Bool → MaskFault → Type 0
 IsFaultWhere refused Transition = refused ≡ true
 IsFaultWhere refused Memory = Unit {0}
 
--- each edge of one face at a point is infinitely sharp
+-- each edge with one face at a point is infinitely sharp
 abbrev pub HasSharpBoundaryAt : Level → ℕ → Type 0
 HasSharpBoundaryAt level v =
     (e : ℕ) → e < length (edges_of level.polygons) → IsTrue (has_end v (edge_at level.polygons e)) → IsTrue (is_boundary level.polygons (edge_at level.polygons e))
     → get_or level.edge_sharpness e Smooth ≡ Infinite
 
--- a point, its edges and its faces are at most 16 terms
+-- a point, its edges and its faces are at most 16 together
 abbrev pub HasFewTerms : Topology → ℕ → Type 0
 HasFewTerms t v = 1 + length (get_or t.edges_at v []) + length (get_or t.faces_at v []) ≤ 16

@@ -1,4 +1,4 @@
--- Why a vertex has no mask, in words.
+-- The text of the reason why a vertex has no mask.
 use Rattle.std.specs.Prelude.{ℕ, List, codes}
 use Rattle.mask_rules.specs.declared.mask.MaskFault.{MaskFault}
 use Rattle.mask_rules.specs.declared.mask.MaskFault.TheVariants.{Transition, Memory}

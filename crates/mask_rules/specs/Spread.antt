@@ -1,17 +1,18 @@
--- The terms of a vertex by a rule, and of two rules each by an amount: the vertex, the other end of each edge, and each face.
+-- The terms of a vertex: by one rule, and by two rules that each have a share. They are the vertex, the other end of each
+-- edge, and each face.
 use Rattle.std.specs.Prelude.{ℕ, ◌<◌, ◌+◌, ◌-◌, ◌*◌, ◌||◌, nat_eq, nat_lt, if◌then◌else◌, List, [], ◌∷◌, ◌++◌, length}
 use Rattle.std.specs.List.{filter}
 use Rattle.subdiv_model.specs.Rule.{Rule, SmoothRule, DartRule, CreaseRule, CornerRule}
 use Rattle.subdiv_model.specs.Mask.{Term, Mask, OfPoint, weigh, weigh_faces}
 
--- the weight of a vertex with so many edges
+-- the weight of a vertex with this many edges
 abbrev pub vertex_weight : Rule → ℕ → ℕ
 vertex_weight SmoothRule n = n * (n - 2)
 vertex_weight DartRule n = n * (n - 2)
 vertex_weight (CreaseRule first second) n = 6
 vertex_weight CornerRule n = 1
 
--- the weight of the other end of the edge at a place
+-- the weight of the other end of the edge at a place of the ring
 abbrev pub end_weight : Rule → ℕ → ℕ
 end_weight SmoothRule place = 1
 end_weight DartRule place = 1
@@ -35,7 +36,7 @@ abbrev pub end_terms : (ℕ → ℕ) → ℕ → List ℕ → List Term
 end_terms weight place [] = []
 end_terms weight place (v ∷ ends) = weigh (weight place) (OfPoint v) ∷ end_terms weight (place + 1) ends
 
--- the terms of weight 0 left out
+-- the terms without those of weight 0
 abbrev pub positive : List Term → List Term
 positive terms = filter (λ t. nat_lt 0 t.weight) terms
 
@@ -55,7 +56,7 @@ spread_mask parent child by rest denominator v ends faces = record {
   denominator = denominator;
 }
 
--- a rule of a vertex with so many edges: all but a corner have an edge, and a crease names two
+-- a rule fits a vertex with this many edges: all rules but a corner need an edge, and a crease names two
 abbrev pub IsRuleAmong : Rule → ℕ → Type 0
 IsRuleAmong SmoothRule n = 0 < n
 IsRuleAmong DartRule n = 0 < n

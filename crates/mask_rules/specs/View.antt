@@ -1,4 +1,4 @@
--- The types of this crate, seen as those of the definitions.
+-- The types of this crate as types of the definitions.
 use Rattle.std.specs.Prelude.{List, map}
 use Rattle.subdiv_model.specs.Mask as model
 use Rattle.mask_rules.specs.declared.mask.Scheme.{Scheme}

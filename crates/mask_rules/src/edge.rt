@@ -1,4 +1,4 @@
-//! The new point of an edge.
+//! The mask of the new point of an edge.
 
 ghost use Rattle.std.specs.Prelude.{◌≡◌, ◌<◌, ◌⊎◌, IsTrue, length, get_or};
 ghost use Rattle.subdiv_model.specs.Edges.{edges_of};
@@ -32,7 +32,7 @@ fn face_point(f: u32, weight: u128) -> Term
     }
 }
 
-// A sharpness below 1 as a fraction, 0 as 0/1.
+// Returns a sharpness below 1 as a fraction, with 0 as 0/1. Returns `None` for a sharpness of 1 or more.
 fn below_one(s: Sharpness) -> Option<(u64, u64)>
     ensures { IsBelowOne (sharpness_of s) result }
 {
@@ -49,7 +49,7 @@ fn below_one(s: Sharpness) -> Option<(u64, u64)>
     }
 }
 
-// The sharpness of an edge whose faces count, and none where its ends alone do.
+// Returns the fraction of an edge whose faces have weights, and `None` where only its ends have weights.
 fn part_below_one(scheme: Scheme, s: Sharpness) -> Option<(u64, u64)>
     ensures { IsPartBelowOne (scheme_of scheme) (sharpness_of s) result }
 {
@@ -60,7 +60,7 @@ fn part_below_one(scheme: Scheme, s: Sharpness) -> Option<(u64, u64)>
 }
 
 impl MadeMask {
-    // The mean of the ends.
+    // Makes the mean of the two ends.
     fn put_middle(&mut self, ends: (u32, u32))
         ensures { self.new ≡ ends_over ends }
     {
@@ -70,7 +70,7 @@ impl MadeMask {
         self.denominator = 2;
     }
 
-    // The ends and the two faces, for a sharpness x/y below 1.
+    // Makes the mask of the ends and the two faces, for a sharpness x/y below 1.
     fn put_beside(&mut self, ends: (u32, u32), faces: (u32, u32), part: (u64, u64))
         requires { part.0 < part.1 }
         ensures { self.new ≡ around_over part.0 part.1 ends faces }
@@ -86,8 +86,8 @@ impl MadeMask {
         self.denominator = 4 * y as u128;
     }
 
-    /// Makes the mask of an edge. Under Catmull and Clark's scheme the edge has two faces, or a sharpness of at least 1. It
-    /// takes no memory.
+    /// Makes the mask of edge `e`, counted from 0. Under Catmull and Clark's scheme the edge needs two faces or a sharpness
+    /// of at least 1. The call replaces the mask made before, cannot fail and takes no memory.
     pub fn put_edge(&mut self, level: &Level, e: u32, scheme: Scheme)
         requires known { e < length (edges_of level.now.level.polygons) }
         requires inside { scheme_of scheme ≡ CatmullClark

@@ -1,4 +1,4 @@
-//! The new point of a face.
+//! The mask of the new point of a face.
 
 ghost use Rattle.std.specs.Prelude.{◌≡◌, ◌<◌, length};
 ghost use Rattle.subdiv_model.specs.Polygons.{polygon_at};
@@ -7,14 +7,14 @@ ghost use Rattle.mask_rules.specs.Masks.{IsMask, corners_over};
 
 use level_topology::Level;
 
-/// The mask of a face: a weight of 1 for each of its corners, over their number.
+/// The mask of a face: each corner has the weight 1, and the denominator is the number of corners.
 #[derive(Clone, Copy, Debug, PartialEq, Eq)]
 pub struct FaceMask {
     size: u32,
 }
 
 impl FaceMask {
-    /// How many corners the face has.
+    /// Returns the number of corners of the face, which is also the denominator.
     pub fn size(&self) -> u32
         ensures { result ≡ self.now.size }
     {
@@ -22,7 +22,7 @@ impl FaceMask {
     }
 }
 
-/// The mask of a face. It takes no memory.
+/// Returns the mask of face `f`, counted from 0. The call cannot fail and takes no memory.
 pub fn face_mask(level: &Level, f: u32) -> FaceMask
     requires { f < length level.now.level.polygons }
     ensures size { result.size ≡ length (polygon_at level.now.level.polygons f) }

@@ -1,4 +1,4 @@
-//! Laws of equal masks, each for all masks.
+//! Laws of equal masks. Each holds for all masks.
 
 ghost use Rattle.std.specs.Prelude.{◌≡◌, ◌*◌, ℕ, IsTrue};
 ghost use Rattle.std.specs.List.{sum_by};
@@ -9,8 +9,8 @@ ghost use Rattle.subdiv_model.specs.Refined.{mask_value, mask_denominator};
 ghost use Rattle.sharpness_laws.specs.SameWeights.{is_joined};
 ghost use Rattle.mask_rules.specs.Masks.{IsMask};
 
-/// A mask and the one of the definitions that it is have one sum over all numbers of their sources, and, where the defined
-/// one is joined, one value over all values and one denominator.
+/// A mask that meets `IsMask` gives the same sums as the defined mask, over all numbers of the sources. If the defined mask
+/// is joined, it also gives the same values and the same denominator.
 pub fn equal_masks_have_equal_sums()
     ensures numbers { (mask defined : Mask) (number : SourcePoint → ℕ) → IsMask mask defined
         → sum_by (λ t. t.weight * number t.source) mask.terms ≡ sum_by (λ t. t.weight * number t.source) defined.terms }

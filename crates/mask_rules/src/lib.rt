@@ -1,8 +1,8 @@
-//! Masks: each child point of a level as whole weights above 0 over a denominator, which they sum to. A weight is one of a
-//! point of the level or of the new point of one of its faces.
+//! Finds the mask of each face, edge and vertex of a level: whole weights over one denominator.
 //!
-//! Source: Catmull and Clark 1978 for faces and smooth edges and vertices; DeRose, Kass and Truong 1998 for sharp and
-//! semi-sharp edges, creases, corners and darts; the blend at a vertex whose rule changes is this profile's.
+//! A weight belongs to a point of the level or to the new point of one of its faces. The weights are above 0 and sum to the
+//! denominator. The smooth rules are those of Catmull and Clark 1978; sharp edges, creases, corners and darts follow DeRose,
+//! Kass and Truong 1998. The blend at a vertex whose rule changes is this library's own.
 #![tactic(auto)]
 
 mod edge;

@@ -1,4 +1,4 @@
-//! The place where masks that take no memory are made, one after another.
+//! A place in which short masks are made one after another, without memory.
 
 ghost use Rattle.std.specs.Prelude.{◌≡◌, ◌<◌, [], ◌++◌, ◌∷◌, length};
 ghost use Rattle.subdiv_model.specs.Mask.{weigh};
@@ -7,7 +7,7 @@ ghost use Rattle.mask_rules.specs.View.{source_of, terms_of};
 use crate::mask::{At, Term};
 use std::marker::Model;
 
-/// A mask of at most 16 terms. The next one is made in its place.
+/// A mask of at most 16 terms. Each `put_` call replaces the mask made before. Only the terms of the last mask are written.
 #[derive(Drop)]
 pub struct MadeMask {
     pub(crate) terms: [Term; 16],
@@ -28,7 +28,7 @@ impl Model for MadeMask {
 }
 
 impl MadeMask {
-    /// No term over 0.
+    /// Returns an empty mask: no term, and the denominator 0.
     pub fn new() -> MadeMask
         ensures { result ≡ record { terms = []; denominator = 0 } }
     {
@@ -39,21 +39,22 @@ impl MadeMask {
         }
     }
 
-    /// The terms, each with a place of its own and a weight above 0 once a mask is made.
+    /// Returns the terms, in an order that no contract fixes. After a `put_` call each source occurs once, with a weight
+    /// above 0.
     pub fn terms(&self) -> &[Term]
         ensures { terms_of result.now ≡ self.now.terms }
     {
         &self.terms[..self.len]
     }
 
-    /// What the weights sum to.
+    /// Returns the denominator, which is the sum of the weights.
     pub fn denominator(&self) -> u128
         ensures { result ≡ self.now.denominator }
     {
         self.denominator
     }
 
-    // No term over a denominator.
+    // Removes all terms and sets the denominator.
     pub(crate) fn start(&mut self, denominator: u128)
         ensures { self.new ≡ record { terms = []; denominator = denominator } }
     {
@@ -61,7 +62,7 @@ impl MadeMask {
         self.denominator = denominator;
     }
 
-    // A term more.
+    // Adds a term.
     pub(crate) fn put(&mut self, at: At, weight: u128)
         requires { length self.old.terms < 16 }
         ensures { self.new ≡ record { terms = self.old.terms ++ weigh weight (source_of at) ∷ []; denominator = self.old.denominator } }

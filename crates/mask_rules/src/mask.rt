@@ -1,4 +1,4 @@
-//! What a mask is made of.
+//! The parts of a mask.
 
 ghost use Rattle.std.specs.Prelude.{Some};
 ghost use Rattle.mask_rules.specs.FaultText.{fault_text};
@@ -6,35 +6,39 @@ ghost use Rattle.mask_rules.specs.FaultText.{fault_text};
 use ratio128::Memory;
 use std::fmt;
 
-/// How a level is refined.
+/// The scheme that refines a level.
 #[derive(Clone, Copy, Debug, PartialEq, Eq)]
 pub enum Scheme {
-    /// Edges and vertices by their sharpness.
+    /// Catmull and Clark's scheme: edges and vertices move by their sharpness.
     CatmullClark,
-    /// A vertex stays, and an edge has its middle point.
+    /// The linear scheme: a vertex keeps its place, and an edge gets its middle point.
     Linear,
 }
 
-/// Where a term is taken: at a point of the level, or at the new point of one of its faces, each by its number.
+/// The source of a term, numbered from 0.
 #[derive(Clone, Copy, Debug, PartialEq, Eq)]
 pub enum At {
+    /// A point of the level.
     Point(u32),
+    /// The new point of a face of the level.
     FacePoint(u32),
 }
 
-/// A place and its whole weight.
+/// A source and its whole weight.
 #[derive(Clone, Copy, Debug, PartialEq, Eq)]
 pub struct Term {
+    /// The source.
     pub at: At,
+    /// The weight, over the denominator of the mask.
     pub weight: u128,
 }
 
-/// Why a vertex has no mask.
+/// The reason why a vertex has no mask.
 #[derive(Clone, Copy, Debug, PartialEq, Eq)]
 pub enum MaskFault {
     /// The weight between the masks of two levels has a denominator above 2^60.
     Transition,
-    /// There is no memory for a long mask.
+    /// Memory ran out.
     Memory,
 }
 

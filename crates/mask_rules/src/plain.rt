@@ -1,5 +1,5 @@
-//! The masks of vertices that take no memory and are never refused: where nothing is sharp and few edges meet, and under the
-//! linear scheme.
+//! The masks of plain vertices, which take no memory and never fail. A vertex is plain where nothing is sharp and few edges
+//! meet, and always under the linear scheme.
 
 ghost use Rattle.std.specs.Prelude.{◌≡◌, ◌+◌, ◌*◌, ◌-◌, ◌<◌, ◌≤◌, true, false, [], ◌++◌, ◌∷◌, length, get_or};
 ghost use Rattle.subdiv_model.specs.Mask.{CatmullClark, OfPoint, weigh, weigh_faces, corner_mask, vertex_mask};
@@ -15,11 +15,11 @@ use crate::mask::{At, Scheme};
 use crate::smooth::is_smooth_at;
 use level_topology::Level;
 
-// So many terms take no memory.
+// The number of terms that take no memory.
 const FEW: usize = 16;
 
 impl MadeMask {
-    // The vertex, unless its weight is 0.
+    // Starts a mask with the vertex, unless its weight is 0.
     fn put_vertex(&mut self, v: u32, weight: u128, denominator: u128)
         ensures terms { self.new.terms ≡ positive (weigh weight (OfPoint v) ∷ []) }
         ensures few { length self.new.terms ≤ 1 }
@@ -31,7 +31,7 @@ impl MadeMask {
         }
     }
 
-    // The other ends of the edges, each with a weight of 1.
+    // Adds the other ends of the edges, each with the weight 1.
     fn put_ends(&mut self, level: &Level, v: u32)
         requires known { v < level.now.level.point_count }
         requires room { length self.old.terms + length (get_or level.now.edges_at v []) ≤ 16 }
@@ -45,7 +45,7 @@ impl MadeMask {
         }
     }
 
-    // The faces, each with a weight of 1.
+    // Adds the faces, each with the weight 1.
     fn put_faces(&mut self, level: &Level, v: u32)
         requires known { v < level.now.level.point_count }
         requires room { length self.old.terms + length (faces_in level.now v) ≤ 16 }
@@ -57,7 +57,7 @@ impl MadeMask {
         }
     }
 
-    // The vertex, the ends of its edges and its faces by the smooth rule.
+    // Makes the mask of the smooth rule: the vertex, the other ends of its edges, and its faces.
     fn put_around(&mut self, level: &Level, v: u32)
         requires known { v < level.now.level.point_count }
         requires few { HasFewTerms level.now v }
@@ -72,7 +72,7 @@ impl MadeMask {
         self.put_faces(level, v);
     }
 
-    // The mask of a vertex at which nothing is sharp, in the order of the level's lists.
+    // Makes the mask of a vertex at which nothing is sharp, in the order of the level's lists.
     fn put_smooth(&mut self, level: &Level, v: u32)
         requires known { v < level.now.level.point_count }
         requires smooth { IsSmoothAt level.now v }
@@ -83,7 +83,7 @@ impl MadeMask {
         self.put_around(level, v);
     }
 
-    // The vertex alone has all the weight.
+    // Makes the mask that gives all weight to the vertex.
     fn put_unmoved(&mut self, v: u32)
         ensures { IsMask self.new (corner_mask v) }
     {
@@ -91,8 +91,9 @@ impl MadeMask {
         self.put(At::Point(v), 1);
     }
 
-    /// Makes the mask of a plain vertex. Under Catmull and Clark's scheme each edge of one face there is infinitely sharp. It
-    /// takes no memory, and looks at no sharpness.
+    /// Makes the mask of plain vertex `v`, counted from 0; `is_plain` finds plain vertices. Under Catmull and Clark's scheme
+    /// each edge with one face at the vertex must be infinitely sharp. The call replaces the mask made before, cannot fail,
+    /// takes no memory and reads no sharpness.
     pub fn put_plain(&mut self, level: &Level, v: u32, scheme: Scheme)
         requires known { v < level.now.level.point_count }
         requires boundary { scheme_of scheme ≡ CatmullClark → HasSharpBoundaryAt level.now.level v }
@@ -108,7 +109,7 @@ impl MadeMask {
     }
 }
 
-// Whether the vertex, its edges and its faces are at most 16 together.
+// Returns whether the vertex, its edges and its faces are at most 16 together.
 fn has_few_terms(level: &Level, v: u32) -> bool
     requires { v < level.now.level.point_count }
     ensures { result ≡ true → HasFewTerms level.now v }
@@ -118,8 +119,9 @@ fn has_few_terms(level: &Level, v: u32) -> bool
         && level.vertex_faces(v).len() < FEW - level.vertex_edges(v).len()
 }
 
-/// Whether a vertex is found to be plain: under Catmull and Clark's scheme it has edges, nothing is sharp there, and it, its
-/// edges and its faces are at most 16 together; under the linear scheme each is.
+/// Returns whether vertex `v`, counted from 0, is plain. Under Catmull and Clark's scheme a plain vertex has edges, and
+/// neither it nor any of them is sharp. The vertex, its edges and its faces are at most 16 together. Under the linear scheme
+/// every vertex is plain.
 pub fn is_plain(level: &Level, v: u32, scheme: Scheme) -> bool
     requires { v < level.now.level.point_count }
     ensures { result ≡ true → IsPlainAt level.now (scheme_of scheme) v }

@@ -1,4 +1,4 @@
-//! The sharpness of the edges at a vertex, in its level and in the next.
+//! The ring of a vertex: the sharpness of its edges, in its level and in the next level.
 
 ghost use Rattle.std.specs.Prelude.{◌≡◌, ℕ, ◌<◌, ◌^◌, false, List, length, map, get_or};
 ghost use Rattle.subdiv_model.specs.Sharpness.{Chaikin, half_child, chaikin_overflows};
@@ -12,7 +12,7 @@ ghost use Rattle.mask_rules.specs.Around.{ring_in};
 use level_topology::Level;
 use sharpness_rules::{Halves, Method, Rule, Sharpness};
 
-// The sharpness of the edges at a point.
+// Writes the sharpness of each edge at a vertex.
 pub(crate) fn put_ring(level: &Level, v: u32, ring: &mut [Sharpness])
     requires known { v < level.now.level.point_count }
     requires room { length ring.old ≡ length (ring_in level.now v) }
@@ -24,7 +24,7 @@ pub(crate) fn put_ring(level: &Level, v: u32, ring: &mut [Sharpness])
     }
 }
 
-// The half of an edge, by its sharpness, of a ring whose halves do not overflow.
+// Returns the sharpness of the half of an edge, in a ring whose halves do not overflow.
 fn half_of(halves: Halves, s: Sharpness) -> Sharpness
     ensures { (method : Method) (ring : List Sharpness) (at : ℕ) → AreHalves method ring halves → halves_overflow method ring ≡ false
         → at < length ring → s ≡ get_or ring at s → sharpness_of result ≡ half_child (method_of method) (map sharpness_of ring) (sharpness_of s) }
@@ -35,7 +35,7 @@ fn half_of(halves: Halves, s: Sharpness) -> Sharpness
     }
 }
 
-// The halves of the edges.
+// Writes the sharpness of the half of each edge.
 pub(crate) fn put_child_ring(method: Method, ring: &[Sharpness], next: &mut [Sharpness])
     requires room { length next.old ≡ length ring.now }
     requires short { length ring.now < 2 ^ 32 }
@@ -48,7 +48,7 @@ pub(crate) fn put_child_ring(method: Method, ring: &[Sharpness], next: &mut [Sha
     }
 }
 
-// Whether two rules name one mask.
+// Returns whether two rules have the same mask.
 pub(crate) fn is_same_mask(parent: Rule, child: Rule) -> bool
     ensures { result ≡ same_mask (rule_of parent) (rule_of child) }
 {

@@ -1,4 +1,4 @@
-//! A vertex at which nothing is sharp, as most are: its mask needs no rings.
+//! The mask of a vertex at which nothing is sharp. It needs no rings.
 
 ghost use Rattle.std.specs.Prelude.{◌≡◌, ◌<◌, true, false, IfErr, MatchResult};
 ghost use Rattle.std.specs.List.{list_any};
@@ -14,7 +14,7 @@ use level_topology::Level;
 use sharpness_rules::Rule;
 use std::alloc::Global;
 
-// Whether no edge at the vertex is sharp.
+// Returns whether no edge at the vertex is sharp.
 fn are_smooth(level: &Level, v: u32) -> bool
     requires { v < level.now.level.point_count }
     ensures { result ≡ true → list_any is_sharp (ring_in level.now v) ≡ false }
@@ -28,7 +28,7 @@ fn are_smooth(level: &Level, v: u32) -> bool
     true
 }
 
-/// Whether the vertex has edges, and neither it nor one of them is sharp.
+/// Returns whether the vertex has edges, and neither it nor any of them is sharp.
 pub(crate) fn is_smooth_at(level: &Level, v: u32) -> bool
     requires { v < level.now.level.point_count }
     ensures { result ≡ true → IsSmoothAt level.now v }
@@ -39,7 +39,7 @@ pub(crate) fn is_smooth_at(level: &Level, v: u32) -> bool
         && are_smooth(level, v)
 }
 
-/// The mask of such a vertex, in the order of the level's lists.
+/// Returns the mask of a vertex at which nothing is sharp, in the order of the level's lists.
 pub(crate) fn smooth_mask(alloc: Global, level: &Level, v: u32) -> Result<VertexMask, MaskFault>
     requires known { v < level.now.level.point_count }
     requires smooth { IsSmoothAt level.now v }

@@ -1,4 +1,4 @@
-//! The mask of a vertex by its rules in its level and in the next.
+//! The mask of a vertex, from its rules in its level and in the next level.
 
 ghost use Rattle.std.specs.Prelude.{◌≡◌, ◌+◌, ◌<◌, ◌≤◌, ◌^◌, true, false, IsTrue, [], length, map, get_or, IsOk, IfOk, IfErr, MatchResult};
 ghost use Rattle.subdiv_model.specs.Sharpness.{Chaikin, chaikin_overflows};
@@ -20,10 +20,10 @@ use ratio128::Memory;
 use sharpness_rules::{Rule, Sharpness, Weight, transition_weight, uniform_child, vertex_rule};
 use std::alloc::Global;
 
-// Rings of at most so many edges take no memory.
+// The number of edges up to which a ring takes no memory.
 const FEW: usize = 16;
 
-// Part of the mask of one rule, and the rest of that of another; the first alone at weight 1.
+// Returns part of the mask of one rule plus the rest of the mask of another. At the weight 1 it returns the first mask.
 fn weighed(
     alloc: Global,
     level: &Level,
@@ -50,7 +50,7 @@ fn weighed(
     }
 }
 
-// The mask between the rules of two rings of the same edges.
+// Returns the mask between the rules of two rings of the same edges.
 fn between(
     alloc: Global,
     level: &Level,
@@ -79,7 +79,7 @@ fn between(
     }
 }
 
-// The same, where both rings are written first.
+// Writes both rings, then returns the mask between their rules.
 fn from_rings(
     alloc: Global,
     level: &Level,
@@ -101,7 +101,7 @@ fn from_rings(
     between(alloc, level, v, ring, next)
 }
 
-// The mask by Catmull and Clark's scheme, in the order of the level's lists.
+// Returns the mask under Catmull and Clark's scheme, in the order of the level's lists.
 fn by_rules(alloc: Global, level: &Level, v: u32) -> Result<VertexMask, MaskFault>
     requires known { v < level.now.level.point_count }
     requires fine { level.now.level.method ≡ Chaikin → chaikin_overflows (ring_in level.now v) ≡ false }
@@ -123,7 +123,7 @@ fn by_rules(alloc: Global, level: &Level, v: u32) -> Result<VertexMask, MaskFaul
     from_rings(alloc, level, v, ring, next)
 }
 
-// Room for two rings.
+// Returns the memory for two rings.
 fn rings(alloc: Global, count: usize) -> Result<Vec<Sharpness>, Memory>
     requires { count < 2 ^ 32 }
     ensures { IfOk result (λ rings. length rings.items ≡ count + count) }
@@ -132,12 +132,14 @@ fn rings(alloc: Global, count: usize) -> Result<Vec<Sharpness>, Memory>
     Ok(rings)
 }
 
-/// The mask of a vertex whose lists are complete. Under Catmull and Clark's scheme each edge of one face there is infinitely
-/// sharp, and under the method chaikin no half of an edge there is refused.
+/// Returns the mask of vertex `v`, counted from 0, in time linear in the number of its edges. The lists of the vertex must be
+/// complete. Under Catmull and Clark's scheme each edge with one face there must be infinitely sharp. Under the method
+/// chaikin the half of each edge there must have a sharpness.
 ///
-/// `Transition` comes exactly where the scheme is Catmull and Clark's, the rules in this level and in the next name two
-/// masks, and the denominator of the weight between them, before it is reduced, passes 2^60. `Memory` never comes under the
-/// linear scheme, nor where the point, its edges and its faces are at most 16 together.
+/// Reports `Transition` where the rules in this level and in the next have different masks, and the blend between them needs
+/// a denominator above 2^60. That denominator is the one before reduction. Only Catmull and Clark's scheme has this error.
+/// Reports `Memory` where memory runs out. `Memory` never comes under the linear scheme, nor where the vertex, its edges and
+/// its faces are at most 16 together.
 pub fn vertex_mask(
     alloc: Global,
     level: &Level,

@@ -1,4 +1,4 @@
-//! The new point of a vertex.
+//! The mask of the new point of a vertex.
 
 ghost use Rattle.std.specs.Prelude.{◌≡◌, ◌<◌, ◌≤◌, ◌+◌, ◌*◌, ◌^◌, true, IsTrue, [], ◌∷◌, ◌++◌, length, map, get_or, IsOk, OnOk, IfOk, IfErr};
 ghost use Rattle.subdiv_model.specs.Edges.{edges_of};
@@ -28,14 +28,14 @@ pub struct VertexMask {
 }
 
 impl VertexMask {
-    /// The terms, each with a place of its own and a weight above 0.
+    /// Returns the terms, in an order that no contract fixes. Each source occurs once, with a weight above 0.
     pub fn terms(&self) -> &[Term]
         ensures { terms_of result.now ≡ (seen_vertex self.now).terms }
     {
         self.terms.as_slice()
     }
 
-    /// What the weights sum to.
+    /// Returns the denominator, which is the sum of the weights.
     pub fn denominator(&self) -> u128
         ensures { result ≡ (seen_vertex self.now).denominator }
     {
@@ -43,7 +43,7 @@ impl VertexMask {
     }
 }
 
-// An amount of the mask of one rule, and an amount of that of another.
+// A share of the mask of one rule and a share of the mask of another.
 #[derive(Clone, Copy)]
 pub(crate) struct Parts {
     pub(crate) parent: Rule,
@@ -52,7 +52,7 @@ pub(crate) struct Parts {
     pub(crate) rest: u128,
 }
 
-// The weight of a vertex with so many edges.
+// Returns the weight of a vertex with `valence` edges.
 fn vertex_weight(rule: Rule, valence: u64) -> u128
     ensures { result ≡ vertex_weight (rule_of rule) valence }
 {
@@ -63,7 +63,7 @@ fn vertex_weight(rule: Rule, valence: u64) -> u128
     }
 }
 
-// The weight of the other end of the edge at a place.
+// Returns the weight of the other end of the edge at a place of the ring.
 fn end_weight(rule: Rule, place: usize) -> u128
     ensures value { result ≡ end_weight (rule_of rule) place }
     ensures small { result ≤ 1 }
@@ -81,7 +81,7 @@ fn end_weight(rule: Rule, place: usize) -> u128
     }
 }
 
-// The weight of a face.
+// Returns the weight of a face.
 fn face_weight(rule: Rule) -> u128
     ensures value { result ≡ face_weight (rule_of rule) }
     ensures small { result ≤ 1 }
@@ -92,7 +92,7 @@ fn face_weight(rule: Rule) -> u128
     }
 }
 
-// What the weights of a vertex with so many edges sum to.
+// Returns the sum of the weights at a vertex with `valence` edges.
 pub(crate) fn rule_denominator(rule: Rule, valence: u64) -> u128
     ensures { result ≡ rule_denominator (rule_of rule) valence }
 {
@@ -127,7 +127,7 @@ impl Parts {
     }
 }
 
-// A term more, unless its weight is 0.
+// Adds a term, unless its weight is 0.
 fn put(terms: &mut SmallVec<Term, 16>, at: At, weight: u128) -> Result<(), Memory>
     ensures terms { OnOk result (terms_of terms.new.items ≡ terms_of terms.old.items ++ positive (weigh weight (source_of at) ∷ [])) }
     ensures grows { OnOk result (Grows terms.old 1 terms.new) }
@@ -139,7 +139,7 @@ fn put(terms: &mut SmallVec<Term, 16>, at: At, weight: u128) -> Result<(), Memor
     Ok(())
 }
 
-// The other ends of the edges.
+// Adds the other ends of the edges.
 fn put_ends(
     terms: &mut SmallVec<Term, 16>,
     level: &Level,
@@ -164,7 +164,7 @@ fn put_ends(
     Ok(())
 }
 
-// The faces.
+// Adds the faces.
 fn put_faces(
     terms: &mut SmallVec<Term, 16>,
     level: &Level,
@@ -182,7 +182,7 @@ fn put_faces(
     Ok(())
 }
 
-// The amounts of the masks of two rules, over a denominator.
+// Returns the shares of the masks of two rules, over one denominator.
 pub(crate) fn spread(
     alloc: Global,
     level: &Level,
@@ -207,7 +207,7 @@ pub(crate) fn spread(
     Ok(VertexMask { terms, denominator })
 }
 
-// The vertex alone has all the weight.
+// Returns the mask that gives all weight to the vertex.
 pub(crate) fn alone(alloc: Global, v: u32) -> VertexMask
     ensures { IsMask (seen_vertex result) (corner_mask v) }
 {
@@ -222,7 +222,7 @@ pub(crate) fn alone(alloc: Global, v: u32) -> VertexMask
     }
 }
 
-// The mask of one rule.
+// Returns the mask of one rule.
 pub(crate) fn one_rule(
     alloc: Global,
     level: &Level,
@@ -249,7 +249,7 @@ pub(crate) fn one_rule(
     spread(alloc, level, v, parts, rule_denominator(rule, valence))
 }
 
-// The least common multiple of what the masks of two rules sum to.
+// Returns the least common multiple of the sums of the weights of two rules.
 fn common_multiple(p: u128, r: u128) -> u128
     requires positive { 0 < r }
     requires small { lcm_of p r < 2 ^ 128 }
@@ -258,7 +258,7 @@ fn common_multiple(p: u128, r: u128) -> u128
     p * (r / gcd(p, r))
 }
 
-// Part of the mask of one rule, and the rest of that of another.
+// Returns part of the mask of one rule plus the rest of the mask of another.
 pub(crate) fn two_rules(
     alloc: Global,
     level: &Level,

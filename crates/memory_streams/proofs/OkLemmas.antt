@@ -1,4 +1,4 @@
--- What follows for a call that never fails.
+-- Consequences for a call that never fails.
 use Rattle.std.proofs.Common.{◌≡◌, ℕ, ◌<◌, ◌≤◌, min, List, [], length, Result, Ok, Err, IsOk, IfOk, OnErr, arith}
 use Rattle.std.proofs.lemmas.List.{nil_from_length}
 
@@ -6,7 +6,7 @@ pub none-failed : {A E : Type 0} (P : Type 0) (r : Result A E) → IsOk r → On
 none-failed P (Ok x) ok = tt
 none-failed P (Err e) ok = absurd (cc)
 
--- no more came than fit
+-- No more bytes came than fit.
 pub few-came : {E : Type 0} (r : Result ℕ E) (old buf : List ℕ) → IfOk r (λ n. n ≡ min (length old) (length buf)) → IfOk r (λ n. n ≤ length buf)
 few-came (Ok n) old buf is = omega (arith, is)
 few-came (Err e) old buf is = tt

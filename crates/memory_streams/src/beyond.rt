@@ -3,7 +3,7 @@ ghost use Rattle.std.specs.Prelude.{◌≡◌, ℕ, ◌-◌, ◌^◌, [], ◌++�
 use crate::written::Written;
 use std::marker::Model;
 
-// Bytes that are counted and not stored. The count stops at 2^64 - 1.
+// Bytes that are counted but not stored. The count stops at 2^64 - 1.
 #[derive(Drop)]
 pub(crate) struct Beyond {
     bytes: Written,

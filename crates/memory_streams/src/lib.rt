@@ -1,5 +1,7 @@
-//! Streams over bytes that a caller owns: a source that reads a slice, and a sink that writes into one and counts what does not
-//! fit. No call takes memory.
+//! Streams over slices of a caller: a source that reads one, and a sink that fills one and counts the bytes that do not fit.
+//!
+//! No call takes memory or fails. One run of a program therefore reports the length of its output, and leaves the whole output in a slice
+//! that is long enough.
 #![tactic(auto)]
 
 mod beyond;

@@ -4,10 +4,11 @@ ghost use Rattle.memory_streams.specs.Text.{text_of, IsStored, count_of};
 use crate::beyond::Beyond;
 use far_io::{Sink, WriteFailed};
 
-/// A slice as a sink, which never fails.
+/// A sink over a slice. Its calls never fail.
 ///
-/// It holds all that is written, as contracts see it. The slice gets the first bytes that fit, and the
-/// rest is counted.
+/// To contracts it holds every byte written. The slice receives the first bytes that fit; the sink counts the rest. `fixed` is the name
+/// under which proofs know the slice, so a generic call cannot exchange it. No clause describes the bytes of a longer slice behind the
+/// text.
 #[derive(Drop)]
 pub struct SliceSink<'a> {
     out: &'a mut [u8],
@@ -15,7 +16,7 @@ pub struct SliceSink<'a> {
     beyond: Beyond,
 }
 
-// Copies the first bytes of the piece that fit behind the first `at` bytes, and returns how many.
+// Copies as much of the piece as fits behind the first `at` bytes. Returns how many bytes that is.
 fn copy_behind(out: &mut [u8], at: usize, piece: &[u8]) -> usize
     requires { at ≤ length out.old }
     ensures count { result ≡ min (length piece.now) (length out.old - at) }
@@ -27,7 +28,7 @@ fn copy_behind(out: &mut [u8], at: usize, piece: &[u8]) -> usize
 }
 
 impl<'a> SliceSink<'a> {
-    /// A sink that holds nothing yet, over this slice.
+    /// Returns an empty sink over this slice.
     pub fn new(out: &'a mut [u8]) -> SliceSink<'a>
         ensures same_reference { result.out.ghost_name ≡ out.entry.ghost_name }
         ensures same { result.out.now ≡ out.entry.now }
@@ -40,7 +41,7 @@ impl<'a> SliceSink<'a> {
         }
     }
 
-    /// How many bytes were written in all, or 2^64 - 1 where there were more.
+    /// How many bytes were written in all, up to 2^64 - 1.
     pub fn total(&self) -> u64
         ensures { result ≡ count_of (text_of self.now) }
     {
@@ -50,8 +51,8 @@ impl<'a> SliceSink<'a> {
         (self.out.len() as u64).saturating_add(self.beyond.count())
     }
 
-    /// Gives the slice back to its owner, and returns how many bytes were written in all, or 2^64 - 1 where
-    /// there were more.
+    /// Returns the slice to its owner. The result is the count of all bytes written, up to 2^64 - 1. The slice begins with as much of the
+    /// text as fits.
     pub fn finish(self) -> u64
         ensures total { result ≡ count_of (text_of self.entry) }
         ensures stored { IsStored (text_of self.entry) self.exit.0.now }
@@ -67,7 +68,7 @@ impl<'a> Sink for SliceSink<'a> {
 
     ghost fixed = { λ s. s.out.ghost_name };
 
-    /// Adds as much of the piece as fits into the slice, or all of it where the slice is full.
+    /// Adds as much of the piece as fits into the slice. If the slice is full, it counts the whole piece.
     fn write(&mut self, piece: &[u8]) -> Result<usize, WriteFailed>
         ensures fine { IsOk result }
         ensures count { IfOk result (λ n. n ≤ length piece.now) }
@@ -85,7 +86,7 @@ impl<'a> Sink for SliceSink<'a> {
         Ok(n)
     }
 
-    /// Changes nothing, and never fails.
+    /// Changes nothing and never fails.
     fn flush(&mut self) -> Result<(), WriteFailed>
         ensures fine { IsOk result }
         ensures same { text_of self.new ≡ text_of self.old }

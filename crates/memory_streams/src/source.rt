@@ -3,7 +3,7 @@ ghost use Rattle.std.specs.Prelude.{◌≡◌, ℕ, ◌++◌, ◌≤◌, length,
 use far_io::{ReadFailed, Source};
 use std::marker::Model;
 
-/// The bytes of a slice as a source, whose reads never fail. Contracts see the bytes that are left.
+/// A source over the bytes of a slice. Its reads never fail. Contracts see the bytes left.
 #[derive(Drop)]
 pub struct SliceSource<'a> {
     bytes: &'a [u8],
@@ -17,7 +17,7 @@ impl<'a> Model for SliceSource<'a> {
     ghost view = { λ s. s.bytes.now };
 }
 
-// Copies the first bytes to the start of the buffer, and returns how many.
+// Copies the longest prefix of the bytes that fits to the start of the buffer. Returns its length.
 fn copy_first(bytes: &[u8], buf: &mut [u8]) -> usize
     ensures count { result ≡ min (length bytes.now) (length buf.old) }
     ensures copied { take result buf.new ≡ take result bytes.now }
@@ -29,7 +29,7 @@ fn copy_first(bytes: &[u8], buf: &mut [u8]) -> usize
 }
 
 impl<'a> SliceSource<'a> {
-    /// A source of these bytes.
+    /// Returns a source of these bytes.
     pub fn new(bytes: &'a [u8]) -> SliceSource<'a>
         ensures { result ≡ bytes.now }
     {
@@ -42,7 +42,7 @@ impl<'a> Source for SliceSource<'a> {
 
     ghost faults = { λ _. 0 };
 
-    /// Reads as many bytes as are left and fit into the buffer, and leaves the rest of the buffer.
+    /// Reads as many bytes as are left and fit into the buffer. The rest of the buffer keeps its bytes.
     fn read(&mut self, buf: &mut [u8]) -> Result<usize, ReadFailed>
         ensures fine { IsOk result }
         ensures count { IfOk result (λ n. n ≡ min (length self.old) (length buf.old)) }

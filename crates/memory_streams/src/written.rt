@@ -3,7 +3,7 @@ ghost use Rattle.std.specs.Borrow.{ftrue};
 
 use std::marker::Model;
 
-// Bytes that only clauses see: it takes no memory, and its calls do nothing when they run.
+// Bytes that only clauses see. The value takes no memory, and its calls do nothing when they run.
 #[derive(Drop)]
 pub(crate) struct Written {
     pub ghost bytes: { List ℕ },
@@ -21,7 +21,7 @@ impl Written {
         Written {}
     }
 
-    // These bytes, and the piece behind them.
+    // These bytes followed by the piece.
     pub(crate) fn and(&self, piece: &[u8]) -> Written
         ensures { result.bytes ≡ self.now.bytes ++ piece.now }
     {

@@ -22,7 +22,7 @@ use Rattle.channel_refine.specs.Evaluated.{control_rows}
 use Rattle.channel_refine.specs.View.{control_of}
 use Rattle.channel_refine.proofs.PathLemmas.{control-rows}
 
--- two values that are the same are so over a common denominator
+-- two values that are the same are the same over a common denominator
 pub scaled : (common : ℕ) (x y : Value) → IsSameValue x y → IsSameValue (over_common common x) (over_common common y)
 scaled common x y same = turned x.num y.den ∙ ap (λ z. pos common *ℤ z) same ∙ sym (turned y.num x.den)
   where
@@ -42,7 +42,7 @@ dens-by (row ∷ rows) all (suc p) = dens-by rows all.1 p
 pub dens-positive : (rows : List Row) → All (λ row. 0 < row.den) rows → (p : ℕ) → 0 < get_or (dens_of rows) p 1
 dens-positive rows all p = dens-by rows (recursion_from_All (λ row. 0 < row.den) rows all) p
 
--- a greatest number is at least what it begins with, and at most what bounds all
+-- a greatest number is at least its first number, and at most any bound of all
 fold-at-least : (n : ℕ) (xs : List ℕ) → n ≤ fold max n xs
 fold-at-least n [] = omega arith
 fold-at-least n (x ∷ xs) = omega (arith, le-max_left n x, fold-at-least (max n x) xs)
@@ -51,7 +51,7 @@ pub fold-at-most : (n m : ℕ) (xs : List ℕ) → n ≤ m → AllByRecursion (�
 fold-at-most n m [] low all = low
 fold-at-most n m (x ∷ xs) low all = fold-at-most (max n x) m xs (max-le low all.0) all.1
 
--- so the greatest amount of a row is within what bounds all amounts
+-- the greatest amount of a row is within any bound of all amounts
 greatest-within : (least m : ℕ) (xs : List ℤ) → fold max least (map unsigned_abs xs) ≤ m → primvar.greatest_amount xs ≤ m
 greatest-within least m [] most = omega arith
 greatest-within least m (x ∷ xs) most =
@@ -78,7 +78,7 @@ module _ {P : Type 0} (numbers : P → List ℤ) where
   control-column column [] = refl
   control-column column (p ∷ points) = ap (λ xs. get_or (numbers p) column (pos 0) ∷ xs) (control-column column points)
 
-  -- which is that of what the controls are seen as
+  -- the column of the controls' views
   pub column-seen : {V : Type 0} (seen : P → V) (column : ℕ) (coordinate : V → ℤ) → ((p : P) → get_or (numbers p) column (pos 0) ≡ coordinate (seen p)) →
       (points : List P) → map (λ p. get_or (numbers p) column (pos 0)) points ≡ map coordinate (map seen points)
   column-seen seen column coordinate each [] = refl
@@ -90,7 +90,7 @@ module _ {P : Type 0} (numbers : P → List ℤ) where
   whole-by [] = tt
   whole-by (p ∷ points) = (refl, whole-by points)
 
-  -- and none is above the greatest amount
+  -- no control is above the greatest amount
   within-by : (least m : ℕ) (points : List P) → fold max least (map unsigned_abs (flat_map numbers points)) ≤ m →
       AllByRecursion (λ row. primvar.greatest_amount row.numbers ≤ row.den * m) (rows_of numbers (map control_of points))
   within-by least m [] most = tt
@@ -102,7 +102,7 @@ module _ {P : Type 0} (numbers : P → List ℤ) where
       let first = greatest-within least m (numbers p) (omega (arith, parts, fold-at-least here (map unsigned_abs (flat_map numbers points)))) in
       (omega (arith, first), within-by here m points parts)
 
-  -- values of so many numbers each
+  -- values with this number of components each
   alike-by : (size : ℕ) → ((p : P) → length (numbers p) ≡ size) → (values : List (Valued P)) → AllByRecursion (λ row. length row.numbers ≡ size) (rows_of numbers values)
   alike-by size each [] = tt
   alike-by size each (v ∷ values) = (each v.value, alike-by size each values)
@@ -112,7 +112,7 @@ module _ {P : Type 0} (numbers : P → List ℤ) where
   first-alike size each [] = tt
   first-alike size each (v ∷ values) = alike-by (length (numbers v.value)) (λ p. each p ∙ sym (each v.value)) (v ∷ values)
 
-  -- so they are the controls of a channel
+  -- the values are the controls of a channel
   pub controls-of : (size : ℕ) → ((p : P) → length (numbers p) ≡ size) → (points : List P) (channel : Channel) → length points ≡ channel.base.point_count →
       channel.greatest ≡ greatest_amount (flat_map numbers points) → AreControls channel (control_rows (map numbers points))
   controls-of size each points channel many is =
@@ -125,7 +125,7 @@ module _ {P : Type 0} (numbers : P → List ℤ) where
         alike = All-from_recursion (λ row. length row.numbers ≡ length (row_at rows 0).numbers) rows (first-alike size each (map control_of points));
       })
 
-  -- What can be written of each value can be written of all.
+  -- If each value can be written, all can.
   module _ (common greatest : ℕ) (CanWrite : Valued P → Type 0)
       (each : (v : Valued P) → 0 < v.den * common → v.den * common ≤ number_bound → primvar.greatest_amount (numbers v.value) ≤ number_bound → CanWrite v) (some : 0 < common) where
     can-by : (values : List (Valued P)) → AllByRecursion (λ row. 0 < row.den) (rows_of numbers values) →
@@ -148,7 +148,7 @@ module _ {P : Type 0} (numbers : P → List ℤ) where
         (recursion_from_All (λ row. row.den * max greatest common ≤ number_bound) rows short)
         (recursion_from_All (λ row. primvar.greatest_amount row.numbers ≤ row.den * greatest) rows within))
 
-  -- a column of a refined channel is that of its controls, refined
+  -- a column of a refined channel is the refined column of its controls
   pub refined-column : (asked : Asked) (channel : Channel) (points : List P) (depth : ℕ) (last : Topology) (values : List (Valued P)) (column : ℕ) (controls : List ℤ) →
       map (λ p. get_or (numbers p) column (pos 0)) points ≡ controls →
       IsRefinedTo asked channel (control_rows (map numbers points)) depth (record { level = last; rows = rows_of numbers values }) →

@@ -65,7 +65,7 @@ pub counts-steps : {X E : Type 0} (mesh : ObjMesh) (level : Topology) (depth old
 counts-steps mesh level depth old new r within most later =
     any-steps r old new 0 (later_faces depth mesh) (omega (arith, later)) later (omega (arith, most, later-faces mesh level depth within.accepted))
 
--- or one of them was refused
+-- a level was refused
 pub counts-failed : (mesh : ObjMesh) (level : Topology) (depth : ℕ) (fault : WalkFault) → IsLevelWithin depth mesh level →
     ((channel : Channel) → channel.base ≡ level.level → IsChannelFault Sharpnesses channel depth fault) → IsFound (walk_fault_of Positions fault) (refusal_of_mesh (Levels depth) mesh)
 counts-failed mesh level depth fault within is =

@@ -32,7 +32,7 @@ use Rattle.mesh_answers.proofs.StepLemmas.{base_limit, all-fit, all-taken, posit
 untextured : (mesh : ObjMesh) (n : ℕ) → mesh.has_texture ≡ false → where_textured mesh n ≡ 0
 untextured mesh n none = ap (λ b. cond b n 0) none
 
--- the channels were made in so many steps, and then the positions were refined
+-- the channels were made in this number of steps, and then the positions were refined
 module _ {T E : Type 0} (mesh : ObjMesh) (options : RefineOptions) (fine : IsSmallManifold options.depth mesh) (asked : Asked) (path : asked ≡ asked_of options.by)
     (old first second : ℕ) (made : Result T E) (tracks : StepsTaken made old first 0 (base_limit mesh options)) (base : Channel) (same : base ≡ positions_of mesh)
     (found : Result (RefinedChannel Point3) WalkFault) (taken : AreRefineSteps asked base options.depth found first second) where
@@ -41,7 +41,7 @@ module _ {T E : Type 0} (mesh : ObjMesh) (options : RefineOptions) (fine : IsSma
       position.position-steps mesh options.by base options.depth first second found same
       (subst (λ asked. AreRefineSteps asked base options.depth found first second) path taken)
 
-  -- they are refused
+  -- the positions are refused
   pub positions-end : (points : List Point3) → map point_of points ≡ mesh.points → (fault : WalkFault) (far : FarFault) → fault_of far ≡ walk_fault_of Positions fault →
       IsChannelFault asked base options.depth fault → IsAnswerTo (Refine options) mesh (Err far) old second
   positions-end points said fault far told is =
@@ -69,7 +69,7 @@ module _ {T E : Type 0} (mesh : ObjMesh) (options : RefineOptions) (fine : IsSma
           texture.texture-taken mesh options cut values fine textured same-cut said second third seen
           (subst (λ asked. AreRefineSteps asked cut options.depth seen second third) path more)
 
-      -- it is refused
+      -- the texture is refused
       pub texture-end : ((track : Track) → channel_faults asked base track options.depth ≡ []) → (fault : WalkFault) (far : FarFault) → fault_of far ≡ walk_fault_of Texture fault →
           IsChannelFault asked cut options.depth fault → IsAnswerTo (Refine options) mesh (Err far) old third
       texture-end none fault far told is =
@@ -80,7 +80,7 @@ module _ {T E : Type 0} (mesh : ObjMesh) (options : RefineOptions) (fine : IsSma
           (all-fit mesh options old first second third tracks.most positions.most texture-taken.most) (Err far) far refl refl
           (texture-found mesh options fine before (fault_of far) (subst (IsTextureFault options mesh) (sym told) why))
 
-      -- both are there
+      -- the positions and the texture are there
       pub textured-end : (last : RefinedChannel Point2) → seen ≡ Ok last → (reply : Reply) → IsReplyTo (Refine options) mesh reply → IsAnswerTo (Refine options) mesh (Ok reply) old third
       textured-end last is-last reply is =
           replies (Refine options) mesh old third (omega (arith, tracks.later, positions.later, texture-taken.later))

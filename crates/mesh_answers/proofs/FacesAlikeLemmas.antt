@@ -1,4 +1,4 @@
--- The faces of a sparse level and of its texture as they are written: both ascend by number, and a face of both has as many corners.
+-- The written faces of a sparse level and of its texture: both ascend by number, and a face of both has as many corners in both.
 use Rattle.std.proofs.Common.{◌≡◌, ℕ, zero, suc, ◌+◌, Bool, true, false, nat_eq, List, [], ◌∷◌, length, map, get_or, Option, Some, None, option_map, IfSome, refl, ap, sym, subst, ◌∙◌}
 use Rattle.std.specs.List.{AllByRecursion, find}
 use Rattle.std.specs.List.Sorted.{IsStrictlyIncreasing}
@@ -15,7 +15,7 @@ use Rattle.part_laws.proofs.PlaceLemmas.{increasing}
 use Rattle.sparse_laws.proofs.InnerLemmas.{places-ascend, range-ascends}
 use Rattle.far_text.specs.TexturedLines.{AreFacesAlike}
 
--- lists of as many corners have as many at each place
+-- lists with the same numbers of corners have the same number at each place
 sizes-at : (xs ys : List Polygon) → map length xs ≡ map length ys → (i : ℕ) → length (get_or xs i []) ≡ length (get_or ys i [])
 sizes-at [] [] same i = refl
 sizes-at [] (y ∷ ys) same i = absurd (cc)

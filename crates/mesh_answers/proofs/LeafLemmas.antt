@@ -48,7 +48,7 @@ use Rattle.mesh_answers.proofs.PositionLemmas.{base-of}
 use Rattle.mesh_answers.proofs.RefusalLemmas.{found-here, refusal-of-small}
 use Rattle.mesh_answers.proofs.ReplyLemmas.{any-steps}
 
--- level 0 of a mesh is one from which sparse levels start
+-- level 0 of a mesh is a start of sparse levels
 pub sparse-base : (mesh : ObjMesh) (level : Topology) → IsAccepted mesh level → IsSparseBase level
 sparse-base mesh level accepted = let base = base-of mesh level accepted in record { complete = base.complete; boundary = base.boundary }
 
@@ -60,7 +60,7 @@ found-of-cause channel options mesh k (Overflow kind) same is = is (positions_of
 found-of-cause channel options mesh k TooManyEntries same is = is (positions_of mesh) refl Positions
 found-of-cause channel options mesh k Memory same is = tt
 
--- What the walk over sparse levels tells of a mesh.
+-- The result of the walk over sparse levels for a mesh.
 module _ (options : MapOptions) (mesh : ObjMesh) (level : Topology) (accepted : IsAccepted mesh level) (test : FaceFacts → Bool) (named : test ≡ test_of options.select) where
   pub map-failed : (fault : WalkFault) → IsSparseFault Sharpnesses level.level test options.depth fault → IsFound (walk_fault_of Positions fault) (map_level_refusal options mesh)
   map-failed fault is =
@@ -87,7 +87,7 @@ module _ (options : MapOptions) (mesh : ObjMesh) (level : Topology) (accepted : 
       subst (λ t. AreSparseSteps (base_level mesh) t options.depth old new) named (subst (λ b. AreSparseSteps b test options.depth old new) accepted.level_is taken) in
       any-steps r old new 0 (later_present options.select options.depth mesh) (omega (arith, is.later)) is.later (omega (arith, is.most))
 
--- Where the face has places with the corner, the map can be asked for them.
+-- If the face has places with the corner, the map accepts the request.
 no-fault : (level : Level) (face corner : ℕ) → None ≡ first_of (location_faults level face corner) → (face < length level.polygons) × (is_corner_of (length (polygon_at level.polygons face)) corner ≡ true)
 no-fault level face corner none = go (nat_lt face (length level.polygons)) refl (is_corner_of (length (polygon_at level.polygons face)) corner) refl
   where
@@ -110,12 +110,12 @@ module _ (options : MapOptions) (mesh : ObjMesh) (found : LevelMap) (can : CanFi
       (ap (λ sizes. get_or sizes options.face 0) can.map_is.map_is.sizes ∙ get_or-map (λ polygon. length polygon) (base_level mesh).polygons options.face [] 0 fits.0)
       ∙ fits.1
 
-  -- and its answer is the leaf
+  -- the answer of the map is the leaf
   pub leaf-is : (leaf : Leaf) (i j : ℕ) → ((base : Level) (meeting : Meeting) (depth : ℕ) → IsMapOf base meeting depth found →
       location_of leaf ≡ leaf_of options.grid depth base meeting (base_location options.face options.corner (i, j))) → location_of leaf ≡ map_leaf options mesh (i, j)
   leaf-is leaf i j is = is (base_level mesh) (meeting_by options.select options.depth mesh) options.depth can.map_is.map_is
 
--- a leaf more of a row
+-- one more leaf of a row
 pub row-more : (f : ℕ → Location) (before : List Location) (old new : List Leaf) (leaf : Leaf) (i : ℕ) → map location_of old ≡ before ++ map f (range_with_len 0 i) →
     new ≡ old ++ leaf ∷ [] → location_of leaf ≡ f i → map location_of new ≡ before ++ map f (range_with_len 0 (i + 1))
 row-more f before old new leaf i so_far pushed is =
@@ -166,7 +166,7 @@ lines-of-pairs : (grid : ℕ) (f : ℕ × ℕ → Location) (pairs : List (ℕ �
 lines-of-pairs grid f [] = refl
 lines-of-pairs grid f (pair ∷ pairs) = ap (λ text. leaf_line grid pair (f pair) ++ text) (lines-of-pairs grid f pairs)
 
--- What is refused of a mesh whose map is made, and what is replied.
+-- The refusal of a mesh whose map is made, and the reply to it.
 module _ (options : MapOptions) (mesh : ObjMesh) (fault : Option PlaceFault) (found : LevelMap) (is : IsMapFor options mesh fault found) where
   refusal-is : refusal_of_mesh (command.Map options) mesh ≡ option_map (λ place. Place (place_fault_of place)) fault
   refusal-is =

@@ -25,7 +25,7 @@ use Rattle.far_fault.specs.Walk.{fault_at}
 use Rattle.mesh_answers.specs.Refusals.{IsFound, refusal_by}
 use Rattle.mesh_answers.proofs.RefusalLemmas.{refusal-of-small}
 
--- of the faces of levels
+-- the faults of the levels' faces
 face-where : (n : ℕ) (fault : Fault) → n ≤ 2 ^ 22 → fault_where (nat_lt face_limit n) fault ≡ []
 face-where n fault h = go (nat_lt face_limit n) refl
   where
@@ -53,7 +53,7 @@ first-large polygons k depth within small here =
     (λ j h. face-where (faces_after polygons (suc j)) (TooLarge (LevelFaces (suc j) (faces_after polygons (suc j)))) (small j h))
     (ap first_of (face-here (faces_after polygons (suc k)) (TooLarge (LevelFaces (suc k) (faces_after polygons (suc k)))) here))
 
--- where no level has too many faces, this one has not
+-- if no level has too many faces, this level has not
 first-none : {X : Type 0} (xs ys : List X) → first_of (xs ++ ys) ≡ None → (xs ≡ []) × (first_of ys ≡ None)
 first-none [] ys h = (refl, h)
 first-none (x ∷ xs) ys h = absurd (cc)
@@ -81,7 +81,7 @@ few-not-large polygons depth k within few large =
     one-none : (fault : Fault) (xs : List Fault) → xs ≡ fault ∷ [] → xs ≡ [] → ⊥
     one-none fault xs e h = cc
 
--- how many faces the next level has
+-- the number of faces of the next level
 pub next-count : (level : Level) (k : ℕ) → sum_by length (refined_level level k).polygons ≡ faces_after level.polygons (suc k)
 next-count level k =
     sym (child_polygons-length (refined_level level k).point_count (refined_level level k).polygons) ∙ faces-after level (suc k)
@@ -107,7 +107,7 @@ pub steps-of-levels : (level : Level) (depth : ℕ) →
     sum_by (λ k. length (refined_level level k).polygons) (range_with_len 1 depth) ≡ sum_by (faces_after level.polygons) (range_with_len 1 depth)
 steps-of-levels level depth = sum-same (λ k. length (refined_level level k).polygons) (faces_after level.polygons) (faces-after level) (range_with_len 1 depth)
 
--- looking at one level after the other
+-- a search from one level to the next
 one-more : (k : ℕ) → k + 1 ≡ suc k
 one-more k = omega arith
 
@@ -144,7 +144,7 @@ pub level-none : (polygons : List Polygon) (k depth : ℕ) → depth ≤ k → (
     None ≡ first_of (level_count_faults polygons depth)
 level-none polygons k depth all small = sym (ap first_of (no-large polygons depth (λ j h. small j (omega (arith, h, all)))))
 
--- what the count of level 1 shows of the levels of the mesh
+-- the meaning of level 1's count for the levels of the mesh
 module _ (mesh : ObjMesh) (level : Topology) (depth first : ℕ) (found : Option Counted) (accepted : IsAccepted mesh level) (sum : first ≡ sum_by length level.level.polygons)
     (shows : (polygons : List Polygon) → first ≡ sum_by length polygons → count_named found ≡ first_of (level_count_faults polygons depth)) where
   shown : first_of (level_count_faults mesh.faces depth) ≡ count_named found
@@ -159,16 +159,16 @@ module _ (mesh : ObjMesh) (level : Topology) (depth first : ℕ) (found : Option
       refusal-of-small mesh accepted.manifold (level_count_faults mesh.faces depth ++ others) accepted.small
       ∙ first-here (level_count_faults mesh.faces depth) others (TooLarge (counted_of counted)) (shown ∙ ap count_named some)
 
--- A walk over the levels of a channel, which have as many faces as those of the mesh.
+-- A walk over the levels of a channel, which have as many faces as the levels of the mesh.
 module _ (asked : Asked) (channel : Channel) (mesh : ObjMesh) (depth : ℕ) (few : first_of (level_count_faults mesh.faces depth) ≡ None)
     (same : (n : ℕ) → faces_after channel.base.polygons n ≡ faces_after mesh.faces n) where
-  -- no level is too large whose number was looked at before
+  -- no level whose number was checked before is too large
   not-too-large : (k count : ℕ) → IsTooLarge asked channel depth k count → ⊥
   not-too-large k count fault =
       few-not-large mesh.faces depth (k - 1) (omega (arith, fault.after_level_0, fault.within)) few
       (subst (λ c. 2 ^ 22 < c) (fault.count_is ∙ next-count channel.base (k - 1) ∙ same (suc (k - 1))) fault.many)
 
-  -- so its fault is the first of the channel
+  -- the fault of the walk is the first of the channel
   pub found-of-walk : (track : Track) (level : ℕ) (cause : Cause) → IsLevelFault asked channel depth level cause →
       IsFound (fault_at track level cause) (first_of (channel_faults asked channel track depth))
   found-of-walk track level (TooManyFaces count) is = absurd (not-too-large level count is)

@@ -1,4 +1,4 @@
--- What the limit points of a mesh are refused for, and the table that they have.
+-- The refusals of a mesh by the command for limit points, and the table of these.
 use Rattle.std.proofs.Common.{◌≡◌, ℕ, zero, suc, ◌*◌, ◌<◌, ◌≤◌, true, max, List, [], ◌∷◌, map, option_map, None, Result, Ok, Err, IsOkAnd, MatchResult, arith, refl, ap, sym, subst, ◌∙◌}
 use Rattle.subdiv_model.specs.Lists.{first_of}
 use Rattle.subdiv_model.specs.Level.{Level}
@@ -69,7 +69,7 @@ module _ (mesh : ObjMesh) (depth : ℕ) (composed : ComposedChannel) (is : IsCom
   pub limit-failed : (fault : QuadFault) → IsQuadFault composed.level.level composed.table fault → IsFound (limit_fault_of depth fault) (limit_refusal depth mesh)
   limit-failed fault found = failed-there fault (subst (λ level. IsQuadFault level composed.table fault) is.composed.level_is found)
 
-  -- where there is one, the test of its numerators decides
+  -- if there is a table, the test of its numerators decides
   pub limits-tested : (table : Table) → IsLimitTable composed.level.level composed.table table → (amount : ℕ) (r : Result Table FarFault) → amount ≡ max channel.greatest channel.common
       → MatchResult r (λ found. (found ≡ table) × IsTable table × (greatest_of table * amount ≤ number_bound))
       (λ fault. (fault_of fault ≡ Overflow LimitRows depth ValueOverflow) × IsTable table × (number_bound < greatest_of table * amount))
@@ -80,7 +80,7 @@ module _ (mesh : ObjMesh) (depth : ℕ) (composed : ComposedChannel) (is : IsCom
       (λ limits. AreLimitRows mesh depth (record { level = composed.level; table = limits }))
       (λ good rows. record { good = good; level_is = is.composed.level_is; rows = rows })
 
--- the level with its table, where that was found, and else the fault as it is
+-- the level with its table, or the fault unchanged
 pub with-limits : (mesh : ObjMesh) (depth : ℕ) (level : Topology) (found : Result Table FarFault) (r : Result ComposedChannel FarFault)
     → MatchResult found (λ table. IsOkAnd r (λ limits. limits ≡ record { level = level; table = table })) (λ fault. r ≡ Err fault)
     → MatchResult found (λ table. AreLimitRows mesh depth (record { level = level; table = table })) (λ fault. IsFound (fault_of fault) (limit_refusal depth mesh))

@@ -1,4 +1,4 @@
--- What is written of the points that the table of limit points makes.
+-- The text of the points that the table of limit points gives.
 use Rattle.std.proofs.Common.{◌≡◌, ◌<◌, ◌≤◌, false, List, ◌++◌, map, None, IfSome, ap, sym, subst, ◌∙◌}
 use Rattle.std.specs.List.{All}
 use Rattle.std.proofs.lemmas.List.{append-nil}
@@ -29,7 +29,7 @@ use Rattle.mesh_answers.specs.Replies.{IsReplyTo, written_text}
 use Rattle.mesh_answers.proofs.MaskPointLemmas.{masks-denominators, masks-same, masks-written}
 use Rattle.mesh_answers.proofs.PointLemmas.{numbers}
 
--- The level of a mesh with the table of its limit points, and what the table makes of the points of the mesh.
+-- The level of a mesh with the table of its limit points, and the points that the table gives from those of the mesh.
 module _ (mesh : ObjMesh) (options : LimitOptions) (limits : ComposedChannel) (is : AreLimitRows mesh options.depth limits)
     (points : List Point3) (said : map reader.point_of points ≡ mesh.points) (some : 0 < mesh.common) where
   abbrev last : Level
@@ -50,7 +50,7 @@ module _ (mesh : ObjMesh) (options : LimitOptions) (limits : ComposedChannel) (i
         (written-denominators mesh.common values limits-written)
         (masks-same mesh options.depth masks limits.table is.rows points said values made))
 
-  -- So it is the reply.
+  -- The points are the reply.
   module _ (refined : RefinedMesh) (form : MeshForm) (level : refined.level ≡ limits.level) (over : refined.common ≡ mesh.common) (plain : refined.texture ≡ None)
       (rounded : form.decimals ≡ options.decimals) (untagged : form.tags ≡ false)
       (made : rows_of numbers refined.values.items ≡ evaluated limits.table (map numbers points)) where

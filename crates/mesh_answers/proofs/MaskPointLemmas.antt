@@ -1,4 +1,4 @@
--- The points that a table of masks makes are those of the definitions, in other terms.
+-- The points that a table of masks gives are those of the definitions, in other terms.
 use Rattle.std.proofs.Common.{◌≡◌, ℕ, ◌+◌, ◌<◌, ◌≤◌, ℤ, List, length, map, get_or, Result, Ok, Err, IsOkAnd, OnOk, MatchResult, arith, ap, sym, subst, ◌∙◌}
 use Rattle.std.specs.List.{All, AllZip}
 use Rattle.std.proofs.lemmas.List.{length-map}
@@ -44,7 +44,7 @@ module _ (mesh : ObjMesh) (depth : ℕ) (masks : List Mask) (table : Table) (is 
       subst (λ r. StepsTaken r old new (entries_of_masks channel depth masks) (entries_of_masks channel depth masks)) (sym same)
       (record { least = tt; most = omega (arith, most, is.entries); later = later })
 
-  -- what the masks make of numbers, and of the points of the mesh
+  -- the points that the masks give from numbers, and from the points of the mesh
   abbrev pub value_of : List ℤ → List Value
   value_of controls = values_of_masks mesh depth masks controls
 

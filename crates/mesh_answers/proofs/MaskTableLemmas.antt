@@ -1,4 +1,4 @@
--- What a mesh is refused for where a table of masks is made of its own, and what the table has.
+-- The refusals of a mesh by a command that makes a table of masks from the mesh's own table, and the contents of that table.
 use Rattle.std.proofs.Common.{◌≡◌, ℕ, ◌*◌, ◌<◌, ◌≤◌, Bool, false, nat_lt, max, List, [], ◌∷◌, ◌++◌, length, map, get_or, Option, Some, None, Result, Ok, Err, MatchResult, arith, ap, sym, subst, ◌∙◌}
 use Rattle.std.specs.List.{All, list_any, fold, sum_by}
 use Rattle.std.proofs.lemmas.Bool.{le-ltb, lt-ltb}
@@ -33,7 +33,7 @@ use Rattle.mesh_answers.proofs.SummaryLemmas.{rows-points}
 pub rows-there : (mesh : ObjMesh) (depth : ℕ) (composed : ComposedChannel) → IsComposedOf mesh depth composed → length composed.table.rows ≡ composed.level.level.point_count
 rows-there mesh depth composed is = rows-points mesh depth composed is ∙ ap (λ (level : Level). level.point_count) (sym is.composed.level_is)
 
--- The table of a mesh at a depth, masks over the points of the level there, and the faults that come before those of their table.
+-- The table of a mesh at a depth, masks over the points of the level there, and the faults before those of the masks' table.
 module _ (mesh : ObjMesh) (depth : ℕ) (composed : ComposedChannel) (is : IsComposedOf mesh depth composed) (masks : List Mask) (track : Track) (counted : Counted) (causes : List Fault) where
   abbrev channel : Channel
   channel = positions_of mesh
@@ -70,7 +70,7 @@ module _ (mesh : ObjMesh) (depth : ℕ) (composed : ComposedChannel) (is : IsCom
   pub refusal-of-cause : (cause : Fault) → first_of causes ≡ Some cause → refusal ≡ Some cause
   refusal-of-cause cause first = refusal-is ∙ first-here causes (held_faults tests) cause first
 
-  -- and where there is none for the first test that holds
+  -- without a cause, the mesh is refused for the first test that passes
   module _ (no_cause : first_of causes ≡ None) where
     refusal-of-tests : refusal ≡ first_of (held_faults tests)
     refusal-of-tests = refusal-is ∙ first-behind causes (held_faults tests) no_cause
@@ -94,7 +94,7 @@ module _ (mesh : ObjMesh) (depth : ℕ) (composed : ComposedChannel) (is : IsCom
           lt-ltb entry_bound _ (subst (λ n. entry_bound < n) entries-are many),
         )
 
-    -- Where there is a table of the masks, its denominators and its entries are within their bounds.
+    -- If there is a table of the masks, its denominators and its entries are within their bounds.
     module _ (table : Table) (rows : AreMaskRows last masks composed.table table) where
       dens-made : dens_of table ≡ denominators_of_masks channel depth masks
       dens-made = rows.dens ∙ dens-are
@@ -108,7 +108,7 @@ module _ (mesh : ObjMesh) (depth : ℕ) (composed : ComposedChannel) (is : IsCom
       few-entries : IsTable table → nat_lt entry_bound (entries_of_masks channel depth masks) ≡ false
       few-entries made = le-ltb entry_bound _ (omega (arith, made.entries_few, entries-by-support table.rows, entries-made))
 
-      -- and where its numerators are so too, nothing is refused
+      -- if its numerators are within their bounds too, nothing is refused
       rows-fine : IsTable table → greatest_of table * most ≤ number_bound → refusal ≡ None
       rows-fine made fits =
           refusal-of-tests
@@ -129,7 +129,7 @@ module _ (mesh : ObjMesh) (depth : ℕ) (composed : ComposedChannel) (is : IsCom
           refusal-of-tests
           ∙ first-held tests 2 none (no-denominator made, (few-entries made, lt-ltb number_bound _ (subst (λ dens. number_bound < fold max 1 dens * most) dens-made over)))
 
-      -- the test of the numerators decides which it is
+      -- the test of the numerators decides between both
       pub rows-tested : (P : Table → Type 0) → (refusal ≡ None → IsMaskTable mesh depth masks table → P table) → (amount : ℕ) (r : Result Table FarFault) → amount ≡ most
           → MatchResult r (λ found. (found ≡ table) × IsTable table × (greatest_of table * amount ≤ number_bound))
           (λ fault. (fault_of fault ≡ Overflow track depth ValueOverflow) × IsTable table × (number_bound < greatest_of table * amount))

@@ -1,4 +1,4 @@
--- What a patch of a mesh is refused for, and the rows that it has.
+-- The refusals of a mesh by the command for a patch, and the rows of the patch.
 use Rattle.std.proofs.Common.{◌≡◌, ℕ, ◌*◌, ◌<◌, ◌≤◌, Bool, true, false, not, max, cond, List, [], ◌∷◌, length, Some, None, Result, MatchResult, ap, sym, subst, ◌∙◌}
 use Rattle.std.proofs.lemmas.Bool.{le-ltb, lt-ltb}
 use Rattle.subdiv_model.specs.Lists.{first_of}
@@ -74,7 +74,7 @@ module _ (options : PatchOptions) (mesh : ObjMesh) (composed : ComposedChannel) 
       (λ (level : Level). IsPatchFault level options.face options.grid composed.table fault → IsFound (patch_fault_of (length level.polygons) options fault) (patch_refusal options mesh))
       (sym is.composed.level_is) (failed-there fault)
 
-  -- where there are such rows, the test of their numerators decides
+  -- if there are such rows, the test of their numerators decides
   pub patch-tested : (table : Table) → IsPatchTable composed.level.level options.face options.grid composed.table table → (amount : ℕ) (r : Result Table FarFault)
       → amount ≡ max channel.greatest channel.common
       → MatchResult r (λ found. (found ≡ table) × IsTable table × (greatest_of table * amount ≤ number_bound))

@@ -1,4 +1,4 @@
--- What is written of the points that the rows of a patch make.
+-- The text of the points that the rows of a patch give.
 use Rattle.std.proofs.Common.{◌≡◌, ℕ, ◌<◌, List, [], ◌∷◌, ◌++◌, length, map, zip, None, codes, refl, ap, sym, subst, ◌∙◌}
 use Rattle.std.specs.List.{All, AllZip, AllByRecursion, flat_map}
 use Rattle.std.proofs.lemmas.List.{length-map}
@@ -28,7 +28,7 @@ use Rattle.mesh_answers.specs.Replies.{IsReplyTo, written_text}
 use Rattle.mesh_answers.proofs.MaskPointLemmas.{masks-denominators, masks-each, masks-same, masks-written}
 use Rattle.mesh_answers.proofs.PointLemmas.{numbers}
 
--- the line of a place, where both denominators are at least 1
+-- the line of a place, with both denominators at least 1
 place-same : (place : ℕ × ℕ) (p q : Point) → HasDenominators p → HasDenominators q → IsSamePoint p q → place_line (place, p) ≡ place_line (place, q)
 place-same place p q above below same =
     let words : List ℕ → List ℕ → List ℕ → List ℕ = λ x y z. line_text (codes "s") (number_text place.0 ∷ number_text place.1 ∷ x ∷ y ∷ z ∷ []) in
@@ -47,7 +47,7 @@ places-same (place ∷ places) (p ∷ ps) (q ∷ qs) above below same =
     ap (λ t. t ++ flat_map place_line (zip places ps)) (place-same place p q above.0 below.0 same.0)
     ∙ ap (λ t. place_line (place, q) ++ t) (places-same places ps qs above.1 below.1 same.1)
 
--- The rows of a patch, and what they make of the points of the mesh.
+-- The rows of a patch, and the points that they give from those of the mesh.
 module _ (options : PatchOptions) (mesh : ObjMesh) (table : Table) (is : ArePatchRows options mesh table)
     (points : List Point3) (said : map reader.point_of points ≡ mesh.points) (some : 0 < mesh.common) where
   abbrev masks : List Mask
@@ -70,7 +70,7 @@ module _ (options : PatchOptions) (mesh : ObjMesh) (table : Table) (is : ArePatc
         masks-each mesh options.depth masks table is.rows points said values made
         ∙ length-map (patch_places options.grid) (patch_mask (refined_level (base_level mesh) options.depth) options.face options.grid)
 
-  -- So it is the reply.
+  -- The points are the reply.
   module _ (patch : PatchPoints) (face : patch.face ≡ options.face) (grid : patch.grid ≡ options.grid) (over : patch.common ≡ mesh.common)
       (made : rows_of numbers patch.values.items ≡ evaluated table (map numbers points)) where
     text-is : patch_lines patch ≡ written_text (Patch options) mesh

@@ -22,7 +22,7 @@ use Rattle.mesh_answers.proofs.ColumnLemmas.{IsColumn, scaled, column-behind, co
 abbrev pub numbers : Point3 → List ℤ
 numbers p = p.x ∷ p.y ∷ p.z ∷ []
 
--- those of all points are the coordinates
+-- the numbers of all points are the coordinates
 point-numbers : (points : List Point3) → flat_map numbers points ≡ point_numbers (map reader.point_of points)
 point-numbers [] = refl
 point-numbers (p ∷ points) = ap (λ ns. p.x ∷ p.y ∷ p.z ∷ ns) (point-numbers points)

@@ -1,4 +1,4 @@
--- The points that a table makes of the points of a mesh are those of some values, in other terms.
+-- The points that a table gives from the points of a mesh are those of some values, in other terms.
 use Rattle.std.proofs.Common.{◌≡◌, ℕ, ◌*◌, ◌<◌, ◌≤◌, max, ℤ, List, length, map, get_or, pos, arith, refl, ap, sym, subst, ◌∙◌}
 use Rattle.std.specs.List.{All, AllZip}
 use Rattle.std.proofs.lemmas.List.{length-map}
@@ -25,7 +25,7 @@ use Rattle.mesh_answers.proofs.ColumnLemmas.{IsColumn, can-be-written, column-se
 use Rattle.mesh_answers.proofs.PointLemmas.{numbers, positive-points, same-points, written-point}
 use Rattle.mesh_answers.proofs.PositionLemmas.{point-controls}
 
--- A table over the points of a mesh, which makes these values of all numbers.
+-- A table over the points of a mesh that gives these values for any numbers.
 pub record IsPointTable (mesh : ObjMesh) (values : List ℤ → List Value) (table : Table) : Type 0 where
   pub controls : table.controls ≡ (base_level mesh).point_count
   pub same : (numbers : List ℤ) → length numbers ≡ (base_level mesh).point_count → AreSameValues (values numbers) (row_values table numbers)

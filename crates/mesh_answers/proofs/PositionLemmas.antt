@@ -1,4 +1,4 @@
--- The positions of a mesh as a channel, and what their refinement answers.
+-- The positions of a mesh as a channel, and the result of their refinement.
 use Rattle.std.proofs.Common.{◌≡◌, ℕ, ◌+◌, ◌<◌, ◌≤◌, max, true, List, length, map, replicate, ℤ, Result, OnOk, refl, ap, sym, subst, ◌∙◌, arith}
 use Rattle.std.proofs.Math.Nat.{max-le}
 use Rattle.std.proofs.lemmas.List.{length-map}
@@ -90,7 +90,7 @@ pub point-controls : (mesh : ObjMesh) (points : List Point3) → map reader.poin
 point-controls mesh points said =
     are-controls points (positions_of mesh) (sym (length-map points reader.point_of) ∙ ap length said) (ap (λ ps. greatest_amount (point_numbers ps)) (sym said))
 
--- What a refinement answers of the positions.
+-- The result of a refinement of the positions.
 module _ (mesh : ObjMesh) (options : RefineOptions) (base : Channel) (points : List Point3) (fine : IsSmallManifold options.depth mesh) (same : base ≡ positions_of mesh)
     (said : map reader.point_of points ≡ mesh.points) where
   pub base-controls : AreControls base (control_rows (map numbers points))

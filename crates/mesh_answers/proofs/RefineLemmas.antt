@@ -1,4 +1,4 @@
--- What the refinement of a mesh is refused for, and what it writes.
+-- The refusals of a mesh by `refine`, and the text of the reply.
 use Rattle.std.proofs.Common.{◌≡◌, ℕ, ◌≤◌, Bool, true, false, cond, List, [], ◌++◌, length, map, Option, Some, None, IfSome, refl, ap, sym, subst, ◌∙◌}
 use Rattle.std.specs.List.{All}
 use Rattle.subdiv_model.specs.Lists.{first_of}
@@ -36,12 +36,12 @@ module _ (mesh : ObjMesh) (options : RefineOptions) (fine : IsSmallManifold opti
   refusal-is : refusal_of_mesh (Refine options) mesh ≡ first_of (refine_faults options mesh)
   refusal-is = refusal-of-others options.depth mesh fine (refine_faults options mesh)
 
-  -- so for what is found of its positions
+  -- the fault of the positions is the refusal of the mesh
   pub positions-found : (fault : Fault) → IsPositionFault options mesh fault → IsFound fault (refusal_of_mesh (Refine options) mesh)
   positions-found fault found =
       subst (IsFound fault) (sym refusal-is) (found-here fault (position_faults options mesh) (cond mesh.has_texture (texture_faults options mesh) []) found)
 
-  -- where the positions have no fault, for the first fault of its texture
+  -- if the positions have no fault, the mesh is refused for the first fault of its texture
   module _ (none : position_faults options mesh ≡ []) where
     texture-refusal : (textured : Bool) → mesh.has_texture ≡ textured → refusal_of_mesh (Refine options) mesh ≡ first_of (cond textured (texture_faults options mesh) [])
     texture-refusal textured is =
@@ -64,7 +64,7 @@ plain-is : (textured : Bool) (with without : List ℕ) → textured ≡ false �
 plain-is true with without h = absurd (cc)
 plain-is false with without h = refl
 
--- the lines of the tags, where they are asked for
+-- the lines of the tags, if the options ask for them
 tags-are : (tags : Bool) (level : Level) → tag_lines tags level ≡ written_tags tags level
 tags-are true level = refl
 tags-are false level = refl
@@ -113,7 +113,7 @@ module _ (mesh : ObjMesh) (options : RefineOptions) (refined : RefinedMesh) (for
       ∙ ap (λ text. lines_of refined.texture refined form ++ text) (tags-are options.tags last)
       ∙ ap (λ text. text ++ written_tags options.tags last) (lines-are refined.texture is)
 
--- and all of them can be written
+-- all of these lines can be written
 texture-can : (mesh : ObjMesh) (options : RefineOptions) (level : Topology) (values : List (Valued Point3)) (texture : Option RefinedTexture) →
     AreRefined (asked_of options.by) mesh options.depth level values → IsTextureOf options mesh texture → IfSome texture (CanTextureBePut level.level)
 texture-can mesh options level values None are is = tt
@@ -122,7 +122,7 @@ texture-can mesh options level values (Some texture) are is = record {
   alike = ap (λ l. map length l.polygons) is.2.level_is ∙ cut-alike (seams_of options.uv) mesh options.depth ∙ ap (λ l. map length l.polygons) (sym are.level_is);
 }
 
--- so it is the reply
+-- the refined mesh is the reply
 pub refined-reply : (mesh : ObjMesh) (options : RefineOptions) (refined : RefinedMesh) (form : MeshForm) → IsSmallManifold options.depth mesh → IfSome options.decimals (λ digits. digits ≤ 18) →
     refined.common ≡ mesh.common → form.decimals ≡ options.decimals → form.tags ≡ options.tags →
     AreRefined (asked_of options.by) mesh options.depth refined.level refined.values.items → IsTextureOf options mesh refined.texture →

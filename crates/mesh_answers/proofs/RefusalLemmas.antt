@@ -1,4 +1,4 @@
--- What a mesh is refused for, by its faults.
+-- The refusal of a mesh, from its faults.
 use Rattle.std.proofs.Common.{◌≡◌, ℕ, List, ◌++◌, length, Option, Some, None, Result, Ok, Err, IsErr, IsErrAnd, MatchResult, ap, sym, subst, ◌∙◌}
 use Rattle.std.proofs.lemmas.List.{append_assoc}
 use Rattle.subdiv_model.specs.Lists.{first_of}
@@ -15,7 +15,7 @@ use Rattle.far_fault.specs.declared.fault.FarFault.{FarFault}
 use Rattle.mesh_answers.specs.Refusals.{IsFound, refusal_by, refusal_unless}
 use Rattle.mesh_answers.specs.Levels.{IsLevelWithin, IsSmallManifold}
 
--- a mesh that is no manifold is refused for its first fault
+-- a mesh that is not a manifold is refused for its first fault
 pub refusal-of-fault : (faults : List Fault) (mesh : ObjMesh) (fault : MeshFault) → first_mesh_fault (length mesh.points) mesh.faces ≡ Some fault →
     refusal_by faults mesh ≡ Some (Mesh fault)
 refusal-of-fault faults mesh fault is = ap (λ f. refusal_unless f (first_of (count_faults mesh ++ faults))) is
@@ -28,14 +28,14 @@ module _ (mesh : ObjMesh) (manifold : first_mesh_fault (length mesh.points) mesh
   pub refusal-of-count : (faults : List Fault) (fault : Fault) → first_of (count_faults mesh) ≡ Some fault → refusal_by faults mesh ≡ Some fault
   refusal-of-count faults fault is = refusal-of-manifold faults ∙ first-here (count_faults mesh) faults fault is
 
-  -- and where its counts are within their limits for the first of the others
+  -- a manifold whose counts are within their limits is refused for the first of the other faults
   pub refusal-of-small : (faults : List Fault) → first_of (count_faults mesh) ≡ None → refusal_by faults mesh ≡ first_of faults
   refusal-of-small faults small = refusal-of-manifold faults ∙ first-behind (count_faults mesh) faults small
 
   pub is-manifold : IsManifold (length mesh.points) mesh.faces
   is-manifold = (manifold-decides (length mesh.points) mesh.faces).0 ((fault-decides (length mesh.points) mesh.faces).0 manifold)
 
--- what is found first of some faults is found first of them and others behind them
+-- the first of some faults is the first of a list that begins with them
 pub found-here : (fault : Fault) (xs ys : List Fault) → IsFound fault (first_of xs) → IsFound fault (first_of (xs ++ ys))
 found-here Memory xs ys found = tt
 found-here (Obj fault) xs ys found = first-here xs ys (Obj fault) found
@@ -53,7 +53,7 @@ found-here Long xs ys found = found
 found-here Write xs ys found = found
 
 module _ (depth : ℕ) (mesh : ObjMesh) (fine : IsSmallManifold depth mesh) (others : List Fault) where
-  -- where no level has too many faces, what comes after
+  -- if no level has too many faces, the first fault is one that comes after
   pub refusal-of-others : refusal_by (level_count_faults mesh.faces depth ++ others) mesh ≡ first_of others
   refusal-of-others = refusal-of-small mesh fine.manifold (level_count_faults mesh.faces depth ++ others) fine.small
       ∙ first-behind (level_count_faults mesh.faces depth) others fine.few
@@ -62,7 +62,7 @@ module _ (depth : ℕ) (mesh : ObjMesh) (fine : IsSmallManifold depth mesh) (oth
   found-of-others fault found = subst (IsFound fault) (sym refusal-of-others) found
 
 module _ (faults others : List Fault) (mesh : ObjMesh) where
-  -- where nothing is found of some faults, the first of those behind them
+  -- if there is none of some faults, the first fault is that of the others behind them
   pub refusal-behind : refusal_by faults mesh ≡ None → refusal_by (faults ++ others) mesh ≡ first_of others
   refusal-behind none = go (first_mesh_fault (length mesh.points) mesh.faces) none
     where
@@ -71,7 +71,7 @@ module _ (faults others : List Fault) (mesh : ObjMesh) where
       go (Some fault) none = absurd (cc)
       go None none = ap first_of (sym (append_assoc (count_faults mesh) faults others)) ∙ first-behind (count_faults mesh ++ faults) others none
 
-  -- and what is found of them is found where others stand behind them
+  -- a fault of some faults is a fault of a list that begins with them
   pub found-before : (fault : Fault) → IsFound fault (refusal_by faults mesh) → IsFound fault (refusal_by (faults ++ others) mesh)
   found-before fault found = go (first_mesh_fault (length mesh.points) mesh.faces) found
     where
@@ -85,7 +85,7 @@ module _ (faults others : List Fault) (mesh : ObjMesh) where
 pub small-manifold : (depth : ℕ) (mesh : ObjMesh) (level : Topology) → IsLevelWithin depth mesh level → IsSmallManifold depth mesh
 small-manifold depth mesh level is = record { manifold = is.accepted.manifold; small = is.accepted.small; few = is.few }
 
--- what was found is handed on as it came
+-- the result is passed on unchanged
 pub handed-on : {A : Type 0} (P : A → Type 0) (Q : FarFault → Type 0) (r : Result A FarFault) (f : FarFault) → IsErr r → IsErrAnd r (λ g. g ≡ f) → Q f → MatchResult r P Q
 handed-on P Q (Ok x) f err same q = absurd same
 handed-on P Q (Err g) f err same q = subst Q (sym same) q

@@ -1,4 +1,4 @@
--- What a command owes at each of its ends.
+-- The obligations of a command at each of its ends.
 use Rattle.std.proofs.Common.{◌≡◌, ℕ, ◌+◌, ◌≤◌, Result, Ok, Err, IsErr, IsErrAnd, IsOkAnd, IfOk, MatchResult, sym, subst}
 use Rattle.far_model.specs.Command.{ReadCommand, MakeCommand}
 use Rattle.subdiv_model.specs.ObjMesh.{ObjMesh}
@@ -10,12 +10,12 @@ use Rattle.mesh_answers.specs.Refusals.{IsFound, refusal_of_mesh, refusal_of_mad
 use Rattle.mesh_answers.specs.Replies.{IsAnswerTo, IsMadeAnswer, IsMadeReply, IsReplyTo}
 use Rattle.mesh_answers.specs.StepCounts.{least_steps, step_limit, made_least, made_limit}
 
--- where a call fails, it took no more than it may
+-- a call that fails took no more steps than the limit
 pub failed-steps : {T E : Type 0} (r : Result T E) (old new least most : ℕ) → IsErr r → old ≤ new → new ≤ old + most → StepsTaken r old new least most
 failed-steps (Ok x) old new least most err later within = absurd (cc)
 failed-steps (Err e) old new least most err later within = record { least = tt; most = within; later = later }
 
--- where it took as many as it must in any case
+-- a call took as many steps as it must in any case
 pub any-steps : {T E : Type 0} (r : Result T E) (old new least most : ℕ) → old + least ≤ new → old ≤ new → new ≤ old + most → StepsTaken r old new least most
 any-steps (Ok x) old new least most some later within = record { least = some; most = within; later = later }
 any-steps (Err e) old new least most some later within = record { least = tt; most = within; later = later }
@@ -32,7 +32,7 @@ module _ (command : ReadCommand) (mesh : ObjMesh) (old new : ℕ) (later : old �
   pub replies : (reply : Reply) → IsReplyTo command mesh reply → old + least_steps command mesh ≤ new → IsAnswerTo command mesh (Ok reply) old new
   replies reply is least = record { reply = is; steps = record { least = least; most = most; later = later } }
 
--- where what a reply is made of was found, it is the reply that was made of it
+-- a reply made from the result of a call
 pub replied : {X E : Type 0} (command : ReadCommand) (mesh : ObjMesh) (found : Result X E) (r : Result Reply E) (made : X → Reply) (P : X → Type 0)
     → MatchResult found (λ x. IsOkAnd r (λ reply. reply ≡ made x)) (λ fault. r ≡ Err fault) → IfOk found P
     → ((x : X) → P x → IsReplyTo command mesh (made x)) → IfOk r (IsReplyTo command mesh)

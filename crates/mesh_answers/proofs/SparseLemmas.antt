@@ -1,4 +1,4 @@
--- The sparse levels of the positions of a mesh, and what they are refused for.
+-- The sparse levels of the positions of a mesh, and their refusals.
 use Rattle.std.proofs.Common.{◌≡◌, ℕ, ◌+◌, ◌<◌, ℤ, Bool, List, [], length, map, get_or, Result, Ok, Err, MatchResult, Vec, Global, arith, refl, ap, sym, subst, ◌∙◌}
 use Rattle.std.specs.List.{All}
 use Rattle.std.proofs.lemmas.List.{length-map, get_or-map}
@@ -83,7 +83,7 @@ found-of-cause channel meeting track depth k (Overflow kind) is = is track
 found-of-cause channel meeting track depth k TooManyEntries is = is track
 found-of-cause channel meeting track depth k Memory is = tt
 
--- What the walk over sparse levels tells of the positions of a mesh.
+-- The result of the walk over the sparse levels of a mesh's positions.
 module _ (options : SparseOptions) (mesh : ObjMesh) (points : List Point3) (said : map reader.point_of points ≡ mesh.points)
     (base : Channel) (same : base ≡ positions_of mesh) (test : FaceFacts → Bool) (named : test ≡ test_of options.select) where
   pub sparse-controls : AreControls base (control_rows (map numbers points))
@@ -120,7 +120,7 @@ module _ (options : SparseOptions) (mesh : ObjMesh) (points : List Point3) (said
             (get_or-map (sparse_rows numbers) levels k d no_rows h) (are.each k (omega (arith, h, count))));
       }
 
--- A mesh within its limits is refused for the first fault of its positions, where they are asked for alone.
+-- The call for positions only refuses a mesh within its limits for the first fault of the positions.
 pub positions-alone : (options : SparseOptions) (mesh : ObjMesh) → IsWithinLimits mesh → (r : Result (Vec (SparseValues Point3) Global) FarFault) →
     MatchResult r (λ levels. ArePointsLevels options mesh levels.items) (λ fault. IsFound (fault_of fault) (sparse_position_refusal options mesh)) → ArePointsLevelsFound options mesh r
 positions-alone options mesh within (Ok levels) are = are

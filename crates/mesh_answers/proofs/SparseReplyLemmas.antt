@@ -1,4 +1,4 @@
--- What is written of the sparse levels of a mesh, and what a mesh is refused for.
+-- The text of the sparse levels of a mesh, and the refusals of the mesh.
 use Rattle.std.proofs.Common.{◌≡◌, ℕ, suc, ◌+◌, ◌<◌, ◌≤◌, List, [], ◌∷◌, length, map, get_or, Some, None, IfSome, Result, Ok, Err, IsOkAnd, MatchResult, arith, ap, sym, subst, ◌∙◌}
 use Rattle.std.specs.List.{All, AllZip, range_with_len}
 use Rattle.std.proofs.lemmas.List.Elements.{All-from_get_or}
@@ -39,7 +39,7 @@ use Rattle.mesh_answers.proofs.FacesAlikeLemmas.{faces-alike}
 use Rattle.mesh_answers.proofs.RefusalLemmas.{found-here, refusal-of-small}
 use Rattle.mesh_answers.proofs.ReplyLemmas.{any-steps}
 
--- levels one after another, each the same as what is defined of its number
+-- levels one after another, each equal to the definition of its number
 levels-zip : {X Y : Type 0} (R : Y → Y → Type 0) (shown : X → Y) (defined : ℕ → Y) (first : ℕ) (xs : List X) →
     ((k j : ℕ) (d : X) → k < length xs → first + k ≡ j → R (shown (get_or xs k d)) (defined j)) → AllZip R (map shown xs) (map defined (range_with_len first (length xs)))
 levels-zip R shown defined first [] each = tt
@@ -48,7 +48,7 @@ levels-zip R shown defined first (x ∷ xs) each = (
   levels-zip R shown defined (first + 1) xs (λ k j d h e. each (suc k) j d (omega (arith, h)) (omega (arith, e))),
 )
 
--- as many levels as are asked for
+-- the number of levels is the requested one
 levels-zip-to : {X Y : Type 0} (R : Y → Y → Type 0) (shown : X → Y) (defined : ℕ → Y) (xs : List X) (count : ℕ) → length xs ≡ count →
     ((k : ℕ) (d : X) → k < length xs → R (shown (get_or xs k d)) (defined k)) → AllZip R (map shown xs) (map defined (range_with_len 0 count))
 levels-zip-to {X} R shown defined xs count same each =
@@ -63,13 +63,13 @@ module _ (options : SparseOptions) (mesh : ObjMesh) where
   refusal-is : IsWithinLimits mesh → refusal_of_mesh (command.Sparse options) mesh ≡ first_of (sparse_mesh_faults options mesh)
   refusal-is within = refusal-of-small mesh within.manifold (sparse_mesh_faults options mesh) within.small
 
-  -- that of the positions
+  -- the first fault of the positions
   pub position-refused : IsWithinLimits mesh → (fault : Fault) → IsFound fault (sparse_position_refusal options mesh) → IsFound fault (refusal_of_mesh (command.Sparse options) mesh)
   position-refused within fault found =
       subst (IsFound fault) (sym (refusal-is within))
       (found-here fault (sparse_position_faults options mesh) (sparse_texture_faults options mesh (sparse_uv options mesh)) found)
 
-  -- where they have none, that of the texture
+  -- if the positions have none, the first fault of the texture
   refusal-of-texture : (levels : List (SparseValues Point3)) → ArePointsLevels options mesh levels → refusal_of_mesh (command.Sparse options) mesh ≡ sparse_texture_refusal options mesh
   refusal-of-texture levels are =
       refusal-is are.mesh_is
@@ -115,7 +115,7 @@ module _ (options : SparseOptions) (mesh : ObjMesh) where
           };
         }
 
-    -- with texture both are
+    -- with texture both are the reply
     module _ (mode : Uv) (asked : sparse_uv options mesh ≡ Some mode) (textures : List (SparseValues Point2)) (textured : AreTextureLevels options mesh mode textures) where
       same-textures : AllZip AreSameTextures (map (texture_part_over mesh.texture_common) textures) (map (texture_part (sparse_texture options mesh mode)) (range_with_len 0 (options.depth + 1)))
       same-textures =
@@ -157,7 +157,7 @@ module _ (options : SparseOptions) (mesh : ObjMesh) where
             };
           }
 
-  -- where the texture was found the reply is made of it
+  -- the reply from the levels of the texture, if they were found
   pub textured-replied : {X : Type 0} (levels : List (SparseValues Point3)) → ArePointsLevels options mesh levels → (found : Result X FarFault) (r : Result Reply FarFault) (made : X → Reply) (P : X → Type 0) →
       MatchResult found (λ x. IsOkAnd r (λ reply. reply ≡ made x)) (λ fault. r ≡ Err fault) → MatchResult found P (λ fault. IsFound (fault_of fault) (sparse_texture_refusal options mesh)) →
       ((x : X) → P x → IsReplyTo (command.Sparse options) mesh (made x)) →

@@ -1,4 +1,4 @@
--- The sparse levels of the texture of a mesh, and what they are refused for.
+-- The sparse levels of the texture of a mesh, and their refusals.
 use Rattle.std.proofs.Common.{◌≡◌, ℕ, zero, suc, ◌+◌, ◌<◌, pos, List, [], ◌∷◌, length, map, get_or, Some, Result, arith, refl, ap, sym, subst, ◌∙◌}
 use Rattle.std.specs.Prelude.{zip}
 use Rattle.std.specs.List.{AllZip, AllByRecursion}
@@ -50,7 +50,7 @@ texture_over common us vs = zip (map (over_common common) us) (map (over_common 
 abbrev corner_value : Value × Value
 corner_value = (whole_value (pos 0), whole_value (pos 0))
 
--- values are the texture point with a number where they are the values with it
+-- values are the texture point with a number if they are the values with that number
 same-at : (common : ℕ) (us vs : List Value) → length us ≡ length vs → (p : ℕ) (u v : Value) → IsSameValue (point_value us p) u → IsSameValue (point_value vs p) v →
     IsSameTexturePoint (over_common common u, over_common common v) (get_or (texture_over common us vs) p corner_value)
 same-at common [] [] alike p u v hu hv = record { u = sym (nothing-scaled common u hu); v = sym (nothing-scaled common v hv) }
@@ -59,7 +59,7 @@ same-at common (a ∷ us) [] alike p u v hu hv = absurd (omega (arith, alike))
 same-at common (a ∷ us) (b ∷ vs) alike zero u v hu hv = record { u = sym (scaled common a u hu); v = sym (scaled common b v hv) }
 same-at common (a ∷ us) (b ∷ vs) alike (suc p) u v hu hv = same-at common us vs (omega (arith, alike)) p u v hu hv
 
--- a texture point has denominators of at least 1 where its values have
+-- a texture point has denominators of at least 1 if its values have
 positive-at : (common : ℕ) → 0 < common → (us vs : List Value) (p : ℕ) → 0 < (point_value us p).den → 0 < (point_value vs p).den →
     HasTextureDenominators (get_or (texture_over common us vs) p corner_value)
 positive-at common some [] vs p hu hv = record { u = omega arith; v = omega arith }
@@ -68,7 +68,7 @@ positive-at common some (a ∷ us) (b ∷ vs) zero hu hv = record { u = product-
 positive-at common some (a ∷ us) (b ∷ vs) (suc p) hu hv = positive-at common some us vs p hu hv
 
 module _ (common : ℕ) (us vs : List Value) where
-  -- two columns of values at the points that are written, and these texture points
+  -- two columns of values at the written points, and these texture points
   same-written : length us ≡ length vs → (written : List ℕ) (values : List (Valued Point2)) → IsColumn numbers values 0 (values_at written us) →
       IsColumn numbers values 1 (values_at written vs) → AllZip IsSameTexturePoint (texture_points_of common values) (texture_with (texture_over common us vs) written)
   same-written alike [] [] hu hv = tt
@@ -110,7 +110,7 @@ level-written options mesh mode values k level said some is =
       written = can-be-written numbers mesh.texture_common channel.greatest _ (written-value mesh.texture_common) some points is.positive is.short is.within;
     }
 
--- What the walk over sparse levels tells of the texture of a mesh.
+-- The result of the walk over the sparse levels of a mesh's texture.
 module _ (options : SparseOptions) (mesh : ObjMesh) (mode : Uv) (asked : sparse_uv options mesh ≡ Some mode) (values : List Point2) (said : map value_of values ≡ channel_values mesh)
     (base : Channel) (same : base ≡ texture_of mesh mode) (numbers-of : Meeting) (named : numbers-of ≡ texture_meeting options mesh) where
   pub texture-controls : AreControls base (control_rows (map numbers values))

@@ -4,7 +4,7 @@ use Rattle.subdiv_model.specs.ObjMesh.{ObjMesh}
 use Rattle.far_model.specs.Command.{RefineOptions}
 use Rattle.mesh_answers.specs.StepCounts.{later_faces, position_steps, refine_least, refine_limit, texture_steps, where_textured}
 
--- what is counted where there is a texture, in parts and together
+-- the steps of the texture, if there is one, in parts and together
 where-both : (mesh : ObjMesh) (m n : ℕ) → where_textured mesh m + where_textured mesh n ≡ where_textured mesh (m + n)
 where-both mesh m n = go mesh.has_texture
   where
@@ -12,7 +12,7 @@ where-both mesh m n = go mesh.has_texture
     go true = refl
     go false = refl
 
--- level 0 of the mesh and of the cut mesh, then the positions, and then the texture
+-- level 0 of the mesh and of the cut mesh, then the positions, then the texture
 module _ (mesh : ObjMesh) (options : RefineOptions) where
   abbrev pub base_limit : ℕ
   base_limit = length mesh.faces + where_textured mesh (length mesh.faces)
@@ -44,7 +44,7 @@ module _ (mesh : ObjMesh) (options : RefineOptions) where
   pub all-fit : (old first second new : ℕ) → first ≤ old + base_limit → second ≤ first + position_limit → new ≤ second + texture_limit → new ≤ old + refine_limit options mesh
   all-fit old first second new f g h = omega (arith, f, g, h, limit-is)
 
-  -- and at least what the values of both take
+  -- the steps are at least those of the values of both
   pub all-taken : (old first second new : ℕ) → old ≤ first → first + position_steps options.by options.depth mesh ≤ second → second + where_textured mesh (texture_steps options mesh) ≤ new →
       old + refine_least options mesh ≤ new
   all-taken old first second new f g h = omega (arith, f, g, h)

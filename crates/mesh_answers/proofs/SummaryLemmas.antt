@@ -1,4 +1,4 @@
--- The summary of a mesh that the program makes by itself.
+-- The summary of a sheet of the command `gen`.
 use Rattle.std.proofs.Common.{rules, ◌≡◌, ℕ, zero, suc, ◌+◌, ◌*◌, ◌-◌, ◌<◌, ◌≤◌, max, List, ◌++◌, length, map, get_or, arith, Option, Some, None, Result, IsErr, refl, ap, sym, subst, ◌∙◌}
 use Rattle.std.specs.List.{fold}
 use Rattle.std.proofs.lemmas.List.{length-map}
@@ -60,11 +60,11 @@ module _ (mesh : ObjMesh) (depth : ℕ) (composed : ComposedChannel) (is : IsCom
       let supports : TableRow → List ℕ = λ row. support_of row.shares in
       sym (length-map composed.table.rows supports) ∙ ap length is.composed.supports ∙ length-supports (base_level mesh) CatmullClark depth
 
-  -- as many entries as the definitions say
+  -- the table has as many entries as the definitions say
   pub entries-counted : entries_of composed.table.rows ≡ position_steps ByTable depth mesh
   entries-counted = entries-are (positions_of mesh) depth (composed_of composed) is.composed is.made
 
-  -- the evaluation takes a step for each
+  -- the evaluation takes one step for each entry
   pub failed-evaluation : {X E : Type 0} (old new : ℕ) (r : Result X E) → IsErr r → old ≤ new → new ≤ old + entries_of composed.table.rows →
       StepsTaken r old new (position_steps ByTable depth mesh) (position_steps ByTable depth mesh)
   failed-evaluation old new r err later most = failed-steps r old new _ _ err later (omega (arith, most, entries-counted))
@@ -74,12 +74,12 @@ module _ (mesh : ObjMesh) (depth : ℕ) (composed : ComposedChannel) (is : IsCom
   evaluated-steps old new r all = any-steps r old new _ _ (omega (arith, all, entries-counted)) (omega (arith, all)) (omega (arith, all, entries-counted))
 
   module _ (points : List Point3) (said : map reader.point_of points ≡ mesh.points) where
-    -- and can be evaluated over the points of its mesh
+    -- the table can be evaluated over the points of its mesh
     pub points-evaluate : CanEvaluate composed.table (map numbers points)
     points-evaluate = can-evaluate (positions_of mesh) depth (composed_of composed) is.composed is.made (map numbers points) (point-controls mesh points said)
 
     module _ (values : List (Valued Point3)) (made : rows_of numbers values ≡ evaluated composed.table (map numbers points)) where
-      -- there is a value of each point, and so a last one
+      -- each point has a value, and so there is a last one
       values-points : length values ≡ (refined_level (base_level mesh) depth).point_count
       values-points = sym (length-map values (row_of numbers)) ∙ ap length made ∙ length-map composed.table.rows _ ∙ rows-points
 
@@ -93,7 +93,7 @@ module _ (mesh : ObjMesh) (depth : ℕ) (composed : ComposedChannel) (is : IsCom
           (subst (λ rows. IsRefinedTo Tables (positions_of mesh) (control_rows (map numbers points)) depth (record { level = composed.level; rows = rows })) (sym made)
           (evaluated-to (positions_of mesh) depth (composed_of composed) is.composed is.made (map numbers points) (point-controls mesh points said)))
 
-      -- and the summary has the last of them
+      -- the summary has the last of these points
       pub summary-is : (summary : Summary) → mesh.common ≡ 1 → 0 < length mesh.points →
           summary.points ≡ composed.table.controls → summary.faces ≡ length mesh.faces → summary.depth ≡ depth →
           summary.level_points ≡ composed.level.level.point_count → summary.level_faces ≡ length composed.level.level.polygons →
@@ -119,12 +119,12 @@ sheet-some seed size = subst (λ n. 0 < n) (sym (points-length size (draws_of se
     some : (size : ℕ) → 0 < (size + 1) * (size + 1)
     some size = search rules
 
--- an answer has no other refusal than its fault
+-- the refusal of an answer is its fault
 unless-refusal : (fault : Option Fault) (text : List ℕ) → (answer_unless fault text).refusal ≡ fault
 unless-refusal (Some fault) text = refl
 unless-refusal None text = refl
 
--- A sheet is refused as if it were read, since nothing is wrong with it.
+-- A sheet is refused as if it were read, since the mesh checks find no fault in it.
 module _ (options : GenOptions) (mesh : ObjMesh) (same : mesh ≡ generated_mesh options.seed options.size)
     (fine : first_mesh_fault (length (generated_mesh options.seed options.size).points) (generated_mesh options.seed options.size).faces ≡ None) where
   made-refusal : refusal_by (table_faults options.depth mesh) mesh ≡ refusal_of_made (Gen options)
@@ -133,11 +133,11 @@ module _ (options : GenOptions) (mesh : ObjMesh) (same : mesh ≡ generated_mesh
       ∙ ap (λ fault. refusal_unless fault (first_of (count_faults (generated_mesh options.seed options.size) ++ made_faults (Gen options)))) fine
       ∙ sym (unless-refusal (first_of (count_faults (generated_mesh options.seed options.size) ++ made_faults (Gen options))) (made_text (Gen options)))
 
-  -- what is found of it is found of the sheet
+  -- a result for the mesh is one for the sheet
   pub made-found : (fault : Fault) → IsFound fault (refusal_by (table_faults options.depth mesh) mesh) → IsFound fault (refusal_of_made (Gen options))
   made-found fault found = subst (IsFound fault) made-refusal found
 
-  -- and its summary is what the command writes
+  -- the summary is the text of the command
   pub made-reply : (summary : Summary) → IsSummaryOf mesh options.depth summary → IsMadeReply (Gen options) (Sheet summary)
   unfolding made_written
   made-reply summary is = record {

@@ -1,4 +1,4 @@
--- What the table of a mesh is refused for, and what is written of it.
+-- The refusals of a mesh by the command for its table, and the text of the table.
 use Rattle.std.proofs.Common.{◌≡◌, ℕ, Result, arith, refl, ap, subst, ◌∙◌}
 use Rattle.subdiv_model.specs.Lists.{first_of}
 use Rattle.subdiv_model.specs.Base.{base_level}
@@ -46,20 +46,20 @@ module _ (mesh : ObjMesh) (depth : ℕ) (fine : IsSmallManifold depth mesh) (bas
         made = made;
       }
 
--- it takes a step for each face of the levels after the first
+-- the composition takes one step for each face of the levels after the first
 pub table-steps : {X E : Type 0} (mesh : ObjMesh) (depth : ℕ) (base : Channel) → base ≡ positions_of mesh → (old new : ℕ) (r : Result X E) → AreLevelSteps base.base depth old new →
     StepsTaken r old new 0 (later_faces depth mesh)
 table-steps mesh depth base same old new r taken =
     let is = subst (λ (b : Channel). AreLevelSteps b.base depth old new) same taken in
     any-steps r old new 0 (later_faces depth mesh) (omega (arith, is.later)) is.later (omega (arith, is.most, steps-of-levels (base_level mesh) depth))
 
--- it is the table of the definitions
+-- the table is that of the definitions
 pub table-own : (mesh : ObjMesh) (depth : ℕ) (composed : ComposedChannel) → IsComposedOf mesh depth composed → composed.table ≡ own_table depth mesh
 table-own mesh depth composed is =
     level-table composed.table (base_level mesh) CatmullClark depth is.composed.controls is.composed.dens is.composed.supports
     (stencil-numerators (positions_of mesh) depth (composed_of composed) is.composed is.made) is.made
 
--- and what is written of it is their text
+-- the text of the table is that of the definitions
 pub table-reply : (mesh : ObjMesh) (depth : ℕ) (composed : ComposedChannel) → IsComposedOf mesh depth composed → IsReplyTo (Stencils depth) mesh (Table composed.table)
 unfolding written_text
 table-reply mesh depth composed is = record { good = is.good; says = ap text_of_table (table-own mesh depth composed is); put = tt }

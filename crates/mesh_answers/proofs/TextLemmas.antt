@@ -1,4 +1,4 @@
--- What an OBJ text is refused for where the table of its mesh is composed.
+-- The refusals of an OBJ text by the command for the table of its mesh.
 use Rattle.std.proofs.Common.{◌≡◌, ℕ, List, ◌++◌, length, Option, Some, None, ap, sym, refl, ◌∙◌}
 use Rattle.subdiv_model.specs.Lists.{first_of}
 use Rattle.subdiv_model.specs.Fault.{Fault, Usage, Read, Long, Obj, Mesh, TooLarge, Overflow, Limit, Place, Table, Differs, Controls, Write, Memory}
@@ -12,7 +12,7 @@ use Rattle.far_model.specs.Refusal.{answer_unless}
 use Rattle.mesh_answers.specs.MeshText.{IsMeshText, IsTextFault}
 use Rattle.mesh_answers.specs.Refusals.{IsFound, refusal_of_mesh, refusal_unless}
 
--- an answer has no other refusal than its fault
+-- the refusal of an answer is its fault
 pub unless-refusal : (fault : Option Fault) (text : List ℕ) → (answer_unless fault text).refusal ≡ fault
 unless-refusal (Some fault) text = refl
 unless-refusal None text = refl
@@ -23,7 +23,7 @@ pub checked-refusal : (command : ReadCommand) (fault : Option MeshFault) (mesh :
 checked-refusal command (Some fault) mesh = refl
 checked-refusal command None mesh = unless-refusal (first_of (count_faults mesh ++ command_faults command mesh)) (command_text command mesh)
 
--- what is refused of the lines of a text without fault is refused of its mesh
+-- a text without fault is refused as its mesh is
 pub composition-refusal : (depth scale : ℕ) (bytes : List ℕ) (mesh : ObjMesh) → IsMeshText bytes scale mesh
     → composition_refusal depth scale (obj_lines bytes) ≡ refusal_of_mesh (Stencils depth) mesh
 composition-refusal depth scale bytes mesh is =
@@ -32,7 +32,7 @@ composition-refusal depth scale bytes mesh is =
     ∙ checked-refusal (Stencils depth) (first_mesh_fault (length read.points) read.faces) read
     ∙ ap (refusal_of_mesh (Stencils depth)) (sym is.mesh_is)
 
--- so is the fault of a text
+-- a text with a fault is refused for it
 pub text-fault-found : (depth scale : ℕ) (bytes : List ℕ) (fault : Fault) → IsTextFault bytes scale fault → IsFound fault (composition_refusal depth scale (obj_lines bytes))
 text-fault-found depth scale bytes (Obj fault) is = ap (λ found. (answer_of_read (Stencils depth) found (mesh_of_lines (obj_lines bytes) scale)).refusal) is
 text-fault-found depth scale bytes Memory is = tt

@@ -1,4 +1,4 @@
--- The texture of a mesh as a channel over its cut mesh, and what its refinement answers.
+-- The texture of a mesh as a channel over its cut mesh, and the result of its refinement.
 use Rattle.std.proofs.Common.{◌≡◌, ℕ, zero, suc, ◌+◌, ◌*◌, ◌<◌, ◌≤◌, ◌^◌, max, Bool, true, cond, not, ℤ, pos, unsigned_abs, List, [], ◌∷◌, length, map, get_or, replicate, Some, Result, OnOk, arith, refl, ap, sym, subst, ◌∙◌}
 use Rattle.std.specs.Prelude.{zip}
 use Rattle.std.specs.List.{All, AllZip, AllByRecursion, filter, flat_map, sum_by, range_with_len}
@@ -58,7 +58,7 @@ use Rattle.mesh_answers.proofs.ColumnLemmas.{IsColumn, scaled, fold-at-most, col
 abbrev pub numbers : Point2 → List ℤ
 numbers p = p.u ∷ p.v ∷ []
 
--- those of all values are the coordinates
+-- the numbers of all texture values are the coordinates
 value-numbers : (values : List Point2) → flat_map numbers values ≡ texture_numbers (map value_of values)
 value-numbers [] = refl
 value-numbers (p ∷ values) = ap (λ ns. p.u ∷ p.v ∷ ns) (value-numbers values)
@@ -131,7 +131,7 @@ greatest-short mesh all =
     fold-at-most 0 (10 ^ 37) (map unsigned_abs (texture_numbers (channel_values mesh))) (omega arith)
     (short-by (channel_values mesh) (channel-short-by mesh (channel_points mesh) (recursion_from_All IsShortTexture mesh.texture all)))
 
--- Channel points are no more than corners.
+-- The channel has no more points than the faces have corners.
 filter-few : (keep : ℕ × ℕ → Bool) (xs : List (ℕ × ℕ)) → length (filter keep xs) ≤ length xs
 filter-few keep xs = omega (arith, length-filter_both keep (λ x. not (keep x)) (λ x. refl) xs)
 
@@ -154,8 +154,8 @@ sharp-cut mode mesh is =
     sharp-from (cut_level mode mesh) (λ t alone.
     ap is_infinite (cut-boundary mesh mode t (boundary-named (cut_level mode mesh) (all-simple (cut_point_count mesh) (cut_faces mesh) is) t alone) alone))
 
--- The parts of the cut mesh of a mesh that was read: a level that can be refined, and its values, which are the channel of the
--- definitions within the bounds.
+-- The parts of a mesh's cut mesh: a level that can be refined, and its values, which are the channel of the definitions within the
+-- bounds.
 module _ (mesh : ObjMesh) (uv : Uv) (channel : CutChannel) (level : Topology) (cut : IsCut (seams_of uv) mesh channel) (part : level ≡ channel.level) where
   level-is : level.level ≡ cut_level (seams_of uv) mesh
   level-is = ap (λ t. t.level) part ∙ cut.level_is
@@ -213,7 +213,7 @@ refined-texture asked uv mesh points depth last values said some is =
       written = can-be-written numbers mesh.texture_common (texture_of mesh uv).greatest _ (written-value mesh.texture_common) some values is.positive is.short is.within;
     }
 
--- the steps that a way takes
+-- the steps of a path
 asked-steps : (options : RefineOptions) (mesh : ObjMesh) → path_steps (asked_of options.by) (texture_of mesh options.uv) options.depth ≡ texture_steps options mesh
 asked-steps options mesh = go options.by
   where
@@ -228,7 +228,7 @@ value-controls mesh uv values said =
     (sym (length-map values value_of) ∙ ap length said ∙ length-map (channel_points mesh) (λ point. get_or mesh.texture (texture_number mesh point.1 point.0) (pos 0, pos 0)))
     (ap (λ vs. greatest_amount (texture_numbers vs)) (sym said))
 
--- What a refinement answers of the texture.
+-- The result of a refinement of the texture.
 module _ (mesh : ObjMesh) (options : RefineOptions) (base : Channel) (values : List Point2) (fine : IsSmallManifold options.depth mesh) (textured : mesh.has_texture ≡ true)
     (same : base ≡ texture_of mesh options.uv) (said : map value_of values ≡ channel_values mesh) where
   pub texture-controls : AreControls base (control_rows (map numbers values))
@@ -251,7 +251,7 @@ module _ (mesh : ObjMesh) (options : RefineOptions) (base : Channel) (values : L
         (subst (λ b. IsChannelFault (asked_of options.by) b options.depth fault) same is),
   )
 
-  -- the steps of a refinement: those of the levels, which have as many faces as those of the mesh, and of its terms or entries
+  -- the steps of a refinement: those of its levels, which have as many faces as the levels of the mesh, and those of its terms or entries
   pub texture-taken : {X E : Type 0} (old new : ℕ) (r : Result X E) → AreRefineSteps (asked_of options.by) base options.depth r old new →
       StepsTaken r old new (where_textured mesh (texture_steps options mesh)) (where_textured mesh (later_faces options.depth mesh + texture_steps options mesh))
   texture-taken old new r taken =

@@ -1,4 +1,4 @@
--- What the table of the texture of a mesh is refused for, and what it has.
+-- The refusals of a mesh by the call for its texture's table, and the contents of the table.
 use Rattle.std.proofs.Common.{◌≡◌, ℕ, Bool, true, false, cond, List, [], map, Option, Some, Result, Ok, Err, IsOkAnd, MatchResult, Vec, Global, arith, ap, sym, subst, ◌∙◌}
 use Rattle.std.specs.List.{range_with_len}
 use Rattle.subdiv_model.specs.Lists.{first_of}
@@ -46,7 +46,7 @@ module _ (uv : Uv) (depth : ℕ) (mesh : ObjMesh) where
     pub without-texture : mesh.has_texture ≡ false → IsWithoutTexture uv depth mesh
     without-texture none = record { good = refusal-is false none; untextured = none }
 
-    -- with texture it is refused for the first fault of the table
+    -- a mesh with texture is refused for the first fault of the table
     module _ (textured : mesh.has_texture ≡ true) (base : Channel) (same : base ≡ texture_of mesh uv) where
       pub texture-failed : (fault : WalkFault) → IsChannelFault Tables base depth fault → IsFound (walk_fault_of Texture fault) (texture_refusal uv depth mesh)
       texture-failed fault is =
@@ -64,7 +64,7 @@ module _ (uv : Uv) (depth : ℕ) (mesh : ObjMesh) where
             made = made;
           }
 
-  -- it takes a step for each face of the levels after the first, of which the mesh has as many
+  -- the composition takes one step for each face of the levels after the first, which are as many as those of the mesh
   pub texture-steps : {X E : Type 0} (base : Channel) → base ≡ texture_of mesh uv → (old new : ℕ) (r : Result X E) → AreLevelSteps base.base depth old new →
       StepsTaken r old new 0 (later_faces depth mesh)
   texture-steps base same old new r taken =
@@ -73,13 +73,13 @@ module _ (uv : Uv) (depth : ℕ) (mesh : ObjMesh) where
       steps-of-levels (cut_level (seams_of uv) mesh) depth ∙ sum-same _ _ (cut-faces-after mesh) (range_with_len 1 depth) in
       any-steps r old new 0 (later_faces depth mesh) (omega (arith, is.later)) is.later (omega (arith, is.most, faces))
 
-  -- it is the table of the definitions
+  -- the table is that of the definitions
   pub texture-own : (composed : ComposedChannel) → IsTextureTable uv depth mesh composed → composed.table ≡ level_table (cut_level (seams_of uv) mesh) (scheme_of uv) depth
   texture-own composed is =
       level-table composed.table (cut_level (seams_of uv) mesh) (scheme_of uv) depth is.composed.controls is.composed.dens is.composed.supports
       (stencil-numerators (texture_of mesh uv) depth (composed_of composed) is.composed is.made) is.made
 
-  -- where the table was found, the texture is it with the values
+  -- the texture is the table with its values, if the table was found
   pub texture-with-values : (values : Vec Point2 Global) → map value_of values.items ≡ channel_values mesh → (found : Result ComposedChannel FarFault) (r : Result (Option ComposedTexture) FarFault)
       → MatchResult found (λ composed. IsOkAnd r (λ texture. texture ≡ Some (record { level = composed.level; table = composed.table; values = values }))) (λ fault. r ≡ Err fault)
       → MatchResult found (IsTextureTable uv depth mesh) (λ fault. IsFound (fault_of fault) (texture_refusal uv depth mesh))

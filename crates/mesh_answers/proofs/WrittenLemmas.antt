@@ -1,4 +1,4 @@
--- The values of the points that are written of a sparse level are those of the definitions, in other terms.
+-- The values of the written points of a sparse level are those of the definitions, in other terms.
 use Rattle.std.proofs.Common.{◌≡◌, ℕ, zero, suc, ◌*◌, ◌<◌, ℤ, pos, ◌*ℤ◌, List, [], ◌∷◌, length, map, get_or, arith, ap, sym, subst, ◌∙◌}
 use Rattle.std.specs.List.{All, AllZip, AllByRecursion}
 use Rattle.std.proofs.lemmas.List.{length-map}
@@ -26,7 +26,7 @@ use Rattle.far_text.specs.Points.{points_of, IsSamePoint, HasDenominators}
 use Rattle.mesh_answers.proofs.ColumnLemmas.{IsColumn, scaled, column-behind, control-column, dens-positive}
 use Rattle.mesh_answers.proofs.PointLemmas.{numbers}
 
--- the values with these numbers, and 0 behind the last
+-- the values with these numbers, and 0 after the last one
 abbrev pub values_at : List ℕ → List Value → List Value
 values_at written xs = items_at written (whole_value (pos 0)) xs
 
@@ -47,7 +47,7 @@ nothing-scaled common x same = none (x.den * common) ∙ sym (none x.den) ∙ sa
     none : (n : ℕ) → pos 0 *ℤ pos n ≡ pos 0
     none n = ap pos (gone n)
 
--- values are the point with a number where they are the values with it
+-- values are the point with a number if they are the values with that number
 same-at : (common : ℕ) (xs ys zs : List Value) → length xs ≡ length ys → length ys ≡ length zs → (v : ℕ) (x y z : Value) →
     IsSameValue (point_value xs v) x → IsSameValue (point_value ys v) y → IsSameValue (point_value zs v) z →
     IsSamePoint (over_common common x, over_common common y, over_common common z) (get_or (points_over common xs ys zs) v origin)
@@ -62,7 +62,7 @@ same-at common (a ∷ xs) (b ∷ ys) (c ∷ zs) first second zero x y z hx hy hz
 same-at common (a ∷ xs) (b ∷ ys) (c ∷ zs) first second (suc v) x y z hx hy hz =
     same-at common xs ys zs (omega (arith, first)) (omega (arith, second)) v x y z hx hy hz
 
--- a point has denominators of at least 1 where its values have
+-- a point has denominators of at least 1 if its values have
 positive-at : (common : ℕ) → 0 < common → (xs ys zs : List Value) (v : ℕ) → 0 < (point_value xs v).den → 0 < (point_value ys v).den → 0 < (point_value zs v).den →
     HasDenominators (get_or (points_over common xs ys zs) v origin)
 positive-at common some [] ys zs v hx hy hz = record { x = omega arith; y = omega arith; z = omega arith }
@@ -77,7 +77,7 @@ abbrev pub ArePositive : List Value → Type 0
 ArePositive values = (p : ℕ) → 0 < (point_value values p).den
 
 module _ (common : ℕ) (xs ys zs : List Value) where
-  -- three columns of values at the points that are written, and these points
+  -- three columns of values at the written points, and these points
   pub same-written : length xs ≡ length ys → length ys ≡ length zs → (written : List ℕ) (values : List (Valued Point3)) →
       IsColumn numbers values 0 (values_at written xs) → IsColumn numbers values 1 (values_at written ys) → IsColumn numbers values 2 (values_at written zs) →
       AllZip IsSamePoint (points_of common values) (points_with (points_over common xs ys zs) written)
@@ -111,14 +111,14 @@ same-count level scheme first second zero same = length-map first whole_value �
 same-count level scheme first second (suc k) same =
     length-map (child_masks (refined_level level k) scheme) _ ∙ sym (length-map (child_masks (refined_level level k) scheme) _)
 
--- a value that is picked has a denominator of at least 1 where its own common denominator is
+-- a picked value has a denominator of at least 1 if its own common denominator is
 picked-positive : (xs : List Value) (dens : List ℕ) → ((v : ℕ) → 0 < get_or dens v 1 → 0 < (point_value xs v).den) → (written : List ℕ) (p : ℕ) →
     0 < get_or (items_at written 1 dens) p 1 → 0 < (point_value (values_at written xs) p).den
 picked-positive xs dens each [] p h = omega arith
 picked-positive xs dens each (v ∷ written) zero h = each v h
 picked-positive xs dens each (v ∷ written) (suc p) h = picked-positive xs dens each written p h
 
--- a column of a sparse level is that of its controls, refined, at the points that are written
+-- a column of a sparse level is the refined column of its controls, at the written points
 pub sparse-column : {P : Type 0} (shown : P → List ℤ) (channel : Channel) (meeting : Meeting) (points : List P) (k : ℕ) (faces : WrittenLevel) (values : List (Valued P)) (column : ℕ) (controls : List ℤ) →
     map (λ p. get_or (shown p) column (pos 0)) points ≡ controls →
     IsSparseLevel channel meeting (control_rows (map shown points)) k (record { written = faces; rows = rows_of shown values }) →

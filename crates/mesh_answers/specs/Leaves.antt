@@ -16,24 +16,26 @@ use Rattle.patch_map.specs.Map.{LevelMap}
 use Rattle.patch_map.specs.Is.{IsMapOf}
 use Rattle.mesh_answers.specs.SparseLevels.{IsWithinLimits}
 
--- the faults of the sparse levels of a mesh, as far as their faces and their sharpness go, and the first of them
+-- the faults of the faces and of the sharpness of a mesh's sparse levels
 abbrev pub map_level_faults : MapOptions → ObjMesh → List Fault
 map_level_faults options mesh = sparse_faults Sharpnesses (positions_of mesh) (meeting_by options.select options.depth mesh) Positions options.depth
 
+-- the first of these faults, or none
 abbrev pub map_level_refusal : MapOptions → ObjMesh → Option Fault
 map_level_refusal options mesh = first_of (map_level_faults options mesh)
 
--- a map of the sparse levels of a mesh that is within its limits, where the levels have no fault
+-- a map of the sparse levels of a mesh that is within its limits; the levels have no fault
 pub record IsLevelMap (options : MapOptions) (mesh : ObjMesh) (found : LevelMap) : Type 0 where
   pub mesh_is : IsWithinLimits mesh
   pub fine : map_level_faults options mesh ≡ []
   pub map_is : IsMapOf (base_level mesh) (meeting_by options.select options.depth mesh) options.depth found
 
--- the face that is asked for has this fault, or has places with the corner that is asked for
+-- the requested face has this fault, or it has places with the requested corner
 pub record IsMapFor (options : MapOptions) (mesh : ObjMesh) (fault : Option PlaceFault) (found : LevelMap) : Type 0 where
   pub map_is : IsLevelMap options mesh found
   pub fault_is : option_map (λ place. Place (place_fault_of place)) fault ≡ first_of (location_faults (base_level mesh) options.face options.corner)
 
+-- the map is that of the mesh's levels, and the face has places with the corner
 abbrev pub CanFind : MapOptions → ObjMesh → LevelMap → Type 0
 CanFind options mesh found = IsMapFor options mesh None found
 

@@ -1,4 +1,4 @@
--- The levels of a mesh that was checked.
+-- The levels of a checked mesh.
 use Rattle.std.specs.Prelude.{ℕ, ◌≡◌, ◌+◌, List, ◌++◌, length, None, map}
 use Rattle.std.specs.List.{range_with_len}
 use Rattle.subdiv_model.specs.Lists.{first_of}
@@ -16,18 +16,18 @@ use Rattle.level_counts.specs.Counts.{counts_of}
 use Rattle.level_counts.specs.View.{seen_counts}
 use Rattle.mesh_answers.specs.Refusals.{refusal_by, refusal_of_mesh, IsFound}
 
--- a manifold whose counts are within their limits, and so are the faces of its levels up to a depth
+-- the mesh is a manifold, and its counts and the faces of its levels up to a depth are within their limits
 pub record IsSmallManifold (depth : ℕ) (mesh : ObjMesh) : Type 0 where
   pub manifold : first_mesh_fault (length mesh.points) mesh.faces ≡ None
   pub small : first_of (count_faults mesh) ≡ None
   pub few : first_of (level_count_faults mesh.faces depth) ≡ None
 
--- this is level 0 of such a mesh
+-- this is level 0 of a mesh that is within its limits
 pub record IsLevelWithin (depth : ℕ) (mesh : ObjMesh) (level : Topology) : Type 0 where
   pub accepted : IsAccepted mesh level
   pub few : first_of (level_count_faults mesh.faces depth) ≡ None
 
--- what is found of a mesh and the counts of its levels up to a depth is what each command refuses that looks at them first
+-- a fault of the mesh or of the counts of its levels is the refusal of each command that looks at these first
 abbrev pub IsFoundWithin : ℕ → ObjMesh → Fault → Type 0
 IsFoundWithin depth mesh fault = (others : List Fault) → IsFound fault (refusal_by (level_count_faults mesh.faces depth ++ others) mesh)
 

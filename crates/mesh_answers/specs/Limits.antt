@@ -15,11 +15,11 @@ use Rattle.far_fault.specs.declared.fault.FarFault.{FarFault}
 use Rattle.mesh_answers.specs.Refusals.{IsFound}
 use Rattle.mesh_answers.specs.MaskTables.{IsMaskTable, refusal_behind_table}
 
--- what a mesh is refused for where its limit points at a depth are asked for
+-- the refusal of a mesh by the command for limit points at a depth
 abbrev pub limit_refusal : ℕ → ObjMesh → Option Fault
 limit_refusal depth mesh = refusal_behind_table (limit_faults (positions_of mesh) depth) mesh depth
 
--- the fault of a run for that of the table of limit points at a depth
+-- the fault of a run for a fault of the table of limit points at a depth
 abbrev pub limit_fault_of : ℕ → QuadFault → Fault
 limit_fault_of depth (Dart v) = Limit (model.Dart v)
 limit_fault_of depth (SemiSharp v) = Limit (model.SemiSharp v)
@@ -27,12 +27,12 @@ limit_fault_of depth (Denominator v) = Overflow LimitRows depth DenominatorOverf
 limit_fault_of depth TooManyEntries = TooLarge LimitEntries
 limit_fault_of depth Memory = model.Memory
 
--- the mesh is not refused, and this is its level at a depth, with the table of its limit points in the place of that of its points
+-- the mesh is not refused, and this is its level at a depth with the table of its limit points
 pub record AreLimitRows (mesh : ObjMesh) (depth : ℕ) (limits : ComposedChannel) : Type 0 where
   pub good : limit_refusal depth mesh ≡ None
   pub level_is : limits.level.level ≡ refined_level (base_level mesh) depth
   pub rows : IsMaskTable mesh depth (limit_masks (refined_level (base_level mesh) depth)) limits.table
 
--- the level with this table, or what is refused of the mesh where it is composed
+-- the level with this table, or the refusal of the mesh
 abbrev pub IsLimitComposition : ObjMesh → ℕ → Result ComposedChannel FarFault → Type 0
 IsLimitComposition mesh depth result = MatchResult result (AreLimitRows mesh depth) (λ fault. IsFound (fault_of fault) (limit_refusal depth mesh))

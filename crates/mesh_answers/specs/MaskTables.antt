@@ -16,33 +16,34 @@ use Rattle.stencil_apply.specs.Table.{Table, IsTable, entries_of, greatest_of}
 use Rattle.stencil_factory.specs.Rows.{dens_of, row_values, AreSameValues}
 use Rattle.mesh_answers.specs.Refusals.{refusal_by}
 
--- what masks make of the points of a mesh's level at a depth, from controls
+-- the points that masks make, from controls, of a mesh's level at a depth
 abbrev pub values_of_masks : ObjMesh → ℕ → List Mask → List ℤ → List Value
 values_of_masks mesh depth masks controls =
     map (mask_value (source_value (refined_level (base_level mesh) depth) (refined_values (base_level mesh) CatmullClark (control_values controls) depth))) masks
 
--- the common denominators and the entries of their rows, on a channel's level after k steps
+-- the common denominators of the masks' rows, on a channel's level after k steps
 abbrev pub denominators_of_masks : Channel → ℕ → List Mask → List ℕ
 denominators_of_masks channel k masks = map (mask_denominator (source_denominator (channel_level channel k) (denominators_after channel k))) masks
 
+-- the number of entries of the masks' rows, on a channel's level after k steps
 abbrev pub entries_of_masks : Channel → ℕ → List Mask → ℕ
 entries_of_masks channel k masks =
     sum_by length
     (map (mask_support channel.base.point_count (source_support channel.base.point_count (channel_level channel k) (refined_supports channel.base channel.scheme k))) masks)
 
--- the faults of their table, in their order: an overflow names the track, and too many entries are these
+-- the faults of the masks' table in their order: an overflow names the track, and this count is the fault of too many entries
 abbrev pub mask_faults : Track → Counted → Channel → ℕ → List Mask → List Fault
 mask_faults track counted channel k masks =
     fault_where (list_any (nat_lt number_bound) (denominators_of_masks channel k masks)) (Overflow track k DenominatorOverflow)
     ++ (fault_where (nat_lt entry_bound (entries_of_masks channel k masks)) (TooLarge counted)
     ++ fault_where (nat_lt number_bound (fold max 1 (denominators_of_masks channel k masks) * max channel.greatest channel.common)) (Overflow track k ValueOverflow))
 
--- what a mesh is refused for where something is made of its table at a depth, for which there are these faults
+-- the refusal of a mesh by a command that makes something from its table at a depth, which has these faults
 abbrev pub refusal_behind_table : List Fault → ObjMesh → ℕ → Option Fault
 refusal_behind_table faults mesh depth = refusal_by (table_faults depth mesh ++ faults) mesh
 
--- Each row has the common denominator of a mask, and makes its value of all controls. The greatest denominator times the greatest
--- amount of the mesh's points, or times their common denominator, is within the bound of numbers.
+-- Each row has the common denominator of a mask and gives its value for any controls. The greatest denominator times the greatest amount
+-- of the mesh's points, or times their common denominator, is within the bound of numbers.
 pub record IsMaskTable (mesh : ObjMesh) (depth : ℕ) (masks : List Mask) (table : Table) : Type 0 where
   pub controls : table.controls ≡ (base_level mesh).point_count
   pub dens : dens_of table ≡ denominators_of_masks (positions_of mesh) depth masks

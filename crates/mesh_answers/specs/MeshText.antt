@@ -1,14 +1,15 @@
--- The mesh of an OBJ text, or why there is none.
+-- The mesh of an OBJ text, or its fault.
 use Rattle.std.specs.Prelude.{ℕ, ◌≡◌, List, Some, None}
 use Rattle.subdiv_model.specs.ObjMesh.{ObjMesh}
 use Rattle.subdiv_model.specs.ReadObj.{read_obj_fault, read_obj_mesh}
 use Rattle.subdiv_model.specs.Fault.{Fault, Obj, Memory}
 
--- the text has no fault, and this is its mesh, read with a power of ten in its common denominator; or it has this one, or memory ran out
+-- the text has no fault, and this is its mesh, with a power of ten in its common denominator; or this is its fault, or memory ran out
 pub record IsMeshText (bytes : List ℕ) (scale : ℕ) (mesh : ObjMesh) : Type 0 where
   pub good : read_obj_fault bytes scale ≡ None
   pub mesh_is : mesh ≡ read_obj_mesh bytes scale
 
+-- the fault is that of the text, or memory ran out
 abbrev pub IsTextFault : List ℕ → ℕ → Fault → Type 0
 IsTextFault bytes scale (Obj fault) = read_obj_fault bytes scale ≡ Some fault
 IsTextFault bytes scale Memory = Unit {0}

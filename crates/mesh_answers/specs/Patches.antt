@@ -1,4 +1,4 @@
--- The patch of a face of a mesh's level at a depth.
+-- The patch of a face of a level.
 use Rattle.std.specs.Prelude.{ℕ, ◌≡◌, List, Option, None, Result, MatchResult}
 use Rattle.subdiv_model.specs.Base.{base_level}
 use Rattle.subdiv_model.specs.Child.{refined_level}
@@ -17,11 +17,11 @@ use Rattle.far_fault.specs.declared.fault.FarFault.{FarFault}
 use Rattle.mesh_answers.specs.Refusals.{IsFound}
 use Rattle.mesh_answers.specs.MaskTables.{IsMaskTable, refusal_behind_table}
 
--- what a mesh is refused for where a patch is asked for
+-- the refusal of a mesh by the command for a patch
 abbrev pub patch_refusal : PatchOptions → ObjMesh → Option Fault
 patch_refusal options mesh = refusal_behind_table (patch_faults (positions_of mesh) options.depth options.face options.grid) mesh options.depth
 
--- the fault of a run for that of the rows of a patch, on a level with so many faces
+-- the fault of a run for a fault of the rows of a patch, on a level with this number of faces
 abbrev pub patch_fault_of : ℕ → PatchOptions → PatchFault → Fault
 patch_fault_of count options NoFace = Place (model.NoFace count)
 patch_fault_of count options NotRegular = Place (model.NotRegular options.face)
@@ -38,6 +38,6 @@ pub record ArePatchRows (options : PatchOptions) (mesh : ObjMesh) (table : Table
   pub good : patch_refusal options mesh ≡ None
   pub rows : IsMaskTable mesh options.depth (masks_of_patch options mesh) table
 
--- these rows, or what is refused of the mesh where they are composed
+-- the rows of the patch, or the refusal of the mesh
 abbrev pub IsPatchComposition : PatchOptions → ObjMesh → Result Table FarFault → Type 0
 IsPatchComposition options mesh result = MatchResult result (ArePatchRows options mesh) (λ fault. IsFound (fault_of fault) (patch_refusal options mesh))

@@ -1,4 +1,4 @@
--- What a mesh is refused for.
+-- The refusals of a mesh.
 -- Source: this profile.
 use Rattle.std.specs.Prelude.{◌≡◌, List, ◌++◌, length, Option, Some, None}
 use Rattle.subdiv_model.specs.Lists.{first_of}
@@ -9,23 +9,24 @@ use Rattle.subdiv_model.specs.Fault.{Fault, Obj, Mesh, TooLarge, Overflow, Limit
 use Rattle.subdiv_model.specs.Limits.{count_faults}
 use Rattle.far_model.specs.Answer.{answer_of_made, command_faults}
 
+-- the fault of the mesh, or else this refusal
 abbrev pub refusal_unless : Option MeshFault → Option Fault → Option Fault
 refusal_unless (Some fault) refusal = Some (Mesh fault)
 refusal_unless None refusal = refusal
 
--- for what is wrong with it, or else for the first fault of its counts and of these
+-- the fault of the mesh, or else the first fault of its counts and of this list
 abbrev pub refusal_by : List Fault → ObjMesh → Option Fault
 refusal_by faults mesh = refusal_unless (first_mesh_fault (length mesh.points) mesh.faces) (first_of (count_faults mesh ++ faults))
 
--- what a command refuses of a mesh that was read
+-- the refusal by a command of a mesh that it read
 abbrev pub refusal_of_mesh : ReadCommand → ObjMesh → Option Fault
 refusal_of_mesh command mesh = refusal_by (command_faults command mesh) mesh
 
--- what a command refuses of the mesh that it makes
+-- the refusal by a command of the mesh that it makes
 abbrev pub refusal_of_made : MakeCommand → Option Fault
 refusal_of_made command = (answer_of_made command).refusal
 
--- a fault of a mesh is the refusal that is defined; memory may run out at any mesh
+-- the fault is the refusal of the mesh in the definitions; memory may run out at any mesh
 abbrev pub IsFound : Fault → Option Fault → Type 0
 IsFound Memory refusal = Unit {0}
 IsFound (Obj fault) refusal = refusal ≡ Some (Obj fault)

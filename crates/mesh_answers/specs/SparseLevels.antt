@@ -1,4 +1,4 @@
--- The sparse levels of a mesh and of its texture, as they are found.
+-- The sparse levels of a mesh and of its texture.
 use Rattle.std.specs.Prelude.{ℕ, ◌≡◌, ◌+◌, ◌<◌, List, [], length, get_or, map, Option, Some, None, Result, MatchResult, Vec}
 use Rattle.std.specs.Global.{Global}
 use Rattle.std.specs.List.{All, AllZip}
@@ -27,7 +27,7 @@ use Rattle.mesh_answers.specs.Refusals.{IsFound, refusal_by}
 use Rattle.mesh_answers.specs.declared.tracks.BaseTexture.{BaseTexture}
 use Rattle.mesh_answers.specs.declared.tracks.BaseTracks.{BaseTracks}
 
--- the channel of the texture that sparse levels have, with its values, and none where they have no texture
+-- the channel of the texture with its values, or nothing if the sparse levels have no texture
 abbrev pub IsSparseBase : Option Uv → ObjMesh → Option BaseTexture → Type 0
 IsSparseBase uv mesh None = uv ≡ None
 IsSparseBase uv mesh (Some texture) =
@@ -38,54 +38,57 @@ pub record IsWithinLimits (mesh : ObjMesh) : Type 0 where
   pub manifold : first_mesh_fault (length mesh.points) mesh.faces ≡ None
   pub small : first_of (count_faults mesh) ≡ None
 
--- the channels of a mesh whose sparse levels are asked for
+-- the channels of a mesh for its sparse levels
 pub record AreSparseTracks (options : SparseOptions) (mesh : ObjMesh) (tracks : BaseTracks) : Type 0 where
   pub mesh_is : IsWithinLimits mesh
   pub positions : tracks.positions ≡ positions_of mesh
   pub texture : IsSparseBase (sparse_uv options mesh) mesh tracks.texture
 
--- A level is that of the definitions. Its values are the points that are written, in any terms, over the common denominator.
+-- A level is that of the definitions. Its values are the written points, in any terms, over the common denominator.
 pub record IsPointsLevel (common : ℕ) (level : SparseValues Point3) (part : SparsePart Point) : Type 0 where
   pub faces : level.faces ≡ part.level
   pub same : AllZip IsSamePoint (points_of common level.values.items) part.values
   pub positive : All HasDenominators part.values
   pub written : All (CanBeWritten common) level.values.items
 
+-- A level of texture is that of the definitions. Its values are the written texture points, in any terms, over the common denominator.
 pub record IsTextureLevel (common : ℕ) (level : SparseValues Point2) (part : SparsePart (Value × Value)) : Type 0 where
   pub faces : level.faces ≡ part.level
   pub same : AllZip IsSameTexturePoint (texture_points_of common level.values.items) part.values
   pub positive : All HasTextureDenominators part.values
   pub written : All (CanTextureBeWritten common) level.values.items
 
--- the sparse levels of the positions from 0 to the depth, and their faults
+-- the faults of the sparse levels of the positions up to the depth
 abbrev pub sparse_position_faults : SparseOptions → ObjMesh → List Fault
 sparse_position_faults options mesh = sparse_faults Tables (positions_of mesh) (meeting_for options mesh) Positions options.depth
 
+-- the sparse levels of the positions from 0 to the depth, for a mesh without fault
 pub record ArePointsLevels (options : SparseOptions) (mesh : ObjMesh) (levels : List (SparseValues Point3)) : Type 0 where
   pub mesh_is : IsWithinLimits mesh
   pub fine : sparse_position_faults options mesh ≡ []
   pub count : length levels ≡ options.depth + 1
   pub each : (k : ℕ) (d : SparseValues Point3) → k < length levels → IsPointsLevel mesh.common (get_or levels k d) (points_part (sparse_positions options mesh) k)
 
--- those of the texture, which is refined so
+-- the sparse levels of a texture that is refined by this rule, without fault
 pub record AreTextureLevels (options : SparseOptions) (mesh : ObjMesh) (mode : Uv) (levels : List (SparseValues Point2)) : Type 0 where
   pub fine : sparse_texture_faults options mesh (Some mode) ≡ []
   pub count : length levels ≡ options.depth + 1
   pub each : (k : ℕ) (d : SparseValues Point2) → k < length levels
       → IsTextureLevel mesh.texture_common (get_or levels k d) (texture_part (sparse_texture options mesh mode) k)
 
--- those of the texture that is asked for
+-- the sparse levels of the texture, if the options ask for it
 abbrev pub AreSparseTexture : SparseOptions → ObjMesh → List (SparseValues Point2) → Type 0
 AreSparseTexture options mesh levels = (mode : Uv) × (sparse_uv options mesh ≡ Some mode) × AreTextureLevels options mesh mode levels
 
--- the first fault of the positions, and of the texture
+-- the first fault of the positions, or none
 abbrev pub sparse_position_refusal : SparseOptions → ObjMesh → Option Fault
 sparse_position_refusal options mesh = first_of (sparse_position_faults options mesh)
 
+-- the first fault of the texture, or none
 abbrev pub sparse_texture_refusal : SparseOptions → ObjMesh → Option Fault
 sparse_texture_refusal options mesh = first_of (sparse_texture_faults options mesh (sparse_uv options mesh))
 
--- the sparse levels of the positions, or what is refused of the mesh where they are asked for alone
+-- the sparse levels of the positions, or the refusal of the mesh by the call for positions only
 abbrev pub ArePointsLevelsFound : SparseOptions → ObjMesh → Result (Vec (SparseValues Point3) Global) FarFault → Type 0
 ArePointsLevelsFound options mesh result =
     MatchResult result (λ levels. ArePointsLevels options mesh levels.items) (λ fault. IsFound (fault_of fault) (refusal_by (sparse_position_faults options mesh) mesh))

@@ -12,13 +12,13 @@ use Rattle.far_fault.specs.View.{fault_of}
 use Rattle.far_fault.specs.declared.fault.FarFault.{FarFault}
 use Rattle.mesh_answers.specs.Refusals.{IsFound, refusal_by}
 
--- the mesh is not refused where its table is composed, and this is the table
+-- the mesh is not refused, and this is its level with the table
 pub record IsComposedOf (mesh : ObjMesh) (depth : ℕ) (channel : ComposedChannel) : Type 0 where
   pub good : refusal_by (table_faults depth mesh) mesh ≡ None
   pub composed : IsComposedTo (positions_of mesh) depth (composed_of channel)
   pub made : IsTable channel.table
 
--- the table, or what is refused of the mesh where it is composed
+-- the table, or the refusal of the mesh
 abbrev pub IsComposition : ObjMesh → ℕ → Result ComposedChannel FarFault → Type 0
 IsComposition mesh depth result = MatchResult result (IsComposedOf mesh depth) (λ fault. IsFound (fault_of fault) (refusal_by (table_faults depth mesh) mesh))
 

@@ -20,17 +20,17 @@ use Rattle.mesh_answers.specs.Tracks.{IsBaseTexture}
 use Rattle.mesh_answers.specs.declared.tracks.BaseTexture.{BaseTexture}
 use Rattle.mesh_answers.specs.declared.texture_table.ComposedTexture.{ComposedTexture}
 
--- the channel of the texture of a mesh of which no level up to a depth has too many faces
+-- the channel of the texture of a mesh none of whose levels up to a depth has too many faces
 pub record IsTextureBase (uv : Uv) (depth : ℕ) (mesh : ObjMesh) (texture : Option BaseTexture) : Type 0 where
   pub fine : IsSmallManifold depth mesh
   pub texture_is : IsBaseTexture uv mesh texture
 
--- the faults of the table of its texture at a depth, where the mesh has any: those of its levels come first
+-- the faults of the table of the texture at a depth, if the mesh has texture; the faults of its levels come first
 abbrev pub texture_table_faults : Uv → ℕ → ObjMesh → List Fault
 texture_table_faults uv depth mesh =
     level_count_faults mesh.faces depth ++ (if mesh.has_texture then channel_faults Tables (texture_of mesh uv) Texture depth else [])
 
--- what a mesh is refused for where this table is asked for
+-- the refusal of a mesh by the call for this table
 abbrev pub texture_refusal : Uv → ℕ → ObjMesh → Option Fault
 texture_refusal uv depth mesh = refusal_by (texture_table_faults uv depth mesh) mesh
 
@@ -41,7 +41,7 @@ pub record IsTextureTable (uv : Uv) (depth : ℕ) (mesh : ObjMesh) (channel : Co
   pub composed : IsComposedTo (texture_of mesh uv) depth (composed_of channel)
   pub made : IsTable channel.table
 
--- and these are the values of these points
+-- the mesh is not refused, and this is the table of its texture with the values of the points of its cut mesh
 pub record IsTextureWith (uv : Uv) (depth : ℕ) (mesh : ObjMesh) (texture : ComposedTexture) : Type 0 where
   pub table_is : IsTextureTable uv depth mesh (record { level = texture.level; table = texture.table })
   pub values_are : map value_of texture.values.items ≡ channel_values mesh
@@ -51,11 +51,12 @@ pub record IsWithoutTexture (uv : Uv) (depth : ℕ) (mesh : ObjMesh) : Type 0 wh
   pub good : texture_refusal uv depth mesh ≡ None
   pub untextured : mesh.has_texture ≡ false
 
+-- the texture if the mesh has one, and the mesh is not refused
 abbrev pub IsComposedTexture : Uv → ℕ → ObjMesh → Option ComposedTexture → Type 0
 IsComposedTexture uv depth mesh None = IsWithoutTexture uv depth mesh
 IsComposedTexture uv depth mesh (Some texture) = IsTextureWith uv depth mesh texture
 
--- the texture where the mesh has any, or what is refused of the mesh where its table is composed
+-- the texture if the mesh has one, or the refusal of the mesh
 abbrev pub IsTextureComposition : Uv → ℕ → ObjMesh → Result (Option ComposedTexture) FarFault → Type 0
 IsTextureComposition uv depth mesh result =
     MatchResult result (IsComposedTexture uv depth mesh) (λ fault. IsFound (fault_of fault) (texture_refusal uv depth mesh))

@@ -1,4 +1,4 @@
--- The positions of a mesh and its texture, before they are refined and at a depth.
+-- The positions of a mesh and its texture, before refinement and at a depth.
 use Rattle.std.specs.Prelude.{ℕ, ◌≡◌, true, false, List, [], Option, Some, None, map}
 use Rattle.std.specs.List.{All, AllZip}
 use Rattle.subdiv_model.specs.Lists.{first_of}
@@ -24,20 +24,20 @@ use Rattle.mesh_answers.specs.Levels.{IsSmallManifold}
 use Rattle.mesh_answers.specs.declared.tracks.BaseTexture.{BaseTexture}
 use Rattle.mesh_answers.specs.declared.tracks.BaseTracks.{BaseTracks}
 
--- the channel of the texture of a mesh with its values, and nothing of a mesh without texture
+-- the channel of the texture of a mesh with its values, or nothing for a mesh without texture
 abbrev pub IsBaseTexture : Uv → ObjMesh → Option BaseTexture → Type 0
 IsBaseTexture uv mesh None = mesh.has_texture ≡ false
 IsBaseTexture uv mesh (Some texture) =
     (mesh.has_texture ≡ true) × (texture.base ≡ texture_of mesh uv) × (map value_of texture.values.items ≡ channel_values mesh)
 
--- the channels of a mesh of which no level up to a depth has too many faces
+-- the channels of a mesh none of whose levels up to a depth has too many faces
 pub record AreBaseTracks (uv : Uv) (depth : ℕ) (mesh : ObjMesh) (tracks : BaseTracks) : Type 0 where
   pub fine : IsSmallManifold depth mesh
   pub positions : tracks.positions ≡ positions_of mesh
   pub texture : IsBaseTexture uv mesh tracks.texture
 
--- The positions have no fault of those that are asked for. This is the level of the mesh at a depth, and these are its points
--- there, over the common denominator.
+-- The positions have no fault that is asked for. This is the level of the mesh at a depth, and these are its points there, over the
+-- common denominator.
 pub record AreRefined (asked : Asked) (mesh : ObjMesh) (depth : ℕ) (level : Topology) (values : List (Valued Point3)) : Type 0 where
   pub fine : channel_faults asked (positions_of mesh) Positions depth ≡ []
   pub level_is : level.level ≡ refined_level (base_level mesh) depth
@@ -45,8 +45,8 @@ pub record AreRefined (asked : Asked) (mesh : ObjMesh) (depth : ℕ) (level : To
   pub positive : All HasDenominators (points_after mesh depth)
   pub written : All (CanBeWritten mesh.common) values
 
--- The texture has no fault of those that are asked for. This is the level of the cut mesh at a depth, and these are its values there,
--- over the common denominator of the texture.
+-- The texture has no fault that is asked for. This is the level of the cut mesh at a depth, and these are its values there, over the
+-- common denominator of the texture.
 pub record IsTextureRefined (asked : Asked) (uv : Uv) (mesh : ObjMesh) (depth : ℕ) (level : Topology) (values : List (Valued Point2)) : Type 0 where
   pub fine : channel_faults asked (texture_of mesh uv) Texture depth ≡ []
   pub level_is : level.level ≡ refined_level (cut_level (seams_of uv) mesh) depth
@@ -54,25 +54,29 @@ pub record IsTextureRefined (asked : Asked) (uv : Uv) (mesh : ObjMesh) (depth : 
   pub positive : All HasTextureDenominators (texture_after mesh uv depth)
   pub written : All (CanTextureBeWritten mesh.texture_common) values
 
--- the positions that the options ask for, or the first fault of them
+-- the refined positions that the options ask for
 abbrev pub ArePositions : RefineOptions → ObjMesh → RefinedChannel Point3 → Type 0
 ArePositions options mesh refined = AreRefined (asked_of options.by) mesh options.depth refined.level refined.values.items
 
+-- the faults of the positions, in their order
 abbrev pub position_faults : RefineOptions → ObjMesh → List Fault
 position_faults options mesh = channel_faults (asked_of options.by) (positions_of mesh) Positions options.depth
 
+-- the fault is the first of the positions, or memory ran out
 abbrev pub IsPositionFault : RefineOptions → ObjMesh → Fault → Type 0
 IsPositionFault options mesh fault = IsFound fault (first_of (position_faults options mesh))
 
--- the texture that they ask for, where the mesh has one, or the first fault of it
+-- the refined texture that the options ask for, if the mesh has one
 abbrev pub IsTextureOf : RefineOptions → ObjMesh → Option RefinedTexture → Type 0
 IsTextureOf options mesh None = mesh.has_texture ≡ false
 IsTextureOf options mesh (Some texture) =
     (mesh.has_texture ≡ true) × (texture.common ≡ mesh.texture_common)
     × IsTextureRefined (asked_of options.by) options.uv mesh options.depth texture.level texture.values.items
 
+-- the faults of the texture, in their order
 abbrev pub texture_faults : RefineOptions → ObjMesh → List Fault
 texture_faults options mesh = channel_faults (asked_of options.by) (texture_of mesh options.uv) Texture options.depth
 
+-- the mesh has texture, and the fault is the first of it, or memory ran out
 abbrev pub IsTextureFault : RefineOptions → ObjMesh → Fault → Type 0
 IsTextureFault options mesh fault = (mesh.has_texture ≡ true) × IsFound fault (first_of (texture_faults options mesh))

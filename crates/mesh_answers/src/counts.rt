@@ -21,7 +21,7 @@ use raw_mesh::RawMesh;
 use std::alloc::Global;
 use std::sync::ledger::Ledger;
 
-// The counts of the levels of a mesh, from its level 0 to a depth up to which no level has too many faces.
+// The counts of the levels of a mesh, from its level 0. No level up to the depth has too many faces.
 fn counts_from<L: Ledger>(
     alloc: Global,
     level: Level,
@@ -40,16 +40,15 @@ fn counts_from<L: Ledger>(
     }
 }
 
-/// Returns the counts of each level of a mesh, from level 0 to the depth. The depth is at most 10.
+/// Returns the counts of each level of a mesh, from level 0 to `depth`, which is at most 10. The call counts at most one step for each
+/// face of these levels.
 ///
-/// The fault is the first of these:
+/// Errors, in this order; `Memory` may come at any time:
 ///
-/// - `Mesh` where the mesh is no manifold, with its first fault;
-/// - `TooLarge` with the first count of the mesh that passes its limit;
-/// - `TooLarge` with the first level from 1 to the depth that would have more than 2^22 faces, and how many;
-/// - `Overflow` with the first level, counted from 1, at which the half of an edge overflows (`Chaikin`).
-///
-/// `Memory` may come of any mesh. The call takes at most one step for each face of the levels from 0 to the depth.
+/// - `Mesh`: the first fault of a mesh that is not a manifold;
+/// - `TooLarge`: the first count of the mesh that passes its limit;
+/// - `TooLarge`: the first level, counted from 1, that would have more than 2^22 faces, and their number;
+/// - `Overflow` of the kind `Chaikin`: the first level, counted from 1, at which the half of an edge overflows.
 pub fn levels<L: Ledger>(
     alloc: Global,
     mesh: &RawMesh,

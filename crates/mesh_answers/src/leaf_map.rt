@@ -32,7 +32,7 @@ use sparse_map::map_sparse;
 use std::alloc::Global;
 use std::sync::ledger::Ledger;
 
-// The fault of a face of level 0 with this corner, where the face exists.
+// The fault of a face of level 0 with this corner. The face exists.
 fn corner_fault(level: &Level, face: u32, corner: u32) -> Option<PlaceFault>
     requires { face < length level.now.level.polygons }
     ensures { option_map (λ fault. Place (place_fault_of fault)) result ≡ first_of (location_faults level.now.level face corner) }
@@ -53,7 +53,7 @@ fn corner_fault(level: &Level, face: u32, corner: u32) -> Option<PlaceFault>
     None
 }
 
-// Why the places of a face of level 0 with this corner are not answered.
+// The fault of the places of a face of level 0 with this corner, if they have one.
 fn face_fault(level: &Level, face: u32, corner: u32) -> Option<PlaceFault>
     ensures { option_map (λ fault. Place (place_fault_of fault)) result ≡ first_of (location_faults level.now.level face corner) }
 {
@@ -65,7 +65,7 @@ fn face_fault(level: &Level, face: u32, corner: u32) -> Option<PlaceFault>
     }
 }
 
-// Adds the leaves of the pairs (0, j) to (grid, j) of the grid.
+// Adds the leaves of the pairs (0, j) to (grid, j).
 fn push_row(
     found: &PatchMap,
     options: &MapOptions,
@@ -105,7 +105,7 @@ fn leaves_of(alloc: Global, found: &PatchMap, options: &MapOptions) -> Result<Ve
     Ok(leaves)
 }
 
-// The reply with the leaves of all pairs.
+// The reply with the leaves of all places.
 fn leaves_reply(alloc: Global, found: &PatchMap, options: &MapOptions) -> Result<Reply, Memory>
     requires range { IsReadInRange (Map (map_of_code options.now)) }
     requires found { (mesh : ObjMesh) × CanFind (map_of_code options.now) mesh found.now }
@@ -116,7 +116,7 @@ fn leaves_reply(alloc: Global, found: &PatchMap, options: &MapOptions) -> Result
     Ok(Reply::Map(MapLeaves { grid, leaves }))
 }
 
-// The reply with the leaves of all pairs, unless the face has a fault.
+// The reply with the leaves of all places, or the fault of the face.
 fn reply_unless(
     alloc: Global,
     fault: Option<PlaceFault>,
@@ -159,7 +159,7 @@ fn map_levels<T: FaceTest, F: Fn(&FaceFacts) -> bool, L: Ledger>(
     }
 }
 
-// The leaves of the places of a face of a mesh, from level 0 of the mesh.
+// The leaves of the places of a face, from level 0 of the mesh.
 fn map_from<T: FaceTest, F: Fn(&FaceFacts) -> bool, L: Ledger>(
     alloc: Global,
     level: Level,
@@ -182,7 +182,7 @@ fn map_from<T: FaceTest, F: Fn(&FaceFacts) -> bool, L: Ledger>(
     reply_unless(alloc, fault, &found, options)
 }
 
-// The leaves of the places of a face of a mesh, where a rule selects the faces that the options name.
+// The leaves of the places of a face, for a rule that selects the faces that the options name.
 fn map_by<T: FaceTest, F: Fn(&FaceFacts) -> bool, L: Ledger>(
     alloc: Global,
     mesh: &RawMesh,
@@ -199,23 +199,22 @@ fn map_by<T: FaceTest, F: Fn(&FaceFacts) -> bool, L: Ledger>(
     map_from(alloc, level, rule, options, steps)
 }
 
-/// Returns the leaf of each place of a grid on a face of a mesh, among the sparse levels from 0 to a depth. The depth is at most 10.
+/// Returns the leaf of each place of a grid on a face of a mesh, among the sparse levels from 0 to a depth of at most 10. A leaf is a
+/// face of these levels that is not refined further. The options select the faces to refine.
 ///
-/// The face is below 2^20 and counted from 0, and the grid has from 1 to 256 steps along each side. Where the face is no quad, the places
-/// lie on the child face of `corner`, which is counted from 0; of a quad it is 0. A leaf is a face that is refined no further, and the
-/// faces that the options select are refined further.
+/// The face is counted from 0 and is below 2^20. The grid has 1 to 256 steps along each side. `corner` is 0 for a quad. For any other
+/// face the places are those of the child face of `corner`, counted from 0. The call counts at most one step for each present face of the
+/// levels from 0 to the depth.
 ///
-/// The fault is the first of these:
+/// Errors, in this order; `Memory` may come at any time:
 ///
-/// - `Mesh` where the mesh is no manifold, with its first fault;
-/// - `TooLarge` with the first count of the mesh that passes its limit;
-/// - `TooLarge` with the first level, counted from 1, that has more than 2^22 present faces, or `Overflow` where the half of an edge
-///   overflows there (`Chaikin`);
-/// - `Place` where the mesh has no such face, with how many it has (`NoFace`);
-/// - `Place` where the face has no places with this corner, with how many corners it has (`NoCorner`);
-/// - `Place` where the face is a hole (`IsHole`).
-///
-/// `Memory` may come of any mesh. The call takes at most one step for each present face of the levels from 0 to the depth.
+/// - `Mesh`: the first fault of a mesh that is not a manifold;
+/// - `TooLarge`: the first count of the mesh that passes its limit;
+/// - `TooLarge` or `Overflow` of the kind `Chaikin`: the first level, counted from 1, with more than 2^22 present faces or an overflowing
+///   half of an edge;
+/// - `Place` with `NoFace`: the mesh has no such face; it names the number of faces;
+/// - `Place` with `NoCorner`: the face has no places with this corner; it names the number of corners;
+/// - `Place` with `IsHole`: the face is a hole.
 pub fn leaves<L: Ledger>(
     alloc: Global,
     mesh: &RawMesh,

@@ -1,4 +1,4 @@
-//! Level 0 of a mesh, and level 0 where no level up to a depth has too many faces.
+//! Level 0 of a mesh, and the check that no level up to a depth has too many faces.
 
 ghost use Rattle.std.specs.Prelude.{◌≡◌, ◌+◌, ◌≤◌, ◌<◌, ◌^◌, List, ◌++◌, length, MatchResult};
 ghost use Rattle.std.specs.List.{sum_by};
@@ -23,7 +23,7 @@ use std::alloc::Global;
 use std::sync::ledger::Ledger;
 use uniform_refiner::next_faces;
 
-// The first level from 1 to the depth that would have more than 2^22 faces. Level 1 has `first` faces.
+// The first level from 1 to `depth` that would have more than 2^22 faces. Level 1 has `first` faces.
 fn level_fault(first: u64, depth: u32) -> Option<Counted>
     requires { first < 2 ^ 28 }
     ensures { (polygons : List Polygon) → first ≡ sum_by length polygons → count_named result ≡ first_of (level_count_faults polygons depth) }
@@ -41,7 +41,7 @@ fn level_fault(first: u64, depth: u32) -> Option<Counted>
     None
 }
 
-/// Level 0 of a mesh, or the fault for which the mesh has none.
+/// Level 0 of a mesh, or the fault of the mesh.
 pub(crate) fn level_0<L: Ledger>(
     alloc: Global,
     mesh: &RawMesh,
@@ -59,7 +59,7 @@ pub(crate) fn level_0<L: Ledger>(
     }
 }
 
-/// Level 0 of a mesh, where no level up to a depth has too many faces.
+/// Level 0 of a mesh, after the check that no level up to the depth has too many faces.
 pub(crate) fn level_within<L: Ledger>(
     alloc: Global,
     mesh: &RawMesh,
@@ -72,7 +72,7 @@ pub(crate) fn level_within<L: Ledger>(
     let level = level_0(alloc, mesh, steps)?;
     match level_fault(next_faces(&level), depth) {
         Some(counted) => {
-            // The prover proves a drop by name once for its type.
+            // The prover proves a named drop once for each type.
             drop(level);
             Err(FarFault::TooLarge(counted))
         }

@@ -1,4 +1,6 @@
-//! What each command answers of a mesh: a reply, or the fault for which the command refuses the mesh. No call writes anything.
+//! Answers each command of `far` about a mesh, as a reply or as the fault for which it refuses the mesh. A mesh is any `RawMesh`, a
+//! manifold or not. Each call finds its whole reply before anything is written; no call reads or writes a stream. The pages of `far_text`
+//! and `far_fault` describe replies and faults.
 #![tactic(auto)]
 
 mod counts;

@@ -27,7 +27,7 @@ use std::alloc::Global;
 use std::sync::ledger::Ledger;
 use stencil_apply::StencilTable;
 
-// The fault of a run for that of the table of limit points at a depth.
+// The fault of a run for a fault of the table of limit points at a depth.
 fn limit_fault(fault: QuadFault, depth: u32) -> FarFault
     ensures { fault_of result ≡ limit_fault_of depth fault }
 {
@@ -63,7 +63,7 @@ fn limit_table(
     }
 }
 
-// A level with a table, where there is one.
+// A level with its table, or the fault.
 fn with_table(
     level: Level,
     table: Result<StencilTable, FarFault>,
@@ -75,7 +75,7 @@ fn with_table(
     table.map(|table| ComposedChannel { level, table })
 }
 
-// The level of a mesh at a depth with the table of its limit points, which takes the place of the table of its points.
+// The level of a mesh at a depth with the table of its limit points.
 fn limit_level(
     alloc: Global,
     mesh: &RawMesh,
@@ -87,16 +87,15 @@ fn limit_level(
     ensures { IsLimitComposition mesh.now depth result }
 {
     let limits = limit_table(alloc, mesh, &composed, depth);
-    // The prover proves a drop by name once for its type.
+    // The prover proves a named drop once for each type.
     drop(composed.table);
     with_table(composed.level, limits)
 }
 
-/// Returns the level of a mesh at a depth, with the table of its limit points over the control points of the mesh. The depth is from 1 to
-/// 10.
+/// Returns the level of a mesh at `depth`, from 1 to 10, with the table of its limit points over the control points of the mesh. The call
+/// counts at most one step for each face of the levels from 0 to `depth`.
 ///
-/// The faults are those of [`limit`], in the same order. The call takes at most one step for each face of the levels from 0 to the
-/// depth.
+/// [`limit`] lists the errors.
 pub fn compose_limits<L: Ledger>(
     alloc: Global,
     mesh: &RawMesh,
@@ -112,7 +111,7 @@ pub fn compose_limits<L: Ledger>(
     limit_level(alloc, mesh, composed, depth)
 }
 
-// The reply with a level and its points, where they were found.
+// The reply with a level and its points, or the fault.
 fn with_points(
     mesh: &RawMesh,
     options: &LimitOptions,
@@ -155,29 +154,23 @@ fn limit_reply<L: Ledger>(
 {
     mesh.facts();
     let values = evaluate(alloc, &limits.table, mesh.points(), steps);
-    // The prover proves a drop by name once for its type.
+    // The prover proves a named drop once for each type.
     drop(limits.table);
     with_points(mesh, options, limits.level, values)
 }
 
-/// Returns the level of a mesh at a depth with the limit points of its points. The depth is from 1 to 10.
+/// Returns the level of a mesh at a depth from 1 to 10, with the limit point of each of its points. The reply writes coordinates as
+/// fractions in lowest terms, or rounded to at most 18 decimals. It has no texture and no tags.
 ///
-/// The reply writes coordinates as fractions, or rounded to at most 18 decimals. It writes no texture and no tags.
+/// The call counts one step for each entry of the table of limit points, and at most one for each face of the levels from 0 to the depth.
 ///
-/// The fault is the first of these:
+/// Errors, in this order; `Memory` may come at any time:
 ///
-/// - `Mesh` where the mesh is no manifold, with its first fault;
-/// - `TooLarge` with the first count of the mesh that passes its limit;
-/// - `TooLarge` with the first level from 1 to the depth that would have more than 2^22 faces, and how many;
-/// - `Overflow` or `TooLarge` with the first level, counted from 1, at which something of the positions passes its bound;
-/// - `Limit` with the least point of the level that has no limit point, and why;
-/// - `Overflow` of `LimitRows` with the depth, where the common denominator of a limit point passes its bound (`Denominator`);
-/// - `TooLarge` where the table of the limit points has more than 2^27 entries;
-/// - `Overflow` of `LimitRows` with the depth, where a numerator can pass its bound (`Value`).
-///
-/// At a level the order is `Chaikin`, `Transition`, `Denominator`, a table of more than 2^27 entries (`TooLarge`), `Value`.
-/// `Memory` may come of any mesh. The call takes at most one step for each face of the levels from 0 to the depth. It takes one
-/// more for each entry of the table of the limit points.
+/// - the errors of [`stencils`], for the positions;
+/// - `Limit`: the least point of the level without a limit point, and the cause;
+/// - `Overflow` of `LimitRows` and `Denominator`: the common denominator of a limit point passes its bound;
+/// - `TooLarge`: the table of the limit points has more than 2^27 entries;
+/// - `Overflow` of `LimitRows` and `Value`: a numerator can pass its bound.
 pub fn limit<L: Ledger>(
     alloc: Global,
     mesh: &RawMesh,

@@ -1,4 +1,4 @@
-//! Where the points and the faces of a level of a mesh lie on its level 0.
+//! The parts of level 0 on which the points, edges and faces of a level lie.
 
 ghost use Rattle.std.specs.Prelude.{◌≤◌};
 ghost use Rattle.ratio128.specs.StepsTaken.{StepsTaken};
@@ -16,7 +16,7 @@ use raw_mesh::RawMesh;
 use std::alloc::Global;
 use std::sync::ledger::Ledger;
 
-// The origins of a level of a mesh, from its level 0, where no level to the depth has too many faces.
+// The origins of a level of a mesh, from its level 0. No level up to the depth has too many faces.
 fn origins_from<L: Ledger>(
     alloc: Global,
     level: Level,
@@ -34,9 +34,10 @@ fn origins_from<L: Ledger>(
     }
 }
 
-/// Returns the part of level 0 of a mesh that each point, each edge and each face of its level at a depth lies on. The depth is at most 10.
+/// Returns, for each point, edge and face of a mesh's level at `depth`, the part of level 0 on which it lies. `depth` is at most 10. The
+/// call counts at most one step for each face of the levels from 0 to `depth`.
 ///
-/// The faults are those of `levels`, in the same order. The call takes at most one step for each face of the levels from 0 to the depth.
+/// [`levels`] lists the errors.
 pub fn origins<L: Ledger>(
     alloc: Global,
     mesh: &RawMesh,

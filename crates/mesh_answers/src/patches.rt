@@ -1,4 +1,4 @@
-//! The patch of a face of a mesh's level at a depth.
+//! The patch of a face of a level.
 
 ghost use Rattle.std.specs.Prelude.{◌≡◌, length, Err, IfOk, IsOkAnd, MatchResult};
 ghost use Rattle.far_model.specs.Command.{Patch, IsReadInRange};
@@ -26,7 +26,7 @@ use std::alloc::Global;
 use std::sync::ledger::Ledger;
 use stencil_apply::StencilTable;
 
-// The fault of a run for that of the rows of a patch, on a level with so many faces.
+// The fault of a run for a fault of the rows of a patch, on a level with this number of faces.
 fn patch_fault(fault: PatchFault, count: u32, options: &PatchOptions) -> FarFault
     ensures { fault_of result ≡ patch_fault_of count (patch_of_code options.now) fault }
 {
@@ -66,7 +66,7 @@ fn patch_rows(
     }
 }
 
-// The rows of the patch, from the level and the table of its points, which the function leaves behind.
+// The rows of the patch, from the level and the table of its points. The function drops both.
 fn rows_from(
     alloc: Global,
     mesh: &RawMesh,
@@ -78,17 +78,18 @@ fn rows_from(
     ensures { IsPatchComposition (patch_of_code options.now) mesh.now result }
 {
     let rows = patch_rows(alloc, mesh, &composed, options);
-    // The prover proves a drop by name once for its type.
+    // The prover proves a named drop once for each type.
     drop(composed);
     rows
 }
 
-/// Returns the rows of the patch of a face of a mesh's level at a depth, over the control points of the mesh. The place at i/grid along
-/// the side from corner 0 to corner 1 and at j/grid along the side from corner 0 to corner 3 has the row j · (grid + 1) + i, counted from
-/// 0. The depth is at most 10. The face is below 2^22 and counted from 0, and the grid has from 1 to 64 steps along each side.
+/// Returns the rows of the patch of a face of a mesh's level at a depth, over the control points of the mesh. Row `j * (grid + 1) + i`
+/// gives the point at i/grid from corner 0 towards corner 1 and j/grid towards corner 3. Rows and corners are counted from 0.
 ///
-/// The faults are those of [`patch`], in the same order. The call takes at most one step for each face of the levels from 0 to the
-/// depth.
+/// The depth is at most 10. The face is counted from 0 and is below 2^22. The grid has 1 to 64 steps along each side. The call counts at
+/// most one step for each face of the levels from 0 to the depth.
+///
+/// [`patch`] lists the errors.
 pub fn compose_patch<L: Ledger>(
     alloc: Global,
     mesh: &RawMesh,
@@ -103,7 +104,7 @@ pub fn compose_patch<L: Ledger>(
     rows_from(alloc, mesh, composed, options)
 }
 
-// The reply with the points of a patch, where they were found.
+// The reply with the points of a patch, or the fault.
 fn with_places(
     mesh: &RawMesh,
     options: &PatchOptions,
@@ -140,31 +141,25 @@ fn patch_reply<L: Ledger>(
 {
     mesh.facts();
     let values = evaluate(alloc, &rows, mesh.points(), steps);
-    // The prover proves a drop by name once for its type.
+    // The prover proves a named drop once for each type.
     drop(rows);
     with_places(mesh, options, values)
 }
 
-/// Returns the points of the patch of a face of a mesh's level at a depth: the points of the limit surface at the places of a grid along
-/// the sides of the face. The depth is at most 10. The face is below 2^22 and counted from 0, and the grid has from 1 to 64 steps along
-/// each side.
+/// Returns the points of the limit surface on a face of a mesh's level at a depth, at the places of a grid along its sides. The reply
+/// writes coordinates as fractions in lowest terms.
 ///
-/// The reply writes coordinates as fractions.
+/// The depth is at most 10. The face is counted from 0 and is below 2^22. The grid has 1 to 64 steps along each side. The call counts one
+/// step for each entry of the rows of the patch, and at most one for each face of the levels from 0 to the depth.
 ///
-/// The fault is the first of these:
+/// Errors, in this order; `Memory` may come at any time:
 ///
-/// - `Mesh` where the mesh is no manifold, with its first fault;
-/// - `TooLarge` with the first count of the mesh that passes its limit;
-/// - `TooLarge` with the first level from 1 to the depth that would have more than 2^22 faces, and how many;
-/// - `Overflow` or `TooLarge` with the first level, counted from 1, at which something of the positions passes its bound;
-/// - `Place` where the level has no such face, with how many it has (`NoFace`), or where the face has no patch (`NotRegular`);
-/// - `Overflow` of `Patch` with the depth, where the common denominator of a point of the patch passes its bound (`Denominator`);
-/// - `TooLarge` where the rows of the patch have more than 2^27 entries;
-/// - `Overflow` of `Patch` with the depth, where a numerator can pass its bound (`Value`).
-///
-/// At a level the order is `Chaikin`, `Transition`, `Denominator`, a table of more than 2^27 entries (`TooLarge`), `Value`.
-/// `Memory` may come of any mesh. The call takes at most one step for each face of the levels from 0 to the depth. It takes one
-/// more for each entry of the rows of the patch.
+/// - the errors of [`stencils`], for the positions;
+/// - `Place` with `NoFace`: the level has no such face; it names the number of faces;
+/// - `Place` with `NotRegular`: the face has no patch;
+/// - `Overflow` of `Patch` and `Denominator`: the common denominator of a point of the patch passes its bound;
+/// - `TooLarge`: the rows of the patch have more than 2^27 entries;
+/// - `Overflow` of `Patch` and `Value`: a numerator can pass its bound.
 pub fn patch<L: Ledger>(
     alloc: Global,
     mesh: &RawMesh,

@@ -29,7 +29,7 @@ fn path_of(by: By) -> Path
     }
 }
 
-// The form in which the options ask for a refined mesh.
+// The form of the refined mesh that the options ask for.
 fn form_of(options: &RefineOptions) -> MeshForm
     ensures decimals { result.decimals ≡ options.now.decimals }
     ensures tags { result.tags ≡ options.now.tags }
@@ -40,24 +40,19 @@ fn form_of(options: &RefineOptions) -> MeshForm
     }
 }
 
-/// Returns the level of a mesh at a depth, with its points, and with its texture where the mesh has one. The depth is at most 10.
+/// Returns the level of a mesh at a depth of at most 10, with its points, and with its texture if the mesh has one. The reply writes
+/// numbers as fractions in lowest terms, or rounded to at most 18 decimals. It has tags if the options ask for them.
 ///
-/// The reply writes numbers as fractions, or rounded to at most 18 decimals. It writes tags where the options ask for them.
+/// For the positions the call counts one step for each entry of the table at the depth, or level by level one for each mask term. It
+/// counts the same for the cut mesh of a texture. For each of the two it counts at most one more for each face of the levels from 0 to
+/// the depth.
 ///
-/// The fault is the first of these:
+/// Errors, in this order; `Memory` may come at any time:
 ///
-/// - `Mesh` where the mesh is no manifold, with its first fault;
-/// - `TooLarge` with the first count of the mesh that passes its limit;
-/// - `TooLarge` with the first level from 1 to the depth that would have more than 2^22 faces, and how many;
-/// - `Overflow` or `TooLarge` with the first level, counted from 1, at which something of the positions passes its bound;
-/// - `Overflow` or `TooLarge` with the first level, counted from 1, at which something of the texture passes its bound.
+/// - the errors of [`stencils`], for the positions;
+/// - `Overflow` or `TooLarge`: the first level, counted from 1, at which something of the texture passes its bound.
 ///
-/// At a level the order is `Chaikin`, `Transition`, `Denominator`, a table of more than 2^27 entries (`TooLarge`), `Value`. Level by
-/// level there is no table.
-///
-/// `Memory` may come of any mesh. The call takes at most one step for each face of the levels from 0 to the depth. It takes one
-/// more for each entry of the table at the depth, or for each mask term level by level. For a texture it takes at most one more for
-/// each of these faces. It takes one more for each entry, or mask term, of the cut mesh.
+/// Level by level there is no table, and so no limit on its entries.
 pub fn refine<L: Ledger>(
     alloc: Global,
     mesh: &RawMesh,
@@ -98,7 +93,7 @@ pub fn refine<L: Ledger>(
     }
 }
 
-// The reply with the positions of a mesh at a depth, and its texture there, where it has one.
+// The reply with the positions of a mesh at a depth, and its texture there if it has one.
 fn reply_of(
     mesh: &RawMesh,
     options: &RefineOptions,

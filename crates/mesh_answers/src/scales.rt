@@ -9,7 +9,8 @@ ghost use Rattle.far_fault.specs.View.{fault_of, track_of};
 use far_fault::{FarFault, OverflowKind, Track};
 use stencil_apply::{StencilTable, scale_fits};
 
-/// The table, where its greatest denominator times an amount is within the bound of numbers. The fault names a track and a level.
+/// Returns the table if its greatest denominator times `most` is at most 2^126 - 1. Else the error is `Overflow` of the kind `Value`,
+/// with this track and level.
 pub fn fitting(
     table: StencilTable,
     most: u128,
@@ -24,7 +25,7 @@ pub fn fitting(
     if scale_fits(&table, most) {
         return Ok(table);
     }
-    // The prover proves a drop by name once for its type.
+    // The prover proves a named drop once for each type.
     drop(table);
     Err(FarFault::Overflow {
         track,

@@ -1,4 +1,4 @@
-//! The summary of a sheet that the program makes by itself.
+//! The summary of a sheet of the command `gen`.
 
 ghost use Rattle.std.specs.Prelude.{◌≡◌, ◌+◌, ◌-◌, ◌<◌, ◌≤◌, length, get_or, MatchResult};
 ghost use Rattle.far_model.specs.Command.{Gen, IsMakeInRange, ByTable};
@@ -26,7 +26,7 @@ use sheet_maker::make_sheet;
 use std::alloc::Global;
 use std::sync::ledger::Ledger;
 
-// The last of some values.
+// The last value of a list.
 fn last_of(values: &Vec<Valued<Point3>>) -> Valued<Point3>
     requires { 0 < length values.now.items }
     ensures { (none : valued.Valued point.Point3) → result ≡ get_or values.now.items (length values.now.items - 1) none }
@@ -81,17 +81,14 @@ fn summary_at<L: Ledger>(
     Ok(summary_of(mesh, depth, composed, last_of(&values)))
 }
 
-/// Returns the summary of a sheet of `size` times `size` quads, refined to a depth by its table. The size is from 1 to 256, and the
-/// depth is at most 10.
+/// Returns the summary of a sheet of `size` times `size` quads, from 1 to 256, refined by its table to a depth of at most 10. The call
+/// counts one step for each entry of the table, and at most one more for each face of the levels from 0 to the depth.
 ///
-/// The fault is the first of these:
+/// Errors, in this order; `Memory` may come at any time:
 ///
-/// - `TooLarge` with the first level from 1 to the depth that would have more than 2^22 faces, and how many;
-/// - `Overflow` or `TooLarge` with the first level, counted from 1, at which something of the positions passes its bound.
-///
-/// At a level the order is `Chaikin`, `Transition`, `Denominator`, a table of more than 2^27 entries (`TooLarge`), `Value`.
-/// `Memory` may come of any sheet. The call takes at most one step for each face of the levels from 0 to the depth. It takes one
-/// more for each entry of the table at the depth.
+/// - `TooLarge`: the first level, counted from 1, that would have more than 2^22 faces, and their number;
+/// - `Overflow` or `TooLarge`: the first level, counted from 1, at which something of the positions passes its bound.
+///   [`stencils`] gives the order within a level.
 pub fn generate<L: Ledger>(
     alloc: Global,
     options: &GenOptions,
@@ -104,7 +101,7 @@ pub fn generate<L: Ledger>(
     let mesh = make_sheet(alloc, options.seed, options.size)?;
     let composed = compose(alloc, &mesh, options.depth, steps)?;
     let summary = summary_at(alloc, &mesh, options.depth, &composed, steps);
-    // The prover proves a drop by name once for its type.
+    // The prover proves a named drop once for each type.
     drop(composed);
     Ok(Reply::Sheet(summary?))
 }

@@ -28,14 +28,14 @@ use sparse_faces::SparseValues;
 use std::alloc::Global;
 use std::sync::ledger::Ledger;
 
-// The fault of a run for that of a walk over the sparse levels of a texture.
+// The fault of a run for a fault of a walk over the sparse levels of a texture.
 fn texture_fault(fault: WalkFault) -> FarFault
     ensures { fault_of result ≡ walk_fault_of Texture fault }
 {
     fault_of_walk(fault, Track::Texture)
 }
 
-// The sparse levels of the texture, where these numbers are those of the selected faces of each level.
+// The sparse levels of the texture, given the numbers of the selected faces of each level.
 fn texture_levels<L: Ledger>(
     alloc: Global,
     mesh: &RawMesh,
@@ -60,7 +60,7 @@ fn texture_levels<L: Ledger>(
     }
 }
 
-// The sparse levels of the texture, which follow the selection of the positions.
+// The sparse levels of the texture, at the faces that the positions select.
 fn texture_like<L: Ledger>(
     alloc: Global,
     mesh: &RawMesh,
@@ -81,7 +81,7 @@ fn texture_like<L: Ledger>(
     texture_levels(alloc, mesh, &numbers, texture, options, steps)
 }
 
-// The sparse levels of a mesh as they are written.
+// The sparse levels of a mesh as a reply writes them.
 fn sparse_mesh(
     mesh: &RawMesh,
     options: &SparseOptions,
@@ -96,7 +96,7 @@ fn sparse_mesh(
     }
 }
 
-// The reply with the sparse levels of a mesh, and with those of its texture, where they were found.
+// The reply with the sparse levels of a mesh and of its texture, or the fault.
 fn with_texture(
     mesh: &RawMesh,
     options: &SparseOptions,
@@ -120,7 +120,7 @@ fn with_texture(
     })
 }
 
-// The sparse levels of a mesh with its texture, where the levels of the positions were found.
+// The sparse levels of a mesh with its texture, or the fault of the positions.
 fn textured_reply<L: Ledger>(
     alloc: Global,
     mesh: &RawMesh,
@@ -140,7 +140,7 @@ fn textured_reply<L: Ledger>(
     with_texture(mesh, options, levels, texture)
 }
 
-// The reply with the sparse levels of the positions, and of the texture where the mesh has a channel of it.
+// The reply with the sparse levels of the positions, and of the texture if the mesh has a channel of it.
 fn reply_with<L: Ledger>(
     alloc: Global,
     mesh: &RawMesh,
@@ -181,25 +181,17 @@ fn sparse_from<L: Ledger>(
     reply_with(alloc, mesh, options, levels, texture, steps)
 }
 
-/// Returns the sparse levels of a mesh from level 0 to a depth, with the points that are written of each. The faces that the options
-/// select are refined further. The depth is at most 10.
+/// Returns the sparse levels of a mesh from level 0 to a depth of at most 10, with the points that each level writes. The options select
+/// the faces to refine. If the mesh has texture and the options ask for it, each level also has its texture points; the texture refines
+/// the faces that the positions select.
 ///
-/// Where the mesh has texture and the options ask for it, each level has its texture points too. The texture follows the selection of
-/// the positions: at each level its selected faces have the numbers of theirs.
+/// The reply writes numbers as fractions in lowest terms, or rounded to at most 18 decimals. The call counts at most one step for each
+/// present face of the levels from 0 to the depth and one for each entry of their present points. It counts as much again for a texture.
 ///
-/// The reply writes numbers as fractions, or rounded to at most 18 decimals.
+/// Errors, in this order; `Memory` may come at any time:
 ///
-/// The fault is the first of these:
-///
-/// - `Mesh` where the mesh is no manifold, with its first fault;
-/// - `TooLarge` with the first count of the mesh that passes its limit;
-/// - `TooLarge` or `Overflow` with the first level, counted from 1, at which something of the present faces or points passes its bound;
-/// - `TooLarge` or `Overflow` with the first level, counted from 1, at which something of the texture passes its bound.
-///
-/// At a level the order is more than 2^22 present faces (`TooLarge`), `Chaikin`, `Transition`, `Denominator`, a table of more than 2^27
-/// entries (`TooLarge`), `Value`. `Memory` may come of any mesh. The call takes at most one step for each present face of the levels
-/// from 0 to the depth. It takes at most one more for each entry of their present points. For a texture it takes at most as many again
-/// as its own levels have.
+/// - the errors of [`sparse_points`];
+/// - `TooLarge` or `Overflow`: the first level, counted from 1, at which something of the texture passes its bound.
 pub fn sparse<L: Ledger>(
     alloc: Global,
     mesh: &RawMesh,

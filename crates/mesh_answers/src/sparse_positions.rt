@@ -24,7 +24,7 @@ use sparse_faces::SparseValues;
 use std::alloc::Global;
 use std::sync::ledger::Ledger;
 
-// The sparse levels of the positions, where a rule selects the faces that the options name.
+// The sparse levels of the positions, for a rule that selects the faces that the options name.
 fn points_levels<T: FaceTest, F: Fn(&FaceFacts) -> bool, L: Ledger>(
     alloc: Global,
     mesh: &RawMesh,
@@ -50,7 +50,7 @@ fn points_levels<T: FaceTest, F: Fn(&FaceFacts) -> bool, L: Ledger>(
     }
 }
 
-/// The sparse levels of the positions of a mesh, from the channel of the positions. The options name the faces that are selected.
+/// The sparse levels of the positions of a mesh, from the channel of the positions. The options select the faces to refine.
 pub(crate) fn selected_points<L: Ledger>(
     alloc: Global,
     mesh: &RawMesh,
@@ -78,18 +78,20 @@ pub(crate) fn selected_points<L: Ledger>(
     }
 }
 
-/// Returns the sparse levels of the positions of a mesh from level 0 to a depth, with the points that are written of each. The faces that
-/// the options select are refined further. The depth is at most 10. The call does not look at the decimals or at `uv`.
+/// Returns the sparse levels of the positions of a mesh from level 0 to a depth of at most 10, with the points that each level writes.
+/// The options select the faces to refine; the call ignores their decimals and `uv`.
 ///
-/// The fault is the first of these:
+/// The call counts at most one step for each present face of the levels from 0 to the depth and one for each entry of their present
+/// points.
 ///
-/// - `Mesh` where the mesh is no manifold, with its first fault;
-/// - `TooLarge` with the first count of the mesh that passes its limit;
-/// - `TooLarge` or `Overflow` with the first level, counted from 1, at which something of the present faces or points passes its bound.
+/// Errors, in this order; `Memory` may come at any time:
 ///
-/// At a level the order is more than 2^22 present faces (`TooLarge`), `Chaikin`, `Transition`, `Denominator`, a table of more than 2^27
-/// entries (`TooLarge`), `Value`. `Memory` may come of any mesh. The call takes at most one step for each present face of the levels
-/// from 0 to the depth. It takes at most one more for each entry of their present points.
+/// - `Mesh`: the first fault of a mesh that is not a manifold;
+/// - `TooLarge`: the first count of the mesh that passes its limit;
+/// - `TooLarge` or `Overflow`: the first level, counted from 1, at which something of the present faces or points passes its bound.
+///
+/// Within a level the order is: more than 2^22 present faces (`TooLarge`), `Chaikin`, `Transition`, `Denominator`, a table of more than
+/// 2^27 entries (`TooLarge`), `Value`.
 pub fn sparse_points<L: Ledger>(
     alloc: Global,
     mesh: &RawMesh,

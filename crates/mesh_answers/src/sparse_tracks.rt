@@ -1,4 +1,4 @@
-//! The positions and the texture of a mesh, before its sparse levels are made.
+//! The positions and the texture of a mesh before its sparse levels.
 
 ghost use Rattle.std.specs.Prelude.{◌≡◌, ◌+◌, length, IfOk, MatchResult, List};
 ghost use Rattle.subdiv_model.specs.Fault.{Fault};
@@ -21,7 +21,7 @@ use raw_mesh::RawMesh;
 use std::alloc::Global;
 use std::sync::ledger::Ledger;
 
-// The channel of the texture that is asked for, where the mesh has one.
+// The channel of the texture, if the mesh has one and the options ask for it.
 fn sparse_texture<L: Ledger>(
     alloc: Global,
     mesh: &RawMesh,
@@ -52,7 +52,7 @@ fn tracks_from<L: Ledger>(
     ensures texture { IfOk result (λ tracks. IsSparseBase (sparse_uv (sparse_of_code options.now) mesh.now) mesh.now tracks.texture) }
     ensures steps { StepsTaken result steps.old steps.new 0 (sparse_cut_steps mesh.now (sparse_uv (sparse_of_code options.now) mesh.now)) }
 {
-    // The cut mesh is made before the positions take level 0 over.
+    // This makes the cut mesh before the positions take level 0 over.
     let texture = sparse_texture(alloc, mesh, &level, options, steps)?;
     Ok(BaseTracks {
         positions: position_channel(mesh, level),
@@ -60,7 +60,7 @@ fn tracks_from<L: Ledger>(
     })
 }
 
-/// The channels of a mesh whose sparse levels are asked for.
+/// The channels of a mesh for its sparse levels.
 pub(crate) fn sparse_tracks<L: Ledger>(
     alloc: Global,
     mesh: &RawMesh,

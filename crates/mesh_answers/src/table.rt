@@ -41,10 +41,10 @@ fn compose_from<L: Ledger>(
     }
 }
 
-/// Returns the level of a mesh at a depth, with the table of its points over its control points. The depth is at most 10.
+/// Returns the level of a mesh at `depth`, at most 10, with the table of its points over the control points. The call counts at most one
+/// step for each face of the levels from 0 to `depth`.
 ///
-/// The faults are those of [`stencils`], in the same order. The call takes at most one step for each face of the levels from 0 to
-/// the depth.
+/// [`stencils`] lists the errors.
 pub fn compose<L: Ledger>(
     alloc: Global,
     mesh: &RawMesh,
@@ -59,17 +59,17 @@ pub fn compose<L: Ledger>(
     compose_from(alloc, mesh, level, depth, steps)
 }
 
-/// Returns the table of the points of a mesh at a depth over its control points. The depth is at most 10.
+/// Returns the table of the points of a mesh at `depth`, at most 10, over its control points. The call counts at most one step for each
+/// face of the levels from 0 to `depth`.
 ///
-/// The fault is the first of these:
+/// Errors, in this order; `Memory` may come at any time:
 ///
-/// - `Mesh` where the mesh is no manifold, with its first fault;
-/// - `TooLarge` with the first count of the mesh that passes its limit;
-/// - `TooLarge` with the first level from 1 to the depth that would have more than 2^22 faces, and how many;
-/// - `Overflow` or `TooLarge` with the first level, counted from 1, at which something of the positions passes its bound.
+/// - `Mesh`: the first fault of a mesh that is not a manifold;
+/// - `TooLarge`: the first count of the mesh that passes its limit;
+/// - `TooLarge`: the first level, counted from 1, that would have more than 2^22 faces, and their number;
+/// - `Overflow` or `TooLarge`: the first level, counted from 1, at which something of the positions passes its bound.
 ///
-/// At a level the order is `Chaikin`, `Transition`, `Denominator`, a table of more than 2^27 entries (`TooLarge`), `Value`.
-/// `Memory` may come of any mesh. The call takes at most one step for each face of the levels from 0 to the depth.
+/// Within a level the order is `Chaikin`, `Transition`, `Denominator`, a table of more than 2^27 entries (`TooLarge`), `Value`.
 pub fn stencils<L: Ledger>(
     alloc: Global,
     mesh: &RawMesh,
@@ -80,7 +80,7 @@ pub fn stencils<L: Ledger>(
     ensures { IsAnswerTo (Stencils depth) mesh.now result steps.old steps.new }
 {
     let composed = compose(alloc, mesh, depth, steps)?;
-    // The prover proves a drop by name once for its type.
+    // The prover proves a named drop once for each type.
     drop(composed.level);
     Ok(Reply::Table(composed.table))
 }

@@ -9,9 +9,10 @@ use obj_tags::{ObjFault, ReadFault, read_obj};
 use raw_mesh::RawMesh;
 use std::alloc::Global;
 
-/// Returns the mesh of an OBJ text of at most 2^28 bytes. Its positions stand over a multiple of ten to `scale`, which is at most 18.
+/// Returns the mesh of an OBJ text of at most 2^28 bytes. The common denominator of its positions is a multiple of ten to the power
+/// `scale`, which is at most 18.
 ///
-/// The fault is `Obj` with the least bad line, counted from 1, and its cause, or `Memory`.
+/// Errors: `Obj` with the first bad line, counted from 1, and its cause; `Memory`.
 pub fn mesh_of_text(alloc: Global, bytes: &[u8], scale: u32) -> Result<RawMesh, FarFault>
     requires short { length bytes.now ≤ 2 ^ 28 }
     requires scale { scale ≤ 18 }

@@ -22,17 +22,18 @@ use std::alloc::Global;
 use std::sync::ledger::Ledger;
 use stencil_apply::StencilTable;
 
-/// A level of the cut mesh of a mesh, with the table of its texture points.
+/// A level of a mesh's cut mesh, with the table of its texture points.
 #[derive(Drop)]
 pub struct ComposedTexture {
+    /// The level of the cut mesh.
     pub level: Level,
-    /// The rows of the points of the level over the points of the cut mesh.
+    /// The rows of the level's points over the points of the cut mesh.
     pub table: StencilTable,
     /// The numerators of the points of the cut mesh, over the common denominator of the texture.
     pub values: Vec<Point2>,
 }
 
-// The channel of the texture of a mesh of which no level up to a depth has too many faces, where the mesh has texture.
+// The channel of the texture, if the mesh has texture. No level up to the depth has too many faces.
 fn texture_base<L: Ledger>(
     alloc: Global,
     mesh: &RawMesh,
@@ -45,7 +46,7 @@ fn texture_base<L: Ledger>(
 {
     let level = level_within(alloc, mesh, depth, steps)?;
     let texture = cut_texture(alloc, mesh, &level, uv, steps);
-    // The prover proves a drop by name once for its type.
+    // The prover proves a named drop once for each type.
     drop(level);
     Ok(texture?)
 }
@@ -77,7 +78,7 @@ fn table_of_texture<L: Ledger>(
     }
 }
 
-// A level with its table and the values of the cut mesh, where the table was found.
+// A level with its table and the values of the cut mesh, or the fault of the table.
 fn with_values(
     composed: Result<ComposedChannel, FarFault>,
     values: Vec<Point2>,
@@ -95,7 +96,7 @@ fn with_values(
     })
 }
 
-// The table of a texture at a depth with the values of the cut mesh, from its channel with them.
+// The table of a texture at a depth with the values of the cut mesh, from its channel with these values.
 fn texture_from<L: Ledger>(
     alloc: Global,
     mesh: &RawMesh,
@@ -114,19 +115,19 @@ fn texture_from<L: Ledger>(
     with_values(composed, values)
 }
 
-/// Returns the level of the cut mesh of a mesh at a depth, with the table of its texture points over those of the cut mesh, and their
-/// values. It returns `None` where the mesh has no texture. The depth is at most 10.
+/// Returns the level of a mesh's cut mesh at `depth`, at most 10, with the table of its texture points. The control points of the table
+/// are the points of the cut mesh; the call returns their values too. It returns `None` for a mesh without texture.
 ///
-/// The fault is the first of these:
+/// The call counts at most one step for each face of level 0. For a texture it adds at most one for each face of the levels from 0 to
+/// `depth`.
 ///
-/// - `Mesh` where the mesh is no manifold, with its first fault;
-/// - `TooLarge` with the first count of the mesh that passes its limit;
-/// - `TooLarge` with the first level from 1 to the depth that would have more than 2^22 faces, and how many;
-/// - `Overflow` or `TooLarge` with the first level, counted from 1, at which something of the texture passes its bound.
+/// Errors, in this order; `Memory` may come at any time:
 ///
-/// At a level the order is `Chaikin`, `Transition`, `Denominator`, a table of more than 2^27 entries (`TooLarge`), `Value`.
-/// `Memory` may come of any mesh. The call takes at most one step for each face of level 0. Where the mesh has texture, it takes at
-/// most one more for each face of the levels from 0 to the depth.
+/// - `Mesh`: the first fault of a mesh that is not a manifold;
+/// - `TooLarge`: the first count of the mesh that passes its limit;
+/// - `TooLarge`: the first level, counted from 1, that would have more than 2^22 faces, and their number;
+/// - `Overflow` or `TooLarge`: the first level, counted from 1, at which something of the texture passes its bound. [`stencils`] gives
+///   the order within a level.
 pub fn compose_texture<L: Ledger>(
     alloc: Global,
     mesh: &RawMesh,

@@ -1,4 +1,4 @@
-//! The positions and the texture of a mesh, before they are refined.
+//! The positions and the texture of a mesh before refinement.
 
 ghost use Rattle.std.specs.Prelude.{◌≡◌, ◌+◌, true, length, map, max, Some, None, IfOk, MatchResult};
 ghost use Rattle.raw_mesh.specs.View.{point_of, texture_of as value_of};
@@ -35,15 +35,15 @@ pub(crate) struct BaseTexture {
     pub(crate) values: Vec<Point2>,
 }
 
-/// The channels of a mesh: that of its positions, and that of its texture, where it has one. The points of the mesh are the values
-/// of its positions.
+/// The channels of a mesh: that of its positions, and that of its texture if it has one. The points of the mesh are the values of its
+/// positions.
 #[derive(Drop)]
 pub(crate) struct BaseTracks {
     pub(crate) positions: BaseChannel,
     pub(crate) texture: Option<BaseTexture>,
 }
 
-// What stays sharp at the seams. A linear texture has smooth seams.
+// The part of a seam that stays sharp. A linear texture has smooth seams.
 fn seams_of(uv: Uv) -> SeamMode
     ensures { mode_of result ≡ seams_of (uv_of_code uv) }
 {
@@ -54,7 +54,7 @@ fn seams_of(uv: Uv) -> SeamMode
     }
 }
 
-// The scheme by which a texture is refined.
+// The scheme that refines a texture.
 fn scheme_of(uv: Uv) -> Scheme
     ensures { rules.scheme_of result ≡ scheme_of (uv_of_code uv) }
 {
@@ -64,7 +64,7 @@ fn scheme_of(uv: Uv) -> Scheme
     }
 }
 
-// The greatest amount of the coordinates, and 0 of no point.
+// The greatest amount of the coordinates, or 0 without points.
 fn greatest_of_points(points: &[Point3]) -> u128
     ensures { result ≡ greatest_amount (point_numbers (map point_of points.now)) }
 {
@@ -80,7 +80,7 @@ fn greatest_of_points(points: &[Point3]) -> u128
     greatest
 }
 
-// The greatest amount of the texture values, and 0 of no value.
+// The greatest amount of the texture values, or 0 without values.
 fn greatest_of_values(values: &[Point2]) -> u128
     ensures { result ≡ greatest_amount (texture_numbers (map value_of values.now)) }
 {
@@ -93,7 +93,7 @@ fn greatest_of_values(values: &[Point2]) -> u128
     greatest
 }
 
-/// The greater of the greatest amount of the coordinates of a mesh and their common denominator.
+/// Returns the greatest amount of a coordinate of a mesh, or the common denominator of the coordinates if that is greater.
 pub fn most_of(mesh: &RawMesh) -> u128
     ensures { result ≡ max (positions_of mesh.now).greatest (positions_of mesh.now).common }
 {
@@ -126,7 +126,7 @@ fn texture_channel(mesh: &RawMesh, channel: Channel, uv: Uv) -> BaseTexture
     }
 }
 
-/// The channel of the texture of a mesh, where it has one.
+/// The channel of the texture of a mesh, if it has one.
 pub(crate) fn cut_texture<L: Ledger>(
     alloc: Global,
     mesh: &RawMesh,
@@ -158,7 +158,7 @@ fn tracks_from<L: Ledger>(
     ensures texture { IfOk result (λ tracks. IsBaseTexture (uv_of_code uv) mesh.now tracks.texture) }
     ensures steps { StepsTaken result steps.old steps.new 0 (where_textured mesh.now (length mesh.now.faces)) }
 {
-    // The cut mesh is made before the positions take level 0 over.
+    // This makes the cut mesh before the positions take level 0 over.
     let texture = cut_texture(alloc, mesh, &level, uv, steps)?;
     Ok(BaseTracks {
         positions: position_channel(mesh, level),
@@ -166,7 +166,7 @@ fn tracks_from<L: Ledger>(
     })
 }
 
-/// The channels of a mesh of which no level up to a depth has too many faces.
+/// The channels of a mesh. No level up to the depth has too many faces.
 pub(crate) fn base_tracks<L: Ledger>(
     alloc: Global,
     mesh: &RawMesh,

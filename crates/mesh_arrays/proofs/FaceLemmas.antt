@@ -6,7 +6,7 @@ use Rattle.std.proofs.lemmas.List.Sums.{sum-map, sum_by-append, sum_by-take-le}
 use Rattle.std.proofs.lemmas.Grind.{flat_map-append}
 use Rattle.std.proofs.lemmas.Option.{get_or_from_slice_get, slice_get_within}
 
--- lists of the same sizes have as many items together
+-- Lists with equal sizes have equally many items in all.
 pub same-count : (xs ys : List (List ℕ)) → map length xs ≡ map length ys → sum_by length xs ≡ sum_by length ys
 same-count xs ys same = sym (sum-map length xs) ∙ ap sum same ∙ sum-map length ys
 

@@ -1,4 +1,4 @@
--- Why a caller's arrays are no mesh.
+-- The first fault of arrays that are not a mesh.
 use Rattle.std.specs.Prelude.{◌≡◌, None, Some, Option, option_map, nat_lt, map, if◌then◌else◌}
 use Rattle.std.specs.Option.{option_or}
 use Rattle.std.specs.List.{position}
@@ -41,7 +41,7 @@ pub record ArePartsOf (arrays : MeshArrays) (parts : MeshParts) : Type 0 where
   pub texture_corners : parts.texture_corners.items ≡ arrays.texture_corners.now
   pub tags : AreTagsOf arrays parts.tags
 
--- the first thing that is wrong with the options and the sharpness of tags
+-- The first fault of the options and of the sharpness of tags.
 abbrev pub bad_option : MeshArrays → Option ArraysFault
 bad_option arrays =
     option_or (if (nat_lt 2 arrays.boundary) then (Some fault.Boundary) else None)
@@ -49,13 +49,14 @@ bad_option arrays =
     (option_or (option_map fault.CreaseSharpness (position (λ edge. is_bad_denominator edge.sharpness_den) arrays.creases.now))
     (option_map fault.CornerSharpness (position (λ point. is_bad_denominator point.sharpness_den) arrays.corner_tags.now))))
 
--- nothing is wrong with the options, and these parts have the numbers of the arrays
+-- The options have no fault, the parts have the numbers of the arrays, and their first fault is `bad`.
 pub record IsPart (arrays : MeshArrays) (bad : Option BadPart) : Type 0 where
   pub options : bad_option arrays ≡ None
   pub parts : MeshParts
   pub numbers : ArePartsOf arrays parts
   pub found : bad_part parts ≡ bad
 
+-- The fault is the first of the arrays, or memory ran out.
 abbrev pub IsArraysFault : MeshArrays → ArraysFault → Type 0
 IsArraysFault arrays (fault.Part bad) = IsPart arrays (Some bad)
 IsArraysFault arrays fault.Memory = Unit {0}
@@ -64,12 +65,12 @@ IsArraysFault arrays fault.Method = bad_option arrays ≡ Some fault.Method
 IsArraysFault arrays (fault.CreaseSharpness place) = bad_option arrays ≡ Some (fault.CreaseSharpness place)
 IsArraysFault arrays (fault.CornerSharpness place) = bad_option arrays ≡ Some (fault.CornerSharpness place)
 
--- the fault of arrays that stands for one of their parts
+-- The fault of the arrays for a fault of their parts.
 abbrev pub fault_of_parts : PartsFault → ArraysFault
 fault_of_parts (parts.Bad bad) = fault.Part bad
 fault_of_parts parts.Memory = fault.Memory
 
--- the mesh of the arrays, with which nothing is wrong
+-- The arrays have no fault, and the mesh is theirs.
 pub record IsMeshOf (arrays : MeshArrays) (mesh : ObjMesh) : Type 0 where
   pub good : IsPart arrays None
   pub same : mesh ≡ mesh_of_arrays arrays

@@ -1,4 +1,4 @@
--- A mesh in a caller's arrays: how long they have to be, and what is written there.
+-- The arrays of a caller for a mesh: their lengths, and their contents after the write.
 use Rattle.std.specs.Prelude.{ℕ, ◌≡◌, ◌≤◌, ◌&&◌, Bool, true, nat_le, List, length, map, take, if◌then◌else◌}
 use Rattle.std.specs.List.{flat_map, sum_by}
 use Rattle.subdiv_model.specs.ObjMesh.{ObjMesh}
@@ -9,7 +9,7 @@ use Rattle.mesh_arrays.specs.declared.places.MeshCounts.{MeshCounts}
 use Rattle.mesh_arrays.specs.declared.places.MeshOptions.{MeshOptions}
 use Rattle.mesh_arrays.specs.declared.places.MeshPlaces.{MeshPlaces}
 
--- how many items each array of a mesh has
+-- How many items each array of a mesh has.
 abbrev pub counts_of : ObjMesh → MeshCounts
 counts_of mesh = record {
   points = length mesh.points;
@@ -22,7 +22,7 @@ counts_of mesh = record {
   holes = length mesh.holes;
 }
 
--- each array has a place for each item
+-- Whether each array has a place for each item.
 abbrev pub are_long_enough : MeshCounts → MeshPlaces → Bool
 are_long_enough counts places =
     nat_le counts.points (length places.points.now)
@@ -34,7 +34,7 @@ are_long_enough counts places =
     && (nat_le counts.corner_tags (length places.corner_tags.now)
     && nat_le counts.holes (length places.holes.now)))))))
 
--- the common denominators, the boundary mode and the method are those of the mesh
+-- The common denominators, the boundary mode and the method are those of the mesh.
 pub record AreOptionsOf (mesh : ObjMesh) (options : MeshOptions) : Type 0 where
   pub scale : natural_of options.scale ≡ mesh.common
   pub texture_scale : natural_of options.texture_scale ≡ mesh.texture_common
@@ -43,11 +43,11 @@ pub record AreOptionsOf (mesh : ObjMesh) (options : MeshOptions) : Type 0 where
   pub method : method_of_code options.method ≡ mesh.method
   pub method_known : options.method ≤ 1
 
--- the corners of the faces in the texture are the first items
+-- The array begins with the texture corners of the faces.
 abbrev pub IsTextureWritten : ObjMesh → List ℕ → Type 0
 IsTextureWritten mesh out = take (sum_by length mesh.faces) out ≡ flat_map (λ face. face) mesh.texture_corners
 
--- The first items of the arrays are the lists of the mesh; faces stand one behind the other.
+-- Each array begins with the list of the mesh that it receives, faces one after another.
 pub record IsWritten (mesh : ObjMesh) (places : MeshPlaces) : Type 0 where
   pub points : map point_of (take (length mesh.points) places.points.now) ≡ mesh.points
   pub texture : map value_of (take (length mesh.texture) places.texture.now) ≡ mesh.texture
@@ -58,7 +58,7 @@ pub record IsWritten (mesh : ObjMesh) (places : MeshPlaces) : Type 0 where
   pub corner_tags : map corner_tag_of (take (length mesh.corner_tags) places.corner_tags.now) ≡ mesh.corner_tags
   pub holes : take (length mesh.holes) places.holes.now ≡ mesh.holes
 
--- The arrays are where they were, and as long.
+-- The arrays have the addresses and the lengths they had.
 pub record AreSamePlaces (old new : MeshPlaces) : Type 0 where
   pub points : IsSameArray old.points new.points
   pub texture : IsSameArray old.texture new.texture

@@ -2,7 +2,7 @@
 
 use flat_arrays::Wide;
 
-/// A point as three numerators over a common denominator, in two's complement.
+/// A point: three numerators over a common denominator, in two's complement.
 #[repr(C)]
 #[derive(Clone, Copy, Debug, PartialEq, Eq)]
 pub struct WidePoint {
@@ -11,7 +11,7 @@ pub struct WidePoint {
     pub z: Wide,
 }
 
-/// A texture value as two numerators over a common denominator, in two's complement.
+/// A texture value: two numerators over a common denominator, in two's complement.
 #[repr(C)]
 #[derive(Clone, Copy, Debug, PartialEq, Eq)]
 pub struct WideValue {
@@ -48,20 +48,20 @@ pub struct MeshArrays<'a> {
     pub texture: &'a [WideValue],
     /// The common denominator of the texture values, from 1 to 10^37.
     pub texture_scale: Wide,
-    /// Of each face, how many corners it has.
+    /// How many corners each face has.
     pub face_sizes: &'a [u32],
-    /// The points of the corners of all faces, one face after the other.
+    /// The points of the corners of all faces, face after face.
     pub corners: &'a [u32],
-    /// The texture values of these corners; empty where the mesh has no texture.
+    /// The texture values of these corners; empty if the mesh has no texture.
     pub texture_corners: &'a [u32],
-    /// Sharp pairs of points. The last for a pair counts.
+    /// Sharp pairs of points. The last one for a pair counts.
     pub creases: &'a [SharpEdge],
-    /// Sharp points. The last for a point counts.
+    /// Sharp points. The last one for a point counts.
     pub corner_tags: &'a [SharpPoint],
-    /// Faces that are holes.
+    /// The faces that are holes.
     pub holes: &'a [u32],
-    /// The boundary mode: 0, 1 or 2, as the tag `interpolateboundary` has it.
+    /// The boundary mode: 0, 1 or 2, as in the tag `interpolateboundary`.
     pub boundary: u32,
-    /// How the sharpness of creases falls: 0 by one a level, 1 by the rule `chaikin`.
+    /// How the sharpness of creases decays: 0 by one for each level, 1 by the rule `chaikin`.
     pub method: u32,
 }

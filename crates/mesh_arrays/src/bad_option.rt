@@ -1,4 +1,4 @@
-//! What is wrong with the options of arrays and with the sharpness of their tags.
+//! The first fault of the options and of the sharpness of tags.
 
 ghost use Rattle.std.specs.Prelude.{◌≡◌, None};
 ghost use Rattle.std.specs.List.{position};
@@ -28,7 +28,7 @@ fn bad_corner_tag(tags: &[SharpPoint]) -> Option<usize>
     tags.iter().position(|point| is_bad(point.sharpness_den))
 }
 
-// The first thing that is wrong.
+// The first fault of the options, then of the sharpness of creases and corner tags.
 pub(crate) fn first_bad_option(arrays: &MeshArrays) -> Option<ArraysFault>
     ensures { result ≡ bad_option arrays.now }
 {

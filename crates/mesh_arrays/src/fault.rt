@@ -1,4 +1,4 @@
-//! Why arrays are no mesh.
+//! The fault that kept arrays from becoming a mesh.
 
 ghost use Rattle.std.specs.Prelude.{◌≡◌};
 ghost use Rattle.mesh_arrays.specs.Faults as spec;
@@ -8,18 +8,18 @@ use raw_mesh::{BadPart, PartsFault};
 use std::alloc::AllocError;
 use std::fmt;
 
-/// Why arrays are no mesh. They are tried in the order of these variants. A place is that of an item in its array, counted from 0.
+/// The fault that kept arrays from becoming a mesh. Faults are tested in the order of these variants. Places are counted from 0.
 #[derive(Clone, Copy, Debug, PartialEq, Eq)]
 pub enum ArraysFault {
     /// The boundary mode is above 2.
     Boundary,
     /// The method is above 1.
     Method,
-    /// The denominator of the sharpness of the crease at this place is not from 1 to 2^60.
+    /// The sharpness of the crease at this place has a denominator that is not from 1 to 2^60.
     CreaseSharpness(usize),
-    /// The denominator of the sharpness of the corner tag at this place is not from 1 to 2^60.
+    /// The sharpness of the corner tag at this place has a denominator that is not from 1 to 2^60.
     CornerSharpness(usize),
-    /// A part is refused.
+    /// The first part at fault.
     Part(BadPart),
     /// Memory ran out.
     Memory,
@@ -60,7 +60,7 @@ impl From<AllocError> for ArraysFault {
     }
 }
 
-// The fault of arrays that stands for one of their parts.
+// The fault of the arrays for a fault of their parts.
 pub(crate) fn fault_of_parts(fault: PartsFault) -> ArraysFault
     ensures { result ≡ spec.fault_of_parts fault }
 {

@@ -1,4 +1,7 @@
-//! A mesh in arrays that a caller owns, as C holds it, made into a mesh of the library and written from one.
+//! Turns arrays of a caller, as C holds them, into a mesh of the library, and writes a mesh into such arrays.
+//!
+//! Numerators are 128-bit integers in two words (`Wide`), over one common denominator. The sharpness of a tag is a fraction. Points,
+//! texture values and faces are counted from 0.
 #![tactic(auto)]
 
 mod arrays;

@@ -55,7 +55,7 @@ fn values_of(alloc: Global, values: &[WideValue]) -> Result<Vec<Point2>, AllocEr
     Ok(all)
 }
 
-// The sharpness of a fraction whose denominator is from 1 to 2^60.
+// The sharpness of a fraction with a denominator from 1 to 2^60.
 fn sharpness(num: u64, den: u64) -> Sharpness
     requires { is_bad_denominator den ≡ false }
     ensures { sharpness_of result ≡ sharpness_of_fraction (num, den) }
@@ -63,7 +63,7 @@ fn sharpness(num: u64, den: u64) -> Sharpness
     Sharpness::new(num, den)
 }
 
-// The crease of an edge whose sharpness is over a denominator from 1 to 2^60.
+// The crease of an edge whose sharpness has a denominator from 1 to 2^60.
 fn crease(edge: &SharpEdge) -> Crease
     requires { is_bad_denominator edge.now.sharpness_den ≡ false }
     ensures { view.crease_of result ≡ crease_of edge.now }
@@ -86,7 +86,7 @@ fn creases_of(alloc: Global, creases: &[SharpEdge]) -> Result<Vec<Crease>, Alloc
     Ok(all)
 }
 
-// The tag of a point whose sharpness is over a denominator from 1 to 2^60.
+// The tag of a point whose sharpness has a denominator from 1 to 2^60.
 fn corner_tag(tag: &SharpPoint) -> CornerTag
     requires { is_bad_denominator tag.now.sharpness_den ≡ false }
     ensures { view.corner_tag_of result ≡ corner_tag_of tag.now }
@@ -164,10 +164,10 @@ fn parts_of(alloc: Global, arrays: &MeshArrays) -> Result<MeshParts, AllocError>
     })
 }
 
-/// Returns the mesh of the arrays. It has texture where there is a face, and a texture corner for each corner.
+/// Returns the mesh of the arrays. It has texture if there is a face and a texture corner for each corner.
 ///
-/// The fault is the first thing that is wrong, in the order of the variants of [`ArraysFault`], and of those of `BadPart`. Of one kind it
-/// is the least place. `Memory` may come of any arrays.
+/// The error is the first fault, in the order of the variants of [`ArraysFault`], and for `Part` of those of `BadPart`. Within one kind it
+/// is at the least place. `Memory`: memory ran out.
 pub fn mesh_of_arrays(alloc: Global, arrays: &MeshArrays) -> Result<RawMesh, ArraysFault>
     ensures { MatchResult result (IsMeshOf arrays.now) (IsArraysFault arrays.now) }
 {

@@ -3,7 +3,7 @@
 use crate::arrays::{SharpEdge, SharpPoint, WidePoint, WideValue};
 use flat_arrays::Wide;
 
-/// How many items the arrays of a mesh have.
+/// How many items each array of a mesh has.
 #[repr(C)]
 #[derive(Clone, Copy, Debug, PartialEq, Eq)]
 pub struct MeshCounts {
@@ -12,14 +12,14 @@ pub struct MeshCounts {
     pub faces: u64,
     /// The corners of all faces.
     pub corners: u64,
-    /// As many as corners where the mesh has texture, and else 0.
+    /// As many as corners if the mesh has texture, and 0 otherwise.
     pub texture_corners: u64,
     pub creases: u64,
     pub corner_tags: u64,
     pub holes: u64,
 }
 
-/// What a mesh has beside its arrays: the common denominators, the boundary mode and the method, as at `MeshArrays`.
+/// The common denominators, the boundary mode and the method of a mesh, as in `MeshArrays`.
 #[repr(C)]
 #[derive(Clone, Copy, Debug, PartialEq, Eq)]
 pub struct MeshOptions {
@@ -29,7 +29,7 @@ pub struct MeshOptions {
     pub method: u32,
 }
 
-/// Arrays of a caller for a mesh to be written into. What each contains is said at `MeshArrays`.
+/// Arrays of a caller that receive a mesh. `MeshArrays` describes their contents.
 #[repr(C)]
 #[derive(Drop)]
 pub struct MeshPlaces<'a> {

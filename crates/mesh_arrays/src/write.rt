@@ -26,7 +26,7 @@ fn count_corners(mesh: &RawMesh) -> u64
     count
 }
 
-/// Returns how many items the arrays of a mesh have.
+/// Returns how many items each array of a mesh has.
 pub fn counts_of(mesh: &RawMesh) -> MeshCounts
     ensures { result ≡ spec.counts_of mesh.now }
 {
@@ -64,7 +64,7 @@ fn code_of_method(method: Method) -> u32
     }
 }
 
-/// Returns what a mesh has beside its arrays.
+/// Returns the common denominators, the boundary mode and the method of a mesh.
 pub fn options_of(mesh: &RawMesh) -> MeshOptions
     ensures { spec.AreOptionsOf mesh.now result }
 {
@@ -76,7 +76,7 @@ pub fn options_of(mesh: &RawMesh) -> MeshOptions
     }
 }
 
-/// Whether each array has a place for each of so many items.
+/// Whether each array has a place for each of its items.
 pub fn are_long_enough(counts: &MeshCounts, places: &MeshPlaces) -> bool
     ensures { result ≡ spec.are_long_enough counts.now places.now }
 {
@@ -90,7 +90,7 @@ pub fn are_long_enough(counts: &MeshCounts, places: &MeshPlaces) -> bool
         && counts.holes <= places.holes.len() as u64
 }
 
-// The corners of faces in the texture, where the mesh has texture.
+// Writes the texture corners of the faces if the mesh has texture.
 fn put_texture(mesh: &RawMesh, out: &mut [u32])
     requires { mesh.now.has_texture ≡ true → sum_by length mesh.now.faces ≤ length out.old }
     ensures written { mesh.now.has_texture ≡ true → spec.IsTextureWritten mesh.now out.new }
@@ -102,7 +102,7 @@ fn put_texture(mesh: &RawMesh, out: &mut [u32])
     }
 }
 
-/// Writes a mesh into arrays, from their front. Each has a place for each of the items that [`counts_of`] counts.
+/// Writes a mesh to the start of the arrays. Each array has a place for each item that [`counts_of`] counts.
 pub fn put_mesh(mesh: &RawMesh, places: &mut MeshPlaces)
     requires { spec.are_long_enough (spec.counts_of mesh.now) places.old ≡ true }
     ensures written { spec.IsWritten mesh.now places.new }

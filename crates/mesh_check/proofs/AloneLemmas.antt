@@ -1,4 +1,4 @@
--- Numbers that ascend: those that stand once are those that neither the one before nor the one behind is.
+-- Ascending numbers: a number occurs once exactly where it equals neither neighbour.
 use Rattle.std.proofs.Common.{◌≡◌, ℕ, ◌+◌, ◌<◌, Bool, true, false, not, ◌&&◌, ◌||◌, nat_eq, nat_le, nat_lt, List, [], ◌∷◌, ◌++◌, length, append-nil, arith, refl, ap, sym, ◌∙◌, if◌then◌else◌}
 use Rattle.std.specs.List.{list_all, count_by}
 use Rattle.std.proofs.lemmas.Bool.Decides.{nat_tests}
@@ -21,21 +21,21 @@ among-kept : (keep : Bool) (n x : ℕ) (xs : List ℕ) → is_among (if keep the
 among-kept true n x xs = refl
 among-kept false n x xs = refl
 
--- what is below all numbers is below those that stand once
+-- a number below all is below those that occur once
 below-alone : (again : Bool) (n : ℕ) (xs : List ℕ) → list_all (nat_le n) xs ≡ true → list_all (nat_le n) (alone_after again xs) ≡ true
 below-alone again n [] h = refl
 below-alone again n (x ∷ xs) h =
     let parts = and_parts (nat_le n x) (list_all (nat_le n) xs) h in
     below-kept (not again && not (is_again 1 (x ∷ xs) x)) n x (alone_after (is_again 1 (x ∷ xs) x) xs) parts.0 (below-alone (is_again 1 (x ∷ xs) x) n xs parts.1)
 
--- what is kept ascends
+-- the kept numbers ascend
 pub alone-rise : (again : Bool) (xs : List ℕ) → Rises xs → Rises (alone_after again xs)
 alone-rise again [] h = h
 alone-rise again (x ∷ xs) h =
     let next = is_again 1 (x ∷ xs) x in
     rise-kept (not again && not next) x (alone_after next xs) (below-alone next x xs h.0) (alone-rise next xs h.1)
 
--- what is kept stands once, and is not the first where that follows one that it is
+-- a kept number occurs once, and is not the first if the first equals the number before it
 among-alone : (n : ℕ) (again : Bool) (xs : List ℕ) → Rises xs → is_among (alone_after again xs) n ≡ (nat_eq (count_by (nat_eq n) xs) 1 && not (again && is_again 0 xs n))
 among-alone n again [] h = grind (arith, nat_tests)
 among-alone n again (x ∷ xs) h =
@@ -60,7 +60,7 @@ among-alone n again (x ∷ xs) h =
     go true e counted behind = let m = more e in let s = same e in grind (arith, nat_tests, next)
     go false e counted behind = let m = apart e in grind (arith, nat_tests, next)
 
--- what is kept is what stands once
+-- the kept numbers are those that occur once
 pub alone-count : (n : ℕ) (xs : List ℕ) → Rises xs → is_among (alone_after false xs) n ≡ nat_eq (count_by (nat_eq n) xs) 1
 alone-count n xs h = among-alone n false xs h ∙ whole (nat_eq (count_by (nat_eq n) xs) 1)
   where
@@ -68,7 +68,7 @@ alone-count n xs h = among-alone n false xs h ∙ whole (nat_eq (count_by (nat_e
     whole true = refl
     whole false = refl
 
--- where no number is left, what is found is all
+-- once no number is left, all are found
 pub alone-end : (found rest keys : List ℕ) (again : Bool) → length rest < 1 → found ++ alone_after again rest ≡ alone_after false keys → found ≡ alone_after false keys
 alone-end found [] keys again h is = sym (append-nil found) ∙ is
 alone-end found (n ∷ rest) keys again h is = absurd (omega arith)

@@ -72,7 +72,7 @@ sides-new polygons f polygon once at =
     let apart = sides-apart (all_sides (take f polygons)) (sides_of polygon ++ all_sides (drop (f + 1) polygons)) (ap has_distinct_sides (sym sides) ∙ once) in
     (and_parts (has_new_sides (take f polygons) polygon) _ (sym (list_all-append (λ s. not (list_any (same_side s) (all_sides (take f polygons)))) (sides_of polygon) (all_sides (drop (f + 1) polygons))) ∙ apart)).0
 
--- what is asked of a face before it is added
+-- the conditions on a face before it is added
 pub face-simple : (mesh : ObjMesh) (f : ℕ) (polygon : Polygon) → IsFit mesh → slice_get mesh.faces f ≡ Some polygon → is_simple polygon ≡ true
 face-simple mesh f polygon fit at =
     ap is_simple (sym (get_or_from_slice_get mesh.faces f polygon [] at)) ∙ all-at is_simple mesh.faces f [] (slice_get_within mesh.faces f polygon at) (sound-simple (length mesh.points) mesh.faces fit.sound)

@@ -35,7 +35,7 @@ smooth-map : {K : Type 0} (keys : List K) → replicate (length keys) Smooth ≡
 smooth-map [] = refl
 smooth-map (k ∷ keys) = ap (λ xs. Smooth ∷ xs) (smooth-map keys)
 
--- the faces alone, all smooth
+-- only the faces, all smooth
 pub faced : (mesh : ObjMesh) (holes : List Bool) → smooth_built (length mesh.points) mesh.method mesh.faces holes ≡ stage mesh holes all_smooth all_smooth (replicate (length mesh.points) false)
 faced mesh holes =
     let n = length mesh.points in
@@ -67,7 +67,7 @@ pub tagged : (mesh : ObjMesh) (holes : List Bool) (edge : ℕ × ℕ → Sharpne
 tagged mesh holes edge complete =
     vertex-tags (length mesh.points) mesh.faces holes (map edge (edges_of mesh.faces)) mesh.method complete mesh.corner_tags all_smooth
 
--- of so many numbers those are kept that pass
+-- a filter keeps the numbers of a range that pass
 kept-among : (keep : ℕ → Bool) (n v : ℕ) → v < n → is_among (filter keep (range_with_len 0 n)) v ≡ keep v
 kept-among keep n v h =
     any-both keep (nat_eq v) (range_with_len 0 n) ∙ each (range_with_len 0 n) ∙ ap (λ b. keep v && b) there ∙ stays (keep v)
@@ -142,11 +142,11 @@ pub base-fans : (mesh : ObjMesh) (holes : List Bool) (built : Built) → IsFit m
 base-fans mesh holes built fit is = λ v h marked.
     ap (λ (b : Built). has_one_fan b.level.polygons v) is ∙ fit-fans mesh v fit (omega (arith, h, ap (λ (b : Built). b.level.point_count) is))
 
--- the marks of the faces are those that stand there
+-- the marks of the faces are those of the builder
 pub own-marks : (mesh : ObjMesh) (holes : List Bool) (built : Built) → built ≡ smooth_built (length mesh.points) mesh.method mesh.faces holes → built ≡ smooth_built (length mesh.points) mesh.method mesh.faces built.level.holes
 own-marks mesh holes built is = is ∙ ap (λ (hs : List Bool). smooth_built (length mesh.points) mesh.method mesh.faces hs) (sym (ap (λ (b : Built). b.level.holes) is))
 
--- what is put together is level 0
+-- the level that is built is level 0
 pub base-level : (mesh : ObjMesh) (holes : List Bool) → holes ≡ map (is_base_hole mesh) (enumerate_from 0 mesh.faces) → (tagged_built mesh holes).level ≡ base_level mesh
 base-level mesh holes are = ap (λ (hs : List Bool). (tagged_built mesh hs).level) are
 

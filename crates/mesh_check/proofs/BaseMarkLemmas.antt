@@ -70,7 +70,7 @@ corners-faces v place (polygon ∷ polygons) simple =
     here true h once behind = rw h (omega (arith, sum_by-cons (count_by (nat_eq v)) polygon polygons, count-some (nat_eq v) polygon h))
     here false h once behind = rw h (omega (arith, sum_by-cons (count_by (nat_eq v)) polygon polygons, count-none (nat_eq v) polygon h))
 
--- the places of what passes, as the numbers whose items pass
+-- the places of items that pass are the numbers whose items pass
 places-kept : (test : ℕ → Bool) (keep : ℕ → Bool) (place : ℕ) (counts : List ℕ) → ((i : ℕ) → i < length counts → test (get_or counts i 0) ≡ keep (place + i)) → places_from place test counts ≡ filter keep (range_with_len place (length counts))
 places-kept test keep place [] same = refl
 places-kept test keep place (n ∷ counts) same =

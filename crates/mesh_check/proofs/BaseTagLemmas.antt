@@ -1,4 +1,4 @@
--- What tags do to the sharpness of edges and of vertices: of the tags that name one, the last counts.
+-- The effect of tags on the sharpness of edges and vertices: of the tags for one, the last counts.
 use Rattle.std.proofs.Common.{◌≡◌, ℕ, zero, suc, ◌+◌, ◌<◌, ◌≤◌, Bool, true, false, ◌||◌, nat_eq, List, [], ◌∷◌, length, get_or, map, slice_set, arith, refl, ap, sym, ◌∙◌, if◌then◌else◌}
 use Rattle.std.specs.List.{filter, list_all, list_any, count_by, position_or_len, range_with_len}
 use Rattle.std.proofs.lemmas.Bool.Decides.{nat_tests}
@@ -15,16 +15,16 @@ use Rattle.level_builder.specs.Builder.{with_sharp_edge, with_sharp_vertex}
 use Rattle.mesh_check.proofs.RestLemmas.{others, at-first}
 use Rattle.mesh_check.specs.Base.{with_edge_tag, with_edge_tags, with_vertex_tags, infinite}
 
--- what two functions give is the same list where they give the same
+-- two functions that agree give the same list
 pub map-alike : {X Y : Type 0} (f g : X → Y) → ((x : X) → f x ≡ g x) → (xs : List X) → map f xs ≡ map g xs
 map-alike f g same [] = refl
 map-alike f g same (x ∷ xs) = ap (λ y. y ∷ map f xs) (same x) ∙ ap (λ ys. g x ∷ ys) (map-alike f g same xs)
 
--- a sharpness for what is the key, and the others as they are
+-- a sharpness for the key, and the function for all others
 abbrev pub but : {K : Type 0} → (K → K → Bool) → K → Sharpness → (K → Sharpness) → K → Sharpness
 but same key s f k = if same k key then s else f k
 
--- the last of the tags that name a key, or else what is given
+-- the last of the tags for a key, or else the given sharpness
 abbrev pub last_tag : {K : Type 0} → (K → K → Bool) → List (K × Sharpness) → (K → Sharpness) → K → Sharpness
 last_tag same tags f k = last_of (f k) (map (λ tag. tag.1) (filter (λ tag. same k tag.0) tags))
 
@@ -36,7 +36,7 @@ last-next same tag tags f k = here (same k tag.0)
     here true = refl
     here false = refl
 
--- where no edge is the key, all stay as they are
+-- a tag for no edge changes nothing
 but-none : (key : ℕ × ℕ) (s : Sharpness) (f : ℕ × ℕ → Sharpness) (edges : List (ℕ × ℕ)) → list_any (same_edge key) edges ≡ false → map f edges ≡ map (but same_edge key s f) edges
 but-none key s f [] none = refl
 but-none key s f (e ∷ edges) none =
@@ -47,7 +47,7 @@ but-none key s f (e ∷ edges) none =
 set-next : (x : Sharpness) (xs : List Sharpness) (n : ℕ) (s : Sharpness) → slice_set (x ∷ xs) (1 + n) s ≡ x ∷ slice_set xs n s
 set-next x xs n s = let next : 1 + n ≡ suc n = omega arith in ap (λ k. slice_set (x ∷ xs) k s) next
 
--- a sharpness at the place of an edge that stands once at most
+-- a new sharpness at the place of an edge that occurs at most once
 set-edge : (key : ℕ × ℕ) (s : Sharpness) (f : ℕ × ℕ → Sharpness) (edges : List (ℕ × ℕ)) → count_by (same_edge key) edges ≤ 1
     → list_any (same_edge key) edges ≡ true → slice_set (map f edges) (position_or_len (same_edge key) edges) s ≡ map (but same_edge key s f) edges
 set-edge key s f [] once some = absurd (cc)
@@ -117,7 +117,7 @@ vertex-tags points polygons holes edges method complete (tag ∷ tags) f =
     built : List Sharpness → Built
     built sharpness = built_of points polygons holes edges sharpness method complete
 
--- a tag of infinite sharpness counts wherever it stands among such
+-- a tag of infinite sharpness counts at any place among such tags
 pub last-infinite : {K : Type 0} (same : K → K → Bool) (named : List K) (f : K → Sharpness) (k : K) → last_tag same (infinite named) f k ≡ (if list_any (same k) named then Infinite else f k)
 last-infinite {K = K} same named f k = go named (f k)
   where

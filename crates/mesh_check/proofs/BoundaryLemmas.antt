@@ -16,7 +16,7 @@ use Rattle.mesh_check.specs.Keys.{IsWord, AreWords, AreEdgeKeys, edge_key}
 use Rattle.mesh_check.proofs.KeyLemmas.{edge-key-same, count-keys, filter-agree, count-moved}
 use Rattle.mesh_check.proofs.SearchLemmas.{sorted-rises}
 
--- after a sort the numbers of edges ascend, and each stands there as often as before
+-- after a sort the numbers of edges ascend, and each occurs as often as before
 pub keys-sorted : (sides : List (ℕ × ℕ)) (keys sorted : List ℕ) → AreWords sides → keys ≡ map edge_key sides → IsPermutation keys sorted → IsSorted nat_cmp sorted → AreEdgeKeys sides sorted
 keys-sorted sides keys sorted words is moved ascend = record {
   words = words;
@@ -24,7 +24,7 @@ keys-sorted sides keys sorted words is moved ascend = record {
   often = λ n. count-moved (nat_eq n) keys sorted moved ∙ ap (count_by (nat_eq n)) is;
 }
 
--- the number of an edge stands there as often as sides are that edge
+-- the number of an edge occurs as often as the edge has sides
 edge-often : (sides : List (ℕ × ℕ)) (keys : List ℕ) → AreEdgeKeys sides keys → (s : ℕ × ℕ) → IsWord s → count_by (nat_eq (edge_key s)) keys ≡ count_by (same_edge s) sides
 edge-often sides keys are s word = are.often (edge_key s) ∙ count-keys edge_key same_edge edge-key-same s word sides are.words
 
@@ -33,7 +33,7 @@ pub edges-known : (sides : List (ℕ × ℕ)) (keys : List ℕ) → AreEdgeKeys 
 edges-known sides keys are s word =
     any-count (nat_eq (edge_key s)) keys ∙ ap (nat_lt 0) (edge-often sides keys are s word) ∙ sym (any-count (same_edge s) sides)
 
--- the sides whose number stands once are those whose edge one side is
+-- the sides whose number occurs once are those whose edge has one side
 pub boundary-found : (sides : List (ℕ × ℕ)) (keys found : List ℕ) → AreEdgeKeys sides keys → ((n : ℕ) → is_among found n ≡ nat_eq (count_by (nat_eq n) keys) 1) → filter (λ s. is_among found (edge_key s)) sides ≡ filter (λ s. nat_eq (count_by (same_edge s) sides) 1) sides
 boundary-found sides keys found are once =
     filter-agree (λ s. is_among found (edge_key s)) (λ s. nat_eq (count_by (same_edge s) sides) 1)
@@ -45,7 +45,7 @@ faultless-simple points polygons sound =
     let outer = and_parts (list_all is_simple polygons && has_distinct_sides (all_sides polygons)) (list_all (has_one_fan polygons) (range_with_len 0 points)) ((fault-decides points polygons).0 sound) in
     (and_parts (list_all is_simple polygons) (has_distinct_sides (all_sides polygons)) outer.0).0
 
--- of simple faces, an edge is of one face exactly where one side is that edge
+-- if all faces are simple, an edge has one face exactly where it has one side
 pub boundary-of : (points : ℕ) (polygons : List Polygon) (sides : List (ℕ × ℕ)) → first_mesh_fault points polygons ≡ None → sides ≡ all_sides polygons → filter (λ s. nat_eq (count_by (same_edge s) sides) 1) sides ≡ filter (is_boundary polygons) (all_sides polygons)
 boundary-of points polygons sides sound is =
     ap (λ (ss : List (ℕ × ℕ)). filter (λ s. nat_eq (count_by (same_edge s) ss) 1) ss) is

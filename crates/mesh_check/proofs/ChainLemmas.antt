@@ -1,4 +1,4 @@
--- A long walk from a start exists exactly where all items stand in one chain.
+-- A long walk from a start exists exactly where all items form one chain.
 use Rattle.std.proofs.Common.{◌≡◌, ℕ, zero, suc, ◌+◌, ◌<◌, Bool, true, false, not, ◌&&◌, nat_eq, nat_le, nat_lt, List, [], ◌∷◌, ◌++◌, length, get_or, arith, refl, ap, sym, subst, ◌∙◌, inl, inr}
 use Rattle.std.specs.List.{list_all, range_with_len}
 use Rattle.std.proofs.lemmas.Bool.Decides.{nat_tests}
@@ -26,7 +26,7 @@ range-distinct a (suc n) = let behind = range-distinct (a + 1) n in let out = am
 below-among : (d k : ℕ) → is_among (range_with_len 0 d) k ≡ nat_lt k d
 below-among d k = let e = among-range 0 d k in grind (arith, nat_tests)
 
--- what each passes, one of them passes
+-- a test that all pass is one that each passes
 all-among : (p : ℕ → Bool) (xs : List ℕ) (n : ℕ) → list_all p xs ≡ true → is_among xs n ≡ true → p n ≡ true
 all-among p [] n h there = absurd (cc)
 all-among p (x ∷ xs) n h there =
@@ -146,7 +146,7 @@ turned next (f ∷ front) g back links once all closes =
     (distinct-permutation ((f ∷ front) ++ g ∷ back) ((g ∷ back) ++ f ∷ front) moved once)
     (λ k. sym (list_any-IsPermutation (nat_eq k) ((f ∷ front) ++ g ∷ back) ((g ∷ back) ++ f ∷ front) moved) ∙ all k)
 
--- where each item is led to, the last of a chain leads to the first
+-- if each item is led to, the last of a chain leads to the first
 closes-of : (next : List ℕ) (f : ℕ) (rest : List ℕ) → Links next (f ∷ rest) → is_distinct (f ∷ rest) ≡ true → ((k : ℕ) → is_among (f ∷ rest) k ≡ nat_lt k (length next)) → ((j : ℕ) → j < length next → is_among next j ≡ true) → get_or next (last_of f rest) (length next) ≡ f
 closes-of next f rest links once all led =
     let out : is_among rest f ≡ false = not-true (is_among rest f) (and_parts (not (is_among rest f)) (is_distinct rest) once).0 in
@@ -191,7 +191,7 @@ unled-walk next s (i ∷ rest) once all links h out = go (nat_eq s i) refl
         let led = led-inside next i rest s links inside behind in
         absurd (cc)
 
--- where all items stand in one chain, the walk from a start is long
+-- if all items form one chain, the walk from a start is long
 pub walk-from_chain : (next : List ℕ) (s : ℕ) → IsStart next s → IsOneChain next → is_long_walk next s ≡ true
 walk-from_chain [] s start chain = refl
 walk-from_chain (n ∷ next) s (inl start) chain = unled-walk (n ∷ next) s chain.order chain.once chain.all chain.links start.0 start.1

@@ -48,7 +48,7 @@ few mesh h k =
     let q : nat_lt mesh_limit (length mesh.faces) ≡ false = grind (arith, nat_tests) in
     rw (p, q) refl
 
--- where there are few points and faces, a face of too many corners is the fault
+-- if there are few points and faces, a face with too many corners is the fault
 pub size-some : (mesh : ObjMesh) (found : ℕ × ℕ) → length mesh.points ≤ 2 ^ 20 → length mesh.faces ≤ 2 ^ 20 → sized (large_faces mesh) ≡ Some found → Some (TooLarge (FaceSize found.0 found.1)) ≡ first_of (size_faults mesh)
 size-some mesh found h k e = named-some (large_faces mesh) found e ∙ ap first_of (sym (few mesh h k))
 

@@ -126,7 +126,7 @@ nothing-first : {X : Type 0} (xs : List X) → None ≡ first_of xs → xs ≡ [
 nothing-first [] h = refl
 nothing-first (x ∷ xs) h = absurd (cc)
 
--- where each side occurs at most once, no edge has a fault
+-- if each side occurs at most once, there is no first fault of edges
 pub edge-once : (polygons : List Polygon) (sides slice : List (ℕ × ℕ)) → slice ≡ sides → sides ≡ all_sides polygons → ((s : ℕ × ℕ) → count_by (same_side s) slice ≤ 1) → None ≡ first_of (edge_faults polygons)
 edge-once polygons sides slice at is once =
     edge-fine polygons
@@ -139,7 +139,7 @@ edge-once polygons sides slice at is once =
     single : (m n : ℕ) → m ≤ 1 → n ≤ 1 → (nat_le 2 m || nat_le 2 n) ≡ false
     single m n h k = grind (arith, nat_tests)
 
--- and none is listed
+-- if each side occurs at most once, the list of the faults of edges is empty
 pub edges-once : (polygons : List Polygon) (sides slice : List (ℕ × ℕ)) → slice ≡ sides → sides ≡ all_sides polygons → ((s : ℕ × ℕ) → count_by (same_side s) slice ≤ 1) → edge_faults polygons ≡ []
 edges-once polygons sides slice at is once = nothing-first (edge_faults polygons) (edge-once polygons sides slice at is once)
 

@@ -1,4 +1,4 @@
--- How many edges end at a point, by the numbers of the edges.
+-- The number of edges that end at a point, from the numbers of the edges.
 use Rattle.std.proofs.Common.{◌≡◌, ℕ, suc, ◌+◌, ◌*◌, ◌/◌, ◌%◌, ◌<◌, ◌≤◌, ◌^◌, Bool, true, false, not, nat_eq, nat_le, nat_lt, List, [], ◌∷◌, length, map, arith, refl, ap, sym, ◌∙◌, get_or, subst, take, drop, ◌⊎◌, inl, inr, if◌then◌else◌}
 use Rattle.std.specs.List.{All, list_all, list_any, count_by, sum_by}
 use Rattle.std.specs.List.Sorted.{IsPermutation}
@@ -56,7 +56,7 @@ open-named (s ∷ sides) h =
     let parts = and_parts (is_open s) (list_all is_open sides) h in
     and_from _ _ parts.0 (all-kept (λ x. not (same_edge s x)) is_open (first_named sides) (open-named sides parts.1))
 
--- how often a point is an end of the edge that a number names
+-- how often a point is an end of the edge with a number
 abbrev pub ends_at : ℕ → ℕ → ℕ
 ends_at v key = count_by (nat_eq v) (ends_of_key key)
 
@@ -161,7 +161,7 @@ keys-inside points polygons keys within are k d h i e j =
         any-count (nat_eq (get_or keys k d)) (map edge_key (all_sides polygons)) ∙ ap (nat_lt 0) (sym (are.often (get_or keys k d))) ∙ sym (any-count (nat_eq (get_or keys k d)) keys)
         ∙ list_any_at (nat_eq (get_or keys k d)) keys k d h (eq-eqb (get_or keys k d) (get_or keys k d) refl)
 
--- a list of at least one number is its first and so many of the others as there are
+-- a list with at least one number is its first and at most n others
 pub first-split : (rest : List ℕ) (n : ℕ) → 1 ≤ length rest → length rest ≤ n + 1 → rest ≡ get_or rest 0 0 ∷ take n (drop 1 rest)
 first-split [] n h k = absurd (omega arith)
 first-split (x ∷ rest) n h k = ap (λ xs. x ∷ xs) (sym (take_all n rest (omega arith)))
@@ -195,6 +195,6 @@ module _ (v key : ℕ) (others rest : List ℕ) (old new : ℕ) (again : Bool) (
           let two : ends_at v key ≤ 2 = count_by-le-length (nat_eq v) (ends_of_key key) in
           omega (arith, more, n, k, two)
 
--- what the numbers name are points, and so is what those behind the first name
+-- the ends of all edges are points, so the ends of the edges after the first are points too
 pub inside-more : (points key : ℕ) (others rest : List ℕ) → rest ≡ key ∷ others → All (λ key. All (λ v. v < points) (ends_of_key key)) rest → All (λ key. All (λ v. v < points) (ends_of_key key)) others
 inside-more points key others rest whole h k d i = (subst (All (λ key. All (λ v. v < points) (ends_of_key key))) whole h) (suc k) d (omega arith)

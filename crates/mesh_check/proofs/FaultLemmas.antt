@@ -1,4 +1,4 @@
--- The faults of a mesh by what is looked at, and that a mesh without the first two kinds is fit for the test of fans.
+-- The faults of a mesh by their place. A mesh without the first two kinds is fit for the test of fans.
 use Rattle.std.proofs.Common.{◌≡◌, ℕ, true, ◌&&◌, List, [], ◌∷◌, ◌++◌, map, refl, ap, sym, ◌∙◌, Option, Some, None, append_assoc}
 use Rattle.std.specs.List.{list_all, range_with_len}
 use Rattle.std.proofs.lemmas.Bool.{and_parts}
@@ -29,14 +29,14 @@ pub first-behind : {X : Type 0} (xs ys : List X) → first_of xs ≡ None → fi
 first-behind [] ys h = refl
 first-behind (y ∷ xs) ys h = absurd (cc)
 
--- where no face has a fault of its corners, the first fault of the edges is the first of all
+-- if no face has a fault of its corners, the first fault of the edges is the first of all
 pub edge-before : (points : ℕ) (polygons : List Polygon) (fault : MeshFault) → first_of (corner_faults polygons) ≡ None → first_of (edge_faults polygons) ≡ Some fault → Some fault ≡ first_mesh_fault points polygons
 edge-before points polygons fault corners edges =
     sym (ap first_of (mesh-joined points polygons)
     ∙ first-behind (corner_faults polygons) (edge_faults polygons ++ map SplitVertex (split_vertices points polygons)) corners
     ∙ first-here (edge_faults polygons) (map SplitVertex (split_vertices points polygons)) fault edges)
 
--- where no face has a fault of its corners or of its edges, the first vertex of more than one fan is the first fault of all
+-- if corners and edges have no fault, the first vertex with more than one fan is the first fault of all
 pub vertex-last : (points : ℕ) (polygons : List Polygon) (found : Option ℕ) → first_of (corner_faults polygons) ≡ None → first_of (edge_faults polygons) ≡ None → found ≡ first_of (split_vertices points polygons) → vertex_named found ≡ first_mesh_fault points polygons
 vertex-last points polygons found corners edges is =
     ap vertex_named is ∙ first-split (split_vertices points polygons)

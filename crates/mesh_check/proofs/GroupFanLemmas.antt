@@ -1,4 +1,5 @@
--- The faces at a vertex, with the corners before and after it, are one fan exactly where their places stand in one chain.
+-- The faces at a vertex are one fan exactly where their places form one chain. The lists have the corners before and after
+-- the vertex.
 use Rattle.std.proofs.Common.{◌≡◌, ℕ, zero, suc, ◌+◌, ◌<◌, Bool, true, false, not, nat_eq, nat_lt, List, [], ◌∷◌, ◌++◌, length, map, take, get_or, arith, refl, ap, sym, subst, ◌∙◌}
 use Rattle.std.specs.List.{list_all, position_or_len}
 use Rattle.std.proofs.lemmas.Bool.Decides.{nat_tests}
@@ -16,13 +17,13 @@ use Rattle.mesh_check.specs.Chain.{Links, IsOneChain}
 use Rattle.mesh_check.specs.Group.{IsGroup, next_places}
 use Rattle.mesh_check.proofs.GroupLemmas.{own-place, place-of, among-map, map-among, distinct-map}
 
--- what a map makes of what stands at a place
+-- a map at a place has the value of the item there
 map-at : (f : ℕ → ℕ) (xs : List ℕ) (i d : ℕ) → i < length xs → get_or (map f xs) i d ≡ f (get_or xs i 0)
 map-at f [] i d h = absurd (omega arith)
 map-at f (x ∷ xs) zero d h = refl
 map-at f (x ∷ xs) (suc i) d h = map-at f xs i d (omega arith)
 
--- what is made of one item more
+-- the values of one more item
 pub values-more : (f : ℕ → ℕ) (xs : List ℕ) (i d y : ℕ) (before after : List ℕ) → i < length xs → before ≡ map f (take i xs) → y ≡ f (get_or xs i d) → after ≡ before ++ y ∷ [] → after ≡ map f (take (i + 1) xs)
 values-more f xs i d y before after h b is a =
     a ∙ ap (λ ks. ks ++ y ∷ []) b ∙ ap (λ k. map f (take i xs) ++ k ∷ []) is ∙ sym (ap (map f) (take_more xs i d h) ∙ map-append f (take i xs) (get_or xs i d ∷ []))
@@ -58,7 +59,7 @@ module _ (polygons : List Polygon) (v : ℕ) (befores faces afters : List ℕ) (
   next-length : length (next_places befores afters) ≡ length faces
   next-length = length-map afters (λ a. position_or_len (nat_eq a) befores) ∙ g.same_afters
 
-  -- where the next place is another face's, that face is the successor
+  -- if the next place is that of another face, that face is the successor
   successor-from : (i j : ℕ) → i < length faces → j < length faces → get_or (next_places befores afters) i (length (next_places befores afters)) ≡ j → IsSuccessor polygons v (get_or faces i 0) (get_or faces j 0)
   successor-from i j h k e =
       let at : position_or_len (nat_eq (get_or afters i 0)) befores ≡ j = sym (next-at i (length (next_places befores afters)) h) ∙ e in
@@ -151,7 +152,7 @@ module _ (polygons : List Polygon) (v : ℕ) (befores faces afters : List ℕ) (
           let place : position_or_len (nat_eq (get_or faces i 0)) faces ≡ i = own-place faces i (get_or faces i 0) g.once within refl in
           sym (ap (is_among (map (λ f. position_or_len (nat_eq f) faces) is.fan)) place) ∙ among-map (λ f. position_or_len (nat_eq f) faces) is.fan (get_or faces i 0) there
 
-  -- what decides the chain decides the fan
+  -- a decision for the chain is one for the fan
   pub fan-decided : (b : Bool) → (b ≡ true → IsOneChain (next_places befores afters)) → (b ≡ false → IsOneChain (next_places befores afters) → ⊥) → b ≡ has_one_fan polygons v
   fan-decided true chain broken = sym (one_fan-test polygons simple distinct v (fan-from_chain (chain refl)))
   fan-decided false chain broken = go (has_one_fan polygons v) refl

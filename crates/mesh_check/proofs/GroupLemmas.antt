@@ -1,4 +1,4 @@
--- The faces at a vertex are one fan exactly where their places stand in one chain.
+-- The faces at a vertex are one fan exactly where their places form one chain.
 use Rattle.std.proofs.Common.{◌≡◌, ℕ, ◌<◌, ◌≤◌, Bool, true, false, not, ◌||◌, nat_eq, nat_lt, List, [], ◌∷◌, length, map, get_or, arith, refl, ap, sym, subst, ◌∙◌, Result, Ok, Err}
 use Rattle.std.specs.List.{position_or_len}
 use Rattle.std.specs.List.Sorted.{IsBinarySearchResult}
@@ -31,7 +31,7 @@ place-of x xs once there =
     let at : position_or_len (nat_eq x) xs ≡ found.0 = own-place xs found.0 x once found.1 found.2 in
     (subst (λ k. k < length xs) (sym at) found.1, ap (λ k. get_or xs k 0) at ∙ found.2)
 
--- a search finds the place, and none where there is none
+-- a search finds the place of a number, or the length if the number is not there
 pub place-searched : (xs : List ℕ) (x : ℕ) (r : Result ℕ ℕ) → IsBinarySearchResult (λ y. nat_cmp y x) xs r → Rises xs → is_distinct xs ≡ true → MatchResult r (λ i. i ≡ position_or_len (nat_eq x) xs) (λ i. length xs ≡ position_or_len (nat_eq x) xs)
 place-searched xs x r found rises once = go r (searched xs x r found (rise-at xs rises))
   where
@@ -49,7 +49,7 @@ place-searched xs x r found rises once = go r (searched xs x r found (rise-at xs
         other k true e inside = below (get_or xs k 0) (h.1 k (grind (arith, nat_tests)))
         other k false e inside = above (get_or xs k 0) (h.2 k (grind (arith, nat_tests)) inside)
 
--- what a map makes of a number among others
+-- a map of a list has the value of each number in the list
 pub among-map : (f : ℕ → ℕ) (xs : List ℕ) (a : ℕ) → is_among xs a ≡ true → is_among (map f xs) (f a) ≡ true
 among-map f [] a h = absurd (cc)
 among-map f (x ∷ xs) a h = go (nat_eq a x) refl (λ k. among-map f xs a k)
@@ -61,7 +61,7 @@ among-map f (x ∷ xs) a h = go (nat_eq a x) refl (λ k. among-map f xs a k)
         let more = behind there in
         grind (arith, nat_tests)
 
--- a number of a list that is made by a function, and what it is made of
+-- each number in a map of a list is the value of a number in the list
 pub map-among : (f : ℕ → ℕ) (xs : List ℕ) (y : ℕ) → is_among (map f xs) y ≡ true → (a : ℕ) × (is_among xs a ≡ true) × (f a ≡ y)
 map-among f [] y h = absurd (cc)
 map-among f (x ∷ xs) y h = go (nat_eq y (f x)) refl (λ k. map-among f xs y k)

@@ -101,7 +101,7 @@ group-count v f (t ∷ turns) = go (nat_eq v t.vertex) refl (group-count v f tur
         let sum : count_by (nat_eq f) (map (λ (u : Turn). u.face) (turns_at v turns)) ≡ count_by (is_at v f) (t ∷ turns) = omega (arith, count-cons (is_at v f) t turns, one, behind) in
         ap (λ ts. count_by (nat_eq f) (map (λ (u : Turn). u.face) ts)) keep ∙ sum
 
--- numbers that stand once each are distinct
+-- numbers that occur at most once each are distinct
 counts-distinct : (xs : List ℕ) → ((n : ℕ) → count_by (nat_eq n) xs ≤ 1) → is_distinct xs ≡ true
 counts-distinct [] h = refl
 counts-distinct (x ∷ xs) h =

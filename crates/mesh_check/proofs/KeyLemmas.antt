@@ -1,4 +1,4 @@
--- Numbers that ascend: those that stand a number of places later again stand more often than that.
+-- Ascending numbers: a number that occurs again gap places later occurs more than gap times.
 use Rattle.std.proofs.Common.{◌≡◌, ℕ, zero, suc, ◌+◌, ◌^◌, ◌<◌, Bool, true, false, ◌&&◌, nat_eq, nat_le, nat_lt, List, [], ◌∷◌, map, arith, refl, ap, sym, ◌∙◌, cond}
 use Rattle.std.specs.List.{list_all, count_by, filter, find}
 use Rattle.std.specs.List.Sorted.{IsPermutation}
@@ -11,7 +11,7 @@ use Rattle.level_builder.specs.NumberedEdges.{low_first}
 use Rattle.level_builder.proofs.EdgeNumberLemmas.{low-same}
 use Rattle.mesh_check.specs.Keys.{IsWord, AreWords, side_key, edge_key, Rises, is_again, repeats}
 
--- what is below all numbers is below those that are kept
+-- a number below all is below the kept ones
 below-repeats : (gap n : ℕ) (xs : List ℕ) → list_all (nat_le n) xs ≡ true → list_all (nat_le n) (repeats gap xs) ≡ true
 below-repeats gap n [] h = refl
 below-repeats gap n (x ∷ xs) h =
@@ -23,7 +23,7 @@ below-repeats gap n (x ∷ xs) h =
     go true e first behind = rw e (and_from _ _ first behind)
     go false e first behind = rw e behind
 
--- what is kept ascends
+-- the kept numbers ascend
 pub repeats-rise : (gap : ℕ) (xs : List ℕ) → Rises xs → Rises (repeats gap xs)
 repeats-rise gap [] h = h
 repeats-rise gap (x ∷ xs) h = go (is_again gap (x ∷ xs) x) refl (below-repeats gap x xs h.0) (repeats-rise gap xs h.1)
@@ -32,7 +32,7 @@ repeats-rise gap (x ∷ xs) h = go (is_again gap (x ∷ xs) x) refl (below-repea
     go true e below behind = rw e (below, behind)
     go false e below behind = rw e behind
 
--- a number below all others does not stand among them
+-- a number below all others is not among them
 none-below : (n m : ℕ) (xs : List ℕ) → n < m → list_all (nat_le m) xs ≡ true → count_by (nat_eq n) xs ≡ 0
 none-below n m [] h below = refl
 none-below n m (x ∷ xs) h below =
@@ -44,7 +44,7 @@ none-below n m (x ∷ xs) h below =
     differ : nat_eq n x ≡ false → one_if (nat_eq n x) ≡ 0
     differ e = ap one_if e
 
--- the least number stands at a place exactly where it stands more often than that
+-- the least number is at the place gap exactly where it occurs more than gap times
 pub again-count : (gap n : ℕ) (xs : List ℕ) → list_all (nat_le n) xs ≡ true → Rises xs → is_again gap xs n ≡ nat_lt gap (count_by (nat_eq n) xs)
 again-count gap n [] below rises = grind (arith, nat_tests)
 again-count gap n (m ∷ ms) below rises = go gap (nat_eq n m) refl (λ g. again-count g n ms (and_parts (nat_le n m) (list_all (nat_le n) ms) below).1 rises.1)
@@ -76,7 +76,7 @@ again-count gap n (m ∷ ms) below rises = go gap (nat_eq n m) refl (λ g. again
     go (suc g) true e behind = let o = one e in let b = behind g in grind (arith, nat_tests)
     go (suc g) false e behind = let o = none e in let b = nothing g e (behind g) in grind (arith, nat_tests)
 
--- what is kept is what stands more often than the gap
+-- the kept numbers are those that occur more than gap times
 pub repeats-count : (gap n : ℕ) (xs : List ℕ) → Rises xs → is_among (repeats gap xs) n ≡ nat_lt gap (count_by (nat_eq n) xs)
 repeats-count gap n [] rises = grind (arith, nat_tests)
 repeats-count gap n (x ∷ xs) rises =
@@ -132,7 +132,7 @@ pub find-agree : (p q : ℕ × ℕ → Bool) → ((s : ℕ × ℕ) → IsWord s 
 find-agree p q agree [] words = refl
 find-agree p q agree (s ∷ sides) words = rw (agree s words.0, find-agree p q agree sides words.1) refl
 
--- and keep the same ones
+-- tests that agree at each side keep the same sides
 pub filter-agree : (p q : ℕ × ℕ → Bool) → ((s : ℕ × ℕ) → IsWord s → p s ≡ q s) → (sides : List (ℕ × ℕ)) → AreWords sides → filter p sides ≡ filter q sides
 filter-agree p q agree [] words = refl
 filter-agree p q agree (s ∷ sides) words = rw (agree s words.0, filter-agree p q agree sides words.1) refl

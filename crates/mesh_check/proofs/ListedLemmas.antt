@@ -1,4 +1,4 @@
--- The faults that are listed: what was found of faces and of edges, and where nothing was, the vertices that are not one fan.
+-- The list of faults: those of faces and edges, or if there are none, the vertices that are not one fan.
 use Rattle.std.proofs.Common.{◌≡◌, ◌↔◌, ℕ, ◌<◌, true, List, [], ◌∷◌, ◌++◌, length, map, arith, refl, ap, sym, ◌∙◌, None, append_assoc}
 use Rattle.std.specs.List.{list_all}
 use Rattle.std.proofs.lemmas.List.{length-map}
@@ -27,17 +27,17 @@ stay [] ys some = absurd (omega arith)
 stay (x ∷ xs) ys some = refl
 
 module _ (polygons : List Polygon) (faults : List found.MeshFault) (is : map mesh_fault_of faults ≡ corner_faults polygons ++ edge_faults polygons) where
-  -- where no fault of faces and of edges was found, the faces are simple, and no side occurs twice
+  -- if faces and edges have no fault, the faces are simple, and no side occurs twice
   pub simple-listed : length faults ≡ 0 → (list_all is_simple polygons ≡ true) × (has_distinct_sides (all_sides polygons) ≡ true)
   simple-listed none =
       let nothing = nothing-before (corner_faults polygons) (edge_faults polygons) (sym (ap (map mesh_fault_of) (empty faults none)) ∙ is) in
       simple-once polygons nothing.0 nothing.1
 
-  -- where some was found, these are listed
+  -- if faces or edges have faults, these are the list
   pub some-listed : (points : ℕ) → 0 < length faults → map mesh_fault_of faults ≡ listed_faults points polygons
   some-listed points some = stay (map mesh_fault_of faults) (map SplitVertex (split_vertices points polygons)) (omega (arith, length-map faults mesh_fault_of, some)) ∙ ap (λ found. or_else found (map SplitVertex (split_vertices points polygons))) is
 
-  -- where none was found, the vertices that are not one fan are listed
+  -- if faces and edges have no fault, the vertices that are not one fan are the list
   pub none-listed : (points : ℕ) (new : List MeshFault) → length faults ≡ 0 → new ≡ map mesh_fault_of faults ++ map SplitVertex (split_vertices points polygons) → new ≡ listed_faults points polygons
   none-listed points new none made =
       let nothing : map mesh_fault_of faults ≡ [] = ap (map mesh_fault_of) (empty faults none) in
@@ -60,7 +60,7 @@ nothing-first : {X : Type 0} (xs : List X) → first_of xs ≡ None → xs ≡ [
 nothing-first [] h = refl
 nothing-first (x ∷ xs) h = absurd (cc)
 
--- none is listed exactly where there is no first one
+-- the list is empty exactly where there is no first fault
 pub none-first : (points : ℕ) (polygons : List Polygon) → (listed_faults points polygons ≡ []) ↔ (first_mesh_fault points polygons ≡ None)
 none-first points polygons = (
   λ none. sym (first-listed points polygons) ∙ ap first_of none,

@@ -53,7 +53,7 @@ new-split mark marks (v ∷ rest) inside =
     mixed false false true d = refl
     mixed false false false d = refl
 
--- where no number is marked, none stands twice exactly where each is new
+-- if no number is marked, the numbers are distinct exactly where each is new
 pub new-distinct : (mark : ℕ) (marks face : List ℕ) → All (λ v. v < length marks) face → ((v : ℕ) → get_or marks v 0 < mark) → is_new mark marks face ≡ is_distinct face
 new-distinct mark marks face inside fresh =
     new-split mark marks face inside ∙ ap (λ b. is_distinct face && b) (all-always (λ w. not (nat_eq (get_or marks w 0) mark)) (λ w. below (get_or marks w 0) (fresh w)) face) ∙ and-true (is_distinct face)
@@ -68,7 +68,7 @@ new-distinct mark marks face inside fresh =
 dropped : (face : List ℕ) (i : ℕ) → i < length face → drop i face ≡ get_or face i 0 ∷ drop (i + 1) face
 dropped face i h = drop-here face i (get_or face i 0) (slice_get-get_or face i 0 h)
 
--- a number that is marked already stands twice
+-- a number that is already marked occurs twice
 pub new-met : (mark : ℕ) (start marks face : List ℕ) (i : ℕ) → i < length face → is_new mark marks (drop i face) ≡ is_new mark start face → nat_eq (get_or marks (get_or face i 0) 0) mark ≡ true → is_new mark start face ≡ false
 new-met mark start marks face i h decides met =
     sym decides ∙ ap (is_new mark marks) (dropped face i h) ∙ ap (λ b. not b && is_new mark (slice_set marks (get_or face i 0) mark) (drop (i + 1) face)) met
@@ -98,17 +98,17 @@ low-with marks v mark low h w = go (nat_eq v w) refl
 abbrev pub no_marks : ℕ → List ℕ
 no_marks n = replicate n 0
 
--- where nothing is marked, each number has no mark
+-- without marks, each number has no mark
 pub none-marked : (n v : ℕ) → get_or (no_marks n) v 0 ≡ 0
 none-marked zero v = refl
 none-marked (suc n) zero = refl
 none-marked (suc n) (suc v) = none-marked n v
 
--- what is below one length is below an equal one
+-- a number below one length is below an equal one
 pub inside-at : (face : List ℕ) (m n i : ℕ) → All (λ v. v < m) face → n ≡ m → i < length face → get_or face i 0 < n
 inside-at face m n i inside e h = omega (arith, inside i 0 h, e)
 
--- of so many marks none is set
+-- none of these marks is set
 pub none-set : (marks : List ℕ) (n v : ℕ) → marks ≡ no_marks n → get_or marks v 0 ≡ 0
 none-set marks n v is = ap (λ ms. get_or ms v 0) is ∙ none-marked n v
 

@@ -21,7 +21,7 @@ use Rattle.mesh_check.proofs.OnceLemmas.{once-among, words-named, named-among}
 use Rattle.mesh_check.proofs.SearchLemmas.{search-known}
 use Rattle.mesh_check.proofs.RestLemmas.{others, first-others, at-first}
 
--- what is kept of what is kept, in either order
+-- two filters commute
 filter-swap : (p q : ℕ × ℕ → Bool) (xs : List (ℕ × ℕ)) → filter p (filter q xs) ≡ filter q (filter p xs)
 filter-swap p q [] = refl
 filter-swap p q (x ∷ xs) = go (p x) refl (q x) refl (filter-swap p q xs)
@@ -124,7 +124,7 @@ named-put keys marks rest d put now new all after once size words some passes se
     go true e made = ap (λ ys. ys ++ behind) made ∙ append_assoc now (s ∷ []) behind ∙ ap (λ b. now ++ (if b then s ∷ behind else behind)) e
     go false e made = ap (λ ys. ys ++ behind) made ∙ ap (λ b. now ++ (if b then s ∷ behind else behind)) e
 
--- where the number of each side passes, all are kept
+-- if the number of each side passes, all are kept
 kept-all : (test : ℕ → Bool) (sides : List (ℕ × ℕ)) → ((n : ℕ) → is_among (map edge_key sides) n ≡ true → test n ≡ true) → filter (λ s. test (edge_key s)) sides ≡ sides
 kept-all test [] passes = refl
 kept-all test (s ∷ sides) passes =
@@ -134,7 +134,7 @@ kept-all test (s ∷ sides) passes =
     more : (n : ℕ) → is_among (map edge_key sides) n ≡ true → (nat_eq n (edge_key s) || is_among (map edge_key sides) n) ≡ true
     more n h = grind (arith, nat_tests)
 
--- of the numbers of all edges, each once, none is marked at the start
+-- the numbers of all edges, each once, have no mark at the start
 pub named-start : (sides : List (ℕ × ℕ)) (edges keys marks : List ℕ) (n : ℕ) → AreEdgeKeys sides edges → keys ≡ each_once edges → marks ≡ no_marks n → filter (λ s. is_unmarked keys marks (edge_key s)) (first_named sides) ≡ first_named sides
 named-start sides edges keys marks n are is none = kept-all (is_unmarked keys marks) (first_named sides) (λ m h.
     let known : is_among keys m ≡ true =
@@ -167,13 +167,13 @@ missed-new keys marks n place r found is rises once size =
 pub words-behind : (rest : List (ℕ × ℕ)) (d : ℕ × ℕ) → 1 ≤ length rest → AreWords rest → AreWords (others rest)
 words-behind rest d some words = let both : AreWords (get_or rest 0 d ∷ others rest) = subst AreWords (first-others rest d some) words in both.1
 
--- of the sides of crowded edges those that name their edges first are the crowded edges
+-- the sides of crowded edges that name their edges first are the crowded edges
 pub crowded-listed : (polygons : List Polygon) (slice named found : List (ℕ × ℕ)) → slice ≡ all_sides polygons → named ≡ filter (λ s. nat_le 3 (count_by (same_edge s) slice)) slice → found ≡ first_named named → found ≡ crowded_edges polygons
 crowded-listed polygons slice named found at kept is =
     is ∙ ap first_named (kept ∙ ap (λ ss. filter (λ s. nat_le 3 (count_by (same_edge s) ss)) ss) at)
     ∙ named-kept (is_crowded polygons) (crowded-alike polygons) (all_sides polygons)
 
--- and of those of clashing edges the clashing edges
+-- the sides of clashing edges that name their edges first are the clashing edges
 pub clashing-listed : (polygons : List Polygon) (slice named found : List (ℕ × ℕ)) → slice ≡ all_sides polygons → named ≡ filter (λ s. nat_le 2 (count_by (same_side s) slice) || nat_le 2 (count_by (same_side (reversed s)) slice)) slice → found ≡ first_named named → found ≡ clashing_edges polygons
 clashing-listed polygons slice named found at kept is =
     is ∙ ap first_named (kept ∙ ap (λ ss. filter (λ s. nat_le 2 (count_by (same_side s) ss) || nat_le 2 (count_by (same_side (reversed s)) ss)) ss) at)

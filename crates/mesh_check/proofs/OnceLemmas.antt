@@ -29,7 +29,7 @@ once-among (n ∷ xs) m = go (is_again 1 (n ∷ xs) n) refl (once-among xs m) (n
     go true e behind false f = rw (e, f) behind
     go false e behind c f = rw e (ap (λ b. nat_eq m n || b) behind)
 
--- what does not come again is not behind
+-- a number that is not the next one does not occur again
 not-behind : (n : ℕ) (xs : List ℕ) → Rises (n ∷ xs) → is_again 1 (n ∷ xs) n ≡ false → is_among xs n ≡ false
 not-behind n xs rises e =
     let itself : nat_le n n ≡ true = grind (arith, nat_tests) in
@@ -40,7 +40,7 @@ not-behind n xs rises e =
     few : (k m : ℕ) → m ≡ 1 + k → nat_lt 1 m ≡ false → nat_lt 0 k ≡ false
     few k m is h = grind (arith, nat_tests)
 
--- each stands once
+-- each number occurs once
 pub once-distinct : (xs : List ℕ) → Rises xs → is_distinct (each_once xs) ≡ true
 once-distinct [] rises = refl
 once-distinct (n ∷ xs) rises = go (is_again 1 (n ∷ xs) n) refl (once-distinct xs rises.1)
@@ -49,7 +49,7 @@ once-distinct (n ∷ xs) rises = go (is_again 1 (n ∷ xs) n) refl (once-distinc
     go true e behind = rw e behind
     go false e behind = rw e (and_from _ _ (ap not (once-among xs n ∙ not-behind n xs rises e)) behind)
 
--- what is below all numbers is below those that are kept
+-- a number below all is below the kept ones
 below-once : (n : ℕ) (xs : List ℕ) → list_all (nat_le n) xs ≡ true → list_all (nat_le n) (each_once xs) ≡ true
 below-once n [] h = refl
 below-once n (x ∷ xs) h =
@@ -60,7 +60,7 @@ below-once n (x ∷ xs) h =
     go true e first behind = rw e behind
     go false e first behind = rw e (and_from _ _ first behind)
 
--- what is kept ascends
+-- the kept numbers ascend
 pub once-rise : (xs : List ℕ) → Rises xs → Rises (each_once xs)
 once-rise [] rises = rises
 once-rise (x ∷ xs) rises = go (is_again 1 (x ∷ xs) x) refl (below-once x xs rises.0) (once-rise xs rises.1)
@@ -81,7 +81,7 @@ keys-distinct (e ∷ edges) words once =
     zero-none : (k : ℕ) → k ≤ 0 → nat_lt 0 k ≡ false
     zero-none k h = grind (arith, nat_tests)
 
--- what is kept of words are words
+-- the kept sides fit 32 bits if all do
 words-kept : (keep : ℕ × ℕ → Bool) (sides : List (ℕ × ℕ)) → AreWords sides → AreWords (filter keep sides)
 words-kept keep [] words = tt
 words-kept keep (s ∷ sides) words = go (keep s) refl (words-kept keep sides words.1)
@@ -94,7 +94,7 @@ pub words-named : (sides : List (ℕ × ℕ)) → AreWords sides → AreWords (f
 words-named [] words = tt
 words-named (s ∷ sides) words = (words.0, words-kept (λ x. not (same_edge s x)) (first_named sides) (words-named sides words.1))
 
--- the numbers of edges stand once each
+-- the numbers of edges occur once each
 pub named-distinct : (sides : List (ℕ × ℕ)) → AreWords sides → is_distinct (map edge_key (first_named sides)) ≡ true
 named-distinct sides words = keys-distinct (first_named sides) (words-named sides words) (λ s. first_named-once s sides)
 

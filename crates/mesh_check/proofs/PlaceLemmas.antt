@@ -1,4 +1,4 @@
--- The first place of what passes a test, found from a place on.
+-- The first place of an item that passes a test, from a place on.
 use Rattle.std.proofs.Common.{◌≡◌, ℕ, zero, suc, ◌+◌, ◌≤◌, Bool, true, false, List, [], ◌∷◌, ◌++◌, length, map, drop, take, append-nil, append_assoc, if◌then◌else◌, arith, refl, ap, sym, ◌∙◌, Some, None, add-one}
 use Rattle.std.specs.List.{slice_get}
 use Rattle.std.proofs.lemmas.List.{take_more}
@@ -13,19 +13,19 @@ here [] i x h = absurd (cc)
 here (y ∷ ys) zero x h = ap (λ k. k ∷ ys) (cc)
 here (y ∷ ys) (suc i) x h = here ys i x h
 
--- the list from a place on begins with what stands there
+-- the list from a place on begins with the item there
 pub drop-here : {X : Type 0} (xs : List X) (i : ℕ) (x : X) → slice_get xs i ≡ Some x → drop i xs ≡ x ∷ drop (i + 1) xs
 drop-here xs i x h = rw add-one (here xs i x h)
 
--- what stands at a place passes
+-- the item at a place passes
 pub place-found : {X : Type 0} (test : X → Bool) (xs : List X) (i : ℕ) (x : X) → slice_get xs i ≡ Some x → test x ≡ true → first_of (places_from i test (drop i xs)) ≡ Some i
 place-found test xs i x h t = rw (drop-here xs i x h, t) refl
 
--- what stands at a place does not pass
+-- the item at a place does not pass
 pub place-passed : {X : Type 0} (test : X → Bool) (xs : List X) (i : ℕ) (x : X) → slice_get xs i ≡ Some x → test x ≡ false → first_of (places_from i test (drop i xs)) ≡ first_of (places_from (i + 1) test (drop (i + 1) xs))
 place-passed test xs i x h t = rw (drop-here xs i x h, t) refl
 
--- nothing stands at the end
+-- there is no item at the end
 pub drop-all : {X : Type 0} (xs : List X) (i : ℕ) → length xs ≤ i → drop i xs ≡ []
 drop-all [] zero h = refl
 drop-all [] (suc i) h = refl
@@ -36,7 +36,7 @@ drop-all (y ∷ ys) (suc i) h = drop-all ys i (omega arith)
 pub place-none : {X : Type 0} (test : X → Bool) (xs : List X) (i : ℕ) → length xs ≤ i → None ≡ first_of (places_from i test (drop i xs))
 place-none test xs i h = rw (drop-all xs i h) refl
 
--- what stands at a place is put where it passes, and what passes behind it follows
+-- the item at a place is added if it passes, and those that pass after it follow
 pub place-put : {X Y : Type 0} (kind : ℕ → Y) (test : X → Bool) (xs : List X) (i : ℕ) (x : X) (put : Bool) (now new all : List Y) → slice_get xs i ≡ Some x → put ≡ test x → new ≡ now ++ (if put then kind i ∷ [] else [])
     → now ++ map kind (places_from i test (drop i xs)) ≡ all → new ++ map kind (places_from (i + 1) test (drop (i + 1) xs)) ≡ all
 place-put {Y = Y} kind test xs i x put now new all at passes is whole = go put passes is ∙ sym (ap (λ ys. now ++ map kind (places_from i test ys)) (drop-here xs i x at)) ∙ whole

@@ -16,7 +16,7 @@ none-left : {X : Type 0} (xs : List X) → length xs < 1 → xs ≡ []
 none-left [] h = refl
 none-left (x ∷ xs) h = absurd (omega arith)
 
--- what is made of the rest is made of its first item and the others
+-- a function of the rest is the function of its first item and the others
 pub at-first : {X R : Type 0} (F : List X → R) (xs : List X) (d : X) → 1 ≤ length xs → F xs ≡ F (get_or xs 0 d ∷ others xs)
 at-first F xs d h = ap F (first-others xs d h)
 
@@ -28,7 +28,7 @@ at-item F xs x h is = at-first F xs x h ∙ ap (λ y. F (y ∷ others xs)) (sym 
 pub at-none : {X R : Type 0} (F : List X → R) (xs : List X) → length xs < 1 → F xs ≡ F []
 at-none F xs h = ap F (none-left xs h)
 
--- what is made of the first item is put, and what is made of the others follows
+-- the value of the first item is added, and those of the others follow
 pub map-put : {X Y : Type 0} (f : X → Y) (xs : List X) (d : X) (y : Y) (old new all : List Y) → 1 ≤ length xs → y ≡ f (get_or xs 0 d) → new ≡ old ++ y ∷ [] → old ++ map f xs ≡ all → new ++ map f (others xs) ≡ all
 map-put f xs d y old new all some made is whole =
     ap (λ ys. ys ++ map f (others xs)) is ∙ append_assoc old (y ∷ []) (map f (others xs)) ∙ ap (λ z. old ++ z ∷ map f (others xs)) made ∙ sym (at-first (λ ys. old ++ map f ys) xs d some) ∙ whole
@@ -52,7 +52,7 @@ kept-put {X = X} keep xs d put old new all some passes is whole = go put passes 
 pub all-put : {X Y : Type 0} (F : List X → List Y) (xs : List X) (old all : List Y) → length xs < 1 → F [] ≡ [] → old ++ F xs ≡ all → old ≡ all
 all-put F xs old all none nothing whole = sym (append-nil old) ∙ ap (λ ys. old ++ ys) (sym (at-none F xs none ∙ nothing)) ∙ whole
 
--- where the first side and the others are words, all are
+-- if the first side and the others fit 32 bits, all do
 pub words-put : (sides : List (ℕ × ℕ)) (d : ℕ × ℕ) → 1 ≤ length sides → IsWord (get_or sides 0 d) → AreWords (others sides) → AreWords sides
 words-put sides d some word words = subst AreWords (sym (first-others sides d some)) (word, words)
 

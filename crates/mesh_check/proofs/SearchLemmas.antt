@@ -41,7 +41,7 @@ rises-from (x ∷ xs) h = (
 pub sorted-rises : (xs : List ℕ) → IsSorted nat_cmp xs → Rises xs
 sorted-rises xs h = rises-from xs (λ i j a b. IsNonDecreasingBy-from_sort (λ x. x) xs h i j 0 a b)
 
--- a search finds what is there
+-- a search finds a number exactly where it is in the list
 pub search-known : (xs : List ℕ) (x : ℕ) (r : Result ℕ ℕ) (b : Bool) → IsBinarySearchResult (λ y. nat_cmp y x) xs r → Rises xs → b ≡ is_ok r → b ≡ is_among xs x
 search-known xs x r b found rises is = is ∙ go r (searched xs x r found (rise-at xs rises))
   where
@@ -59,7 +59,7 @@ search-known xs x r b found rises is = is ∙ go r (searched xs x r found (rise-
         other k true e inside = apart (get_or xs k 0) (h.1 k (grind (arith, nat_tests)))
         other k false e inside = beyond (get_or xs k 0) (h.2 k (grind (arith, nat_tests)) inside)
 
--- what stands more often than the limit among numbers that were sorted
+-- the numbers that occur more often than the limit, after a sort
 pub often-moved : (limit : ℕ) (xs ys : List ℕ) → IsPermutation xs ys → Rises ys → (n : ℕ) → is_among (repeats limit ys) n ≡ nat_lt limit (count_by (nat_eq n) xs)
 often-moved limit xs ys moved rises n = repeats-count limit n ys rises ∙ ap (nat_lt limit) (count-moved (nat_eq n) xs ys moved)
 
@@ -75,7 +75,7 @@ abbrev is_clashing_in : List (ℕ × ℕ) → ℕ × ℕ → Bool
 is_clashing_in sides s = nat_le 2 (count_by (same_side s) sides) || nat_le 2 (count_by (same_side (reversed s)) sides)
 
 module _ (sides : List (ℕ × ℕ)) (found keys : List ℕ) (words : AreWords sides) where
-  -- the number of an edge stands there exactly where three sides are the edge
+  -- the list has the number of an edge exactly where the edge has three sides
   crowded-named : keys ≡ map edge_key sides → ((n : ℕ) → is_among found n ≡ nat_lt 2 (count_by (nat_eq n) keys)) → (s : ℕ × ℕ) → IsWord s → is_named false found s ≡ is_crowded_in sides s
   crowded-named is often s word =
       often (edge_key s)
@@ -83,7 +83,7 @@ module _ (sides : List (ℕ × ℕ)) (found keys : List ℕ) (words : AreWords s
       ∙ ap (nat_lt 2) (count-keys edge_key same_edge edge-key-same s word sides words)
       ∙ above 2 (count_by (same_edge s) sides)
 
-  -- the number of a side stands there exactly where the side occurs twice
+  -- the list has the number of a side exactly where the side occurs twice
   twice-side : keys ≡ map side_key sides → ((n : ℕ) → is_among found n ≡ nat_lt 1 (count_by (nat_eq n) keys)) → (s : ℕ × ℕ) → IsWord s → is_among found (side_key s) ≡ nat_le 2 (count_by (same_side s) sides)
   twice-side is often s word =
       often (side_key s)

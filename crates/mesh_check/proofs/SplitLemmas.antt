@@ -1,5 +1,4 @@
--- Corners that are sorted by vertex: those at the first vertex stand in front, and what is behind them are all corners at the other
--- vertices.
+-- Corners sorted by vertex: those at the first vertex come first, and the rest are all corners at the other vertices.
 use Rattle.std.proofs.Common.{◌≡◌, ℕ, zero, suc, ◌<◌, ◌≤◌, Bool, true, false, ◌||◌, nat_eq, nat_le, List, [], ◌∷◌, length, map, get_or, take, drop, cond, arith, refl, ap, sym, subst, ◌∙◌, ◌⊎◌, inl, inr, Some, one-add}
 use Rattle.std.specs.List.{list_all, prefix_len, find}
 use Rattle.std.specs.List.Sorted.{IsNonDecreasingBy}
@@ -76,7 +75,7 @@ find-off test v (t ∷ turns) fails = go (nat_eq v t.vertex) refl (find-off test
     go true e behind = let same : test t.vertex ≡ false = ap test (sym (eqb-true v t.vertex e)) ∙ fails in rw (e, same) behind
     go false e behind = rw e (ap (λ found. cond (test t.vertex) (Some t.vertex) found) behind)
 
--- what is behind ascends as the whole does
+-- the rest of an ascending list ascends
 pub drop-rises : (f : Turn → ℕ) (n : ℕ) (turns : List Turn) → Rises (map f turns) → Rises (map f (drop n turns))
 drop-rises f zero turns rises = rises
 drop-rises f (suc n) [] rises = rises
@@ -101,7 +100,7 @@ group-rises v (t ∷ turns) rises = go (nat_eq v t.vertex) refl (group-rises v t
     go true e behind = rw e (least turns (eqb-true v t.vertex e) rises.0, behind)
     go false e behind = rw e behind
 
--- what a sort leaves ascends
+-- a sorted list ascends
 pub turns-rise : (f : Turn → ℕ) (turns : List Turn) → IsNonDecreasingBy f turns → Rises (map f turns)
 turns-rise f turns h = rises-from (map f turns) (λ i j low inside.
     let within : j < length turns = omega (arith, inside, length-map turns f) in
@@ -114,7 +113,7 @@ pub first-among : (turns : List Turn) → 1 ≤ length turns → is_among (verti
 first-among [] h = absurd (omega arith)
 first-among (t ∷ turns) h = ap (λ b. b || is_among (vertices turns) t.vertex) (eq-eqb t.vertex t.vertex refl)
 
--- where it passes a search finds it
+-- if the first vertex passes, a search finds it
 pub first-found : (test : ℕ → Bool) (turns : List Turn) → 1 ≤ length turns → test (first_vertex turns) ≡ true → find test (vertices turns) ≡ Some (first_vertex turns)
 first-found test [] h passes = absurd (omega arith)
 first-found test (t ∷ turns) h passes = rw passes refl
@@ -128,7 +127,7 @@ first-least (t ∷ turns) rises = and_from _ _ (self t.vertex) rises.0
     self n = grind (arith, nat_tests)
 
 module _ (rest : List Turn) (size : ℕ) (is : size ≡ prefix_len (λ t. nat_eq (first_vertex rest) t.vertex) rest) (rises : Rises (vertices rest)) where
-  -- there are so many
+  -- the list is at least as long as the first group
   pub front-within : size ≤ length rest
   front-within = omega (arith, is, prefix_len-le-length (λ (t : Turn). nat_eq (first_vertex rest) t.vertex) rest)
 
@@ -152,19 +151,19 @@ first-counted [] h = absurd (omega arith)
 first-counted (t ∷ turns) h = rw (eq-eqb t.vertex t.vertex refl) (omega arith)
 
 module _ (polygons : List Polygon) (rest : List Turn) (size : ℕ) (groups : AreGroups polygons rest) (some : 1 ≤ length rest) (counted : size ≡ prefix_len (λ t. nat_eq (first_vertex rest) t.vertex) rest) where
-  -- so many corners in front are those at the first vertex
+  -- the first corners of the list are those at the first vertex
   pub front-group-is : take size rest ≡ turns_at (first_vertex rest) rest
   front-group-is = front-is rest size counted groups.vertices_rise (take size rest) refl
 
-  -- they are a group
+  -- the first corners of the list are a group
   pub front-group-of : IsGroupOf polygons (first_vertex rest) (take size rest)
   front-group-of = subst (λ ts. IsGroupOf polygons (first_vertex rest) ts) (sym front-group-is) (groups.groups (first_vertex rest) (first-among rest some))
 
-  -- which ascends by the corner before the vertex
+  -- the first group ascends by the corner before the vertex
   pub front-group-rises : Rises (map (λ (t : Turn). t.before) (take size rest))
   front-group-rises = subst (λ ts. Rises (map (λ (t : Turn). t.before) ts)) (sym front-group-is) (group-rises (first_vertex rest) rest groups.keys)
 
-  -- where it is known whether its faces are one fan, the first group is known, and the others are groups still
+  -- the decision for the first vertex is known, and the others are still groups
   pub first-group-is : (is : Bool) → is ≡ has_one_fan polygons (first_vertex rest) → IsFirstGroup polygons rest is size
   first-group-is is fan =
       let behind = back-is rest size counted groups.vertices_rise (drop size rest) refl in

@@ -19,7 +19,7 @@ use Rattle.mesh_check.proofs.SplitLemmas.{above-off}
 use Rattle.mesh_check.proofs.OnceLemmas.{once-among, once-distinct, once-rise}
 use Rattle.mesh_check.proofs.VertexLemmas.{split-corner, corner-vertex, moved-vertex, corner-inside, range-rises, range-among}
 
--- what is kept ascends
+-- the kept numbers ascend
 rises-kept : (p : ℕ → Bool) (xs : List ℕ) → Rises xs → Rises (filter p xs)
 rises-kept p [] rises = rises
 rises-kept p (x ∷ xs) rises = go (p x) refl (all-kept p (nat_le x) xs rises.0) (rises-kept p xs rises.1)
@@ -53,7 +53,7 @@ least-first x n xs rises there =
     let at = among-at n (x ∷ xs) there in
     omega (arith, rise-at (x ∷ xs) rises 0 at.0 (omega arith) at.1, at.2)
 
--- numbers that ascend and differ are told by which they are
+-- ascending lists of distinct numbers are equal if they have the same numbers
 pub same-list : (xs ys : List ℕ) → Rises xs → is_distinct xs ≡ true → Rises ys → is_distinct ys ≡ true → ((n : ℕ) → is_among xs n ≡ is_among ys n) → xs ≡ ys
 same-list [] [] rises once climbs single same = refl
 same-list [] (y ∷ ys) rises once climbs single same = absurd (let there = same y ∙ ap (λ b. b || is_among ys y) (eq-eqb y y refl) in cc)
@@ -87,7 +87,7 @@ range-distinct a (suc n) = and_from _ _ (apart (is_among (range_with_len (a + 1)
         let inside : at.0 < n = omega (arith, at.1, length-range_with_len (a + 1) n) in
         absurd (omega (arith, at.2, get_or-range_with_len (a + 1) n at.0 0 inside))
 
--- of sorted corners, the vertices that are not one fan are all such vertices
+-- the vertices of sorted corners that are not one fan are all such vertices
 pub split-all : (points : ℕ) (polygons : List Polygon) (turns : List Turn) → All (λ face. All (λ w. w < points) face) polygons → AreSortedTurns polygons turns → filter (λ v. not (has_one_fan polygons v)) (each_once (vertices turns)) ≡ split_vertices points polygons
 split-all points polygons turns within sorted = same-list _ _
     (rises-kept split (each_once (vertices turns)) (once-rise (vertices turns) sorted.vertices))

@@ -47,7 +47,7 @@ last-side first v (w ∷ rest) = later (same_side (last_of w rest, first) (v, w)
     later true h = refl
     later false h = h
 
--- each corner of a face stands with the sides that come and go there
+-- each corner of a face has the sides that come and go there
 pub face-turns : (face : ℕ) (polygon : Polygon) → list_all (is_turn polygon) (turns_of face polygon) ≡ true
 face-turns face [] = refl
 face-turns face (v ∷ rest) =
@@ -68,7 +68,7 @@ face-vertices face polygon = path-vertices face (get_or polygon 0 0) (get_or pol
 abbrev pub cut_key : Turn → ℕ
 cut_key t = t.vertex * 2 ^ 32 + t.before % 2 ^ 32
 
--- where it fits, nothing is cut
+-- a corner before that fits 32 bits is not cut
 pub cut-same : (t : Turn) (key : ℕ) → key ≡ turn_key t → t.before < 2 ^ 32 → key ≡ cut_key t
 cut-same t key is short = omega arith
 

@@ -60,7 +60,7 @@ comes-key s (t ∷ turns) =
         let same : side_key (reversed s) ≡ turn_key t = omega (arith, one, other) in
         rw (e, eq-eqb (side_key (reversed s)) (turn_key t) same) (omega arith)
 
--- of numbers without equal neighbours none is followed by itself
+-- without equal neighbours no number equals the next
 none-again : (n : ℕ) (xs : List ℕ) → has_equal_after n xs ≡ false → repeats 1 (n ∷ xs) ≡ []
 none-again n [] h = refl
 none-again n (m ∷ xs) h =
@@ -75,14 +75,14 @@ none-repeats : (xs : List ℕ) → has_equal_neighbours xs ≡ false → repeats
 none-repeats [] h = refl
 none-repeats (n ∷ xs) h = none-again n xs h
 
--- each number stands once, where numbers ascend and no two neighbours are equal
+-- each of some ascending numbers without equal neighbours occurs once
 stands-once : (n : ℕ) (xs : List ℕ) → Rises xs → has_equal_neighbours xs ≡ false → count_by (nat_eq n) xs ≤ 1
 stands-once n xs rises h = low (count_by (nat_eq n) xs) (sym (repeats-count 1 n xs rises) ∙ ap (λ ys. is_among ys n) (none-repeats xs h))
   where
     low : (k : ℕ) → nat_lt 1 k ≡ false → k ≤ 1
     low k e = grind (arith, nat_tests)
 
--- where no side comes to two neighbours among all sorted corners, each side occurs at most once
+-- if no side comes to two neighbours among all sorted corners, each side occurs at most once
 pub sides-once : (polygons : List Polygon) (turns : List Turn) → AreSortedTurns polygons turns → has_equal_neighbours (map turn_key turns) ≡ false → (s : ℕ × ℕ) → count_by (same_side s) (all_sides polygons) ≤ 1
 sides-once polygons turns sorted h s =
     let moved : count_by (comes s) turns ≡ count_by (comes s) (turns_after 0 polygons) = sum_by-IsPermutation (λ t. cond (comes s t) 1 0) (turns_after 0 polygons) turns sorted.moved in

@@ -53,7 +53,7 @@ counts-joined mesh =
     let valences = valence_faults (base_level mesh) in
     sym (append_assoc points (faces ++ large) valences ∙ ap (λ faults. points ++ faults) (append_assoc faces large valences))
 
--- where neither has too much of anything, no count passes its limit
+-- if neither the sizes nor the vertices exceed a limit, no count does
 pub counts-small : (mesh : ObjMesh) (found : Option Counted) → first_of (size_faults mesh) ≡ None → found ≡ None → count_named found ≡ first_of (valence_faults (base_level mesh)) → first_of (count_faults mesh) ≡ None
 counts-small mesh found few at first =
     ap first_of (counts-joined mesh)
@@ -68,7 +68,7 @@ sizes-fine mesh found at first = sym first ∙ ap count_named at
 abbrev sized : ℕ → List Polygon → List Fault
 sized place polygons = map (λ (face : ℕ × Polygon). TooLarge (FaceSize face.0 (length face.1))) (filter (λ face. nat_lt size_limit (length face.1)) (enumerate_from place polygons))
 
--- a fault that stands is the first
+-- a fault that applies is the first
 stands-not : (stands : Bool) (fault : Fault) (rest : List Fault) → first_of (fault_where stands fault ++ rest) ≡ None → (stands ≡ false) × (first_of rest ≡ None)
 stands-not true fault rest h = absurd (cc)
 stands-not false fault rest h = (refl, h)

@@ -23,7 +23,7 @@ use Rattle.mesh_check.proofs.GroupTurnLemmas.{group-of}
 use Rattle.mesh_check.proofs.TurnLemmas.{face-vertices}
 use Rattle.mesh_check.specs.Groups.{vertices, AreGroups}
 
--- what a search finds passes
+-- a number that a search finds passes
 find-passes : (test : ℕ → Bool) (xs : List ℕ) (n : ℕ) → find test xs ≡ Some n → test n ≡ true
 find-passes test [] n h = absurd (cc)
 find-passes test (x ∷ xs) n h = go (test x) refl (λ k. find-passes test xs n k)
@@ -78,7 +78,7 @@ find-same test xs ys rises climbs within there = go (find test xs) refl (find te
         let same : m ≡ n = omega (arith, low.2, high.2, is_low, is_high) in
         e ∙ ap Some same ∙ sym f
 
--- the first of what passes
+-- the first number that passes
 first-find : (test : ℕ → Bool) (xs : List ℕ) → first_of (filter test xs) ≡ find test xs
 first-find test [] = refl
 first-find test (x ∷ xs) = go (test x) refl (first-find test xs)
@@ -99,7 +99,7 @@ range-rises n = rises-from (range_with_len 0 n) (λ i j h k.
 pub range-among : (n v : ℕ) → v < n → is_among (range_with_len 0 n) v ≡ true
 range-among n v h = among-place v (range_with_len 0 n) v (omega (arith, length-range_with_len 0 n)) (get_or-range_with_len 0 n v 0 h ∙ zero-add v)
 
--- what passes nowhere has no place
+-- a test that no item passes has no place
 no-places : {X : Type 0} (test : X → Bool) (place : ℕ) (xs : List X) → list_any test xs ≡ false → places_from place test xs ≡ []
 no-places test place [] h = refl
 no-places test place (x ∷ xs) h = go (test x) refl (λ k. no-places test (place + 1) xs k)
@@ -151,7 +151,7 @@ corner-inside points v (polygon ∷ polygons) within h = go (or_cases (has_corne
         subst (λ w. w < points) at.2 (within 0 [] (omega arith) at.0 0 at.1)
     go (inr k) behind = behind k
 
--- of corners that ascend by vertex the first vertex that is not one fan is the first of all
+-- if corners ascend by vertex, the first vertex that is not one fan is the first of all
 pub first-split : (points : ℕ) (polygons : List Polygon) (turns : List Turn) → All (λ face. All (λ w. w < points) face) polygons → IsPermutation (turns_after 0 polygons) turns → Rises (vertices turns) → find (λ v. not (has_one_fan polygons v)) (vertices turns) ≡ first_of (split_vertices points polygons)
 first-split points polygons turns within moved rises =
     find-same (λ v. not (has_one_fan polygons v)) (vertices turns) (range_with_len 0 points) rises (range-rises points)
@@ -166,7 +166,7 @@ after-length k (polygon ∷ polygons) =
     let here : length (turns_of k polygon) ≡ length polygon = sym (length-map (turns_of k polygon) (λ (t : Turn). t.vertex)) ∙ ap length (face-vertices k polygon) in
     omega (arith, here, length-append (turns_of k polygon) (turns_after (k + 1) polygons), after-length (k + 1) polygons, sum_by-cons length polygon polygons)
 
--- there are as many as the faces have corners
+-- there is one corner with neighbours for each corner of a face
 pub moved-length : (polygons : List Polygon) (turns : List Turn) → IsPermutation (turns_after 0 polygons) turns → length turns ≡ sum_by length polygons
 moved-length polygons turns moved = length_permutation (turns_after 0 polygons) turns moved ∙ after-length 0 polygons
 

@@ -21,7 +21,7 @@ goes-split mark next marks (suc n) i =
     mixed true false false d = refl
     mixed false b c d = refl
 
--- where nothing is marked, what is left of the walk is the walk
+-- if nothing is marked, the rest of the walk is the walk
 pub long-start : (next marks : List ℕ) (i : ℕ) → marks ≡ replicate (length next) 0 → goes_on 1 next marks (length next) i ≡ is_long_walk next i
 long-start next marks i is = goes-split 1 next marks (length next) i ∙ go (list_all (λ k. nat_lt k (length next)) (walked next (length next) i)) refl
   where

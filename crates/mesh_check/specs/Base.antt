@@ -1,4 +1,4 @@
--- Level 0 put together: what it is made of, and what each tag does to it.
+-- The construction of level 0: its parts, and the effect of each tag.
 use Rattle.std.specs.Prelude.{ℕ, ◌≡◌, ◌≤◌, ◌^◌, true, false, nat_eq, Bool, List, [], ◌∷◌, length, map, replicate, None, if◌then◌else◌}
 use Rattle.std.specs.List.{All, list_any, range_with_len}
 use Rattle.subdiv_model.specs.Polygons.{Polygon, same_edge, is_among}
@@ -21,12 +21,12 @@ pub record IsFit (mesh : ObjMesh) : Type 0 where
   pub faces : length mesh.faces ≤ 2 ^ 20
   pub sizes : All (λ polygon. length polygon ≤ 2 ^ 16) mesh.faces
 
--- the numbers of all edges and of no other pair, ascending
+-- the numbers of all edges and no others, ascending
 pub record AreEdges (polygons : List Polygon) (edges : List ℕ) : Type 0 where
   pub rises : Rises edges
   pub all : (s : ℕ × ℕ) → IsWord s → is_among edges (edge_key s) ≡ list_any (same_edge s) (all_sides polygons)
 
--- points and faces with their marks, where all is smooth and no point is complete
+-- points and faces with their marks; all edges and points are smooth, and no point is complete
 abbrev pub smooth_built : ℕ → Method → List Polygon → List Bool → Built
 smooth_built points method polygons holes = record {
   level = record {
@@ -40,7 +40,7 @@ smooth_built points method polygons holes = record {
   complete = replicate points false;
 }
 
--- a tag of a pair gives the sharpness of its edge, and nothing where the pair is none
+-- a tag of a pair sets the sharpness of its edge, and has no effect if the pair is no edge
 abbrev pub with_edge_tag : (ℕ × ℕ) × Sharpness → Built → Built
 with_edge_tag tag built = if list_any (same_edge tag.0) (edges_of built.level.polygons) then with_sharp_edge tag.0 tag.1 built else built
 
@@ -57,11 +57,11 @@ with_vertex_tags (tag ∷ tags) built = with_vertex_tags tags (with_sharp_vertex
 abbrev pub infinite : {K : Type 0} → List K → List (K × Sharpness)
 infinite named = map (λ k. (k, Infinite)) named
 
--- the vertices that are a corner of one face, where the list has of how many faces each one is
+-- the vertices that are a corner of one face; the list has the number of corners at each
 abbrev pub single_corners : List ℕ → List ℕ
 single_corners counts = places (λ count. nat_eq count 1) counts
 
--- the mesh with the sharpness that its tags and its boundary give, where no point is complete
+-- the mesh with the sharpness of its tags and its boundary, where no point is complete
 abbrev pub tagged_built : ObjMesh → List Bool → Built
 tagged_built mesh holes = record {
   level = record {

@@ -1,5 +1,5 @@
--- Items that each lead to one other at most, and whether all of them stand in one chain. An item is a place in a list, and
--- what stands there is the item that it leads to, or no item.
+-- Items that each lead to at most one other, and the test whether all form one chain. An item is a place in a list; the list
+-- has there the item it leads to, or no item.
 use Rattle.std.specs.Prelude.{ℕ, zero, suc, ◌≡◌, ◌<◌, ◌⊎◌, Bool, true, false, not, ◌&&◌, nat_eq, nat_lt, List, [], ◌∷◌, length, get_or, slice_set}
 use Rattle.std.specs.List.{list_all}
 use Rattle.subdiv_model.specs.Polygons.{is_among, is_distinct}
@@ -10,7 +10,7 @@ Links next [] = Unit {0}
 Links next (i ∷ []) = Unit {0}
 Links next (i ∷ (j ∷ rest)) = (get_or next i (length next) ≡ j) × Links next (j ∷ rest)
 
--- all items can be listed so that each leads to the one after it; the last may lead to the first
+-- some list of all items has each lead to the one after it; the last may lead to the first
 pub record IsOneChain (next : List ℕ) : Type 0 where
   pub order : List ℕ
   pub once : is_distinct order ≡ true
@@ -22,15 +22,15 @@ abbrev pub walked : List ℕ → ℕ → ℕ → List ℕ
 walked next zero i = []
 walked next (suc steps) i = i ∷ walked next steps (get_or next i (length next))
 
--- a walk of as many steps as there are items meets items alone, and none of them twice
+-- a walk of as many steps as there are items meets only items, and none of them twice
 abbrev pub is_long_walk : List ℕ → ℕ → Bool
 is_long_walk next i = list_all (λ k. nat_lt k (length next)) (walked next (length next) i) && is_distinct (walked next (length next) i)
 
--- where a chain can begin: at the item that no item leads to, or at any where each is led to
+-- an item at which a chain can begin: the item that no item leads to, or any if each is led to
 abbrev pub IsStart : List ℕ → ℕ → Type 0
 IsStart next s = ((s < length next) × (is_among next s ≡ false)) ⊎ ((s ≡ 0) × ((j : ℕ) → j < length next → is_among next j ≡ true))
 
--- what is left of a walk meets items alone, and none that is marked
+-- the rest of a walk meets only items, and none that is marked
 abbrev pub goes_on : ℕ → List ℕ → List ℕ → ℕ → ℕ → Bool
 goes_on mark next marks zero i = true
 goes_on mark next marks (suc steps) i =

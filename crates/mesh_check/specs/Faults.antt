@@ -1,4 +1,4 @@
--- The faults of a mesh by what is looked at: the corners of faces, their sides, and the faces at vertices.
+-- The faults of a mesh by their place: the corners of faces, their sides, and the faces at vertices.
 use Rattle.std.specs.Prelude.{ℕ, List, ◌++◌, map, Option, Some, None}
 use Rattle.subdiv_model.specs.Polygons.{Polygon}
 use Rattle.subdiv_model.specs.MeshFault.{MeshFault, FaceTooSmall, RepeatedVertex, NonManifoldEdge, WindingClash, SplitVertex, small_faces, repeating_faces, crowded_edges, clashing_edges}
@@ -15,7 +15,7 @@ edge_named (Some edge) clashing = Some (NonManifoldEdge edge.0 edge.1)
 edge_named None (Some edge) = Some (WindingClash edge.0 edge.1)
 edge_named None None = None
 
--- the fault of the first vertex of more than one fan
+-- the fault of the first vertex whose faces are more than one fan
 abbrev pub vertex_named : Option ℕ → Option MeshFault
 vertex_named (Some v) = Some (SplitVertex v)
 vertex_named None = None

@@ -14,13 +14,13 @@ pub record IsGroup (polygons : List Polygon) (v : ℕ) (befores faces afters : L
   pub once : is_distinct faces ≡ true
   pub all : (f : ℕ) → is_among faces f ≡ has_corner v (polygon_at polygons f)
 
--- whether the faces at a vertex are one fan, by the corners before and after it, where all faces are simple and no side occurs
--- twice
+-- the decision whether the faces at a vertex are one fan, from the corners before and after it; all faces are simple, and no
+-- side occurs twice
 abbrev pub DecidesFan : List ℕ → List ℕ → Bool → Type 0
 DecidesFan befores afters is =
     (polygons : List Polygon) (v : ℕ) (faces : List ℕ) → IsGroup polygons v befores faces afters → IsTrue (list_all is_simple polygons)
     → IsTrue (has_distinct_sides (all_sides polygons)) → is ≡ has_one_fan polygons v
 
--- for each face the place of the next one about the vertex, which is the one that comes from the corner to which this one goes
+-- for each face the place of the next one about the vertex: the face that comes from the corner to which this one goes
 abbrev pub next_places : List ℕ → List ℕ → List ℕ
 next_places befores afters = map (λ a. position_or_len (nat_eq a) befores) afters

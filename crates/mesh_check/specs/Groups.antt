@@ -1,4 +1,4 @@
--- Corners that are sorted by vertex, seen as groups: those at one vertex, and behind them those at others.
+-- Corners sorted by vertex, as groups: those at one vertex, and then those at others.
 use Rattle.std.specs.Prelude.{ℕ, ◌≡◌, ◌<◌, ◌≤◌, ◌^◌, Bool, true, not, nat_eq, List, length, map, get_or, drop}
 use Rattle.std.specs.List.{filter}
 use Rattle.subdiv_model.specs.Polygons.{Polygon, is_among}
@@ -27,14 +27,14 @@ turns_off v turns = filter (λ t. not (nat_eq v t.vertex)) turns
 abbrev pub IsGroupOf : List Polygon → ℕ → List Turn → Type 0
 IsGroupOf polygons v group = IsGroup polygons v (map (λ (t : Turn). t.before) group) (map (λ (t : Turn). t.face) group) (map (λ (t : Turn). t.after) group)
 
--- sorted corners that are all corners at their vertices
+-- sorted corners, which contain all corners at each of their vertices
 pub record AreGroups (polygons : List Polygon) (turns : List Turn) : Type 0 where
   pub keys : Rises (map turn_key turns)
   pub vertices_rise : Rises (vertices turns)
   pub short : length turns < 2 ^ 32
   pub groups : (v : ℕ) → is_among (vertices turns) v ≡ true → IsGroupOf polygons v (turns_at v turns)
 
--- whether the faces at the first vertex are one fan, and how many corners are there; the other corners stand behind these
+-- whether the faces at the first vertex are one fan, and the number of corners there; the other corners come after these
 pub record IsFirstGroup (polygons : List Polygon) (turns : List Turn) (is_fan : Bool) (size : ℕ) : Type 0 where
   pub fan : is_fan ≡ has_one_fan polygons (first_vertex turns)
   pub some : 0 < size

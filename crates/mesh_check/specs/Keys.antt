@@ -1,4 +1,4 @@
--- Sides and edges as numbers, and the numbers that stand often among numbers that ascend.
+-- Sides and edges as numbers, and the numbers that occur often among ascending numbers.
 use Rattle.std.specs.Prelude.{◌≡◌, ℕ, ◌+◌, ◌*◌, ◌/◌, ◌%◌, ◌^◌, ◌<◌, Bool, true, false, not, ◌&&◌, ◌||◌, nat_eq, nat_le, nat_lt, List, [], ◌∷◌, length, map, get_or, IsTrue, if◌then◌else◌}
 use Rattle.std.specs.List.{list_all, count_by, position_or_len}
 use Rattle.subdiv_model.specs.Polygons.{is_among}
@@ -9,7 +9,7 @@ use Rattle.level_builder.specs.NumberedEdges.{low_first}
 abbrev pub IsWord : ℕ × ℕ → Type 0
 IsWord s = (s.0 < 2 ^ 32) × (s.1 < 2 ^ 32)
 
--- each of the sides fits
+-- both ends of each side fit 32 bits
 abbrev pub AreWords : List (ℕ × ℕ) → Type 0
 AreWords [] = Unit {0}
 AreWords (s ∷ sides) = IsWord s × AreWords sides
@@ -22,7 +22,7 @@ side_key s = s.0 * 2 ^ 32 + s.1
 abbrev pub edge_key : ℕ × ℕ → ℕ
 edge_key s = side_key (low_first s)
 
--- the number of a side, or of its edge where directions do not count
+-- the number of a side, or that of its edge if directions do not count
 abbrev pub key_by : Bool → ℕ × ℕ → ℕ
 key_by directed s = if directed then side_key s else edge_key s
 
@@ -31,51 +31,51 @@ abbrev pub Rises : List ℕ → Type 0
 Rises [] = Unit {0}
 Rises (n ∷ numbers) = IsTrue (list_all (nat_le n) numbers) × Rises numbers
 
--- the number stands so many places after the first as well
+-- the number at this many places after the first is the same too
 abbrev pub is_again : ℕ → List ℕ → ℕ → Bool
 is_again gap numbers n = nat_lt gap (length numbers) && nat_eq (get_or numbers gap 0) n
 
--- the numbers that stand so many places later again: of numbers that ascend, those that stand more often than that
+-- the numbers that occur again this many places later; among ascending numbers, those that occur more often than that
 abbrev pub repeats : ℕ → List ℕ → List ℕ
 repeats gap [] = []
 repeats gap (n ∷ numbers) = if is_again gap (n ∷ numbers) n then n ∷ repeats gap numbers else repeats gap numbers
 
--- one of the numbers is the one before it, where this one stands before the first
+-- one of the numbers equals the one before it; the first argument comes before the list
 abbrev pub has_equal_after : ℕ → List ℕ → Bool
 has_equal_after n [] = false
 has_equal_after n (m ∷ numbers) = nat_eq n m || has_equal_after m numbers
 
--- two neighbours are equal: of numbers that ascend, one stands twice
+-- two neighbours are equal; among ascending numbers, one occurs twice
 abbrev pub has_equal_neighbours : List ℕ → Bool
 has_equal_neighbours [] = false
 has_equal_neighbours (n ∷ numbers) = has_equal_after n numbers
 
--- the numbers that neither the one before nor the one behind is, where the first may be known to follow one that it is: of
--- numbers that ascend, those that stand once
+-- the numbers that equal neither neighbour; the first argument says whether the first number equals the one before it. Among
+-- ascending numbers these occur once.
 abbrev pub alone_after : Bool → List ℕ → List ℕ
 alone_after again [] = []
 alone_after again (n ∷ numbers) = if not again && not (is_again 1 (n ∷ numbers) n) then n ∷ alone_after (is_again 1 (n ∷ numbers) n) numbers else alone_after (is_again 1 (n ∷ numbers) n) numbers
 
--- the ends of the edge that a number names
+-- the ends of the edge with a number
 abbrev pub ends_of_key : ℕ → List ℕ
 ends_of_key key = key / 2 ^ 32 ∷ key % 2 ^ 32 ∷ []
 
--- the numbers that the one behind is not: of numbers that ascend, each once
+-- the numbers that differ from the one after them; of ascending numbers, each once
 abbrev pub each_once : List ℕ → List ℕ
 each_once [] = []
 each_once (n ∷ numbers) = if is_again 1 (n ∷ numbers) n then each_once numbers else n ∷ each_once numbers
 
--- the numbers of the edges of sides, ascending, each as often as sides are that edge
+-- the numbers of the edges of sides, ascending; an edge occurs once for each of its sides
 pub record AreEdgeKeys (sides : List (ℕ × ℕ)) (keys : List ℕ) : Type 0 where
   pub words : AreWords sides
   pub rises : Rises keys
   pub often : (n : ℕ) → count_by (nat_eq n) keys ≡ count_by (nat_eq n) (map edge_key sides)
 
--- the side is among these; where directions do not count, its edge is
+-- the side is among these; if directions do not count, its edge is
 abbrev pub is_named : Bool → List ℕ → ℕ × ℕ → Bool
 is_named true known s = is_among known (side_key s) || is_among known (side_key (reversed s))
 is_named false known s = is_among known (edge_key s)
 
--- the number is one of these, and has no mark 1 at its place
+-- the number is one of these, and its place has no mark 1
 abbrev pub is_unmarked : List ℕ → List ℕ → ℕ → Bool
 is_unmarked keys marks n = is_among keys n && not (nat_eq (get_or marks (position_or_len (nat_eq n) keys) 0) 1)

@@ -6,7 +6,7 @@ use Rattle.subdiv_model.specs.Polygons.{Polygon}
 use Rattle.mesh_check.specs.declared.turns.Turn.{Turn}
 use Rattle.mesh_check.specs.Keys.{side_key, Rises}
 
--- the corners of a path in a face, where one stands before the path and `first` after it
+-- the corners of a path in a face, with one corner before the path and `first` after it
 abbrev pub turns_from : ℕ → ℕ → ℕ → Polygon → List Turn
 turns_from face first before [] = []
 turns_from face first before (v ∷ rest) =
@@ -16,12 +16,12 @@ turns_from face first before (v ∷ rest) =
 abbrev pub turns_of : ℕ → Polygon → List Turn
 turns_of face polygon = turns_from face (get_or polygon 0 0) (get_or polygon (length polygon - 1) 0) polygon
 
--- all corners of faces, where the first one has this number
+-- all corners of faces; the first face has this number
 abbrev pub turns_after : ℕ → List Polygon → List Turn
 turns_after face [] = []
 turns_after face (polygon ∷ polygons) = turns_of face polygon ++ turns_after (face + 1) polygons
 
--- the side that comes to a corner as one number, after the corner
+-- the side that comes to a corner as one number, with the corner in the high half
 abbrev pub turn_key : Turn → ℕ
 turn_key turn = side_key (turn.vertex, turn.before)
 

@@ -1,4 +1,4 @@
--- The faults of a check, seen as those of the definitions.
+-- The faults of a check in the terms of the definitions.
 use Rattle.std.specs.Prelude.{Option, Some, None}
 use Rattle.subdiv_model.specs.MeshFault as model
 use Rattle.subdiv_model.specs.Fault as run
@@ -15,7 +15,7 @@ mesh_fault_of (mesh.NonManifoldEdge a b) = model.NonManifoldEdge a b
 mesh_fault_of (mesh.WindingClash a b) = model.WindingClash a b
 mesh_fault_of (mesh.SplitVertex v) = model.SplitVertex v
 
--- the fault that is named, where there is one
+-- the fault that is reported, if there is one
 abbrev pub named : Option MeshFault → Option model.MeshFault
 named None = None
 named (Some fault) = Some (mesh_fault_of fault)

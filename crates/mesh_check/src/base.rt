@@ -19,7 +19,7 @@ use sharpness_rules::Sharpness;
 use std::alloc::Global;
 use std::sync::ledger::Ledger;
 
-// The key of all faces.
+// Returns the key of all faces.
 fn key_of(raw: &RawMesh) -> u128 {
     let mut key = MeshKey::new();
     for f in 0..raw.faces() {
@@ -28,7 +28,7 @@ fn key_of(raw: &RawMesh) -> u128 {
     key.finish()
 }
 
-// How many corners all faces have.
+// Returns the number of corners of all faces together.
 fn corner_count(raw: &RawMesh) -> u32
     requires { sum_by length raw.now.faces < 2 ^ 27 }
     ensures { result ≡ sum_by length raw.now.faces }
@@ -40,7 +40,8 @@ fn corner_count(raw: &RawMesh) -> u32
     count
 }
 
-// The points alone, with room for all that comes. Each boundary edge has one side, and any other has two.
+// Returns a builder that has only the points, with memory for all that follows. Each boundary edge has one side, and any
+// other has two.
 fn points_alone(alloc: Global, raw: &RawMesh, boundary: usize) -> Result<LevelBuilder, Memory>
     requires { IsFit raw.now }
     ensures { IfOk result (λ b. b ≡ only_points (length raw.now.points) raw.now.method) }
@@ -81,7 +82,7 @@ fn add_faces<L: Ledger>(
     Ok(())
 }
 
-// Sets the sharpness of a crease, where its pair is an edge.
+// Sets the sharpness of a crease, if its pair is an edge.
 fn add_crease(builder: &mut LevelBuilder, crease: Crease, edges: &[u64])
     requires { AreEdges builder.old.level.polygons edges.now }
     ensures { builder.new ≡ with_edge_tag (crease_of crease) builder.old }
@@ -159,7 +160,7 @@ fn mark_points(builder: &mut LevelBuilder, points: u32)
     }
 }
 
-// Gives points alone the faces, the sharpness and the marks of the mesh.
+// Adds the faces, the sharpness and the marks of the mesh to the points.
 fn add_all<L: Ledger>(
     alloc: Global,
     raw: &RawMesh,
@@ -184,8 +185,8 @@ fn add_all<L: Ledger>(
     Ok(())
 }
 
-// Level 0 of a mesh without fault, by the numbers of its edges, its boundary edges and the marks of its holes. Each face
-// takes a step.
+// Returns level 0 of a mesh without fault, from the numbers of its edges, its boundary edges and the marks of its holes. Each
+// face is one step.
 pub(crate) fn base_level<L: Ledger>(
     alloc: Global,
     raw: &RawMesh,

@@ -26,7 +26,7 @@ pub(crate) fn count_face(counts: &mut Vec<u32>, face: &[u32])
     }
 }
 
-// How many corners of faces are at each vertex.
+// Returns the number of corners of faces at each vertex.
 fn corner_counts(alloc: Global, raw: &RawMesh) -> Result<Vec<u32>, Memory>
     ensures size { IfOk result (λ counts. length counts.items ≡ length raw.now.points) }
     ensures counts { IfOk result (λ counts. (v : ℕ) → get_or counts.items v 0 ≡ sum_by (count_by (nat_eq v)) raw.now.faces) }
@@ -39,7 +39,7 @@ fn corner_counts(alloc: Global, raw: &RawMesh) -> Result<Vec<u32>, Memory>
     Ok(counts)
 }
 
-// Makes a vertex infinitely sharp, where one corner is there.
+// Makes a vertex infinitely sharp, if it has one corner.
 fn add_single(builder: &mut LevelBuilder, v: u32, count: u32)
     requires { v < builder.old.level.point_count }
     ensures { builder.new ≡ (if nat_eq count 1 then with_sharp_vertex v Infinite builder.old else builder.old) }
@@ -49,7 +49,7 @@ fn add_single(builder: &mut LevelBuilder, v: u32, count: u32)
     }
 }
 
-// Makes each vertex infinitely sharp at which there is one corner.
+// Makes each vertex with one corner infinitely sharp.
 fn add_singles(builder: &mut LevelBuilder, counts: &[u32])
     requires points { length counts.now ≡ builder.old.level.point_count }
     requires few { length counts.now < 2 ^ 32 }
@@ -64,7 +64,7 @@ fn add_singles(builder: &mut LevelBuilder, counts: &[u32])
     }
 }
 
-// Makes the corners of exactly one face infinitely sharp, where the boundary mode says so.
+// Makes the corners of exactly one face infinitely sharp, if the boundary mode does so.
 pub(crate) fn add_end_corners(
     alloc: Global,
     raw: &RawMesh,

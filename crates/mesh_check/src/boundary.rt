@@ -1,4 +1,4 @@
-//! The edges of the faces, and the sides whose edge no other side is.
+//! The edges of the faces, and the sides whose edge belongs to no other side.
 
 ghost use Rattle.std.specs.Prelude.{◌≡◌, ℕ, nat_eq, length, IfOk, None};
 ghost use Rattle.std.specs.List.{filter, list_any, count_by};
@@ -13,7 +13,7 @@ use ratio128::Memory;
 use raw_mesh::RawMesh;
 use std::alloc::Global;
 
-// The edges of all sides as numbers, ascending, each as often as sides are that edge.
+// Returns the edges of all sides as numbers, ascending. An edge occurs once for each of its sides.
 pub(crate) fn known_edges(alloc: Global, sides: &[(u32, u32)]) -> Result<Vec<u64>, Memory>
     ensures rises { IfOk result (λ edges. Rises edges.items) }
     ensures known { IfOk result (λ edges. (s : ℕ × ℕ) → IsWord s → is_among edges.items (edge_key s) ≡ list_any (same_edge s) sides.now) }
@@ -24,7 +24,7 @@ pub(crate) fn known_edges(alloc: Global, sides: &[(u32, u32)]) -> Result<Vec<u64
     Ok(edges)
 }
 
-// The sides whose edge no other side is.
+// Returns the sides whose edge belongs to no other side.
 fn boundary_sides(
     alloc: Global,
     sides: &[(u32, u32)],
@@ -38,8 +38,8 @@ fn boundary_sides(
     Ok(found)
 }
 
-// The sides of a mesh without fault whose edge is of one face. All sides are handed over, so that their room is free again.
-// The mesh is there for the contract alone.
+// Returns the sides of a mesh without fault whose edge has one face. The call takes all sides over and frees their memory.
+// Only the contract uses `raw`.
 pub(crate) fn mesh_boundary(
     alloc: Global,
     raw: &RawMesh,

@@ -1,4 +1,4 @@
-//! Whether items that each lead to one other at most stand in one chain.
+//! The test whether items form one chain. Each item leads to at most one other.
 
 ghost use Rattle.std.specs.Prelude.{◌≡◌, ℕ, ◌^◌, ◌<◌, true, false, nat_eq, length, get_or, IfOk, MatchOption};
 ghost use Rattle.mesh_check.specs.Chain.{IsOneChain, IsStart, is_long_walk};
@@ -7,7 +7,7 @@ use crate::marks::{mark_at, marks_of, no_marks};
 use ratio128::Memory;
 use std::alloc::Global;
 
-// The first place without the mark 1.
+// Returns the first place without the mark 1.
 fn first_bare(marks: &[u32]) -> Option<usize>
     ensures { MatchOption result ((j : ℕ) → j < length marks.now → nat_eq (get_or marks.now j 0) 1 ≡ true) (λ s. (s < length marks.now) × (nat_eq (get_or marks.now s 0) 1 ≡ false)) }
 {
@@ -19,7 +19,7 @@ fn first_bare(marks: &[u32]) -> Option<usize>
     None
 }
 
-// Where a chain of all items can begin.
+// Returns an item at which a chain of all items can begin.
 fn start_of(alloc: Global, next: &[u32]) -> Result<usize, Memory>
     ensures { IfOk result (λ s. IsStart next.now s) }
 {
@@ -27,7 +27,7 @@ fn start_of(alloc: Global, next: &[u32]) -> Result<usize, Memory>
     Ok(first_bare(&led).unwrap_or(0))
 }
 
-// Whether a walk meets as many items as there are before it ends or comes to one again.
+// Returns whether a walk meets all items before it ends or repeats one.
 fn is_long_walk(alloc: Global, next: &[u32], start: u32) -> Result<bool, Memory>
     ensures { IfOk result (λ long. long ≡ is_long_walk next.now start) }
 {
@@ -47,7 +47,7 @@ fn is_long_walk(alloc: Global, next: &[u32], start: u32) -> Result<bool, Memory>
     Ok(true)
 }
 
-// Whether all items stand in one chain.
+// Returns whether all items form one chain.
 pub(crate) fn is_one_chain(alloc: Global, next: &[u32]) -> Result<bool, Memory>
     requires { length next.now < 2 ^ 32 }
     ensures chain { IfOk result (λ is. is ≡ true → IsOneChain next.now) }

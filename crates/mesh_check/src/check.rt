@@ -24,7 +24,7 @@ use raw_mesh::RawMesh;
 use std::alloc::Global;
 use std::sync::ledger::Ledger;
 
-// Level 0 of a mesh without fault whose sizes are within their limits, by its sides and the numbers of its edges.
+// Returns level 0 of a mesh without fault whose sizes are within their limits, from its sides and the numbers of its edges.
 fn level_of<L: Ledger>(
     alloc: Global,
     raw: &RawMesh,
@@ -49,8 +49,8 @@ fn level_of<L: Ledger>(
     Ok(level)
 }
 
-// Level 0 of a mesh without fault whose sizes are within their limits, unless a vertex has too many edges. The edges are
-// counted first, so that no level is built in vain.
+// Returns level 0 of a mesh without fault whose sizes are within their limits, unless a vertex has too many edges. The call
+// counts the edges first, so that it builds no level in vain.
 fn small_level<L: Ledger>(
     alloc: Global,
     raw: &RawMesh,
@@ -72,16 +72,15 @@ fn small_level<L: Ledger>(
     Ok(level)
 }
 
-/// Level 0 of a mesh: its faces, with the sharpness of its tags and of its boundary, and with its holes, each point
-/// complete.
+/// Returns level 0 of a mesh: its faces and holes, with the sharpness of its tags and of its boundary. Each point is
+/// complete. Each face takes at most one step. The time is about that of sorting the edges, for every mesh.
 ///
-/// `Mesh` comes exactly where the mesh is no manifold, with its first fault: over the whole mesh a face of fewer than three
-/// corners, a face that has a vertex twice, an edge of three or more faces, an edge that two faces have in one direction, and
-/// a vertex whose faces are more than one fan, and of one kind the least face, the edge that a face names first, or the least
-/// vertex. `TooLarge` comes exactly where it is a manifold and has more than 2^20 points, more than 2^20 faces, a face of more
-/// than 2^16 corners or a vertex of more than 2^16 edges, with the first of these, the least face or the least vertex.
-/// `Memory` may come at any time. It takes at most one step for each face, and about the time that sorting its edges takes,
-/// whatever the mesh. Source: this profile.
+/// Reports `Mesh` with the first fault exactly where the mesh is not a manifold. The order of faults is that of `MeshFault`.
+/// Within a kind the first is the least face, the edge that a face names first, or the least vertex.
+///
+/// Reports `TooLarge` exactly where a manifold exceeds a limit: 2^20 points, 2^20 faces, 2^16 corners of a face or 2^16 edges
+/// of a vertex. It names the first of these, with the least face or vertex. Reports `Memory` where memory runs out, for any
+/// mesh.
 pub fn check_mesh<L: Ledger>(
     alloc: Global,
     raw: &RawMesh,

@@ -1,4 +1,4 @@
-//! The corners of each face: three or more, and no vertex twice.
+//! The corners of each face: at least three, and no vertex twice.
 
 ghost use Rattle.std.specs.Prelude.{◌≡◌, ℕ, ◌+◌, ◌<◌, ◌≤◌, ◌++◌, length, map, get_or, IfOk, OnOk, not};
 ghost use Rattle.std.specs.List.{All};
@@ -14,7 +14,7 @@ use ratio128::Memory;
 use raw_mesh::RawMesh;
 use std::alloc::Global;
 
-// The first face of fewer than three corners.
+// Returns the first face with fewer than three corners.
 pub(crate) fn small_face(raw: &RawMesh) -> Option<u32>
     ensures { result ≡ first_of (small_faces raw.now.faces) }
 {
@@ -26,7 +26,7 @@ pub(crate) fn small_face(raw: &RawMesh) -> Option<u32>
     None
 }
 
-// Whether a face has a vertex twice. The mark of the face is set at the vertices that are met.
+// Returns whether a face has a vertex twice. It marks the vertices that it meets with the mark of the face.
 fn has_twice(face: &[u32], marks: &mut Vec<u32>, mark: u32) -> bool
     requires inside { All (λ v. v < length marks.old.items) face.now }
     requires fresh { (v : ℕ) → get_or marks.old.items v 0 < mark }
@@ -42,7 +42,7 @@ fn has_twice(face: &[u32], marks: &mut Vec<u32>, mark: u32) -> bool
     false
 }
 
-// The first face that has a vertex twice. A table holds for each vertex the last face that was met there.
+// Returns the first face that has a vertex twice. A table contains for each vertex the last face that was met there.
 pub(crate) fn repeating_face(alloc: Global, raw: &RawMesh) -> Result<Option<u32>, Memory>
     ensures { IfOk result (λ found. found ≡ first_of (repeating_faces raw.now.faces)) }
 {
@@ -56,7 +56,7 @@ pub(crate) fn repeating_face(alloc: Global, raw: &RawMesh) -> Result<Option<u32>
     Ok(None)
 }
 
-// Puts the faces of fewer than three corners behind other faults, ascending.
+// Adds the faces with fewer than three corners after other faults, ascending.
 pub(crate) fn put_small_faces(faults: &mut Vec<MeshFault>, raw: &RawMesh) -> Result<(), Memory>
     ensures { OnOk result (map mesh_fault_of faults.new.items ≡ map mesh_fault_of faults.old.items ++ map FaceTooSmall (small_faces raw.now.faces)) }
 {
@@ -67,7 +67,7 @@ pub(crate) fn put_small_faces(faults: &mut Vec<MeshFault>, raw: &RawMesh) -> Res
     Ok(())
 }
 
-// Puts the faces that have a vertex twice behind other faults, ascending.
+// Adds the faces that have a vertex twice after other faults, ascending.
 pub(crate) fn put_repeating_faces(
     alloc: Global,
     faults: &mut Vec<MeshFault>,

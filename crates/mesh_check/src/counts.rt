@@ -1,4 +1,4 @@
-//! Counts that pass their limits.
+//! Counts that exceed their limits.
 
 ghost use Rattle.std.specs.Prelude.{◌≡◌, length, map};
 ghost use Rattle.subdiv_model.specs.Lists.{first_of};
@@ -9,7 +9,7 @@ use level_topology::Counted;
 use ratio128::limits::{MESH_LIMIT, SIZE_LIMIT};
 use raw_mesh::RawMesh;
 
-// The first face of too many corners, with how many it has.
+// Returns the first face with too many corners, and their number.
 fn large_face(raw: &RawMesh) -> Option<(u32, u64)>
     ensures { result ≡ first_of (map (λ face. (face.0, length face.1)) (large_faces raw.now)) }
 {
@@ -22,7 +22,7 @@ fn large_face(raw: &RawMesh) -> Option<(u32, u64)>
     None
 }
 
-// The first count that is too great, of points, of faces and of the corners of a face.
+// Returns the first count that is too great, of points, of faces and of the corners of a face.
 pub(crate) fn size_fault(raw: &RawMesh) -> Option<Counted>
     ensures { count_named result ≡ first_of (size_faults raw.now) }
 {

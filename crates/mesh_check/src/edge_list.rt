@@ -1,4 +1,4 @@
-//! All edges that have a fault, each once, by first appearance.
+//! All edges with a fault, each once, by first appearance.
 
 ghost use Rattle.std.specs.Prelude.{◌≡◌, ◌++◌, map, IfOk, OnOk};
 ghost use Rattle.subdiv_model.specs.Edges.{all_sides};
@@ -17,7 +17,7 @@ use ratio128::Memory;
 use raw_mesh::RawMesh;
 use std::alloc::Global;
 
-// The edges that three or more sides are. The mesh is there for the contract alone.
+// Returns the edges with three or more sides. Only the contract uses `raw`.
 fn crowded_edges(
     alloc: Global,
     raw: &RawMesh,
@@ -32,7 +32,7 @@ fn crowded_edges(
     Ok(found)
 }
 
-// The edges that two sides are in one direction. The mesh is there for the contract alone.
+// Returns the edges with two sides in one direction. Only the contract uses `raw`.
 fn clashing_edges(
     alloc: Global,
     raw: &RawMesh,
@@ -47,7 +47,7 @@ fn clashing_edges(
     Ok(found)
 }
 
-// The fault of an edge that is crowded, or else of one that is clashing.
+// Returns the fault of a crowded edge, or that of a clashing edge.
 fn fault_of_edge(crowded: bool, edge: (u32, u32)) -> MeshFault
     ensures { mesh_fault_of result ≡ fault_of_edge crowded edge }
 {
@@ -58,7 +58,7 @@ fn fault_of_edge(crowded: bool, edge: (u32, u32)) -> MeshFault
     }
 }
 
-// Puts the faults of edges of one kind behind other faults.
+// Adds the faults of edges of one kind after other faults.
 fn put_edges(faults: &mut Vec<MeshFault>, crowded: bool, edges: &[(u32, u32)]) -> Result<(), Memory>
     ensures { OnOk result (map mesh_fault_of faults.new.items ≡ map mesh_fault_of faults.old.items ++ map (fault_of_edge crowded) edges.now) }
 {
@@ -70,7 +70,7 @@ fn put_edges(faults: &mut Vec<MeshFault>, crowded: bool, edges: &[(u32, u32)]) -
     Ok(())
 }
 
-// Puts all faults of edges behind other faults. Where no side comes to two corners, no edge has one.
+// Adds all faults of edges after other faults. If no side comes to two corners, no edge has a fault.
 pub(crate) fn put_edge_faults(
     alloc: Global,
     faults: &mut Vec<MeshFault>,

@@ -1,4 +1,4 @@
-//! Sides that are looked for by numbers: those of edges that too many sides are, and of edges that two sides are in one direction.
+//! The search for sides by numbers: sides of crowded edges, and sides of edges with two sides in one direction.
 
 ghost use Rattle.std.specs.Prelude.{◌≡◌, [], ◌∷◌, ◌++◌, ◌||◌, IfOk, OnOk, nat_le, true, false, if◌then◌else◌};
 ghost use Rattle.std.specs.List.{count_by, filter, find};
@@ -10,7 +10,8 @@ use crate::keys::{edge_key, edge_keys, frequent, is_known, side_key, side_keys};
 use ratio128::Memory;
 use std::alloc::Global;
 
-// Whether a side is among these in one of its directions, or where directions do not count, whether its edge is.
+// Returns whether a side is among the known ones in one of its directions. If directions do not count, it returns whether its
+// edge is.
 fn is_named(known: &[u64], directed: bool, side: (u32, u32)) -> bool
     requires { Rises known.now }
     ensures { result ≡ is_named directed known.now side }
@@ -22,7 +23,7 @@ fn is_named(known: &[u64], directed: bool, side: (u32, u32)) -> bool
     }
 }
 
-// The first side that is among these.
+// Returns the first side among the known ones.
 fn find_side(sides: &[(u32, u32)], known: &[u64], directed: bool) -> Option<(u32, u32)>
     requires { Rises known.now }
     ensures { result ≡ find (is_named directed known.now) sides.now }
@@ -37,7 +38,7 @@ fn find_side(sides: &[(u32, u32)], known: &[u64], directed: bool) -> Option<(u32
     None
 }
 
-// Puts a side behind the others, where it is said to.
+// Adds a side to the list, if `put` is true.
 pub(crate) fn put_if(put: bool, found: &mut Vec<(u32, u32)>, side: (u32, u32)) -> Result<(), Memory>
     ensures { OnOk result (found.new.items ≡ (if put then found.old.items ++ side ∷ [] else found.old.items)) }
 {
@@ -47,7 +48,7 @@ pub(crate) fn put_if(put: bool, found: &mut Vec<(u32, u32)>, side: (u32, u32)) -
     Ok(())
 }
 
-// The sides that are among these.
+// Returns the sides among the known ones.
 pub(crate) fn sides_among(
     alloc: Global,
     sides: &[(u32, u32)],
@@ -67,7 +68,7 @@ pub(crate) fn sides_among(
     Ok(found)
 }
 
-// The first side whose edge three or more sides are.
+// Returns the first side whose edge has three or more sides.
 pub(crate) fn crowded_side(
     alloc: Global,
     sides: &[(u32, u32)],
@@ -78,7 +79,7 @@ pub(crate) fn crowded_side(
     Ok(find_side(sides, &crowded, false))
 }
 
-// The first side whose edge two sides are in one direction.
+// Returns the first side whose edge has two sides in one direction.
 pub(crate) fn clashing_side(
     alloc: Global,
     sides: &[(u32, u32)],
@@ -89,7 +90,7 @@ pub(crate) fn clashing_side(
     Ok(find_side(sides, &twice, true))
 }
 
-// The sides whose edge three or more sides are.
+// Returns the sides whose edge has three or more sides.
 pub(crate) fn crowded_sides(alloc: Global, sides: &[(u32, u32)]) -> Result<Vec<(u32, u32)>, Memory>
     ensures { IfOk result (λ found. found.items ≡ filter (λ s. nat_le 3 (count_by (same_edge s) sides.now)) sides.now) }
 {
@@ -98,7 +99,7 @@ pub(crate) fn crowded_sides(alloc: Global, sides: &[(u32, u32)]) -> Result<Vec<(
     Ok(found)
 }
 
-// The sides whose edge two sides are in one direction.
+// Returns the sides whose edge has two sides in one direction.
 pub(crate) fn clashing_sides(alloc: Global, sides: &[(u32, u32)]) -> Result<Vec<(u32, u32)>, Memory>
     ensures { IfOk result (λ found. found.items ≡ filter (λ s. nat_le 2 (count_by (same_side s) sides.now) || nat_le 2 (count_by (same_side (reversed s)) sides.now)) sides.now) }
 {

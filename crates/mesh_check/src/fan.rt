@@ -1,4 +1,4 @@
-//! Whether the faces at a vertex are one fan.
+//! The test whether the faces at a vertex are one fan.
 
 ghost use Rattle.std.specs.Prelude.{◌≡◌, ◌^◌, ◌<◌, true, nat_eq, length, IfOk};
 ghost use Rattle.std.specs.List.{position_or_len};
@@ -10,7 +10,7 @@ use crate::chain::is_one_chain;
 use ratio128::Memory;
 use std::alloc::Global;
 
-// The place of a corner among corners that ascend, and how many there are where it is none of them.
+// Returns the place of a corner among ascending corners, or their number if it is none of them.
 fn place_in(corners: &[u32], corner: u32) -> u32
     requires rises { Rises corners.now }
     requires once { is_distinct corners.now ≡ true }
@@ -23,8 +23,8 @@ fn place_in(corners: &[u32], corner: u32) -> u32
     }
 }
 
-// For each face at a vertex the place of the next one about it, from the corners before the vertex, which ascend, and
-// those after it.
+// Returns for each face at a vertex the place of the next face about it, from the ascending corners before the vertex and the
+// corners after it.
 fn next_places(alloc: Global, befores: &[u32], afters: &[u32]) -> Result<Vec<u32>, Memory>
     requires rises { Rises befores.now }
     requires once { is_distinct befores.now ≡ true }
@@ -38,7 +38,8 @@ fn next_places(alloc: Global, befores: &[u32], afters: &[u32]) -> Result<Vec<u32
     Ok(next)
 }
 
-// Whether the faces at a vertex are one fan, by the corners before it in each, which ascend, and those after it.
+// Returns whether the faces at a vertex are one fan, from the ascending corners before it in each face and the corners after
+// it.
 pub(crate) fn is_fan(alloc: Global, befores: &[u32], afters: &[u32]) -> Result<bool, Memory>
     requires rises { Rises befores.now }
     requires once { is_distinct befores.now ≡ true }

@@ -1,4 +1,4 @@
-//! What is wrong with a mesh, and why a check gives no level.
+//! The faults of a mesh, and the reasons why a check returns no level.
 
 ghost use Rattle.std.specs.Prelude.{◌≡◌, Some};
 ghost use Rattle.subdiv_model.specs.Fault.{mesh_fault_text, fault_text};
@@ -9,23 +9,23 @@ use ratio128::Memory;
 use std::fmt;
 use text_pieces::Pieces;
 
-/// What is wrong with a mesh. Faces and vertices are counted from 0.
+/// A fault of a mesh. A check reports the first kind of this list that the mesh has. Faces and vertices are counted from 0.
 #[derive(Clone, Copy, Debug, PartialEq, Eq)]
 pub enum MeshFault {
-    /// A face of fewer than three corners.
+    /// This face has fewer than three corners.
     FaceTooSmall(u32),
-    /// A face that has a vertex twice.
+    /// This face has a vertex twice.
     RepeatedVertex(u32),
-    /// An edge, by its ends as a face first names it, that three or more sides of faces are.
+    /// Three or more sides of faces are this edge. Its ends have the order in which a face first names them.
     NonManifoldEdge(u32, u32),
-    /// An edge, by its ends as a face first names it, that two sides of faces are in one direction.
+    /// Two sides of faces are this edge in one direction. Its ends have the order in which a face first names them.
     WindingClash(u32, u32),
-    /// A vertex whose faces are more than one fan.
+    /// The faces at this vertex are more than one fan.
     SplitVertex(u32),
 }
 
 impl MeshFault {
-    /// The fault in words.
+    /// Returns the text of the fault.
     pub fn pieces(&self) -> Pieces
         ensures { result ≡ mesh_fault_text (mesh_fault_of self.now) }
     {
@@ -67,19 +67,19 @@ impl fmt::Display for MeshFault {
 
 impl std::error::Error for MeshFault {}
 
-/// Why a check gives no level.
+/// The reason why a check returns no level.
 #[derive(Clone, Copy, Debug, PartialEq, Eq)]
 pub enum CheckFault {
-    /// The mesh is no manifold.
+    /// The mesh is not a manifold.
     Mesh(MeshFault),
-    /// The mesh is a manifold, and a count of it passes its limit.
+    /// The mesh is a manifold, but one of its counts exceeds its limit.
     TooLarge(Counted),
     /// Memory ran out.
     Memory,
 }
 
 impl CheckFault {
-    /// The fault in words.
+    /// Returns the text of the fault.
     pub fn pieces(&self) -> Pieces
         ensures { result ≡ fault_text (check_fault_of self.now) }
     {

@@ -17,7 +17,7 @@ use ratio128::Memory;
 use raw_mesh::RawMesh;
 use std::alloc::Global;
 
-// The first fault of the corners of faces.
+// Returns the first fault of the corners of faces.
 pub(crate) fn corner_fault(alloc: Global, raw: &RawMesh) -> Result<Option<MeshFault>, Memory>
     ensures { IfOk result (λ found. named found ≡ first_of (corner_faults raw.now.faces)) }
 {
@@ -31,7 +31,7 @@ pub(crate) fn corner_fault(alloc: Global, raw: &RawMesh) -> Result<Option<MeshFa
     }
 }
 
-// The fault of a crowded edge, or else of a clashing one.
+// Returns the fault of a crowded edge, or else that of a clashing edge.
 fn edge_named(crowded: Option<(u32, u32)>, clashing: Option<(u32, u32)>) -> Option<MeshFault>
     ensures { named result ≡ edge_named crowded clashing }
 {
@@ -42,7 +42,7 @@ fn edge_named(crowded: Option<(u32, u32)>, clashing: Option<(u32, u32)>) -> Opti
     }
 }
 
-// The fault of a vertex whose faces are more than one fan.
+// Returns the fault of a vertex whose faces are more than one fan.
 fn vertex_named(found: Option<u32>) -> Option<MeshFault>
     ensures { named result ≡ vertex_named found }
 {
@@ -52,7 +52,7 @@ fn vertex_named(found: Option<u32>) -> Option<MeshFault>
     }
 }
 
-// The first fault of the edges of faces. Where no side comes to two corners, no edge has one.
+// Returns the first fault of the edges of faces. If no side comes to two corners, no edge has a fault.
 fn edge_fault(alloc: Global, raw: &RawMesh, turns: &[Turn]) -> Result<Option<MeshFault>, Memory>
     requires { AreSortedTurns raw.now.faces turns.now }
     ensures { IfOk result (λ found. named found ≡ first_of (edge_faults raw.now.faces)) }
@@ -66,7 +66,7 @@ fn edge_fault(alloc: Global, raw: &RawMesh, turns: &[Turn]) -> Result<Option<Mes
     Ok(edge_named(crowded, clashing))
 }
 
-// The first fault of a mesh.
+// Returns the first fault of a mesh.
 pub(crate) fn mesh_fault(alloc: Global, raw: &RawMesh) -> Result<Option<MeshFault>, Memory>
     ensures { IfOk result (λ found. named found ≡ first_mesh_fault (length raw.now.points) raw.now.faces) }
 {

@@ -12,7 +12,7 @@ use ratio128::Memory;
 use raw_mesh::{Boundary, RawMesh};
 use std::alloc::Global;
 
-// Of so many points, the mark 1 at each end of these sides.
+// Returns marks for `count` points, with the mark 1 at each end of these sides.
 fn end_marks(alloc: Global, count: usize, sides: &[(u32, u32)]) -> Result<Vec<u32>, Memory>
     ensures size { IfOk result (λ marks. length marks.items ≡ count) }
     ensures ends { IfOk result (λ marks. (v : ℕ) → v < count → nat_eq (get_or marks.items v 0) 1 ≡ list_any (has_end v) sides.now) }
@@ -27,7 +27,7 @@ fn end_marks(alloc: Global, count: usize, sides: &[(u32, u32)]) -> Result<Vec<u3
     Ok(marks)
 }
 
-// The mark 1 at each point that hides its faces, by the sides at the boundary.
+// Returns the mark 1 at each point that hides its faces, from the sides at the boundary.
 fn hiding_points(alloc: Global, raw: &RawMesh, boundary: &[(u32, u32)]) -> Result<Vec<u32>, Memory>
     ensures { IfOk result (λ marks. (v : ℕ) → v < length raw.now.points → nat_eq (get_or marks.items v 0) 1 ≡ is_hiding raw.now.boundary boundary.now v) }
 {
@@ -38,7 +38,7 @@ fn hiding_points(alloc: Global, raw: &RawMesh, boundary: &[(u32, u32)]) -> Resul
     }
 }
 
-// Whether the mark 1 stands at a corner of a face.
+// Returns whether a corner of a face has the mark 1.
 fn has_marked(marks: &[u32], face: &[u32]) -> bool
     ensures { result ≡ list_any (λ v. nat_eq (get_or marks.now v 0) 1) face.now }
 {
@@ -52,14 +52,15 @@ fn has_marked(marks: &[u32], face: &[u32]) -> bool
     false
 }
 
-// Whether a face is a hole, by the marks of the faces that tags name, and those of the points that hide their faces.
+// Returns whether a face is a hole, from the marks of the faces that tags name and the marks of the points that hide their
+// faces.
 fn is_hole(named: &[u32], hiding: &[u32], f: u32, face: &[u32]) -> bool
     ensures { result ≡ (nat_eq (get_or named.now f 0) 1 || list_any (λ v. nat_eq (get_or hiding.now v 0) 1) face.now) }
 {
     is_marked(named, f) || has_marked(hiding, face)
 }
 
-// Whether each face is a hole, by these marks.
+// Returns for each face whether it is a hole, from these marks.
 fn holes_by(
     alloc: Global,
     raw: &RawMesh,
@@ -78,7 +79,7 @@ fn holes_by(
     Ok(holes)
 }
 
-// Whether each face is a hole, from the sides at the boundary.
+// Returns for each face whether it is a hole, from the sides at the boundary.
 pub(crate) fn hole_marks(
     alloc: Global,
     raw: &RawMesh,

@@ -1,4 +1,4 @@
-//! Numbers that stand often in a list, found by sorting.
+//! Numbers that occur often in a list, found by sorting.
 
 ghost use Rattle.std.specs.Prelude.{◌≡◌, ℕ, nat_eq, nat_lt, ◌&&◌, [], ◌∷◌, ◌++◌, map, IfOk, OnOk, if◌then◌else◌};
 ghost use Rattle.std.specs.List.{count_by};
@@ -8,7 +8,7 @@ ghost use Rattle.mesh_check.specs.Keys.{IsWord, AreWords, side_key, edge_key, ke
 use ratio128::Memory;
 use std::alloc::Global;
 
-// A side as one number.
+// Returns a side as one number.
 pub(crate) fn side_key(side: (u32, u32)) -> u64
     ensures key { result ≡ side_key side }
     ensures word { IsWord side }
@@ -16,7 +16,7 @@ pub(crate) fn side_key(side: (u32, u32)) -> u64
     ((side.0 as u64) << 32) + side.1 as u64
 }
 
-// An edge as one number, the same in both directions.
+// Returns an edge as one number, which is the same in both directions.
 pub(crate) fn edge_key(side: (u32, u32)) -> u64
     ensures key { result ≡ edge_key side }
     ensures word { IsWord side }
@@ -28,7 +28,7 @@ pub(crate) fn edge_key(side: (u32, u32)) -> u64
     }
 }
 
-// The number of a side, or of its edge where directions do not count.
+// Returns the number of a side, or that of its edge if directions do not count.
 fn key_by(side: (u32, u32), directed: bool) -> u64
     ensures key { result ≡ key_by directed side }
     ensures word { IsWord side }
@@ -40,7 +40,7 @@ fn key_by(side: (u32, u32), directed: bool) -> u64
     }
 }
 
-// The numbers of all sides.
+// Returns the numbers of all sides, or those of their edges if directions do not count.
 fn keys_by(alloc: Global, sides: &[(u32, u32)], directed: bool) -> Result<Vec<u64>, Memory>
     ensures keys { IfOk result (λ keys. keys.items ≡ map (key_by directed) sides.now) }
     ensures words { OnOk result (AreWords sides.now) }
@@ -54,7 +54,7 @@ fn keys_by(alloc: Global, sides: &[(u32, u32)], directed: bool) -> Result<Vec<u6
     Ok(keys)
 }
 
-// The numbers of all sides.
+// Returns the numbers of all sides.
 pub(crate) fn side_keys(alloc: Global, sides: &[(u32, u32)]) -> Result<Vec<u64>, Memory>
     ensures keys { IfOk result (λ keys. keys.items ≡ map side_key sides.now) }
     ensures words { OnOk result (AreWords sides.now) }
@@ -62,7 +62,7 @@ pub(crate) fn side_keys(alloc: Global, sides: &[(u32, u32)]) -> Result<Vec<u64>,
     keys_by(alloc, sides, true)
 }
 
-// The numbers of their edges.
+// Returns the numbers of the edges of all sides.
 pub(crate) fn edge_keys(alloc: Global, sides: &[(u32, u32)]) -> Result<Vec<u64>, Memory>
     ensures keys { IfOk result (λ keys. keys.items ≡ map edge_key sides.now) }
     ensures words { OnOk result (AreWords sides.now) }
@@ -70,14 +70,14 @@ pub(crate) fn edge_keys(alloc: Global, sides: &[(u32, u32)]) -> Result<Vec<u64>,
     keys_by(alloc, sides, false)
 }
 
-// Whether a number stands so many places after the first as well.
+// Returns whether the number `gap` places after the first is `key` too.
 pub(crate) fn is_again(keys: &[u64], gap: usize, key: u64) -> bool
     ensures { result ≡ is_again gap keys.now key }
 {
     gap < keys.len() && keys[gap] == key
 }
 
-// Puts a number behind the others, where it is said to.
+// Adds a number to the list, if `put` is true.
 fn put_if(put: bool, found: &mut Vec<u64>, key: u64) -> Result<(), Memory>
     ensures { OnOk result (found.new.items ≡ (if put then found.old.items ++ key ∷ [] else found.old.items)) }
 {
@@ -87,7 +87,7 @@ fn put_if(put: bool, found: &mut Vec<u64>, key: u64) -> Result<(), Memory>
     Ok(())
 }
 
-// The numbers that stand so many places later again.
+// Returns the numbers that occur again `gap` places later.
 fn repeats(alloc: Global, keys: &[u64], gap: usize) -> Result<Vec<u64>, Memory>
     ensures { IfOk result (λ found. found.items ≡ repeats gap keys.now) }
 {
@@ -101,7 +101,7 @@ fn repeats(alloc: Global, keys: &[u64], gap: usize) -> Result<Vec<u64>, Memory>
     Ok(found)
 }
 
-// The numbers that stand in a list more often than the limit, ascending.
+// Returns the numbers that occur in a list more often than the limit, ascending.
 pub(crate) fn frequent(alloc: Global, keys: Vec<u64>, limit: usize) -> Result<Vec<u64>, Memory>
     ensures rises { IfOk result (λ found. Rises found.items) }
     ensures often { IfOk result (λ found. (n : ℕ) → is_among found.items n ≡ nat_lt limit (count_by (nat_eq n) keys.items)) }
@@ -112,7 +112,7 @@ pub(crate) fn frequent(alloc: Global, keys: Vec<u64>, limit: usize) -> Result<Ve
     Ok(found)
 }
 
-// The numbers that stand once among numbers that ascend, ascending.
+// Returns the numbers that occur once among ascending numbers.
 pub(crate) fn alone(alloc: Global, keys: &[u64]) -> Result<Vec<u64>, Memory>
     requires { Rises keys.now }
     ensures rises { IfOk result (λ found. Rises found.items) }
@@ -130,7 +130,7 @@ pub(crate) fn alone(alloc: Global, keys: &[u64]) -> Result<Vec<u64>, Memory>
     Ok(found)
 }
 
-// Numbers that ascend, each once.
+// Returns ascending numbers, each once.
 pub(crate) fn each_once(alloc: Global, keys: &[u64]) -> Result<Vec<u64>, Memory>
     ensures { IfOk result (λ found. found.items ≡ each_once keys.now) }
 {
@@ -144,7 +144,7 @@ pub(crate) fn each_once(alloc: Global, keys: &[u64]) -> Result<Vec<u64>, Memory>
     Ok(found)
 }
 
-// Whether a number stands among numbers that ascend.
+// Returns whether a number is among ascending numbers.
 pub(crate) fn is_known(keys: &[u64], key: u64) -> bool
     requires { Rises keys.now }
     ensures { result ≡ is_among keys.now key }

@@ -1,4 +1,4 @@
-//! What is true of all lists of faults.
+//! Laws of all lists of faults.
 //!
 //! Each public function here takes nothing, does nothing and returns nothing: its clauses are the laws.
 
@@ -8,7 +8,7 @@ ghost use Rattle.subdiv_model.specs.Lists.{first_of};
 ghost use Rattle.subdiv_model.specs.MeshFault.{first_mesh_fault};
 ghost use Rattle.mesh_check.specs.Listed.{listed_faults};
 
-/// The first of the listed faults is the fault that a check names, and none is listed exactly where a check names none.
+/// The first fault of the list is the fault that a check names, and the list is empty exactly where a check names none.
 pub fn lists_begin_with_the_fault_that_is_named()
     ensures first { (points : ℕ) (polygons : List Polygon) → first_of (listed_faults points polygons) ≡ first_mesh_fault points polygons }
     ensures none { (points : ℕ) (polygons : List Polygon) → (listed_faults points polygons ≡ []) ↔ (first_mesh_fault points polygons ≡ None) }

@@ -1,4 +1,8 @@
-//! The check of a mesh: what is wrong with it, or its level 0, in about the time that sorting its edges takes.
+//! Checks that a mesh is a manifold, and returns its level 0 or its faults.
+//!
+//! `check_mesh` returns level 0 or the first fault; `mesh_faults` lists all faults. Faces and vertices are counted from 0.
+//! Both take about the time that sorting the edges takes, for every mesh. The rules of a manifold and of level 0 are this
+//! library's own.
 #![tactic(auto)]
 
 mod base;

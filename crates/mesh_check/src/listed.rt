@@ -15,14 +15,14 @@ use ratio128::Memory;
 use raw_mesh::RawMesh;
 use std::alloc::Global;
 
-// Whether vertices are judged: where no fault of faces and of edges was found.
+// Returns whether vertices are checked, which needs that faces and edges have no fault.
 fn are_vertices_judged(faults: &[MeshFault]) -> bool
     ensures { result ≡ nat_eq (length faults.now) 0 }
 {
     faults.is_empty()
 }
 
-// Puts the faults of vertices behind those of faces and edges, where there is none of these.
+// Adds the faults of vertices, if the list of the faults of faces and edges is empty.
 fn put_vertex_faults(
     alloc: Global,
     faults: &mut Vec<MeshFault>,
@@ -39,14 +39,14 @@ fn put_vertex_faults(
     put_split_vertices(alloc, faults, raw, turns)
 }
 
-/// All faults of a mesh, in their order: the faces of fewer than three corners, the faces that have a vertex twice, the edges of
-/// three or more faces, and the edges that two faces have in one direction. Where there is none of these, the vertices whose faces
-/// are more than one fan.
+/// Returns all faults of a mesh, in the order of the kinds of `MeshFault`. It checks vertices only where faces and edges have
+/// no fault.
 ///
-/// Faces and vertices are counted from 0, and ascend within a kind. Edges stand in the order in which faces first name them, each once, by their
-/// ends as a face first names them. The list is empty exactly for a manifold, and its first fault is the one that
-/// [`check_mesh`](crate::check_mesh) names. `Memory` may come at any time. It takes about the time that sorting the edges of the mesh
-/// takes, whatever the mesh. Source: this profile.
+/// Faces and vertices are counted from 0 and ascend within a kind. Each edge occurs once, in the order in which faces first
+/// name the edges, with its ends in the order of the first naming. The list is empty exactly for a manifold, and its first
+/// fault is the one that [`check_mesh`](crate::check_mesh) reports.
+///
+/// Reports `Memory` where memory runs out. The time is about that of sorting the edges, for every mesh.
 pub fn mesh_faults(alloc: Global, raw: &RawMesh) -> Result<Vec<MeshFault>, Memory>
     ensures { IfOk result (λ faults. map mesh_fault_of faults.items ≡ listed_faults (length raw.now.points) raw.now.faces) }
 {

@@ -6,7 +6,7 @@ ghost use Rattle.subdiv_model.specs.Polygons.{is_among};
 use ratio128::Memory;
 use std::alloc::Global;
 
-// So many marks, none of them set.
+// Returns `count` marks, none of them set.
 pub(crate) fn no_marks(alloc: Global, count: usize) -> Result<Vec<u32>, Memory>
     ensures { IfOk result (λ marks. marks.items ≡ replicate count 0) }
 {
@@ -14,7 +14,7 @@ pub(crate) fn no_marks(alloc: Global, count: usize) -> Result<Vec<u32>, Memory>
     Ok(marks)
 }
 
-// Whether a mark stands at a place, and sets it there.
+// Returns whether a place has a mark, and sets it there.
 pub(crate) fn mark_at(marks: &mut Vec<u32>, v: usize, mark: u32) -> bool
     requires { v < length marks.old.items }
     ensures was { result ≡ nat_eq (get_or marks.old.items v 0) mark }
@@ -25,7 +25,7 @@ pub(crate) fn mark_at(marks: &mut Vec<u32>, v: usize, mark: u32) -> bool
     was
 }
 
-// Sets the mark 1 at a place, where it is one.
+// Sets the mark 1 at a place, if it is within the list.
 pub(crate) fn set_mark(marks: &mut Vec<u32>, place: u32)
     ensures { marks.new.items ≡ slice_set marks.old.items place 1 }
 {
@@ -34,7 +34,7 @@ pub(crate) fn set_mark(marks: &mut Vec<u32>, place: u32)
     }
 }
 
-// Of so many marks, the mark 1 at each of these places.
+// Returns `count` marks, with the mark 1 at each of these places.
 pub(crate) fn marks_of(alloc: Global, count: usize, places: &[u32]) -> Result<Vec<u32>, Memory>
     ensures size { IfOk result (λ marks. length marks.items ≡ count) }
     ensures set { IfOk result (λ marks. (j : ℕ) → j < count → nat_eq (get_or marks.items j 0) 1 ≡ is_among places.now j) }
@@ -48,7 +48,7 @@ pub(crate) fn marks_of(alloc: Global, count: usize, places: &[u32]) -> Result<Ve
     Ok(marks)
 }
 
-// Whether the mark 1 stands at a place.
+// Returns whether a place has the mark 1.
 pub(crate) fn is_marked(marks: &[u32], place: u32) -> bool
     ensures { result ≡ nat_eq (get_or marks.now place 0) 1 }
 {

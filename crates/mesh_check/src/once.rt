@@ -1,4 +1,4 @@
-//! Each edge of sides once, by first appearance.
+//! The edges of sides, each once, by first appearance.
 
 ghost use Rattle.std.specs.Prelude.{◌≡◌, true, nat_eq, length, slice_set, IfOk};
 ghost use Rattle.std.specs.List.{filter, position_or_len};
@@ -13,7 +13,7 @@ use crate::marks::{mark_at, no_marks};
 use ratio128::Memory;
 use std::alloc::Global;
 
-// Whether a number is one of these and was not met before. Its place is marked then.
+// Returns whether a number is one of these and was not met before. The call marks its place.
 fn is_new(keys: &[u64], marks: &mut Vec<u32>, key: u64) -> bool
     requires rises { Rises keys.now }
     requires once { is_distinct keys.now ≡ true }
@@ -27,7 +27,8 @@ fn is_new(keys: &[u64], marks: &mut Vec<u32>, key: u64) -> bool
     }
 }
 
-// The sides whose edge is one of these and has no mark, each edge once. The edges ascend by their numbers, and have a mark each.
+// Returns the sides whose edge is one of these and has no mark, each edge once. The numbers of the edges ascend; each has a
+// mark.
 fn new_sides(
     alloc: Global,
     sides: &[(u32, u32)],
@@ -51,7 +52,7 @@ fn new_sides(
     Ok(found)
 }
 
-// Of the sides of each edge the first one.
+// Returns the first side of each edge.
 pub(crate) fn first_named(alloc: Global, sides: &[(u32, u32)]) -> Result<Vec<(u32, u32)>, Memory>
     ensures { IfOk result (λ found. found.items ≡ first_named sides.now) }
 {

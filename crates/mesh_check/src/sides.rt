@@ -8,7 +8,7 @@ use ratio128::Memory;
 use raw_mesh::RawMesh;
 use std::alloc::Global;
 
-// Puts the directed edges of a face after those that are there.
+// Adds the directed edges of a face to the list.
 fn add_sides(sides: &mut Vec<(u32, u32)>, face: &[u32]) -> Result<(), Memory>
     ensures { OnOk result (sides.new.items ≡ sides.old.items ++ sides_of face.now) }
 {
@@ -24,7 +24,7 @@ fn add_sides(sides: &mut Vec<(u32, u32)>, face: &[u32]) -> Result<(), Memory>
     Ok(())
 }
 
-// The directed edges of all faces, over faces and corners.
+// Returns the directed edges of all faces, in the order of faces and corners.
 pub(crate) fn sides_of_faces(alloc: Global, raw: &RawMesh) -> Result<Vec<(u32, u32)>, Memory>
     ensures { IfOk result (λ sides. sides.items ≡ all_sides raw.now.faces) }
 {

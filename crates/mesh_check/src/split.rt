@@ -21,7 +21,7 @@ use ratio128::Memory;
 use raw_mesh::RawMesh;
 use std::alloc::Global;
 
-// How many corners from the front on are at this vertex.
+// Returns the number of corners at this vertex, from the front of the list on.
 fn group_size(turns: &[Turn], v: u32) -> usize
     ensures { result ≡ prefix_len (λ turn. nat_eq v turn.vertex) turns.now }
 {
@@ -37,7 +37,7 @@ fn group_size(turns: &[Turn], v: u32) -> usize
     size
 }
 
-// The corners before these.
+// Returns the corners before these.
 fn befores_of(alloc: Global, turns: &[Turn]) -> Result<Vec<u32>, Memory>
     ensures { IfOk result (λ corners. corners.items ≡ map (λ turn. turn.before) turns.now) }
 {
@@ -50,7 +50,7 @@ fn befores_of(alloc: Global, turns: &[Turn]) -> Result<Vec<u32>, Memory>
     Ok(corners)
 }
 
-// The corners after these.
+// Returns the corners after these.
 fn afters_of(alloc: Global, turns: &[Turn]) -> Result<Vec<u32>, Memory>
     ensures { IfOk result (λ corners. corners.items ≡ map (λ turn. turn.after) turns.now) }
 {
@@ -63,7 +63,7 @@ fn afters_of(alloc: Global, turns: &[Turn]) -> Result<Vec<u32>, Memory>
     Ok(corners)
 }
 
-// Whether the faces at a vertex are one fan, by their corners there, which ascend by the corner before them.
+// Returns whether the faces at a vertex are one fan, from their corners there, which ascend by the corner before them.
 fn is_group_fan(alloc: Global, group: &[Turn]) -> Result<bool, Memory>
     requires rises { Rises (map (λ turn. turn.before) group.now) }
     requires once { is_distinct (map (λ turn. turn.before) group.now) ≡ true }
@@ -76,8 +76,8 @@ fn is_group_fan(alloc: Global, group: &[Turn]) -> Result<bool, Memory>
     Ok(is)
 }
 
-// Whether the faces at the first vertex are one fan, and how many corners are there, where all faces are simple and no side
-// occurs twice.
+// Returns whether the faces at the first vertex are one fan, and the number of corners there. All faces are simple, and no
+// side occurs twice.
 fn first_group(alloc: Global, raw: &RawMesh, turns: &[Turn]) -> Result<(bool, usize), Memory>
     requires some { 0 < length turns.now }
     requires simple { IsTrue (list_all is_simple raw.now.faces) }
@@ -91,7 +91,8 @@ fn first_group(alloc: Global, raw: &RawMesh, turns: &[Turn]) -> Result<(bool, us
     Ok((is, size))
 }
 
-// The first vertex whose faces are more than one fan, by the sorted corners, where all faces are simple and no side occurs twice.
+// Returns the first vertex whose faces are more than one fan, from the sorted corners. All faces are simple, and no side
+// occurs twice.
 pub(crate) fn split_vertex(
     alloc: Global,
     raw: &RawMesh,
@@ -116,8 +117,8 @@ pub(crate) fn split_vertex(
     Ok(None)
 }
 
-// Puts the vertices whose faces are more than one fan behind other faults, ascending, where all faces are simple and no side
-// occurs twice.
+// Adds the vertices whose faces are more than one fan after other faults, ascending. All faces are simple, and no side occurs
+// twice.
 pub(crate) fn put_split_vertices(
     alloc: Global,
     faults: &mut Vec<MeshFault>,

@@ -19,7 +19,7 @@ pub(crate) struct Turn {
     pub(crate) after: u32,
 }
 
-// Puts the corners of a face behind those that are there.
+// Adds the corners of a face to the list.
 fn add_turns(turns: &mut Vec<Turn>, face: u32, corners: &[u32]) -> Result<(), Memory>
     ensures { OnOk result (turns.new.items ≡ turns.old.items ++ turns_of face corners.now) }
 {
@@ -42,7 +42,7 @@ fn add_turns(turns: &mut Vec<Turn>, face: u32, corners: &[u32]) -> Result<(), Me
     Ok(())
 }
 
-// The corners of all faces.
+// Returns the corners of all faces.
 fn turns_of_faces(alloc: Global, raw: &RawMesh) -> Result<Vec<Turn>, Memory>
     ensures { IfOk result (λ turns. turns.items ≡ turns_after 0 raw.now.faces) }
 {
@@ -62,7 +62,7 @@ fn sort_turns(turns: &mut Vec<Turn>)
     turns.sort_unstable_by_key(|turn| side_key((turn.vertex, turn.before)));
 }
 
-// The corners of all faces, sorted.
+// Returns the corners of all faces, sorted.
 pub(crate) fn sorted_turns(alloc: Global, raw: &RawMesh) -> Result<Vec<Turn>, Memory>
     ensures { IfOk result (λ turns. AreSortedTurns raw.now.faces turns.items) }
 {
@@ -71,14 +71,14 @@ pub(crate) fn sorted_turns(alloc: Global, raw: &RawMesh) -> Result<Vec<Turn>, Me
     Ok(turns)
 }
 
-// The side that comes to a corner as one number.
+// Returns the side that comes to a corner as one number.
 fn turn_key(turn: &Turn) -> u64
     ensures { result ≡ turn_key turn.now }
 {
     side_key((turn.vertex, turn.before))
 }
 
-// Whether the same side comes to two neighbours.
+// Returns whether two neighbours in the list have the same side before them.
 pub(crate) fn has_equal_neighbours(turns: &[Turn]) -> bool
     ensures { result ≡ has_equal_neighbours (map turn_key turns.now) }
 {

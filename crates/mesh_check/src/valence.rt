@@ -1,4 +1,4 @@
-//! How many edges end at each vertex, by the numbers of the edges, before there is a level.
+//! The number of edges at each vertex, from the numbers of the edges, before a level exists.
 
 ghost use Rattle.std.specs.Prelude.{◌≡◌, ℕ, ◌+◌, ◌^◌, ◌<◌, nat_eq, None, length, get_or, IfOk, if◌then◌else◌};
 ghost use Rattle.std.specs.List.{All, count_by, sum_by};
@@ -18,7 +18,7 @@ use ratio128::limits::SIZE_LIMIT;
 use raw_mesh::RawMesh;
 use std::alloc::Global;
 
-// Counts an edge at its two ends, where its number does not come again.
+// Counts an edge at its two ends, unless its number occurs again later.
 fn count_ends(counts: &mut Vec<u32>, key: u64, again: bool)
     requires inside { All (λ v. v < length counts.old.items) (ends_of_key key) }
     requires room { (v : ℕ) → get_or counts.old.items v 0 + 2 < 2 ^ 32 }
@@ -31,7 +31,7 @@ fn count_ends(counts: &mut Vec<u32>, key: u64, again: bool)
     }
 }
 
-// How many edges end at each point. The numbers of the edges ascend, so that equal ones stand together, and of these the last
+// Returns the number of edges at each point. The numbers of the edges ascend, so equal ones are neighbours; the last of them
 // is counted.
 fn edge_counts(alloc: Global, points: usize, edges: &[u64]) -> Result<Vec<u32>, Memory>
     requires inside { All (λ key. All (λ v. v < points) (ends_of_key key)) edges.now }
@@ -49,7 +49,7 @@ fn edge_counts(alloc: Global, points: usize, edges: &[u64]) -> Result<Vec<u32>, 
     Ok(counts)
 }
 
-// The first vertex of too many edges, by how many end at each. The mesh is there for the contract alone.
+// Returns the first vertex with too many edges, from the number of edges at each. Only the contract uses `raw`.
 fn crowded_vertex(raw: &RawMesh, counts: &[u32]) -> Option<Counted>
     requires few { length counts.now < 2 ^ 32 }
     requires size { length counts.now ≡ length raw.now.points }
@@ -69,7 +69,7 @@ fn crowded_vertex(raw: &RawMesh, counts: &[u32]) -> Option<Counted>
     None
 }
 
-// The first vertex of too many edges, by the numbers of the edges of all sides. No level is needed.
+// Returns the first vertex with too many edges, from the numbers of the edges of all sides. It needs no level.
 pub(crate) fn valence_fault(
     alloc: Global,
     raw: &RawMesh,

@@ -4,7 +4,7 @@ ghost use Rattle.std.specs.Prelude.{ℕ, ℤ, List, ◌++◌};
 ghost use Rattle.nearest_float.specs.Binary.{Format};
 ghost use Rattle.nearest_arrays.specs.Nearest.{AreNearest};
 
-/// Numbers nearest to fractions, with others behind them that are nearest to others, are nearest to all of them.
+/// Two lists of nearest numbers, joined, are the nearest numbers to the joined lists of fractions.
 pub fn nearest_join()
     ensures { (f : Format) (fractions others : List (ℤ × ℕ)) (bits more : List ℕ) → AreNearest f fractions bits → AreNearest f others more → AreNearest f (fractions ++ others) (bits ++ more) }
 {}

@@ -1,4 +1,6 @@
-//! Arrays that a caller owns, filled with the numbers nearest to fractions. No call takes memory.
+//! Fills arrays of a caller with the bits of the binary64 or binary32 numbers nearest to fractions.
+//!
+//! No call takes memory, and none returns an error.
 #![tactic(auto)]
 
 pub mod laws;

@@ -1,4 +1,4 @@
-//! Nearest numbers written into an array, behind those that are there.
+//! Nearest numbers written into an array behind those already written.
 
 ghost use Rattle.std.specs.Prelude.{◌≡◌, ◌+◌, ◌^◌, ◌<◌, length, take, drop, slice_index, unsigned_abs};
 ghost use Rattle.nearest_float.specs.Binary.{binary32, binary64};
@@ -6,9 +6,9 @@ ghost use Rattle.nearest_float.specs.Nearest.{IsNearest};
 
 use nearest_float::{nearest_binary32, nearest_binary64};
 
-/// Writes the bits of the binary64 number nearest to `num / den` into the array, behind its first `at` items.
+/// Writes the bits of the binary64 number nearest to `num / den` into the array at place `at`.
 ///
-/// The array has a place for it. `den` is from 1 to 2^127 - 1, and `num` is any number but the least `i128`.
+/// The array has that place, and no other item changes. `den` is from 1 to 2^127 - 1. `num` is any `i128` but the least.
 pub fn put_binary64(out: &mut [u64], at: usize, num: i128, den: u128)
     requires fits { at < length out.old }
     requires positive { 0 < den }
@@ -22,9 +22,9 @@ pub fn put_binary64(out: &mut [u64], at: usize, num: i128, den: u128)
     out[at] = nearest_binary64(num, den);
 }
 
-/// Writes the bits of the binary32 number nearest to `num / den` into the array, behind its first `at` items.
+/// Writes the bits of the binary32 number nearest to `num / den` into the array at place `at`.
 ///
-/// The array has a place for it. `den` is from 1 to 2^127 - 1, and `num` is any number but the least `i128`.
+/// The array has that place, and no other item changes. `den` is from 1 to 2^127 - 1. `num` is any `i128` but the least.
 pub fn put_binary32(out: &mut [u32], at: usize, num: i128, den: u128)
     requires fits { at < length out.old }
     requires positive { 0 < den }

@@ -1,4 +1,7 @@
-//! Natural numbers of 64 or of 128 bits, and lists of numbers that are all of one of these widths.
+//! Natural numbers of 64 or 128 bits, and lists of numbers that all have one of these widths.
+//!
+//! A list takes 8 or 16 bytes for each number, and returns each number in 128 bits. `with_capacity`, `zeros`, `reserve` and `widen` take
+//! memory; no other call does.
 #![tactic(auto)]
 
 mod list;

@@ -1,4 +1,4 @@
-//! A list of numbers that are all of one width.
+//! A list of numbers of one width.
 
 ghost use Rattle.std.specs.Prelude.{◌≡◌, ◌+◌, ◌<◌, ◌≤◌, ℕ, [], ◌∷◌, ◌++◌, List, length, get_or, map, replicate, set, slice_range, IfOk, OnOk, OnErr, IsOk};
 ghost use Rattle.std.specs.List.{All};
@@ -13,14 +13,14 @@ use ratio128::Memory;
 use std::alloc::Global;
 use std::marker::Model;
 
-// The numbers in their width.
+// The numbers, in their width.
 #[derive(Drop)]
 pub(crate) enum Items {
     Narrow(Vec<u64>),
     Wide(Vec<u128>),
 }
 
-/// A list of numbers of one width.
+/// A list of numbers of one width, 64 or 128 bits.
 #[derive(Drop)]
 pub struct NumberList {
     items: Items,
@@ -35,7 +35,7 @@ impl Model for NumberList {
     ghost view = { λ n. numbers_of n.items };
 }
 
-// The numbers in 128 bits, in a list with a capacity.
+// The numbers in 128 bits, in a list with at least this capacity.
 fn widened(alloc: Global, narrow: &Vec<u64>, capacity: usize) -> Result<Vec<u128>, Memory>
     requires { length narrow.now.items ≤ capacity }
     ensures items { IfOk result (λ wide. wide.items ≡ narrow.now.items) }
@@ -48,7 +48,7 @@ fn widened(alloc: Global, narrow: &Vec<u64>, capacity: usize) -> Result<Vec<u128
     Ok(wide)
 }
 
-// The numbers at the end of a list that has capacity for them.
+// Appends numbers to a list that has capacity for them.
 fn append<S: Natural, T: Natural>(items: &mut Vec<T>, numbers: &[S])
     requires capacity { length items.old.items + length numbers.now ≤ vec_capacity items.old }
     requires small { All (λ number. S.value number ≤ T.most) numbers.now }
@@ -61,7 +61,7 @@ fn append<S: Natural, T: Natural>(items: &mut Vec<T>, numbers: &[S])
 }
 
 impl NumberList {
-    /// No numbers, of 64 bits each. It takes no memory.
+    /// Returns an empty list of 64-bit numbers. The call takes no memory.
     pub fn new(alloc: Global) -> NumberList
         ensures items { result.items ≡ [] }
         ensures width { result.width ≡ width.Narrow }
@@ -71,7 +71,7 @@ impl NumberList {
         }
     }
 
-    /// No numbers, of a width, in a list that holds so many without taking memory.
+    /// Returns an empty list of a width, with capacity for at least `capacity` numbers. `Memory`: memory ran out.
     pub fn with_capacity(alloc: Global, width: Width, capacity: usize) -> Result<NumberList, Memory>
         ensures items { IfOk result (λ list. list.items ≡ []) }
         ensures width { IfOk result (λ list. list.width ≡ width) }
@@ -84,7 +84,7 @@ impl NumberList {
         Ok(NumberList { items })
     }
 
-    /// So many zeros, of a width.
+    /// Returns a list of `len` zeros of a width. `Memory`: memory ran out.
     pub fn zeros(alloc: Global, width: Width, len: usize) -> Result<NumberList, Memory>
         ensures items { IfOk result (λ list. list.items ≡ replicate len 0) }
         ensures width { IfOk result (λ list. list.width ≡ width) }
@@ -97,7 +97,7 @@ impl NumberList {
         Ok(NumberList { items })
     }
 
-    /// How many numbers there are.
+    /// How many numbers the list has.
     pub fn len(&self) -> usize
         ensures { result ≡ length self.now.items }
     {
@@ -117,7 +117,7 @@ impl NumberList {
         }
     }
 
-    /// The numbers from a place up to another.
+    /// The numbers from place `from` up to place `to`, counted from 0; `to` is not included.
     pub fn range(&self, from: usize, to: usize) -> NumberSlice<'_>
         requires forward { from ≤ to }
         requires inside { to ≤ length self.now.items }
@@ -129,7 +129,7 @@ impl NumberList {
         }
     }
 
-    /// Takes memory for so many numbers more. What it holds stays.
+    /// Takes memory for `more` further numbers. The list keeps its numbers. `Memory`: memory ran out.
     pub fn reserve(&mut self, more: usize) -> Result<(), Memory>
         ensures items { self.new.items ≡ self.old.items }
         ensures width { self.new.width ≡ self.old.width }
@@ -144,8 +144,8 @@ impl NumberList {
         Ok(())
     }
 
-    /// Turns the numbers into those of 128 bits, which takes memory where they have 64. What it holds stays, and so does the
-    /// capacity at the least.
+    /// Turns the numbers into 128-bit numbers. The capacity does not shrink. Only a list of 64-bit numbers needs memory. `Memory`: memory
+    /// ran out, and the list is unchanged.
     pub fn widen(&mut self, alloc: Global) -> Result<(), Memory>
         ensures items { self.new.items ≡ self.old.items }
         ensures width { OnOk result (self.new.width ≡ width.Wide) }
@@ -160,7 +160,7 @@ impl NumberList {
         Ok(())
     }
 
-    /// Adds numbers of any width at the end. There is capacity for them, and each is one of the list's width.
+    /// Appends numbers of any width. The list has capacity for them, and each fits its width.
     pub fn append<T: Natural>(&mut self, numbers: &[T])
         requires capacity { length self.old.items + length numbers.now ≤ self.old.capacity }
         requires small { All (λ number. T.value number ≤ most_of self.old.width) numbers.now }
@@ -174,7 +174,7 @@ impl NumberList {
         }
     }
 
-    /// Puts a number in the place of another. The number is one of the list's width.
+    /// Replaces the number at place `at`. The new number fits the width of the list.
     pub fn set(&mut self, at: usize, number: u128)
         requires inside { at < length self.old.items }
         requires small { number ≤ most_of self.old.width }

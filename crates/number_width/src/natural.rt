@@ -10,16 +10,16 @@ pub trait Natural: Copy {
     /// The greatest value of this width.
     ghost most: { ℕ };
 
-    /// The number of this width with a value that it has.
+    /// Returns the number of this width with the given value.
     fn of(number: u128) -> Self
         requires { number ≤ most }
         ensures { value result ≡ number };
 
-    /// The value in 128 bits.
+    /// The value, in 128 bits.
     fn wide(self) -> u128
         ensures { result ≡ value self };
 
-    /// The number plus a product.
+    /// Returns the number plus the product of the other two. The sum fits the width.
     fn plus_product(self, factor: Self, other: Self) -> Self
         requires { value self + value factor * value other ≤ most }
         ensures { value result ≡ value self + value factor * value other };

@@ -5,12 +5,12 @@ ghost use Rattle.number_width.specs.Numbers.{numbers_in};
 
 use crate::natural::Natural;
 
-/// Some numbers of one width.
+/// A borrowed range of a list of numbers of one width.
 #[derive(Clone, Copy)]
 pub enum NumberSlice<'a> {
-    /// Of 64 bits each.
+    /// Numbers of 64 bits.
     Narrow(&'a [u64]),
-    /// Of 128 bits each.
+    /// Numbers of 128 bits.
     Wide(&'a [u128]),
 }
 
@@ -33,7 +33,7 @@ impl NumberSlice<'_> {
         }
     }
 
-    /// The number at a place.
+    /// The number at a place, counted from 0, in 128 bits.
     pub fn get(&self, at: usize) -> u128
         requires { at < length (numbers_in self.now) }
         ensures { result ≡ get_or (numbers_in self.now) at 0 }

@@ -8,11 +8,11 @@ ghost use Rattle.number_width.specs.Numbers.{width_for};
 pub enum Width {
     /// 64 bits: numbers up to 2^64 - 1.
     Narrow,
-    /// 128 bits.
+    /// 128 bits: numbers up to 2^128 - 1.
     Wide,
 }
 
-/// The narrowest width that has a number.
+/// Returns the narrowest width that holds the number.
 pub fn width_of(number: u128) -> Width
     ensures { result ≡ width_for number }
 {

@@ -1,4 +1,4 @@
--- What is kept of the lines of a channel, with one more line.
+-- The kept lines of a channel after one more line.
 use Rattle.std.proofs.Common.{◌≡◌, ℕ, suc, ◌+◌, Bool, true, false, cond, List, [], ◌∷◌, ◌++◌, length, map, append-nil, Option, Some, None, option_map, arith, refl, ap, sym, ◌∙◌, if◌then◌else◌}
 use Rattle.std.specs.List.{filter, count_by}
 use Rattle.std.proofs.lemmas.List.{map_push, length_push}

@@ -53,7 +53,7 @@ many-parts a b [] h = absurd (omega arith)
 many-parts a b (c ∷ []) h = absurd (omega arith)
 many-parts a b (c ∷ d ∷ parts) h = refl
 
--- what stands for a normal is no index
+-- The part for the normal is not an index.
 pub no-normal : (a b normal : List ℕ) → is_index normal ≡ false → are_corner_parts (a ∷ b ∷ slice_split is_slash normal) ≡ false
 no-normal a b normal h =
     ⊎_elim (λ e. ap (λ parts. are_corner_parts (a ∷ b ∷ parts)) e ∙ rw h (grind (arith, nat_tests)))

@@ -1,4 +1,4 @@
--- A common denominator with one more denominator, with those of a line, and with those of a text.
+-- A common denominator after one more denominator, after those of a line, and after those of a text.
 use Rattle.std.proofs.Common.{◌≡◌, ℕ, suc, ◌+◌, ◌-◌, ◌%◌, ◌^◌, ◌<◌, ◌≤◌, nat_eq, nat_le, Bool, true, false, cond, lit<, List, ◌∷◌, take, Option, Some, None, add-one, arith, refl, ap, sym, ◌∙◌, ◌⊎◌, inl, inr}
 use Rattle.std.specs.Prelude.{is_some}
 use Rattle.std.specs.List.{fold, count_by}

@@ -1,4 +1,4 @@
--- What was kept of one more line: its tag, its face, or nothing.
+-- The draft after one more line: its tag, its face, or no change.
 use Rattle.std.proofs.Common.{◌≡◌, ℕ, ◌+◌, ◌<◌, ◌≤◌, Bool, true, false, cond, List, [], ◌∷◌, ◌++◌, length, map, take, get_or, append-nil, length-append, length-drop, ⊎_elim, ◌-◌, arith, refl, ap, sym, ◌∙◌, codes}
 use Rattle.std.specs.List.{flat_map}
 use Rattle.std.proofs.lemmas.Bool.{cases_Bool}

@@ -40,7 +40,7 @@ kept-first (suc n) [] h = tt
 kept-first (suc n) (word ∷ words) h =
     let parts = good-word word words (numeral_fault word) refl h in (parts.0, kept-first n words parts.1)
 
--- what is kept of a line of a position, and of one of a texture value
+-- The kept words of a line of a position, and of a line of a texture value.
 pub vertex-kept : (words : Line) → is_vertex_line words ≡ true → kept_coordinates words ≡ take 3 (values_of words)
 vertex-kept words kind = rw kind refl
 

@@ -54,7 +54,7 @@ from-same f g start (suc count) same = step (f start) refl (from-same f g (start
         ∙ sym (good-first g start count (sym (e ∙ here)))
     step (Some c) e rest = bad-first f start count c (sym e) ∙ sym (bad-first g start count c (sym (e ∙ here)))
 
--- where the lines before have the same causes, it is theirs, and else that of the last line
+-- If f and g give the lines before equal causes, the first cause is theirs, or that of the last line if they have none.
 pub first-more : {X : Type 0} (f g : ℕ → Option ObjCause) (before : List X) (x : X) (cause : Option ObjCause)
     → ((k : ℕ) → k < length before → f k ≡ g k) → f (length before) ≡ cause
     → first_fault f (length (before ++ x ∷ [])) ≡ option_or (first_fault g (length before)) (one_fault (length before) cause)

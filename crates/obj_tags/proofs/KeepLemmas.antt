@@ -63,7 +63,7 @@ same-textures : (common : ℕ) (ts : TextureValues) (all : face.Counts) (number 
 same-textures common ts all number lines n line at are other =
     subst (λ ls. AreTextureValues common ts ls) (sym (taken all number lines n line at)) (channel-other (ℤ × ℤ) is_texture_line texture_over common (map texture_of ts.points.items) ts.long (take n lines) line are other)
 
--- what holds of a result holds also in other words
+-- The claim about a result, in other words.
 match-map : {T E : Type 0} {A A' : T → Type 0} {B B' : E → Type 0} (r : Result T E) → ((x : T) → A x → A' x) → ((e : E) → B e → B' e)
     → MatchResult r A B → MatchResult r A' B'
 match-map (Ok x) f g said = f x said
@@ -173,7 +173,7 @@ kept-nothing draft all number lines n line at no-v no-vt no-f no-t is = (
   },
 )
 
--- what was kept of the lines counts them
+-- The draft counts the lines before.
 pub counts-kept : (all : Survey) (draft : Draft) (b : face.Counts) (lines : List Line) (n : ℕ) → b.point_count ≡ length draft.positions.points.items
     → b.texture_count ≡ length draft.texture.points.items → b.face_count + 1 ≡ length draft.faces.starts.items → IsDraftOf all draft lines n
     → view.counts_of b ≡ counts_of (take n lines)
@@ -275,7 +275,7 @@ pub some-starts : (starts : List ℕ) (end : ℕ) → Ascend starts end → 1 �
 some-starts [] end ascend = absurd ascend
 some-starts (a ∷ starts) end ascend = omega arith
 
--- what was kept of the first lines is no more than what all lines have
+-- The draft of the first lines has no more than all lines have.
 pub kept-room : (all : Survey) (draft : Draft) (lines : List Line) (n more : ℕ) → view.counts_of all.counts ≡ counts_of lines
     → all.counts.face_count < 2 ^ 32 → IsDraftOf all draft lines n → length draft.faces.corners.items + more < 2 ^ 32 → HasRoom draft all.counts more
 kept-room all draft lines n more counted few is corners =

@@ -1,4 +1,4 @@
--- The late fault of a text, of what was found and kept of its channels.
+-- The late fault of a text, from the survey and the draft of its channels.
 use Rattle.std.proofs.Common.{◌≡◌, ℕ, min, nat_lt, Bool, true, false, List, length, map, Option, Some, None, option_map, arith, refl, ap, sym, ◌∙◌, if◌then◌else◌}
 use Rattle.std.specs.Prelude.{is_some}
 use Rattle.std.specs.List.{filter}

@@ -1,4 +1,4 @@
--- The mesh of a draft of all lines is that of the lines.
+-- The mesh of a draft of all lines is the mesh of the lines.
 use Rattle.std.proofs.Common.{◌≡◌, ℕ, ℤ, ◌+◌, ◌^◌, None, Bool, true, false, nat_lt, ◌≤◌, List, [], ◌∷◌, ◌++◌, length, map, take, get_or, arith, refl, ap, sym, subst, ◌∙◌, option_map, ⊎_elim, if◌then◌else◌}
 use Rattle.std.specs.Prelude.{unwrap_or}
 use Rattle.std.specs.List.{All, list_all, list_any, count_by, filter, flat_map}
@@ -101,7 +101,7 @@ texture-corners draft lines ascend all =
     (λ (none : has_texture_channel lines ≡ false). rw none refl)
     (cases_Bool (has_texture_channel lines))
 
--- what was kept of all lines
+-- The draft of all lines.
 all-positions : (found : Survey) (draft : Draft) (lines : List Line) → IsDraftOf found draft lines (length lines)
     → ArePositions found.positions.value draft.positions lines
 all-positions found draft lines is = subst (ArePositions found.positions.value draft.positions) (take-length lines) is.positions
@@ -110,7 +110,7 @@ all-values : (found : Survey) (draft : Draft) (lines : List Line) → IsDraftOf 
     → AreTextureValues found.texture.value draft.texture lines
 all-values found draft lines is = subst (AreTextureValues found.texture.value draft.texture) (take-length lines) is.texture
 
--- what was kept of all lines, where there is no late fault, is the mesh of the lines
+-- Without a late fault, the draft of all lines gives the mesh of the lines.
 pub mesh-draft : (found : Survey) (draft : Draft) (lines : List Line) (least : ℕ) (has : Bool) → AreCommon found least lines
     → IsDraftOf found draft lines (length lines) → has ≡ names_all_texture draft.faces
     → late_line found.positions.wide draft.positions.long ≡ None → late_line found.texture.wide draft.texture.long ≡ None

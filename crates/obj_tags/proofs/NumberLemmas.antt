@@ -1,4 +1,4 @@
--- Numbers of OBJ text: those that are kept, those over a common denominator, and what a sharpness says.
+-- Numbers of OBJ text: kept numerals, numerators over a common denominator, and sharpness.
 use Rattle.std.proofs.Common.{◌≡◌, ℕ, zero, suc, ◌+◌, ◌*◌, ◌^◌, ◌<◌, ◌≤◌, ℤ, pos, unsigned_abs, ◌*ℤ◌, Bool, true, false, ◌&&◌, ◌||◌, nat_lt, nat_le, List, None, Some, arith, refl, ap, sym, ◌∙◌, FitsSigned, if◌then◌else◌, ◌⊎◌, inl, inr}
 use Rattle.std.specs.Int.{w128}
 use Rattle.std.proofs.lemmas.Bool.Decides.{nat_tests}
@@ -20,7 +20,7 @@ use Rattle.obj_laws.proofs.NumeralValueLemmas.{signed-amount}
 pub kept-in-range : (word : List ℕ) → is_numeral word ≡ true → is_in_range word ≡ true → numeral_fault word ≡ None
 kept-in-range word numeral range = rw (numeral, kept-range word numeral ∙ range) refl
 
--- the amount and the denominator of what was read
+-- The amount and the denominator of the numeral that was read.
 amount-read : (word : List ℕ) (num : ℤ) (den : ℕ) → (num, den) ≡ numeral_form word → unsigned_abs num ≡ (numeral_amount word).0
 amount-read word num den form = ap (λ (t : ℤ × ℕ). unsigned_abs t.0) form ∙ signed-amount (has_minus word) (numeral_amount word).0
 

@@ -1,4 +1,4 @@
--- Words whose look alone shows that they change no common denominator.
+-- Words whose form shows that they change no common denominator.
 use Rattle.std.proofs.Common.{◌≡◌, ℕ, ◌+◌, ◌*◌, ◌/◌, ◌%◌, ◌^◌, ◌<◌, ◌≤◌, Bool, true, false, nat_eq, List, [], ◌∷◌, ◌++◌, length, take, drop, append-nil, arith, lit<, refl, ap, sym, subst, ◌∙◌, inl, inr, if◌then◌else◌}
 use Rattle.std.specs.Prelude.{is_some, is_none}
 use Rattle.std.specs.Int.{◌∣◌}
@@ -20,7 +20,7 @@ use Rattle.obj_tags.specs.Survey.{with_word}
 use Rattle.obj_tags.specs.declared.survey.Common.{Common}
 use Rattle.obj_tags.proofs.DenominatorLemmas.{stays-same}
 
--- the digits that stand first, and what follows them
+-- The first digits, and the bytes after them.
 parted : (word unsigned rest : List ℕ) (n : ℕ) → unsigned ≡ without_sign word → rest ≡ drop n unsigned → without_sign word ≡ take n unsigned ++ rest
 parted word unsigned rest n e f = sym e ∙ sym (take-append-drop n unsigned) ∙ ap (λ r. take n unsigned ++ r) (sym f)
 
@@ -40,7 +40,7 @@ word-point word unsigned rest fraction n k e f digits point more all =
     let are : list_all is_digit fraction ≡ true = ap (list_all is_digit) (sym (take_all k fraction all)) ∙ more in
     (are, λ common over. point-over word (take n unsigned) fraction common whole digits are over)
 
--- what is left over the tens decides
+-- The remainder by the power of ten decides.
 pub whole-none : (digits : List ℕ) (common tens rest : ℕ) → tens ≡ 10 ^ length digits → rest ≡ common % tens → rest ≡ 0
     → IsWholeOver digits common
 whole-none digits common tens rest e f none =
@@ -75,7 +75,7 @@ word-over number common word short divides =
     let none : nat_eq (common.value % denominator_of word) 0 ≡ true = eq-eqb (common.value % denominator_of word) 0 (mod-eq-zero_of_dvd (denominator_of word) divides) in
     unchanged (is_none (numeral_fault word)) common _ (stays-same number common (denominator_of word) (terms-positive word) short (inr none))
 
--- powers of ten, and what is left over a small one times a small number
+-- Powers of ten, and the remainder by a small one times a small number.
 pub tens-some : (tens k : ℕ) → tens ≡ 10 ^ k → 0 < tens
 tens-some t k e = let one : 1 ≤ 10 ^ k = one-le-pow k 10 (lit< tt) in omega (arith, e)
 

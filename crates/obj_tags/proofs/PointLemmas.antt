@@ -151,7 +151,7 @@ texture-here : (common : ℕ) (point : Option Point2) (line : Line) → IsTextur
 texture-here common None line is e = cc
 texture-here common (Some p) line is e = is.1 ∙ rw (get-drop line 0 [], get-drop line 1 (codes "0")) refl
 
--- whether there is none, from a test that there is one
+-- A test for a value decides whether there is none.
 pub none-said : {X : Type 0} (point : Option X) (b : Bool) → is_some point ≡ not b → b ≡ is_none point
 none-said None true e = refl
 none-said None false e = cc

@@ -16,7 +16,7 @@ use Rattle.obj_tags.proofs.DenominatorLemmas.{tens-bounded}
 use Rattle.obj_tags.proofs.FineLemmas.{fine-positions, fine-texture}
 use Rattle.obj_tags.proofs.SurveyLemmas.{survey-common}
 
--- a line stands at place n, and others follow it
+-- A line has place n, and others follow it.
 pub record IsNext (lines : List Line) (n : ℕ) (words : Line) (rest : List Line) : Type 0 where
   pub inside : n < length lines
   pub here : get_or lines n [] ≡ words
@@ -45,7 +45,7 @@ at-end rest lines n e left =
 abbrev AreKept : Survey → Draft → List Line → Type 0
 AreKept all draft lines = (first_bad_line lines ≡ None) × IsDraftOf all draft lines (length lines)
 
--- the lines of what follows a byte order mark are those of the text
+-- The lines after a byte order mark are the lines of the text.
 pub kept-text : (all : Survey) (draft : Draft) (text rest : List ℕ) → rest ≡ without_mark text → AreKept all draft (map line_words (lines_of rest))
     → AreKept all draft (obj_lines text)
 kept-text all draft text rest e kept = subst (λ t. AreKept all draft (map line_words (lines_of t))) e kept

@@ -1,4 +1,4 @@
--- What stands before the first separator of a text: a line of the text, or a part of a word.
+-- The part of a text before its first separator: a line of the text, or a part of a word.
 use Rattle.std.proofs.Common.{◌≡◌, ℕ, ◌+◌, ◌<◌, ◌≤◌, Bool, false, nat_eq, List, [], ◌∷◌, length, arith, refl, ap, sym, ◌∙◌, ◌-◌, not, take, drop, length-drop}
 use Rattle.std.specs.List.{slice_split, position_or_len}
 use Rattle.std.proofs.lemmas.Bool.Decides.{nat_tests}

@@ -37,7 +37,7 @@ stays : (number value place : ℕ) (ds : List ℕ)
 stays number value place [] = refl
 stays number value place (d ∷ ds) = stays number value place ds
 
--- what was found with some denominators more: their least common multiple, or the line from which it passes the bound
+-- The survey after more denominators: their least common multiple, or the line at which it exceeds the bound.
 pub record Reaches (number multiple : ℕ) (next : Common) : Type 0 where
   pub wide : next.wide ≡ (if nat_lt (10 ^ 37) multiple then Some number else None)
   pub value : next.wide ≡ None → next.value ≡ multiple

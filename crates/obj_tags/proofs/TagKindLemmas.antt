@@ -25,7 +25,7 @@ boundary-counts w n s e = grind (arith, nat_tests)
 pub method-counts : (w n s : ℕ) → may_have MethodTag w n s ≡ true → (w ≡ 0) × (n ≡ 0) × (s ≡ 1)
 method-counts w n s e = grind (arith, nat_tests)
 
--- the only value of a boundary tag, and that of a method tag
+-- The only value of a boundary tag, and of a method tag.
 pub boundary-wholes : (line : List (List ℕ)) (word : List ℕ) (rest : List (List ℕ)) → fits_counts BoundaryTag line ≡ true
     → tag_values line ≡ word ∷ rest → tag_wholes line ≡ word ∷ []
 boundary-wholes line word rest fits e =
@@ -46,7 +46,7 @@ method-strings line word rest fits e =
     let none : whole_count line + numeral_count line ≡ 0 = omega (arith, counts.0, counts.1) in
     ap (λ n. drop n (tag_values line)) none ∙ e ∙ single word rest (omega (arith, ap length e, all, counts.0, counts.1, counts.2))
 
--- nothing is wrong with a tag whose only value says a mode, or a method
+-- A tag whose only value is a mode, or a method, has no fault.
 pub boundary-sound : (whole : Counts) (line : List (List ℕ)) (word : List ℕ) (rest : List (List ℕ)) (mode : Boundary)
     → kind_of_name (tag_name line) ≡ Some BoundaryTag → fits_counts BoundaryTag line ≡ true → tag_values line ≡ word ∷ rest
     → mode_of_word word ≡ Some mode → (tag_fault whole line ≡ None) × (tag_mode line ≡ mode)

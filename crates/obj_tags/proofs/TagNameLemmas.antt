@@ -5,7 +5,7 @@ use Rattle.std.specs.Str.{bytes_eq}
 use Rattle.std.proofs.lemmas.Slice.Eq.{bytes_eq-Decides}
 use Rattle.subdiv_model.specs.ObjTag.{TagKind, CreaseTag, CornerTag, HoleTag, BoundaryTag, MethodTag, DroppedTag, kind_of_name, is_dropped_name}
 
--- what the tests of a name say where they find this kind
+-- The results of the tests of a name that is of this kind.
 abbrev Tested : TagKind → (a b c d e : Bool) → Type 0
 Tested CreaseTag a b c d e = a ≡ true
 Tested CornerTag a b c d e = b ≡ true
@@ -29,7 +29,7 @@ tests-find false false false false true f kind h = subst (λ k. Tested k false f
 tests-find false false false false false true kind h = subst (λ k. Tested k false false false false false) (ap found h) (refl, refl, refl, refl, refl)
 tests-find false false false false false false kind h = cc
 
--- a name of this kind is the kind's name, and that of a dropped tag is no other's
+-- A name of a kind is the name of that kind, and a name of a dropped tag is none of the other names.
 abbrev pub IsNamed : TagKind → List ℕ → Type 0
 IsNamed CreaseTag name = name ≡ codes "crease"
 IsNamed CornerTag name = name ≡ codes "corner"

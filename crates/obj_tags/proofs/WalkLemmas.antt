@@ -18,7 +18,7 @@ pub cause-some : (f : List ℕ → Option ObjCause) (word : List ℕ) (words : L
     → first_cause f (word ∷ words) ≡ Some cause
 cause-some f word words cause e = rw e refl
 
--- an index of 64 bits names the same place
+-- An index cut to 64 bits names the same place.
 pub place_nearest : (before whole : ℕ) (word : List ℕ) → before < 2 ^ 32 → whole < 2 ^ 32
     → place_of_index before whole (nearest_index word) ≡ place_of_word before whole word
 place_nearest before whole word hb hw = same (index_of word)
@@ -28,7 +28,7 @@ place_nearest before whole word hb hw = same (index_of word)
     same (pos (suc n)) = grind (arith, nat_tests)
     same (negsuc n) = grind (arith, nat_tests)
 
--- the first of so many words
+-- The first of n words.
 pub take-first : (n : ℕ) (word : List ℕ) (words : List (List ℕ)) → 0 < n → take n (word ∷ words) ≡ word ∷ take (n - 1) words
 take-first zero word words h = absurd (omega arith)
 take-first (suc n) word words h = let same : suc n - 1 ≡ n = omega arith in ap (λ k. word ∷ take k words) (sym same)
@@ -37,7 +37,7 @@ pub drop-first : (n : ℕ) (word : List ℕ) (words : List (List ℕ)) → 0 < n
 drop-first zero word words h = absurd (omega arith)
 drop-first (suc n) word words h = let same : suc n - 1 ≡ n = omega arith in ap (λ k. drop k words) (sym same)
 
--- one of so many words was read
+-- One of n words was read.
 pub taken-cause : (f : List ℕ → Option ObjCause) (n : ℕ) (word : List ℕ) (left next : List (List ℕ)) → 0 < n → left ≡ word ∷ next
     → f word ≡ None → first_cause f (take (n - 1) next) ≡ first_cause f (take n left)
 taken-cause f n word left next h e none = sym (ap (λ ws. first_cause f (take n ws)) e ∙ ap (first_cause f) (take-first n word next h) ∙ cause-none f word (take (n - 1) next) none)

@@ -1,4 +1,4 @@
--- What is kept of lines without fault is whole: each number is below what it counts.
+-- Kept lines without a fault are whole: each number names an item that exists.
 use Rattle.std.proofs.Common.{◌≡◌, ℕ, ◌+◌, ◌-◌, ◌*◌, ◌^◌, ◌<◌, ◌≤◌, Bool, true, false, ◌&&◌, nat_lt, List, [], ◌∷◌, length, map, take, get_or, None, arith, refl, ap, sym, subst, ◌∙◌, ⊎_elim}
 use Rattle.std.specs.List.{All, sum_by, list_all, flat_map}
 use Rattle.std.proofs.Math.Seq.{take-length}
@@ -29,7 +29,7 @@ use Rattle.raw_mesh.proofs.PiecesLemmas.{length-pieces}
 use Rattle.obj_tags.specs.Line.{Line}
 use Rattle.number_laws.proofs.CountLemmas.{all-flat_map}
 
--- what a test says of each
+-- A test that all elements pass gives each its property.
 all-from : {X : Type 0} (test : X → Bool) (P : X → Type 0) (xs : List X) → ((x : X) → test x ≡ true → P x) → list_all test xs ≡ true
     → All P xs
 all-from test P [] sound h = All-nil P
@@ -37,7 +37,7 @@ all-from test P (x ∷ xs) sound h =
     let parts = and_parts (test x) (list_all test xs) h in
     All-cons P x xs (sound x parts.0) (all-from test P xs sound parts.1)
 
--- what a test says of the view of each
+-- A test that the views of all elements pass gives each its property.
 all-seen : {X Y : Type 0} (view : X → Y) (test : Y → Bool) (P : X → Type 0) (xs : List X) (ys : List Y) → map view xs ≡ ys
     → ((x : X) → test (view x) ≡ true → P x) → list_all test ys ≡ true → All P xs
 all-seen view test P xs ys e sound h = all-from (λ x. test (view x)) P xs sound (sym (list_all-map test view xs) ∙ ap (list_all test) e ∙ h)

@@ -1,31 +1,31 @@
--- A corner of a face line, as a reader keeps it.
+-- A corner of a face line, as the reader keeps it.
 use Rattle.std.specs.Prelude.{ℕ, ℤ, ◌≡◌, List, [], get_or, Option, nat_eq, length, true, false, MatchOption}
 use Rattle.subdiv_model.specs.Index.{is_index, nearest_index}
 use Rattle.subdiv_model.specs.ObjWord.{is_empty, are_corner_parts, corner_parts, is_face_corner}
 use Rattle.obj_tags.specs.declared.corner.Corner.{Corner}
 
--- the index that a word says, or the nearest of 64 bits
+-- The index that a word spells, or the nearest one in 64 bits.
 pub record IsIndexOf (index : ℤ) (word : List ℕ) : Type 0 where
   pub is : is_index word ≡ true
   pub says : index ≡ nearest_index word
 
--- the texture index that a part says, where it is not empty
+-- The texture index that a part spells, if the part is not empty.
 abbrev pub IsTextureOf : Option ℤ → List ℕ → Type 0
 IsTextureOf texture part =
     MatchOption texture (is_empty part ≡ true) (λ t. (is_empty part ≡ false) × (t ≡ nearest_index part))
 
--- the indices of a corner; what stands for a normal is not kept
+-- The indices of a corner, and whether it has a normal.
 pub record HasParts (corner : Corner) (parts : List (List ℕ)) : Type 0 where
   pub vertex : corner.vertex ≡ nearest_index (get_or parts 0 [])
   pub texture : IsTextureOf corner.texture (get_or parts 1 [])
   pub normal : corner.has_normal ≡ nat_eq (length parts) 3
 
--- the parts of a corner, where they are such
+-- The corner of these parts, if they are the parts of a corner.
 abbrev pub IsReadAs : Option Corner → List (List ℕ) → Type 0
 IsReadAs read parts =
     MatchOption read (are_corner_parts parts ≡ false) (λ corner. (are_corner_parts parts ≡ true) × HasParts corner parts)
 
--- a corner that a word says
+-- The corner of a word.
 pub record IsCornerOf (corner : Corner) (word : List ℕ) : Type 0 where
   pub is : is_face_corner word ≡ true
   pub parts : HasParts corner (corner_parts word)

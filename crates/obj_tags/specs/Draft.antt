@@ -1,4 +1,4 @@
--- What was kept of the first lines of a text.
+-- What the reader kept of the first lines of a text.
 use Rattle.std.specs.Prelude.{ℕ, suc, ◌≡◌, ◌+◌, ◌<◌, ◌≤◌, ◌^◌, List, [], length, map, take, get_or, codes, None}
 use Rattle.std.specs.List.{flat_map}
 use Rattle.sharpness_rules.specs.View.{method_of}
@@ -21,18 +21,18 @@ use Rattle.raw_mesh.specs.declared.mesh.Faces.{Faces}
 use Rattle.raw_mesh.specs.declared.tags.Tags.{Tags}
 use Rattle.obj_tags.specs.declared.survey.Survey.{Survey}
 
--- the texture values that the corners of the line at place i name, where they have one
+-- The texture values that the corners of the line at place i name.
 abbrev pub textures_at : List Line → ℕ → List ℕ
 textures_at lines i = flat_map (named_textures (counts_of (take i lines)) (counts_of lines)) (values_of (get_or lines i []))
 
--- the faces are those of the first n lines, by the counts of all of them
+-- The faces are those of the first n lines, given the counts of all lines.
 pub record AreFaces (faces : Faces) (lines : List Line) (n : ℕ) : Type 0 where
   pub ascend : Ascend faces.starts.items (length faces.corners.items)
   pub read : pieces faces.starts.items faces.corners.items ≡ map (corner_numbers corner_point lines) (places is_face_line (take n lines))
   pub corners : faces.corners.items ≡ flat_map (corner_numbers corner_point lines) (places is_face_line (take n lines))
   pub texture : faces.texture_corners.items ≡ flat_map (textures_at lines) (places is_face_line (take n lines))
 
--- the tags are those of the lines
+-- The tags are those of the lines.
 pub record AreTags (tags : Tags) (lines : List Line) : Type 0 where
   pub creases : map crease_of tags.creases.items ≡ flat_map tag_creases (tags_named (codes "crease") lines)
   pub corners : map corner_tag_of tags.corners.items ≡ flat_map tag_corners (tags_named (codes "corner") lines)
@@ -40,23 +40,23 @@ pub record AreTags (tags : Tags) (lines : List Line) : Type 0 where
   pub boundary : boundary_of tags.boundary ≡ model.boundary_of lines
   pub method : method_of tags.method ≡ model.method_of lines
 
--- the draft is what the first n lines of these lines say, by what was found in all of them
+-- The draft has the contents of the first n lines, given the survey of all lines.
 pub record IsDraftOf (all : Survey) (draft : Draft) (lines : List Line) (n : ℕ) : Type 0 where
   pub positions : ArePositions all.positions.value draft.positions (take n lines)
   pub texture : AreTextureValues all.texture.value draft.texture (take n lines)
   pub faces : AreFaces draft.faces lines n
   pub tags : AreTags draft.tags (take n lines)
 
--- the coordinates of a draft over the common denominators of all lines
+-- The coordinates of a draft over the common denominators of all lines.
 abbrev pub coordinates_of : Survey → Draft → Coordinates
 coordinates_of all draft = record { points = draft.positions.points; scale = all.positions.value; texture = draft.texture.points; texture_scale = all.texture.value }
 
--- where neither channel has a late line, the numbers that were kept are short
+-- If neither channel has a late line, the kept numbers are short.
 abbrev pub HasShortNumbers : Survey → Draft → Type 0
 HasShortNumbers all draft =
     late_line all.positions.wide draft.positions.long ≡ None → late_line all.texture.wide draft.texture.long ≡ None → AreShort (coordinates_of all draft)
 
--- no more was kept than all lines have, and so many corners more can be numbered
+-- The draft has no more than all lines have, and `more` further corners can be numbered.
 pub record HasRoom (draft : Draft) (all : face.Counts) (more : ℕ) : Type 0 where
   pub points : length draft.positions.points.items ≤ all.point_count
   pub textures : length draft.texture.points.items ≤ all.texture_count
@@ -64,7 +64,7 @@ pub record HasRoom (draft : Draft) (all : face.Counts) (more : ℕ) : Type 0 whe
   pub faces : length draft.faces.starts.items ≤ 2 ^ 32
   pub corners : length draft.faces.corners.items + more < 2 ^ 32
 
--- the line has this number, counted from 1, and the place n among these lines, which are counted
+-- The line has place n among the lines, and this number, counted from 1.
 pub record IsLineAt (all : face.Counts) (number : ℕ) (lines : List Line) (n : ℕ) (line : Line) : Type 0 where
   pub inside : n < length lines
   pub here : get_or lines n [] ≡ line

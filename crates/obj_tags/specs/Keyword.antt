@@ -6,7 +6,7 @@ use Rattle.obj_tags.specs.Line.{Line}
 use Rattle.obj_tags.specs.declared.line.Keyword.{Keyword}
 use Rattle.obj_tags.specs.declared.line.Keyword.TheVariants as keyword
 
--- the line begins with this keyword, and with none before it in the order of keywords
+-- The line has this keyword and none of those before it in the order of keywords.
 abbrev pub IsKeywordOf : Keyword → Line → Type 0
 IsKeywordOf keyword.Position words = is_vertex_line words ≡ true
 IsKeywordOf keyword.Texture words = (is_vertex_line words ≡ false) × (is_texture_line words ≡ true)
@@ -16,12 +16,12 @@ IsKeywordOf keyword.Tag words =
 IsKeywordOf keyword.Ignored words =
     (is_vertex_line words ≡ false) × (is_texture_line words ≡ false) × (is_face_line words ≡ false) × (is_tag_line words ≡ false)
 
--- the keyword of a line, where it has one
+-- The keyword of a line, if it has one.
 abbrev pub IsReadAs : Option Keyword → Line → Type 0
 IsReadAs read line =
     MatchOption read (has_known_keyword line ≡ false) (λ keyword. (has_known_keyword line ≡ true) × IsKeywordOf keyword line)
 
--- how many words must follow a keyword
+-- How many words must follow a keyword.
 abbrev pub least_of : Keyword → ℕ
 least_of keyword.Position = 3
 least_of keyword.Texture = 1

@@ -6,7 +6,7 @@ use Rattle.obj_tags.specs.Line.{Line}
 use Rattle.raw_mesh.specs.View.{boundary_of, crease_of, corner_tag_of}
 use Rattle.raw_mesh.specs.declared.tags.Tags.{Tags}
 
--- a tag without fault stands after the tags before it, or sets the mode or the method
+-- A tag without a fault is appended to the tags before it, or sets the boundary mode or the crease method.
 pub record AddsTag (line : Line) (before after : Tags) : Type 0 where
   pub creases : map crease_of after.creases.items ≡ map crease_of before.creases.items ++ (if is_tag (codes "crease") line then tag_creases line else [])
   pub corners : map corner_tag_of after.corners.items ≡ map corner_tag_of before.corners.items ++ (if is_tag (codes "corner") line then tag_corners line else [])

@@ -1,4 +1,4 @@
--- What the values of a tag say, by its counts.
+-- What the values of a tag say, given its counts.
 use Rattle.std.specs.Option.{option_or}
 use Rattle.std.specs.Prelude.{ℕ, ◌≡◌, true, List, map, take, drop, zip, length, Option, Some, unsigned_abs}
 use Rattle.subdiv_model.specs.ObjFault as fault
@@ -15,43 +15,46 @@ use Rattle.obj_tags.specs.View.{kind_of}
 use Rattle.obj_tags.specs.declared.tag_counts.TagCounts.{TagCounts}
 use Rattle.obj_tags.specs.declared.tag_counts.TagKind.{TagKind}
 
--- the first fault among the values of a tag with these counts: its indices, and then its sharpnesses
+-- The first fault among the values of a tag: its indices, then its sharpnesses.
 abbrev pub value_fault : ℕ → TagCounts → List (List ℕ) → Option fault.ObjCause
 value_fault points counts words =
     option_or (fault.first_cause (tag_index_fault points) (take counts.integers words))
     (fault.first_cause tag_numeral_fault (take counts.numerals (drop counts.integers words)))
 
--- the index and the sharpness that a word says
+-- The index that a word spells.
 abbrev pub index_said : List ℕ → ℕ
 index_said word = unsigned_abs (index_of word)
 
+-- The sharpness that a word spells.
 abbrev pub sharpness_said : List ℕ → model.Sharpness
 sharpness_said word = model.sharpness_of_fraction (numeral_amount word)
 
--- the indices of a tag with these counts
+-- The indices of a tag with these counts.
 abbrev pub indices_said : TagCounts → List (List ℕ) → List ℕ
 indices_said counts words = map index_said (take counts.integers words)
 
+-- The sharpnesses of a tag with these counts.
 abbrev pub sharpnesses_said : TagCounts → List (List ℕ) → List model.Sharpness
 sharpnesses_said counts words = map sharpness_said (take counts.numerals (drop counts.integers words))
 
--- what was read of its words
+-- The indices and the sharpnesses read from the words of a tag.
 pub record AreSaid (indices : List ℕ) (sharpnesses : List Sharpness) (counts : TagCounts) (words : List (List ℕ)) : Type 0 where
   pub vertices : indices ≡ indices_said counts words
   pub values : map sharpness_of sharpnesses ≡ sharpnesses_said counts words
 
--- the pairs of a chain, and the vertices, each with one sharpness for all or with its own
+-- The pairs of a chain, with one sharpness for all or one for each.
 abbrev pub chain_creases : List ℕ → List model.Sharpness → List ((ℕ × ℕ) × model.Sharpness)
 chain_creases vertices values = zip (chain_pairs vertices) (for_each (length (chain_pairs vertices)) values)
 
+-- The points of a corner tag, with one sharpness for all or one for each.
 abbrev pub vertex_tags : List ℕ → List model.Sharpness → List (ℕ × model.Sharpness)
 vertex_tags vertices values = zip vertices (for_each (length vertices) values)
 
--- a tag line with another name, or with counts that do not fit, is bad whatever the text has
+-- A tag line with an unknown name, or with counts that do not fit, is bad in every text.
 abbrev pub IsBadTag : Line → Type 0
 IsBadTag line = (whole : Counts) → tag_fault whole line ≡ Some fault.BadTag
 
--- the kind and the counts of a tag line, and the words after them
+-- The kind and the counts of a tag line, and the words after them.
 pub record IsHeadOf (kind : TagKind) (counts : TagCounts) (left : List (List ℕ)) (line : Line) : Type 0 where
   pub name : kind_of_name (tag_name line) ≡ Some (kind_of kind)
   pub fits : fits_counts (kind_of kind) line ≡ true

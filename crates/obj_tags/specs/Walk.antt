@@ -7,16 +7,16 @@ use Rattle.subdiv_model.specs.Numeral.{is_slash}
 use Rattle.subdiv_model.specs.ReadObj.{is_continued}
 use Rattle.obj_text.specs.declared.line.Words.{Words}
 
--- the words that are still to come
+-- The words that are still to come.
 abbrev pub words_left : Words → List (List ℕ)
 words_left words = line_words words.line.now
 
--- the parts between the slashes of what is left of a word, and none where nothing is left
+-- The parts between slashes of the rest of a word, or none without a rest.
 abbrev pub parts_left : Option (Bor (List ℕ)) → List (List ℕ)
 parts_left None = []
 parts_left (Some rest) = slice_split is_slash rest.now
 
--- whether a line is continued, by what its words so far say and those to come
+-- Whether a line is continued, given the result for the words so far and the words to come.
 abbrev pub continued_from : Bool → List (List ℕ) → Bool
 continued_from so_far [] = so_far
 continued_from so_far (word ∷ words) = is_continued (word ∷ words)

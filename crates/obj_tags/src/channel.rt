@@ -13,23 +13,23 @@ use crate::words::next_word;
 use obj_text::Words;
 use ratio128::{Point2, Point3};
 
-/// The positions over their common denominator, while their numbers have at most 37 digits: those of
-/// a line with a longer number are zeros. `long` is the first such line, counted from 1.
+/// The positions over their common denominator. A line with a number of more than 37 digits gives zeros; `long` is the first such line,
+/// counted from 1.
 #[derive(Drop)]
 pub(crate) struct Positions {
     pub(crate) points: Vec<Point3>,
     pub(crate) long: Option<u32>,
 }
 
-/// The texture values over their common denominator, while their numbers have at most 37 digits: those of
-/// a line with a longer number are zeros. `long` is the first such line, counted from 1.
+/// The texture values over their common denominator. A line with a number of more than 37 digits gives zeros; `long` is the first such
+/// line, counted from 1.
 #[derive(Drop)]
 pub(crate) struct TextureValues {
     pub(crate) points: Vec<Point2>,
     pub(crate) long: Option<u32>,
 }
 
-// The numeral that a word says over a common denominator, `None` where it has more than 37 digits there.
+// The numeral of a word as a numerator over a common denominator, or `None` if that has more than 37 digits.
 fn number_of(word: &[u8], common: u128) -> Result<Option<i128>, ObjCause>
     requires { common ≤ 10 ^ 37 }
     ensures { ReadUnless result (numeral_fault word.now) (λ n. IsShortNumber n (number_over common word.now)) }
@@ -38,8 +38,7 @@ fn number_of(word: &[u8], common: u128) -> Result<Option<i128>, ObjCause>
     Ok(numerator_over(number, common))
 }
 
-// The next numeral of a line over a common denominator, `None` where it has more than 37 digits there.
-// A line with no next word is too short.
+// The next numeral of a line over a common denominator, or `None` if that has more than 37 digits. A line without a next word is too short.
 fn next_number(words: &mut Words<'_>, common: u128) -> Result<Option<i128>, ObjCause>
     requires some { 0 < length (words_left words.old) }
     requires short { common ≤ 10 ^ 37 }
@@ -51,8 +50,7 @@ fn next_number(words: &mut Words<'_>, common: u128) -> Result<Option<i128>, ObjC
     number_of(word, common)
 }
 
-// The numeral that a line may have next, over a common denominator, `None` where it has more than 37
-// digits there. A missing one is 0.
+// The next numeral of a line over a common denominator, or `None` if that has more than 37 digits. A missing word counts as 0.
 fn second_number(words: &mut Words<'_>, common: u128) -> Result<Option<i128>, ObjCause>
     requires short { common ≤ 10 ^ 37 }
     ensures rest { OnOk result (words_left words.new ≡ drop 1 (words_left words.old)) }
@@ -65,7 +63,7 @@ fn second_number(words: &mut Words<'_>, common: u128) -> Result<Option<i128>, Ob
     }
 }
 
-// Reads the numerals that are left and drops them.
+// Reads the remaining numerals and drops them.
 fn drop_numerals(words: &mut Words<'_>) -> Result<(), ObjCause>
     ensures { ReadUnless result (first_cause numeral_fault (words_left words.old)) (λ _. Unit {0}) }
 {
@@ -75,7 +73,7 @@ fn drop_numerals(words: &mut Words<'_>) -> Result<(), ObjCause>
     Ok(())
 }
 
-// The point of these numbers, where there are all three.
+// The point of three numbers, if all of them exist.
 fn point_from(x: Option<i128>, y: Option<i128>, z: Option<i128>) -> Option<Point3>
     ensures { result ≡ spec.point_from x y z }
 {
@@ -86,15 +84,15 @@ fn point_from(x: Option<i128>, y: Option<i128>, z: Option<i128>) -> Option<Point
     })
 }
 
-// The texture value of these numbers, where there are both.
+// The texture value of two numbers, if both exist.
 fn texture_from(u: Option<i128>, v: Option<i128>) -> Option<Point2>
     ensures { result ≡ spec.texture_from u v }
 {
     Some(Point2 { u: u?, v: v? })
 }
 
-/// The position of a `v` line over a common denominator, from the words after its keyword; `None`
-/// where a number has more than 37 digits.
+/// The position of a `v` line over a common denominator, given the words after its keyword. It is `None` if a number has more than 37
+/// digits.
 pub(crate) fn read_position(words: &mut Words<'_>, common: u128) -> Result<Option<Point3>, ObjCause>
     requires enough { 3 ≤ length (words_left words.old) }
     requires short { common ≤ 10 ^ 37 }
@@ -108,8 +106,8 @@ pub(crate) fn read_position(words: &mut Words<'_>, common: u128) -> Result<Optio
     Ok(point_from(x, y, z))
 }
 
-/// The texture value of a `vt` line over a common denominator, from the words after its keyword; `None`
-/// where a number has more than 37 digits. A missing second number is 0.
+/// The texture value of a `vt` line over a common denominator, given the words after its keyword. It is `None` if a number has more than 37
+/// digits. A missing second number counts as 0.
 pub(crate) fn read_texture_value(
     words: &mut Words<'_>,
     common: u128,
@@ -125,7 +123,7 @@ pub(crate) fn read_texture_value(
     Ok(texture_from(u, v))
 }
 
-// The first line with a number that is too long, with one more line.
+// The first line with a number that is too long, after one more line.
 fn first_long(first: Option<u32>, number: u32, long: bool) -> Option<u32>
     ensures { result ≡ spec.first_long first number long }
 {
@@ -136,7 +134,7 @@ fn first_long(first: Option<u32>, number: u32, long: bool) -> Option<u32>
     }
 }
 
-// The point, or zeros where there is none.
+// The point, or zeros without a point.
 fn point_or_origin(point: Option<Point3>) -> Point3
     ensures { result ≡ spec.point_or_origin point }
 {
@@ -146,7 +144,7 @@ fn point_or_origin(point: Option<Point3>) -> Point3
     }
 }
 
-// The texture value, or zeros where there is none.
+// The texture value, or zeros without a value.
 fn texture_or_origin(point: Option<Point2>) -> Point2
     ensures { result ≡ spec.texture_or_origin point }
 {
@@ -156,7 +154,7 @@ fn texture_or_origin(point: Option<Point2>) -> Point2
     }
 }
 
-/// Keeps the position of a `v` line over the common denominator, from the words after its keyword.
+/// Keeps the position of a `v` line over the common denominator, given the words after its keyword.
 pub(crate) fn keep_position(
     positions: &mut Positions,
     common: u128,
@@ -174,8 +172,7 @@ pub(crate) fn keep_position(
     Ok(())
 }
 
-/// Keeps the texture value of a `vt` line over the common denominator, from the words after its
-/// keyword.
+/// Keeps the texture value of a `vt` line over the common denominator, given the words after its keyword.
 pub(crate) fn keep_texture_value(
     values: &mut TextureValues,
     common: u128,

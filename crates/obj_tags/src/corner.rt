@@ -7,7 +7,7 @@ ghost use Rattle.obj_tags.specs.Corner.{IsIndexOf, IsCornerOf, IsReadAs};
 use crate::words::split_slash;
 use obj_text::read_index;
 
-/// A corner of an `f` line: its indices as they are written. What stands for a normal is not kept.
+/// A corner of an `f` line, with its indices as written. The reader drops the index of a normal.
 #[derive(Clone, Copy)]
 pub(crate) struct Corner {
     pub(crate) vertex: i64,
@@ -25,7 +25,7 @@ impl Corner {
     }
 }
 
-// A corner with these indices, where they are such.
+// The corner with these parts, if each part is an index.
 fn corner_with_normal(vertex: i64, texture: &[u8], normal: &[u8]) -> Option<Corner>
     ensures { (a : List ℕ) → IsIndexOf vertex a
         → IsReadAs result (a ∷ texture.now ∷ slice_split is_slash normal.now) }
@@ -43,7 +43,7 @@ fn corner_with_normal(vertex: i64, texture: &[u8], normal: &[u8]) -> Option<Corn
     })
 }
 
-// A corner with a vertex index and what follows the slash after it.
+// The corner with this vertex index and the bytes after its slash.
 fn corner_with_texture(vertex: i64, rest: &[u8]) -> Option<Corner>
     ensures { (a : List ℕ) → IsIndexOf vertex a → IsReadAs result (a ∷ slice_split is_slash rest.now) }
 {
@@ -58,7 +58,7 @@ fn corner_with_texture(vertex: i64, rest: &[u8]) -> Option<Corner>
     }
 }
 
-/// A corner `a`, `a/b`, `a//c` or `a/b/c`; `None` for any other word.
+/// The corner `a`, `a/b`, `a//c` or `a/b/c`, or `None` for any other word.
 pub(crate) fn read_corner(word: &[u8]) -> Option<Corner>
     ensures { IsReadAs result (corner_parts word.now) }
 {

@@ -9,7 +9,7 @@ use raw_mesh::{Boundary, Faces, Tags};
 use sharpness_rules::Method;
 use std::alloc::{AllocError, Global};
 
-/// What was kept of the lines so far.
+/// What the reader kept of the lines so far.
 #[derive(Drop)]
 pub(crate) struct Draft {
     pub(crate) positions: Positions,
@@ -18,7 +18,7 @@ pub(crate) struct Draft {
     pub(crate) tags: Tags,
 }
 
-// The lesser of a count of lines and the most good lines of a kind that a text can have.
+// The count of lines, at most the number of good lines of a kind that a text can have.
 fn room(count: u32, most: usize) -> usize
     ensures { result ≤ most }
 {
@@ -26,8 +26,7 @@ fn room(count: u32, most: usize) -> usize
 }
 
 impl Draft {
-    /// Nothing was kept. There is room for so many lines of each kind as `all` counts, as far as a text
-    /// of `len` bytes can have good ones.
+    /// An empty draft, with room for the lines of each kind that `all` counts, as far as a text of `len` bytes can have good ones.
     pub(crate) fn new(alloc: Global, all: Survey, len: usize) -> Result<Draft, AllocError>
         requires { len ≤ 2 ^ 28 }
         ensures { (lines : List Line) → IfOk result (λ draft. IsDraftOf all draft lines 0) }
@@ -58,7 +57,7 @@ impl Draft {
         })
     }
 
-    /// How many lines of each kind were kept.
+    /// How many lines of each kind the draft has.
     pub(crate) fn counts(&self) -> Counts
         requires points { length self.now.positions.points.items < 2 ^ 32 }
         requires textures { length self.now.texture.points.items < 2 ^ 32 }

@@ -15,7 +15,7 @@ use crate::words::next_word;
 use obj_text::Words;
 use raw_mesh::Faces;
 
-/// How many `v`, `vt` and `f` lines a text has, or some of its lines.
+/// How many `v`, `vt` and `f` lines a text, or the part of it read so far, has.
 #[derive(Clone, Copy)]
 pub(crate) struct Counts {
     pub(crate) point_count: u32,
@@ -23,7 +23,7 @@ pub(crate) struct Counts {
     pub(crate) face_count: u32,
 }
 
-// A corner of the same form as the first of its line.
+// The corner of a word, which must have the form of the first corner of its line.
 fn next_corner(first: &Option<Corner>, word: &[u8]) -> Result<Corner, ObjCause>
     ensures { (start : List ℕ) → IsFirst first.now start word.now → IsNextCorner result start word.now }
 {
@@ -41,7 +41,7 @@ struct Places {
     texture: Option<u32>,
 }
 
-// What a corner names.
+// The point and the texture value that the indices of a corner name.
 fn places_of(all: Counts, before: Counts, corner: Corner) -> Result<Places, ObjCause>
     requires points { before.point_count ≤ all.point_count }
     requires textures { before.texture_count ≤ all.texture_count }
@@ -56,7 +56,7 @@ fn places_of(all: Counts, before: Counts, corner: Corner) -> Result<Places, ObjC
     Ok(Places { point, texture })
 }
 
-// Keeps a corner after those before it.
+// Appends a corner.
 fn keep_corner(faces: &mut Faces, places: Places) -> Result<(), LineFault>
     ensures starts { faces.new.starts ≡ faces.old.starts }
     ensures memory { IfErr result (λ fault. fault ≡ Memory) }
@@ -69,7 +69,7 @@ fn keep_corner(faces: &mut Faces, places: Places) -> Result<(), LineFault>
     Ok(())
 }
 
-// The first corner of a line, and else the next.
+// The first corner of a line, or `next` if there is none yet.
 fn first_of(first: Option<Corner>, next: Corner) -> Option<Corner>
     ensures { (start word later : List ℕ) → IsFirst first start word → IsCornerOf next word → IsFirst result start later }
 {
@@ -79,7 +79,7 @@ fn first_of(first: Option<Corner>, next: Corner) -> Option<Corner>
     }
 }
 
-/// Keeps the face of an `f` line, from the words after its keyword.
+/// Keeps the face of an `f` line, given the words after its keyword.
 pub(crate) fn keep_face(
     faces: &mut Faces,
     all: Counts,

@@ -7,42 +7,42 @@ use std::alloc::{AllocError, AllocFailed};
 use std::fmt;
 use text_pieces::Pieces;
 
-/// Why a line is refused.
+/// The fault of a line.
 #[derive(Clone, Copy, Debug, PartialEq, Eq)]
 pub enum ObjCause {
-    /// A word that should be a numeral, a decimal or a fraction, is none.
+    /// A word that should be a numeral, a decimal or a fraction, is not one.
     BadNumeral,
-    /// A decimal passes 37 digits in its mantissa or in its decimals, in normal form, or a fraction in
-    /// one of its parts. Where each line by itself is good: a channel's common denominator passes
-    /// 10^37 up to this line, or a number of this line has more than 37 digits over it.
+    /// A number is out of range: a decimal with more than 37 digits in its mantissa or its decimals, in normal form, or a fraction with
+    /// more in a part. If every line is good by itself, the common denominator of a channel exceeds 10^37 at this line. Or a number of this
+    /// line has more than 37 digits over it.
     NumberRange,
-    /// The first word of a line is no keyword.
+    /// The first word of the line is not a keyword.
     UnknownKeyword,
-    /// The last word of a line ends with a backslash.
+    /// The last word of the line ends with a backslash.
     Continuation,
-    /// A line has too few words for its keyword.
+    /// The line has too few words for its keyword.
     ShortLine,
-    /// A face corner has no known form, or another than the first corner of its line.
+    /// A face corner has an unknown form, or a form other than that of the first corner of its line.
     BadCorner,
     /// A face corner names no `v` line or no `vt` line.
     IndexRange,
     /// A tag has an unknown name, counts that do not fit, or a word that does not fit.
     BadTag,
-    /// A tag names no vertex or no face.
+    /// A tag names no point or no face.
     TagIndex,
-    /// A sharpness is below 0, or below 10 and a decimal of more than six decimals, or a fraction whose
-    /// denominator in lowest terms passes 10^6.
+    /// A sharpness is below 0. Or it is below 10 and too fine: a decimal with more than six decimals, or a fraction with a denominator
+    /// above 10^6 in lowest terms.
     SharpnessRange,
-    /// A move names no control point. Moves are no OBJ text: `read_obj` never answers this.
+    /// A move names no control point. `read_obj` never returns this; it is for lines of moves.
     MoveIndex,
-    /// The common denominator is no multiple of a moved coordinate's own, in lowest terms; `read_obj` never answers this.
+    /// The denominator of a moved coordinate, in lowest terms, does not divide the common denominator. `read_obj` never returns this.
     TooFine,
-    /// A line of moves is too long; `read_obj` never answers this.
+    /// A line of moves is too long. `read_obj` never returns this.
     LongLine,
 }
 
 impl ObjCause {
-    /// The cause in a few words, as in the line that `far` prints.
+    /// The cause in words, as in the message that `far` prints.
     pub fn text(&self) -> &'static str
         ensures { result.now ≡ cause_text (cause_of self.now) }
     {
@@ -74,7 +74,7 @@ impl fmt::Display for ObjCause {
 
 impl std::error::Error for ObjCause {}
 
-/// A line that is refused, counted from 1, and why.
+/// A faulty line, counted from 1, and the cause.
 #[derive(Clone, Copy, Debug, PartialEq, Eq)]
 pub struct ObjFault {
     pub line: u32,
@@ -82,7 +82,7 @@ pub struct ObjFault {
 }
 
 impl ObjFault {
-    /// The line and its cause in words.
+    /// The fault in words: the line and its cause.
     pub fn pieces(&self) -> Pieces
         ensures { result ≡ obj_fault_text (fault_of self.now) }
     {
@@ -100,10 +100,10 @@ impl fmt::Display for ObjFault {
 
 impl std::error::Error for ObjFault {}
 
-/// Why a text was not read.
+/// The fault that stopped the reading of a text.
 #[derive(Clone, Copy, Debug, PartialEq, Eq)]
 pub enum ReadFault {
-    /// A line is refused.
+    /// The first faulty line.
     Obj(ObjFault),
     /// Memory ran out.
     Memory,
@@ -141,7 +141,7 @@ impl From<AllocError> for ReadFault {
     }
 }
 
-/// Why a line was not kept.
+/// The fault of a line.
 #[derive(Clone, Copy)]
 pub(crate) enum LineFault {
     Cause(ObjCause),

@@ -1,5 +1,8 @@
-//! Reads the OBJ text of a mesh with its tags: positions, texture values, faces, creases, corners,
-//! holes, the boundary mode and the crease method. A refusal names its line and its cause.
+//! Reads an OBJ text with its tags into a mesh, or reports its first faulty line and the fault.
+//!
+//! It reads positions, texture values, faces, creases, corners, holes, the boundary mode and the crease method. Positions are whole
+//! numerators over one common denominator, and texture values over another, each from 1 to 10^37. A mesh counts points, texture values and
+//! faces from 0; a fault counts lines from 1. The mesh need not be a manifold.
 #![tactic(auto)]
 
 mod channel;

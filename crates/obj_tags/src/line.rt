@@ -18,18 +18,18 @@ use crate::words::{extent_of, is_word, next_word};
 use obj_text::{Words, words_of};
 use std::alloc::Global;
 
-/// What the first word of a line says.
+/// The keyword of a line.
 #[derive(Clone, Copy)]
 pub(crate) enum Keyword {
     Position,
     Texture,
     Face,
     Tag,
-    /// The rest of the line is dropped unread.
+    /// The reader drops the rest of the line unread.
     Ignored,
 }
 
-// Whether the rest of a line with this first word is dropped unread.
+// Whether the reader drops the rest of a line with this first word unread.
 fn is_ignored(word: &[u8]) -> bool
     ensures { (rest : List (List ℕ)) → result ≡ is_dropped_line (word.now ∷ rest) }
 {
@@ -43,7 +43,7 @@ fn is_ignored(word: &[u8]) -> bool
         || is_word(word, b"p")
 }
 
-/// The keyword that a word is; `None` where it is none.
+/// The keyword that a word is, or `None`.
 pub(crate) fn keyword_of(word: &[u8]) -> Option<Keyword>
     ensures { (rest : List (List ℕ)) → IsReadAs result (word.now ∷ rest) }
 {
@@ -76,7 +76,7 @@ fn least_words(keyword: Keyword) -> usize
     }
 }
 
-// Keeps what the words after a keyword say; there are `len` of them, and enough for the keyword.
+// Keeps the `len` words after a keyword. They are enough for the keyword.
 fn keep_values(
     alloc: Global,
     draft: &mut Draft,
@@ -111,8 +111,7 @@ fn keep_values(
     }
 }
 
-/// Keeps what a line says after what the lines before it said: `number` is its place in the text,
-/// counted from 1, and `all` is what was found in the whole text.
+/// Keeps a line. `number` is its place in the text, counted from 1, and `all` is the survey of the whole text.
 pub(crate) fn keep_line(
     alloc: Global,
     draft: &mut Draft,

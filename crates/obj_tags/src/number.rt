@@ -13,8 +13,7 @@ use obj_text::{Numeral, NumeralFault, read_index, read_numeral};
 use ratio128::limits::NUMERAL_BOUND;
 use sharpness_rules::Sharpness;
 
-/// The numeral that a word is, in lowest terms. It refuses a word that is no numeral by `BadNumeral`, and a numeral that is out of
-/// range by `NumberRange`.
+/// Returns the numeral of a word in lowest terms. `BadNumeral`: the word is not a numeral. `NumberRange`: the numeral is out of range.
 pub fn numeral(word: &[u8]) -> Result<Numeral, ObjCause>
     ensures { ReadUnless result (numeral_fault word.now) (λ n. IsNumeralOf n word.now) }
 {
@@ -25,8 +24,10 @@ pub fn numeral(word: &[u8]) -> Result<Numeral, ObjCause>
     }
 }
 
-/// The numerator of a numeral over a common denominator, which is at most 10^37: its own numerator times the whole quotient of the
-/// two denominators. It returns `None` where that has more than 37 digits.
+/// Returns the numerator of a numeral over a common denominator of at most 10^37, or `None` if it has more than 37 digits.
+///
+/// The result is the numerator of the numeral times the whole quotient of the two denominators. It is exact if the denominator of the
+/// numeral divides `common`.
 pub fn numerator_over(number: Numeral, common: u128) -> Option<i128>
     requires positive { 0 < number.den }
     requires short { unsigned_abs number.num < 10 ^ 37 }
@@ -40,8 +41,8 @@ pub fn numerator_over(number: Numeral, common: u128) -> Option<i128>
     }
 }
 
-/// The place of the line that an index of a face corner names, counted from 0. A positive index
-/// counts all lines from 1; a negative one counts back from the last of the lines `before`.
+/// The line that an index of a face corner names, counted from 0. A positive index counts all lines from 1; a negative index counts back
+/// from the last of the lines `before`.
 #[tactic(auto, using(crate::proofs::WalkLemmas::place_nearest))]
 pub(crate) fn place(index: i64, all: u32, before: u32) -> Result<u32, ObjCause>
     requires { before ≤ all }
@@ -59,7 +60,7 @@ pub(crate) fn place(index: i64, all: u32, before: u32) -> Result<u32, ObjCause>
     Err(ObjCause::IndexRange)
 }
 
-/// The vertex or face that a word of a tag names, counted from 0.
+/// The point or face that a word of a tag names, counted from 0.
 pub(crate) fn tag_index(word: &[u8], all: u32) -> Result<u32, ObjCause>
     ensures index { ReadUnless result (tag_index_fault all word.now) (λ i. i ≡ index_said word.now) }
     ensures below { IfOk result (λ i. i < all) }

@@ -16,7 +16,7 @@ fn after_sign(word: &[u8]) -> &[u8]
     }
 }
 
-// How many digits stand before the first byte that is none.
+// How many digits precede the first byte that is not a digit.
 fn digits_len(bytes: &[u8]) -> usize
     ensures digits { list_all is_digit (take result bytes.now) ≡ true }
     ensures within { result ≤ length bytes.now }
@@ -29,7 +29,7 @@ fn digits_len(bytes: &[u8]) -> usize
     bytes.len()
 }
 
-// What follows the point that stands first; `None` where none does.
+// The bytes after a decimal point at the start, or `None` if there is no point.
 fn after_point(bytes: &[u8]) -> Option<&[u8]>
     ensures { IfSome result (λ rest. bytes.now ≡ 46 ∷ rest.now) }
 {
@@ -39,8 +39,7 @@ fn after_point(bytes: &[u8]) -> Option<&[u8]>
     }
 }
 
-// The digits after the point of a word that is a sign, digits, a point and digits, or has some of these
-// alone.
+// The digits after the point of a word made only of a sign, digits, a point and digits, each of them optional.
 fn decimals_of(word: &[u8]) -> Option<&[u8]>
     ensures { IfSome result (λ digits. HasDecimals word.now digits.now) }
 {
@@ -56,7 +55,7 @@ fn decimals_of(word: &[u8]) -> Option<&[u8]>
     Some(digits)
 }
 
-// What is left of a common denominator over a power of ten, in words of 64 bits where both fit into one.
+// The remainder of a common denominator by a power of ten, in 64 bits if both fit.
 fn rest_over(common: u128, tens: u64) -> u64
     requires { 0 < tens }
     ensures { result ≡ common % tens }
@@ -68,7 +67,7 @@ fn rest_over(common: u128, tens: u64) -> u64
     }
 }
 
-// The number that a few digits say.
+// The number that a few digits spell.
 fn number_of(digits: &[u8]) -> u64
     requires few { length digits.now ≤ 9 }
     requires digits { list_all is_digit digits.now ≡ true }
@@ -82,8 +81,7 @@ fn number_of(digits: &[u8]) -> u64
     number
 }
 
-// Whether digits over their tens become whole over a common denominator. Where they are many it is asked
-// only whether ten to their number divides it.
+// Whether the digits, over their power of ten, are whole over a common denominator. More than 19 digits count as not whole.
 fn are_whole(digits: &[u8], common: u128) -> bool
     requires { list_all is_digit digits.now ≡ true }
     ensures { result ≡ true → IsWholeOver digits.now common }
@@ -99,8 +97,9 @@ fn are_whole(digits: &[u8], common: u128) -> bool
     digits.len() <= 9 && rest * number_of(digits) % tens == 0
 }
 
-/// Whether the look of a word alone shows that its denominator divides a common denominator. Such a word
-/// has no exponent and no slash, and the digits after its point become whole over the common denominator.
+/// Whether the form of a word alone shows that its denominator divides a common denominator.
+///
+/// Such a word has no exponent and no slash, and the digits after its point are whole over the common denominator.
 pub(crate) fn is_over(word: &[u8], common: u128) -> bool
     ensures { result ≡ true → denominator_of word.now ∣ common }
 {

@@ -19,7 +19,7 @@ use crate::{ObjCause, ObjFault, ReadFault};
 use raw_mesh::{Coordinates, RawMesh};
 use std::alloc::Global;
 
-// Keeps what all lines say, by what was found in them; the error is that of the first bad line.
+// Keeps the contents of all lines, given their survey. The error is that of the first bad line.
 fn keep_lines(alloc: Global, text: &[u8], all: Survey) -> Result<Draft, ReadFault>
     requires short { length text.now ≤ 2 ^ 28 }
     requires counted { counts_of all.counts ≡ model.counts_of (map line_words (lines_of text.now)) }
@@ -48,8 +48,7 @@ fn keep_lines(alloc: Global, text: &[u8], all: Survey) -> Result<Draft, ReadFaul
     Ok(draft)
 }
 
-// The late line of a channel: the first up to which its common denominator passes the bound, and else
-// the first with a number that is too long.
+// The late line of a channel: the first at which its common denominator exceeds the bound, or the first with a number that is too long.
 fn late_line(wide: Option<u32>, long: Option<u32>) -> Option<u32>
     ensures { result ≡ spec.late_line wide long }
 {
@@ -59,7 +58,7 @@ fn late_line(wide: Option<u32>, long: Option<u32>) -> Option<u32>
     }
 }
 
-// The least of two lines, where there is one.
+// The lesser of two lines, or the only one.
 fn least_line(a: Option<u32>, b: Option<u32>) -> Option<u32>
     ensures { result ≡ spec.lesser_line a b }
 {
@@ -70,8 +69,7 @@ fn least_line(a: Option<u32>, b: Option<u32>) -> Option<u32>
     }
 }
 
-// Makes a mesh of what was kept; the error is the least line up to which a channel is too wide, or with
-// a number that is too long.
+// Makes a mesh of the draft. The error is at the least line where a channel is too wide or a number too long.
 fn finish(draft: Draft, all: Survey) -> Result<RawMesh, ReadFault>
     requires short { HasShortNumbers all draft }
     requires whole { IsWhole (length draft.positions.points.items) (length draft.texture.points.items) false draft.faces draft.tags }
@@ -101,15 +99,15 @@ fn finish(draft: Draft, all: Survey) -> Result<RawMesh, ReadFault>
     Ok(RawMesh::of(coordinates, faces, tags))
 }
 
-/// Reads the OBJ text of a mesh, which has at most 2^28 bytes. Positions stand over the least common
-/// multiple of their denominators in lowest terms and ten to `least_scale`, which is at most 18; texture
-/// values over that of their own denominators.
+/// Reads the OBJ text of a mesh, of at most 2^28 bytes.
 ///
-/// The error is `Obj` with the least line that is refused, counted from 1, and its cause, or `Memory`
-/// where memory ran out. Where each line by itself is good, it is `NumberRange` at the least line up to
-/// which a channel's common denominator passes 10^37, or, of a channel whose does not, with a number of
-/// more than 37 digits over it. The format is this profile's part of Wavefront's OBJ, with the tags of
-/// its `t` lines.
+/// The common denominator of the positions is the least common multiple of their denominators in lowest terms and of 10^least_scale;
+/// `least_scale` is at most 18. That of the texture values is the least common multiple of their own denominators. The format is this
+/// profile's part of Wavefront OBJ, with tags on `t` lines.
+///
+/// - `Obj`: the least faulty line, counted from 1, and its cause. If every line is good by itself, the cause is `NumberRange`. Its line is
+///   then the least where the common denominator of a channel exceeds 10^37, or where a number over it exceeds 37 digits.
+/// - `Memory`: memory ran out.
 pub fn read_obj(alloc: Global, bytes: &[u8], least_scale: u32) -> Result<RawMesh, ReadFault>
     requires short { length bytes.now ≤ 2 ^ 28 }
     requires scale { least_scale ≤ 18 }

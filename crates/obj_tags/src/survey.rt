@@ -17,16 +17,16 @@ use obj_text::{Words, words_of};
 use ratio128::lcm_within;
 use ratio128::limits::NUMERAL_BOUND;
 
-/// The common denominator of a channel, from 1 to 10^37. Where that of all its lines passes 10^37,
-/// `wide` is the first line up to which it does, counted from 1.
+/// The common denominator of a channel, from 1 to 10^37. If that of all lines exceeds 10^37, `wide` is the first line at which it does,
+/// counted from 1.
 #[derive(Clone, Copy)]
 pub(crate) struct Common {
     pub(crate) value: u128,
     pub(crate) wide: Option<u32>,
 }
 
-/// What a first walk finds in a text: how many lines of each kind it has, and the common denominators
-/// of its positions and of its texture values.
+/// The result of the first pass over a text: the number of lines of each kind, and the common denominators of positions and of texture
+/// values.
 #[derive(Clone, Copy)]
 pub(crate) struct Survey {
     pub(crate) counts: Counts,
@@ -42,7 +42,7 @@ fn divides(den: u128, common: u128) -> bool
     den == 1 || common % den == 0
 }
 
-// The least common multiple of a common denominator and a denominator, where it is at most 10^37.
+// The least common multiple of a common denominator and a denominator, if it is at most 10^37.
 fn multiple_of(common: u128, den: u128) -> Option<u128>
     requires common { 0 < common }
     requires den { 0 < den }
@@ -53,7 +53,7 @@ fn multiple_of(common: u128, den: u128) -> Option<u128>
     lcm_within(common, den, NUMERAL_BOUND)
 }
 
-// A common denominator with one more denominator, of the line with this number.
+// The common denominator after one more denominator, of the line with this number.
 fn with_denominator(common: Common, number: u32, den: u128) -> Common
     requires bounded { IsBounded common }
     requires positive { 0 < den }
@@ -72,8 +72,7 @@ fn with_denominator(common: Common, number: u32, den: u128) -> Common
     }
 }
 
-// A common denominator with that of a word. A word that is refused is passed over, and a word is not read
-// where its denominator changes nothing.
+// The common denominator after the denominator of a word. A faulty word counts nothing, and a word that changes nothing is not read.
 fn with_word(common: Common, number: u32, word: &[u8]) -> Common
     requires bounded { IsBounded common }
     ensures with { result ≡ spec.with_word number common word.now }
@@ -88,7 +87,7 @@ fn with_word(common: Common, number: u32, word: &[u8]) -> Common
     }
 }
 
-// A common denominator with those of the next words, of which at most so many are read.
+// The common denominator after the next words, of which at most `most` are read.
 fn with_words(common: Common, number: u32, words: &mut Words<'_>, most: u32) -> Common
     requires bounded { IsBounded common }
     ensures with { result ≡ fold (spec.with_word number) common (take most (words_left words.old)) }
@@ -106,8 +105,7 @@ fn with_words(common: Common, number: u32, words: &mut Words<'_>, most: u32) -> 
     common
 }
 
-// One more line with this first word and these words after it, in the count of its keyword and in
-// the common denominator of its channel.
+// The survey after one more line with this first word and these words after it.
 fn with_values(all: Survey, number: u32, first: &[u8], words: &mut Words<'_>) -> Survey
     requires points { all.counts.point_count < 2 ^ 31 }
     requires textures { all.counts.texture_count < 2 ^ 31 }
@@ -140,7 +138,7 @@ fn with_values(all: Survey, number: u32, first: &[u8], words: &mut Words<'_>) ->
     all
 }
 
-// One more line.
+// The survey after one more line.
 fn with_line(all: Survey, number: u32, line: &[u8]) -> Survey
     requires points { all.counts.point_count < 2 ^ 31 }
     requires textures { all.counts.texture_count < 2 ^ 31 }
@@ -165,8 +163,8 @@ fn with_line(all: Survey, number: u32, line: &[u8]) -> Survey
     }
 }
 
-/// How many lines of each kind the text has, and the common denominators of its channels, whether its
-/// lines are good or bad. That of the positions is a multiple of ten to `least_scale`.
+/// The number of lines of each kind and the common denominators of the channels, over good and bad lines. The common denominator of the
+/// positions is a multiple of 10^least_scale.
 pub(crate) fn survey_of(text: &[u8], least_scale: u32) -> Survey
     requires short { length text.now ≤ 2 ^ 28 }
     requires scale { least_scale ≤ 18 }

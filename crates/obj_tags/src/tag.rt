@@ -20,7 +20,7 @@ use raw_mesh::{Boundary, CornerTag, Crease, Tags};
 use sharpness_rules::{Method, Sharpness};
 use std::alloc::Global;
 
-// The vertices that a tag names, of `points` in the mesh, and its values of sharpness.
+// The points that a tag names, of `points` in the mesh, and its values of sharpness.
 fn vertices_and_values(
     alloc: Global,
     points: u32,
@@ -57,7 +57,7 @@ fn keep_crease(
     Ok(())
 }
 
-// Keeps the sharpness of vertices.
+// Keeps the sharpness of points.
 fn keep_corners(
     alloc: Global,
     corners: &mut Vec<CornerTag>,
@@ -95,7 +95,7 @@ fn keep_holes(
     Ok(())
 }
 
-// Sets the boundary mode that the next word names, in the place of the one before.
+// Sets the boundary mode that the next word names.
 fn keep_boundary(boundary: &mut Boundary, words: &mut Words<'_>) -> Result<(), LineFault>
     requires { 0 < length (words_left words.old) }
     ensures { let word = get_or (words_left words.old) 0 [] in
@@ -106,7 +106,7 @@ fn keep_boundary(boundary: &mut Boundary, words: &mut Words<'_>) -> Result<(), L
     Ok(())
 }
 
-// Sets the crease method that the next word names, in the place of the one before.
+// Sets the crease method that the next word names.
 fn keep_method(method: &mut Method, words: &mut Words<'_>) -> Result<(), LineFault>
     requires { 0 < length (words_left words.old) }
     ensures { let word = get_or (words_left words.old) 0 [] in
@@ -117,7 +117,7 @@ fn keep_method(method: &mut Method, words: &mut Words<'_>) -> Result<(), LineFau
     Ok(())
 }
 
-// The name and the counts of a tag, where they fit each other and the number of words after them.
+// The name and the counts of a tag, if they fit each other and the number of words after them.
 fn tag_head(words: &mut Words<'_>, len: usize) -> Option<(TagKind, TagCounts)>
     requires count { len ≡ length (words_left words.old) }
     requires some { 2 ≤ len }
@@ -133,7 +133,7 @@ fn tag_head(words: &mut Words<'_>, len: usize) -> Option<(TagKind, TagCounts)>
     }
 }
 
-/// Keeps a tag, from the `len` words after the keyword `t`, which are two or more.
+/// Keeps a tag, given the `len` words after the keyword `t`. There are at least two.
 pub(crate) fn keep_tag(
     alloc: Global,
     tags: &mut Tags,

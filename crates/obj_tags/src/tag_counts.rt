@@ -7,7 +7,7 @@ ghost use Rattle.obj_tags.specs.View.{kind_of};
 
 use crate::words::{is_word, split_slash};
 
-/// What a tag says.
+/// The kind of a tag.
 #[derive(Clone, Copy)]
 pub(crate) enum TagKind {
     Crease,
@@ -15,11 +15,11 @@ pub(crate) enum TagKind {
     Hole,
     Boundary,
     Method,
-    /// A tag for texture, which is read and dropped.
+    /// A tag for texture, which the reader checks and drops.
     Dropped,
 }
 
-/// How many whole numbers, numerals and strings a tag has.
+/// How many integers, numerals and strings a tag has.
 #[derive(Clone, Copy)]
 pub(crate) struct TagCounts {
     pub(crate) integers: u32,
@@ -27,7 +27,7 @@ pub(crate) struct TagCounts {
     pub(crate) strings: u32,
 }
 
-/// The tag of this name; `None` where there is none.
+/// The kind of tag with this name, or `None`.
 pub(crate) fn kind_named(word: &[u8]) -> Option<TagKind>
     ensures { option_map kind_of result ≡ kind_of_name word.now }
 {
@@ -50,7 +50,7 @@ pub(crate) fn kind_named(word: &[u8]) -> Option<TagKind>
     }
 }
 
-// The number that one to nine digits say; `None` for any other word.
+// The number that one to nine digits spell, or `None` for any other word.
 fn count(word: &[u8]) -> Option<u32>
     ensures value { IsCount result word.now }
     ensures bound { IfSome result (λ n. n < 10 ^ 9) }
@@ -68,7 +68,7 @@ fn count(word: &[u8]) -> Option<u32>
     Some(number)
 }
 
-// The counts that three parts say, where each is such.
+// The counts of three parts, if each part is a count.
 #[tactic(auto, using(crate::proofs::CornerLemmas::count_part, crate::proofs::CornerLemmas::no_count))]
 fn counts_of_parts(integers: &[u8], numerals: &[u8], strings: &[u8]) -> Option<TagCounts>
     ensures { IsReadAs result (integers.now ∷ numerals.now ∷ slice_split is_slash strings.now) }
@@ -80,7 +80,7 @@ fn counts_of_parts(integers: &[u8], numerals: &[u8], strings: &[u8]) -> Option<T
     })
 }
 
-/// The counts `i/f/s`; `None` for any other word.
+/// The counts `i/f/s`, or `None` for any other word.
 pub(crate) fn read_counts(word: &[u8]) -> Option<TagCounts>
     ensures { IsReadAs result (slice_split is_slash word.now) }
 {

@@ -18,7 +18,7 @@ use raw_mesh::{Boundary, CornerTag, Crease};
 use sharpness_rules::{Method, Sharpness};
 use std::alloc::{AllocError, Global};
 
-/// The next so many vertices or faces that a tag names, of `all` in the mesh.
+/// The next `count` points or faces that a tag names, of `all` in the mesh.
 pub(crate) fn indices(
     alloc: Global,
     words: &mut Words<'_>,
@@ -43,7 +43,7 @@ pub(crate) fn indices(
     Ok(found)
 }
 
-/// The next so many values of sharpness.
+/// The next `count` values of sharpness.
 pub(crate) fn values(
     alloc: Global,
     words: &mut Words<'_>,
@@ -67,7 +67,7 @@ pub(crate) fn values(
     Ok(found)
 }
 
-// The sharpness at a place: the only one where there is one, and else that of the place.
+// The sharpness at a place: the only value if there is one, and the value at that place otherwise.
 fn sharpness_at(values: &[Sharpness], i: usize) -> Sharpness
     requires { (length values.now ≡ 1) ⊎ (i < length values.now) }
     ensures { (count : ℕ) → i < count → (length values.now ≡ 1) ⊎ (length values.now ≡ count)
@@ -80,7 +80,7 @@ fn sharpness_at(values: &[Sharpness], i: usize) -> Sharpness
     }
 }
 
-/// Adds each pair of neighbours of a chain, with one sharpness for all or one for each pair.
+/// Adds each pair of neighbours of a chain as a crease, with one sharpness for all or one for each pair.
 pub(crate) fn add_chain(
     creases: &mut Vec<Crease>,
     vertices: &[u32],
@@ -101,7 +101,7 @@ pub(crate) fn add_chain(
     Ok(())
 }
 
-/// Adds each vertex, with one sharpness for all or one for each vertex.
+/// Adds each point as a corner tag, with one sharpness for all or one for each point.
 pub(crate) fn add_corners(
     corners: &mut Vec<CornerTag>,
     vertices: &[u32],

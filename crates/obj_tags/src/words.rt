@@ -8,7 +8,7 @@ ghost use Rattle.obj_tags.specs.Walk.{words_left, parts_left};
 
 use obj_text::{Words, line_end, words_of};
 
-/// What follows the byte order mark that a text begins with, or the text where there is none.
+/// Returns the text without a byte order mark at its start.
 pub fn skip_mark(text: &[u8]) -> &[u8]
     ensures { result.now ≡ without_mark text.now }
 {
@@ -18,8 +18,8 @@ pub fn skip_mark(text: &[u8]) -> &[u8]
     }
 }
 
-/// The first line of a text without its line end, and the text of the other lines; `None` where
-/// there is no line. The last line may have no line end.
+/// The first line of a text without its line end, and the rest of the text, or `None` if there is no line. The last line may lack a line
+/// end.
 pub(crate) fn first_line(text: &[u8]) -> Option<(&[u8], &[u8])>
     ensures lines { MatchOption result (lines_of text.now ≡ [])
         (λ r. lines_of text.now ≡ r.0.now ∷ lines_of r.1.now) }
@@ -52,7 +52,7 @@ pub(crate) struct Extent {
     pub(crate) continued: bool,
 }
 
-/// The extent of a line, found in one walk over its words.
+/// The extent of a line, found in one pass over its words.
 pub(crate) fn extent_of(line: &[u8]) -> Extent
     requires { length line.now ≤ 2 ^ 28 }
     ensures len { result.len ≡ length (line_words line.now) }
@@ -68,7 +68,7 @@ pub(crate) fn extent_of(line: &[u8]) -> Extent
     Extent { len, continued }
 }
 
-/// Takes the next word of a line; `None` where there is none.
+/// The next word of a line, or `None` if there is none.
 pub(crate) fn next_word<'a>(words: &mut Words<'a>) -> Option<&'a [u8]>
     ensures { YieldsFirstRef words_left words.old result words.new }
 {
@@ -82,7 +82,7 @@ pub(crate) fn is_word(word: &[u8], text: &[u8]) -> bool
     word == text
 }
 
-// How many bytes stand before the first slash.
+// How many bytes precede the first slash.
 fn part_len(word: &[u8]) -> usize
     ensures { result ≡ position_or_len is_slash word.now }
 {
@@ -94,8 +94,7 @@ fn part_len(word: &[u8]) -> usize
     word.len()
 }
 
-/// What stands before the first slash, and what follows it; the second is `None` where there is no
-/// slash.
+/// The bytes before the first slash, and those after it, or `None` if there is no slash.
 pub(crate) fn split_slash(word: &[u8]) -> (&[u8], Option<&[u8]>)
     ensures { slice_split is_slash word.now ≡ result.0.now ∷ parts_left result.1 }
 {

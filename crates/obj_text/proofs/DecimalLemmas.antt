@@ -67,7 +67,7 @@ long-rest n (b ∷ digits) are is =
     let parts = and_parts (is_digit b) (list_all is_digit digits) are in
     long-rest (n * 10 + (b - 48)) digits parts.1 (long-more n (b - 48) is (digit-below b parts.0))
 
--- the digits so far and one more are too long, and so are all
+-- If the digits so far and one more are too long, all digits are.
 pub long-part : (start : ℕ) (digits : List ℕ) (i n : ℕ) → i < length digits → list_all is_digit digits ≡ true
     → n ≡ fold with_next_digit start (take i digits) → IsLong (n * 10 + (get_or digits i 0 - 48))
     → IsLong (fold with_next_digit start digits)

@@ -26,7 +26,7 @@ runs-parts : (line : List ℕ)
 runs-parts line =
     ⊎_elim (λ h. ap (filter has_bytes) (slice_split_first is_blank line 0 h)) (λ h. runs-whole line h) (cases_lt (position_or_len is_blank line) (length line))
 
--- the same, for the names that a reader gives to the two parts
+-- The runs of a line, under the names that a reader gives to its two parts.
 runs-named : (line run rest : List ℕ) → run ≡ before_first is_blank line → rest ≡ after_first is_blank line
     → runs_of line ≡ filter has_bytes (run ∷ slice_split is_blank rest)
 runs-named line run rest e f =

@@ -46,7 +46,7 @@ long-word word is =
     let grows = times-tens is.amount ((is.zeros + tens_above word) - tens_below word) in
     word-outside word _ _ (normal-word word is.amount is.zeros is.says (λ none. absurd (omega arith)) is.ends) (inl (omega arith))
 
--- the exponent as it was told, and as it is: the same, or both put the word out of range
+-- The kept exponent and the real one are equal, or both put the word out of range.
 abbrev AreAlike : ℕ → ℕ → ℕ → ℕ → Type 0
 AreAlike above below told_above told_below =
     ((above ≡ told_above) × (below ≡ told_below)) ⊎ (((37 + below ≤ above) × (37 + told_below ≤ told_above)) ⊎ ((37 + above < below) × (37 + told_above < told_below)))
@@ -81,7 +81,7 @@ form-alike word r a above below told_above told_below some e (inr (inl far)) h =
 form-alike word r a above below told_above told_below some e (inr (inr far)) h =
     form-far word r a told_above told_below (word-outside word _ _ e (inr (omega arith))) (inr (omega arith)) h
 
--- an exponent that is told as the most it can be
+-- An exponent kept as the greatest that is distinguished.
 alike-plus : (z f e told : ℕ) → f < 2 ^ 64 → told ≡ min e (10 ^ 20) → AreAlike (z + e) f (z + told) f
 alike-plus z f e told short t =
     ⊎_elim (λ (h : e < 10 ^ 20). inl (omega arith, refl)) (λ (h : 10 ^ 20 ≤ e). inr (inl (omega arith, omega arith))) (cases_lt e (10 ^ 20))
@@ -90,7 +90,7 @@ alike-minus : (z f e told : ℕ) → z < 2 ^ 66 → told ≡ min e (10 ^ 20) →
 alike-minus z f e told short t =
     ⊎_elim (λ (h : e < 10 ^ 20). inl (omega arith, omega arith)) (λ (h : 10 ^ 20 ≤ e). inr (inr (omega arith, omega arith))) (cases_lt e (10 ^ 20))
 
--- what was read of a word's digits and exponent is its normal form
+-- The parts that were read of a word give its normal form.
 pub read-plus : (word : List ℕ) (r : Option (ℕ × ℕ)) (a z f told : ℕ) → number_of_digits (all_digits word) ≡ a * 10 ^ z → a ≢ 0
     → (a % 10 ≡ 0 → a ≡ 0) → false ≡ exponent_has_minus (exponent_part word) → f ≡ length (fraction_digits word) → f < 2 ^ 64
     → told ≡ min (exponent_amount (exponent_part word)) (10 ^ 20) → IsFormOf r a (z + told) f → IsReadAs r word

@@ -1,4 +1,4 @@
--- Terms of numerals: twos and fives that are taken out of an amount, and what is left is in lowest terms.
+-- Terms of numerals: removing twos and fives from an amount leaves lowest terms.
 use Rattle.std.proofs.Common.{◌≡◌, ◌≢◌, ◌⊎◌, ℕ, ◌+◌, ◌-◌, ◌*◌, ◌/◌, ◌%◌, ◌^◌, ◌<◌, ◌≤◌, true, false, List, Ok, inl, inr, arith, lit<, refl, ap, sym, ◌∙◌}
 use Rattle.std.specs.Int.{IsGcd}
 use Rattle.std.proofs.lemmas.Grind.{pow_more}
@@ -32,7 +32,7 @@ without-step p n most rest left few some none value =
     regroup : (a b c : ℕ) → a * b * c ≡ a * (c * b)
     regroup a b c = omega arith
 
--- what is left of twos has none, once fives are taken out of it
+-- An amount without twos still has none after its fives are removed.
 still-odd : (a num k left : ℕ) → a ≡ num * 5 ^ k → (left ≡ 0) ⊎ (a % 2 ≢ 0) → (left ≡ 0) ⊎ (num % 2 ≢ 0)
 still-odd a num k left e (inl none) = inl none
 still-odd a num k left e (inr odd) = inr (λ even. odd (twice even))
@@ -94,14 +94,14 @@ tens-most d few = pow-le-pow_right {n = 10} (lit< tt) {i = d} {j = 37} few
 pub over-small : (d twos fives : ℕ) → d ≤ 37 → twos ≤ d → fives ≤ d → 2 ^ twos * 5 ^ fives ≤ 10 ^ 37
 over-small d twos fives short few less = omega (arith, over-most d twos fives few less, tens-most d short)
 
--- what is left of an amount is no more than the amount
+-- Removing factors does not increase an amount.
 pub without-most : (p n most rest left : ℕ) → 0 < p → IsWithout p n most rest left → rest ≤ n
 without-most p n most rest left positive is =
     let some : 1 ≤ p ^ (most - left) = one-le-pow (most - left) p positive in
     let times : rest * 1 ≤ rest * p ^ (most - left) = mul-le-mul_left rest some in
     omega (arith, is.value)
 
--- what a reader makes of an amount over ten to the d
+-- The terms that a reader makes of an amount over 10^d.
 pub over-terms : (amount d rest twos num fives den : ℕ) → amount < 10 ^ 37 → d ≤ 37 → IsWithout 2 amount d rest twos
     → IsWithout 5 rest d num fives → den ≡ 2 ^ twos * 5 ^ fives
     → AreLowestTerms (record { num = num; den = den; decimals = d }) amount (10 ^ d) d

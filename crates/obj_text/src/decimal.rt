@@ -5,15 +5,14 @@ ghost use Rattle.subdiv_model.specs.Digits.{is_digit};
 
 use ratio128::limits::NUMERAL_BOUND;
 
-/// A whole number of any size: `amount` times ten to the `zeros`, where the last digit of `amount` is
-/// not 0 unless the number is 0.
+/// A natural number of any size: `amount` times 10^zeros. The last digit of `amount` is not 0 unless the number is 0.
 #[derive(Clone, Copy)]
 pub(crate) struct Significant {
     pub(crate) amount: u128,
     pub(crate) zeros: u128,
 }
 
-/// The amount with so many zeros after it; `None` where that has more than 37 digits.
+/// The amount followed by `zeros` zeros, or `None` if that has more than 37 digits.
 pub(crate) fn with_zeros(amount: u128, zeros: u128) -> Option<u128>
     ensures { MatchOption result (10 ^ 37 ≤ amount * 10 ^ zeros) (λ n. (n ≡ amount * 10 ^ zeros) × (n < 10 ^ 37)) }
 {
@@ -38,7 +37,7 @@ pub(crate) fn with_zeros(amount: u128, zeros: u128) -> Option<u128>
     }
 }
 
-// The number with one more digit after it; `None` where it is too long to be a mantissa.
+// The number followed by one more digit, or `None` if it is too long for a mantissa.
 fn with_digit(number: Significant, digit: u8) -> Option<Significant>
     requires number { IsSignificant number.amount number.zeros }
     requires digit { digit < 10 }
@@ -64,8 +63,7 @@ fn with_digit(number: Significant, digit: u8) -> Option<Significant>
     }
 }
 
-/// The number with more digits after it; `None` where it is too long to be a mantissa, whatever its
-/// decimals.
+/// The number followed by more digits, or `None` if it is too long for a mantissa with any number of decimals.
 pub(crate) fn with_digits(start: Significant, digits: &[u8]) -> Option<Significant>
     requires start { IsSignificant start.amount start.zeros }
     requires digits { list_all is_digit digits.now ≡ true }

@@ -3,7 +3,7 @@ ghost use Rattle.std.specs.List.{list_all};
 ghost use Rattle.obj_text.specs.NumeralParts.{IsNumberUpTo};
 ghost use Rattle.subdiv_model.specs.Digits.{is_digit};
 
-/// Whether the bytes are digits, all of them.
+/// Whether every byte is a digit.
 pub(crate) fn has_digits_alone(bytes: &[u8]) -> bool
     ensures { result ≡ list_all is_digit bytes.now }
 {
@@ -15,8 +15,9 @@ pub(crate) fn has_digits_alone(bytes: &[u8]) -> bool
     true
 }
 
-/// The number that one or more decimal digits say, or `most` where it is more. There may be any number of digits, and zeros
-/// before them. It returns `None` where there is no digit, or another byte.
+/// Returns the number that the decimal digits spell, or `most` if the number is greater.
+///
+/// There may be any number of digits, with leading zeros. The result is `None` for no bytes, and for bytes that are not all digits.
 pub fn digits_up_to(bytes: &[u8], most: u128) -> Option<u128>
     requires { most < 2 ^ 124 }
     ensures { IsNumberUpTo most result bytes.now }

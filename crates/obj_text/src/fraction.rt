@@ -10,8 +10,8 @@ use crate::terms::Terms;
 use ratio128::gcd;
 use ratio128::limits::NUMERAL_BOUND;
 
-/// The terms of a fraction: an optional sign, digits, `/`, and digits that are not all zero. Each part
-/// has at most 37 digits after its leading zeros.
+/// The terms of a fraction: an optional sign, digits, `/`, and digits that are not all zero. Each part has at most 37 digits after its
+/// leading zeros.
 pub(crate) fn read_fraction(word: &[u8]) -> Result<Terms, NumeralFault>
     ensures { IsFractionRead result word.now }
 {
@@ -28,7 +28,7 @@ pub(crate) fn read_fraction(word: &[u8]) -> Result<Terms, NumeralFault>
     Ok(lowest_terms(num, den))
 }
 
-// How many bytes stand before the slash.
+// How many bytes precede the slash.
 fn numerator_len(unsigned: &[u8]) -> usize
     ensures { result ≡ position_or_len is_slash unsigned.now }
 {
@@ -40,7 +40,7 @@ fn numerator_len(unsigned: &[u8]) -> usize
     unsigned.len()
 }
 
-// What stands before the slash, and what follows it.
+// The bytes before the slash and those after it.
 fn split_slash(unsigned: &[u8]) -> (&[u8], &[u8])
     ensures numerator { result.0.now ≡ before_first is_slash unsigned.now }
     ensures denominator { result.1.now ≡ after_first is_slash unsigned.now }

@@ -1,4 +1,7 @@
-//! Lines, words, numerals and indices of OBJ text, read exactly. No call takes memory.
+//! Reads the parts of OBJ text exactly: lines, words, numerals, indices and digits.
+//!
+//! The calls take bytes, round nothing and take no memory. A numeral becomes a numerator of at most 37 digits over a denominator from 1 to
+//! 10^37, in lowest terms. The crate `subdiv_model` defines lines, words and numerals.
 #![tactic(auto)]
 
 mod decimal;

@@ -3,8 +3,8 @@ ghost use Rattle.std.specs.Iterator.{YieldsFirstRef, item_count};
 ghost use Rattle.std.specs.List.{position_or_len, before_first, after_first};
 ghost use Rattle.subdiv_model.specs.ObjLine.{is_blank, line_end_of, opens_comment, line_words};
 
-/// The place of the first LF from `at` on, or the length where there is none; `at` is a place of the
-/// text or its length. So a line that begins at `at` ends before the answer (this profile).
+/// Returns the place of the first LF from `at` on, or the length if there is none. A line that begins at `at` ends before that place (this
+/// profile).
 pub fn line_end(bytes: &[u8], at: usize) -> usize
     requires { at ≤ length bytes.now }
     ensures { result ≡ line_end_of bytes.now at }
@@ -24,8 +24,10 @@ pub struct Words<'a> {
     line: &'a [u8],
 }
 
-/// The words of a line, in their order: the longest runs of bytes other than space, tab and carriage
-/// return, up to the first run that begins with `#`, which begins a comment (this profile).
+/// Returns the words of a line, in order.
+///
+/// A word is a longest run of bytes other than space, tab and carriage return. The first run that begins with `#` starts a comment and ends
+/// the words (this profile).
 pub fn words_of<'a>(line: &'a [u8]) -> Words<'a>
     ensures { line_words result.line.now ≡ line_words line.now }
 {
@@ -52,7 +54,7 @@ fn is_blank_byte(b: u8) -> bool
     b == b' ' || b == b'\t' || b == b'\r'
 }
 
-// How many bytes stand before the first blank.
+// How many bytes precede the first blank.
 fn run_len(line: &[u8]) -> usize
     ensures { result ≡ position_or_len is_blank line.now }
 {
@@ -64,7 +66,7 @@ fn run_len(line: &[u8]) -> usize
     line.len()
 }
 
-// What stands before the first blank, and what follows it.
+// The bytes before the first blank and those after it.
 fn first_run(line: &[u8]) -> (&[u8], &[u8])
     ensures run { result.0.now ≡ before_first is_blank line.now }
     ensures rest { result.1.now ≡ after_first is_blank line.now }
@@ -86,7 +88,7 @@ fn is_comment(run: &[u8]) -> bool
     }
 }
 
-// The first word of a line and what follows it; `None` where there is no word.
+// The first word of a line and the bytes after it, or `None` if there is no word.
 fn first_word(line: &[u8]) -> Option<(&[u8], &[u8])>
     ensures { MatchOption result (line_words line.now ≡ []) (λ r. line_words line.now ≡ r.0.now ∷ line_words r.1.now) }
 {

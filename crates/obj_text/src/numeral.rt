@@ -13,9 +13,10 @@ use crate::sign::split_sign;
 use crate::terms::{Terms, over_decimals};
 use std::fmt;
 
-/// A number in lowest terms: `num` over `den`, of which `num` has at most 37 digits and `den` is from 1
-/// to ten to the 37. Zero is 0 over 1. `decimals` are those of a decimal's normal form, at most 37, and
-/// 0 of a fraction.
+/// A number in lowest terms, `num` over `den`, with 0 as 0 / 1.
+///
+/// `num` has at most 37 digits, and `den` is from 1 to 10^37. `decimals` counts the decimals of a decimal in normal form, at most 37; it is
+/// 0 for a fraction.
 #[derive(Clone, Copy, Debug, PartialEq, Eq)]
 pub struct Numeral {
     pub num: i128,
@@ -23,13 +24,13 @@ pub struct Numeral {
     pub decimals: u32,
 }
 
-/// Why a word was not read as a numeral.
+/// The fault of a word that is not a numeral in range.
 #[derive(Clone, Copy, Debug, PartialEq, Eq)]
 pub enum NumeralFault {
-    /// The word is no numeral.
+    /// The word is not a numeral.
     BadNumeral,
-    /// The word is a decimal, and in normal form its mantissa or its decimals pass 37 digits; or it is a
-    /// fraction, and one of its parts, as it is written, passes 37 digits after its leading zeros.
+    /// The numeral is too long: a decimal with more than 37 digits in its mantissa or its decimals, in normal form, or a fraction with more
+    /// than 37 digits in a part.
     NumberRange,
 }
 
@@ -49,10 +50,10 @@ impl fmt::Display for NumeralFault {
 
 impl std::error::Error for NumeralFault {}
 
-// An exponent of this amount puts each number but 0 out of range, since no word has as many digits.
+// An exponent of this amount puts every number but 0 out of range, because no word has that many digits.
 const MOST_EXPONENT: u128 = 100_000_000_000_000_000_000;
 
-// The parts of a decimal but its sign. An exponent of more than `MOST_EXPONENT` is told as that.
+// The parts of a decimal without its sign. Exponents above `MOST_EXPONENT` become `MOST_EXPONENT`.
 #[derive(Drop)]
 struct Parts<'a> {
     whole: &'a [u8],
@@ -72,7 +73,7 @@ fn is_mark(b: u8) -> bool
     b == b'e' || b == b'E'
 }
 
-// How many bytes stand before the exponent's mark.
+// How many bytes precede the exponent mark.
 fn decimal_len(unsigned: &[u8]) -> usize
     ensures { result ≡ position_or_len is_exponent_mark unsigned.now }
 {
@@ -84,7 +85,7 @@ fn decimal_len(unsigned: &[u8]) -> usize
     unsigned.len()
 }
 
-// How many bytes stand before the point.
+// How many bytes precede the decimal point.
 fn whole_len(decimal: &[u8]) -> usize
     ensures { result ≡ position_or_len is_point decimal.now }
 {
@@ -96,7 +97,7 @@ fn whole_len(decimal: &[u8]) -> usize
     decimal.len()
 }
 
-// What stands before the point, and what follows it.
+// The bytes before the decimal point and those after it.
 fn split_point(decimal: &[u8]) -> (&[u8], &[u8])
     ensures whole { result.0.now ≡ before_first is_point decimal.now }
     ensures fraction { result.1.now ≡ after_first is_point decimal.now }
@@ -108,7 +109,7 @@ fn split_point(decimal: &[u8]) -> (&[u8], &[u8])
     }
 }
 
-// The exponent, from its mark on; `None` where the bytes are no exponent.
+// The exponent, from its mark on, or `None` if the bytes are not an exponent.
 fn read_exponent(part: &[u8]) -> Option<Exponent>
     ensures { IsExponentUpTo MOST_EXPONENT result part.now }
 {
@@ -125,7 +126,7 @@ fn read_exponent(part: &[u8]) -> Option<Exponent>
     }
 }
 
-// The parts of the word; `None` where it is no decimal.
+// The parts of the word, or `None` if it is not a decimal.
 fn parts_of(word: &[u8]) -> Option<Parts<'_>>
     ensures { MatchOption result (is_decimal word.now ≡ false)
         (λ p. (is_decimal word.now ≡ true) × ArePartsOf p word.now) }
@@ -147,8 +148,7 @@ fn parts_of(word: &[u8]) -> Option<Parts<'_>>
     })
 }
 
-// The normal form of `amount` times ten to the `above` over ten to the `below`, where the amount's
-// last digit is not 0; `None` where it is out of range.
+// The normal form of amount * 10^above / 10^below, or `None` if it is out of range. The last digit of the amount is not 0.
 fn over_tens(amount: u128, above: u128, below: u128) -> Option<(u128, u32)>
     requires { amount < 10 ^ 37 }
     ensures { IsOverTens result amount above below }
@@ -162,7 +162,7 @@ fn over_tens(amount: u128, above: u128, below: u128) -> Option<(u128, u32)>
     Some((amount, (below - above) as u32))
 }
 
-// The normal form's amount and decimals; `None` where it is out of range.
+// The amount and the decimals of the normal form, or `None` if they are out of range.
 fn normal_form_of(parts: &Parts<'_>) -> Option<(u128, u32)>
     requires whole { list_all is_digit parts.now.whole.now ≡ true }
     requires fraction { list_all is_digit parts.now.fraction.now ≡ true }
@@ -193,7 +193,7 @@ fn normal_form_of(parts: &Parts<'_>) -> Option<(u128, u32)>
     }
 }
 
-// The terms of the word's amount, or why it is refused.
+// The terms of the amount of the word, or the fault of the word.
 fn terms_of(word: &[u8]) -> Result<Terms, NumeralFault>
     ensures { IsTermsRead result word.now }
 {
@@ -206,14 +206,14 @@ fn terms_of(word: &[u8]) -> Result<Terms, NumeralFault>
     Ok(over_decimals(amount, decimals))
 }
 
-/// A numeral, read exactly. It is a decimal: an optional sign; one or more digits, which may have a
-/// point before, after or among them; and an optional exponent, which is `e` or `E`, an optional sign
-/// and one or more digits. Or it is a fraction: an optional sign, one or more digits, `/`, and one or
-/// more digits that are not all zero. There may be any number of digits, in the exponent too.
+/// Reads a numeral exactly: a decimal or a fraction.
 ///
-/// `BadNumeral` comes exactly where the word is no numeral. `NumberRange` comes exactly where it is a
-/// decimal that in normal form passes 37 digits in its mantissa or in its decimals, or a fraction of
-/// which a part, as it is written, passes 37 digits after its leading zeros (this profile).
+/// - A decimal: an optional sign; one or more digits, with an optional point before, between or after them; an optional exponent. An
+///   exponent is `e` or `E`, an optional sign, and one or more digits.
+/// - A fraction: an optional sign, one or more digits, `/`, and one or more digits that are not all zero.
+///
+/// `BadNumeral`: the word is neither. `NumberRange`: a decimal has more than 37 digits in its mantissa or its decimals, in normal form. Or
+/// a part of a fraction has more than 37 digits after its leading zeros (this profile).
 pub fn read_numeral(word: &[u8]) -> Result<Numeral, NumeralFault>
     ensures cases { IsReadAs result word.now }
     ensures small { IfOk result (λ n. (unsigned_abs n.num < 10 ^ 37) × (0 < n.den) × (n.den ≤ 10 ^ 37) × (n.decimals ≤ 37)) }
@@ -227,7 +227,7 @@ pub fn read_numeral(word: &[u8]) -> Result<Numeral, NumeralFault>
     })
 }
 
-// The number of this amount, below 0 or not.
+// The amount, negative if `negative` is true.
 fn with_sign(negative: bool, amount: u128) -> i128
     requires { amount < 10 ^ 37 }
     ensures { result ≡ signed negative amount }

@@ -1,7 +1,7 @@
 ghost use Rattle.std.specs.Prelude.{◌^◌, ◌<◌, ◌≤◌};
 ghost use Rattle.obj_text.specs.NumeralTerms.{IsWithout, AreLowestTerms};
 
-/// The amount of a numeral in lowest terms, and the decimals of a decimal's normal form.
+/// The amount of a numeral in lowest terms, and the decimals of a decimal in normal form.
 #[derive(Clone, Copy)]
 pub(crate) struct Terms {
     pub(crate) num: u128,
@@ -9,7 +9,7 @@ pub(crate) struct Terms {
     pub(crate) decimals: u32,
 }
 
-/// An amount over ten to the `decimals`, in lowest terms: twos and fives are all that can be common.
+/// The amount over 10^decimals, in lowest terms. Only twos and fives can be common factors.
 pub(crate) fn over_decimals(amount: u128, decimals: u32) -> Terms
     requires amount { amount < 10 ^ 37 }
     requires few { decimals ≤ 37 }
@@ -31,7 +31,7 @@ pub(crate) fn over_decimals(amount: u128, decimals: u32) -> Terms
     }
 }
 
-// The amount without its twos, of which at most so many are taken out, and how many were not.
+// The amount without its factors 2, of which at most `most` are removed, and how many of `most` were not removed.
 fn without_twos(amount: u128, most: u32) -> (u128, u32)
     ensures { IsWithout 2 amount most result.0 result.1 }
 {
@@ -44,7 +44,8 @@ fn without_twos(amount: u128, most: u32) -> (u128, u32)
     (rest, left)
 }
 
-// The same for fives, in half the bits where the amount fits in them.
+// The amount without its factors 5, of which at most `most` are removed, and how many of `most` were not removed. An amount of up to 64
+// bits is divided in 64 bits.
 fn without_fives(amount: u128, most: u32) -> (u128, u32)
     ensures { IsWithout 5 amount most result.0 result.1 }
 {

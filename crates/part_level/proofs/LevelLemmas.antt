@@ -125,7 +125,7 @@ module _ (t : Topology) (is : IsTopology t) (p : Part) (n : Slotted) (are : AreP
       go v low mark true e = fan-from (name_in names) (children_at polygons p.places) quads (child_polygons points polygons) (is-part t is p are.part names known) v e (marks.whole v low mark) (marks.fan v low mark)
       go v low mark false e = no-fan quads v e
 
-  -- and the level is a part of the next level
+  -- the level is a part of the next level
   pub level-part : HasHalves t.level p.has halves → method ≡ t.level.method → IsLevelPart (name_in names) (children_at t.level.polygons p.places) built.level (child_level t.level)
   level-part put same = record {
     polygons = subst (λ (qs : List Polygon). laws.IsPart (name_in names) (children_at polygons p.places) qs (child_polygons points polygons)) (sym lists-are) (is-part t is p are.part names known);

@@ -20,7 +20,7 @@ use Rattle.child_slots.proofs.PartLemmas.{quads-count, quad-at-place}
 use Rattle.child_slots.proofs.FaceWalkLemmas.{corners-there}
 use Rattle.part_level.specs.Shapes.{children_at, name_in, AreNames}
 
--- what two functions make alike of each item
+-- two functions that agree on each item give the same list
 maps-same : {X : Type 0} (f g : ℕ × ℕ → X) (xs : List (ℕ × ℕ)) → ((i : ℕ) → i < length xs → f (get_or xs i (0, 0)) ≡ g (get_or xs i (0, 0))) → map f xs ≡ map g xs
 maps-same f g [] same = refl
 maps-same f g (x ∷ xs) same =

@@ -35,11 +35,11 @@ places-within polygons places within = λ k d h.
     let inside = within k (omega (arith, h, length-map places place_of)) in
     face-below polygons (get_or places k d).face (get_or places k d).corner (subst (λ (x : ℕ × ℕ). x.1 < length (polygon_at polygons x.0)) at inside)
 
--- room for all faces, and none of them
+-- at first there is no face, and memory for all
 pub no-faces : (level : Level) (p : Part) (count : ℕ) → count ≡ length p.places → paired [] [] count (4 * count) ≡ first_faces level p 0
 no-faces level p count e = ap (λ (k : ℕ). paired [] [] k (4 * k)) e
 
--- and all of them
+-- in the end there are all faces
 pub all-faces : (level : Level) (p : Part) (i count : ℕ) (now : Paired ℕ) → now ≡ first_faces level p i → i ≡ count → now ≡ first_faces level p count
 all-faces level p i count now before last = before ∙ ap (first_faces level p) last
 
@@ -74,7 +74,7 @@ module _ (t : Topology) (is : IsTopology t) (p : Part) (n : Slotted) (are : AreP
       let same : slots_at polygons (get_or p.places i (0, 0)).0 (get_or p.places i (0, 0)).1 ≡ slots = ap (λ (x : ℕ × ℕ). slots_at polygons x.0 x.1) at ∙ sym s in
       subst (λ (xs : List ℕ). All (λ a. is_among n.slots a ≡ true) xs) same (slots-there t is p n are i h)
 
-  -- there is room for one more
+  -- there is memory for one more face
   pub faces-room : (i : ℕ) (now : Paired ℕ) → i < length p.places → now ≡ first_faces t.level p i → (length now.lists < now.list_limit) × (sum_by length now.lists + 4 ≤ now.item_limit)
   faces-room i now h before = subst (λ (x : Paired ℕ). (length x.lists < x.list_limit) × (sum_by length x.lists + 4 ≤ x.item_limit)) (sym before) (
     omega (arith, h, length-take-le i quads (omega (arith, h, count))),

@@ -1,4 +1,4 @@
--- The tables of a part of the next level while they are made.
+-- The tables of a part of the next level, while they are made.
 use Rattle.std.specs.Prelude.{ℕ, ◌≡◌, ◌*◌, Bool, List, [], ◌∷◌, length, map, take, get_or}
 use Rattle.subdiv_model.specs.Sharpness.{Sharpness, Smooth}
 use Rattle.subdiv_model.specs.Level.{Level, vertex_sharpness_of, is_hole}
@@ -10,7 +10,7 @@ use Rattle.child_slots.specs.Slotted.{number_at}
 use Rattle.child_slots.specs.Parts.{Part, part_polygons}
 use Rattle.part_level.specs.declared.tables.PartTables.{PartTables}
 
--- the sharpness of the edge with a slot: that of its half, and inside a face smooth
+-- the sharpness of the edge with a slot: that of its half, or smooth inside a face
 abbrev pub slot_sharpness : List Sharpness → ℕ → Sharpness
 slot_sharpness halves slot = get_or halves slot Smooth
 
@@ -22,18 +22,18 @@ child_sharpness level n = vertex_sharpness_of (child_level level) n
 abbrev pub hole_at : Level → ℕ × ℕ → Bool
 hole_at level place = is_hole level place.0
 
--- the numbers of the edges with the slots of a child face's sides, where the edges have these slots
+-- the numbers of the edges at the sides of a child face, found by their slots
 abbrev pub side_numbers : List ℕ → List ℕ → List ℕ
 side_numbers slots sides = number_at slots (get_or sides 0 0) ∷ number_at slots (get_or sides 1 0) ∷ number_at slots (get_or sides 2 0) ∷ number_at slots (get_or sides 3 0) ∷ []
 
--- the first faces of a part with the numbers of their edges, and room for all
+-- the first faces of a part, with the numbers of their edges
 abbrev pub first_faces : Level → Part → ℕ → Paired ℕ
 first_faces level p count =
     paired (take count (part_polygons level.point_count level.polygons p))
     (map (face_edges_of (part_polygons level.point_count level.polygons p)) (take count (part_polygons level.point_count level.polygons p)))
     (length p.places) (4 * length p.places)
 
--- the tables are those of a part whose edges have these slots and whose points have these names
+-- the tables are those of a part; its edges have these slots, and its points have these names
 pub record ArePartTables (level : Level) (p : Part) (slots names : List ℕ) (halves : List Sharpness) (t : PartTables) : Type 0 where
   pub faces : t.faces ≡ first_faces level p (length p.places)
   pub holes : t.holes.items ≡ map (hole_at level) p.places

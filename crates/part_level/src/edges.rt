@@ -9,7 +9,7 @@ use ratio128::Memory;
 use sharpness_rules::Sharpness;
 use std::alloc::Global;
 
-// The sharpness of the edge with a slot: inside a face it is smooth.
+// Returns the sharpness of the edge with a slot. An edge inside a face is smooth.
 fn sharpness_at(halves: &[Sharpness], slot: u32) -> Sharpness
     ensures { sharpness_of result ≡ slot_sharpness (map sharpness_of halves.now) slot }
 {
@@ -20,7 +20,7 @@ fn sharpness_at(halves: &[Sharpness], slot: u32) -> Sharpness
     }
 }
 
-// The sharpness of an edge.
+// Returns the sharpness of an edge.
 fn sharpness_of_edge(edges: &SlotEdges, halves: &[Sharpness], e: u32) -> Sharpness
     requires { e < length edges.now.ends }
     ensures { sharpness_of result ≡ slot_sharpness (map sharpness_of halves.now) (get_or edges.now.slots e 0) }
@@ -28,7 +28,7 @@ fn sharpness_of_edge(edges: &SlotEdges, halves: &[Sharpness], e: u32) -> Sharpne
     sharpness_at(halves, edges.slot(e))
 }
 
-// The sharpness of all edges, where `halves` has the sharpness of each half by its slot.
+// Returns the sharpness of all edges; `halves` has the sharpness of each half at its slot.
 pub(crate) fn edge_sharpness(
     alloc: Global,
     edges: &SlotEdges,

@@ -15,7 +15,7 @@ use ratio128::{Memory, Steps};
 use std::alloc::Global;
 use std::sync::ledger::Ledger;
 
-// The corners of a child face by their numbers in the part.
+// Returns the corners of a child face by their numbers in the part.
 fn part_corners<P: ChildPoints>(points: &P, quad: [u32; 4]) -> [u32; 4]
     requires { All (λ n. P.has points.now n ≡ true) quad }
     ensures { result ≡ map (P.number points.now) quad }
@@ -28,7 +28,7 @@ fn part_corners<P: ChildPoints>(points: &P, quad: [u32; 4]) -> [u32; 4]
     ]
 }
 
-// The numbers of the edges with these slots.
+// Returns the numbers of the edges with these slots.
 fn edge_numbers(edges: &SlotEdges, slots: [u32; 4]) -> [u32; 4]
     requires slots { All (λ slot. slot < edges.now.count) slots }
     requires there { All (λ slot. is_among edges.now.slots slot ≡ true) slots }
@@ -42,7 +42,7 @@ fn edge_numbers(edges: &SlotEdges, slots: [u32; 4]) -> [u32; 4]
     ]
 }
 
-// Puts the faces with the numbers of their edges. Each is one step.
+// Adds the faces with the numbers of their edges. Each face is one step.
 fn put_faces<P: ChildPoints, L: Ledger>(
     shape: &PartShape<P>,
     edges: &SlotEdges,
@@ -68,7 +68,7 @@ fn put_faces<P: ChildPoints, L: Ledger>(
     }
 }
 
-// The faces with the numbers of their edges. Each is one step.
+// Returns the faces with the numbers of their edges. Each face is one step.
 pub(crate) fn faces_of<P: ChildPoints, L: Ledger>(
     alloc: Global,
     shape: &PartShape<P>,
@@ -87,7 +87,7 @@ pub(crate) fn faces_of<P: ChildPoints, L: Ledger>(
     Ok(faces)
 }
 
-// A child face is a hole where its face is.
+// Returns whether a child face is a hole, which it is where its parent is one.
 fn is_child_hole(level: &Level, f: u32) -> bool
     requires { f < length level.now.level.polygons }
     ensures { result ≡ hole_at level.now.level (f, 0) }
@@ -95,7 +95,7 @@ fn is_child_hole(level: &Level, f: u32) -> bool
     level.is_hole(f)
 }
 
-// Whether each child face is a hole.
+// Returns for each child face whether it is a hole.
 pub(crate) fn hole_marks(
     alloc: Global,
     level: &Level,

@@ -18,10 +18,13 @@ use sharpness_rules::Sharpness;
 use std::alloc::Global;
 use std::sync::ledger::Ledger;
 
-/// The level of a part of the next level, from the numbered edges of the part and the sharpness of each half by its slot.
+/// Returns the level of a part of the next level. `edges` are the numbered edges of the part, and `halves` has the sharpness
+/// of each half at its slot.
 ///
-/// Its points have the order of `shape.names`, and `complete` marks those whose lists are in fan order. Such a point has all its
-/// faces of the whole next level, in one fan. Each face is one step. It answers `Memory` where memory runs out.
+/// The points have the order of `shape.names`. `complete` marks the points whose lists are in fan order: such a point has all
+/// its faces of the whole next level, in one fan. An edge has the sharpness that it has in the whole next level, even if it
+/// has one face in the part. Each face is one step. Reports `Memory` where memory runs out, and drops the edges and the
+/// marks.
 pub fn part_level<P: ChildPoints, L: Ledger>(
     alloc: Global,
     shape: &PartShape<P>,

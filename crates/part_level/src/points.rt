@@ -11,7 +11,7 @@ use ratio128::Memory;
 use sharpness_rules::{Sharpness, uniform_child};
 use std::alloc::Global;
 
-// The sharpness in the next level of a point of the level.
+// Returns the sharpness in the next level of a vertex of the level.
 fn child_of_vertex(level: &Level, v: u32) -> Sharpness
     requires { v < level.now.level.point_count }
     ensures { sharpness_of result ≡ uniform_child (vertex_sharpness_of level.now.level v) }
@@ -19,7 +19,7 @@ fn child_of_vertex(level: &Level, v: u32) -> Sharpness
     uniform_child(level.vertex_sharpness(v))
 }
 
-// The sharpness of the point with a number in the whole next level. The new points of faces and edges are smooth.
+// Returns the sharpness of the point with a number in the whole next level. The new points of faces and edges are smooth.
 fn sharpness_of_point(level: &Level, n: u32) -> Sharpness
     ensures { sharpness_of result ≡ child_sharpness level.now.level n }
 {
@@ -30,7 +30,7 @@ fn sharpness_of_point(level: &Level, n: u32) -> Sharpness
     }
 }
 
-// The sharpness of the points with these numbers.
+// Returns the sharpness of the points with these numbers.
 pub(crate) fn vertex_sharpness(
     alloc: Global,
     level: &Level,

@@ -1,16 +1,16 @@
-//! Which part of the next level is made.
+//! The description of a part of the next level.
 
 use level_topology::{FacePlace, Level};
 
-/// A part of the next level: some of its faces, by the corners of the level that they are the children of, and its points.
+/// A part of the next level: the places of its faces, and its points.
 #[derive(Drop)]
 pub struct PartShape<'a, P> {
-    /// The level.
+    /// The level before.
     pub level: &'a Level,
-    /// The places of the child faces. They ascend by face and corner.
+    /// The place of each child face: a face of the level and one of its corners. The places ascend by face and corner.
     pub places: &'a [FacePlace],
-    /// The points of the part by their numbers in the whole next level, and the number of each in the part.
+    /// Which points of the whole next level the part has, and the number of each in the part.
     pub points: &'a P,
-    /// The number in the whole next level of each point, in the order of the part's own numbers.
+    /// For each point of the part, in the order of its own numbers, its number in the whole next level.
     pub names: &'a [u32],
 }

@@ -17,7 +17,7 @@ use sharpness_rules::Sharpness;
 use std::alloc::Global;
 use std::sync::ledger::Ledger;
 
-// The faces of a part with the numbers of their edges, its holes, and the sharpness of its edges and its points.
+// The faces of a part with the numbers of their edges, its holes, and the sharpness of its edges and points.
 #[derive(Drop)]
 pub(crate) struct PartTables {
     pub(crate) faces: PackedLists<u32>,
@@ -26,7 +26,7 @@ pub(crate) struct PartTables {
     pub(crate) vertex_sharpness: Vec<Sharpness>,
 }
 
-// The tables of a part. Each face is one step.
+// Returns the tables of a part. Each face is one step.
 pub(crate) fn tables_of<P: ChildPoints, L: Ledger>(
     alloc: Global,
     shape: &PartShape<P>,

@@ -1,4 +1,4 @@
--- The points around a corner of a regular face, from the order in which its quads stand about it.
+-- The points around a corner of a regular face, from the order of its quads around it.
 use Rattle.std.proofs.Common.{subst, map, ◌≡◌, ◌≢◌, ℕ, zero, suc, ◌+◌, ◌-◌, ◌%◌, ◌<◌, ◌⊎◌, inl, inr, Bool, true, false, not, ◌&&◌, nat_eq, List, [], ◌∷◌, length, get_or, replicate, arith, refl, ap, sym, ◌∙◌}
 use Rattle.std.specs.List.{list_all, list_any, position_or_len}
 use Rattle.std.proofs.lemmas.Bool.Decides.{nat_tests}
@@ -145,11 +145,11 @@ module _ (polygons : List Polygon) (simple : list_all is_simple polygons ≡ tru
         ap (λ w. has_side (v, w) (polygon_at polygons k)) before-is ∙ round.fourth.follows in
         sym (from-side (v, before) k 3 side round.inside.2)
 
--- the edge after a face is the edge before another only where the first leads to the second
+-- the edge after a face is the edge before another only if the first leads to the second
 turned-ends : (w u v : ℕ) → same_edge (v, w) (u, v) ≡ true → w ≡ u
 turned-ends w u v h = grind (arith, nat_tests)
 
--- A point that is regular among quads, in whose fan each quad leads to the next, and the last to the first.
+-- A point that is regular among quads. Each quad in its fan leads to the next one, and the last to the first.
 module _ (t : Topology) (is : IsTopology t) (v : ℕ) (inside : v < t.level.point_count) (complete : get_or t.complete v false ≡ true)
     (regular : is_regular_in_quads t.level v ≡ true) where
   abbrev faces-of : List Polygon
@@ -266,7 +266,7 @@ module _ (t : Topology) (is : IsTopology t) (v : ℕ) (inside : v < t.level.poin
     place-there : get_or fan place 0 ≡ face
     place-there = sym (eqb-true _ _ (passes_at_first (nat_eq face) fan 0 (first-within (nat_eq face) fan among)))
 
-    -- the three points around it
+    -- the three points around the corner
     pub around : (points : CornerPoints) → points.corner ≡ v → points.ahead ≡ turned_corner t v face 1 → points.across ≡ turned_corner t v face 2
         → points.behind ≡ turned_corner t v face 3 → AreAround faces-of (corner_after faces-of v 3 face) v (corner_after faces-of v 1 face) points
     around points corner ahead across behind =
@@ -338,7 +338,7 @@ corner-there t face c v is has complete few e =
       place = place-is quad v c (distinct-at t.level.polygons face is.simple) here within (sym e);
     }
 
--- and the points around it
+-- the points around the corner of a face that has a patch
 pub around-there : (t : Topology) (face c v : ℕ) (points : CornerPoints) → IsTopology t → IsCorner t face c v
     → points.corner ≡ v → points.ahead ≡ turned_corner t v face 1 → points.across ≡ turned_corner t v face 2 → points.behind ≡ turned_corner t v face 3
     → AreAround t.level.polygons (get_or (polygon_at t.level.polygons face) ((c + 3) % 4) 0) v (get_or (polygon_at t.level.polygons face) ((c + 1) % 4) 0) points
@@ -347,7 +347,7 @@ around-there t face c v points is at corner ahead across behind =
     subst (λ n. AreAround t.level.polygons (get_or quad ((n + 3) % 4) 0) v (get_or quad ((n + 1) % 4) 0) points) at.place
     (around t is v at.inside at.complete at.regular face at.here points corner ahead across behind)
 
--- and the quad that is so many places after the face about it
+-- the quad at this place after the face around the corner
 pub turned-there : (t : Topology) (face c v turns k i : ℕ) (faces places : List ℕ) (is : IsTopology t) (at : IsCorner t face c v)
     → faces ≡ faces_in t v → places ≡ map (corner_of t.level.polygons v) (faces_in t v) → k ≡ position_or_len (nat_eq face) faces → i ≡ (k + turns) % 4
     → IsTurned t is v at.inside at.complete at.regular face at.here turns i (get_or faces i 0) (get_or places i 0)

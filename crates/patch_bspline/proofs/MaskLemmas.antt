@@ -1,4 +1,4 @@
--- The weights that are put for a place are those of its mask.
+-- The weights put for a place are those of its mask.
 use Rattle.std.proofs.Common.{◌≡◌, ℕ, zero, suc, ◌+◌, ◌*◌, ◌^◌, ◌/◌, ◌%◌, ◌<◌, ◌≤◌, Bool, true, false, nat_eq, nat_lt, List, [], ◌∷◌, ◌++◌, length, map, zip, get_or, Result, Ok, Err, OnOk, arith, refl, ap, sym, subst, ◌∙◌, length-append}
 use Rattle.std.specs.List.{All, flat_map, list_all, range_with_len, sum_by}
 use Rattle.std.proofs.lemmas.Bool.{and_from, and_parts, eqb-true, lt-ltb, ltb-true, false≢true}
@@ -206,7 +206,7 @@ above-zero m h = subst (λ n. 0 < 36 * n) (sym (sixth-is m ∙ ap (λ n. n * n) 
     product zero h = absurd (omega (arith, h))
     product (suc m) h = omega arith
 
--- what was put for a place is its mask
+-- the weights put for a place are its mask
 are-weights : (t : Topology) (face m i j : ℕ) (points : List (List ℕ)) → HasPoints t face m points → i ≤ m → j ≤ m
     → AreWeightsOf t.level.point_count (patch_mask t.level face m (i, j)) (grid_weights points (spline_weights m i) (spline_weights m j) (36 * m ^ 6))
 are-weights t face m i j points has h k =
@@ -225,7 +225,7 @@ are-weights t face m i j points has h k =
       positive = above-zero m has.some;
     })
 
--- The masks of a patch, as they are seen.
+-- The masks of a patch as the trait sees them.
 module _ (t : Topology) (face m : ℕ) (seen : PatchGrid) (e : record { level = t.level; face = face; grid = m } ≡ seen) where
   pub seen-count : length (patch_masks seen.level seen.face seen.grid) ≡ (m + 1) * (m + 1)
   seen-count = ap (λ (s : PatchGrid). length (patch_masks s.level s.face s.grid)) (sym e) ∙ masks-count m t.level face
@@ -241,7 +241,7 @@ module _ (t : Topology) (face m : ℕ) (seen : PatchGrid) (e : record { level = 
     pub across-within : place.1 ≤ m
     across-within = let e : place.1 ≡ row / (m + 1) = ap (λ (p : ℕ × ℕ). p.1) found in omega (arith, e, row-within m row within)
 
-    -- what was put, or failed for want of memory
+    -- the weights were put, or memory ran out
     pub puts-place : (points : List (List ℕ)) (put : Mask) (result : Result (Unit {0}) Memory) → HasPoints t face m points
         → OnOk result (put ≡ grid_weights points (spline_weights m place.0) (spline_weights m place.1) (36 * m ^ 6))
         → OnOk result (AreWeightsOf seen.level.point_count (mask_at (patch_masks seen.level seen.face seen.grid) row) put)

@@ -22,11 +22,11 @@ zip-at (x ∷ xs) (y ∷ ys) (suc i) d e h k = zip-at xs ys i d e (omega (arith,
 abbrev over : Mask → List Term → Mask
 over before terms = record { terms = terms; denominator = before.denominator }
 
--- the points of rows, by weights along the rows and across them
+-- the points of rows, with weights along the rows and across them
 abbrev pub grid_weights : List (List ℕ) → List ℕ → List ℕ → ℕ → Mask
 grid_weights points along across denominator = record { terms = flat_map (row_terms along) (zip across points); denominator = denominator }
 
--- one point of a row more
+-- one more point of a row
 module _ (along row : List ℕ) (across : ℕ) (four : length along ≡ 4) (also : length row ≡ 4) where
   abbrev terms : List Term
   terms = row_terms along (across, row)
@@ -56,7 +56,7 @@ module _ (along row : List ℕ) (across : ℕ) (four : length along ≡ 4) (also
   pub put-all : (i : ℕ) (before now : Mask) → 4 ≤ i → now ≡ with_terms before (take i terms) → now ≡ with_terms before terms
   put-all i before now h so_far = so_far ∙ ap (λ ts. with_terms before ts) (take_all i terms (omega (arith, h, terms-four)))
 
--- one row more
+-- one more row
 module _ (along across : List ℕ) (points : List (List ℕ)) (four : length across ≡ 4) (also : length points ≡ 4) where
   abbrev rows : List (ℕ × List ℕ)
   rows = zip across points

@@ -1,4 +1,4 @@
--- What is regular among quads, by what stands around a point.
+-- Regular points, edges and faces, from the elements around a point.
 use Rattle.std.proofs.Common.{◌≡◌, ℕ, ◌<◌, ◌≤◌, Bool, true, false, not, ◌&&◌, ◌||◌, nat_eq, List, [], ◌∷◌, length, take, get_or, arith, refl, ap, sym, ◌∙◌}
 use Rattle.std.specs.List.{list_all, list_any}
 use Rattle.std.specs.List.Sorted.{IsPermutation}
@@ -19,7 +19,7 @@ use Rattle.level_topology.proofs.FactLemmas.{faces-listed}
 use Rattle.level_topology.proofs.LawLemmas.{faces-each}
 use Rattle.patch_bspline.specs.Around.{is_marked}
 
--- an item passes one of two tests where it passes the first or the second
+-- an item passes one of two tests exactly if it passes the first or the second
 any-either : {X : Type 0} (one other : X → Bool) (xs : List X) → list_any (λ x. one x || other x) xs ≡ (list_any one xs || list_any other xs)
 any-either one other [] = refl
 any-either one other (x ∷ xs) = let behind = any-either one other xs in grind (arith, nat_tests)
@@ -70,7 +70,7 @@ module _ (t : Topology) (v : ℕ) (is : IsTopology t) (inside : v < t.level.poin
       ap (list_all (is_quad t.level)) e
       ∙ sym (all-permuted (is_quad t.level) (faces_at t.level v) (get_or t.faces_at v []) (is.listed v inside).faces)
 
-  -- one that is no quad
+  -- a face that is not a quad
   pub no-quad : i < length faces → is_quad t.level (get_or faces i 0) ≡ false
       → false ≡ (nat_eq (length (faces_at t.level v)) 4 && list_all (is_quad t.level) (faces_at t.level v))
   no-quad h other =
@@ -80,7 +80,7 @@ module _ (t : Topology) (v : ℕ) (is : IsTopology t) (inside : v < t.level.poin
       nowhere : (four all : Bool) → all ≡ false → false ≡ (four && all)
       nowhere four all h = grind (arith, nat_tests)
 
-  -- all are quads
+  -- all faces are quads
   pub all-quads : length faces ≤ i → list_all (is_quad t.level) (take i faces) ≡ true
       → nat_eq (length faces) 4 ≡ (nat_eq (length (faces_at t.level v)) 4 && list_all (is_quad t.level) (faces_at t.level v))
   all-quads past so-far =

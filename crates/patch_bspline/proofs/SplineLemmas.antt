@@ -19,7 +19,7 @@ sixth-is x =
     regroup : (x : ℕ) → x * x * x * x * x * x ≡ (x * x * x) * (x * x * x)
     regroup x = omega arith
 
--- with the rest of m behind i
+-- with m as a sum of i and a rest
 split : (P : ℕ → Type 0) (m i : ℕ) → i ≤ m → P (i + (m - i)) → P m
 split P m i h p = let e : i + (m - i) ≡ m = omega (arith, h) in subst P e p
 

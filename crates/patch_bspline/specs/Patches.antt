@@ -1,4 +1,4 @@
--- The rows of the patch of a face, and why there are none.
+-- The table of the patch of a face, and its faults.
 -- Source: this profile.
 use Rattle.std.specs.Prelude.{ℕ, ◌≡◌, ◌<◌, ◌≤◌, true, false, length, Result, MatchResult}
 use Rattle.std.specs.List.{All}
@@ -16,13 +16,13 @@ pub record HasPatch (level : Level) (face : ℕ) : Type 0 where
   pub inside : face < length level.polygons
   pub regular : has_patch level face ≡ true
 
--- the face has a patch, and each place of a grid of so many steps its row
+-- the face has a patch, and the table has a row for each place of the grid
 pub record IsPatchTable (level : Level) (face grid : ℕ) (table patch : Table) : Type 0 where
   pub has : HasPatch level face
   pub rows : AreMaskRows level (patch_masks level face grid) table patch
 
--- The first fault: no such face; a face without a patch; then the least row whose denominator passes its bound; then too many
--- entries. Memory may run out at any step.
+-- The first fault: the level has no such face; the face has no patch; the least row whose denominator passes its bound; too many entries.
+-- Memory may run out at any step.
 abbrev pub IsPatchFault : Level → ℕ → ℕ → Table → PatchFault → Type 0
 IsPatchFault level face grid table NoFace = length level.polygons ≤ face
 IsPatchFault level face grid table NotRegular = (face < length level.polygons) × (has_patch level face ≡ false)
@@ -32,6 +32,6 @@ IsPatchFault level face grid table TooManyEntries =
     × (entry_bound < mask_entries level table (patch_masks level face grid))
 IsPatchFault level face grid table Memory = Unit {0}
 
--- the rows of the patch of a face, or the first fault
+-- the table of the patch of a face, or the first fault
 abbrev pub IsPatchComposition : Level → ℕ → ℕ → Table → Result Table PatchFault → Type 0
 IsPatchComposition level face grid table result = MatchResult result (IsPatchTable level face grid table) (IsPatchFault level face grid table)

@@ -1,15 +1,16 @@
-//! Why a face has no rows of a patch.
+//! The faults of a patch.
 
 use ratio128::Memory;
 
-/// Why a face has no rows of a patch: the first reason.
+/// The first fault that keeps a face from a patch table. The variants are in the order of the search.
 #[derive(Clone, Copy, Debug, PartialEq, Eq)]
 pub enum PatchFault {
     /// The level has no face of this number.
     NoFace,
-    /// The face is no quad, or a corner of it is not regular: at the boundary, sharp, or without four quads around it.
+    /// The face is not a quad, or one of its corners is not regular. A regular corner is smooth, not on a boundary, and has four quads
+    /// around it.
     NotRegular,
-    /// The common denominator of a row passes 2^126 - 1: the least such row, counted from 0.
+    /// The least row, counted from 0, whose common denominator passes 2^126 - 1.
     Denominator(u32),
     /// The rows would have more than 2^27 entries.
     TooManyEntries,

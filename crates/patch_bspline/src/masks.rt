@@ -9,7 +9,7 @@ use ratio128::Memory;
 use std::marker::Model;
 use stencil_factory::{PointMasks, PointWeights};
 
-// The place (i, j) of a row.
+// The place (i, j) of a row of the table.
 fn place_of(grid: u32, row: u32) -> (u32, u32)
     requires { grid ≤ 64 }
     ensures { result ≡ (row % (grid + 1), row / (grid + 1)) }
@@ -18,7 +18,7 @@ fn place_of(grid: u32, row: u32) -> (u32, u32)
     (row % width, row / width)
 }
 
-/// The masks of the points of the patch of a face, on a grid of some steps along each side.
+/// The masks of the points of a patch on a grid.
 #[derive(Drop)]
 pub(crate) struct PatchMasks<'a> {
     pub(crate) level: &'a Level,

@@ -1,4 +1,4 @@
-//! The 16 points of the patch of a face.
+//! The 16 points that control the patch of a face.
 
 ghost use Rattle.std.specs.Prelude.{◌≡◌, ◌+◌, ◌%◌, ◌<◌, true, nat_eq, get_or, length, replicate};
 ghost use Rattle.std.specs.List.{position_or_len};
@@ -10,20 +10,20 @@ ghost use Rattle.patch_bspline.specs.Patches.{HasPatch};
 use level_topology::Level;
 use std::marker::Model;
 
-/// A corner of a face, and the three points around it that are no corners of the face and stand in quads at the corner.
+/// A corner of a face with the three points of the patch beside it, which lie outside the face.
 #[derive(Clone, Copy)]
 pub(crate) struct CornerPoints {
     /// The corner.
     pub(crate) corner: u32,
-    /// The point beside the corner beyond the side to the next corner.
+    /// The point next to the corner, across the side that leads to the next corner.
     pub(crate) ahead: u32,
-    /// The opposite corner in the quad that touches the face at the corner alone.
+    /// The corner opposite to this one in the quad that touches the face in this corner only.
     pub(crate) across: u32,
-    /// The point beside the corner beyond the side from the corner before.
+    /// The point next to the corner, across the side that comes from the previous corner.
     pub(crate) behind: u32,
 }
 
-/// The points of a patch, in four rows of four.
+/// The 16 points of a patch, in four rows of four.
 #[derive(Drop)]
 pub(crate) struct PatchPoints {
     rows: [[u32; 4]; 4],
@@ -40,7 +40,7 @@ impl Model for PatchPoints {
 impl PatchPoints {
     ghost use Rattle.std.specs.Prelude.{◌≡◌, ◌<◌, [], get_or};
 
-    /// A row.
+    /// Row j.
     pub(crate) fn row(&self, j: usize) -> &[u32; 4]
         requires { j < 4 }
         ensures { result.now ≡ get_or self.now j [] }
@@ -49,7 +49,7 @@ impl PatchPoints {
     }
 }
 
-// Of four places in a cycle the one that is so many after a place.
+// The place that follows `place` by `turns` in a cycle of four.
 fn turned(place: usize, turns: usize) -> usize
     requires place { place < 4 }
     requires turns { turns < 4 }
@@ -70,7 +70,7 @@ fn place_of(faces: &[u32], face: u32) -> usize
     faces.len()
 }
 
-// In the quad that is so many places after a face about its corner, the corner as many places after that.
+// Goes `turns` quads on from the face around its corner, and returns the corner that lies `turns` places after `v` in that quad.
 fn turned_corner(level: &Level, face: u32, c: usize, v: u32, turns: usize) -> u32
     requires has { HasPatch level.now.level face }
     requires complete { level.now.complete ≡ replicate level.now.level.point_count true }
@@ -86,7 +86,7 @@ fn turned_corner(level: &Level, face: u32, c: usize, v: u32, turns: usize) -> u3
     level.face_vertices(faces[i])[place]
 }
 
-// A corner of a face with the points around it.
+// A corner of a face with the three points around it.
 fn corner_points(level: &Level, face: u32, c: usize) -> CornerPoints
     requires has { HasPatch level.now.level face }
     requires complete { level.now.complete ≡ replicate level.now.level.point_count true }
@@ -110,7 +110,7 @@ fn corner_points(level: &Level, face: u32, c: usize) -> CornerPoints
     }
 }
 
-// The rows of the points of four corners, each with the points around it.
+// Arranges four corners and the points around them into the rows of a patch.
 fn rows_around(a: CornerPoints, b: CornerPoints, c: CornerPoints, d: CornerPoints) -> PatchPoints
     ensures { result ≡ rows_around a b c d }
 {
@@ -124,7 +124,7 @@ fn rows_around(a: CornerPoints, b: CornerPoints, c: CornerPoints, d: CornerPoint
     }
 }
 
-/// The points of the patch of a face.
+/// The 16 points of the patch of a face.
 pub(crate) fn patch_points(level: &Level, face: u32) -> PatchPoints
     requires has { HasPatch level.now.level face }
     requires complete { level.now.complete ≡ replicate level.now.level.point_count true }

@@ -57,7 +57,7 @@ fn fourth_weight(m: u32, i: u32) -> u32
     product(i, i, i)
 }
 
-/// The four weights at i/m, over 6m³.
+/// The four weights of the cubic B-spline at i/m, as numerators over 6m³.
 pub(crate) fn spline_weights(m: u32, i: u32) -> [u32; 4]
     requires inside { i ≤ m }
     requires few { m ≤ 64 }
@@ -70,7 +70,7 @@ pub(crate) fn spline_weights(m: u32, i: u32) -> [u32; 4]
     [first, second, third, fourth]
 }
 
-/// The denominator of the products of two weights.
+/// The denominator of the product of two weights: 36m⁶.
 pub(crate) fn denominator(m: u32) -> u128
     requires { m ≤ 64 }
     ensures { result ≡ 36 * m ^ 6 }

@@ -1,4 +1,4 @@
-//! The rows of a patch.
+//! The table of a patch.
 
 ghost use Rattle.std.specs.Prelude.{◌≡◌, ℕ, ◌<◌, ◌≤◌, true, length, replicate};
 ghost use Rattle.subdiv_model.specs.Level as model;
@@ -16,7 +16,7 @@ use std::alloc::Global;
 use stencil_apply::StencilTable;
 use stencil_factory::{RowFault, compose_masks};
 
-// The fault of rows that cannot be composed.
+// The fault of the patch for a fault of its rows.
 fn patch_fault(fault: RowFault) -> PatchFault
     ensures { (level : model.Level) (face grid : ℕ) (table : Table) → HasPatch level face → IsRowFault level (patch_masks level face grid) table fault
         → IsPatchFault level face grid table result }
@@ -28,7 +28,7 @@ fn patch_fault(fault: RowFault) -> PatchFault
     }
 }
 
-// The rows of the patch of a face that has one.
+// The table of a face that has a patch.
 fn patch_rows(
     alloc: Global,
     level: &Level,
@@ -57,12 +57,16 @@ fn patch_rows(
     }
 }
 
-/// The table of the patch of a face, from the table of the level's points, both over the same control points. `grid` is how many steps
-/// the patch has along each side, from 1 to 64. The row of the place (i, j), which stands at i/grid along the side from corner 0 to
-/// corner 1 and at j/grid along the side from corner 0 to corner 3, has the number j · (grid + 1) + i.
+/// Returns the table of the patch of a face, over the control points of `table`.
 ///
-/// Each point of the level is complete. The table has a row for each point. The faults are looked for in the order of the variants of
-/// [`PatchFault`]. Faces, corners, rows and places are counted from 0.
+/// `grid` is the number of steps along each side of the patch, from 1 to 64. Row `j * (grid + 1) + i` gives the point at i/grid from
+/// corner 0 towards corner 1 and j/grid towards corner 3. Its entries are the control points that it depends on, ascending, over the
+/// common denominator of the point. Faces, corners and rows are counted from 0.
+///
+/// `table` has a row for each point of the level, and each point of the level is complete. Neither argument changes.
+///
+/// Errors: `NoFace`, `NotRegular`, `Denominator`, `TooManyEntries`, in this order. `Memory` may come at any time; the test of the face
+/// takes no memory.
 pub fn patch_table(
     alloc: Global,
     level: &Level,

@@ -10,7 +10,7 @@ use crate::spline::{denominator, spline_weights};
 use ratio128::Memory;
 use stencil_factory::PointWeights;
 
-// Puts the points of a row, each with its weight along the row times that of the row.
+// Puts the points of one row of a patch: each weight is the one along the row times the row's own.
 fn put_row(
     row: &[u32; 4],
     along: &[u32; 4],
@@ -25,7 +25,7 @@ fn put_row(
     Ok(())
 }
 
-/// Puts the weights of the point of a patch at (i/m, j/m).
+/// Puts the weights of the 16 points at the place (i/m, j/m) of a patch.
 pub(crate) fn put_place(
     points: &PatchPoints,
     m: u32,

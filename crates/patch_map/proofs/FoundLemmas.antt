@@ -1,4 +1,4 @@
--- A map that is that of the definitions finds the leaf of each location.
+-- A map of the definitions finds the leaf of each location.
 use Rattle.std.proofs.Common.{◌≡◌, ℕ, zero, suc, ◌+◌, ◌<◌, ◌≤◌, Bool, true, false, nat_eq, nat_le, List, [], ◌∷◌, length, get_or, Some, None, arith, refl, ap, sym, ◌∙◌, subst}
 use Rattle.std.specs.List.{position_or_len}
 use Rattle.std.specs.Option.{option_map_or}
@@ -34,7 +34,7 @@ location-same level other number same pair twin e f g =
     ap (λ l. made l number pair) e ∙ ap (λ n. made other n pair) f ∙ ap (made other same) g
 
 module _ (grid : ℕ) (base : Level) (meeting : Meeting) where
-  -- a location on the face that stands at a place among the present ones of a depth
+  -- a location on the face at a place among the present faces of a depth
   pub record IsOn (k place : ℕ) (at : Location) : Type 0 where
     pub there : place < length (present base meeting k)
     pub number_is : at.number ≡ get_or (present base meeting k) place 0
@@ -57,7 +57,7 @@ module _ (grid : ℕ) (base : Level) (meeting : Meeting) where
     pub face-below : at.number < length here.polygons
     face-below = let below = present-below base meeting at.level place 0 is.there in omega (arith, below, is.number_is)
 
-    -- the corner is one of the face
+    -- the corner belongs to the face
     corner-below : (q : Bool) → is_quad_at here at ≡ q → corner < length (polygon_at here.polygons at.number)
     corner-below true e =
         let taken : corner ≡ first_with grid (at.s, at.t) = rw e refl in
@@ -65,7 +65,7 @@ module _ (grid : ℕ) (base : Level) (meeting : Meeting) where
     corner-below false e = let taken : corner ≡ at.corner = rw e refl in omega (arith, taken, is.corner e)
 
     module _ (chosen : is_among (selected base meeting at.level) at.number ≡ true) where
-      -- the child stands after the first one
+      -- the place of a child after that of the first one
       pub stands : (first_place + corner < length (present base meeting (suc at.level)))
           × (get_or (present base meeting (suc at.level)) (first_place + corner) 0 ≡ child_number here.polygons (at.number, corner))
       stands = child-stands base meeting at.level at.number corner chosen face-below (corner-below (is_quad_at here at) refl)
@@ -91,14 +91,14 @@ module _ (grid : ℕ) (base : Level) (meeting : Meeting) where
           (ap (λ numbers. get_or numbers (first_place + corner) 0) after.numbers ∙ stands.1)
           (pair-same grid here at (is_quad_at here at) refl)
 
-    -- where the first child stands
+    -- the place of the first child
     pub first-known : (level : MapLevel) → IsAfter base meeting at.level level → get_or level.firsts place None ≡ first_in base meeting at.level at.number
     first-known level after =
         ap (λ firsts. get_or firsts place None) after.firsts
         ∙ get_or-map (first_in base meeting at.level) (present base meeting at.level) place 0 None is.there
         ∙ ap (first_in base meeting at.level) (sym is.number_is)
 
-  -- the leaf on the way down is the one that the definitions find
+  -- the leaf of the descent is the one of the definitions
   pub below-first : (further place : ℕ) (levels : List MapLevel) (at : Location) → length levels ≡ further
       → ((j : ℕ) (d : MapLevel) → j < further → IsAfter base meeting (at.level + j) (get_or levels j d)) → IsOn at.level place at
       → leaf_below grid levels (is_quad_at (refined_level base at.level) at) place at ≡ first_leaf grid further base meeting at
@@ -134,7 +134,7 @@ module _ (grid : ℕ) (base : Level) (meeting : Meeting) where
           let found : first_leaf grid (suc further) base meeting at ≡ at = rw e refl in
           ap (λ o. option_map_or below o at) none ∙ sym found
 
--- so it finds the leaf of each place of a face of level 0
+-- the map finds the leaf of each place of a face of level 0
 pub map-finds : (base : Level) (meeting : Meeting) (depth : ℕ) (levels : LevelMap) → IsMapOf base meeting depth levels → (face corner i j grid : ℕ) → face < length levels.sizes → is_corner_of (get_or levels.sizes face 0) corner ≡ true
     → i ≤ grid → j ≤ grid → leaf_in levels grid (base_location face corner (i, j)) ≡ leaf_of grid depth base meeting (base_location face corner (i, j))
 map-finds base meeting depth levels is face corner i j grid exists fits low high =

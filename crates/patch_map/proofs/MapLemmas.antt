@@ -1,4 +1,4 @@
--- The map of level 0 is that of the definitions, and growing keeps it so.
+-- The map of level 0 is that of the definitions, and each step of growth keeps this.
 use Rattle.std.proofs.Common.{◌≡◌, ℕ, suc, ◌+◌, ◌*◌, ◌<◌, ◌≤◌, Bool, true, false, nat_le, nat_lt, List, [], ◌∷◌, ◌++◌, length, get_or, map, Option, Some, None, if◌then◌else◌, arith, refl, ap, sym, ◌∙◌, subst}
 use Rattle.std.specs.List.{position_or_len}
 use Rattle.std.proofs.lemmas.Bool.Decides.{nat_tests}
@@ -18,14 +18,14 @@ pub base-map : (base : Level) (meeting : Meeting) → IsMapOf base meeting 0 (ma
 base-map base meeting = record { sizes = refl; starts = refl; count = refl; each = λ k d h. absurd (omega (arith, h)) }
 
 module _ (base : Level) (meeting : Meeting) (depth : ℕ) (levels : LevelMap) (is : IsMapOf base meeting depth levels) where
-  -- it has the faces of level 0
+  -- the map has the faces of level 0
   pub map-faces : length levels.sizes ≡ length base.polygons
   map-faces = ap length is.sizes ∙ length-map base.polygons length
 
   pub map-size : (face : ℕ) → face < length base.polygons → get_or levels.sizes face 0 ≡ length (polygon_at base.polygons face)
   map-size face h = ap (λ sizes. get_or sizes face 0) is.sizes ∙ get_or-map length base.polygons face [] 0 h
 
-  -- so each place that the definitions have can be asked for
+  -- each place of the definitions is a valid request
   pub map-fits : (face corner : ℕ) → face < length base.polygons → is_corner_of (length (polygon_at base.polygons face)) corner ≡ true
       → (face < length levels.sizes) × (is_corner_of (get_or levels.sizes face 0) corner ≡ true)
   map-fits face corner h fits = (omega (arith, h, map-faces), ap (λ n. is_corner_of n corner) (map-size face h) ∙ fits)
@@ -36,7 +36,7 @@ module _ (base : Level) (meeting : Meeting) (depth : ℕ) (levels : LevelMap) (i
   pub start-at : (i : ℕ) → i < length (present base meeting depth) → get_or levels.starts i 0 ≡ child_number (refined_level base depth).polygons (get_or (present base meeting depth) i 0, 0)
   start-at i h = ap (λ starts. get_or starts i 0) is.starts ∙ get_or-map (λ f. child_number (refined_level base depth).polygons (f, 0)) (present base meeting depth) i 0 0 h
 
-  -- the children of the last level start at numbers that never fall
+  -- the numbers of the last level's first children never decrease
   pub starts-rise : Rises levels.starts
   starts-rise i j less h = go (nat_lt i j) refl
     where
@@ -51,7 +51,7 @@ module _ (base : Level) (meeting : Meeting) (depth : ℕ) (levels : LevelMap) (i
           omega (arith, ap (λ k. get_or levels.starts k 0) same)
 
   module _ (marks : List Bool) (chosen : marks ≡ map (is_among (selected base meeting depth)) (present base meeting depth)) (numbers : List ℕ) (next : numbers ≡ present base meeting (suc depth)) where
-    -- where the first children stand
+    -- the places of the first children
     pub firsts-are : firsts_of marks levels.starts numbers ≡ map (first_in base meeting depth) (present base meeting depth)
     firsts-are =
         let many = length-map-range_with_len (first_at marks levels.starts numbers) 0 (length levels.starts) in
@@ -85,7 +85,7 @@ module _ (base : Level) (meeting : Meeting) (depth : ℕ) (levels : LevelMap) (i
     after-next : IsAfter base meeting depth (map_level (suc depth) (firsts_of marks levels.starts numbers) numbers)
     after-next = record { depth_is = refl; firsts = firsts-are; numbers = next }
 
-    -- one level more
+    -- one more level
     pub map-grown : (deeper : ℕ) → deeper ≡ suc depth → IsMapOf base meeting (suc depth) (grown levels marks deeper numbers)
     map-grown deeper same = subst (λ n. IsMapOf base meeting (suc depth) (grown levels marks n numbers)) (sym same) (record {
       sizes = is.sizes;

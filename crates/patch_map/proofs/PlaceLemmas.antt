@@ -1,4 +1,4 @@
--- Lists that are made item by item, places that are looked for, and the way down to a leaf.
+-- Lists made item by item, searches for a place, and the descent to a leaf.
 use Rattle.std.proofs.Common.{◌≡◌, ℕ, ◌+◌, ◌^◌, ◌<◌, ◌≤◌, Bool, true, false, nat_le, nat_lt, List, [], ◌∷◌, ◌++◌, length, get_or, map, Option, Some, None, if◌then◌else◌, arith, refl, ap, sym, ◌∙◌, subst}
 use Rattle.std.specs.List.{All, position_or_len, range_with_len}
 use Rattle.std.specs.Option.{option_map_or}
@@ -11,7 +11,7 @@ use Rattle.sparse_level.specs.View.{SparseTopology, IsSparseTopology}
 use Rattle.patch_map.specs.Map.{MapLevel, Rises, first_at}
 use Rattle.patch_map.specs.Found.{corner_in, pair_in, face_at, leaf_below}
 
--- one item more, of a range of numbers
+-- one more item, for a range of numbers
 pub more-of-range : {X : Type 0} (made : ℕ → X) (n : ℕ) (now new : List X) (item : X) → now ≡ map made (range_with_len 0 n) → new ≡ now ++ item ∷ [] → item ≡ made n → new ≡ map made (range_with_len 0 (n + 1))
 more-of-range made n now new item so put e =
     put ∙ ap (λ items. items ++ item ∷ []) so ∙ ap (λ x. map made (range_with_len 0 n) ++ x ∷ []) e ∙ sym (map-range_with_len_more made 0 n n (omega arith))
@@ -25,7 +25,7 @@ still-below numbers from place start below here k low high = go (nat_lt k place)
     go true e = below k low (grind (arith, nat_tests))
     go false e = let same : k ≡ place = grind (arith, nat_tests) in omega (arith, here, ap (λ i. get_or numbers i 0) same)
 
--- the first number that is not below stands where the search ends
+-- the search ends at the first number that is not below the start
 pub place-found : (numbers : List ℕ) (from place start : ℕ) → from ≤ place → place ≤ length numbers → ((k : ℕ) → from ≤ k → k < place → get_or numbers k 0 < start)
     → (place < length numbers → start ≤ get_or numbers place 0) → ((k : ℕ) → k < from → get_or numbers k 0 < start) → place ≡ position_or_len (nat_le start) numbers
 place-found numbers from place start low inside below ends before =
@@ -38,7 +38,7 @@ place-found numbers from place start low inside below ends before =
     fails k h true e = let less = before k (grind (arith, nat_tests)) in grind (arith, nat_tests)
     fails k h false e = let less = below k (grind (arith, nat_tests)) h in grind (arith, nat_tests)
 
--- what was passed for a face is passed for each later one
+-- a number passed for a face is passed for each later face
 pub passed-on : (starts numbers : List ℕ) (f place : ℕ) → Rises starts → f < length starts → place ≡ position_or_len (nat_le (get_or starts f 0)) numbers
     → (g k : ℕ) → f + 1 ≤ g → g < length starts → k < place → get_or numbers k 0 < get_or starts g 0
 passed-on starts numbers f place rises inside e g k later exists low =
@@ -57,12 +57,12 @@ numbers-small t is numbers e = subst (All (λ n. n < 2 ^ 60)) (sym e) (λ k d h.
     let power : 4 ^ t.depth ≤ 4 ^ 10 = pow-le-pow_right (omega arith) is.deep in
     omega (arith, below, power))
 
--- the first child of a face that is marked stands there
+-- the place of the first child of a marked face
 pub first-put : (selected : List Bool) (starts numbers : List ℕ) (f place : ℕ) (is_marked : Bool) (first : Option ℕ) → is_marked ≡ get_or selected f false → place ≡ position_or_len (nat_le (get_or starts f 0)) numbers
     → first ≡ (if is_marked then Some place else None) → first ≡ first_at selected starts numbers f
 first-put selected starts numbers f place is_marked first e h is = is ∙ ap (λ b. if b then Some place else None) e ∙ ap (λ p. if get_or selected f false then Some p else None) h
 
--- the way goes on to a child, or ends
+-- the descent goes on to a child, or ends
 pub way-on : (grid : ℕ) (level : MapLevel) (others : List MapLevel) (quad : Bool) (place : ℕ) (leaf next : Location) (first corner stand : ℕ) (pair : ℕ × ℕ)
     → get_or level.firsts place None ≡ Some first → corner ≡ corner_in grid quad leaf → stand ≡ first + corner → pair ≡ pair_in grid quad leaf → next ≡ face_at level stand pair
     → leaf_below grid others true stand next ≡ leaf_below grid (level ∷ others) quad place leaf

@@ -1,4 +1,4 @@
--- The present faces of a level, and where the children of selected faces stand among them.
+-- The present faces of a level, and the places of selected faces' children among them.
 use Rattle.std.proofs.Common.{◌≡◌, ℕ, zero, suc, ◌+◌, ◌*◌, ◌<◌, ◌≤◌, true, nat_eq, nat_le, List, [], ◌∷◌, length, get_or, take, arith, ap, sym, ◌∙◌, subst}
 use Rattle.std.specs.List.{list_all, position_or_len}
 use Rattle.std.proofs.lemmas.List.Sums.{list_all-from_AllPass, sum_by-cons}
@@ -16,7 +16,7 @@ use Rattle.sparse_laws.proofs.InnerLemmas.{inner-present, places-ascend, range-a
 use Rattle.sparse_laws.proofs.NumberLemmas.{among-places, corners-length, first-of-quads, parent-read, parents-length}
 use Rattle.patch_map.proofs.RunLemmas.{run-at}
 
--- the numbers of first children never fall
+-- the numbers of first children never decrease
 pub first-up : (polygons : List Polygon) (f g : ℕ) → f ≤ g → first_place polygons f ≤ first_place polygons g
 first-up [] zero zero h = omega arith
 first-up [] zero (suc g) h = omega arith
@@ -53,7 +53,7 @@ module _ (base : Level) (meeting : Meeting) where
       (among-places (is_among (selected base meeting depth)) 0 (first_place polygons n + c) (parents_of polygons) inside
       ∙ ap (is_among (selected base meeting depth)) (parent-read polygons n c below corner) ∙ chosen)
 
-  -- so they stand one after another
+  -- the children of a face follow one another
   pub child-stands : (depth n c : ℕ) → is_among (selected base meeting depth) n ≡ true → n < length (refined_level base depth).polygons → c < length (polygon_at (refined_level base depth).polygons n)
       → (position_or_len (nat_le (child_number (refined_level base depth).polygons (n, 0))) (present base meeting (suc depth)) + c < length (present base meeting (suc depth)))
       × (get_or (present base meeting (suc depth)) (position_or_len (nat_le (child_number (refined_level base depth).polygons (n, 0))) (present base meeting (suc depth)) + c) 0 ≡ child_number (refined_level base depth).polygons (n, c))
@@ -75,7 +75,7 @@ module _ (base : Level) (meeting : Meeting) where
   pub quad-after : (depth n : ℕ) → n < length (refined_level base (suc depth)).polygons → nat_eq (length (polygon_at (refined_level base (suc depth)).polygons n)) 4 ≡ true
   quad-after depth n h = all-at (λ quad. nat_eq (length quad) 4) (refined_level base (suc depth)).polygons n [] h (quads-after depth)
 
-  -- so the number of its first child is four times its own
+  -- the number of a quad's first child is four times its own
   pub start-after : (depth n : ℕ) → n < length (refined_level base (suc depth)).polygons → child_number (refined_level base (suc depth)).polygons (n, 0) ≡ 4 * n
   start-after depth n h =
       let first = first-of-quads (refined_level base (suc depth)).polygons n (quads-after depth) (omega (arith, h)) in

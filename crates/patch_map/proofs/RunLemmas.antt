@@ -1,4 +1,4 @@
--- Numbers that follow one another, in a list that ascends.
+-- Consecutive numbers in an ascending list.
 use Rattle.std.proofs.Common.{◌≡◌, ℕ, zero, suc, ◌+◌, ◌<◌, ◌≤◌, Bool, true, false, nat_eq, nat_le, List, [], ◌∷◌, length, get_or, arith, refl, ap, sym, ◌∙◌}
 use Rattle.std.specs.List.{position_or_len}
 use Rattle.std.proofs.lemmas.Bool.{leb-true}
@@ -47,7 +47,7 @@ run-from (suc c) m b (n ∷ ns) up there =
         let same : m + suc i ≡ m + 1 + i = omega arith in
         among-behind (m + 1 + i) n ns (ap (is_among (n ∷ ns)) (sym same) ∙ there (suc i) (omega (arith, h))) e
 
--- a run stands where the first of the numbers is that is not below
+-- a run begins at the first number that is not below its start
 pub run-at : (a b m c : ℕ) (ns : List ℕ) → Ascends a b ns → ((i : ℕ) → i ≤ c → is_among ns (m + i) ≡ true)
     → (position_or_len (nat_le m) ns + c < length ns) × (get_or ns (position_or_len (nat_le m) ns + c) 0 ≡ m + c)
 run-at a b m c [] up there = let no = there 0 (omega arith) in absurd (cc)

@@ -1,4 +1,4 @@
--- When a map is that of the definitions.
+-- The maps that the definitions give.
 use Rattle.std.specs.Prelude.{ℕ, suc, ◌≡◌, ◌<◌, nat_le, length, map, get_or, Option, Some, None, if◌then◌else◌}
 use Rattle.std.specs.List.{position_or_len}
 use Rattle.subdiv_model.specs.Polygons.{is_among}
@@ -9,20 +9,20 @@ use Rattle.sparse_laws.specs.SparseLevels.{IsSparse}
 use Rattle.sparse_level.specs.View.{SparseTopology, SparseChild, level_of, next_of}
 use Rattle.patch_map.specs.Map.{MapLevel, LevelMap, starts_of}
 
--- where the first child of a face stands among the present faces of the next level, if the face is selected
+-- the place of the first child of a face among the present faces of the next level, or nothing if the face is not selected
 abbrev pub first_in : Level → Meeting → ℕ → ℕ → Option ℕ
 first_in base meeting depth n =
     if is_among (selected base meeting depth) n
     then Some (position_or_len (nat_le (child_number (refined_level base depth).polygons (n, 0))) (present base meeting (suc depth)))
     else None
 
--- the level of a map after a depth has the present faces
+-- the level of the map after a depth contains the present faces
 pub record IsAfter (base : Level) (meeting : Meeting) (depth : ℕ) (level : MapLevel) : Type 0 where
   pub depth_is : level.depth ≡ suc depth
   pub firsts : level.firsts ≡ map (first_in base meeting depth) (present base meeting depth)
   pub numbers : level.numbers ≡ present base meeting (suc depth)
 
--- the map has the levels to a depth
+-- the map contains the levels up to a depth
 pub record IsMapOf (base : Level) (meeting : Meeting) (depth : ℕ) (levels : LevelMap) : Type 0 where
   pub sizes : levels.sizes ≡ map length base.polygons
   pub starts : levels.starts ≡ starts_of (refined_level base depth).polygons (present base meeting depth)

@@ -1,4 +1,4 @@
-//! The way from a face down to its leaf.
+//! The descent from a face to its leaf.
 
 ghost use Rattle.std.specs.Prelude.{◌≡◌, ◌+◌, ◌^◌, ◌≤◌, ◌<◌};
 ghost use Rattle.leaf_laws.specs.FirstLeaf.{IsInGrid};
@@ -9,7 +9,7 @@ use crate::leaf::Leaf;
 use crate::level::MapLevel;
 use crate::pairs::{first_corner, pair_in_child};
 
-// The corner whose child is taken.
+// The corner whose child contains the place.
 fn corner_of(is_quad: bool, at: &Leaf, grid: u64) -> u32
     requires inside { IsInGrid grid (location_of at.now) }
     requires grid { grid ≤ 2 ^ 16 }
@@ -22,7 +22,7 @@ fn corner_of(is_quad: bool, at: &Leaf, grid: u64) -> u32
     }
 }
 
-// Where the place lies in that child.
+// The place within that child.
 fn pair_of(is_quad: bool, at: &Leaf, grid: u64) -> (u64, u64)
     requires inside { IsInGrid grid (location_of at.now) }
     requires grid { grid ≤ 2 ^ 16 }
@@ -37,14 +37,14 @@ fn pair_of(is_quad: bool, at: &Leaf, grid: u64) -> (u64, u64)
     }
 }
 
-// The place of the child of a corner, after that of the first child.
+// The place of the child of a corner in the list of faces, given that of the first child.
 fn child_place(first: u32, corner: u32) -> u64
     ensures { result ≡ first + corner }
 {
     u64::from(first) + u64::from(corner)
 }
 
-// A pair on the face that stands at a place of a level.
+// A pair on the face at a place of a level.
 fn leaf_at(level: &MapLevel, place: u64, pair: (u64, u64)) -> Leaf
     ensures { location_of result ≡ face_at level.now place (pair.0, pair.1) }
 {
@@ -57,7 +57,7 @@ fn leaf_at(level: &MapLevel, place: u64, pair: (u64, u64)) -> Leaf
     }
 }
 
-/// The leaf of a place on a face, which stands there in the level before these.
+/// The leaf of a place on a face. The face is in the level before the first of `levels`.
 pub(crate) fn leaf_below(
     levels: &[MapLevel],
     is_quad: bool,

@@ -1,4 +1,4 @@
-//! Where the first children of selected faces stand among the faces of the next level.
+//! The places of the first children of selected faces in the next level's list of faces.
 
 ghost use Rattle.std.specs.Prelude.{◌≡◌, ℕ, ◌*◌, ◌^◌, ◌<◌, ◌≤◌, false, nat_le, Some, None, length, map, get_or, IfOk, if◌then◌else◌};
 ghost use Rattle.std.specs.List.{All, position_or_len};
@@ -14,7 +14,7 @@ fn is_marked(selected: &[bool], place: usize) -> bool
     place < selected.len() && selected[place]
 }
 
-// A place, where it is marked.
+// The place if it is marked, else `None`.
 fn marked_place(is_marked: bool, place: usize) -> Option<u32>
     requires { place < 2 ^ 32 }
     ensures { result ≡ (if is_marked then Some place else None) }
@@ -22,7 +22,7 @@ fn marked_place(is_marked: bool, place: usize) -> Option<u32>
     if is_marked { Some(place as u32) } else { None }
 }
 
-// The first place at which a number is not below a start. It is looked for from a place on.
+// The first place, from `from` on, whose number is not below `start`.
 fn place_from(numbers: &[u64], from: usize, start: u64) -> usize
     requires { from ≤ length numbers.now }
     ensures place { ((k : ℕ) → k < from → get_or numbers.now k 0 < start) → result ≡ position_or_len (nat_le start) numbers.now }
@@ -35,9 +35,9 @@ fn place_from(numbers: &[u64], from: usize, start: u64) -> usize
     place
 }
 
-/// For each face where its first child stands, if the face is marked. The children of the faces start at these numbers.
+/// For each face the place of its first child, or `None` if the face is not marked. `starts` gives the number of each face's first child.
 ///
-/// It answers `Memory` where memory runs out.
+/// Error: `Memory`.
 pub(crate) fn first_places(
     alloc: Global,
     selected: &[bool],
@@ -56,9 +56,9 @@ pub(crate) fn first_places(
     Ok(firsts)
 }
 
-/// Where the children of quads start: at four times the number of each.
+/// The number of the first child of each quad: four times the number of the quad.
 ///
-/// It answers `Memory` where memory runs out.
+/// Error: `Memory`.
 pub(crate) fn quad_starts(alloc: Global, numbers: &[u64]) -> Result<Vec<u64>, Memory>
     requires { All (λ n. n < 2 ^ 60) numbers.now }
     ensures { IfOk result (λ starts. starts.items ≡ map (λ n. 4 * n) numbers.now) }

@@ -5,7 +5,7 @@ ghost use Rattle.patch_map.specs.Map.{map_level};
 
 use std::marker::Model;
 
-/// A level after level 0: its faces by their numbers in the uniform level, and where the children of the faces before stand.
+/// A level after level 0: the numbers of its faces in the uniform level, and the places of the first children of the faces before.
 #[derive(Drop)]
 pub(crate) struct MapLevel {
     depth: u32,
@@ -22,7 +22,7 @@ impl Model for MapLevel {
 }
 
 impl MapLevel {
-    /// A level of its parts.
+    /// A level from its parts.
     pub(crate) fn of(depth: u32, firsts: Vec<Option<u32>>, numbers: Vec<u64>) -> MapLevel
         ensures { result ≡ map_level depth firsts.items numbers.items }
     {
@@ -33,14 +33,15 @@ impl MapLevel {
         }
     }
 
-    /// After how many steps the level is.
+    /// The number of steps from level 0.
     pub(crate) fn depth(&self) -> u32
         ensures { result ≡ self.now.depth }
     {
         self.depth
     }
 
-    /// Where the first child of a face of the level before stands, by the face's place there. A face without children has none.
+    /// The place of the first child of a face of the level before, by the face's place there. It is `None` for a face that has no
+    /// children.
     pub(crate) fn first(&self, place: u64) -> Option<u32>
         ensures { result ≡ get_or self.now.firsts place None }
     {
@@ -51,7 +52,7 @@ impl MapLevel {
         }
     }
 
-    /// The number of the face at a place, and 0 where there is none.
+    /// The number of the face at a place, or 0 if the level has no such place.
     pub(crate) fn number(&self, place: u64) -> u64
         ensures { result ≡ get_or self.now.numbers place 0 }
     {

@@ -1,6 +1,7 @@
-//! Maps from a place of a face of level 0 to the leaf of the sparse levels that has it.
+//! Finds the leaf of the sparse levels that contains a given place of a face of level 0. A leaf is a face of a sparse level that is not
+//! refined further. A `PatchMap` starts with level 0 and grows by one level at a time. A search looks at each level once.
 //!
-//! Source: OpenSubdiv's Far layer for patch maps; which leaf has a place is this profile's.
+//! Source: OpenSubdiv's Far layer for patch maps. This profile decides which leaf contains a place.
 #![tactic(auto)]
 
 mod below;

@@ -22,7 +22,7 @@ use sparse_level::{SparseLevel, SparseStep};
 use std::alloc::Global;
 use std::marker::Model;
 
-// How many corners each face of a level has.
+// The number of corners of each face of a level.
 fn face_sizes(alloc: Global, level: &Level) -> Result<Vec<u32>, Memory>
     ensures { IfOk result (λ sizes. sizes.items ≡ map length level.now.level.polygons) }
 {
@@ -45,12 +45,13 @@ fn face_starts(alloc: Global, level: &Level) -> Result<Vec<u64>, Memory>
     Ok(starts)
 }
 
-/// A map from a place of a face of level 0 to the leaf that has it, among the sparse levels so far. It takes at most 24 bytes a face.
+/// A map from the places of the faces of level 0 to the leaves of the sparse levels that it has so far. It takes at most 24 bytes for
+/// each face.
 #[derive(Drop)]
 pub struct PatchMap {
     alloc: Global,
     sizes: Vec<u32>,
-    // For each face of the last level the number of its first child in the next uniform level.
+    // The number, in the next uniform level, of the first child of each face of the last level.
     starts: Vec<u64>,
     levels: Vec<MapLevel>,
 }
@@ -64,9 +65,9 @@ impl Model for PatchMap {
 }
 
 impl PatchMap {
-    /// The map of level 0 alone: each of its faces is a leaf.
+    /// Returns the map of level 0: each of its faces is a leaf.
     ///
-    /// It answers `Memory` where memory runs out.
+    /// Error: `Memory`.
     pub fn start(alloc: Global, base: &SparseLevel) -> Result<PatchMap, Memory>
         requires { base.now.depth ≡ 0 }
         ensures map { IfOk result (λ levels. levels ≡ map_of_base base.now.topology.level.polygons) }
@@ -82,7 +83,7 @@ impl PatchMap {
         })
     }
 
-    // One level more, where these faces of the last level are selected.
+    // Adds a level, given the selected faces of the last level.
     fn push_level(&mut self, selected: &[bool], depth: u32, numbers: &[u64]) -> Result<(), Memory>
         requires few { length numbers.now < 2 ^ 32 }
         requires small { All (λ n. n < 2 ^ 60) numbers.now }
@@ -97,9 +98,9 @@ impl PatchMap {
         Ok(())
     }
 
-    /// The map with the next level, where these faces of the last level are marked as selected.
+    /// Adds the next level to the map. `selected` marks the selected faces of the last level.
     ///
-    /// It answers `Memory` where memory runs out, and the map is unchanged then.
+    /// Error: `Memory`; the map is unchanged then.
     pub fn grow_to(&mut self, selected: &[bool], next: &SparseLevel) -> Result<(), Memory>
         ensures map { Rises self.old.starts → IfOk result (λ _. self.new ≡ grown self.old selected.now next.now.depth next.now.numbers) }
         ensures failed { OnErr result (self.new ≡ self.old) }
@@ -109,9 +110,9 @@ impl PatchMap {
         self.push_level(selected, next.depth(), next.numbers())
     }
 
-    /// The map with the next level, which a step made of the last level of the map.
+    /// Adds to the map the level of a step. The step starts at the map's last level.
     ///
-    /// It answers `Memory` where memory runs out, and the map is unchanged then.
+    /// Error: `Memory`; the map is unchanged then.
     pub fn grow(&mut self, sparse: &SparseLevel, step: &SparseStep) -> Result<(), Memory>
         ensures map { Rises self.old.starts → IfOk result (λ _. self.new ≡ grown self.old step.now.selected step.now.depth step.now.numbers) }
         ensures is { (base : model.Level) (meeting : Meeting) → IsMapOf base meeting sparse.now.depth self.old → IsStepOf base meeting sparse.now step.now
@@ -124,14 +125,14 @@ impl PatchMap {
         self.push_level(step.selected(), step.depth(), step.numbers())
     }
 
-    /// How many faces level 0 has.
+    /// The number of faces of level 0.
     pub fn faces(&self) -> usize
         ensures { result ≡ length self.now.sizes }
     {
         self.sizes.len()
     }
 
-    /// How many corners a face of level 0 has.
+    /// The number of corners of a face of level 0.
     pub fn size(&self, face: u32) -> u32
         requires { face < length self.now.sizes }
         ensures { result ≡ get_or self.now.sizes face 0 }
@@ -150,8 +151,11 @@ impl PatchMap {
         leaf_below(&self.levels, is_quad, at.number, at, grid)
     }
 
-    /// The leaf of the place (`i`/`grid`, `j`/`grid`) on a face of level 0. Where the face has other than four corners, the place is one
-    /// of the child face of the corner. It takes no memory.
+    /// Returns the leaf of the place (`i`/`grid`, `j`/`grid`) of a face of level 0. `i` counts from corner 0 towards corner 1, `j` from
+    /// corner 0 towards corner 3. `grid` is at most 2^16, and `i` and `j` are at most `grid`.
+    ///
+    /// For a quad `corner` is 0. For any other face the place is one of the child face of `corner`, counted from 0. The search takes no
+    /// memory.
     pub fn find(&self, face: u32, corner: u32, i: u64, j: u64, grid: u64) -> Leaf
         requires face { face < length self.now.sizes }
         requires corner { is_corner_of (get_or self.now.sizes face 0) corner ≡ true }

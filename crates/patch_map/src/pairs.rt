@@ -1,10 +1,10 @@
-//! Pairs of a grid on a quad, and on its children.
+//! Pairs of a grid on a quad and on its children.
 
 ghost use Rattle.std.specs.Prelude.{◌≡◌, ◌^◌, ◌≤◌, ◌<◌};
 ghost use Rattle.subdiv_model.specs.Leaf.{in_child};
 ghost use Rattle.leaf_laws.specs.FirstLeaf.{first_with};
 
-/// The least corner of a quad whose child has the pair.
+/// The least corner of a quad whose child contains the pair.
 pub(crate) fn first_corner(s: u64, t: u64, grid: u64) -> u32
     requires s { s ≤ grid }
     requires t { t ≤ grid }
@@ -22,7 +22,7 @@ pub(crate) fn first_corner(s: u64, t: u64, grid: u64) -> u32
     }
 }
 
-/// Where a pair of a quad lies in the child of a corner.
+/// The pair of a quad as a pair of the child of a corner.
 pub(crate) fn pair_in_child(s: u64, t: u64, corner: u32, grid: u64) -> (u64, u64)
     requires s { s ≤ grid }
     requires t { t ≤ grid }

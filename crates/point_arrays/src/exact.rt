@@ -1,4 +1,4 @@
-//! The whole numerators and the denominators of points.
+//! The whole numerators and denominators of points.
 
 ghost use Rattle.std.specs.Prelude.{◌≡◌, ◌+◌, ◌*◌, ◌≤◌, ◌++◌, length, map, take, drop};
 ghost use Rattle.std.specs.List.{All};
@@ -8,7 +8,7 @@ ghost use Rattle.point_arrays.specs.Points.{CanBePut, all_denominators, all_nume
 use flat_arrays::{Wide, put_item, put_items};
 use ratio128::{Point3, Valued};
 
-// Writes a point's numerators behind the first `at` items.
+// Writes the numerators of a point at place `at`.
 fn put_numerators(out: &mut [Wide], at: usize, p: &Valued<Point3>)
     requires fits { at + 3 ≤ length out.old }
     ensures written { map integer_of (take (at + 3) out.new) ≡ map integer_of (take at out.old) ++ numerators_of p.now }
@@ -20,7 +20,7 @@ fn put_numerators(out: &mut [Wide], at: usize, p: &Valued<Point3>)
     put_items(out, at, &[x, y, z]);
 }
 
-// Fills the array with the points' numerators.
+// Fills the array with the numerators of the points.
 fn fill_numerators(points: &[Valued<Point3>], out: &mut [Wide])
     requires fits { length out.old ≡ 3 * length points.now }
     ensures written { map integer_of out.new ≡ all_numerators points.now }
@@ -31,7 +31,7 @@ fn fill_numerators(points: &[Valued<Point3>], out: &mut [Wide])
     }
 }
 
-// Fills the array with the points' denominators times the common one.
+// Fills the array with the denominators of the points, each times the common factor.
 fn fill_denominators(points: &[Valued<Point3>], common: u128, out: &mut [Wide])
     requires fits { length out.old ≡ length points.now }
     requires put { All (CanBePut common) points.now }
@@ -43,11 +43,10 @@ fn fill_denominators(points: &[Valued<Point3>], common: u128, out: &mut [Wide])
     }
 }
 
-/// Writes the numerators of the points' coordinates into one array, x, y and z point by point, and their denominators into another, one
-/// for each point.
+/// Writes the coordinate numerators of points, x, y and z point by point, and the denominators of the points, one each.
 ///
-/// A denominator is the point's times `common`. It is from 1 to 2^126 - 1, and each numerator is any number but the least `i128`. The
-/// first array has three places for each point, and the second has one. The places behind them stay.
+/// A denominator is that of the point times `common`, from 1 to 2^126 - 1. A numerator is any `i128` but the least. `numerators` has three
+/// places for each point, `denominators` has one, and further places keep their contents.
 pub fn put_exact_points(
     points: &[Valued<Point3>],
     common: u128,

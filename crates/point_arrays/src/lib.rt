@@ -1,5 +1,6 @@
-//! Refined points written into arrays of a caller: the nearest doubles or floats of their coordinates, or whole numerators with the
-//! denominators; and the numerators of texture values. No call takes memory.
+//! Writes refined points into arrays of a caller: as the nearest doubles or floats, or as exact numerators and denominators.
+//!
+//! The crate also writes the numerators of texture values. No call takes memory, and none returns an error.
 #![tactic(auto)]
 
 mod exact;

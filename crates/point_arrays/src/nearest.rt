@@ -1,4 +1,4 @@
-//! The nearest doubles and floats of points.
+//! The doubles and floats nearest to the coordinates of points.
 
 ghost use Rattle.std.specs.Prelude.{◌≡◌, ◌+◌, ◌*◌, ◌≤◌, ◌++◌, ℕ, ℤ, List, length, take, drop};
 ghost use Rattle.std.specs.List.{All};
@@ -9,7 +9,7 @@ ghost use Rattle.point_arrays.specs.Points.{CanBePut, coordinates, coordinates_o
 use nearest_arrays::{put_binary32, put_binary64};
 use ratio128::{Point3, Valued};
 
-// Writes the doubles nearest to a point's coordinates behind the first `at` items.
+// Writes the doubles nearest to the coordinates of a point at place `at`.
 fn put_point64(out: &mut [u64], at: usize, p: &Valued<Point3>, common: u128)
     requires fits { at + 3 ≤ length out.old }
     requires put { CanBePut common p.now }
@@ -22,7 +22,7 @@ fn put_point64(out: &mut [u64], at: usize, p: &Valued<Point3>, common: u128)
     put_binary64(out, at + 2, p.value.z, den);
 }
 
-// Writes the floats nearest to a point's coordinates behind the first `at` items.
+// Writes the floats nearest to the coordinates of a point at place `at`.
 fn put_point32(out: &mut [u32], at: usize, p: &Valued<Point3>, common: u128)
     requires fits { at + 3 ≤ length out.old }
     requires put { CanBePut common p.now }
@@ -35,7 +35,7 @@ fn put_point32(out: &mut [u32], at: usize, p: &Valued<Point3>, common: u128)
     put_binary32(out, at + 2, p.value.z, den);
 }
 
-// Fills the array with the doubles nearest to the points' coordinates.
+// Fills the array with the doubles nearest to the coordinates.
 fn fill_points64(points: &[Valued<Point3>], common: u128, out: &mut [u64])
     requires fits { length out.old ≡ 3 * length points.now }
     requires put { All (CanBePut common) points.now }
@@ -47,7 +47,7 @@ fn fill_points64(points: &[Valued<Point3>], common: u128, out: &mut [u64])
     }
 }
 
-// Fills the array with the floats nearest to the points' coordinates.
+// Fills the array with the floats nearest to the coordinates.
 fn fill_points32(points: &[Valued<Point3>], common: u128, out: &mut [u32])
     requires fits { length out.old ≡ 3 * length points.now }
     requires put { All (CanBePut common) points.now }
@@ -59,10 +59,10 @@ fn fill_points32(points: &[Valued<Point3>], common: u128, out: &mut [u32])
     }
 }
 
-/// Writes the bits of the binary64 numbers nearest to the points' coordinates into the array: x, y and z, point by point.
+/// Writes the bits of the binary64 numbers nearest to the coordinates of points: x, y and z, point by point.
 ///
-/// A coordinate is a numerator over the point's denominator times `common`. That product is from 1 to 2^126 - 1, and each numerator is
-/// any number but the least `i128`. The array has three places for each point. The places behind them stay.
+/// A coordinate is a numerator over the denominator of the point times `common`. That product is from 1 to 2^126 - 1, and a numerator is
+/// any `i128` but the least. `out` has three places for each point, and further places keep their contents.
 pub fn put_points64(points: &[Valued<Point3>], common: u128, out: &mut [u64])
     requires fits { 3 * length points.now ≤ length out.old }
     requires put { All (CanBePut common) points.now }
@@ -73,10 +73,10 @@ pub fn put_points64(points: &[Valued<Point3>], common: u128, out: &mut [u64])
     fill_points64(points, common, &mut out[..3 * points.len()]);
 }
 
-/// Writes the bits of the binary32 numbers nearest to the points' coordinates into the array: x, y and z, point by point.
+/// Writes the bits of the binary32 numbers nearest to the coordinates of points: x, y and z, point by point.
 ///
-/// A coordinate is a numerator over the point's denominator times `common`. That product is from 1 to 2^126 - 1, and each numerator is
-/// any number but the least `i128`. The array has three places for each point. The places behind them stay.
+/// A coordinate is a numerator over the denominator of the point times `common`. That product is from 1 to 2^126 - 1, and a numerator is
+/// any `i128` but the least. `out` has three places for each point, and further places keep their contents.
 pub fn put_points32(points: &[Valued<Point3>], common: u128, out: &mut [u32])
     requires fits { 3 * length points.now ≤ length out.old }
     requires put { All (CanBePut common) points.now }

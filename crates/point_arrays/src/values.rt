@@ -7,7 +7,7 @@ ghost use Rattle.point_arrays.specs.Values.{all_value_numerators, value_numerato
 use flat_arrays::{Wide, put_items};
 use ratio128::Point2;
 
-// Writes a texture value's numerators behind the first `at` items.
+// Writes the numerators of a texture value at place `at`.
 fn put_value(out: &mut [Wide], at: usize, p: &Point2)
     requires fits { at + 2 ≤ length out.old }
     ensures written { map integer_of (take (at + 2) out.new) ≡ map integer_of (take at out.old) ++ value_numerators_of p.now }
@@ -29,8 +29,8 @@ fn fill_values(values: &[Point2], out: &mut [Wide])
     }
 }
 
-/// Writes the numerators of texture values into an array, u and v value by value. The array has two places for each value. The places
-/// behind them stay.
+/// Writes the numerators of texture values, u and v value by value. `out` has two places for each value, and further places keep their
+/// contents.
 pub fn put_exact_values(values: &[Point2], out: &mut [Wide])
     requires fits { 2 * length values.now ≤ length out.old }
     ensures written { map integer_of (take (2 * length values.now) out.new) ≡ all_value_numerators values.now }

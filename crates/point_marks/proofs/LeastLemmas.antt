@@ -21,7 +21,7 @@ halves node = elim (cases_eq node (2 * (node / 2))) [
   | inr odd ↦ inr (omega (arith, odd))
 ]
 
--- no mark stands at a child of a node that is not marked
+-- No child of an unmarked node is marked.
 pub child-unmarked : (leaves node : ℕ) (tree : List Bool) → IsTree leaves tree → 1 < node → node < 2 * leaves → get_or tree (node / 2) false ≡ false → get_or tree node false ≡ false
 child-unmarked leaves node tree is low high parent =
     let joined = is.joined (node / 2) (omega arith) (omega arith) (λ e. omega (arith, e)) in
@@ -31,7 +31,7 @@ child-unmarked leaves node tree is low high parent =
       | inr odd ↦ subst (λ n. get_or tree n false ≡ false) (sym odd) children.1
     ]
 
--- and so at no node below the root; `fuel` is at least the number of the node
+-- No node below an unmarked root is marked; `fuel` is at least the number of the node.
 none-within : (leaves : ℕ) (tree : List Bool) → IsTree leaves tree → get_or tree 1 false ≡ false → (fuel node : ℕ) → node ≤ fuel → 0 < node → node < 2 * leaves → get_or tree node false ≡ false
 none-within leaves tree is root zero node h low high = absurd (omega (arith, h, low))
 none-within leaves tree is root (suc fuel) node h low high = elim (cases_eq node 1) [

@@ -89,7 +89,7 @@ module _ (len leaves marked : ℕ) (old marks : List Bool) (are : AreMarks len l
   pub taken-least : (number : ℕ) → Some number ≡ least_mark (drop leaves old) → Some number ≡ least_mark marks
   taken-least number least = (taken number least).2
 
-  -- where the root is not marked there is none
+  -- An unmarked root means that no number is marked.
   pub taken-none : (root : Bool) → root ≡ get_or old 1 root → root ≡ false → None ≡ least_mark marks
   taken-none root is unmarked_root = sym (least-none marks none)
     where

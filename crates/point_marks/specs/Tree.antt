@@ -3,29 +3,29 @@ use Rattle.std.specs.Prelude.{ℕ, ◌≡◌, ◌+◌, ◌*◌, ◌<◌, ◌≤�
 use Rattle.std.specs.List.{count_by, position}
 use Rattle.std.specs.Int.{IsPowerOfTwo}
 
--- the least number that is marked
+-- The least marked number.
 abbrev pub least_mark : List Bool → Option ℕ
 least_mark marks = position (λ is_marked. is_marked) marks
 
--- how many numbers are marked
+-- How many numbers are marked.
 abbrev pub mark_count : List Bool → ℕ
 mark_count marks = count_by (λ is_marked. is_marked) marks
 
--- a node is marked where one of its children is
+-- A node is marked exactly if one of its children is.
 abbrev pub IsJoined : List Bool → ℕ → Type 0
 IsJoined tree node = get_or tree node false ≡ (get_or tree (2 * node) false || get_or tree (2 * node + 1) false)
 
--- a tree over so many leaves, whose nodes are marked as their children say, except one
+-- A tree over `leaves` leaves in which every node but `broken` agrees with its children.
 pub record IsTreeBut (broken leaves : ℕ) (tree : List Bool) : Type 0 where
   pub power : IsPowerOfTwo leaves
   pub long : length tree ≡ 2 * leaves
   pub joined : (node : ℕ) → 0 < node → node < leaves → (node ≡ broken → ⊥) → IsJoined tree node
 
--- no node is numbered 0
+-- A tree in which every node agrees with its children; no node has the number 0.
 abbrev pub IsTree : ℕ → List Bool → Type 0
 IsTree leaves tree = IsTreeBut 0 leaves tree
 
--- the leaves are the marks of so many numbers, and no marks behind them
+-- The first `len` leaves are the marks of the numbers, and no other leaf is marked.
 pub record AreMarks (len leaves marked : ℕ) (tree : List Bool) : Type 0 where
   pub nodes : IsTree leaves tree
   pub small : len < 2 ^ 32
@@ -33,7 +33,7 @@ pub record AreMarks (len leaves marked : ℕ) (tree : List Bool) : Type 0 where
   pub past : (number : ℕ) → len ≤ number → get_or (drop leaves tree) number false ≡ false
   pub counted : marked ≡ mark_count (take len (drop leaves tree))
 
--- a node is the first that is marked in its row, which begins at a node `first` so many rows above the leaves
+-- The node is the first marked one of its row. The row begins at node `first`, `height` rows above the leaves.
 pub record IsFirstInRow (leaves node : ℕ) (tree : List Bool) : Type 0 where
   pub first : ℕ
   pub height : ℕ

@@ -1,4 +1,7 @@
-//! Marks of numbers from 0 up to a count, the least of which is found without a scan.
+//! Marks on the numbers from 0 up to a count, with a fast search for the least marked number.
+//!
+//! `Marks` keeps a binary tree over the numbers: a node is marked if one of its children is. A node takes one byte, and each number needs
+//! fewer than four nodes.
 #![tactic(auto)]
 
 mod marks;

@@ -8,8 +8,10 @@ use ratio128::Memory;
 use std::alloc::Global;
 use std::marker::Model;
 
-/// Marks of the numbers from 0 up to a count. The least marked number is found in a number of steps that grows with the
-/// logarithm of the count.
+/// Marks on the numbers from 0 up to a count.
+///
+/// Marking a number and taking the least one visit at most two nodes in each row of a tree. The tree has one row more than the logarithm of
+/// the count to base 2, rounded up. No clause counts these steps.
 #[derive(Drop)]
 pub struct Marks {
     tree: Vec<bool>,
@@ -30,7 +32,7 @@ impl Model for Marks {
 }
 
 impl Marks {
-    /// No marks, for so many numbers. It takes all memory of the marks, and want of memory is its one fault.
+    /// Returns marks for `len` numbers, none of them marked. Only this call takes memory. `Memory`: memory ran out.
     pub fn new(alloc: Global, len: u32) -> Result<Marks, Memory>
         ensures { IfOk result (λ marks. marks ≡ replicate len false) }
     {
@@ -43,7 +45,7 @@ impl Marks {
         })
     }
 
-    /// How many numbers there are.
+    /// How many numbers there are, marked or not.
     pub fn len(&self) -> u32
         ensures { result ≡ length self.now }
     {
@@ -65,7 +67,7 @@ impl Marks {
         self.marked
     }
 
-    /// Marks a number. It takes no memory.
+    /// Marks a number. It may be marked already.
     pub fn mark(&mut self, number: u32)
         requires { number < length self.old }
         ensures { self.new ≡ set self.old number true }
@@ -76,7 +78,7 @@ impl Marks {
         }
     }
 
-    /// The least marked number, which is marked no more, or `None` where no number is marked. It takes no memory.
+    /// Returns the least marked number and removes its mark, or returns `None` if no number is marked.
     pub fn take_least(&mut self) -> Option<u32>
         ensures least { result ≡ least_mark self.old }
         ensures inside { IfSome result (λ number. number < length self.old) }

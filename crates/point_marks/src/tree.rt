@@ -3,7 +3,7 @@
 ghost use Rattle.std.specs.Prelude.{◌≡◌, ◌+◌, ◌*◌, ◌<◌, ◌||◌, true, false, Some, drop, get_or, set, length, if◌then◌else◌};
 ghost use Rattle.point_marks.specs.Tree.{IsTree, IsTreeBut, least_mark};
 
-// The left child of a node where that child is marked, and the right child otherwise.
+// The left child of a node if that child is marked, and the right child otherwise.
 fn least_child(tree: &Vec<bool>, node: usize) -> usize
     requires { 2 * node + 1 < length tree.now.items }
     ensures { result ≡ (if get_or tree.now.items (2 * node) false then 2 * node else 2 * node + 1) }
@@ -12,7 +12,7 @@ fn least_child(tree: &Vec<bool>, node: usize) -> usize
     if tree[left] { left } else { left + 1 }
 }
 
-/// The number of the first leaf that is marked, counted from 0 among the leaves. The root is marked.
+/// The number of the first marked leaf, counted from 0 among the leaves. The root is marked.
 pub(crate) fn least_leaf(tree: &Vec<bool>, leaves: usize) -> usize
     requires tree { IsTree leaves tree.now.items }
     requires some { get_or tree.now.items 1 false ≡ true }
@@ -25,7 +25,7 @@ pub(crate) fn least_leaf(tree: &Vec<bool>, leaves: usize) -> usize
     node - leaves
 }
 
-// Whether one of the two children of a node is marked.
+// Whether a child of the node is marked.
 fn has_marked_child(tree: &Vec<bool>, node: usize) -> bool
     requires { 2 * node + 1 < length tree.now.items }
     ensures { result ≡ (get_or tree.now.items (2 * node) false || get_or tree.now.items (2 * node + 1) false) }
@@ -33,7 +33,7 @@ fn has_marked_child(tree: &Vec<bool>, node: usize) -> bool
     tree[2 * node] || tree[2 * node + 1]
 }
 
-// Writes to a node what its children say, and so on to the nodes above it, up to one that says so already.
+// Marks a node exactly if one of its children is marked, then the nodes above it, until one is correct already.
 fn mend(tree: &mut Vec<bool>, leaves: usize, node: usize)
     requires node { node < leaves }
     requires tree { IsTreeBut node leaves tree.old.items }
@@ -47,7 +47,7 @@ fn mend(tree: &mut Vec<bool>, leaves: usize, node: usize)
     }
 }
 
-/// Marks or unmarks a leaf, by its number among the leaves, and mends the nodes above it.
+/// Marks or unmarks a leaf, given its number among the leaves, and corrects the nodes above it.
 pub(crate) fn put_leaf(tree: &mut Vec<bool>, leaves: usize, number: usize, is_marked: bool)
     requires number { number < leaves }
     requires tree { IsTree leaves tree.old.items }

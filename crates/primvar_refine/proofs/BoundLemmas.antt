@@ -18,7 +18,7 @@ use Rattle.primvar_refine.specs.Step.{IsTooBig}
 use Rattle.primvar_refine.specs.Greatest.{IsGreatestAt}
 use Rattle.primvar_refine.proofs.MadeLemmas.{all-below-fold}
 
--- the greater of two, as the code tells it
+-- the code's greater of two numbers is their maximum
 pub ord-max : (a b : ℕ) → ord_max nat_cmp a b ≡ max a b
 ord-max a b = grind (arith, nat_tests)
 
@@ -56,19 +56,19 @@ module _ {P : Type 0} (numbers : P → List ℤ) (values : List (Valued P)) (goo
   row-is : (i : ℕ) (v : Valued P) → i < length values → v ≡ get_or values i v → get_or (rows_of numbers values) i (row_of numbers v) ≡ row_of numbers v
   row-is i v inside e = get_or-map (row_of numbers) values i v (row_of numbers v) inside ∙ ap (row_of numbers) (sym e)
 
-  -- there are as many rows
+  -- there is a row for each value
   below-rows : (i : ℕ) → i < length values → i < length (rows_of numbers values)
   below-rows i inside = subst (λ n. i < n) (sym (length-map values (row_of numbers))) inside
 
-  -- its denominator is at least 1
+  -- the denominator of a value is above 0
   pub den-positive : (i : ℕ) (v : Valued P) → i < length values → v ≡ get_or values i v → 0 < v.den
   den-positive i v inside e = subst (λ (row : Row). 0 < row.den) (row-is i v inside e) (good.positive i (row_of numbers v) (below-rows i inside))
 
-  -- and within the bound
+  -- the denominator of a value is within the bound
   pub den-short : (i : ℕ) (v : Valued P) → i < length values → v ≡ get_or values i v → v.den ≤ number_bound
   den-short i v inside e = subst (λ (row : Row). row.den ≤ number_bound) (row-is i v inside e) (good.short i (row_of numbers v) (below-rows i inside))
 
-  -- so are its numbers
+  -- the numerators of a value are within the bound
   pub numbers-kept : (i : ℕ) (v : Valued P) → i < length values → v ≡ get_or values i v → greatest_amount (numbers v.value) ≤ number_bound
   numbers-kept i v inside e =
       subst (λ (row : Row). greatest_amount row.numbers ≤ number_bound) (row-is i v inside e) (good.kept i (row_of numbers v) (below-rows i inside))
@@ -85,7 +85,7 @@ module _ {P : Type 0} (numbers : P → List ℤ) (values : List (Valued P)) (goo
       ∙ ap (λ row. least_bound (take i rows ++ row ∷ [])) (sym (row-is i v inside e))
       ∙ ap least_bound (sym (take_more rows i (row_of numbers v) (below-rows i inside)))
 
-  -- and so is what they are rounded up to
+  -- the number to which they are rounded up is within the bound
   pub rounded-short : (i r : ℕ) (v : Valued P) → i < length values → v ≡ get_or values i v → r ≡ rounded_up (greatest_amount (numbers v.value)) v.den → r ≤ number_bound
   rounded-short i r v inside e k =
       let le = rounded-le (greatest_amount (numbers v.value)) v.den (den-positive i v inside e) in

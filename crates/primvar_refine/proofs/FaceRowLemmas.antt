@@ -1,4 +1,4 @@
--- What is made of a face's mask is the row of the face.
+-- A row made from a face's mask is the row of the face.
 use Rattle.std.proofs.Common.{◌≡◌, ℕ, pos, List, [], ◌∷◌, get_or, refl, ap, sym, ◌∙◌, subst}
 use Rattle.std.specs.List.{AllByRecursion}
 use Rattle.subdiv_model.specs.Level.{Level}
@@ -24,7 +24,7 @@ module _ (level : Level) (f : ℕ) where
       same-terms q [] h = tt
       same-terms q (t ∷ terms) h = (ap (weighted t.weight q) h.0, same-terms q terms h.1)
 
-  -- what is made of a face's mask is the row of the face
+  -- a row made from a face's mask is the row of the face
   pub face-row : (rows : List Row) (row : Row) → IsMade level rows (face_mask level f) row → IsRowOf level rows (OfFace f) row
   face-row rows row made = record {
     den_is = made.den_is ∙ sym (corner-dens level f (dens_of rows));

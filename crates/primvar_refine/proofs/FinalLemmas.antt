@@ -40,7 +40,7 @@ module _ (parent : Topology) (child : ChildTopology) (scheme : Scheme) (rows : L
       is.faces.each p f among among (get_or_append_left child.origins (map FromFace hidden) (FromVertex 0) p inside ∙ e)
   from-face p inside (FromEdge d) e h = absurd (cc)
 
-  -- and the others
+  -- each child point is made, whatever its origin
   pub each-made : (p : ℕ) → p < length child.origins → IsMade parent.level rows (mask_from parent.level scheme (origin_at child.origins p)) (row_at made p)
   each-made p inside = at (is_from_face (origin_at child.origins p)) refl
     where
@@ -56,7 +56,7 @@ module _ (level : Level) (scheme : Scheme) (origins : List PointOrigin) (rows re
   none : Mask
   none = record { terms = []; denominator = 0 }
 
-  -- the same at any default
+  -- the row at a place is the same at any default
   made-at : (p : ℕ) (d : Row) → p < length refined → IsMade level rows (mask_from level scheme (origin_at origins p)) (get_or refined p d)
   made-at p d inside =
       let below : p < length origins = omega (arith, inside, count) in
@@ -76,7 +76,7 @@ module _ (level : Level) (scheme : Scheme) (origins : List PointOrigin) (rows re
       ∙ sym (get_or-map (mask_denominator (source_denominator level (dens_of rows))) (masks_from level scheme origins) k (mask_from level scheme (FromVertex 0)) 0
       (subst (λ n. k < n) (sym (length-map origins (mask_from level scheme))) among)))
 
-  -- each column stands for the refined values
+  -- each column has the refined values
   stands : (column : ℕ) (values : List Value) → StandFor rows column values → StandFor refined column (values_from level scheme origins values)
   stands column values stand = record {
     count = length-map (masks_from level scheme origins) (mask_value (source_value level values)) ∙ length-map origins (mask_from level scheme) ∙ sym count;
@@ -94,7 +94,7 @@ module _ (level : Level) (scheme : Scheme) (origins : List PointOrigin) (rows re
       turned : (x : Value) (n : ℤ) (c : ℕ) → IsOver c x n → x.num *ℤ pos c ≡ n *ℤ pos x.den
       turned x n c e = *ℤ_comm x.num (pos c) ∙ e ∙ *ℤ_comm (pos x.den) n
 
-  -- all that is promised of them
+  -- all clauses of the result
   pub are-refined : AreRefined level scheme origins rows refined
   are-refined = record {
     dens = same-dens;
@@ -111,7 +111,7 @@ pub cut-back : {X : Type 0} (n m : ℕ) (xs rest ys : List X) → length xs ≡ 
 cut-back n m xs rest ys same e =
     e ∙ ap (take n) (take-append-le m xs rest (omega (arith, same)) ∙ take_all m xs (omega (arith, same)))
 
--- of the list that is made the child points come first
+-- in the new list the child points come first
 pub cut-refined : (parent : Topology) (child : ChildTopology) (scheme : Scheme) (rows : List Row) (survey : Survey) (hidden : List ℕ) (made refined : List Row) (n : ℕ)
     → IsSurvey parent scheme child.origins (dens_of rows) survey → greatest_of survey.dens.items * least_bound rows ≤ number_bound
     → AreAllMade parent child scheme rows hidden made → n ≡ length child.origins → n ≤ length made → refined ≡ take n made
@@ -148,7 +148,7 @@ no-origin parent is empty (FromEdge e) within =
     wrong : (v n : ℕ) → n ≡ 0 → nat_lt v n ≡ true → ⊥
     wrong v n e h = grind (arith, nat_tests, e, h)
 
--- so that there is none
+-- without points there is no origin
 pub no-origins : (parent : Topology) (child : ChildTopology) (scheme : Scheme) → IsTopology parent → HasParent child → CanRefine parent child scheme
     → parent.level.point_count ≡ 0 → length child.origins ≡ 0
 no-origins parent child scheme is has can empty = at (length child.origins) refl
@@ -159,7 +159,7 @@ no-origins parent child scheme is has can empty = at (length child.origins) refl
         let inside : 0 < length child.origins = omega (arith, e) in
         absurd (no-origin parent is empty (origin_at child.origins 0) (origin-within parent child scheme has can 0 inside))
 
--- and no value is what is refined
+-- for no origin the refined values are an empty list
 pub empty-refined : (parent : Topology) (child : ChildTopology) (scheme : Scheme) (rows refined : List Row) (survey : Survey) → IsTopology parent → HasParent child → CanRefine parent child scheme
     → IsSurvey parent scheme child.origins (dens_of rows) survey → greatest_of survey.dens.items * least_bound rows ≤ number_bound
     → parent.level.point_count ≡ 0 → length refined ≡ 0 → AreRefined parent.level scheme child.origins rows refined

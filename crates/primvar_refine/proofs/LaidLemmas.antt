@@ -1,4 +1,4 @@
--- What the survey found is what making the values asks.
+-- The survey gives all conditions for making the values.
 use Rattle.std.proofs.Common.{◌≡◌, ℕ, zero, suc, ◌+◌, ◌-◌, ◌*◌, ◌<◌, ◌≤◌, Bool, true, false, cond, not, ◌&&◌, List, [], ◌∷◌, ◌++◌, length, map, get_or, arith, refl, ap, sym, ◌∙◌, subst, inl, inr, ◌⊎◌, length-append}
 use Rattle.std.specs.List.{All, AllByRecursion, filter, range_with_len, sum_by}
 use Rattle.std.proofs.lemmas.Bool.{cases_lt, and_parts}
@@ -28,7 +28,7 @@ use Rattle.primvar_refine.proofs.WidthLemmas.{sum_bound-short}
 use Rattle.child_masks.proofs.SourceLemmas.{corner-dens, map-same}
 use Rattle.child_masks.proofs.DenLemmas.{some-place, named-den}
 
--- what is kept of a list passes the test, and has what all of it have
+-- an item that a filter keeps passes the test, and has the properties of all items
 kept-both : {X : Type 0} (test : X → Bool) (P : X → Type 0) (xs : List X) → AllByRecursion P xs → AllByRecursion (λ x. P x × (test x ≡ true)) (filter test xs)
 kept-both test P [] h = tt
 kept-both test P (x ∷ xs) h = here (test x) refl (kept-both test P xs h.1)
@@ -49,12 +49,12 @@ filter-same p q [] h = refl
 filter-same p q (x ∷ xs) h =
     ap (λ b. cond b (x ∷ filter p xs) (filter p xs)) h.0 ∙ ap (λ l. cond (q x) (x ∷ l) l) (filter-same p q xs h.1)
 
--- what follows from what all have
+-- a weaker claim holds for all items
 weaker-all : {X : Type 0} (P Q : X → Type 0) → ((x : X) → P x → Q x) → (xs : List X) → AllByRecursion P xs → AllByRecursion Q xs
 weaker-all P Q f [] h = tt
 weaker-all P Q f (x ∷ xs) h = (f x h.0, weaker-all P Q f xs h.1)
 
--- there is room for the first of them
+-- the list is long enough for the first of them
 pub first-room : (made after : List Row) (dens more : List ℕ) (n : ℕ) → dens_of made ≡ dens ++ more → length after ≡ length made → n ≡ length dens → n ≤ length after
 first-room made after dens more n e count same =
     omega (arith, ap length e, length-map made (λ (r : Row). r.den), length-append dens more, count, same)
@@ -83,11 +83,11 @@ module _ (width : Width) (parent : Topology) (child : ChildTopology) (scheme : S
   dens-are : survey.dens.items ≡ map own_den child.origins
   dens-are = survey_is.dens ∙ map-map (mask_denominator (source_denominator parent.level (dens_of rows))) (mask_from parent.level scheme) child.origins
 
-  -- there is one for each child point
+  -- there is one denominator for each child point
   pub dens-counted : length survey.dens.items ≡ length child.origins
   dens-counted = ap length dens-are ∙ length-map child.origins own_den
 
-  -- each is short
+  -- the denominator of each child point is short
   child-short : (p : ℕ) → p < length child.origins → IsShort width most (own_den (origin_at child.origins p))
   child-short p inside =
       let inside-dens : p < length survey.dens.items = omega (arith, inside, dens-counted) in
@@ -100,7 +100,7 @@ module _ (width : Width) (parent : Topology) (child : ChildTopology) (scheme : S
       chain : (a b : ℕ) → a ≤ b → b ≤ sum_bound width → a ≤ sum_bound width
       chain a b h k = omega (arith, h, k)
 
-  -- and so is that of a face that some mask names
+  -- the denominator of a face that some mask uses is short
   face-short : (f : ℕ) → f < length parent.level.polygons → get_or named f false ≡ true → IsShort width most (face_den f)
   face-short f inside name =
       let none : Mask = record { terms = []; denominator = 0 } in
@@ -130,7 +130,7 @@ module _ (width : Width) (parent : Topology) (child : ChildTopology) (scheme : S
     pub hidden-inside : All (λ f. f < length parent.level.polygons) hidden
     hidden-inside = All-from_recursion (λ f. f < length parent.level.polygons) hidden (weaker-all _ (λ f. f < length parent.level.polygons) (λ f h. h.0) hidden hidden-known)
 
-    -- the denominators of hidden faces, as the survey has them
+    -- the denominators of hidden faces, from the survey
     pub hidden-dens : map (λ f. get_or survey.faces.items f 0) hidden ≡ map own_den (map FromFace hidden)
     hidden-dens =
         map-same (λ f. get_or survey.faces.items f 0) (λ f. own_den (FromFace f)) hidden
@@ -148,7 +148,7 @@ module _ (width : Width) (parent : Topology) (child : ChildTopology) (scheme : S
             small : (n : ℕ) → n ≤ number_bound → within_bound n ≡ n
             small n k = grind (arith, nat_tests, k)
 
-    -- their denominators are short
+    -- the denominators of hidden faces are short
     hidden-short : (i : ℕ) → i < length hidden → IsShort width most (own_den (FromFace (get_or hidden i 0)))
     hidden-short i inside =
         let known = All-from_recursion (λ f. (f < length parent.level.polygons) × (is_hidden child.origins named f ≡ true)) hidden hidden-known i 0 inside in
@@ -159,7 +159,7 @@ module _ (width : Width) (parent : Topology) (child : ChildTopology) (scheme : S
     abbrev all : List PointOrigin
     all = all_origins child.origins hidden
 
-    -- and so are all
+    -- the denominators of all new values are short
     all-short : (p : ℕ) → p < length all → IsShort width most (own_den (origin_at all p))
     all-short p inside = at (cases_lt p (length child.origins))
       where
@@ -203,7 +203,7 @@ module _ (width : Width) (parent : Topology) (child : ChildTopology) (scheme : S
           };
         }
 
-    -- they are the hidden faces of the step
+    -- the hidden faces are those of the step
     hidden-same : hidden ≡ hidden_faces parent.level scheme child.origins
     hidden-same =
         hidden_is

@@ -63,7 +63,7 @@ rounded-above a d h =
     bound : (a d x y : ℕ) → 0 < d → a + (d - 1) < x + d → x ≡ y → a ≤ y
     bound a d x y h k e = omega (arith, h, k, e)
 
--- so that the least bound is one of all values
+-- the least bound bounds all values
 pub least-bounds : (rows : List Row) → AreGood rows → AreWithin (least_bound rows) rows
 least-bounds rows good = λ v d inside.
     let up : Row → ℕ = λ r. rounded_up (greatest_amount r.numbers) r.den in
@@ -80,7 +80,7 @@ module _ (level : Level) (rows : List Row) (good : AreGood rows) (mask : Mask) (
   abbrev den_of : Term → ℕ
   den_of t = source_denominator level (dens_of rows) t.source
 
-  -- what the denominators have in common
+  -- the least common multiple of the denominators
   abbrev pub multiple : ℕ
   multiple = lcm_of_all (map (λ t. den_of t) mask.terms)
 
@@ -90,7 +90,7 @@ module _ (level : Level) (rows : List Row) (good : AreGood rows) (mask : Mask) (
   each-divides m [] h d = tt
   each-divides m (t ∷ terms) h d = (subst (λ a. a ∣ m) (sym h.0.den_is) d.0, each-divides m terms h.1 d.1)
 
-  -- and what they have in common
+  -- each denominator divides the least common multiple
   divides : AllByRecursion (λ t. (row t.source).den ∣ multiple) mask.terms
   divides = each-divides multiple mask.terms held (all-divide_lcm (map (λ t. den_of t) mask.terms))
 
@@ -117,7 +117,7 @@ module _ (level : Level) (rows : List Row) (good : AreGood rows) (mask : Mask) (
       each-over column values stand terms h.1 d.1,
     )
 
-    -- and within its bound
+    -- each source is whole over the common multiple and within its bound
     each-within : (most : ℕ) → AreWithin most rows → (terms : List Term) → AllByRecursion (λ t. IsRowOf level rows t.source (row t.source)) terms
         → AllByRecursion (λ t. (row t.source).den ∣ multiple) terms
         → AllByRecursion (λ t. ((row t.source).den ∣ multiple) × (greatest_amount (row t.source).numbers ≤ (row t.source).den * most)) terms
@@ -147,7 +147,7 @@ module _ (level : Level) (rows : List Row) (good : AreGood rows) (mask : Mask) (
             let none : 0 + total_weight mask.terms * (multiple * most) ≡ total_weight mask.terms * (multiple * most) = omega arith in
             none ∙ ap (λ n. n * (multiple * most)) (mean-total mask mean) ∙ sym (mul_assoc mask.denominator multiple most)
 
-  -- and the terms can be summed, where the denominator and all amounts over it are short
+  -- the terms can be summed if the denominator and all amounts over it are short
   module _ (width : Width) (short : mask.denominator * multiple ≤ sum_bound width) (kept : mask.denominator * multiple * least_bound rows ≤ sum_bound width)
       (joined : IsTrue (is_joined mask)) (positive : AllByRecursion (λ t. 0 < (row t.source).den) mask.terms) where
     each-summand : (terms : List Term) → AllByRecursion (λ t. IsRowOf level rows t.source (row t.source)) terms → AllByRecursion (λ t. (row t.source).den ∣ multiple) terms
@@ -170,14 +170,14 @@ module _ (level : Level) (rows : List Row) (good : AreGood rows) (mask : Mask) (
     each-positive [] h p = tt
     each-positive (t ∷ terms) h p = (subst (λ a. 0 < a) h.0.den_is p.0, each-positive terms h.1 p.1)
 
-    -- and so are the weights
+    -- the weights are above 0
     weighed-terms : All (λ t. 0 < t.weight) mask.terms
     weighed-terms = λ i d inside. above (get_or mask.terms i d).weight (test-at (λ t. nat_lt 0 t.weight) mask.terms i d (and_parts _ _ joined).1 inside)
       where
         above : (w : ℕ) → nat_lt 0 w ≡ true → 0 < w
         above w e = grind (arith, nat_tests, e)
 
-    -- so that they can be
+    -- the terms can be summed
     pub can-sum : CanSum width multiple (least_bound rows) (length (row_at rows 0).numbers) row mask.terms
     can-sum = record {
       each = All-from_recursion _ mask.terms (each-summand mask.terms held divides positive);
@@ -211,11 +211,11 @@ module _ (width : Width) (level : Level) (rows made : List Row) (places : List �
   same-terms : IsPermutation defined.terms mask.terms
   same-terms = IsPermutation-sym mask.terms defined.terms (same_weights-permuted mask defined is.joined joined is.same)
 
-  -- so that each source has a row
+  -- each source has a row
   pub terms-there : All (λ t. HasRow rows made places t.source) mask.terms
   terms-there = All-permutation (λ t. HasRow rows made places t.source) defined.terms mask.terms same-terms can.sources.there
 
-  -- which is its own
+  -- each source has a row of its own
   held : AllByRecursion (λ t. IsRowOf level rows t.source (own t.source)) mask.terms
   held = recursion_from_All _ mask.terms (All-permutation (λ t. IsRowOf level rows t.source (own t.source)) defined.terms mask.terms same-terms can.sources.held)
 
@@ -230,7 +230,7 @@ module _ (width : Width) (level : Level) (rows made : List Row) (places : List �
   den-here : den ≡ mask.denominator * common
   den-here = can.den_is ∙ sym (same-denominator mask defined is.joined joined is.same (source_denominator level (dens_of rows)))
 
-  -- and the multiple by which its weights are taken
+  -- the multiple for the weights by the mask of the code
   common-is : common ≡ den / mask.denominator
   common-is = sym (ap (λ n. n / mask.denominator) den-here ∙ mul-div_cancel_left common (mean-positive mask is.mean))
 
@@ -241,7 +241,7 @@ module _ (width : Width) (level : Level) (rows made : List Row) (places : List �
       (can-sum level rows can.good mask is.mean own held width (subst (λ n. n ≤ sum_bound width) den-here can.short)
       (subst (λ n. n * least_bound rows ≤ sum_bound width) den-here can.kept) is.joined positive)
 
-  -- and the sum has the value of the defined mask
+  -- the sum has the value of the defined mask
   pub terms-made : (like : List ℤ) → length like ≡ length (row_at rows 0).numbers
       → IsMade level rows defined (record { numbers = term_sums (den / mask.denominator) own (zeros like) mask.terms; den = den })
   terms-made like wide =
@@ -254,7 +254,7 @@ module _ (width : Width) (level : Level) (rows made : List Row) (places : List �
   pub terms-count : length mask.terms ≡ length defined.terms
   terms-count = length_permutation defined.terms mask.terms same-terms
 
-  -- the same of terms that are those of the mask, over m
+  -- the sum of terms that are those of the mask, over m
   module _ (terms : List Term) (terms_are : terms ≡ mask.terms) (q m : ℕ) (q_is : q ≡ mask.denominator) (m_is : m ≡ den / q)
       (like : List ℤ) (wide : length like ≡ length (row_at rows 0).numbers) where
     m-here : den / mask.denominator ≡ m
@@ -264,7 +264,7 @@ module _ (width : Width) (level : Level) (rows made : List Row) (places : List �
     pub given-there : All (λ t. HasRow rows made places t.source) terms
     given-there = subst (λ l. All (λ (t : Term). HasRow rows made places t.source) l) (sym terms_are) terms-there
 
-    -- they can be summed
+    -- the given terms can be summed
     pub given-can : CanSum width m (least_bound rows) (length like) own terms
     given-can =
         subst (λ l. CanSum width m (least_bound rows) (length like) own l) (sym terms_are)
@@ -278,6 +278,6 @@ module _ (width : Width) (level : Level) (rows made : List Row) (places : List �
         (ap (λ n. term_sums n own (zeros like) mask.terms) m-here ∙ ap (λ l. term_sums m own (zeros like) l) (sym terms_are) ∙ sym are)
         (terms-made like wide)
 
-    -- they are as many
+    -- the given terms are as many as those of the defined mask
     pub given-count : length terms ≡ length defined.terms
     given-count = ap length terms_are ∙ terms-count

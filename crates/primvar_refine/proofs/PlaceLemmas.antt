@@ -13,7 +13,7 @@ use Rattle.child_masks.specs.Masks.{has_origin, origin_at}
 use Rattle.child_masks.proofs.OriginLemmas.{any-at}
 use Rattle.primvar_refine.specs.Places.{is_hidden, all_origins, IsPlace, ArePlaces}
 
--- a point comes from the origin where its place is found, and none where there is no place
+-- a point with a place comes from the origin, and no point comes from an origin without a place
 pub found : (origins : List PointOrigin) (origin : PointOrigin) (p : ℕ) → position (same_origin origin) origins ≡ Some p
     → (p < length origins) × (origin_at origins p ≡ origin) × (has_origin origins origin ≡ true)
 found origins origin p e =
@@ -30,7 +30,7 @@ place-found origins hidden f p named e =
       there = λ _. get_or_append_left origins (map FromFace hidden) (FromVertex 0) p at.0 ∙ at.1;
     }
 
--- and hides no face
+-- a face with a child point is not hidden
 pub kept-found : (origins : List PointOrigin) (hidden : List ℕ) (f p : ℕ) (named : Bool) → position (same_origin (FromFace f)) origins ≡ Some p
     → hidden ≡ hidden ++ (if named && not (has_origin origins (FromFace f)) then f ∷ [] else [])
 kept-found origins hidden f p named e =
@@ -103,7 +103,7 @@ hidden-goes_on origins named hidden now f n en before e =
     ∙ ap (filter test) (sym (range-push 0 f))
     ∙ ap (λ k. filter test (range_with_len 0 k)) (sym (add-one f))
 
--- and its place
+-- one more face, with its place
 pub places-go_on : (origins : List PointOrigin) (named : List Bool) (hidden now more : List ℕ) (f place : ℕ) (places after : List ℕ) (n : Bool) → n ≡ get_or named f false
     → now ≡ hidden ++ more → after ≡ places ++ place ∷ []
     → ArePlaces origins named hidden f places → IsPlace origins now f n place → ArePlaces origins named now (f + 1) after
@@ -137,12 +137,12 @@ pub hidden-short : (origins : List PointOrigin) (named : List Bool) (hidden : Li
 hidden-short origins named hidden f e =
     omega (arith, ap length e, filter-short (is_hidden origins named) (range_with_len 0 f), length-range_with_len 0 f)
 
--- what passes has a place
+-- an item that passes has a place
 exists-at : {X : Type 0} (p : X → Bool) (xs : List X) → list_any p xs ≡ true → position_or_len p xs < length xs
 exists-at p [] h = absurd (cc)
 exists-at p (x ∷ xs) h = grind (arith, nat_tests, exists-at p xs)
 
--- where no place is found there is none
+-- no item passes if none has a place
 pub none-found : {X : Type 0} (p : X → Bool) (xs : List X) → position p xs ≡ None → list_any p xs ≡ false
 none-found p xs e = here (list_any p xs) refl
   where
@@ -156,7 +156,7 @@ none-found p xs e = here (list_any p xs) refl
         wrong : (t : Bool) (i : ℕ) → t ≡ true → cond t (Some i) None ≡ None → ⊥
         wrong t i there gone = grind (arith, nat_tests, there, gone)
 
--- so that the face is hidden if it is named
+-- a face without a child point is hidden if some mask uses it
 pub kept-none : (origins : List PointOrigin) (hidden now : List ℕ) (f : ℕ) (named : Bool) → position (same_origin (FromFace f)) origins ≡ None → named ≡ true
     → now ≡ hidden ++ f ∷ [] → now ≡ hidden ++ (if named && not (has_origin origins (FromFace f)) then f ∷ [] else [])
 kept-none origins hidden now f named e yes_named h =

@@ -1,4 +1,4 @@
--- One value put into a list, and what is made after it.
+-- One value written into a list, and the values made after it.
 use Rattle.std.proofs.Common.{◌≡◌, ℕ, ◌+◌, ◌<◌, ◌≤◌, false, ℤ, List, [], length, take, get_or, slice_set, arith, refl, ap, sym, ◌∙◌, subst, inl, inr, ◌⊎◌}
 use Rattle.std.specs.List.{sum_by}
 use Rattle.std.proofs.lemmas.Bool.{cases_lt}
@@ -23,7 +23,7 @@ put-there numbers made p v inside =
     ap (λ l. row_at l p) (map-set (row_of numbers) made p v)
     ∙ get_or-set_same (rows_of numbers made) p (row_of numbers v) blank (rw length-map inside)
 
--- and all others stay
+-- the row of the value is there, and all other rows are unchanged
 pub put-is : {P : Type 0} (numbers : P → List ℤ) (made : List (Valued P)) (p : ℕ) (v : Valued P) → p < length made
     → v.den ≡ (row_at (rows_of numbers made) p).den → IsPut (rows_of numbers made) p (rows_of numbers (slice_set made p v))
 put-is numbers made p v inside same = record {
@@ -127,7 +127,7 @@ pub terms-more : (terms : PointOrigin → ℕ) (origins : List PointOrigin) (p :
 terms-more terms origins p origin inside is =
     sum_by_more terms origins p (FromVertex 0) inside ∙ ap (λ o. sum_by terms (take p origins) + terms o) is
 
--- a place is inside what has as many values as before
+-- a place is within a list with as many values
 pub still-inside : {P : Type 0} (numbers : P → List ℤ) (before after : List (Valued P)) (p : ℕ) → KeepDens (rows_of numbers before) (rows_of numbers after) → p < length before
     → p < length after
 still-inside numbers before after p keep inside =
@@ -142,7 +142,7 @@ none-put rows = record { count = refl; dens = λ p. refl }
 pub none-hidden : (level : Level) (rows : List Row) (first : ℕ) (hidden : List ℕ) (made : List Row) → AreHiddenMade level rows first hidden 0 made
 none-hidden level rows first hidden made = record { each = λ i below inside. absurd (omega (arith, below)) }
 
--- and of all points
+-- the terms of all points are counted in the end
 pub terms-all : {X : Type 0} (terms : X → ℕ) (items : List X) (p : ℕ) → length items ≤ p → sum_by terms (take p items) ≡ sum_by terms items
 terms-all terms items p past = ap (sum_by terms) (take_all p items past)
 

@@ -1,4 +1,4 @@
--- What is asked for the value of each point is there.
+-- The conditions for the value of each point hold.
 use Rattle.std.proofs.Common.{◌≡◌, ◌≢◌, ℕ, ◌+◌, ◌-◌, ◌*◌, ◌<◌, ◌≤◌, Bool, true, false, nat_lt, ℤ, List, [], ◌∷◌, length, map, get_or, arith, refl, ap, sym, ◌∙◌, subst, inl, inr, ◌⊎◌, length-append}
 use Rattle.std.specs.List.{All, AllByRecursion, list_any}
 use Rattle.std.proofs.lemmas.Bool.{cases_lt}
@@ -138,7 +138,7 @@ module _ (width : Width) (parent : Topology) (child : ChildTopology) (scheme : S
         (test-at (λ (t : Term). is_source_of parent.level t.source) terms i d passed below)
         (any-at (λ (t : Term). same_source (get_or terms i d).source t.source) terms i d below (source-refl (get_or terms i d).source)))
 
-    -- so that its mask can be summed
+    -- the mask of each point can be summed
     pub all-can : (p : ℕ) → p < length child.origins → IsOriginWithin parent.level.point_count (length parent.level.polygons) (length (edges_of parent.level.polygons)) (origin_at child.origins p)
         → CanMake width parent.level rows made places (mask_from parent.level scheme (origin_at child.origins p)) (row_at made p).den
     all-can p inside within =
@@ -206,7 +206,7 @@ others-put level scheme rows origins p before after origin e put new made = reco
         subst (λ o. IsMade level rows (mask_from level scheme o) (row_at after q)) (sym is)
         (subst (λ k. IsMade level rows (mask_from level scheme origin) (row_at after k)) (sym same) (new (ap is_from_face (sym is) ∙ other)))
 
--- what the faces of child points and the hidden ones ask
+-- the conditions for the faces of child points and for the hidden ones
 module _ (width : Width) (parent : Topology) (child : ChildTopology) (scheme : Scheme) (rows : List Row) (named : List Bool) (hidden places : List ℕ) (made : List Row)
     (is : IsTopology parent) (ready : IsReady width parent child scheme rows named hidden places made) where
   abbrev all-of : List PointOrigin
@@ -229,16 +229,16 @@ module _ (width : Width) (parent : Topology) (child : ChildTopology) (scheme : S
       let below : f < length parent.level.polygons = subst Within from (origin-within parent child scheme has ready.can p inside) in
       face-at p f among (same ∙ from) below
 
-  -- there are as many places as child points
+  -- the list has a place for each child point
   pub room : length child.origins ≤ length made
   room = omega (arith, ready.each, length-append child.origins (map FromFace hidden))
 
-  -- the hidden faces come after them
+  -- the hidden faces come after the child points
   origin-of-hidden : (i : ℕ) → i < length hidden → origin_at all-of (length child.origins + i) ≡ FromFace (get_or hidden i 0)
   origin-of-hidden i inside =
       get_or-append-add child.origins (map FromFace hidden) i (FromVertex 0) ∙ get_or-map FromFace hidden i 0 (FromVertex 0) inside
 
-  -- and can be summed
+  -- the hidden faces can be summed
   pub hidden-can : (i : ℕ) → i < length hidden → CanMake width parent.level rows [] [] (face_mask parent.level (get_or hidden i 0)) (row_at made (length child.origins + i)).den
   hidden-can i inside =
       face-at (length child.origins + i) (get_or hidden i 0)
@@ -274,7 +274,7 @@ faces-together parent child rows hidden before after faces kept others = record 
 pub keeps : (first second third : List Row) → KeepDens first second → KeepDens second third → KeepDens first third
 keeps first second third p q = record { count = q.count ∙ p.count; dens = λ k. q.dens k ∙ p.dens k }
 
--- the same of a list and of a first place that are these
+-- a hidden face can be summed, for a list and a first place that equal these
 pub first-hidden-can : (width : Width) (parent : Topology) (child : ChildTopology) (scheme : Scheme) (rows : List Row) (named : List Bool) (hidden places : List ℕ) (before after : List Row)
     → IsTopology parent → IsReady width parent child scheme rows named hidden places before → KeepDens before after
     → (list : List ℕ) (first : ℕ) → list ≡ hidden → first ≡ length child.origins
@@ -320,7 +320,7 @@ pub all-made : (parent : Topology) (child : ChildTopology) (scheme : Scheme) (ro
     → AreOthersMade parent.level scheme rows child.origins (length child.origins) made → AreAllMade parent child scheme rows hidden made
 all-made parent child scheme rows hidden made faces others = record { faces = faces; others = others }
 
--- after the child points there is room for the hidden faces
+-- the list has places for the hidden faces after the child points
 pub hidden-room : {P : Type 0} (numbers : P → List ℤ) (width : Width) (parent : Topology) (child : ChildTopology) (scheme : Scheme) (rows : List Row) (named : List Bool) (hidden places : List ℕ)
     (before after : List (Valued P)) (list : List ℕ) (first : ℕ) → IsReady width parent child scheme rows named hidden places (rows_of numbers before)
     → KeepDens (rows_of numbers before) (rows_of numbers after) → list ≡ hidden → first ≡ length child.origins → first + length list ≡ length after

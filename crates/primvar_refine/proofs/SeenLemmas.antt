@@ -8,13 +8,13 @@ use Rattle.mask_rules.specs.declared.mask.Term.{Term}
 use Rattle.primvar_refine.specs.Rows.{Row}
 use Rattle.primvar_refine.specs.Sums.{HasRow}
 
--- what holds of each source as it is seen
+-- a claim about each source, from the claim about its view
 pub rows-there : (rows made : List Row) (places : List ℕ) (terms : List Term) → All (λ t. HasRow rows made places t.source) (terms_of terms)
     → All (λ t. HasRow rows made places (source_of t.at)) terms
 rows-there rows made places terms h k d inside =
     subst (λ (t : model.Term). HasRow rows made places t.source) (get_or-map term_of terms k d (term_of d) inside) (h k (term_of d) (rw length-map inside))
 
--- and of each corner
+-- a claim about each corner, from the claim about its view
 pub corners-there : {X : Type 0} (values : List X) (rows : List Row) (corners : List ℕ) → length rows ≡ length values
     → All (λ t. HasRow rows [] [] t.source) (model.weigh_points 1 corners) → All (λ v. v < length values) corners
 corners-there values rows corners same h k d inside =
@@ -27,7 +27,7 @@ corners-there values rows corners same h k d inside =
 pub count-seen : (terms : List Term) (n old new : ℕ) → length (terms_of terms) ≡ n → new ≡ old + length terms → new ≡ old + n
 count-seen terms n old new e h = h ∙ ap (λ k. old + k) (sym (length-map terms term_of) ∙ e)
 
--- and as many corners
+-- as many corners as steps
 pub count-corners : (corners : List ℕ) (n old new : ℕ) → length (model.weigh_points 1 corners) ≡ n → new ≡ old + length corners → new ≡ old + n
 count-corners corners n old new e h =
     let seen : ℕ → model.Term = λ v. model.weigh 1 (model.OfPoint v) in

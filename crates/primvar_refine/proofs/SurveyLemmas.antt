@@ -10,11 +10,11 @@ use Rattle.ratio128.specs.declared.valued.Valued.{Valued}
 use Rattle.primvar_refine.specs.Rows.{Row, dens_of, AreGood}
 use Rattle.primvar_refine.specs.View.{row_of, rows_of}
 
--- those of good rows are at least 1
+-- the denominators of good rows are above 0
 pub good-positive : (rows : List Row) → AreGood rows → All (λ den. 0 < den) (dens_of rows)
 good-positive rows good = All-map (λ den. 0 < den) (λ (row : Row). row.den) rows good.positive
 
--- those of good values are as they should be
+-- the denominators of good values are above 0 and within their bound
 pub good-dens : {P : Type 0} (numbers : P → List ℤ) (values : List (Valued P)) (level : Level) (dens : List ℕ) → AreGood (rows_of numbers values)
     → length values ≡ level.point_count → dens ≡ dens_of (rows_of numbers values) → ArePointDenominators level dens
 good-dens numbers values level dens good count e = subst (ArePointDenominators level) (sym e) (record {

@@ -127,7 +127,7 @@ module _ (width : Width) (m most size : ℕ) (row : SourcePoint → Row) (start 
     turned : (P : ℕ → Row → Type 0) → P t.weight (row t.source) → P w r
     turned P p = subst (λ x. P x r) (sym weight_is) (subst (P t.weight) (sym row_is) p)
 
-    -- its weight is small
+    -- the weight of the next term is within the bound
     next-small : t.weight * (m / (row t.source).den) ≤ sum_bound width
     next-small =
         let part = sum_by_more_le (λ (u : Term). u.weight) terms i none inside in
@@ -139,7 +139,7 @@ module _ (width : Width) (m most size : ℕ) (row : SourcePoint → Row) (start 
         small : (a b c : ℕ) → a ≤ b → b ≤ c → c ≤ sum_bound width → a ≤ sum_bound width
         small a b c p q r = omega (arith, p, q, r)
 
-    -- and not 0
+    -- the weight of the next term is not 0
     next-some : 0 < t.weight * (m / (row t.source).den)
     next-some =
         let whole : t.weight * (m / (row t.source).den) * (row t.source).den ≡ t.weight * m =
@@ -150,7 +150,7 @@ module _ (width : Width) (m most size : ℕ) (row : SourcePoint → Row) (start 
         factor zero b h = absurd (omega (arith, h))
         factor (suc a) b h = omega arith
 
-    -- and all of it can be added
+    -- the numbers of the next term can be added
     next-fits : greatest_amount sums + weight_over m row t * greatest_amount (row t.source).numbers ≤ sum_bound width
     next-fits =
         let part = sum_by_more_le (λ (u : Term). u.weight) terms i none inside in
@@ -164,7 +164,7 @@ module _ (width : Width) (m most size : ℕ) (row : SourcePoint → Row) (start 
         small : (a b k g x y h : ℕ) → g ≤ a * k → h ≤ x → x ≡ b * k → (a + b) * k ≤ y → y ≤ sum_bound width → g + h ≤ sum_bound width
         small a b k g x y h p q e room short = omega (arith, p, q, e, room, short)
 
-    -- so that it can be taken
+    -- the next term can be added
     pub can-take : CanTake width m sums w r
     can-take =
         turned (λ x y. CanTake width m sums x y) (record {
@@ -175,7 +175,7 @@ module _ (width : Width) (m most size : ℕ) (row : SourcePoint → Row) (start 
           fits = next-fits;
         })
 
-    -- and the sum goes on
+    -- the sum with the next term
     pub sum-goes_on : IsSumSoFar m most row start terms (i + 1) (plus_times (pos (w * (m / r.den))) sums r.numbers)
     sum-goes_on =
         turned (λ x y. IsSumSoFar m most row start terms (i + 1) (plus_times (pos (x * (m / y.den))) sums y.numbers))
@@ -198,7 +198,7 @@ module _ (width : Width) (m most size : ℕ) (row : SourcePoint → Row) (start 
             distributed : (a b k : ℕ) → a * k + b * k ≡ (a + b) * k
             distributed a b k = omega arith
 
--- and after all terms it is the sum
+-- the sum after all terms
 pub sum-ends : (m most : ℕ) (row : SourcePoint → Row) (start : List ℤ) (terms : List Term) (i : ℕ) (sums : List ℤ) → length terms ≤ i
     → IsSumSoFar m most row start terms i sums → sums ≡ term_sums m row start terms
 sum-ends m most row start terms i sums past here = here.sums_are ∙ ap (term_sums m row start) (take_all i terms past)

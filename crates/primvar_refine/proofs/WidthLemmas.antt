@@ -25,7 +25,7 @@ narrow-within s w m (x ∷ xs) [] hx hy h = tt
 narrow-within s w m (x ∷ xs) (y ∷ ys) hx hy h =
     let more = mul-le-mul_left w hy.0 in (omega (arith, more, hx.0, h), narrow-within s w m xs ys hx.1 hy.1 h)
 
--- what stays within the bound of a width can be added in it, by a factor that is this number
+-- numbers within the bound of a width can be added in it, with a factor that equals w
 module _ (width : Width) (w factor : ℕ) (same : factor ≡ w) (xs ys : List ℤ) (fits : greatest_amount xs + w * greatest_amount ys ≤ sum_bound width) where
   pub can-add-narrow : width ≡ Narrow → CanAddNarrow factor xs ys
   can-add-narrow is =
@@ -39,7 +39,7 @@ module _ (width : Width) (w factor : ℕ) (same : factor ≡ w) (xs ys : List �
       (CanAdd-within (greatest_amount xs) w (greatest_amount ys) xs ys (IsWithin-greatest _ xs (omega arith)) (IsWithin-greatest _ ys (omega arith))
       (omega (arith, fits, sum_bound-short width)))
 
--- a number is within the bound where a test that one above it does not pass passes
+-- a test that passes at a number, but not above the bound, shows that the number is within the bound
 pub within : (bound n : ℕ) (passes : Bool) → passes ≡ true → (bound < n → passes ≡ false) → n ≤ bound
 within bound n passes e above = at (cases_lt bound n)
   where
@@ -47,7 +47,7 @@ within bound n passes e above = at (cases_lt bound n)
     at (inl more) = absurd (let wrong = sym e ∙ above more in cc)
     at (inr below) = below
 
--- none of them above a bound, the greatest is not
+-- if no number is above a bound, the greatest is not
 greatest-below : (n a : ℕ) (xs : List ℕ) → a ≤ n → AllByRecursion (λ x. x ≤ n) xs → fold max a xs ≤ n
 greatest-below n a [] h all = h
 greatest-below n a (x ∷ xs) h all = greatest-below n (max a x) xs (omega (arith, h, all.0)) all.1

@@ -1,4 +1,4 @@
--- Why values cannot be refined, in words.
+-- The text of the reason why values cannot be refined.
 use Rattle.std.specs.Prelude.{ℕ, List, ◌++◌, codes}
 use Rattle.subdiv_model.specs.NumberText.{number_text}
 use Rattle.primvar_refine.specs.declared.fault.ValueFault.{ValueFault}

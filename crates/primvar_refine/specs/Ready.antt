@@ -1,4 +1,4 @@
--- What is known while the values of child points are made, once those of faces are there.
+-- The facts for the values of child points, once the faces have their values.
 use Rattle.std.specs.Prelude.{ℕ, ◌≡◌, ◌+◌, ◌*◌, ◌<◌, ◌≤◌, Bool, false, List, length, get_or}
 use Rattle.std.specs.List.{All, list_any, sum_by}
 use Rattle.subdiv_model.specs.Mask.{Scheme, OfFace, has_source}
@@ -19,13 +19,13 @@ pub record AreDens (width : Width) (parent : Topology) (scheme : Scheme) (rows :
   pub short : (p : ℕ) → p < length origins → (row_at made p).den ≤ sum_bound width
   pub kept : (p : ℕ) → p < length origins → (row_at made p).den * least_bound rows ≤ sum_bound width
 
--- a mark for each face that some mask names
+-- a mark for each face that some mask uses
 pub record AreNamed (parent : Topology) (scheme : Scheme) (origins : List PointOrigin) (named : List Bool) : Type 0 where
   pub counted : length named ≡ length parent.level.polygons
   pub each : (f : ℕ) → f < length parent.level.polygons
       → get_or named f false ≡ list_any (λ mask. has_source mask.terms (OfFace f)) (masks_from parent.level scheme origins)
 
--- what sums of a width ask is there
+-- the conditions of sums of a width hold
 pub record IsReady (width : Width) (parent : Topology) (child : ChildTopology) (scheme : Scheme) (rows : List Row) (named : List Bool) (hidden places : List ℕ) (made : List Row) : Type 0 where
   pub can : CanRefine parent child scheme
   pub allowed : HasNoTransition parent.level scheme child.origins
@@ -37,7 +37,7 @@ pub record IsReady (width : Width) (parent : Topology) (child : ChildTopology) (
   pub each : length made ≡ length (all_origins child.origins hidden)
   pub dens : AreDens width parent scheme rows (all_origins child.origins hidden) made
 
--- the terms of all that is made
+-- the number of terms of all new values
 abbrev pub all_terms : Topology → ChildTopology → Scheme → List ℕ → ℕ
 all_terms parent child scheme hidden =
     sum_by (terms_of_face parent.level) child.origins

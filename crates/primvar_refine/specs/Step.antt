@@ -1,5 +1,4 @@
--- One step of values: the points of a child of a level, each by the mask of the part of the level that it comes from.
--- Source: this profile.
+-- One step of values: the points of a child of a level, each by the mask of its origin. Source: this library.
 use Rattle.std.specs.Prelude.{ℕ, ◌≡◌, ◌*◌, ◌<◌, ◌≤◌, List, length, get_or, Result, MatchResult}
 use Rattle.std.specs.List.{All}
 use Rattle.subdiv_model.specs.Level.{Level}
@@ -12,12 +11,13 @@ use Rattle.primvar_refine.specs.Rows.{Row, row_at, dens_of, StandFor, AreWithin,
 use Rattle.primvar_refine.specs.declared.fault.ValueFault.{ValueFault}
 use Rattle.primvar_refine.specs.declared.fault.ValueFault.TheVariants.{Transition, Denominator, TooBig, Memory}
 
--- the common denominators of the points, from those of the level's
+-- the common denominators of the points, from those of the points of the level
 abbrev pub refined_dens : Level → Scheme → List PointOrigin → List Row → List ℕ
 refined_dens level scheme origins rows = dens_from level scheme (dens_of rows) origins
 
--- Each point has its common denominator, and in each column the values that follow from those of the level; no value is above
--- a whole number in amount where none of the level's is. No weight is refused, and all numbers keep their bounds.
+-- Each point has its common denominator, and in each column the values that follow from those of the level. If no value of
+-- the level exceeds a whole number in amount, no new value does. No weight is refused, and all numbers are within their
+-- bounds.
 pub record AreRefined (level : Level) (scheme : Scheme) (origins : List PointOrigin) (rows refined : List Row) : Type 0 where
   pub dens : dens_of refined ≡ refined_dens level scheme origins rows
   pub values : (column : ℕ) (values : List Value) → StandFor rows column values → StandFor refined column (values_from level scheme origins values)
@@ -27,7 +27,7 @@ pub record AreRefined (level : Level) (scheme : Scheme) (origins : List PointOri
   pub short : All (λ den. den ≤ number_bound) (dens_of refined)
   pub kept : greatest_of (dens_of refined) * least_bound rows ≤ number_bound
 
--- the greatest denominator is within its bound, and too great for the values; this point has it first
+-- the greatest denominator is within its bound, but too great for the values; this point is the first that has it
 pub record IsTooBig (dens : List ℕ) (most p : ℕ) : Type 0 where
   pub short : All (λ den. den ≤ number_bound) dens
   pub exists : p < length dens
@@ -44,7 +44,8 @@ IsValueFault level scheme origins rows (TooBig p) =
     HasNoTransition level scheme origins × IsTooBig (refined_dens level scheme origins rows) (least_bound rows) p
 IsValueFault level scheme origins rows Memory = Unit {0}
 
--- The values of the points from those of the level's, or the first fault of the step. The last function shows values as rows.
+-- The values of the points from those of the points of the level, or the first fault of the step. The last argument maps
+-- values to rows.
 abbrev pub IsValueRefinement : {X : Type 0} → Level → Scheme → List PointOrigin → List Row → Result X ValueFault → (X → List Row) → Type 0
 IsValueRefinement level scheme origins rows result shown =
     MatchResult result (λ refined. AreRefined level scheme origins rows (shown refined)) (λ fault. IsValueFault level scheme origins rows fault)

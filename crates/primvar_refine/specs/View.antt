@@ -1,9 +1,9 @@
--- The values of this crate, seen as rows.
+-- The values of this crate as rows.
 use Rattle.std.specs.Prelude.{ℤ, List, map}
 use Rattle.ratio128.specs.declared.valued.Valued.{Valued}
 use Rattle.primvar_refine.specs.Rows.{Row}
 
--- by the numbers of the list that is refined
+-- the row of a value, by the numerators of its list
 abbrev pub row_of : {P : Type 0} → (P → List ℤ) → Valued P → Row
 row_of numbers v = record { numbers = numbers v.value; den = v.den }
 

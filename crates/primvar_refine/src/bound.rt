@@ -12,7 +12,7 @@ use number_width::Width;
 use ratio128::{Primvar, quotient, times_within};
 use std::sync::ledger::Ledger;
 
-/// The greatest of some denominators, and the first place that has it; 1 where there is none.
+/// The greatest of some denominators, with the first place that has it. For an empty list the denominator is 1.
 #[derive(Clone, Copy)]
 pub(crate) struct Greatest {
     pub(crate) den: u128,
@@ -20,7 +20,7 @@ pub(crate) struct Greatest {
 }
 
 impl Greatest {
-    // With one denominator more, at the next place.
+    // Returns the greatest with one more denominator, at the next place.
     fn with(self, den: u128, place: u32) -> Greatest
         ensures { (dens : List ℕ) → place ≡ length dens → IsGreatestAt dens self.den self.place → IsGreatestAt (dens ++ den ∷ []) result.den result.place }
     {
@@ -32,7 +32,7 @@ impl Greatest {
     }
 }
 
-/// The greatest denominator.
+/// Returns the greatest denominator.
 pub(crate) fn greatest_of(dens: &Vec<u128>) -> Greatest
     requires { length dens.now.items < 2 ^ 32 }
     ensures { IsGreatestAt dens.now.items result.den result.place }
@@ -44,7 +44,7 @@ pub(crate) fn greatest_of(dens: &Vec<u128>) -> Greatest
     greatest
 }
 
-// The least whole number that a fraction does not pass.
+// Returns the least whole number that is at least a fraction.
 fn rounded_up(num: u128, den: u128) -> u128
     requires positive { 0 < den }
     requires num { num ≤ number_bound }
@@ -54,7 +54,7 @@ fn rounded_up(num: u128, den: u128) -> u128
     quotient(num + (den - 1), den)
 }
 
-/// The least whole number that no value passes in amount.
+/// Returns the least whole number that no value exceeds in amount.
 pub(crate) fn least_bound<P: Primvar<L>, L: Ledger>(values: &[Valued<P>]) -> u128
     requires { AreGood (rows_of P.numbers values.now) }
     ensures exact { result ≡ least_bound (rows_of P.numbers values.now) }
@@ -67,8 +67,8 @@ pub(crate) fn least_bound<P: Primvar<L>, L: Ledger>(values: &[Valued<P>]) -> u12
     bound
 }
 
-/// The width of the sums over denominators up to the greatest, where no value passes the bound in amount. It is 64 bits where
-/// the greatest denominator and its product with the bound are at most 2^63 - 1.
+/// Returns the width of sums over denominators up to the greatest, of values that do not exceed the bound in amount. It is 64
+/// bits where the greatest denominator and its product with the bound are at most 2^63 - 1.
 pub(crate) fn sum_width(greatest: u128, bound: u128) -> Width
     ensures { result ≡ sum_width greatest bound }
 {

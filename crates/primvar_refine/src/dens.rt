@@ -9,7 +9,7 @@ use ratio128::{Memory, Primvar};
 use std::alloc::Global;
 use std::sync::ledger::Ledger;
 
-/// The denominators of values.
+/// Returns the denominators of values.
 pub(crate) fn denominators<P: Primvar<L>, L: Ledger>(
     alloc: Global,
     values: &[Valued<P>],

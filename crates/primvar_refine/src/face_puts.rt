@@ -1,4 +1,4 @@
-//! The values of the new points of faces: of those that a child point comes from, and of the others.
+//! The values of the new points of faces: those with a child point, and the hidden ones.
 
 ghost use Rattle.std.specs.Prelude.{◌≡◌, ℕ, ◌+◌, ◌<◌, ◌≤◌, [], length, get_or};
 ghost use Rattle.std.specs.List.{All, sum_by};
@@ -14,7 +14,7 @@ use level_topology::{Child, Level, Origin};
 use ratio128::{Primvar, Steps};
 use std::sync::ledger::Ledger;
 
-/// Puts the value of each child point that comes from a face.
+/// Writes the value of each child point that comes from a face.
 pub(crate) fn put_faces<P: Primvar<L>, L: Ledger>(
     parent: &Level,
     child: &Child,
@@ -40,7 +40,7 @@ pub(crate) fn put_faces<P: Primvar<L>, L: Ledger>(
     }
 }
 
-/// Puts the value of each hidden face, the first of them at a place.
+/// Writes the value of each hidden face, from the place `first` on.
 pub(crate) fn put_hidden<P: Primvar<L>, L: Ledger>(
     parent: &Level,
     hidden: &[u32],

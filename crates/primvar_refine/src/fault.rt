@@ -1,4 +1,4 @@
-//! Why values cannot be refined.
+//! The reason why values cannot be refined.
 
 ghost use Rattle.std.specs.Prelude.{Some};
 ghost use Rattle.primvar_refine.specs.FaultText.{fault_text};
@@ -6,14 +6,15 @@ ghost use Rattle.primvar_refine.specs.FaultText.{fault_text};
 use ratio128::Memory;
 use std::fmt;
 
-/// Why there are no values of the next level.
+/// The reason why there are no values of the next level.
 #[derive(Clone, Copy, Debug, PartialEq, Eq)]
 pub enum ValueFault {
-    /// At this vertex of the parent the weight between the rules of two levels has a denominator above 2^60.
+    /// At this vertex of the parent, the weight between the rules of two levels has a denominator above 2^60.
     Transition(u32),
     /// The common denominator of this child point is above 2^126 - 1.
     Denominator(u32),
-    /// The greatest denominator, which this child point has first, times a bound of all values is above 2^126 - 1.
+    /// This child point is the first with the greatest denominator. That denominator times a bound of all values is above
+    /// 2^126 - 1.
     TooBig(u32),
     /// Memory ran out.
     Memory,

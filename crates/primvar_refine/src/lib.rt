@@ -1,6 +1,8 @@
-//! The values of a level's points from those of the level before it.
+//! Computes the values of a level's points from those of the level before it.
 //!
-//! Source: Catmull and Clark 1978 and DeRose, Kass and Truong 1998 for the masks; the common denominators are this profile's.
+//! A value is some numerators over one denominator, such as a position or a texture point. The masks are those of Catmull and
+//! Clark 1978 and of DeRose, Kass and Truong 1998; the common denominators are this library's own. The numerators are not
+//! reduced.
 #![tactic(auto)]
 
 mod bound;

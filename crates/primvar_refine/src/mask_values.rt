@@ -13,7 +13,7 @@ use mask_rules::face_mask;
 use ratio128::{Primvar, Steps, quotient};
 use std::sync::ledger::Ledger;
 
-/// The value of the new point of a face over its common denominator.
+/// Returns the value of the new point of a face over its common denominator.
 pub(crate) fn face_value<P: Primvar<L>, L: Ledger>(
     parent: &Level,
     f: u32,

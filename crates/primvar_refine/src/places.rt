@@ -1,4 +1,4 @@
-//! Where the values of the new points of the parent's faces are kept.
+//! The places of the values of the new points of the parent's faces.
 
 ghost use Rattle.std.specs.Prelude.{◌≡◌, ◌+◌, ◌<◌, ◌≤◌, ◌^◌, not, ◌&&◌, ◌++◌, ◌∷◌, [], length, IfOk, OnOk, if◌then◌else◌};
 ghost use Rattle.std.specs.List.{filter, range_with_len};
@@ -11,15 +11,15 @@ use level_topology::Child;
 use ratio128::Memory;
 use std::alloc::Global;
 
-/// The place of each face's value in the list that is made, and the faces that no child point comes from although some mask
-/// names them. Their values come after those of the child points, in this order.
+/// The place of each face's value in the new list, and the hidden faces. A face is hidden if some mask uses it although no
+/// child point comes from it. The values of hidden faces come after those of the child points.
 #[derive(Drop)]
 pub(crate) struct Places {
     pub of_faces: Vec<u32>,
     pub hidden: Vec<u32>,
 }
 
-// The place of a face: that of the child point that comes from it, or else one more place if some mask names the face.
+// Returns the place of a face: that of the child point that comes from it, or a new place if some mask uses the face.
 fn place_of(child: &Child, f: u32, named: bool, hidden: &mut Vec<u32>) -> Result<u32, Memory>
     requires known { f < length child.now.parent_sizes }
     requires few { length child.now.origins + length hidden.old.items < 2 ^ 31 }
@@ -41,7 +41,7 @@ fn place_of(child: &Child, f: u32, named: bool, hidden: &mut Vec<u32>) -> Result
     }
 }
 
-/// The places for a child of so many faces of the parent.
+/// Returns the places of the values of the parent's faces.
 pub(crate) fn find_places(alloc: Global, child: &Child, survey: &Survey) -> Result<Places, Memory>
     requires each { length survey.now.named.items ≡ length child.now.parent_sizes }
     requires few { length child.now.parent_sizes ≤ 2 ^ 22 }

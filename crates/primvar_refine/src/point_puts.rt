@@ -1,4 +1,4 @@
-//! The values of the child points that come from vertices and edges, put where they are kept.
+//! The values of the child points that come from vertices and edges.
 
 ghost use Rattle.std.specs.Prelude.{◌≡◌, ◌+◌, ◌<◌, true, false, length};
 ghost use Rattle.std.specs.List.{sum_by};
@@ -21,7 +21,7 @@ use mask_rules::{MadeMask, Scheme};
 use ratio128::{Primvar, Steps, quotient};
 use std::sync::ledger::Ledger;
 
-// Puts the value of a child point, unless it comes from a face.
+// Writes the value of a child point, unless it comes from a face.
 fn put_point<P: Primvar<L>, L: Ledger>(
     parent: &Level,
     child: &Child,
@@ -60,7 +60,7 @@ fn put_point<P: Primvar<L>, L: Ledger>(
     }
 }
 
-/// Puts the value of each child point that comes from a vertex or an edge.
+/// Writes the value of each child point that comes from a vertex or an edge.
 pub(crate) fn put_points<P: Primvar<L>, L: Ledger>(
     parent: &Level,
     child: &Child,

@@ -1,4 +1,4 @@
-//! The values of the new points of faces, put where they are kept.
+//! The values of the new points of faces.
 
 ghost use Rattle.std.specs.Prelude.{◌≡◌, ◌+◌, ◌<◌, [], length};
 ghost use Rattle.subdiv_model.specs.Mask.{face_mask};
@@ -13,7 +13,7 @@ use level_topology::Level;
 use ratio128::{Primvar, Steps};
 use std::sync::ledger::Ledger;
 
-/// The denominator at a place.
+/// Returns the denominator at a place.
 pub(crate) fn den_at<P: Primvar<L>, L: Ledger>(made: &[Valued<P>], p: usize) -> u128
     requires { p < length made.now }
     ensures { result ≡ (row_at (rows_of P.numbers made.now) p).den }
@@ -21,7 +21,7 @@ pub(crate) fn den_at<P: Primvar<L>, L: Ledger>(made: &[Valued<P>], p: usize) -> 
     made[p].den
 }
 
-/// Puts a value over the denominator that is there.
+/// Writes a value over the denominator at its place.
 pub(crate) fn put_value<P: Primvar<L>, L: Ledger>(made: &mut [Valued<P>], p: usize, value: P)
     requires { p < length made.old }
     ensures put { IsPut (rows_of P.numbers made.old) p (rows_of P.numbers made.new) }
@@ -30,7 +30,7 @@ pub(crate) fn put_value<P: Primvar<L>, L: Ledger>(made: &mut [Valued<P>], p: usi
     made[p].value = value;
 }
 
-/// Puts the value of the new point of a face.
+/// Writes the value of the new point of a face.
 pub(crate) fn put_face<P: Primvar<L>, L: Ledger>(
     parent: &Level,
     f: u32,

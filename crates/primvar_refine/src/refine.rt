@@ -20,15 +20,19 @@ use ratio128::{Primvar, Steps, times_within};
 use std::alloc::Global;
 use std::sync::ledger::Ledger;
 
-/// The values of the points of a child of a level, from those of the level's points: each is the sum of its mask's terms, over
-/// the denominator of the mask times the least common multiple of the denominators of what it is made of. It is one step for
-/// each mask term, and for each corner of a face whose new point is used although no child point comes from it.
+/// Returns the values of the points of a child of a level, from the values of the level's points. Each is the sum of its
+/// mask's terms. Its denominator is that of the mask times the least common multiple of the denominators of its sources. The
+/// numerators are not reduced.
 ///
-/// There is a value for each point of the parent, all of as many numbers, over denominators from 1 to 2^126 - 1 and with
-/// numbers of at most that in amount. The faults are looked for in this order, each over the whole level: `Transition` with
-/// the least vertex of the parent, of those with a child point, whose mask is refused; `Denominator` with the least child
-/// point whose denominator passes 2^126 - 1; and `TooBig` where the greatest denominator of a child point, times the least
-/// whole number that no value of the parent passes in amount, does, with the first child point that has that denominator.
+/// There is a value for each point of the parent, all with the same number of numerators. Denominators are from 1 to 2^126 -
+/// 1, and numerators are at most that in amount. Each mask term is one step. Each corner of a face is one step too, if some
+/// mask uses the face's new point although no child point comes from it.
+///
+/// Reports the first fault of these kinds, each over the whole level. `Transition` names the least vertex of the parent, of
+/// those with a child point, whose mask is refused. `Denominator` names the least child point whose denominator is above
+/// 2^126 - 1. `TooBig` comes where the greatest denominator times a bound of the values is above 2^126 - 1. The bound is the
+/// least whole number that no value of the parent exceeds in amount; the error names the first child point with that
+/// denominator. Numbers count from 0. Reports `Memory` where memory runs out.
 pub fn refine_values<P: Primvar<L>, L: Ledger>(
     alloc: Global,
     parent: &Level,

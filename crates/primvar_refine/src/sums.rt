@@ -17,14 +17,14 @@ use number_width::Width;
 use ratio128::{Primvar, Steps, quotient};
 use std::sync::ledger::Ledger;
 
-/// What each sum of a level starts from, the zeros of a list, and how many bits its numbers have.
+/// The start of each sum of a level: a list of zeros, and the width of the numbers.
 #[derive(Drop)]
 pub(crate) struct SumStart<'a, P> {
     pub(crate) zero: &'a P,
     pub(crate) width: Width,
 }
 
-// A weight over a multiple of a denominator. Where both are one number nothing is divided.
+// Returns a weight over a multiple of a denominator. It divides only if the two differ.
 fn weight_over(weight: u128, multiple: u128, den: u128) -> u128
     requires positive { 0 < den }
     requires small { weight * (multiple / den) ≤ number_bound }
@@ -36,7 +36,7 @@ fn weight_over(weight: u128, multiple: u128, den: u128) -> u128
     weight * quotient(multiple, den)
 }
 
-// Adds a value by a weight, with numbers over a multiple of its denominator, in a sum of a width.
+// Adds a weighted value, with numbers over a multiple of its denominator, to a sum of a width.
 fn add_over<P: Primvar<L>, L: Ledger>(
     sum: &mut P,
     width: Width,
@@ -60,7 +60,7 @@ fn add_over<P: Primvar<L>, L: Ledger>(
     }
 }
 
-// The value of a source: a point's own, or that at the place of a face.
+// Returns the value of a source: a point's own, or that at the place of a face.
 fn source<'a, P: Primvar<L>, L: Ledger>(
     at: At,
     values: &'a [Valued<P>],
@@ -76,7 +76,7 @@ fn source<'a, P: Primvar<L>, L: Ledger>(
     }
 }
 
-/// The sum of the terms over a multiple of the denominators of all their sources. It is one step for each term.
+/// Returns the sum of the terms over a multiple of the denominators of their sources. Each term is one step.
 pub(crate) fn sum_of_terms<P: Primvar<L>, L: Ledger>(
     terms: &[Term],
     multiple: u128,
@@ -108,7 +108,7 @@ pub(crate) fn sum_of_terms<P: Primvar<L>, L: Ledger>(
     sum
 }
 
-/// The sum of the corners of a face over a multiple of their denominators. It is one step for each corner.
+/// Returns the sum of the corners of a face over a multiple of their denominators. Each corner is one step.
 pub(crate) fn sum_of_corners<P: Primvar<L>, L: Ledger>(
     corners: &[u32],
     multiple: u128,

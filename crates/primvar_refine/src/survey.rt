@@ -21,7 +21,7 @@ use ratio128::Primvar;
 use std::alloc::Global;
 use std::sync::ledger::Ledger;
 
-// The fault of a step whose survey has one.
+// Returns the fault of a step whose survey has one.
 fn value_fault(fault: SurveyFault) -> ValueFault
     ensures { (level : model_level.Level) (scheme : model.Scheme) (origins : List PointOrigin) (rows : List Row) → IsSurveyFault level scheme origins (dens_of rows) fault → IsValueFault level scheme origins rows result }
 {
@@ -32,7 +32,7 @@ fn value_fault(fault: SurveyFault) -> ValueFault
     }
 }
 
-/// The survey of a step, or its first fault but `TooBig`.
+/// Returns the survey of a step, or its first fault other than `TooBig`.
 pub(crate) fn survey_step<P: Primvar<L>, L: Ledger>(
     alloc: Global,
     parent: &Level,

@@ -1,4 +1,4 @@
-//! The values of a level's points, once the survey has passed.
+//! The values of a level's points, after a survey without a fault.
 
 ghost use Rattle.std.specs.Prelude.{◌≡◌, ◌+◌, ◌*◌, ◌<◌, ◌≤◌, ◌++◌, ◌∷◌, [], length, map, get_or, IfOk, OnOk};
 ghost use Rattle.std.specs.List.{All};
@@ -26,7 +26,7 @@ use ratio128::{Memory, Primvar, Steps};
 use std::alloc::Global;
 use std::sync::ledger::Ledger;
 
-// A zero over a denominator more, for which there is room.
+// Adds a zero over a denominator, in reserved memory.
 fn push_zero<P: Primvar<L>, L: Ledger>(made: &mut Vec<Valued<P>>, zero: &P, den: u128)
     requires { length made.old.items < vec_capacity made.old }
     ensures dens { dens_of (rows_of P.numbers made.new.items) ≡ dens_of (rows_of P.numbers made.old.items) ++ den ∷ [] }
@@ -39,7 +39,7 @@ fn push_zero<P: Primvar<L>, L: Ledger>(made: &mut Vec<Valued<P>>, zero: &P, den:
     });
 }
 
-// A zero over its denominator for each hidden face more, for which there is room.
+// Adds a zero over its denominator for each hidden face, in reserved memory.
 fn push_hidden<P: Primvar<L>, L: Ledger>(
     made: &mut Vec<Valued<P>>,
     zero: &P,
@@ -55,7 +55,7 @@ fn push_hidden<P: Primvar<L>, L: Ledger>(
     }
 }
 
-// A zero over its denominator for each child point, and then for each hidden face.
+// Returns a zero over its denominator for each child point, then for each hidden face.
 fn zeros<P: Primvar<L>, L: Ledger>(
     alloc: Global,
     zero: &P,
@@ -74,7 +74,7 @@ fn zeros<P: Primvar<L>, L: Ledger>(
     Ok(made)
 }
 
-// The values of all that has a zero in the list: those of faces first.
+// Writes the value of each place of the list, first those of faces.
 fn put_all<P: Primvar<L>, L: Ledger>(
     parent: &Level,
     child: &Child,
@@ -104,9 +104,8 @@ fn put_all<P: Primvar<L>, L: Ledger>(
     );
 }
 
-/// The values of the points of a child, of which the survey found that they can be made. The zero has as many numbers as each
-/// value. It is one step for each mask term, and for each corner of a face whose new point is used although no child point
-/// comes from it. It answers `Memory` where memory runs out.
+/// Returns the values of the points of a child, after a survey without a fault. The zero has as many numbers as each value.
+/// Each mask term is one step, and so is each corner of a hidden face. Reports `Memory` where memory runs out.
 pub(crate) fn make_values<P: Primvar<L>, L: Ledger>(
     alloc: Global,
     parent: &Level,

@@ -26,7 +26,7 @@ pub IsWithin-greatest : (m : ℕ) (xs : List ℤ) → greatest_amount xs ≤ m �
 IsWithin-greatest m [] h = tt
 IsWithin-greatest m (x ∷ xs) h = (omega arith, IsWithin-greatest m xs (omega arith))
 
--- and it is within each bound of all
+-- the greatest amount is within each bound of all amounts
 pub greatest-within : (m : ℕ) (xs : List ℤ) → IsWithin m xs → greatest_amount xs ≤ m
 greatest-within m [] h = omega arith
 greatest-within m (x ∷ xs) h = let rest = greatest-within m xs h.1 in let first = h.0 in omega arith
@@ -52,7 +52,7 @@ length-plus_times w [] ys = refl
 length-plus_times w (x ∷ xs) [] = refl
 length-plus_times w (x ∷ xs) (y ∷ ys) = grind (arith, length-plus_times w xs ys)
 
--- there are as many zeros
+-- a list has as many zeros as numbers
 pub length-zeros : (xs : List ℤ) → length (zeros xs) ≡ length xs
 length-zeros [] = refl
 length-zeros (x ∷ xs) = grind (arith, length-zeros xs)
@@ -66,7 +66,7 @@ IsWithin-plus_times s w m (x ∷ xs) (y ∷ ys) hx hy = (
   IsWithin-plus_times s w m xs ys hx.1 hy.1,
 )
 
--- and can be added where that is small
+-- weighted numbers can be added if the sum of their bounds is small
 pub CanAdd-within : (s w m : ℕ) (xs ys : List ℤ) → IsWithin s xs → IsWithin m ys → s + w * m < 2 ^ 127 → CanAdd (pos w) xs ys
 CanAdd-within s w m [] ys hx hy h = tt
 CanAdd-within s w m (x ∷ xs) [] hx hy h = tt

@@ -1,4 +1,4 @@
--- Factors of two: what is left of a number without them, and that a common divisor may be found without them.
+-- Factors of two: the odd part of a number, and common divisors found without factors of two.
 use Rattle.std.proofs.Common.{◌≡◌, ◌≢◌, ◌⊎◌, ℕ, zero, suc, ◌+◌, ◌-◌, ◌*◌, ◌/◌, ◌%◌, ◌^◌, ◌<◌, ◌≤◌, max, min, inl, inr, arith, subst, sym, ap, ◌∙◌}
 use Rattle.std.specs.Int.{IsGcd, ◌∣◌, bit_at, w64, w128, trailing_zeros}
 use Rattle.std.proofs.lemmas.Bool.{cases_lt}
@@ -22,7 +22,7 @@ whole-multiple (suc k) n low =
     ∙ ap (λ m. m * 2) half
     ∙ omega (arith, even)
 
--- the number without its factors of two is odd, and with them it is the number
+-- the odd part of a number is odd, and times its factors of two it is the number
 pub odd-part : (n : ℕ) → 0 < n → n < 2 ^ 128 → n / 2 ^ trailing_zeros w128 n % 2 ≡ 1
 odd-part n some fits = (bit_at-trailing_zeros w128 n some fits).1
 
@@ -59,7 +59,7 @@ odd-divisor p d odd within =
     let some : d % 2 ≢ 0 = λ even. let none : p % 2 ≡ 0 = mod-eq-zero_of_dvd 2 (dvd_trans 2 (dvd_of_mod-eq-zero 2 even) within) in absurd (omega arith) in
     omega arith
 
--- factors of two in one number alone change no common divisor
+-- factors of two in only one of two numbers change no common divisor
 gcd-twos : (k p q g : ℕ) → p % 2 ≡ 1 → IsGcd p q g → IsGcd p (q * 2 ^ k) g
 gcd-twos k p q g odd is = (
   is.0,
@@ -92,7 +92,7 @@ gcd-of-difference x y q k g one two whole is = by (cases_lt x y)
         let rest : IsGcd y (x - y) g = gcd-of-odd-part y (x - y) q k g two (whole ∙ apart) (subst (λ (m : ℕ). IsGcd m q g) least is) in
         IsGcd-from_sub x y g above (IsGcd-swap y (x - y) g rest)
 
--- of two numbers with factors of two, the lesser power is common
+-- the lesser power of two is a common factor of two numbers
 gcd-parts : (i j p q g : ℕ) → i ≤ j → p % 2 ≡ 1 → IsGcd p q g → IsGcd (p * 2 ^ i) (q * 2 ^ j) (g * 2 ^ i)
 gcd-parts i j p q g h odd is =
     let e : j ≡ j - i + i = omega arith in

@@ -10,7 +10,7 @@ IsGcd-positive a b zero is positive =
     let none : b ≡ 0 = eq-zero_of_zero-dvd is.1 in absurd (omega arith)
 IsGcd-positive a b (suc g) is positive = omega arith
 
--- what is left has no common factor
+-- the quotients by the greatest common divisor have no common factor
 pub IsGcd-quotients : (a b g : ℕ) → 0 < g → IsGcd a b g → IsGcd (a / g) (b / g) 1
 IsGcd-quotients a b g positive is = (
   one-dvd (a / g),
@@ -40,7 +40,7 @@ pub same_fraction : (z : ℤ) (b g : ℕ) → IsGcd (unsigned_abs z) b g → z *
 same_fraction (pos a) b g is = ap pos (crossed a b g is)
 same_fraction (negsuc a) b g is = ap (λ m. neg_ℤ (pos m)) (crossed (suc a) b g is) ∙ neg_times (suc a / g) b
 
--- what is left of a number when a factor goes
+-- the quotient by a common divisor is above 0
 pub quotient_positive : (a b g : ℕ) → IsGcd a b g → 0 < b → 0 < b / g
 quotient_positive a b g is positive =
     let whole : b / g * g ≡ b = div-mul_cancel g is.1 in nonzero (b / g) whole

@@ -1,6 +1,6 @@
 ghost use Rattle.std.specs.Prelude.{◌≡◌, ◌/◌, ◌<◌};
 
-// The quotient of words of 64 bits. A power of two divides by a shift.
+// The quotient of two words of 64 bits. For a power of two it is a shift.
 fn divide_words(a: u64, b: u64) -> u64
     requires { 0 < b }
     ensures { result ≡ a / b }
@@ -12,7 +12,7 @@ fn divide_words(a: u64, b: u64) -> u64
     a / b
 }
 
-// The quotient by a divisor that has no factor of two, in words where both numbers fit, which divide much faster.
+// The quotient by an odd divisor. Where both numbers fit words of 64 bits, words are divided, which is much faster.
 fn divide_by_odd(a: u128, b: u128) -> u128
     requires { 0 < b }
     ensures { result ≡ a / b }
@@ -26,8 +26,9 @@ fn divide_by_odd(a: u128, b: u128) -> u128
     a / b
 }
 
-/// The whole quotient of a number by one of at least 1, in words of 64 bits where both numbers fit, as most do. Else factors of two
-/// of the divisor are shifted out first, so that a power of two divides by a shift.
+/// Returns the quotient, rounded down. The divisor is at least 1.
+///
+/// It divides words of 64 bits where both numbers fit. Otherwise it first shifts out the divisor's factors of two.
 pub fn quotient(a: u128, b: u128) -> u128
     requires { 0 < b }
     ensures { result ≡ a / b }

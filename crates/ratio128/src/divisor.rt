@@ -5,7 +5,7 @@ ghost use Rattle.ratio128.specs.Ratio.{signed_like};
 use crate::euclid::{gcd_of_odds, odd_part};
 use crate::quotient;
 
-/// The greatest common divisor: the one that every common divisor divides. It is 0 for two zeros.
+/// Returns the greatest common divisor of two numbers, and 0 for two zeros.
 pub fn gcd(a: u128, b: u128) -> u128
     ensures { IsGcd a b result }
 {
@@ -19,17 +19,16 @@ pub fn gcd(a: u128, b: u128) -> u128
     gcd_of_odds(odd_part(a), odd_part(b)) << twos
 }
 
-/// A whole numerator over a whole denominator, just as given; `lowest` makes one in lowest terms.
+/// A fraction: a whole numerator over a whole denominator, not reduced. `lowest` returns one in lowest terms.
 #[derive(Clone, Copy, Debug, PartialEq, Eq)]
 pub struct Frac {
     pub num: i128,
     pub den: u128,
 }
 
-/// The same fraction in lowest terms: its numerator and denominator have no common divisor but 1.
+/// Returns the same fraction in lowest terms, with a denominator of at least 1; zero becomes 0/1.
 ///
-/// `den` is at least 1, and so is the denominator of the answer, so that the numerator has the
-/// sign; 0 is 0/1. `num` is any number but the least `i128`, whose amount has no `i128`.
+/// `den` is at least 1. `num` is any number but the least `i128`, whose amount no `i128` holds.
 pub fn lowest(num: i128, den: u128) -> Frac
     requires positive { 0 < den }
     requires kept { unsigned_abs num < 2 ^ 127 }
@@ -45,7 +44,7 @@ pub fn lowest(num: i128, den: u128) -> Frac
     }
 }
 
-// The amount, below 0 where the number is.
+// The amount with the sign of the number.
 fn with_sign_of(number: i128, amount: u128) -> i128
     requires { amount < 2 ^ 127 }
     ensures { result ≡ signed_like number amount }

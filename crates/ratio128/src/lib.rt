@@ -1,6 +1,8 @@
-//! Whole numbers of 128 bits: quotients, divisors and multiples, fractions in lowest terms, points, lists
-//! of numbers that are refined as one, values over a denominator, the bounds of all numbers, and a counter of steps.
-//! No call takes memory.
+//! Exact arithmetic of 128 bits that never overflows: quotients, divisors, bounded products, fractions in lowest terms, points
+//! and the project's limits.
+//!
+//! Signed numbers are `i128`; amounts and denominators are `u128`. No call uses memory or returns an error: `None` of
+//! `times_within` and `lcm_within` means that the answer passes the bound. Types that are refined implement `Primvar`.
 #![tactic(auto)]
 
 mod division;

@@ -15,8 +15,9 @@ pub const ENTRY_BOUND: u64 = 1 << 27;
 /// The greatest denominator of a value, and the greatest amount of a numerator over it: 2^126 - 1.
 pub const NUMBER_BOUND: u128 = (1 << 126) - 1;
 
-/// Each numerator and each denominator that is read is less than this, and their common denominator is at most this: 10^37.
+/// The bound of numbers that are read: 10^37. Each numerator and denominator is less; the common denominator of a mesh is at most
+/// this.
 pub const NUMERAL_BOUND: u128 = 10_000_000_000_000_000_000_000_000_000_000_000_000;
 
-/// The greatest denominator of a sharpness, and of a weight between the rules of two levels: 2^60.
+/// The greatest denominator of a sharpness, and of the weight that blends two rules at a vertex: 2^60.
 pub const SHARPNESS_BOUND: u128 = 1 << 60;

@@ -3,12 +3,12 @@ ghost use Rattle.std.specs.Prelude.{◌≡◌, Some, codes};
 use std::alloc::{AllocError, AllocFailed};
 use std::fmt;
 
-/// Memory ran out: the one fault of a call that has no other.
+/// The error of a call that fails only where memory runs out.
 #[derive(Clone, Copy, Debug, PartialEq, Eq)]
 pub struct Memory;
 
 impl Memory {
-    /// The fault in words.
+    /// Returns the words `out of memory`.
     pub fn text(&self) -> &'static str
         ensures { result.now ≡ codes "out of memory" }
     {

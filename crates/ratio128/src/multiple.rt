@@ -3,7 +3,7 @@ ghost use Rattle.ratio128.specs.Ratio.{IsLcm};
 
 use crate::{gcd, quotient};
 
-/// The product, where it is at most the bound. `None` comes exactly where it passes the bound.
+/// Returns the product, or `None` exactly where it is more than the bound.
 pub fn times_within(a: u128, b: u128, bound: u128) -> Option<u128>
     ensures passed { IsNone result ↔ (bound < a * b) }
     ensures product { IfSome result (λ p. p ≡ a * b) }
@@ -12,8 +12,7 @@ pub fn times_within(a: u128, b: u128, bound: u128) -> Option<u128>
     a.checked_mul(b).filter(|p| *p <= bound)
 }
 
-/// The least common multiple of two numbers of at least 1, where it is at most the bound. `None`
-/// comes exactly where it passes the bound.
+/// Returns the least common multiple of two numbers of at least 1, or `None` exactly where it is more than the bound.
 pub fn lcm_within(a: u128, b: u128, bound: u128) -> Option<u128>
     requires a_positive { 0 < a }
     requires b_positive { 0 < b }

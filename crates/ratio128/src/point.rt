@@ -1,4 +1,4 @@
-/// A point of space, or three whole numerators over a denominator that its holder knows.
+/// Three coordinates: a control point in space, or three numerators over a denominator that the owner keeps.
 #[derive(Clone, Copy, Debug, PartialEq, Eq)]
 pub struct Point3 {
     pub x: i128,
@@ -6,7 +6,7 @@ pub struct Point3 {
     pub z: i128,
 }
 
-/// A texture value, or two whole numerators over a denominator that its holder knows.
+/// Two coordinates: a texture value, or two numerators over a denominator that the owner keeps.
 #[derive(Clone, Copy, Debug, PartialEq, Eq)]
 pub struct Point2 {
     pub u: i128,

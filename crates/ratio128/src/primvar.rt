@@ -1,4 +1,4 @@
-//! Lists of whole numbers that are refined as one.
+//! Lists of whole numbers that are refined together.
 
 ghost use Rattle.std.specs.Prelude.{◌≡◌, ℕ, ◌+◌, ◌*◌, ◌^◌, ◌<◌, ℤ, pos, ◌+ℤ◌, ◌*ℤ◌, unsigned_abs, List, [], ◌∷◌, length};
 ghost use Rattle.ratio128.specs.Numbers.{plus_times, CanAdd, CanAddNarrow, IsKept, zeros, greatest_amount};
@@ -6,13 +6,14 @@ ghost use Rattle.ratio128.specs.Numbers.{plus_times, CanAdd, CanAddNarrow, IsKep
 use crate::{Point2, Point3, Steps};
 use std::sync::ledger::Ledger;
 
-/// A list of whole numbers that is refined as one. Code that is generic in it can change a value only by a call that is a step
-/// of the counter of `L`, or to zeros.
+/// A list of whole numbers that is refined as one value, such as the coordinates of a point.
+///
+/// Code that is generic in it can change the numbers only by the calls below: each addition counts as one step in the ledger `L`.
 pub trait Primvar<L: Ledger>: Drop {
-    /// The numbers.
+    /// The numbers, for contracts.
     ghost numbers: { Self → List ℤ };
 
-    /// Zeros of the same length.
+    /// Returns as many zeros as there are numbers.
     fn cleared(&self) -> Self
         ensures { numbers result ≡ zeros (numbers self.now) };
 
@@ -20,20 +21,24 @@ pub trait Primvar<L: Ledger>: Drop {
     fn clear(&mut self)
         ensures { numbers self.new ≡ zeros (numbers self.old) };
 
-    /// The greatest amount of the numbers, and 0 where there is none.
+    /// Returns the greatest amount of the numbers, and 0 for an empty list.
     fn greatest(&self) -> u128
         ensures { result ≡ greatest_amount (numbers self.now) };
 
-    /// Adds `weight` times each number of the source. Both lists have one length, and each product and each sum is less than
-    /// 2^127 in amount. It is one step.
+    /// Adds `weight` times each number of the source, as one step.
+    ///
+    /// Both lists have the same length, and the amount of each product and each sum is less than 2^127.
     fn add_with_weight(&mut self, weight: i128, source: &Self, steps: &mut Steps<L>)
         requires same_length { length (numbers self.old) ≡ length (numbers source.now) }
         requires fits { CanAdd weight (numbers self.old) (numbers source.now) }
         ensures added { numbers self.new ≡ plus_times weight (numbers self.old) (numbers source.now) }
         ensures step { steps.new ≡ steps.old + 1 };
 
-    /// Adds `weight` times each number of the source, where 64 bits serve: the weight is from 1 to 2^63 - 1, and each number in
-    /// amount plus the weight times that of the source is at most 2^63 - 1. Both lists have one length. It is one step.
+    /// Adds `weight` times each number of the source in arithmetic of 64 bits, as one step. A type of your own can call
+    /// `add_with_weight`.
+    ///
+    /// Both lists have the same length. The weight is from 1 to 2^63 - 1. For each number, its amount plus the weight times the
+    /// source's amount is at most 2^63 - 1.
     fn add_narrow(&mut self, weight: u64, source: &Self, steps: &mut Steps<L>)
         requires same_length { length (numbers self.old) ≡ length (numbers source.now) }
         requires some { 0 < weight }
@@ -46,7 +51,7 @@ pub trait Primvar<L: Ledger>: Drop {
     }
 }
 
-// The number plus weight times another.
+// The number plus `weight` times the other.
 fn plus(number: i128, weight: i128, other: i128) -> i128
     requires product { IsKept (weight *ℤ other) }
     requires sum { IsKept (number +ℤ weight *ℤ other) }
@@ -55,7 +60,7 @@ fn plus(number: i128, weight: i128, other: i128) -> i128
     number + weight * other
 }
 
-// The number in 64 bits.
+// The number as a word of 64 bits.
 fn word_of(number: i128) -> i64
     requires { unsigned_abs number < 2 ^ 63 }
     ensures { result ≡ number }
@@ -63,7 +68,7 @@ fn word_of(number: i128) -> i64
     number as i64
 }
 
-// The number plus weight times another, in 64 bits.
+// The number plus `weight` times the other, in 64 bits.
 fn plus_in_word(number: i64, weight: i64, other: i64) -> i64
     requires product { unsigned_abs (weight *ℤ other) < 2 ^ 63 }
     requires sum { unsigned_abs (number +ℤ weight *ℤ other) < 2 ^ 63 }
@@ -72,7 +77,7 @@ fn plus_in_word(number: i64, weight: i64, other: i64) -> i64
     number + weight * other
 }
 
-// The number plus weight times another, of which each has 64 bits.
+// The number plus `weight` times the other, where each factor fits 64 bits.
 fn plus_narrow(number: i128, weight: u64, other: i128) -> i128
     requires some { 0 < weight }
     requires short { weight < 2 ^ 63 }

@@ -3,8 +3,7 @@ ghost use Rattle.std.specs.Prelude.{◌≡◌, ℕ, ◌+◌, ◌<◌};
 use std::marker::Model;
 use std::sync::ledger::{Book, Ledger, Share};
 
-/// How many steps were taken. It takes no bytes, contracts alone see the number, and only `tick`
-/// changes it.
+/// A counter of steps that takes no bytes. Only contracts read the count, and only `tick` changes it.
 #[derive(Drop)]
 pub struct Steps<L: Ledger> {
     book: Book<L>,
@@ -20,8 +19,8 @@ impl<L: Ledger> Model for Steps<L> {
 }
 
 impl<L: Ledger> Steps<L> {
-    /// The counter of a ledger that was just opened, at 0. A ledger is opened once, so code that is
-    /// generic in it cannot make a second counter of it.
+    /// Returns the counter, at 0, of a ledger that was just opened. A ledger is opened once, so generic code cannot make a second
+    /// counter of it.
     pub fn start(opened: (Book<L>, Share<L>)) -> Steps<L>
         requires fresh { opened.0.total ≡ 0 }
         requires parts { 0 < opened.1.parts }
@@ -31,7 +30,7 @@ impl<L: Ledger> Steps<L> {
         Steps { book, share }
     }
 
-    /// Takes one step.
+    /// Counts one step.
     pub fn tick(&mut self)
         ensures { self.new ≡ self.old + 1 }
     {

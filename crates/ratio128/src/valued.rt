@@ -1,4 +1,4 @@
-/// Whole numerators over a denominator that is at least 1.
+/// Whole numerators over one denominator, which is at least 1.
 #[derive(Clone, Copy, Debug, PartialEq, Eq)]
 pub struct Valued<P> {
     pub value: P,

@@ -12,7 +12,7 @@ use Rattle.raw_mesh.specs.declared.mesh.Faces.{Faces}
 use Rattle.raw_mesh.specs.declared.tags.Tags.{Tags}
 use Rattle.raw_mesh.proofs.PiecesLemmas.{length-pieces, sum_by-pieces, length-range, head_below}
 
--- each piece of a list has what each of its elements has
+-- A property of all elements of a list holds in each of its pieces.
 pieces-all : (P : ℕ → Type 0) (starts xs : List ℕ) → All P xs → All (λ piece. All P piece) (pieces starts xs)
 pieces-all P [] xs h = All-nil (λ piece. All P piece)
 pieces-all P (a ∷ []) xs h = All-nil (λ piece. All P piece)
@@ -22,7 +22,7 @@ pieces-all P (a ∷ (b ∷ places)) xs h =
     range-all : (ys : List ℕ) (i j : ℕ) → All P ys → All P (slice_range ys i j)
     range-all ys i j all = All-take P (j - i) (drop i ys) (All-drop P i ys all)
 
--- the pieces have no more elements than the list
+-- The pieces have no more elements than the list.
 pieces-short : (starts xs : List ℕ) → Ascend starts (length xs) → sum_by length (pieces starts xs) ≤ length xs
 pieces-short [] xs h = absurd h
 pieces-short (s ∷ starts) xs h = omega (arith, sum_by-pieces s starts xs h)
@@ -32,7 +32,7 @@ texture-all : (has : Bool) (P : ℕ → Type 0) (starts xs : List ℕ) → All P
 texture-all true P starts xs h = pieces-all P starts xs h
 texture-all false P starts xs h = All-nil (λ piece. All P piece)
 
--- the pieces of a list have the lengths between their places, whatever stands in them
+-- The lengths of the pieces depend only on the places.
 pieces-lengths : (starts xs ys : List ℕ) → Ascend starts (length xs) → length xs ≡ length ys → map length (pieces starts xs) ≡ map length (pieces starts ys)
 pieces-lengths [] xs ys h same = refl
 pieces-lengths (a ∷ []) xs ys h same = refl
@@ -43,13 +43,13 @@ pieces-lengths (a ∷ (b ∷ places)) xs ys h same =
     ap (λ n. n ∷ map length (pieces (b ∷ places) xs)) long
     ∙ ap (λ ns. length (slice_range ys a b) ∷ ns) (pieces-lengths (b ∷ places) xs ys h.1 same)
 
--- where there is texture, each corner has a number
+-- With texture, each corner has a number.
 texture-lengths : (has : Bool) (starts xs ys : List ℕ) → Ascend starts (length xs) → (has ≡ true → length ys ≡ length xs)
     → has ≡ true → map length (if has then pieces starts ys else []) ≡ map length (pieces starts xs)
 texture-lengths true starts xs ys h same is = sym (pieces-lengths starts xs ys h (sym (same refl)))
 texture-lengths false starts xs ys h same is = cc is
 
--- what a mesh keeps of its numbers, from its lists
+-- The bounds of a mesh follow from its lists.
 pub within : (coordinates : Coordinates) (faces : Faces) (has_texture : Bool) (tags : Tags) → AreKept coordinates faces has_texture tags
     → IsWithin (mesh_of coordinates faces has_texture tags)
 within coordinates faces has_texture tags are =

@@ -134,7 +134,7 @@ whole-parts parts faces starts corners texture e =
       hole_faces = none-first (nat_le (length sizes)) (λ f. f + 1 < length faces.starts.items) parts.tags.holes.items (λ f below. let less = below-from (length sizes) f below in omega (arith, less, long)) (map-none bad.Hole _ second.1);
     }
 
--- the mesh of these lists is that of the parts
+-- The mesh of these lists is the mesh of the parts.
 pub mesh-parts : (parts : MeshParts) (faces : Faces) → faces.starts.items ≡ starts_from 0 parts.face_sizes.items
     → faces.corners.items ≡ parts.corners.items → faces.texture_corners.items ≡ parts.texture_corners.items
     → mesh_of_lists parts.coordinates faces parts.tags ≡ mesh_of_parts parts

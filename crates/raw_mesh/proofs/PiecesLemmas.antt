@@ -74,7 +74,7 @@ range-middle prefix ys zs s t e h =
     let within : t ≤ length (prefix ++ ys) = omega (arith, h, length-append prefix ys) in
     range-append (prefix ++ ys) zs s t within ∙ ap (λ a. slice_range (prefix ++ ys) a t) e ∙ ap (slice_range (prefix ++ ys) (length prefix)) h ∙ range-rest prefix ys
 
--- lists whose parts are as long as these pieces have the same places
+-- Lists whose parts have the lengths of these pieces have the same places.
 pieces-alike : (f g : ℕ → List ℕ) → ((i : ℕ) → length (g i) ≡ length (f i)) → (starts xs prefix is : List ℕ) → Ascend starts (length xs)
     → pieces starts xs ≡ map f is → get_or starts 0 0 ≡ length prefix → pieces starts (prefix ++ flat_map g is) ≡ map g is
 pieces-alike f g same [] xs prefix is a e h = absurd a

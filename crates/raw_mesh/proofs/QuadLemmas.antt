@@ -44,7 +44,7 @@ ascend-from a (suc n) end e = (omega arith, ascend-from (a + 1) n end (omega (ar
 four-each : (corners : List ℕ) → length corners % 4 ≡ 0 → length corners ≡ 4 * 0 + 4 * (length corners / 4)
 four-each corners fours = omega (arith, fours, div-add-mod (length corners) 4)
 
--- the places with the one after the last, as a successor says it
+-- The places and the one after the last, written with a successor.
 counted : (quads : ℕ) → map (λ k. 4 * k) (range_with_len 0 (quads + 1)) ≡ map (λ k. 4 * k) (range_with_len 0 (suc quads))
 counted quads = ap (λ n. map (λ k. 4 * k) (range_with_len 0 n)) (add-one quads)
 
@@ -82,7 +82,7 @@ quads-kept given corners creases coordinates faces tags points are only small fo
   whole = rw points.points (quads-whole (length given) (length coordinates.texture.items) corners creases faces tags are only fours short vertices ends);
 }
 
--- the mesh of these lists is that of the quads
+-- The mesh of these lists is the mesh of the quads.
 pub quads-mesh : (given : List Point3) (corners : List ℕ) (creases : List Crease) (coordinates : Coordinates) (faces : Faces) (tags : Tags)
     → ArePoints given coordinates → AreQuads corners faces → AreCreases creases tags → length corners % 4 ≡ 0
     → mesh_of coordinates faces false tags ≡ mesh_of_quads given corners creases

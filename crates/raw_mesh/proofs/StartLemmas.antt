@@ -37,7 +37,7 @@ pieces-starts place (size ∷ sizes) xs = by sizes (pieces-starts (place + size)
     by [] e = join-cons (ap (λ n. take n (drop place xs)) run) (e ∙ ap (runs_of []) rest)
     by (next ∷ left) e = join-cons (ap (λ n. take n (drop place xs)) run) (e ∙ ap (runs_of (next ∷ left)) rest)
 
--- one more place stands before those of the rest
+-- One more place precedes those of the rest.
 pub starts-more : (starts : List ℕ) (place size : ℕ) (sizes all : List ℕ) → starts ++ starts_from place (size ∷ sizes) ≡ all
     → (starts ++ place ∷ []) ++ starts_from (place + size) sizes ≡ all
 starts-more starts place size sizes all e = append_assoc starts (place ∷ []) (starts_from (place + size) sizes) ∙ e

@@ -1,12 +1,12 @@
--- What every mesh keeps of its numbers.
+-- The bounds of the numbers of every mesh.
 -- Source: this profile.
 use Rattle.std.specs.Prelude.{◌≡◌, ◌<◌, ◌≤◌, ◌^◌, true, length, map}
 use Rattle.std.specs.List.{All, sum_by}
 use Rattle.subdiv_model.specs.ObjMesh.{ObjMesh}
 use Rattle.subdiv_model.specs.Short.{IsShortPoint, IsShortTexture}
 
--- each common denominator is from 1 to 10^37, each numerator is below 10^37 in amount, every number in a face or a tag is
--- below the length of the list that it counts, and where there is texture each corner has a texture number
+-- Each common denominator is from 1 to 10^37, and each numerator is below 10^37 in amount. Each face and tag names items that exist, and
+-- each corner of a mesh with texture has a texture value.
 pub record IsWithin (mesh : ObjMesh) : Type 0 where
   pub common : 0 < mesh.common
   pub common_short : mesh.common ≤ 10 ^ 37

@@ -13,7 +13,7 @@ use Rattle.raw_mesh.specs.declared.mesh.Coordinates.{Coordinates}
 use Rattle.raw_mesh.specs.declared.mesh.Faces.{Faces}
 use Rattle.raw_mesh.specs.declared.tags.Tags.{Tags}
 
--- each next four corners as a face, while there are four
+-- Each four successive corners as a face; up to three corners at the end are left out.
 abbrev pub quads_of : List ℕ → List Polygon
 quads_of [] = []
 quads_of (a ∷ []) = []
@@ -21,7 +21,7 @@ quads_of (a ∷ (b ∷ [])) = []
 quads_of (a ∷ (b ∷ (c ∷ []))) = []
 quads_of (a ∷ (b ∷ (c ∷ (d ∷ corners)))) = (a ∷ b ∷ c ∷ d ∷ []) ∷ quads_of corners
 
--- the mesh of these points over 1, of these quads, with these creases and nothing else
+-- The mesh of these points over 1, these quads and these creases, with no other part.
 abbrev pub mesh_of_quads : List Point3 → List ℕ → List Crease → ObjMesh
 mesh_of_quads points corners creases = record {
   points = map point_of points;
@@ -38,20 +38,20 @@ mesh_of_quads points corners creases = record {
   method = Normal;
 }
 
--- these points over 1, without texture values
+-- The points over 1, without texture values.
 pub record ArePoints (given : List Point3) (coordinates : Coordinates) : Type 0 where
   pub points : coordinates.points.items ≡ given
   pub scale : coordinates.scale ≡ 1
   pub texture : coordinates.texture.items ≡ []
   pub texture_scale : coordinates.texture_scale ≡ 1
 
--- these corners as quads, one after the other, without texture
+-- The corners as quads, one after another, without texture.
 pub record AreQuads (given : List ℕ) (faces : Faces) : Type 0 where
   pub starts : faces.starts.items ≡ map (λ k. 4 * k) (range_with_len 0 (length given / 4 + 1))
   pub corners : faces.corners.items ≡ given
   pub texture : faces.texture_corners.items ≡ []
 
--- these creases, and no other tag
+-- The creases, without any other tag.
 pub record AreCreases (given : List Crease) (tags : Tags) : Type 0 where
   pub creases : tags.creases.items ≡ given
   pub corners : tags.corners.items ≡ []

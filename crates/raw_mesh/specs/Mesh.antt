@@ -1,4 +1,4 @@
--- A mesh in plain lists, seen as that of the definitions.
+-- A mesh in plain lists as the mesh of the definitions.
 use Rattle.std.specs.Prelude.{ℕ, ◌≡◌, ◌+◌, Bool, ◌&&◌, nat_eq, nat_lt, ◌≤◌, ◌<◌, ◌^◌, true, List, [], ◌∷◌, length, map, slice_range, if◌then◌else◌}
 use Rattle.std.specs.List.{All}
 use Rattle.sharpness_rules.specs.View.{method_of}
@@ -9,23 +9,23 @@ use Rattle.raw_mesh.specs.declared.mesh.Coordinates.{Coordinates}
 use Rattle.raw_mesh.specs.declared.mesh.Faces.{Faces}
 use Rattle.raw_mesh.specs.declared.tags.Tags.{Tags}
 
--- the pieces of a list between each of these places and the next
+-- The parts of a list between each place and the next.
 abbrev pub pieces : List ℕ → List ℕ → List (List ℕ)
 pieces [] xs = []
 pieces (a ∷ []) xs = []
 pieces (a ∷ (b ∷ places)) xs = slice_range xs a b ∷ pieces (b ∷ places) xs
 
--- the places ascend to the end
+-- The places ascend, and the last one is `end`.
 abbrev pub Ascend : List ℕ → ℕ → Type 0
 Ascend [] end = ⊥
 Ascend (a ∷ []) end = a ≡ end
 Ascend (a ∷ (b ∷ places)) end = (a ≤ b) × Ascend (b ∷ places) end
 
--- there is a face, and as many texture values are named as there are corners
+-- Whether there is a face, and each corner has a texture value.
 abbrev pub names_all_texture : Faces → Bool
 names_all_texture faces = nat_lt 1 (length faces.starts.items) && nat_eq (length faces.texture_corners.items) (length faces.corners.items)
 
--- the points and the texture values over their common denominators, with the faces and the tags
+-- The mesh of the definitions that these lists spell.
 abbrev pub mesh_of : Coordinates → Faces → Bool → Tags → ObjMesh
 mesh_of coordinates faces has_texture tags = record {
   points = map point_of coordinates.points.items;
@@ -42,18 +42,18 @@ mesh_of coordinates faces has_texture tags = record {
   method = method_of tags.method;
 }
 
--- the mesh of lists, which has texture where the faces name all texture
+-- The mesh of the lists, with texture if every corner has a texture value.
 abbrev pub mesh_of_lists : Coordinates → Faces → Tags → ObjMesh
 mesh_of_lists coordinates faces tags = mesh_of coordinates faces (names_all_texture faces) tags
 
--- each common denominator is from 1 to 10^37, and each numerator is below 10^37 in amount
+-- Each common denominator is from 1 to 10^37, and each numerator is below 10^37 in amount.
 pub record AreShort (coordinates : Coordinates) : Type 0 where
   pub scale : (0 < coordinates.scale) × (coordinates.scale ≤ 10 ^ 37)
   pub texture_scale : (0 < coordinates.texture_scale) × (coordinates.texture_scale ≤ 10 ^ 37)
   pub points : All IsShortPoint (map point_of coordinates.points.items)
   pub texture : All IsShortTexture (map texture_of coordinates.texture.items)
 
--- the places of the faces end at the corners, and numbers are in range
+-- The starts of faces ascend to the number of corners, and every number names an item that exists.
 pub record IsWhole (points values : ℕ) (has_texture : Bool) (faces : Faces) (tags : Tags) : Type 0 where
   pub ascend : Ascend faces.starts.items (length faces.corners.items)
   pub few : length faces.starts.items ≤ 2 ^ 28 + 1
@@ -65,7 +65,7 @@ pub record IsWhole (points values : ℕ) (has_texture : Bool) (faces : Faces) (t
   pub corner_vertices : All (λ c. c.vertex < points) tags.corners.items
   pub hole_faces : All (λ f. f + 1 < length faces.starts.items) tags.holes.items
 
--- the lists of a mesh are short and whole
+-- The lists of a mesh are short and whole.
 pub record AreKept (coordinates : Coordinates) (faces : Faces) (has_texture : Bool) (tags : Tags) : Type 0 where
   pub short : AreShort coordinates
   pub whole : IsWhole (length coordinates.points.items) (length coordinates.texture.items) has_texture faces tags

@@ -1,4 +1,4 @@
-//! What is wrong with the parts of a mesh.
+//! The first fault of the parts of a mesh.
 
 ghost use Rattle.std.specs.Prelude.{◌≡◌, ◌≤◌, ◌^◌, length, sum, nat_le, ◌||◌};
 ghost use Rattle.std.specs.List.{position};
@@ -18,7 +18,7 @@ fn is_scale(scale: u128) -> bool
     0 < scale && scale <= NUMERAL_BOUND
 }
 
-// Whether a point has a numerator that is too long.
+// Whether a point has a numerator of 10^37 or more in amount.
 fn is_long_point(point: &Point3) -> bool
     ensures { result ≡ spec.is_long_point point.now }
 {
@@ -27,49 +27,49 @@ fn is_long_point(point: &Point3) -> bool
         || point.z.unsigned_abs() >= NUMERAL_BOUND
 }
 
-// Whether a texture value has a numerator that is too long.
+// Whether a texture value has a numerator of 10^37 or more in amount.
 fn is_long_value(value: &Point2) -> bool
     ensures { result ≡ spec.is_long_value value.now }
 {
     value.u.unsigned_abs() >= NUMERAL_BOUND || value.v.unsigned_abs() >= NUMERAL_BOUND
 }
 
-// The first point that is too long.
+// The place of the first point with such a numerator.
 fn long_point(points: &[Point3]) -> Option<usize>
     ensures { result ≡ position spec.is_long_point points.now }
 {
     points.iter().position(|point| is_long_point(point))
 }
 
-// The first texture value that is too long.
+// The place of the first texture value with such a numerator.
 fn long_value(values: &[Point2]) -> Option<usize>
     ensures { result ≡ position spec.is_long_value values.now }
 {
     values.iter().position(|value| is_long_value(value))
 }
 
-// The first number that is not below how many there are.
+// The place of the first number that is `count` or more.
 fn first_beyond(numbers: &[u32], count: usize) -> Option<usize>
     ensures { result ≡ position (nat_le count) numbers.now }
 {
     numbers.iter().position(|number| *number as usize >= count)
 }
 
-// The first crease with an end that is not below the number of points.
+// The place of the first crease with an end that names no point.
 fn crease_beyond(creases: &[Crease], points: usize) -> Option<usize>
     ensures { result ≡ position (λ crease. nat_le points crease.a || nat_le points crease.b) creases.now }
 {
     creases.iter().position(|crease| crease.a as usize >= points || crease.b as usize >= points)
 }
 
-// The first corner tag whose vertex is not below the number of points.
+// The place of the first corner tag that names no point.
 fn corner_tag_beyond(tags: &[CornerTag], points: usize) -> Option<usize>
     ensures { result ≡ position (λ tag. nat_le points tag.vertex) tags.now }
 {
     tags.iter().position(|tag| tag.vertex as usize >= points)
 }
 
-// How many corners faces of these sizes have together.
+// How many corners faces of these sizes have in all.
 fn corner_count(sizes: &[u32]) -> u64
     requires { length sizes.now ≤ 2 ^ 28 }
     ensures { result ≡ sum sizes.now }
@@ -81,7 +81,7 @@ fn corner_count(sizes: &[u32]) -> u64
     count
 }
 
-// What is wrong with the coordinates.
+// The first fault of the coordinates.
 fn bad_coordinates(coordinates: &Coordinates) -> Option<BadPart>
     ensures { result ≡ spec.bad_coordinates coordinates.now }
 {
@@ -100,7 +100,7 @@ fn bad_coordinates(coordinates: &Coordinates) -> Option<BadPart>
     }
 }
 
-// What is wrong with the counts of faces and corners.
+// The first fault of the counts of faces and corners.
 fn bad_counts(parts: &MeshParts) -> Option<BadPart>
     ensures { result ≡ spec.bad_counts parts.now }
 {
@@ -119,7 +119,7 @@ fn bad_counts(parts: &MeshParts) -> Option<BadPart>
     None
 }
 
-// The first corner that names nothing.
+// The first corner that names no point or no texture value.
 fn bad_corners(parts: &MeshParts) -> Option<BadPart>
     ensures { result ≡ spec.bad_corners parts.now }
 {
@@ -132,7 +132,7 @@ fn bad_corners(parts: &MeshParts) -> Option<BadPart>
     }
 }
 
-// The first tag that names nothing.
+// The first tag that names no point or no face.
 fn bad_tags(tags: &Tags, points: usize, faces: usize) -> Option<BadPart>
     ensures { result ≡ spec.bad_tags points faces tags.now }
 {
@@ -148,7 +148,7 @@ fn bad_tags(tags: &Tags, points: usize, faces: usize) -> Option<BadPart>
     }
 }
 
-// What is wrong with the parts first.
+// The first fault of the parts.
 pub(crate) fn first_bad_part(parts: &MeshParts) -> Option<BadPart>
     ensures { result ≡ spec.bad_part parts.now }
 {

@@ -4,8 +4,8 @@ use ratio128::Memory;
 use std::alloc::{AllocError, AllocFailed};
 use std::fmt;
 
-/// What is wrong with the parts of a mesh. They are tried in the order of these variants, each over its whole
-/// array. A place is that of an item in its array, counted from 0.
+/// The fault of a part of a mesh. The parts are tested in the order of these variants, each over its whole array. Places are counted from
+/// 0.
 #[derive(Clone, Copy, Debug, PartialEq, Eq)]
 pub enum BadPart {
     /// The common denominator of the points is not from 1 to 10^37.
@@ -20,9 +20,9 @@ pub enum BadPart {
     FaceCount,
     /// There are 2^27 corners or more.
     CornerCount,
-    /// The numbers of corners of all faces do not add up to the number of corners.
+    /// The sizes of the faces do not add up to the number of corners.
     FaceSizes,
-    /// There are texture corners, and not as many as corners.
+    /// There are texture corners, but not one for each corner.
     TextureCornerCount,
     /// The corner at this place names no point.
     Corner(usize),
@@ -67,10 +67,10 @@ impl fmt::Display for BadPart {
 
 impl std::error::Error for BadPart {}
 
-/// Why no mesh was made of its parts.
+/// The fault that kept parts from becoming a mesh.
 #[derive(Clone, Copy, Debug, PartialEq, Eq)]
 pub enum PartsFault {
-    /// A part is refused.
+    /// The first part at fault.
     Bad(BadPart),
     /// Memory ran out.
     Memory,

@@ -12,7 +12,7 @@ use ratio128::{Memory, Point3};
 use sharpness_rules::Method;
 use std::alloc::Global;
 
-// These points over 1, and no texture value.
+// The points over the denominator 1, without texture values.
 fn coordinates(alloc: Global, points: Vec<Point3>) -> Coordinates
     ensures { ArePoints points.items result }
 {
@@ -24,7 +24,7 @@ fn coordinates(alloc: Global, points: Vec<Point3>) -> Coordinates
     }
 }
 
-// Where each of so many quads begins among the corners, and where the last one ends.
+// Where each quad begins among the corners, then where the last one ends.
 fn quad_starts(alloc: Global, quads: usize) -> Result<Vec<u32>, Memory>
     requires few { quads < 2 ^ 25 }
     ensures { IfOk result (λ starts. starts.items ≡ map (λ k. 4 * k) (range_with_len 0 (quads + 1))) }
@@ -48,7 +48,7 @@ fn quads(alloc: Global, corners: Vec<u32>) -> Result<Faces, Memory>
     })
 }
 
-// These creases, and no other tag.
+// The creases, without any other tag.
 fn tags(alloc: Global, creases: Vec<Crease>) -> Tags
     ensures { AreCreases creases.items result }
 {
@@ -62,12 +62,13 @@ fn tags(alloc: Global, creases: Vec<Crease>) -> Tags
 }
 
 impl RawMesh {
-    /// The mesh of these points, over 1, whose faces are quads: each next four of `corners` are the vertices of
-    /// one, counted from 0. It has these creases, no texture, no corner tag and no hole; its boundary mode is
+    /// Returns a mesh of quads: each four successive `corners`, counted from 0, are the points of one.
+    ///
+    /// The points have denominator 1. The mesh has these creases, no texture, no corner tag and no hole. Its boundary mode is
     /// [`Boundary::EdgeOnly`] and its method [`Method::Normal`].
     ///
-    /// There are a multiple of four corners, fewer than 2^27. Each of them and each end of a crease is below the
-    /// number of points. Each numerator is below 10^37 in amount. The error is `Memory`, where memory ran out.
+    /// The number of corners is a multiple of four below 2^27. Each corner and each end of a crease names a point. Each numerator is below
+    /// 10^37 in amount. `Memory`: memory ran out.
     pub fn of_quads(
         alloc: Global,
         points: Vec<Point3>,

@@ -10,7 +10,7 @@ use ratio128::{Point2, Point3};
 use sharpness_rules::Method;
 use std::marker::Model;
 
-/// The points of a mesh and its texture values, as whole numerators, each list over one common denominator.
+/// The points and the texture values of a mesh: whole numerators, each list over one common denominator.
 #[derive(Drop)]
 pub struct Coordinates {
     pub points: Vec<Point3>,
@@ -21,17 +21,16 @@ pub struct Coordinates {
     pub texture_scale: u128,
 }
 
-/// The corners of all faces, one face after the other: face f has those from `starts[f]` up to
-/// `starts[f + 1]`.
+/// The corners of all faces, face after face. Face f has the corners from `starts[f]` up to `starts[f + 1]`.
 #[derive(Drop)]
 pub struct Faces {
     pub starts: Vec<u32>,
     pub corners: Vec<u32>,
-    /// The texture values of the corners that have one. The mesh has texture where there are as many as corners.
+    /// The texture values of the corners. The mesh has texture if it has a face and there is one for each corner.
     pub texture_corners: Vec<u32>,
 }
 
-/// A mesh that need not be a manifold. Vertices, texture values and faces are counted from 0.
+/// A mesh that need not be a manifold. Points, texture values and faces are counted from 0.
 #[derive(Drop)]
 pub struct RawMesh {
     pub(crate) coordinates: Coordinates,
@@ -48,7 +47,7 @@ impl Model for RawMesh {
     ghost invariant = { λ m. AreKept m.coordinates m.faces m.has_texture m.tags };
 }
 
-// The piece of a list from a place up to the next.
+// The part of a list from start f up to start f + 1.
 fn piece<'a>(starts: &[u32], corners: &'a [u32], f: usize) -> &'a [u32]
     requires ascend { Ascend starts.now (length corners.now) }
     requires inside { f + 1 < length starts.now }
@@ -60,7 +59,7 @@ fn piece<'a>(starts: &[u32], corners: &'a [u32], f: usize) -> &'a [u32]
 }
 
 impl Faces {
-    // Whether there is a face, and as many texture values are named as there are corners.
+    // Whether there is a face, and each corner has a texture value.
     fn has_texture(&self) -> bool
         ensures { result ≡ names_all_texture self.now }
     {
@@ -69,11 +68,10 @@ impl Faces {
 }
 
 impl RawMesh {
-    /// The mesh of these coordinates, faces and tags. Nothing is tested, and no memory is taken.
+    /// Returns the mesh of these coordinates, faces and tags. The call tests nothing and takes no memory.
     ///
-    /// Each common denominator is from 1 to 10^37, and each numerator is below 10^37 in amount. The faces begin
-    /// in ascending places and end with the corners, of which there are fewer than 2^27. Each number of a corner, a
-    /// texture corner or a tag is below the length of the list that it counts.
+    /// Each common denominator is from 1 to 10^37, and each numerator is below 10^37 in amount. `starts` ascends and ends at the number of
+    /// corners, which is below 2^27. Each corner, texture corner and tag names an item that exists.
     pub fn of(coordinates: Coordinates, faces: Faces, tags: Tags) -> RawMesh
         requires short { AreShort coordinates }
         requires whole { IsWhole (length coordinates.points.items) (length coordinates.texture.items) false faces tags }
@@ -88,38 +86,38 @@ impl RawMesh {
         }
     }
 
-    /// What a mesh keeps of its numbers. Each common denominator is from 1 to 10^37, and each numerator is below
-    /// 10^37 in amount. Every number in a face, a texture corner or a tag is below the length of the list that it
-    /// counts. Where there is texture, each corner has a texture number. There are fewer than 2^27 corners.
+    /// States the bounds of every mesh to a proof; at run time it does nothing.
+    ///
+    /// Each common denominator is from 1 to 10^37, and each numerator is below 10^37 in amount. Each corner, texture corner and tag names
+    /// an item that exists. There are fewer than 2^27 corners, and a mesh with texture has a texture value for each.
     pub fn facts(&self)
         ensures { IsWithin self.now }
     {
         let _ = &self.coordinates;
     }
 
-    /// The points, as numerators over the common denominator [`RawMesh::scale`]. They have at most 37 digits.
+    /// The points: numerators over [`RawMesh::scale`], of at most 37 digits.
     pub fn points(&self) -> &[Point3]
         ensures { map point_of result.now ≡ self.now.points }
     {
         self.coordinates.points.as_slice()
     }
 
-    /// The common denominator of the points, at least 1 and at most 10^37.
+    /// The common denominator of the points, from 1 to 10^37.
     pub fn scale(&self) -> u128
         ensures { result ≡ self.now.common }
     {
         self.coordinates.scale
     }
 
-    /// The texture values, as numerators over the common denominator [`RawMesh::texture_scale`]. They have at
-    /// most 37 digits.
+    /// The texture values: numerators over [`RawMesh::texture_scale`], of at most 37 digits.
     pub fn texture(&self) -> &[Point2]
         ensures { map texture_of result.now ≡ self.now.texture }
     {
         self.coordinates.texture.as_slice()
     }
 
-    /// The common denominator of the texture values, at least 1 and at most 10^37.
+    /// The common denominator of the texture values, from 1 to 10^37.
     pub fn texture_scale(&self) -> u128
         ensures { result ≡ self.now.texture_common }
     {
@@ -133,7 +131,7 @@ impl RawMesh {
         (self.faces.starts.len() - 1) as u32
     }
 
-    /// The vertices of a face, which is counted from 0 and below [`RawMesh::faces`].
+    /// The points of the corners of face `f`, counted from 0.
     pub fn face(&self, f: u32) -> &[u32]
         requires { f < length self.now.faces }
         ensures { slice_get self.now.faces f ≡ Some result.now }
@@ -141,15 +139,14 @@ impl RawMesh {
         piece(&self.faces.starts, &self.faces.corners, f as usize)
     }
 
-    /// Whether there is a face, and every corner of every face has a texture number.
+    /// Whether there is a face, and each corner has a texture value.
     pub fn has_texture(&self) -> bool
         ensures { result ≡ self.now.has_texture }
     {
         self.has_texture
     }
 
-    /// The texture values of a face's corners, where [`RawMesh::has_texture`]; the face is counted from 0
-    /// and below [`RawMesh::faces`].
+    /// The texture values of the corners of face `f`, counted from 0. The mesh has texture.
     pub fn texture_corners(&self, f: u32) -> &[u32]
         requires texture { self.now.has_texture ≡ true }
         requires face { f < length self.now.faces }
@@ -165,22 +162,21 @@ impl RawMesh {
         self.tags.boundary
     }
 
-    /// The method by which crease sharpness falls.
+    /// The method by which the sharpness of creases decays.
     pub fn method(&self) -> Method
         ensures { method_of result ≡ self.now.method }
     {
         self.tags.method
     }
 
-    /// The creases in the order given, a chain as its pairs. A pair need not be an edge, and
-    /// the last for an edge counts.
+    /// The creases, in the order given; a chain gives its pairs. A pair need not be an edge. If several name one edge, the last one counts.
     pub fn creases(&self) -> &[Crease]
         ensures { map crease_of result.now ≡ self.now.creases }
     {
         self.tags.creases.as_slice()
     }
 
-    /// The corner tags in the order given. The last for a vertex counts.
+    /// The corner tags, in the order given. If several name one point, the last one counts.
     pub fn corner_tags(&self) -> &[CornerTag]
         ensures { map corner_tag_of result.now ≡ self.now.corner_tags }
     {

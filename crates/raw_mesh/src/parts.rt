@@ -1,4 +1,4 @@
-//! Meshes that are made of plain arrays.
+//! Meshes made from plain arrays.
 
 ghost use Rattle.std.specs.Prelude.{◌≡◌, ◌+◌, ◌<◌, ◌^◌, length, sum, None, IfOk, MatchResult};
 ghost use Rattle.raw_mesh.specs.Parts.{bad_part, mesh_of_parts, IsPartsFault};
@@ -14,16 +14,16 @@ use std::alloc::{AllocError, Global};
 #[derive(Drop)]
 pub struct MeshParts {
     pub coordinates: Coordinates,
-    /// Of each face, how many corners it has.
+    /// How many corners each face has.
     pub face_sizes: Vec<u32>,
-    /// The vertices of the corners of all faces, one face after the other.
+    /// The points of the corners of all faces, face after face.
     pub corners: Vec<u32>,
-    /// The texture values of these corners; empty where the mesh has no texture.
+    /// The texture values of these corners; empty if the mesh has no texture.
     pub texture_corners: Vec<u32>,
     pub tags: Tags,
 }
 
-// Where each face of these sizes begins, and where the last one ends.
+// Where each face of these sizes begins, then where the last one ends.
 fn starts_of(alloc: Global, sizes: &[u32]) -> Result<Vec<u32>, AllocError>
     requires { sum sizes.now < 2 ^ 27 }
     ensures { IfOk result (λ starts. starts.items ≡ starts_from 0 sizes.now) }
@@ -38,7 +38,7 @@ fn starts_of(alloc: Global, sizes: &[u32]) -> Result<Vec<u32>, AllocError>
     Ok(starts)
 }
 
-// The mesh of parts with which nothing is wrong.
+// The mesh of parts without a fault.
 fn mesh_of_good(alloc: Global, parts: MeshParts) -> Result<RawMesh, AllocError>
     requires { bad_part parts ≡ None }
     ensures { IfOk result (λ mesh. mesh ≡ mesh_of_parts parts) }
@@ -53,11 +53,12 @@ fn mesh_of_good(alloc: Global, parts: MeshParts) -> Result<RawMesh, AllocError>
 }
 
 impl RawMesh {
-    /// The mesh of these parts. It has texture where there is a face, and a texture corner for each corner.
+    /// Returns the mesh of these parts. It has texture if there is a face and a texture corner for each corner.
     ///
-    /// The error is `Bad` with the first part that is wrong, in the order of the variants of [`BadPart`]; of one
-    /// kind it is the least place. It is `Memory` where memory ran out. Only the array of where faces begin takes
-    /// memory.
+    /// - `Bad`: the first part at fault, in the order of the variants of [`BadPart`], and within one kind at the least place.
+    /// - `Memory`: memory ran out. Only the array of the starts of faces takes memory.
+    ///
+    /// After an error the parts are dropped.
     ///
     /// [`BadPart`]: crate::BadPart
     pub fn from_parts(alloc: Global, parts: MeshParts) -> Result<RawMesh, PartsFault>

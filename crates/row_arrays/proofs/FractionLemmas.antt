@@ -89,7 +89,7 @@ nearest-more f fractions place old new num den inside kept num-is den-is nearest
     (AreNearest-put f (map (fraction_at fractions) (range_with_len 0 place)) old new place (fraction_at fractions place).0
     (fraction_at fractions place).1 inside kept one so-far)
 
--- what is known where nothing is wrong
+-- The facts of fractions without a fault.
 pub record AreGood (fractions : FractionArrays) (places : ℕ) : Type 0 where
   pub shared : 0 < fractions.per
   pub room : length fractions.numerators.now ≤ places

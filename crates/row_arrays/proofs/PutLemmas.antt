@@ -13,7 +13,7 @@ use Rattle.row_arrays.specs.declared.rows.ControlArrays.{ControlArrays}
 use Rattle.row_arrays.specs.declared.rows.RowFault.{RowFault}
 use Rattle.row_arrays.specs.declared.rows.RowFault.TheVariants.{Row, Overflow}
 
--- numbers up to the first that there is none of
+-- Numbers that all exist are their own prefix.
 prefix-all : (xs : List ℤ) → some_prefix (map Some xs) ≡ xs
 prefix-all [] = refl
 prefix-all (x ∷ xs) = ap (λ ys. x ∷ ys) (prefix-all xs)
@@ -30,7 +30,7 @@ one-missing : (xs : List ℤ) (others : List (Option ℤ)) → list_all is_some 
 one-missing [] others = refl
 one-missing (x ∷ xs) others = one-missing xs others
 
--- the values at a range, with that at one of its places told apart
+-- The values at a range, split at one of its places.
 split-at : (f : ℕ → Option ℤ) (a k n j : ℕ) → a + k ≡ j → k < n →
     (others : List (Option ℤ)) × (map f (range_with_len a n) ≡ map f (range_with_len a k) ++ f j ∷ others)
 split-at f a k zero j e h = absurd (omega (arith, h))
@@ -66,7 +66,7 @@ sums-more f k old new sum written is so-far =
     ap (map Some) written ∙ map-append Some (map integer_of (take k old)) (sum ∷ []) ∙ ap (λ xs. xs ++ Some sum ∷ []) so-far
     ∙ ap (λ o. map f (range_with_len 0 k) ++ o ∷ []) is ∙ sym (map-range_with_len_more f 0 k k (omega arith))
 
--- what is wrong with a row, by whether it is within the arrays, and whether all its sums are there
+-- The fault of a row, by whether the arrays contain it and whether all its sums exist.
 abbrev pub fault_by : ℕ → Bool → Bool → Option RowFault
 fault_by row within all = if within then (if all then None else (Some (Overflow row))) else (Some (Row row))
 

@@ -16,7 +16,7 @@ use Rattle.row_arrays.specs.declared.rows.ControlArrays.{ControlArrays}
 use Rattle.row_arrays.specs.declared.rows.RowFault.{RowFault}
 use Rattle.row_arrays.proofs.PutLemmas.{fault_by, no-sum, put-first}
 
--- numbers up to the first that there is none of, where others come behind them
+-- The prefix of two joined lists, if every number of the first exists.
 prefix-joined : (xs ys : List (Option ℤ)) → list_all is_some xs ≡ true → some_prefix (xs ++ ys) ≡ some_prefix xs ++ some_prefix ys
 prefix-joined [] ys e = refl
 prefix-joined (None ∷ xs) ys e = cc
@@ -128,7 +128,7 @@ module _ (rows : RowArrays) (controls : ControlArrays) (row to : ℕ) (there : r
       (ap (sums_of_rows rows controls) (rows-from row to there)
       ∙ prefix-alone (row_sums rows controls row) (flat_map (row_sums rows controls) (range_with_len (row + 1) (to - (row + 1)))) (one-missing fault some found))
 
--- what is written up to a row with a fault
+-- The numbers written up to a row with a fault.
 pub stops-here : (numbers more : List ℤ) (at k : ℕ) (old out part : List Wide) → at + k ≤ length out → length part ≡ k → length more ≤ k →
     length (put_mid at k out part) ≡ length out → ArePut more (mid_of at k out) part → numbers ≡ map integer_of (take at out) ++ more → drop at out ≡ drop at old →
     ArePut numbers old (put_mid at k out part)

@@ -10,7 +10,7 @@ use Rattle.row_arrays.specs.Rows.{AreEntries, row_start, row_end, control_count,
 use Rattle.row_arrays.specs.declared.rows.RowArrays.{RowArrays}
 use Rattle.row_arrays.specs.declared.rows.ControlArrays.{ControlArrays}
 
--- a sum that there is none of stays so
+-- A missing sum stays missing.
 none-stays : (xs : List ℤ) → fold plus None xs ≡ None
 none-stays [] = refl
 none-stays (x ∷ xs) = none-stays xs

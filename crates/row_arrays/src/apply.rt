@@ -1,4 +1,4 @@
-//! Rows of a range written into an array.
+//! Evaluates a range of rows into an array.
 
 ghost use Rattle.std.specs.Prelude.{◌≡◌, ◌-◌, ◌*◌, ◌≤◌, length, None, Some};
 ghost use Rattle.row_arrays.specs.Reports.{Reports};
@@ -8,7 +8,7 @@ use crate::row::put_row;
 use crate::rows::{ControlArrays, RowArrays, RowFault, RowRange};
 use flat_arrays::Wide;
 
-// What is wrong with the range, and with an array of so many places.
+// The fault of the range or of an array with this many places.
 fn range_fault(
     rows: &RowArrays,
     controls: &ControlArrays,
@@ -26,7 +26,7 @@ fn range_fault(
     None
 }
 
-// Writes the sums of the rows up to the first that there is none of.
+// Writes the sums of the rows, and stops before the first sum that does not exist.
 fn put_rows(
     rows: &RowArrays,
     controls: &ControlArrays,
@@ -47,18 +47,22 @@ fn put_rows(
     Ok(())
 }
 
-/// Writes the sums of the rows of a range into the first places of the array, row by row, as many for each as there are components.
+/// Writes the sums of the rows of a range to the start of `out`, row by row, one for each component.
 ///
-/// The sum of a row for a component goes over its entries in their order. Each adds its numerator times that component of its control. The
-/// sums are integers in two's complement. The other places stay.
+/// The sum of a row for a component takes the entries of the row in order. Each adds its numerator times that component of its control. The
+/// sums are integers in two's complement. Ranges are independent, so threads may share the rows.
 ///
 /// # Errors
 ///
-/// `Range` where there are no components, `from` is above `to`, or `to` is not below the number of starts. Else `Short` where the array has
-/// fewer places than sums. Nothing is written after these two. Else the fault of the first row of the range that has one. `Row` says
-/// that its entries are not within the arrays, or that one of them names no control. `Overflow` says of another row that a product or a
-/// partial sum is no integer of 128 bits. After these two all sums before the first that there is none of are written, and the places
-/// from its place on stay.
+/// The first fault in this order:
+///
+/// - `Range`: there are no components, `from` is above `to`, or `to` is not below the number of starts.
+/// - `Short`: `out` has fewer places than there are sums.
+/// - The fault of the first faulty row. `Row`: the arrays do not contain its entries, or an entry names no control. `Overflow`: a product
+///   or a partial sum does not fit 128 bits.
+///
+/// `Range` and `Short` write nothing. `Row` and `Overflow` leave the sums before the first missing one written, and every other place
+/// unchanged.
 pub fn apply_rows(
     rows: &RowArrays,
     controls: &ControlArrays,

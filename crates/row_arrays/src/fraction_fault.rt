@@ -1,11 +1,11 @@
-//! Why fractions are not rounded.
+//! The fault that stopped the rounding of fractions.
 
 use std::fmt;
 
-/// Why fractions are not rounded.
+/// The fault that stopped the rounding of fractions. Nothing was written.
 #[derive(Clone, Copy, Debug, PartialEq, Eq)]
 pub enum FractionFault {
-    /// No number shares a denominator, the array has fewer places than there are numbers, or there are fewer denominators than are needed.
+    /// `per` is 0, the output has fewer places than there are numerators, or denominators are missing.
     Short,
     /// The denominator at this place, counted from 0, times the scale is 0, or 2^127 or more.
     Denominator(usize),

@@ -1,4 +1,4 @@
-//! Fractions as a caller holds them, and what is wrong with them first.
+//! Fractions in arrays of a caller, and their first fault.
 
 ghost use Rattle.std.specs.Prelude.{◌≡◌, ◌<◌, length, take};
 ghost use Rattle.std.specs.List.{position};
@@ -11,17 +11,17 @@ use ratio128::times_within;
 
 const MOST: u128 = (1 << 127) - 1;
 
-/// Fractions in flat arrays. Number i, counted from 0, is `numerators[i]` over `denominators[i / per]` times `scale`.
+/// Fractions in flat arrays. Number i, counted from 0, is `numerators[i] / (denominators[i / per] * scale)`.
 #[repr(C)]
 #[derive(Clone, Copy)]
 pub struct FractionArrays<'a> {
-    /// The numerators, in two's complement.
+    /// The numerators: integers in two's complement.
     pub numerators: &'a [Wide],
-    /// The denominators without their common factor, each without a sign.
+    /// The denominators, natural numbers, before the factor `scale`.
     pub denominators: &'a [Wide],
-    /// How many numbers in a row have the same denominator.
+    /// How many consecutive numbers share one denominator.
     pub per: u32,
-    /// The common factor of the denominators, without a sign.
+    /// A factor of every denominator, a natural number.
     pub scale: Wide,
 }
 
@@ -42,7 +42,7 @@ fn is_bad_numerator(numerator: &Wide) -> bool
     numerator.integer() == i128::MIN
 }
 
-// The first denominator that is out of its range.
+// The place of the first denominator out of range.
 fn bad_denominator(denominators: &[Wide], scale: u128) -> Option<usize>
     ensures { result ≡ position (spec.is_bad_denominator scale) denominators.now }
 {
@@ -51,7 +51,7 @@ fn bad_denominator(denominators: &[Wide], scale: u128) -> Option<usize>
         .position(|denominator| is_bad_denominator(denominator, scale))
 }
 
-// The first numerator that is out of its range.
+// The place of the first numerator out of range.
 fn bad_numerator(numerators: &[Wide]) -> Option<usize>
     ensures { result ≡ position spec.is_bad_numerator numerators.now }
 {
@@ -60,7 +60,7 @@ fn bad_numerator(numerators: &[Wide]) -> Option<usize>
         .position(|numerator| is_bad_numerator(numerator))
 }
 
-// Whether an array of so many places or that of the denominators is too short.
+// Whether `per` is 0, the output has too few places, or denominators are missing.
 fn is_short(fractions: &FractionArrays, places: usize) -> bool
     ensures { result ≡ spec.is_short fractions.now places }
 {
@@ -70,7 +70,7 @@ fn is_short(fractions: &FractionArrays, places: usize) -> bool
             < fractions.numerators.len().div_ceil(fractions.per as usize)
 }
 
-// What is wrong first, where the numbers are written into an array of so many places.
+// The first fault, given the number of places of the output.
 pub(crate) fn fraction_fault(fractions: &FractionArrays, places: usize) -> Option<FractionFault>
     ensures { result ≡ spec.fraction_fault fractions.now places }
 {

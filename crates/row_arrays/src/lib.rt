@@ -1,4 +1,6 @@
-//! Rows evaluated exactly, and the numbers nearest to fractions, over flat arrays that a caller owns. No call takes memory.
+//! Evaluates rows exactly over flat arrays of a caller, and rounds fractions to the nearest doubles or floats.
+//!
+//! Controls may have any number of components. No call takes memory. Ranges of rows are independent, so threads may share them.
 #![tactic(auto)]
 
 mod apply;

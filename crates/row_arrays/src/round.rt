@@ -1,4 +1,4 @@
-//! Fractions written into an array as the nearest doubles or floats.
+//! Writes the doubles or floats nearest to fractions into an array.
 
 ghost use Rattle.std.specs.Prelude.{◌≡◌, ◌*◌, ◌/◌, ◌^◌, ◌<◌, ◌≤◌, length, take, drop, MatchResult, None, unsigned_abs};
 ghost use Rattle.flat_arrays.specs.Words.{integer_of, natural_of};
@@ -21,7 +21,7 @@ fn numerator_of(fractions: &FractionArrays, place: usize) -> i128
     fractions.numerators[place].integer()
 }
 
-// The denominator of a number, which is its own times the scale.
+// The denominator of a number: its own times the scale.
 fn denominator_of(fractions: &FractionArrays, place: usize) -> u128
     requires inside { place < length fractions.now.numerators.now }
     requires shared { 0 < fractions.now.per }
@@ -66,14 +66,15 @@ fn put_floats(fractions: &FractionArrays, out: &mut [u32])
     }
 }
 
-/// Writes the bits of the binary64 numbers nearest to fractions into the first places of the array, one for each numerator. The other
-/// places stay.
+/// Writes the bits of the binary64 numbers nearest to the fractions to the start of `out`, one for each numerator.
 ///
 /// # Errors
 ///
-/// `Short` where `per` is 0, the array has fewer places than there are numerators, or there are fewer denominators than `per` to each need.
-/// Else `Denominator` with the place of the first denominator, counted from 0, that a number has and that times the scale is 0, or 2^127 or
-/// more. Else `Numerator` with the place of the first numerator that is -2^127. Nothing is written then.
+/// The first fault in this order; nothing is then written:
+///
+/// - `Short`: `per` is 0, `out` has fewer places than there are numerators, or denominators are missing.
+/// - `Denominator`: the first needed denominator that, times the scale, is 0, or 2^127 or more.
+/// - `Numerator`: the first numerator that is -2^127.
 pub fn round_fractions64(fractions: &FractionArrays, out: &mut [u64]) -> Result<(), FractionFault>
     ensures fault { Reports (spec.fraction_fault fractions.now (length out.old)) result }
     ensures put { MatchResult result (λ _. AreNearest binary64 (spec.fractions_of fractions.now) (take (length fractions.now.numerators.now) out.new)) (λ _. out.new ≡ out.old) }
@@ -89,14 +90,15 @@ pub fn round_fractions64(fractions: &FractionArrays, out: &mut [u64]) -> Result<
     }
 }
 
-/// Writes the bits of the binary32 numbers nearest to fractions into the first places of the array, one for each numerator. The other
-/// places stay.
+/// Writes the bits of the binary32 numbers nearest to the fractions to the start of `out`, one for each numerator.
 ///
 /// # Errors
 ///
-/// `Short` where `per` is 0, the array has fewer places than there are numerators, or there are fewer denominators than `per` to each need.
-/// Else `Denominator` with the place of the first denominator, counted from 0, that a number has and that times the scale is 0, or 2^127 or
-/// more. Else `Numerator` with the place of the first numerator that is -2^127. Nothing is written then.
+/// The first fault in this order; nothing is then written:
+///
+/// - `Short`: `per` is 0, `out` has fewer places than there are numerators, or denominators are missing.
+/// - `Denominator`: the first needed denominator that, times the scale, is 0, or 2^127 or more.
+/// - `Numerator`: the first numerator that is -2^127.
 pub fn round_fractions32(fractions: &FractionArrays, out: &mut [u32]) -> Result<(), FractionFault>
     ensures fault { Reports (spec.fraction_fault fractions.now (length out.old)) result }
     ensures put { MatchResult result (λ _. AreNearest binary32 (spec.fractions_of fractions.now) (take (length fractions.now.numerators.now) out.new)) (λ _. out.new ≡ out.old) }

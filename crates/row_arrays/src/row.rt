@@ -1,4 +1,4 @@
-//! A row written into an array.
+//! Writes the sums of one row into an array.
 
 ghost use Rattle.std.specs.Prelude.{◌≡◌, ◌+◌, ◌<◌, ◌++◌, ◌∷◌, [], length, map, take, drop, nat_lt};
 ghost use Rattle.std.specs.List.{list_all};
@@ -19,14 +19,14 @@ fn count_of(controls: &ControlArrays) -> usize
     controls.numbers.len() / controls.components as usize
 }
 
-// Whether each control of a row is there.
+// Whether every index names a control.
 fn are_controls(indices: &[u32], count: usize) -> bool
     ensures { result ≡ list_all (λ control. nat_lt control count) indices.now }
 {
     indices.iter().all(|control| (*control as usize) < count)
 }
 
-// Whether the entries of a row are within the arrays, and each names a control.
+// Whether the arrays contain the entries of a row, and each entry names a control.
 fn is_row_within(rows: &RowArrays, controls: &ControlArrays, row: u32) -> bool
     requires row { row + 1 < length rows.now.starts.now }
     requires components { 0 < controls.now.components }
@@ -40,7 +40,7 @@ fn is_row_within(rows: &RowArrays, controls: &ControlArrays, row: u32) -> bool
         && are_controls(&rows.indices[start..end], count_of(controls))
 }
 
-// Writes the sum of a row for a component behind those before it.
+// Writes the sum of a row for a component at that component's place.
 fn put_sum(out: &mut [Wide], component: u32, sum: i128)
     requires { component < length out.old }
     ensures written { map integer_of (take (component + 1) out.new) ≡ map integer_of (take component out.old) ++ sum ∷ [] }
@@ -50,7 +50,7 @@ fn put_sum(out: &mut [Wide], component: u32, sum: i128)
     put_item(out, component as usize, Wide::of_integer(sum));
 }
 
-// Writes the sums of a row up to the first that there is none of.
+// Writes the sums of a row, and stops before the first sum that does not exist.
 pub(crate) fn put_row(
     rows: &RowArrays,
     controls: &ControlArrays,

@@ -1,17 +1,18 @@
-//! Rows and controls as a caller holds them.
+//! Rows and controls in arrays of a caller.
 
 use flat_arrays::Wide;
 use std::fmt;
 
-/// Rows in flat arrays. Row r has the entries from `starts[r]` up to `starts[r + 1]`, counted from 0. Each entry has a control and a numerator.
+/// Rows in flat arrays. Row r, counted from 0, has the entries from `starts[r]` up to `starts[r + 1]`. Each entry has a control and a
+/// numerator.
 #[repr(C)]
 #[derive(Clone, Copy)]
 pub struct RowArrays<'a> {
-    /// Where the entries of each row begin, and at the end where the last ones end.
+    /// Where the entries of each row begin, then where the last row ends.
     pub starts: &'a [u32],
     /// The control of each entry, counted from 0.
     pub indices: &'a [u32],
-    /// The numerator of each entry, without a sign.
+    /// The numerator of each entry, a natural number.
     pub numerators: &'a [Wide],
 }
 
@@ -19,7 +20,7 @@ impl RowArrays<'_> {
     ghost use Rattle.std.specs.Prelude.{◌≡◌, ◌<◌, length};
     ghost use Rattle.row_arrays.specs.Rows.{row_start};
 
-    // Where the entries of a row begin, or those of the last one end.
+    // Where the entries of a row begin, or where the last row ends.
     pub(crate) fn start(&self, row: usize) -> usize
         requires { row < length self.now.starts.now }
         ensures { result ≡ row_start self.now row }
@@ -28,7 +29,7 @@ impl RowArrays<'_> {
     }
 }
 
-/// Controls in a flat array. Each has as many integers as there are components.
+/// Controls in a flat array, each with the same number of integers.
 #[repr(C)]
 #[derive(Clone, Copy)]
 pub struct ControlArrays<'a> {
@@ -38,26 +39,26 @@ pub struct ControlArrays<'a> {
     pub components: u32,
 }
 
-/// The rows from one up to another, counted from 0.
+/// The rows from `from` up to `to`, counted from 0; `to` is not included.
 #[repr(C)]
 #[derive(Clone, Copy, Debug, PartialEq, Eq)]
 pub struct RowRange {
     /// The first row.
     pub from: u32,
-    /// The row behind the last one.
+    /// The row after the last one.
     pub to: u32,
 }
 
-/// Why rows are not evaluated.
+/// The fault that stopped the evaluation of rows.
 #[derive(Clone, Copy, Debug, PartialEq, Eq)]
 pub enum RowFault {
-    /// The controls have no components, or the range is no range of the rows.
+    /// The controls have no components, or the range is not a range of the rows.
     Range,
-    /// The array has fewer places than the rows have sums.
+    /// The output has fewer places than there are sums.
     Short,
-    /// The entries of this row, counted from 0, are not within the arrays, or one of them names no control.
+    /// The arrays do not contain the entries of this row, counted from 0, or an entry names no control.
     Row(u32),
-    /// A product or a partial sum of this row, counted from 0, is no integer of 128 bits.
+    /// A product or a partial sum of this row, counted from 0, does not fit 128 bits.
     Overflow(u32),
 }
 

@@ -18,7 +18,7 @@ fn number_of(controls: &ControlArrays, control: u32, component: u32) -> i128
     controls.numbers[control as usize * controls.components as usize + component as usize].integer()
 }
 
-// The sum with the product of an entry more.
+// The sum plus the product of an entry.
 fn plus_entry(
     rows: &RowArrays,
     controls: &ControlArrays,
@@ -36,7 +36,7 @@ fn plus_entry(
     plus_product(sum, rows.numerators[entry].natural(), number)
 }
 
-// The sum over the entries from one up to another.
+// The sum over the entries from `start` up to `end`.
 fn sum_of_entries(
     rows: &RowArrays,
     controls: &ControlArrays,

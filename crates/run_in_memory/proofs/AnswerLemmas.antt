@@ -1,4 +1,4 @@
--- What a run answers and writes where no read and no write failed: the text of its answer, whether it is refused or not.
+-- The answer and the text of a run in which no read and no write failed.
 use Rattle.std.proofs.Common.{◌≡◌, ◌≢◌, ℕ, Bool, true, false, List, [], length, nat_lt, Option, Some, None, Result, Ok, Err, append-nil, refl, ap, sym, subst, if◌then◌else◌}
 use Rattle.far_io.specs.Bytes.{Added}
 use Rattle.far_io.specs.declared.source.Source.{Ghosts as Source}
@@ -102,11 +102,11 @@ module _ {S K : Type 0} (source : Source S) (sink : Sink K) (s s' : S) (k k' : K
         let none : (answer words bytes).text ≡ [] = ap (λ place. (answer_of_words (read_or place words) bytes).text) is in
         λ refused text. adds-none (answer words bytes) none (run.uncalled word ((run.usage word).1 is)).1
 
-    -- the text of the answer was added, whether the answer is refused or not
+    -- the text of the answer was appended, for a refused answer too
     pub adds-text : Follows (answer words bytes)
     adds-text = adds-by (usage_of command_table words) refl
 
-  -- what no call of the sink changes is as it was
+  -- the fields that no call of the sink changes are as they were
   kept-by-command : (outcome : Option Fault) (command : Command) → RunsCommand source sink command s s' k k' outcome → sink.fixed k' ≡ sink.fixed k
   kept-by-command outcome (Reads command) run = run.ran.sink_fixed
   kept-by-command outcome (Stored command) run = run.ran.sink_fixed

@@ -14,7 +14,7 @@ use Rattle.run_in_memory.specs.declared.program.Ran.{Ran}
 use Rattle.run_in_memory.specs.Runs.{RunsOverSlices, RunsInMemory, IsAnswer, line_of}
 use Rattle.run_in_memory.proofs.AnswerLemmas.{adds-text, sink-kept}
 
--- what was added to nothing
+-- a text appended to nothing
 from-nothing : (old new text : List ℕ) → new ≡ old ++ text → old ≡ [] → new ≡ text
 from-nothing old new text added none = added ∙ ap (λ t. t ++ text) none
 
@@ -63,7 +63,7 @@ module _ (words : List (List ℕ)) (input left : List ℕ) (k k' : SliceSink) (e
         reported = reported ∙ ap count_of line;
       }
 
--- the report of want of memory, where nothing was written
+-- the report of `Memory`, with nothing written
 pub without-memory : (words : List (List ℕ)) (input out errors : List ℕ) (e' : SliceSink) (ran : Ran) → text_of e' ≡ fault_line Memory → ran.status ≡ fault_status Memory →
     ran.written ≡ 0 → IsStored (text_of e') errors → ran.reported ≡ count_of (text_of e') → RunsInMemory words input out errors ran
 without-memory words input out errors e' ran line status none line_stored reported =
@@ -79,7 +79,7 @@ without-memory words input out errors e' ran line status none line_stored report
       reported = reported ∙ ap count_of line;
     }
 
--- the report of want of memory does not fail
+-- the report of `Memory` does not fail
 pub reported-memory : {E : Type 0} (e e' : SliceSink) (result : Result (Unit {0}) E) → OnOk result (Added (sink.ghosts.held e) (sink.ghosts.held e') (fault_line Memory)) →
     OnErr result (Rose (sink.ghosts.faults e) (sink.ghosts.faults e')) → text_of e ≡ [] → text_of e' ≡ fault_line Memory
 reported-memory e e' (Ok x) added cause none = from-nothing _ _ _ added none

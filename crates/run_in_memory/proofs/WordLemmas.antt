@@ -35,7 +35,7 @@ some-or false place e = refl
 one-part : (xs : List ℕ) → position is_zero xs ≡ None → slice_split is_zero xs ≡ xs ∷ []
 one-part xs e = slice_split_none is_zero xs (none-passes xs (ltb-false (position_or_len is_zero xs) (length xs) (some-or _ _ e)))
 
--- a part stands in front
+-- a part comes first
 next-part : (part : List ℕ) (parts : List (List ℕ)) (ok : Bool) → is_utf8 part ≡ ok → 0 < length parts →
     words_of_parts (part ∷ parts) ≡ (if ok then option_map (λ words. part ∷ words) (words_of_parts parts) else None)
 next-part part [] ok e h = absurd (omega (arith, h))
@@ -53,7 +53,7 @@ some-part (x ∷ xs) = by (is_zero x) refl
     by true e = rw e (omega arith)
     by false e = rw e (onto-some x (slice_split is_zero xs))
 
--- a word more was read
+-- one more word was read
 one-more : (before : List (List ℕ)) (word : List ℕ) (more : Option (List (List ℕ))) →
     option_map (λ words. before ++ words) (option_map (λ words. word ∷ words) more) ≡ option_map (λ words. (before ++ (word ∷ [])) ++ words) more
 one-more before word None = refl
@@ -74,7 +74,7 @@ reads-on all before now rest word behind k so_far at is left text grown =
 no-text : (word : List ℕ) (n : ℕ) → IsValidUpTo word n → n ≡ utf8_valid_len word → is_utf8 word ≡ false
 no-text word n valid is = grind (arith, nat_tests, valid.short, is)
 
--- a word that is no text
+-- a word that is not text
 pub reads-none : (all : Option (List (List ℕ))) (before : List (List ℕ)) (rest word : List ℕ) (k n : ℕ) →
     all ≡ option_map (λ more. before ++ more) (words_of_parts (slice_split is_zero rest)) → position is_zero rest ≡ Some k →
     word ≡ take k rest → IsValidUpTo word n → n ≡ utf8_valid_len word → unwrap_or all [] ≡ []

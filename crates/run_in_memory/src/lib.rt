@@ -1,4 +1,5 @@
-//! The program over memory of the caller: its words, its input and its answer are slices of bytes.
+//! Runs the program over a caller's memory: its words, its input, its answer and the line of its fault are slices of bytes. A caller that
+//! cannot know the length of an answer calls twice, since the run reports the lengths of the whole texts.
 #![tactic(auto)]
 
 mod program;

@@ -12,19 +12,19 @@ use std::alloc::Global;
 use std::marker::Brand;
 use std::sync::ledger::{Blank, Ledger};
 
-/// How a run in memory ended.
+/// The result of a run in memory.
 #[repr(C)]
 #[derive(Clone, Copy, Debug, PartialEq, Eq)]
 pub struct Ran {
     /// The exit status of the program: 0 without a fault, else that of the fault.
     pub status: u8,
-    /// How many bytes the answer has, or 2^64 - 1 where it has more.
+    /// The length of the whole answer in bytes, or 2^64 - 1 if it is longer.
     pub written: u64,
-    /// How many bytes the line of the fault has; 0 without a fault.
+    /// The length of the fault's line in bytes, or 0 without a fault.
     pub reported: u64,
 }
 
-// The program over the streams, with a counter of its own.
+// The program over the streams, with a new counter of steps.
 fn run_counted<L: Ledger>(
     alloc: Global,
     blank: Blank,
@@ -48,7 +48,7 @@ fn run_counted<L: Ledger>(
     )
 }
 
-// The program over the streams. They keep their slices.
+// The program over the streams, which keep their slices.
 fn run_streams(
     alloc: Global,
     words: &Vec<String>,
@@ -91,7 +91,7 @@ fn run_words(
     }
 }
 
-// The report of want of memory, before any word was read.
+// The report of `Memory` before any word was read.
 fn without_memory(out: &mut [u8], errors: &mut [u8]) -> Ran
     ensures { (words : List (List ℕ)) (input : List ℕ) → RunsInMemory words input out.new errors.new result }
 {
@@ -105,14 +105,14 @@ fn without_memory(out: &mut [u8], errors: &mut [u8]) -> Ran
     }
 }
 
-/// Runs the program over slices: the words of its command line, its standard input, and where its standard output and its standard
-/// error go.
+/// Runs the program over slices: `words` has the words of its command line, `input` its standard input, `out` its standard output and
+/// `errors` its standard error.
 ///
-/// `words` are the words after the program's name, each ended by a zero byte. Where a word is not UTF-8, or the last one is not
-/// ended, there are no words, which is no command. `out` gets the answer and `errors` the line of the fault, each as far as it
-/// fits; the lengths of the whole texts are returned. What stands behind them in a slice is not said.
+/// `words` has the words after the program's name, each ended by a zero byte. If a word is not UTF-8 or the last one does not end, the
+/// status is that of `Usage` with word 0. `out` gets as much of the answer as fits and `errors` as much of the fault's line; the result
+/// has the lengths of the whole texts. No clause says what a longer slice holds behind its text.
 ///
-/// Memory may run out at any time. The status is then that of the fault `Memory`, and nothing is written into `out`.
+/// `Memory` may come at any time; the call then writes nothing into `out`. `Read` and `Write` never come.
 pub fn run_in_memory(
     alloc: Global,
     words: &[u8],

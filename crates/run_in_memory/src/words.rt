@@ -12,7 +12,7 @@ fn first_zero(bytes: &[u8]) -> Option<usize>
     bytes.iter().position(|b| *b == 0)
 }
 
-// Reads the words into a list, and returns whether the bytes are words.
+// Reads the words into a list, and returns whether the bytes spell words.
 fn read_words(alloc: Global, bytes: &[u8], words: &mut Vec<String>) -> Result<bool, AllocError>
     requires { words.old.items ≡ [] }
     ensures { IfOk result (λ fine. words_of bytes.now ≡ (if fine then map string_bytes words.new.items else [])) }

@@ -13,7 +13,7 @@ use Rattle.sharpness_rules.specs.View.{sharpness_of}
 use Rattle.sharpness_rules.proofs.MultipleLemmas.{AreProper, AreProper-append, common_denominator-more}
 use Rattle.sharpness_rules.proofs.RingLemmas.{values-proper, length-values, length-flat_map, flat_map-next, too_fine-split}
 
--- what ends at the edges of a ring
+-- The values that end at the edges of a ring.
 abbrev pairs : List Sharpness → List Sharpness → List (model.Sharpness × model.Sharpness)
 pairs ring next = zip (map sharpness_of ring) (map sharpness_of next)
 
@@ -75,7 +75,7 @@ pub values_before-all : (vertex vertex_child : Sharpness) (ring next : List Shar
 values_before-all vertex vertex_child ring next i same past =
     ap (λ xs. ended_value (sharpness_of vertex, sharpness_of vertex_child) ++ flat_map ended_value xs) (take_all i (pairs ring next) (omega (arith, length-pairs ring next same)))
 
--- s and t are the edge at a place now and in the next level, and the values are what ends there
+-- s and t are the edge at a place now and at the next level, and the values are those that end there.
 pub record EndsAt (ring next : List Sharpness) (i : ℕ) (values : List (ℕ × ℕ)) : Type 0 where
   same : length ring ≡ length next
   within : i < length ring

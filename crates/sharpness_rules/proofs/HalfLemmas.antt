@@ -28,7 +28,7 @@ shares-bounded shares own h =
         let all : count * den ≡ (others + 1) * den = ap (λ n. n * den) e in
         omega (arith, mine, one, all)
 
--- what the halves are made over is above 0
+-- The denominator of the halves is above 0.
 pub shares-positive : (shares : Shares) → 0 < shares.den
 shares-positive shares =
     let some : 0 < 4 * (shares.total.count - 1) = omega (arith, shares.several) in
@@ -88,7 +88,7 @@ sum-positive (x ∷ xs) p = mul-pos p.0.positive (sum-positive xs p.1)
 pub total-common : (values : List (ℕ × ℕ)) (total : Total) → IsTotal values total → common_denominator values ∣ total.den
 total-common values total is = let P : ℕ → Type 0 = λ m. m ∣ total.den in subst P is.den (dvd_refl total.den)
 
--- what the code makes is the half of the definition
+-- The code computes the half of the definition.
 pub half-value : (values : List (ℕ × ℕ)) (x : ℕ × ℕ) (total : Total) → AreProper values → 0 < x.1 → x.1 ∣ total.den
     → IsTotal values total → 2 ≤ total.count
     → sharpness_of_fraction (3 * (total.count - 1) * parts_over total.den x + (total.num - parts_over total.den x) - 4 * (total.count - 1) * total.den, 4 * (total.count - 1) * total.den) ≡ chaikin_half values x

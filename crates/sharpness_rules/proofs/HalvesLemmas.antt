@@ -16,7 +16,7 @@ use Rattle.sharpness_rules.specs.Halves.{IsWay, AreHalves}
 use Rattle.sharpness_rules.proofs.RingLemmas.{ring_values, ring-proper, edge-divides}
 use Rattle.sharpness_rules.proofs.HalfLemmas.{half-value, total-common}
 
--- only chaikin has shares, and what the code makes of the sum is the half of the definition
+-- Only the method chaikin has shares, and the code computes the half of the definition from the sum.
 pub shared-half : (method : Method) (ring : List Sharpness) (halves : Halves) (shares : Shares) (at : ℕ) (s : Sharpness) (edge : Semi)
     → AreHalves method ring halves → halves.way ≡ Shared shares → at < length ring → s ≡ get_or ring at s → s ≡ variant.Semi edge
     → sharpness_of_fraction (3 * (shares.total.count - 1) * parts_over shares.total.den (edge.num, edge.den) + (shares.total.num - parts_over shares.total.den (edge.num, edge.den)) - 4 * (shares.total.count - 1) * shares.total.den, 4 * (shares.total.count - 1) * shares.total.den)

@@ -102,7 +102,7 @@ common_denominator-more xs ys bound positive passed =
     let less : common_denominator xs ≤ common_denominator (xs ++ ys) = le_of_dvd (common_denominator-positive (xs ++ ys) positive) (common_denominator-prefix xs ys) in
     omega arith
 
--- one value alone has a denominator that is not too great
+-- A single value has a denominator that is not too great.
 lcm_of-one : (n : ℕ) → lcm_of n 1 ≡ n
 lcm_of-one n = IsLcm-unique n 1 (lcm_of n 1) n (lcm_of-is n 1) (IsLcm-multiple n 1 (one-dvd n))
 

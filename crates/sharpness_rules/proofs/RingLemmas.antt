@@ -49,7 +49,7 @@ flat_map-split f (x ∷ xs) (suc i) d h =
     ∙ sym (append_assoc (f x) (flat_map f (take i xs) ++ f (get_or xs i d)) (flat_map f (drop (suc i) xs)))
     ∙ ap (λ r. r ++ flat_map f (drop (suc i) xs)) (sym (append_assoc (f x) (flat_map f (take i xs)) (f (get_or xs i d))))
 
--- what is too fine already stays so
+-- A prefix that is too fine makes the whole too fine.
 pub too_fine-split : {X : Type 0} (f : X → List (ℕ × ℕ)) (prefix : List (ℕ × ℕ)) (xs : List X) (i : ℕ) (d : X) → i < length xs
     → AreProper (prefix ++ flat_map f xs) → 2 ^ 60 < common_denominator ((prefix ++ flat_map f (take i xs)) ++ f (get_or xs i d))
     → 2 ^ 60 < common_denominator (prefix ++ flat_map f xs)
@@ -104,7 +104,7 @@ length-values model.Infinite = omega arith
 pub length-ring : (ring : List Sharpness) → length (ring_values ring) ≤ length ring
 length-ring ring = omega (arith, length-flat_map semi_values length-values (map sharpness_of ring), length-map ring sharpness_of)
 
--- what is too fine before the end of the ring stays so
+-- A part of the ring that is too fine makes the ring too fine.
 pub ring-too_fine : (ring : List Sharpness) (i : ℕ) (s : Sharpness) → i < length ring → s ≡ get_or ring i s
     → 2 ^ 60 < common_denominator (ring_values (take i ring) ++ semi_values (sharpness_of s))
     → 2 ^ 60 < common_denominator (ring_values ring)

@@ -47,7 +47,7 @@ pub at_most_one-less : (num den g : ℕ) → IsGcd num den g → num < den → (
 at_most_one-less num den g is less =
     same-lowest num den g is ∙ sym (cond-false (nat_le den num) (1, 1) (lowest (num, den)) (lt-leb den num less))
 
--- of two equal fractions neither passes 10 alone
+-- Of two equal fractions both reach a bound or neither does.
 crossed-le : (a b c d k : ℕ) → 0 < b → a * d ≡ c * b → k * b ≤ a → k * d ≤ c
 crossed-le a b c d k positive crossed h =
     elim (cases_lt c (k * d)) [

@@ -1,4 +1,4 @@
--- What every sharpness of this crate is for the definitions.
+-- Every sharpness of this crate as one of the definitions.
 use Rattle.std.proofs.Common.{◌≡◌, ◌*◌, ◌<◌, true, List, [], ◌∷◌, map, refl}
 use Rattle.std.specs.List.{list_all}
 use Rattle.std.proofs.lemmas.Bool.{and_from, eq-eqb, lt-ltb}

@@ -17,7 +17,7 @@ use Rattle.sharpness_rules.proofs.PartLemmas.{sum-same}
 use Rattle.sharpness_rules.proofs.HalfLemmas.{sum-positive, total-common}
 use Rattle.sharpness_rules.proofs.SharpnessLemmas.{at_most_one-same}
 
--- the mean of what is too fine is too fine
+-- The mean of values that are too fine is too fine.
 pub mean-too_fine : (values : List (ℕ × ℕ)) → 2 ^ 60 < common_denominator values
     → is_too_fine (length values * common_denominator values) ≡ true
 mean-too_fine values passed =
@@ -28,7 +28,7 @@ mean-too_fine values passed =
 crossed : (num count den s d len : ℕ) → s * den ≡ num * d → count ≡ len → num * (d * len) ≡ s * (count * den)
 crossed num count den s d len all same = omega (arith, ap (λ n. n * len) all, ap (λ n. s * (n * den)) same)
 
--- what the code makes is the mean of the definition
+-- The code computes the mean of the definition.
 pub mean-value : (values : List (ℕ × ℕ)) (total : Total) → AreProper values → IsTotal values total
     → at_most_one (total.num, total.count * total.den) ≡ at_most_one (mean_of values)
 mean-value [] total proper is =

@@ -1,4 +1,4 @@
--- The halves of the edges at a vertex, told for the whole ring at once.
+-- The halves of the edges at a vertex, for the whole ring at once.
 use Rattle.std.specs.Prelude.{◌≡◌, ℕ, ◌-◌, ◌*◌, ◌<◌, ◌≤◌, Bool, true, ◌&&◌, List, length, map}
 use Rattle.std.specs.List.{flat_map}
 use Rattle.subdiv_model.specs.Multiples.{common_denominator}
@@ -13,25 +13,26 @@ use Rattle.sharpness_rules.specs.declared.halves.Halves.{Halves}
 use Rattle.sharpness_rules.specs.Totals.{IsTotal}
 use Rattle.sharpness_rules.specs.View.{sharpness_of, method_of}
 
--- how semi-sharp edges of these values have their chaikin halves: one edge or none is less by 1, more share their sum, or
--- the denominator is too great
+-- How the method `Chaikin` makes the halves of semi-sharp edges with these values. Fewer than two lose 1, more share their sum, or the
+-- denominator is too great.
 abbrev pub IsWayOf : List (ℕ × ℕ) → Way → Type 0
 IsWayOf values Uniform = length values < 2
 IsWayOf values (Shared shares) = IsTotal values shares.total
 IsWayOf values TooFine = (2 ≤ length values) × (is_too_fine (4 * (length values - 1) * common_denominator values) ≡ true)
 
+-- How the method `Chaikin` makes the halves of the edges of a ring.
 abbrev pub IsWay : List model.Sharpness → Way → Type 0
 IsWay ring way = IsWayOf (flat_map semi_values ring) way
 
--- these are the halves by a method of the edges of a ring
+-- The halves by a method of the edges of a ring.
 abbrev pub AreHalves : Method → List Sharpness → Halves → Type 0
 AreHalves Normal ring halves = halves.way ≡ Uniform
 AreHalves Chaikin ring halves = IsWay (map sharpness_of ring) halves.way
 
--- the semi-sharp edges of the ring have no half by the method
+-- The semi-sharp edges of the ring have no halves by the method.
 abbrev pub halves_overflow : Method → List Sharpness → Bool
 halves_overflow method ring = is_chaikin (method_of method) && chaikin_overflows (map sharpness_of ring)
 
--- the half by the method, in the ring, of an edge of this sharpness
+-- The half of an edge of this sharpness in the ring, by the method.
 abbrev pub half_in : Method → List Sharpness → Sharpness → model.Sharpness
 half_in method ring s = half_child (method_of method) (map sharpness_of ring) (sharpness_of s)

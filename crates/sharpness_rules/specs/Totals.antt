@@ -5,21 +5,22 @@ use Rattle.subdiv_model.specs.Multiples.{common_denominator}
 use Rattle.sharpness_rules.specs.declared.overflow.SharpOverflow.{SharpOverflow}
 use Rattle.sharpness_rules.specs.declared.total.Total.{Total}
 
--- a value in parts of 1 over a denominator
+-- The numerator of a value over a denominator.
 abbrev pub parts_over : ℕ → ℕ × ℕ → ℕ
 parts_over den value = value.0 * (den / value.1)
 
--- the total is that of these values
+-- The total is the sum of these values.
 pub record IsTotal (values : List (ℕ × ℕ)) (total : Total) : Type 0 where
   pub count : total.count ≡ length values
   pub den : total.den ≡ common_denominator values
   pub num : total.num ≡ sum_by (parts_over total.den) values
 
--- the answer is the total of these values, or their common denominator passes 2^60
+-- The result is the total of these values, or their common denominator exceeds 2^60.
 abbrev pub Sums : List (ℕ × ℕ) → Result Total SharpOverflow → Type 0
 Sums values result = MatchResult result (IsTotal values) (λ _. 2 ^ 60 < common_denominator values)
 
--- the chaikin half of one of these values, as a fraction: 3/4 of it and its share of the others, less by 1 and not below 0
+-- The half of one of these values by the method `Chaikin`, as a fraction. It is 3/4 of the value plus its share of the others, less 1, and
+-- not below 0.
 abbrev pub half_fraction : Total → ℕ × ℕ → ℕ × ℕ
 half_fraction total value =
     let own = parts_over total.den value in

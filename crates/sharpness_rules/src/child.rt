@@ -4,24 +4,25 @@ ghost use Rattle.sharpness_rules.specs.View.{sharpness_of};
 
 use crate::{Halves, Semi, SharpOverflow, Sharpness};
 
-/// How the two halves of an edge get their sharpness.
+/// The method that gives the two halves of an edge their sharpness.
 #[derive(Clone, Copy, Debug, PartialEq, Eq)]
 pub enum Method {
     /// Each half by `uniform_child`.
     Normal,
-    /// Each half by `chaikin_child`, in the ring of its end.
+    /// Each half by `chaikin_child`, in the ring of its end vertex.
     Chaikin,
 }
 
-// The numerator of a value that is less by 1, and not below 0.
+// The numerator of the value less 1, and not below 0.
 fn lessened(value: Semi) -> u64
     ensures { result ≡ value.num - value.den }
 {
     value.num().saturating_sub(value.den())
 }
 
-/// The sharpness of the next level by the uniform rule: less by 1, and not below 0. 0 and infinite
-/// stay. Source: DeRose, Kass and Truong 1998.
+/// Returns the sharpness at the next level by the uniform rule: less by 1, and not below 0.
+///
+/// Smooth and infinite sharpness do not change. Source: DeRose, Kass and Truong 1998.
 pub fn uniform_child(s: Sharpness) -> Sharpness
     ensures { sharpness_of result ≡ uniform_child (sharpness_of s) }
 {
@@ -31,13 +32,13 @@ pub fn uniform_child(s: Sharpness) -> Sharpness
     }
 }
 
-/// The sharpness of the half, at a vertex, of the edge at place `at` of the vertex's ring, counted
-/// from 0. With `c` semi-sharp edges in the ring and `S` their sum, a semi-sharp edge of sharpness `s`
-/// becomes 3s/4 + (S - s)/(4(c - 1)) - 1, and not below 0; a lone one becomes less by 1. Infinite
-/// edges count neither in `c` nor in `S`, and 0 and infinite stay. Source: this profile.
+/// Returns the sharpness of the half, at a vertex, of the edge at place `at` of the ring, counted from 0.
 ///
-/// `SharpOverflow` comes exactly where the edge is semi-sharp, `c` is at least 2, and 4(c - 1) times
-/// the least common multiple of the semi-sharp edges' denominators passes 2^60.
+/// Let the ring have `c` semi-sharp edges with sum `S`. A semi-sharp edge of sharpness `s` becomes 3s/4 + (S - s)/(4(c - 1)) - 1, and not
+/// below 0. The only semi-sharp edge of a ring loses 1. Smooth and infinite edges do not change and do not count. Source: this profile.
+///
+/// `SharpOverflow`: the edge is semi-sharp, `c` is at least 2, and 4(c - 1) times the least common multiple of the semi-sharp denominators
+/// exceeds 2^60.
 pub fn chaikin_child(ring: &[Sharpness], at: usize) -> Result<Sharpness, SharpOverflow>
     requires short { length ring.now < 2 ^ 32 }
     requires in_range { at < length ring.now }

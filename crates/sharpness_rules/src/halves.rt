@@ -3,19 +3,18 @@ use crate::sums::total_of_ring;
 use crate::total::Total;
 use crate::{Method, SharpOverflow, Sharpness, uniform_child};
 
-// How the halves of a ring's semi-sharp edges are made.
+// How the semi-sharp edges of a ring get their halves.
 #[derive(Clone, Copy)]
 enum Way {
-    // Each is less by 1.
+    // Each edge loses 1.
     Uniform,
-    // Each has its share of the sum.
+    // Each edge gets its share of the sum.
     Shared(Shares),
-    // Their denominator passes 2^60.
+    // The denominator of the halves exceeds 2^60.
     TooFine,
 }
 
-/// The halves, at a vertex, of all edges of its ring. They are told by one visit of the ring, and then
-/// each half takes a few steps, however many edges there are.
+/// The halves, at a vertex, of all edges of its ring. One visit of the ring prepares them; each half then takes constant time.
 #[derive(Clone, Copy)]
 pub struct Halves {
     way: Way,
@@ -29,7 +28,7 @@ impl Halves {
     ghost use Rattle.sharpness_rules.specs.View.{sharpness_of};
     ghost use Rattle.sharpness_rules.specs.Halves.{AreHalves, halves_overflow, half_in};
 
-    /// The halves by a method. Under `Method::Normal` the ring is not visited.
+    /// Returns the halves of a ring by a method. `Method::Normal` does not visit the ring.
     pub fn of(method: Method, ring: &[Sharpness]) -> Halves
         requires short { length ring.now < 2 ^ 32 }
         ensures { AreHalves method ring.now result }
@@ -41,8 +40,10 @@ impl Halves {
         Halves { way }
     }
 
-    /// The half of an edge of the ring, by its sharpness: what `uniform_child` or `chaikin_child` makes of
-    /// it. `SharpOverflow` comes exactly where the edge is semi-sharp and the halves of the ring overflow.
+    /// Returns the sharpness of the half of an edge of the ring, given the sharpness of the edge.
+    ///
+    /// The result is that of `uniform_child` or `chaikin_child`, by the method. `SharpOverflow`: the edge is semi-sharp, and `overflows` is
+    /// true of the ring.
     pub fn half(&self, s: Sharpness) -> Result<Sharpness, SharpOverflow>
         ensures overflow { (method : Method) (ring : List Sharpness) → AreHalves method ring self.now
             → (IsErr result ↔ IsTrue (is_semi_sharp (sharpness_of s) && halves_overflow method ring)) }
@@ -59,8 +60,8 @@ impl Halves {
         }
     }
 
-    /// Whether the semi-sharp edges of the ring have no half: the method is chaikin, they are two or more,
-    /// and the denominator of their halves passes 2^60.
+    /// Whether the semi-sharp edges of the ring have no halves. The method is then `Chaikin`, there are at least two such edges, and the
+    /// denominator of their halves exceeds 2^60.
     pub fn overflows(&self) -> bool
         ensures { (method : Method) (ring : List Sharpness) → AreHalves method ring self.now
             → result ≡ halves_overflow method ring }
@@ -75,7 +76,7 @@ impl Way {
     ghost use Rattle.sharpness_rules.specs.View.{sharpness_of};
     ghost use Rattle.sharpness_rules.specs.Halves.{IsWay, IsWayOf};
 
-    // The way of the method chaikin in a ring.
+    // How the method `Chaikin` makes the halves in a ring.
     fn by_chaikin(ring: &[Sharpness]) -> Way
         requires short { length ring.now < 2 ^ 32 }
         ensures { IsWay (map sharpness_of ring.now) result }
@@ -86,7 +87,7 @@ impl Way {
         }
     }
 
-    // The way of the method chaikin for semi-sharp edges with this sum.
+    // How the method `Chaikin` makes the halves of semi-sharp edges with this sum.
     fn of_total(total: Total) -> Way
         requires few { total.count ≤ 2 ^ 32 }
         ensures { (values : List (ℕ × ℕ)) → IsTotal values total → IsWayOf values result }

@@ -1,9 +1,9 @@
-//! How sharp edges and vertices are, how sharpness falls from level to level, the rule of a vertex,
-//! and the weight between the rules of two levels. No call takes memory, and each takes time linear
-//! in the ring of edges at the vertex.
+//! The sharpness of edges and vertices, its decay from level to level, the rule of a vertex, and the weight between two levels.
 //!
-//! Source: DeRose, Kass and Truong 1998 for semi-sharp creases and the rules; the rule named
-//! `Chaikin` and the weight at a vertex are this profile's.
+//! A sharpness is smooth, infinite (from 10 on), or a fraction in lowest terms over at most 2^60. The ring of a vertex lists the sharpness
+//! of its edges, counted from 0. No call takes memory, and each takes time linear in the ring.
+//!
+//! Source: DeRose, Kass and Truong 1998. The method `Chaikin` and the weight are this profile's.
 #![tactic(auto)]
 
 mod child;

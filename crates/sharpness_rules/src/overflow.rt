@@ -1,6 +1,6 @@
 use std::fmt;
 
-/// A fraction would be made over a denominator above 2^60.
+/// The result would need a denominator above 2^60.
 #[derive(Clone, Copy, Debug, PartialEq, Eq)]
 pub struct SharpOverflow;
 

@@ -9,18 +9,19 @@ use crate::Sharpness;
 /// The rule of a vertex. Source: DeRose, Kass and Truong 1998.
 #[derive(Clone, Copy, Debug, PartialEq, Eq)]
 pub enum Rule {
-    /// No sharp edge.
+    /// The vertex has no sharp edge.
     Smooth,
-    /// One sharp edge.
+    /// The vertex has one sharp edge.
     Dart,
-    /// Two sharp edges, by their places in the ring of all edges at the vertex, ascending.
+    /// The vertex has two sharp edges, given by their places in its ring, ascending.
     Crease { first: u32, second: u32 },
-    /// Three sharp edges or more, a sharp vertex, or no edge.
+    /// The vertex has three or more sharp edges, is sharp itself, or has no edge.
     Corner,
 }
 
-/// The rule of a vertex of this sharpness, with the edges of `ring`: a corner where the vertex is
-/// sharp or has no edge, and else by its sharp edges, those of a sharpness above 0.
+/// Returns the rule of a vertex with this sharpness and this ring.
+///
+/// A sharp vertex and a vertex without edges are corners. The number of sharp edges, those of sharpness above 0, decides otherwise.
 pub fn vertex_rule(vertex: Sharpness, ring: &[Sharpness]) -> Rule
     requires short { length ring.now < 2 ^ 32 }
     ensures { rule_of result ≡ vertex_rule (sharpness_of vertex) (map sharpness_of ring.now) }

@@ -8,8 +8,8 @@ use crate::{Semi, Sharpness};
 use ratio128::limits::SHARPNESS_BOUND;
 use ratio128::times_within;
 
-/// The sum of two or more semi-sharp edges at a vertex, and what their halves are made over: 4(c - 1)
-/// times their common denominator.
+/// The sum of two or more semi-sharp edges at a vertex, and the denominator of their halves: 4(c - 1) times their common denominator, for c
+/// edges.
 #[derive(Clone, Copy)]
 pub struct Shares {
     pub total: Total,
@@ -23,7 +23,7 @@ pub struct Shares {
 impl Shares {
     ghost use Rattle.sharpness_rules.specs.View.{sharpness_of};
 
-    /// The shares of these edges. `None` comes exactly where their denominator passes 2^60.
+    /// Returns the shares of edges with this sum, or `None` if the denominator of the halves exceeds 2^60.
     pub fn of(total: Total) -> Option<Shares>
         requires several { 2 ≤ total.count }
         requires few { total.count ≤ 2 ^ 32 }
@@ -37,7 +37,7 @@ impl Shares {
         })
     }
 
-    /// The half of one of the edges.
+    /// Returns the half of one of the edges.
     pub fn half_of(self, edge: Semi) -> Sharpness
         ensures { sharpness_of result ≡ sharpness_of_fraction (half_fraction self.total (edge.num, edge.den)) }
     {

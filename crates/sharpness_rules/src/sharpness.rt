@@ -4,19 +4,18 @@ ghost use Rattle.subdiv_model.specs.Fractions.{gcd_of};
 
 use ratio128::gcd;
 
-/// How sharp an edge or a vertex is. Source: DeRose, Kass and Truong 1998; that it is infinite from 10
-/// on is this profile's.
+/// The sharpness of an edge or a vertex. Source: DeRose, Kass and Truong 1998; the bound 10 for infinite sharpness is this profile's.
 #[derive(Clone, Copy, Debug, PartialEq, Eq)]
 pub enum Sharpness {
     /// Sharpness 0.
     Smooth,
     /// Above 0 and below 10: sharp for some levels.
     Semi(Semi),
-    /// Sharp at all levels.
+    /// Sharp at every level.
     Infinite,
 }
 
-/// A fraction in lowest terms, above 0 and below 10, whose denominator is at most 2^60.
+/// A fraction in lowest terms, above 0 and below 10, with a denominator of at most 2^60.
 #[derive(Clone, Copy, Debug, PartialEq, Eq)]
 pub struct Semi {
     num: u64,
@@ -43,7 +42,7 @@ impl Semi {
     }
 }
 
-// The greatest common divisor of a numerator and a denominator. A whole number has it at once.
+// The greatest common divisor of a numerator and a denominator. A whole number needs no search.
 fn common_divisor(num: u64, den: u64) -> u64
     requires { 0 < den }
     ensures { IsGcd num den result }
@@ -58,7 +57,7 @@ impl Sharpness {
     ghost use Rattle.subdiv_model.specs.Sharpness.{sharpness_of_fraction, is_sharp};
     ghost use Rattle.sharpness_rules.specs.View.{sharpness_of};
 
-    /// The sharpness `num / den`: smooth where it is 0, infinite from 10 on. `den` is from 1 to 2^60.
+    /// Returns the sharpness `num / den`: smooth for 0, infinite from 10 on. `den` is from 1 to 2^60.
     pub fn new(num: u64, den: u64) -> Sharpness
         requires positive { 0 < den }
         requires short { den ≤ 2 ^ 60 }
@@ -77,7 +76,7 @@ impl Sharpness {
         })
     }
 
-    /// Whether it is above 0.
+    /// Whether the sharpness is above 0.
     pub fn is_sharp(&self) -> bool
         ensures { result ≡ is_sharp (sharpness_of self.now) }
     {

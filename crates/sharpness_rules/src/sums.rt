@@ -11,7 +11,7 @@ use crate::{Semi, SharpOverflow, Sharpness};
 use ratio128::lcm_within;
 use ratio128::limits::SHARPNESS_BOUND;
 
-/// The value in parts of 1 over `den`, exact where its own denominator divides `den`.
+/// Returns the value as a numerator over `den`. It is exact if `den` is a multiple of the value's denominator.
 pub fn parts_of(value: Semi, den: u128) -> u128
     requires short { den ≤ 2 ^ 60 }
     ensures parts { result ≡ parts_over den (value.num, value.den) }
@@ -20,8 +20,8 @@ pub fn parts_of(value: Semi, den: u128) -> u128
     value.num() as u128 * (den / value.den() as u128)
 }
 
-// The least common multiple of two denominators, where it is at most 2^60. Whole values, and values of one
-// denominator, need no common divisor, which takes by far the most time.
+// The least common multiple of two denominators, if it is at most 2^60. Whole values and equal denominators skip the common divisor, by far
+// the slowest step.
 fn common_denominator(a: u128, b: u128) -> Option<u128>
     requires a_positive { 0 < a }
     requires b_positive { 0 < b }
@@ -36,8 +36,7 @@ fn common_denominator(a: u128, b: u128) -> Option<u128>
     lcm_within(a, b, SHARPNESS_BOUND)
 }
 
-// The total with one value more where `s` is semi-sharp, and else the same. `SharpOverflow` comes
-// exactly where the common denominator passes 2^60.
+// The total plus one value if `s` is semi-sharp, and the same total otherwise. `SharpOverflow`: the common denominator exceeds 2^60.
 fn plus(total: Total, s: Sharpness) -> Result<Total, SharpOverflow>
     requires room { total.count < 2 ^ 32 }
     ensures { (values : List (ℕ × ℕ)) → IsTotal values total
@@ -56,8 +55,7 @@ fn plus(total: Total, s: Sharpness) -> Result<Total, SharpOverflow>
     })
 }
 
-/// The sum of the semi-sharp edges of a ring. `SharpOverflow` comes exactly where their common
-/// denominator passes 2^60.
+/// Returns the sum of the semi-sharp edges of a ring. `SharpOverflow`: their common denominator exceeds 2^60.
 pub fn total_of_ring(ring: &[Sharpness]) -> Result<Total, SharpOverflow>
     requires short { length ring.now < 2 ^ 32 }
     ensures { Sums (flat_map semi_values (map sharpness_of ring.now)) result }
@@ -69,7 +67,7 @@ pub fn total_of_ring(ring: &[Sharpness]) -> Result<Total, SharpOverflow>
     Ok(total)
 }
 
-// The value that ends where `now` is followed by `next` in the next level.
+// The value if it ends: above 0 at this level, and 0 at the next.
 fn ended(now: Sharpness, next: Sharpness) -> Sharpness
     ensures { semi_values (sharpness_of result) ≡ ended_value (sharpness_of now, sharpness_of next) }
 {
@@ -80,15 +78,15 @@ fn ended(now: Sharpness, next: Sharpness) -> Sharpness
     }
 }
 
-// The sum of the vertex's value, where it ends, and else of none.
+// The sum of the vertex's value if it ends, and the empty sum otherwise.
 fn total_of_vertex(vertex: Sharpness, vertex_child: Sharpness) -> Result<Total, SharpOverflow>
     ensures { Sums (ended_value (sharpness_of vertex, sharpness_of vertex_child)) result }
 {
     plus(Total::none(), ended(vertex, vertex_child))
 }
 
-/// The sum of the values, at a vertex and in its ring, that are above 0 now and 0 in the next level.
-/// `SharpOverflow` comes exactly where their common denominator passes 2^60.
+/// Returns the sum of the values, at a vertex and in its ring, that end: semi-sharp at this level and 0 at the next. `SharpOverflow`: their
+/// common denominator exceeds 2^60.
 pub fn total_of_ended(
     vertex: Sharpness,
     vertex_child: Sharpness,

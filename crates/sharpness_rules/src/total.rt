@@ -1,7 +1,6 @@
 ghost use Rattle.std.specs.Prelude.{◌≡◌, ◌*◌, ◌^◌, ◌<◌, ◌≤◌};
 
-/// The sum of semi-sharp values: how many they are, their least common denominator, and the sum's
-/// numerator over it.
+/// The sum of semi-sharp values: their count, their least common denominator, and the numerator of the sum over it.
 #[derive(Clone, Copy)]
 pub struct Total {
     pub count: u64,
@@ -13,7 +12,7 @@ pub struct Total {
 }
 
 impl Total {
-    /// The sum of no value.
+    /// The empty sum.
     pub fn none() -> Total
         ensures count { result.count ≡ 0 }
         ensures num { result.num ≡ 0 }

@@ -8,21 +8,20 @@ use crate::{SharpOverflow, Sharpness};
 use ratio128::limits::SHARPNESS_BOUND;
 use ratio128::{gcd, times_within};
 
-/// A fraction in lowest terms, above 0 and at most 1: how much the mask of this level counts.
+/// The weight of the mask of this level: a fraction in lowest terms, above 0 and at most 1.
 #[derive(Clone, Copy, Debug, PartialEq, Eq)]
 pub struct Weight {
     pub num: u64,
     pub den: u64,
 }
 
-/// The weight of the mask of this level at a vertex, where the mask of the next level is another: the
-/// mean of those values, the vertex's own and its edges', that are above 0 now and 0 in the next
-/// level, or 1 where the mean is more. `ring` and `ring_child` have the edges in one order. An
-/// infinite value stays infinite and is never counted. Where no value is counted the weight is 1.
-/// Source: this profile.
+/// Returns the weight of this level's mask at a vertex whose mask changes at the next level.
 ///
-/// `SharpOverflow` comes exactly where the number of the values that are counted, times the least
-/// common multiple of their denominators, passes 2^60.
+/// It is the mean of the values that end, at most 1. A value of the vertex or of an edge ends if it is above 0 at this level and 0 at the
+/// next. An infinite value never ends. If no value ends, the weight is 1. `ring` and `ring_child` list the edges in the same order. Source:
+/// this profile.
+///
+/// `SharpOverflow`: the count of those values times the least common multiple of their denominators exceeds 2^60.
 pub fn transition_weight(
     vertex: Sharpness,
     vertex_child: Sharpness,
@@ -41,7 +40,7 @@ pub fn transition_weight(
     mean_of(total)
 }
 
-// The mean of the total's values, or 1 where it is more.
+// The mean of the values of the total, at most 1.
 fn mean_of(total: Total) -> Result<Weight, SharpOverflow>
     requires few { total.count ≤ 2 ^ 32 }
     requires above { 0 < total.count → 0 < total.num }

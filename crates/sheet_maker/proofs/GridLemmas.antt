@@ -1,4 +1,4 @@
--- The faces of a sheet by row and column, and how many faces and points it has.
+-- The faces of a sheet by row and column, and its numbers of faces and points.
 use Rattle.std.proofs.Common.{◌≡◌, ℕ, zero, suc, ◌+◌, ◌*◌, ◌/◌, ◌%◌, ◌<◌, ℤ, pos, List, length, map, get_or, arith, ap, sym, ◌∙◌, subst, All}
 use Rattle.std.specs.List.{range_with_len}
 use Rattle.std.proofs.lemmas.Nat.{div-add-mod', div_below, mod_below}
@@ -11,7 +11,7 @@ use Rattle.sheet_maker.proofs.PieceLemmas.{pieces-length, piece-at}
 abbrev pub face_number : ℕ → ℕ → ℕ → ℕ
 face_number size i j = i * size + j
 
--- at that number stands the quad of the row and the column
+-- the face with that number is the quad of the row and the column
 pub face-at : (size i j : ℕ) (d : Polygon) → i < size → j < size → get_or (sheet_faces size) (face_number size i j) d ≡ sheet_quad size i j
 face-at size i j d h k =
     let rows : List ℕ = range_with_len 0 size in
@@ -19,7 +19,7 @@ face-at size i j d h k =
     let row : get_or rows i 0 ≡ i = get_or-range_with_len 0 size i 0 h ∙ omega arith in
     piece-at quads size (λ i. length-map-range_with_len (sheet_quad size i) 0 size) rows i j 0 d (omega (arith, h, length-range_with_len 0 size)) k ∙ get_or-map-range_with_len (sheet_quad size (get_or rows i 0)) 0 size j j d k (omega arith) ∙ ap (λ (n : ℕ). sheet_quad size n j) row
 
--- a sheet has so many quads a side
+-- the number of quads along a side of a sheet
 pub faces-length : (size : ℕ) → length (sheet_faces size) ≡ size * size
 faces-length size =
     let each = pieces-length (λ i. map (sheet_quad size i) (range_with_len 0 size)) size (λ i. length-map-range_with_len (sheet_quad size i) 0 size) (range_with_len 0 size) in
@@ -41,7 +41,7 @@ pub record IsCell (size face : ℕ) : Type 0 where
   pub is : face_number size row column ≡ face
   pub quad : (d : Polygon) → get_or (sheet_faces size) face d ≡ sheet_quad size row column
 
--- each face has them
+-- each face has a row and a column
 pub cell-of : (size face : ℕ) → face < length (sheet_faces size) → IsCell size face
 cell-of size face h =
     let many = faces-length size in
@@ -63,7 +63,7 @@ cell-of size face h =
     positive zero k = absurd (omega arith)
     positive (suc n) k = omega arith
 
--- what holds of each quad holds of all faces
+-- a fact about each quad is one about all faces
 pub each-face : (P : Polygon → Type 0) (size : ℕ) → ((i j : ℕ) → i < size → j < size → P (sheet_quad size i j)) → All P (sheet_faces size)
 each-face P size each face d h =
     let cell = cell-of size face h in

@@ -13,7 +13,7 @@ use Rattle.mesh_laws.proofs.ClosedLemmas.{any-place}
 abbrev pub HasOneOwner : List Polygon → ℕ × ℕ → Type 0
 HasOneOwner polygons s = (f g : ℕ) → has_side s (polygon_at polygons f) ≡ true → has_side s (polygon_at polygons g) ≡ true → f ≡ g
 
--- occurs once at most among simple polygons
+-- a side occurs at most once among simple polygons
 pub owner-count : (s : ℕ × ℕ) (polygons : List Polygon) → list_all is_simple polygons ≡ true → HasOneOwner polygons s → count_by (same_side s) (all_sides polygons) ≤ 1
 owner-count s [] simple one = omega arith
 owner-count s (polygon ∷ polygons) simple one =

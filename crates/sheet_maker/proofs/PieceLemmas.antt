@@ -1,4 +1,4 @@
--- Pieces of one length in a row: how many elements they have, and where each of them stands.
+-- Pieces of one length in a row: their number of elements, and the place of each element.
 use Rattle.std.proofs.Common.{◌≡◌, ℕ, ◌+◌, ◌*◌, ◌<◌, List, [], ◌∷◌, length, get_or, take, arith, ap, ◌∙◌}
 use Rattle.std.specs.List.{flat_map}
 use Rattle.std.proofs.lemmas.List.{length-append, length-take-le}
@@ -11,7 +11,7 @@ pieces-length parts n each (x ∷ xs) =
     let behind = pieces-length parts n each xs in
     omega (arith, behind, each x, length-append (parts x) (flat_map parts xs))
 
--- the element j of the piece i stands after i pieces and j elements
+-- element j of piece i comes after i pieces and j elements
 pub piece-at : {X Y : Type 0} (parts : X → List Y) (n : ℕ) → ((x : X) → length (parts x) ≡ n) → (xs : List X) (i j : ℕ) (e : X) (d : Y) → i < length xs → j < n
     → get_or (flat_map parts xs) (i * n + j) d ≡ get_or (parts (get_or xs i e)) j d
 piece-at parts n each xs i j e d h k =

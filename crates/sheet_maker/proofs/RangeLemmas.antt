@@ -1,4 +1,4 @@
--- Lists that are made of ranges of numbers.
+-- Lists over ranges of numbers.
 use Rattle.std.proofs.Common.{◌≡◌, ℕ, zero, suc, ◌+◌, ◌*◌, ◌<◌, List, [], ◌∷◌, ◌++◌, length, map, get_or, arith, ap, sym, ◌∙◌, add-one}
 use Rattle.std.specs.Prelude.{zip}
 use Rattle.std.specs.List.{All, flat_map, range_with_len}
@@ -6,7 +6,7 @@ use Rattle.std.proofs.lemmas.List.{append-nil, append_assoc, length-append}
 use Rattle.std.proofs.lemmas.List.Elements.{All-nil, All-cons, All-append}
 use Rattle.std.proofs.lemmas.Grind.{flat_map-append}
 
--- a property of what each number of a range gives
+-- a property of the item of each number of a range
 pub all-map : {X : Type 0} (P : X → Type 0) (f : ℕ → X) (a n : ℕ) → ((j : ℕ) → j < a + n → P (f j)) → All P (map f (range_with_len a n))
 all-map P f a zero each = All-nil P
 all-map P f a (suc n) each =
@@ -29,11 +29,11 @@ flat-suc f a zero j e =
 flat-suc f a (suc n) j e =
     ap (λ xs. f a ++ xs) (flat-suc f (a + 1) n j (omega (arith, e))) ∙ sym (append_assoc (f a) (flat_map f (range_with_len (a + 1) n)) (f j))
 
--- what one more number gives
+-- the item of one more number
 pub flat-more : {X : Type 0} (f : ℕ → List X) (a n j : ℕ) → a + n ≡ j → flat_map f (range_with_len a (n + 1)) ≡ flat_map f (range_with_len a n) ++ f j
 flat-more f a n j e = ap (λ k. flat_map f (range_with_len a k)) (add-one n) ∙ flat-suc f a n j e
 
--- one more pair of a number and what stands beside it
+-- one more pair of a number and the item beside it
 zip-suc : (a n j : ℕ) (xs : List ℕ) → n < length xs → a + n ≡ j → zip (range_with_len a (suc n)) xs ≡ zip (range_with_len a n) xs ++ (j, get_or xs n 0) ∷ []
 zip-suc a n j [] h e = absurd (omega arith)
 zip-suc a zero j (x ∷ xs) h e =

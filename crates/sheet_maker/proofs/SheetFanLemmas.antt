@@ -8,7 +8,7 @@ use Rattle.subdiv_model.specs.Generator.{sheet_point, sheet_faces}
 use Rattle.sheet_maker.proofs.GridLemmas.{face_number}
 use Rattle.sheet_maker.proofs.TurnLemmas.{meets-first, meets-second, meets-third, meets-fourth, follows-up, follows-back, follows-down, follows-on, fan-of}
 
--- a row or a column of points: the first, one inside, or the last of a sheet of so many faces
+-- the place of a row or column of points: first, inside, or last in a sheet of this size
 abbrev IsAlong : ℕ → ℕ → Type 0
 IsAlong size r = (r ≡ 0) ⊎ (((i : ℕ) × (r ≡ i + 1) × (i + 1 < size)) ⊎ ((i : ℕ) × (r ≡ i + 1) × (i + 1 ≡ size)))
 
@@ -77,7 +77,7 @@ module _ (size : ℕ) where
       let left : j < size = omega arith in
       fan-of size (i + 1) (j + 1) (face_number size i j ∷ []) (omega arith) refl (rw (meets-third size i j low left) refl) (λ k l m n touch. grind (arith, nat_tests)) tt
 
-  -- whichever the row and the column are, the point has one fan
+  -- the point has one fan, for any row and column
   along-both : (r c : ℕ) → 0 < size → IsAlong size r → IsAlong size c → Fans r c
   along-both r c some (inl e) (inl f) = rw (e, f) (first-first some)
   along-both r c some (inl e) (inr (inl q)) = rw (e, q.1) (first-inside q.0 some q.2)

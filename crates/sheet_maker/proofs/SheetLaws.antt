@@ -1,4 +1,4 @@
--- A sheet is a manifold, and so nothing is wrong with it.
+-- A sheet is a manifold, so the mesh checks find no fault in it.
 use Rattle.std.proofs.Common.{◌≡◌, ℕ, ◌+◌, ◌*◌, ◌<◌, true, nat_lt, [], None, length, arith, ap, sym, ◌∙◌, subst, IsTrue}
 use Rattle.std.specs.List.{list_all}
 use Rattle.std.proofs.lemmas.Bool.Decides.{nat_tests}
@@ -38,11 +38,11 @@ sheet-manifold size some =
       fans = λ v h. sheet-fans size v some h;
     }
 
--- the mesh that is made from a seed is a manifold
+-- the mesh made from a seed is a manifold
 pub generated-manifold : (seed size : ℕ) → 0 < size → IsManifold (length (generated_mesh seed size).points) (generated_mesh seed size).faces
 generated-manifold seed size some = subst (λ (n : ℕ). IsManifold n (sheet_faces size)) (sym (points-length size (draws_of seed size))) (sheet-manifold size some)
 
--- with which nothing is wrong
+-- the mesh checks find no fault in it
 pub generated-fine : (seed size : ℕ) → 0 < size → first_mesh_fault (length (generated_mesh seed size).points) (generated_mesh seed size).faces ≡ None
 generated-fine seed size some =
     let points : ℕ = length (generated_mesh seed size).points in

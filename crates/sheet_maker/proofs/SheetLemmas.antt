@@ -36,7 +36,7 @@ length-row size i a n = length-flat (sheet_quad size i) 4 a n (λ j. refl)
 length-corners : (size : ℕ) → length (sheet_corners size) ≡ size * (size * 4)
 length-corners size = length-flat (row_corners size) (size * 4) 0 size (λ i. length-row size i 0 size)
 
--- the corners of a row are its quads, whatever comes after them
+-- the corners of a row are its quads, for any text after them
 quads-row : (size i a n : ℕ) (rest : List ℕ)
     → quads_of (flat_map (sheet_quad size i) (range_with_len a n) ++ rest) ≡ map (sheet_quad size i) (range_with_len a n) ++ quads_of rest
 quads-row size i a zero rest = refl
@@ -106,7 +106,7 @@ draws-step start old new count k x y v less e_new e_v e_y h =
     ∙ ap (λ n. old ++ draws_from n x) (sym one)
     ∙ h
 
--- there are all
+-- all rows are there
 pub draws-all : (start old : List ℕ) (count k x : ℕ) → count ≤ k → old ++ draws_from (count - k) x ≡ start → old ≡ start
 draws-all start old count k x all h =
     let none : count - k ≡ 0 = omega (arith, all) in
@@ -155,12 +155,12 @@ pub sheet-mesh : (seed size : ℕ) (draws others : List ℕ) (points : List Poin
 sheet-mesh seed size draws others points corners creases e_draws e_others e_points e_corners e_creases =
     rw (e_points, e_corners, quads-sheet size, e_creases, e_draws, e_others) refl
 
--- the mesh of a sheet, where one is made
+-- the mesh of a sheet, if memory is enough
 pub sheet-made : {E : Type 0} (result : Result ObjMesh E) (made : ObjMesh) (seed size : ℕ) → made ≡ generated_mesh seed size → IfOk result (λ mesh. mesh ≡ made)
     → IfOk result (λ mesh. mesh ≡ generated_mesh seed size)
 sheet-made result made seed size e h = IfOk-weaker result (λ mesh. mesh ≡ made) (λ mesh. mesh ≡ generated_mesh seed size) (λ mesh is. is ∙ e) h
 
--- as many points were made as the sheet has
+-- the number of points made is that of the sheet
 pub points-made : (size : ℕ) (draws : List ℕ) (points : List Point3) → map point_of points ≡ sheet_points size draws → length points ≡ point_count size
 points-made size draws points e = sym (length-map points point_of) ∙ ap length e ∙ length-points size draws
 
@@ -186,7 +186,7 @@ pub ends-made : (size points : ℕ) (creases : List Crease) → points ≡ point
     → All (λ c. (c.a < points) × (c.b < points)) creases
 ends-made size points creases e ends = rw e ends
 
--- the points that were made are short
+-- the numerators of the made points are short
 pub short-made : (seed size : ℕ) (draws : List ℕ) (points : List Point3) → size ≤ 256 → draws ≡ draws_of seed size
     → map point_of points ≡ sheet_points size draws → All IsShortPoint (map point_of points)
 short-made seed size draws points few e_draws e_points =

@@ -1,4 +1,4 @@
--- The faces at a point of a sheet, and how one follows another about it.
+-- The faces at a point of a sheet, and their order around it.
 use Rattle.std.proofs.Common.{◌≡◌, ℕ, ◌+◌, ◌<◌, true, nat_eq, List, [], arith, ap, sym, ◌∙◌}
 use Rattle.std.specs.List.{list_all}
 use Rattle.std.proofs.lemmas.Bool.{eqb-true}
@@ -33,11 +33,11 @@ module _ (size : ℕ) where
   pub meets-fourth : (i j : ℕ) → i < size → j < size → meets (i + 1) j i j
   meets-fourth i j p q = meets-start (sheet_point size (i + 1) j, sheet_point size i j) i j p q (quad-sides size i j).3
 
-  -- about the point one face is the successor of the other
+  -- around the point one face is the successor of the other
   abbrev pub Follows : ℕ → ℕ → ℕ → ℕ → ℕ → ℕ → Type 0
   Follows r c i j k l = IsSuccessor (sheet_faces size) (sheet_point size r c) (face_number size i j) (face_number size k l)
 
-  -- a quad follows another, where a side of it comes back by a side of the other
+  -- a quad follows another if a side of it comes back by a side of the other
   follows-quad : (v corner i j k l : ℕ) → i < size → j < size → k < size → l < size → has_side (v, corner) (sheet_quad size i j) ≡ true → has_side (corner, v) (sheet_quad size k l) ≡ true → IsSuccessor (sheet_faces size) v (face_number size i j) (face_number size k l)
   follows-quad v corner i j k l p q m n out back = record {
     corner = corner;
@@ -61,7 +61,7 @@ module _ (size : ℕ) where
   pub follows-on : (i j : ℕ) → i < size → j + 1 < size → Follows i (j + 1) i j i (j + 1)
   follows-on i j p q = follows-quad (sheet_point size i (j + 1)) (sheet_point size (i + 1) (j + 1)) i j i (j + 1) p (omega arith) p q (quad-sides size i j).1 (quad-sides size i (j + 1)).3
 
-  -- a path of faces at the point, among them each that touches it, is its fan
+  -- a path of faces at the point that contains each face there is its fan
   pub fan-of : (r c : ℕ) (fan : List ℕ) → c < size + 1 → is_distinct fan ≡ true → list_all (λ face. has_corner (sheet_point size r c) (polygon_at (sheet_faces size) face)) fan ≡ true → ((i j : ℕ) → i < size → j < size → Touches r c i j → is_among fan (face_number size i j) ≡ true) → IsPath (sheet_faces size) (sheet_point size r c) fan → HasOneFan (sheet_faces size) (sheet_point size r c)
   fan-of r c fan inside once meeting complete path = record { fan = fan; once = once; all = λ face. (there face, back face); path = path }
     where

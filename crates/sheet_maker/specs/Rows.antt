@@ -5,21 +5,23 @@ use Rattle.subdiv_model.specs.Generator.{sheet_point, sheet_quad, row_creases}
 use Rattle.subdiv_model.specs.Sharpness.{Sharpness, sharpness_of}
 use Rattle.raw_mesh.specs.declared.tags.Crease.{Crease}
 
--- how many points there are
+-- the number of points
 abbrev pub point_count : ℕ → ℕ
 point_count size = (size + 1) * (size + 1)
 
--- the point in row i and column j, and those of row i
+-- the point in row i and column j
 abbrev pub place_of : ℕ → List ℕ → ℕ → ℕ → ℤ × ℤ × ℤ
 place_of size draws i j = (pos (10 * j), pos (10 * i), pos (get_or draws (sheet_point size i j) 0))
 
+-- the points of row i
 abbrev pub row_points : ℕ → List ℕ → ℕ → List (ℤ × ℤ × ℤ)
 row_points size draws i = map (place_of size draws i) (range_with_len 0 (size + 1))
 
--- the corners of the quads of row i, one after the other, and those of all rows
+-- the corners of the quads of row i, one after the other
 abbrev pub row_corners : ℕ → ℕ → List ℕ
 row_corners size i = flat_map (sheet_quad size i) (range_with_len 0 size)
 
+-- the corners of the quads of all rows
 abbrev pub sheet_corners : ℕ → List ℕ
 sheet_corners size = flat_map (row_corners size) (range_with_len 0 size)
 

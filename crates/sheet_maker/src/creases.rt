@@ -29,7 +29,7 @@ fn put_row(creases: &mut Vec<Crease>, size: u32, i: u32, sharpness: Sharpness) -
     Ok(())
 }
 
-// The sharpness along row k + 1: half of the draw that stands at place k after those of the points.
+// The sharpness along row k + 1: half of draw k after the draws of the points.
 fn row_sharpness(draws: &[u8], size: u32, k: u32) -> Sharpness
     requires few { size ≤ 256 }
     requires row { k < size }
@@ -40,7 +40,7 @@ fn row_sharpness(draws: &[u8], size: u32, k: u32) -> Sharpness
     Sharpness::new(draws[(points + k) as usize] as u64, 2)
 }
 
-// The creases along the rows inside the sheet, each half as sharp as its draw after those of the points.
+// The creases along the inner rows of the sheet. The sharpness of each row is half of its draw; these draws follow those of the points.
 pub(crate) fn creases_of_rows(alloc: Global, draws: &[u8], size: u32) -> Result<Vec<Crease>, Memory>
     requires some { 1 ≤ size }
     requires few { size ≤ 256 }

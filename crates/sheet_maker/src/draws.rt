@@ -1,4 +1,4 @@
-//! The draws of a seed, by a linear congruential generator.
+//! The draws of a seed, from a linear congruential generator.
 
 ghost use Rattle.std.specs.Prelude.{◌≡◌, ◌<◌, ◌%◌, ◌^◌, IfOk};
 ghost use Rattle.subdiv_model.specs.Generator.{drawn_next, drawn_value, draws_from};
@@ -6,7 +6,7 @@ ghost use Rattle.subdiv_model.specs.Generator.{drawn_next, drawn_value, draws_fr
 use ratio128::Memory;
 use std::alloc::Global;
 
-// The number after a draw. The product fits, since the number before has 31 bits.
+// The state after a draw. The product fits, since the state before has 31 bits.
 fn next(x: u64) -> u64
     requires { x < 2 ^ 31 }
     ensures next { result ≡ drawn_next x }
@@ -22,7 +22,7 @@ fn value(x: u64) -> u8
     (x / 65536 % 7) as u8
 }
 
-// The values of so many draws.
+// The values of the first `count` draws.
 pub(crate) fn draws_of_seed(alloc: Global, seed: u32, count: u32) -> Result<Vec<u8>, Memory>
     ensures { IfOk result (λ draws. draws.items ≡ draws_from count (seed % 2 ^ 31)) }
 {

@@ -9,7 +9,7 @@ use crate::number::point_number;
 use ratio128::{Memory, Point3};
 use std::alloc::Global;
 
-// The point in row `i` and column `j`, at the height that is drawn for it.
+// The point in row `i` and column `j`, at its drawn height.
 fn point(draws: &[u8], size: u32, i: u32, j: u32) -> Point3
     requires few { size ≤ 256 }
     requires drawn { point_count size ≤ length draws.now }

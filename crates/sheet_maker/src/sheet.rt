@@ -11,10 +11,10 @@ use ratio128::Memory;
 use raw_mesh::RawMesh;
 use std::alloc::Global;
 
-/// A sheet of `size` times `size` quads, from 1 to 256: its points stand 10 apart in rows and columns, each at a height that the
-/// seed draws, and each inner row of edges is a crease of a sharpness that it draws.
+/// Returns a sheet of `size` times `size` quads. Its points are 10 apart in rows and columns, each at a height from 0 to 6 that the seed
+/// draws. Each inner row of edges is a crease whose sharpness the seed draws.
 ///
-/// The error is `Memory`, where memory ran out.
+/// Error: `Memory`.
 pub fn make_sheet(alloc: Global, seed: u32, size: u32) -> Result<RawMesh, Memory>
     requires some { 1 ≤ size }
     requires few { size ≤ 256 }

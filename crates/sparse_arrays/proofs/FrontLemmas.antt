@@ -8,7 +8,7 @@ use borrow.Rule.Slice.PartMut.{put_mid, post_of}
 use Rattle.flat_arrays.proofs.PartLemmas.{part-written, pieces-more}
 use Rattle.sparse_arrays.specs.Flat.{with_front}
 
--- both parts of a list tell it
+-- a list is its first part and its rest
 by-parts : {A : Type 0} (n : ℕ) (out front rest : List A) → take n out ≡ front → drop n out ≡ rest → out ≡ front ++ rest
 by-parts n out front rest e f = sym (take-append-drop n out) ∙ ap (λ xs. xs ++ drop n out) e ∙ ap (λ xs. front ++ xs) f
 
@@ -33,7 +33,7 @@ front-more items part out old at len e items-len part-len fits =
 pub part-size : {A : Type 0} (at len : ℕ) (out : List A) → at + len ≤ length out → length (take (at + len - at) (drop at out)) ≡ len
 part-size at len out fits = omega (arith, fits, length-take (at + len - at) (drop at out), length-drop at out)
 
--- how long pieces are together
+-- the length of pieces together
 pub pieces-length : {X A : Type 0} (piece : X → List A) (count : X → ℕ) → ((x : X) → length (piece x) ≡ count x) → (xs : List X) → length (flat_map piece xs) ≡ sum_by count xs
 pieces-length piece count same [] = refl
 pieces-length piece count same (x ∷ xs) =

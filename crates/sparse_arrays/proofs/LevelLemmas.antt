@@ -1,4 +1,4 @@
--- How long the lists of levels are.
+-- The lengths of the lists of levels.
 use Rattle.std.proofs.Common.{◌≡◌, ℕ, ◌+◌, ◌*◌, ◌<◌, ◌≤◌, List, [], ◌∷◌, length, map, flat_map, take, get_or, vec_len, arith, refl, ap, ◌∙◌}
 use Rattle.std.specs.List.{All, sum_by}
 use Rattle.std.proofs.lemmas.List.{length-append, length-map}

@@ -6,7 +6,7 @@ use Rattle.ratio128.specs.declared.point.Point3.{Point3}
 use Rattle.sparse_faces.specs.declared.values.SparseValues.{SparseValues}
 use Rattle.point_arrays.specs.Points.{all_numerators, all_denominators}
 
--- an array with these items at its front; the items behind them are those that were there
+-- an array with these items at its front; later items are unchanged
 abbrev pub with_front : {X : Type 0} → List X → List X → List X
 with_front items array = items ++ drop (length items) array
 
@@ -21,23 +21,23 @@ kind_number LeafFace = 3
 abbrev pub level_kinds : WrittenLevel → List ℕ
 level_kinds level = map (λ face. kind_number face.kind) level.faces
 
--- their numbers in the uniform level
+-- the numbers of the faces of a level in the uniform level
 abbrev pub level_numbers : WrittenLevel → List ℕ
 level_numbers level = map (λ face. face.number) level.faces
 
--- how many corners each has
+-- the number of corners of each face of a level
 abbrev pub level_sizes : WrittenLevel → List ℕ
 level_sizes level = map (λ face. length face.corners) level.faces
 
--- their corners, face by face
+-- the corners of the faces of a level, face by face
 abbrev pub level_corners : WrittenLevel → List ℕ
 level_corners level = flat_map (λ face. face.corners) level.faces
 
--- how many corners all faces of a level have
+-- the number of corners of all faces of a level
 abbrev pub corners_in : WrittenLevel → ℕ
 corners_in level = sum_by (λ face. length face.corners) level.faces
 
--- how many points, faces, corners and values a level with values has
+-- the number of points of a level with values, and the numbers of its faces, corners and values
 abbrev pub point_count : SparseValues Point3 → ℕ
 point_count level = level.faces.point_count
 
@@ -50,7 +50,7 @@ corner_count level = corners_in level.faces
 abbrev pub value_count : SparseValues Point3 → ℕ
 value_count level = length level.values.items
 
--- of all levels, the kinds of the faces, their numbers, their sizes and their corners
+-- the kinds, numbers, sizes and corners of the faces of all levels
 abbrev pub kinds_of : List (SparseValues Point3) → List ℕ
 kinds_of levels = flat_map (λ level. level_kinds level.faces) levels
 
@@ -63,7 +63,7 @@ sizes_of levels = flat_map (λ level. level_sizes level.faces) levels
 abbrev pub corners_of : List (SparseValues Point3) → List ℕ
 corners_of levels = flat_map (λ level. level_corners level.faces) levels
 
--- of all levels, three numerators of each point, and the denominators times the common one
+-- the three numerators of each point of all levels, and each denominator times the common one
 abbrev pub numerators_of : List (SparseValues Point3) → List ℤ
 numerators_of levels = flat_map (λ level. all_numerators level.values.items) levels
 

@@ -1,4 +1,4 @@
--- Sparse levels in a caller's arrays: how long they have to be, and what is written there.
+-- Sparse levels in a caller's arrays: the lengths of the arrays, and what they contain.
 use Rattle.std.specs.Prelude.{ℕ, ◌≡◌, ◌*◌, ◌&&◌, Bool, List, nat_le, length, map}
 use Rattle.std.specs.List.{All, sum_by}
 use Rattle.ratio128.specs.declared.point.Point3.{Point3}
@@ -10,7 +10,7 @@ use Rattle.sparse_arrays.specs.Flat.{with_front, point_count, face_count, corner
 use Rattle.sparse_arrays.specs.declared.counts.SparseCounts.{SparseCounts}
 use Rattle.sparse_arrays.specs.declared.places.SparsePlaces.{SparsePlaces}
 
--- how many levels there are, and how many points, faces and corners they have together
+-- the number of levels, and the number of their points, faces and corners
 abbrev pub counts_of : List (SparseValues Point3) → SparseCounts
 counts_of levels = record {
   levels = length levels;
@@ -19,7 +19,7 @@ counts_of levels = record {
   corners = sum_by corner_count levels;
 }
 
--- places for so many: three for the numerators of each point
+-- the arrays are long enough for these sizes; each point needs three numerators
 abbrev pub are_long_enough : SparseCounts → SparsePlaces → Bool
 are_long_enough counts places =
     nat_le counts.levels (length places.level_points.now)
@@ -31,12 +31,12 @@ are_long_enough counts places =
     && (nat_le (3 * counts.points) (length places.numerators.now)
     && nat_le counts.points (length places.denominators.now)))))))
 
--- the level has a value for each of its points, and the values keep their bounds
+-- the level has a value for each of its points, and the values are within their bounds
 pub record CanLevelBePut (common : ℕ) (level : SparseValues Point3) : Type 0 where
   pub valued : length level.values.items ≡ level.faces.point_count
   pub put : All (CanBePut common) level.values.items
 
--- the levels stand at the front of each array, and what lies behind them stays
+-- the arrays have the levels at their front, and later places are unchanged
 pub record IsWritten (levels : List (SparseValues Point3)) (common : ℕ) (old new : SparsePlaces) : Type 0 where
   pub level_points : new.level_points.now ≡ with_front (map point_count levels) old.level_points.now
   pub level_faces : new.level_faces.now ≡ with_front (map face_count levels) old.level_faces.now
@@ -47,7 +47,7 @@ pub record IsWritten (levels : List (SparseValues Point3)) (common : ℕ) (old n
   pub numerators : map integer_of new.numerators.now ≡ with_front (numerators_of levels) (map integer_of old.numerators.now)
   pub denominators : map natural_of new.denominators.now ≡ with_front (denominators_of common levels) (map natural_of old.denominators.now)
 
--- the arrays are where they were, and as long
+-- the arrays are the same arrays, with the same lengths
 pub record AreSamePlaces (old new : SparsePlaces) : Type 0 where
   pub level_points : IsSameArray old.level_points new.level_points
   pub level_faces : IsSameArray old.level_faces new.level_faces

@@ -21,9 +21,9 @@ fn fill_corners(level: &SparseFaces, out: &mut [u32])
     }
 }
 
-/// Writes the corners of the faces of levels, level by level, each by the number of its point in its own level.
+/// Writes the corners of the faces of all levels, level by level, as numbers of points of their own level.
 ///
-/// The array has at least as many places as all faces have corners. The places behind those that are written stay.
+/// The array has at least one place for each corner. The call leaves later places unchanged.
 pub(crate) fn put_corners(levels: &[SparseValues<Point3>], out: &mut [u32])
     requires fits { sum_by corner_count levels.now ≤ length out.old }
     ensures corners { out.new ≡ with_front (corners_of levels.now) out.old }

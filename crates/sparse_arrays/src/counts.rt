@@ -1,4 +1,4 @@
-//! How many points, faces and corners sparse levels have.
+//! The sizes of sparse levels.
 
 ghost use Rattle.std.specs.Prelude.{◌≡◌, ◌≤◌, length};
 ghost use Rattle.sparse_arrays.specs.Places as spec;
@@ -6,21 +6,22 @@ ghost use Rattle.sparse_arrays.specs.Places as spec;
 use ratio128::Point3;
 use sparse_faces::SparseValues;
 
-/// How much sparse levels have of each kind. By these numbers a caller makes arrays that are long enough.
+/// The sizes of sparse levels. They give a caller the lengths of the arrays of `SparsePlaces`.
 #[repr(C)]
 #[derive(Clone, Copy, Debug, PartialEq, Eq)]
 pub struct SparseCounts {
-    /// How many levels there are.
+    /// The number of levels.
     pub levels: u32,
-    /// How many points all levels have together.
+    /// The number of points of all levels together.
     pub points: u64,
-    /// How many faces all levels have together.
+    /// The number of faces of all levels together.
     pub faces: u64,
-    /// How many corners the faces of all levels have together.
+    /// The number of corners of all faces of all levels together.
     pub corners: u64,
 }
 
-/// How many levels there are, and how many points, faces and corners they have together. There are at most eleven levels.
+/// Returns the number of levels, and the number of points, faces and corners of all levels together. There are at most 11
+/// levels.
 pub fn counts_of(levels: &[SparseValues<Point3>]) -> SparseCounts
     requires few { length levels.now ≤ 11 }
     ensures { result ≡ spec.counts_of levels.now }

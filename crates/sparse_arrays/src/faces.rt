@@ -1,4 +1,4 @@
-//! The kinds of faces, their numbers and their sizes.
+//! The kinds, numbers and sizes of faces.
 
 ghost use Rattle.std.specs.Prelude.{◌≡◌, ◌≤◌, length};
 ghost use Rattle.std.specs.List.{sum_by};
@@ -8,7 +8,7 @@ ghost use Rattle.sparse_arrays.specs.Flat.{face_count, kind_number, kinds_of, le
 use ratio128::Point3;
 use sparse_faces::{FaceKind, SparseFaces, SparseValues};
 
-// The number of a kind of face.
+// Returns the number of a kind of face.
 fn number_of_kind(kind: FaceKind) -> u8
     ensures { result ≡ kind_number (kind_of kind) }
 {
@@ -20,7 +20,7 @@ fn number_of_kind(kind: FaceKind) -> u8
     }
 }
 
-// Fills arrays with the kinds of the faces of a level, their numbers and their sizes.
+// Fills arrays with the kinds, numbers and sizes of the faces of a level.
 fn fill_faces(level: &SparseFaces, kinds: &mut [u8], numbers: &mut [u64], sizes: &mut [u32])
     requires kinds_fit { length kinds.old ≡ length level.now.faces }
     requires numbers_fit { length numbers.old ≡ length level.now.faces }
@@ -29,7 +29,7 @@ fn fill_faces(level: &SparseFaces, kinds: &mut [u8], numbers: &mut [u64], sizes:
     ensures numbers { numbers.new ≡ level_numbers level.now }
     ensures sizes { sizes.new ≡ level_sizes level.now }
 {
-    // All corners together have a number of 32 bits, and so have those of each face.
+    // The number of corners of all faces fits 32 bits, and so does that of each face.
     level.corner_count();
     for f in 0..level.len() {
         kinds[f as usize] = number_of_kind(level.kind(f));
@@ -38,9 +38,9 @@ fn fill_faces(level: &SparseFaces, kinds: &mut [u8], numbers: &mut [u64], sizes:
     }
 }
 
-/// Writes the kinds of the faces of levels, their numbers and their sizes, level by level.
+/// Writes the kinds, numbers and sizes of the faces of all levels, level by level.
 ///
-/// Each array has at least as many places as all levels have faces. The places behind those that are written stay.
+/// Each array has at least one place for each face. The call leaves later places unchanged.
 pub(crate) fn put_faces(
     levels: &[SparseValues<Point3>],
     kinds: &mut [u8],

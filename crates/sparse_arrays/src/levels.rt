@@ -1,4 +1,4 @@
-//! How many points and faces each level has.
+//! The numbers of points and faces of each level.
 
 ghost use Rattle.std.specs.Prelude.{◌≡◌, ◌≤◌, length, map};
 ghost use Rattle.sparse_arrays.specs.Flat.{face_count, point_count, with_front};
@@ -6,9 +6,9 @@ ghost use Rattle.sparse_arrays.specs.Flat.{face_count, point_count, with_front};
 use ratio128::Point3;
 use sparse_faces::SparseValues;
 
-/// Writes how many points each level has, and how many faces.
+/// Writes the number of points and the number of faces of each level.
 ///
-/// Each array has at least as many places as there are levels. The places behind those that are written stay.
+/// Each array has at least one place for each level. The call leaves later places unchanged.
 pub(crate) fn put_level_counts(
     levels: &[SparseValues<Point3>],
     level_points: &mut [u32],

@@ -1,4 +1,6 @@
-//! The sparse levels of a mesh, written into flat arrays that a caller owns. No call takes memory.
+//! Writes the sparse levels of a mesh into flat arrays that the caller owns.
+//!
+//! No call takes memory or reports an error. `counts_of` returns the lengths that the arrays need.
 #![tactic(auto)]
 
 mod corners;

@@ -1,4 +1,4 @@
-//! Sparse levels written into all arrays of a caller at once.
+//! Sparse levels in the arrays of a caller.
 
 ghost use Rattle.std.specs.Prelude.{◌≡◌, ◌≤◌, length, true, false};
 ghost use Rattle.std.specs.List.{All};
@@ -13,29 +13,30 @@ use flat_arrays::Wide;
 use ratio128::Point3;
 use sparse_faces::SparseValues;
 
-/// Arrays of a caller for sparse levels, from level 0 on.
+/// The arrays of a caller for sparse levels, from level 0 on.
 #[repr(C)]
 #[derive(Drop)]
 pub struct SparsePlaces<'a> {
-    /// Of each level, how many points it has.
+    /// For each level its number of points.
     pub level_points: &'a mut [u32],
-    /// Of each level, how many faces it has.
+    /// For each level its number of faces.
     pub level_faces: &'a mut [u32],
-    /// Of each face, level by level, 0 for a hole, 1 where its parent is not selected, 2 where it is selected, and 3 where it is refined no further.
+    /// For each face, level by level, its kind: 0 a hole, 1 a face whose parent is not selected, 2 a selected face, 3 a face
+    /// that is refined no further.
     pub kinds: &'a mut [u8],
-    /// Of each face its number in the uniform level, counted from 0.
+    /// For each face its number in the uniform level, counted from 0.
     pub numbers: &'a mut [u64],
-    /// Of each face, how many corners it has.
+    /// For each face its number of corners.
     pub sizes: &'a mut [u32],
-    /// The corners of all faces, face by face, each by the number of its point among those of its own level, counted from 0.
+    /// The corners of all faces, face by face, as numbers of points of their own level, counted from 0.
     pub corners: &'a mut [u32],
-    /// Three numerators of each point, level by level, in two's complement.
+    /// The three numerators of each point, x, y and z, level by level, in two's complement.
     pub numerators: &'a mut [Wide],
     /// The denominator of each point.
     pub denominators: &'a mut [Wide],
 }
 
-// Whether each array has a place for each item.
+// Returns whether each array is long enough.
 fn are_long_enough(counts: &SparseCounts, places: &SparsePlaces) -> bool
     ensures { result ≡ spec.are_long_enough counts.now places.now }
 {
@@ -49,11 +50,11 @@ fn are_long_enough(counts: &SparseCounts, places: &SparsePlaces) -> bool
         && counts.points <= places.denominators.len() as u64
 }
 
-/// Writes sparse levels into arrays, from their front, where each is long enough, and returns whether it did. The places behind those
-/// that are written stay.
+/// Writes sparse levels to the front of the arrays, and returns whether it did. It returns `false` and writes nothing if some
+/// array is too short. The call leaves later places unchanged.
 ///
-/// There are at most eleven levels, and each has a value for each of its points. A coordinate is a numerator over the point's
-/// denominator times `common`. That product is from 1 to 2^126 - 1, and each numerator is any number but the least `i128`.
+/// There are at most 11 levels, and each has a value for each of its points. A coordinate is a numerator over the point's
+/// denominator times `common`; that product is at least 1 and at most 2^126 - 1. Each numerator is any `i128` but the least.
 pub fn put_sparse(levels: &[SparseValues<Point3>], common: u128, places: &mut SparsePlaces) -> bool
     requires few { length levels.now ≤ 11 }
     requires put { All (spec.CanLevelBePut common) levels.now }

@@ -12,7 +12,7 @@ use point_arrays::put_exact_points;
 use ratio128::Point3;
 use sparse_faces::SparseValues;
 
-// Fills arrays with the numerators of the points of a level and with their denominators.
+// Fills arrays with the numerators and denominators of the points of a level.
 fn fill_points(
     level: &SparseValues<Point3>,
     common: u128,
@@ -30,9 +30,10 @@ fn fill_points(
     put_exact_points(&level.values, common, numerators, denominators);
 }
 
-/// Writes the numerators of the points of levels, level by level, x, y and z point by point, and their denominators into another array.
+/// Writes the numerators of the points of all levels, x, y and z point by point, and the denominators into another array.
 ///
-/// The first array has at least three places for each point, and the second has one. The places behind those that are written stay.
+/// The first array has at least three places for each point, and the second at least one. The call leaves later places
+/// unchanged.
 pub(crate) fn put_points(
     levels: &[SparseValues<Point3>],
     common: u128,

@@ -22,7 +22,7 @@ use Rattle.channel_refine.specs.Step.{IsCarryCause}
 use Rattle.channel_refine.proofs.FaultLemmas.{HasNoFault, IsFirstHeld, none-held, first-held}
 use Rattle.sparse_channel.specs.Refined.{IsSparseCause}
 
--- so many faces are present in a level, and that is too many
+-- the level has this number of present faces, which is too many
 abbrev pub has_many_faces : Channel → Meeting → ℕ → Bool
 has_many_faces channel meeting k = nat_lt face_limit (present_faces channel.base meeting (suc k))
 
@@ -51,7 +51,7 @@ module _ (channel : Channel) (meeting : Meeting) where
   pub no-faults : (track : Track) (depth : ℕ) → ((k : ℕ) → k < depth → HasNone channel meeting k) → sparse_faults Tables channel meeting track depth ≡ []
   no-faults track depth none = flat-none (sparse_level_faults Tables channel meeting track) 0 depth (λ k h. none-of-level track k (none k (omega (arith, h))))
 
-  -- the next level has one, and those before it have none
+  -- the next level has a fault, and those before it have none
   module _ (k depth : ℕ) (within : k < depth) (before : (j : ℕ) → j < k → HasNone channel meeting j) where
     first-at : (track : Track) (at : ℕ) → IsFirstHeld (tests track k) at
         → first_of (sparse_faults Tables channel meeting track depth) ≡ Some (get_or (tests track k) at (false, Overflow track 0 ChaikinOverflow)).1
@@ -73,7 +73,7 @@ module _ (channel : Channel) (meeting : Meeting) where
       pub chaikin-first : has_chaikin_overflow (sparse_levels channel meeting) k ≡ true → IsSparseCause channel meeting depth (k + 1) (cause.Overflow kind.Chaikin)
       chaikin-first over = λ track. first-at track 1 (faces, over) ∙ ap (λ m. Some (Overflow track m ChaikinOverflow)) named
 
-      -- or nothing can be carried to it, whose points have these common denominators in rows of so many entries
+      -- numbers cannot be carried to the level, given its common denominators and its number of entries
       module _ (chaikin : has_chaikin_overflow (sparse_levels channel meeting) k ≡ false) (level : Level) (scheme : Scheme) (origins : List PointOrigin)
           (fine : HasNoTransition level scheme origins → has_transition_overflow (sparse_levels channel meeting) k ≡ false)
           (some : (v : ℕ) → IsFirstTransition level scheme origins v → has_transition_overflow (sparse_levels channel meeting) k ≡ true)

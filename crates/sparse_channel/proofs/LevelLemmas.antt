@@ -1,4 +1,4 @@
--- A sparse level with its table: the rows of the points that are written.
+-- A sparse level with its table: the rows of the written points.
 use Rattle.std.proofs.Common.{◌≡◌, ℕ, zero, suc, ◌*◌, ◌≤◌, true, nat_eq, nat_lt, max, List, [], ◌∷◌, length, map, get_or, arith, refl, ap, sym, ◌∙◌, subst, zero-add, IsTrue}
 use Rattle.std.specs.List.{list_all, range_with_len, sum_by}
 use Rattle.std.proofs.lemmas.Bool.{ltb-true}
@@ -29,7 +29,7 @@ use Rattle.sparse_channel.proofs.ListLemmas.{once-distinct, own-places, sum-once
 use Rattle.sparse_channel.proofs.TableLemmas.{IsUniformTable}
 use Rattle.sparse_channel.proofs.OrderLemmas.{used-below, rows-each, order-below, dens-written, values-written, entries-written}
 
--- The points that are written are present, so a sum over them is no greater. After level 0 they are the present points.
+-- The written points are present, so a sum over them is no greater. After level 0 they are the present points.
 written-sum : (base : Level) (meeting : Meeting) (k : ℕ) (f : ℕ → ℕ) → IsTrue (is_over base.point_count base.polygons) → sum_by f (written_points base meeting k) ≤ sum_by f (present_points base meeting k)
 written-sum base meeting zero f over =
     sum-once f (corners_of (map (polygon_at base.polygons) (range_with_len 0 (length base.polygons)))) (range_with_len 0 base.point_count)
@@ -40,7 +40,7 @@ written-sum base meeting zero f over =
     among-range 0 base.point_count v (omega arith) (omega (arith, below))) (corners_of base.polygons) (own-corners-of base.polygons)))
 written-sum base meeting (suc k) f over = omega arith
 
--- The points that are written of a sparse level, by their numbers in it: the corners of level 0, and all points of a later level.
+-- The written points of a sparse level by their numbers: the corners of level 0, and all points of a later level.
 base-order : (kept : Kept) → kept.sparse.depth ≡ 0 → used_points kept.sparse.level ≡ used_points kept.base
 base-order kept first =
     let points = used_points kept.sparse.level in
@@ -90,7 +90,7 @@ module _ (channel : Channel) (meeting : Meeting) (t : SparseTopology) (over : Is
     fits = fits;
   })
 
--- a level that is kept, with the table that was carried there
+-- a kept level with the table that was carried there
 pub composed-level : (channel : Channel) (meeting : Meeting) (t : SparseTopology) (k : ℕ) (level : KeptLevel Table) → t.depth ≡ k → IsTrue (is_over channel.base.point_count channel.base.polygons)
     → IsSparse channel.base meeting (level_of t) → level.faces ≡ written_level channel.base meeting k
     → IsUniformTable channel.base channel.scheme meeting k level.carried → IsTable level.carried → greatest_of level.carried * max channel.greatest channel.common ≤ number_bound

@@ -35,7 +35,7 @@ pub sum-mapped : {X : Type 0} (f : ℕ → X) (g : X → ℕ) (ns : List ℕ) �
 sum-mapped f g [] = refl
 sum-mapped f g (n ∷ ns) = omega (arith, sum_by-cons g (f n) (map f ns), sum_by-cons (λ n. g (f n)) n ns, sum-mapped f g ns)
 
--- A sum over numbers, each once, that are all among some others.
+-- A sum over distinct numbers that are all in another list.
 
 filter-sum : (f : ℕ → ℕ) (wide narrow : ℕ → Bool) → ((n : ℕ) → narrow n ≡ true → wide n ≡ true) → (ns : List ℕ) → sum_by f (filter narrow ns) ≤ sum_by f (filter wide ns)
 filter-sum f wide narrow weaker [] = omega arith
@@ -47,7 +47,7 @@ filter-sum f wide narrow weaker (n ∷ ns) = go (narrow n) (wide n) refl refl (f
     go false true e g rest = rw (e, g) (omega (arith, rest, sum_by-cons f n (filter wide ns)))
     go false false e g rest = rw (e, g) rest
 
--- where a number is listed, the sum over the others is less by its own
+-- without a listed number the sum over the list is less by that number's part
 without-one : (f : ℕ → ℕ) (keep : ℕ → Bool) (m : ℕ) → keep m ≡ true → (ns : List ℕ) → is_among ns m ≡ true
     → f m + sum_by f (filter (λ n. keep n && not (nat_eq m n)) ns) ≤ sum_by f (filter keep ns)
 without-one f keep m own [] among = absurd (cc)
@@ -140,7 +140,7 @@ once-distinct (n ∷ ns) =
     go true e rest = let other = (among-filtered (λ m. not (nat_eq n m)) (each_once_by nat_eq ns) n e).1 in let own = eq-eqb n n refl in absurd (cc)
     go false e rest = rw (e, rest) refl
 
--- So the places of all such names, in the order of the names, are 0, 1 and so on.
+-- The places of all such names, in the order of the names, are 0, 1 and so on.
 pub own-places : (names places : List ℕ) → is_distinct names ≡ true → list_all (λ p. nat_lt p (length names)) places ≡ true → names ≡ map (name_in names) places
     → places ≡ range_with_len 0 (length names)
 own-places names places once below same =

@@ -15,7 +15,7 @@ shift n m = omega arith
 zero-left : (n : ℕ) → 0 + n ≡ n
 zero-left n = omega arith
 
--- a level more
+-- one more level
 valued-push : (controls : List (List ℤ)) (first : List ℕ) (j : ℕ) (levels : List (KeptLevel Table)) (level : KeptLevel Table)
     → valued_from controls first j (levels ++ level ∷ []) ≡ valued_from controls first j levels ++ valued controls (kept_order first (j + length levels) level) level ∷ []
 valued-push controls first j [] level = ap (λ n. valued controls (kept_order first n level) level ∷ []) (zero-right j)
@@ -37,7 +37,7 @@ entries-before first j (one ∷ levels) more = omega (arith, entries-before firs
 pub entries-taken : (first : List ℕ) (all : List (KeptLevel Table)) (n : ℕ) → entries_in first 0 (take n all) ≤ entries_in first 0 all
 entries-taken first all n = omega (arith, entries-before first 0 (take n all) (drop n all), ap (entries_in first 0) (take-append-drop n all))
 
--- a level that is the next of all, as it stands behind those before it
+-- the next level of all, in its place behind those before it
 module _ (first : List ℕ) (all : List (KeptLevel Table)) (n m : ℕ) (level : KeptLevel Table) (inside : n < length all) (is : level ≡ get_or all n level) (count : m ≡ n) where
   taken : take (n + 1) all ≡ take n all ++ level ∷ []
   taken = take_more all n level inside ∙ ap (λ one. take n all ++ one ∷ []) (sym is)

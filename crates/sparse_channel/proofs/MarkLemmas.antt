@@ -1,4 +1,4 @@
--- Points that are met one after another, each with a mark.
+-- Points in the order of their first appearance, each with a mark.
 use Rattle.std.proofs.Common.{◌≡◌, ◌≢◌, ℕ, zero, suc, ◌+◌, ◌<◌, Bool, true, false, ◌||◌, nat_eq, nat_lt, List, [], ◌∷◌, ◌++◌, length, get_or, set, take, replicate, arith, refl, ap, sym, ◌∙◌, subst}
 use Rattle.std.specs.List.{All, list_all}
 use Rattle.std.proofs.lemmas.Bool.{eqb-true, eq-eqb, ltb-true}
@@ -15,11 +15,11 @@ use Rattle.sparse_level.specs.Places.{with_point, with_points}
 use Rattle.sparse_level.proofs.OnceLemmas.{once-more}
 use Rattle.sparse_channel.specs.Marks.{AreMarked}
 
--- a point that has a mark is there
+-- a marked point is in the list
 pub with-known : (points : List ℕ) (marks : List Bool) (n : ℕ) → AreMarked points marks → n < length marks → get_or marks n false ≡ true → points ≡ with_point points n
 with-known points marks n are h e = let there : is_among points n ≡ true = sym (are n h) ∙ e in rw there refl
 
--- and one without is put at the end
+-- an unmarked point is appended
 pub with-new : (points : List ℕ) (marks : List Bool) (n : ℕ) → AreMarked points marks → n < length marks → get_or marks n false ≡ false → points ++ n ∷ [] ≡ with_point points n
 with-new points marks n are h e = let there : is_among points n ≡ false = sym (are n h) ∙ e in rw there refl
 
@@ -52,7 +52,7 @@ marked-none marks count same n h = ap (λ l. get_or l n false) same ∙ none cou
     none (suc count) zero = refl
     none (suc count) (suc n) = none count n
 
--- a point more of a list
+-- one more point of a list
 with-push : (points list : List ℕ) (n : ℕ) → with_points points (list ++ n ∷ []) ≡ with_point (with_points points list) n
 with-push points [] n = refl
 with-push points (m ∷ list) n = with-push (with_point points m) list n
@@ -62,7 +62,7 @@ point-more points list now i n h are same =
     ap (λ l. with_point l n) are ∙ ap (with_point (with_points points (take i list))) same
     ∙ sym (ap (with_points points) (take_more list i 0 h) ∙ with-push points (take i list) (get_or list i 0))
 
--- the corners of a face more
+-- the corners of one more face
 pub face-more : (polygons : List Polygon) (points : List ℕ) (f : ℕ) → f < length polygons → points ≡ each_once_by nat_eq (corners_of (take f polygons))
     → with_points points (polygon_at polygons f) ≡ each_once_by nat_eq (corners_of (take (f + 1) polygons))
 face-more polygons points f h are =

@@ -1,4 +1,4 @@
--- A table carried to the next sparse level: that level has no fault, or which it has first.
+-- A table carried to the next sparse level: that level has no fault, or this is its first one.
 use Rattle.std.proofs.Common.{◌≡◌, ℕ, suc, ◌+◌, ◌*◌, ◌<◌, ◌≤◌, Bool, true, false, nat_lt, max, List, length, map, arith, refl, ap, sym, ◌∙◌, subst, IsTrue}
 use Rattle.std.specs.List.{list_any, sum_by}
 use Rattle.std.proofs.lemmas.Bool.{le-ltb}
@@ -30,7 +30,7 @@ use Rattle.sparse_channel.proofs.FaultLemmas.{HasNone, has_many_faces, carried-f
 
 module _ (channel : Channel) (meeting : Meeting) (sparse : SparseLevel) (over : IsTrue (is_over channel.base.point_count channel.base.polygons)) (is : IsSparse channel.base meeting sparse)
     (test : FaceFacts → Bool) (agrees : Agrees test channel.base meeting sparse.depth) where
-  -- the level as one of the definitions, and the test that selects
+  -- the level as one of the definitions, with the test that selects
   abbrev pub kept_at : Kept
   kept_at = record { base = channel.base; meeting = meeting; sparse = sparse; over = over; is = is }
 
@@ -39,7 +39,7 @@ module _ (channel : Channel) (meeting : Meeting) (sparse : SparseLevel) (over : 
 
   module _ (table : Table) (uniform : IsUniformTable channel.base channel.scheme meeting sparse.depth table)
       (origins : List PointOrigin) (from : origins ≡ map (origin_in sparse.level) (next_points sparse.level (selected_in test sparse))) where
-    -- the weight between two rules passes its bound at a vertex of the sparse level exactly where it does in the definitions
+    -- the weight between two rules passes its bound at a vertex of the sparse level exactly if it does in the definitions
     transition-fine : HasNoTransition sparse.level channel.scheme origins → has_transition_overflow (sparse_levels channel meeting) sparse.depth ≡ false
     transition-fine none = go (has_transition_overflow (sparse_levels channel meeting) sparse.depth) refl
       where
@@ -64,7 +64,7 @@ module _ (channel : Channel) (meeting : Meeting) (sparse : SparseLevel) (over : 
     next-table next step = uniform-next kept_at by_test channel.scheme table uniform origins from next step.composed
 
     module _ (faces : has_many_faces channel meeting sparse.depth ≡ false) (chaikin : has_chaikin_overflow (sparse_levels channel meeting) sparse.depth ≡ false) where
-      -- where it is made, the next level has no fault
+      -- if the table is made, the next level has no fault
       pub next-none : (next : Table) → IsCarried (max channel.greatest channel.common) sparse.level channel.scheme origins table next → HasNone channel meeting sparse.depth
       next-none next step =
           let after = next-table next step in
@@ -84,7 +84,7 @@ module _ (channel : Channel) (meeting : Meeting) (sparse : SparseLevel) (over : 
           few : (next : Table) → IsUniformTable channel.base channel.scheme meeting (suc sparse.depth) next → entries_of next.rows ≤ entry_bound → present_entries channel meeting (suc sparse.depth) ≤ entry_bound
           few next after h = omega (arith, h, entries-by-support next.rows, ap (sum_by length) after.supports, entries-present channel.base channel.scheme meeting (suc sparse.depth))
 
-      -- and else that fault is the first of all, where the levels before have none
+      -- else the fault is the first of all, if the levels before have none
       pub next-fault : (depth : ℕ) → sparse.depth < depth → ((j : ℕ) → j < sparse.depth → HasNone channel meeting j) → (why : Cause)
           → IsTableCause (max channel.greatest channel.common) sparse.level channel.scheme origins table why → IsSparseCause channel meeting depth (sparse.depth + 1) why
       next-fault depth within before why fails =

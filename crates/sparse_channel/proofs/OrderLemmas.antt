@@ -1,4 +1,4 @@
--- The rows of a table at some points, in their order: those of the points that are written of a sparse level.
+-- The rows of a table at the written points of a sparse level, in their order.
 use Rattle.std.proofs.Common.{◌≡◌, ℕ, ◌<◌, true, nat_lt, ℤ, pos, List, [], length, map, get_or, arith, ap, sym, ◌∙◌, subst}
 use Rattle.std.specs.List.{list_all, sum_by}
 use Rattle.std.proofs.Math.ListN.{get_or-map as get_or-map_all}
@@ -33,7 +33,7 @@ part-at part table order =
     map-twice (row_at table) part order
     ∙ map-same (λ n. part (row_at table n)) (λ n. get_or (map part table.rows) n (part (record { den = 1; shares = [] }))) (λ n. sym (get_or-map_all part table.rows n (record { den = 1; shares = [] }))) order
 
--- values that are the same are so at some points
+-- values that are the same are the same at some points
 same-at : (order : List ℕ) (values others : List Value) → AreSameValues values others → list_all (λ n. nat_lt n (length others)) order ≡ true
     → AreSameValues (items_at order (whole_value (pos 0)) values) (items_at order (whole_value (pos 0)) others)
 same-at order values others are below = record {
@@ -48,7 +48,7 @@ same-at order values others are below = record {
 }
 
 module _ (kept : Kept) where
-  -- the points that are written are points of the level
+  -- the written points are points of the level
   pub used-below : list_all (λ n. nat_lt n kept.sparse.level.point_count) (used_points kept.sparse.level) ≡ true
   used-below =
       let level = kept.sparse.level in
@@ -56,7 +56,7 @@ module _ (kept : Kept) where
       let found = corner-of level.polygons n h in corner-point level.point_count level.polygons found.0 n kept.is.over found.2)
       (used_points level) (own-used kept)
 
-  -- the items of the uniform level at the points that are written
+  -- the items of the uniform level at the written points
   pub items-written : {X : Type 0} (d : X) (items : List X)
       → items_at (written_points kept.base kept.meeting kept.sparse.depth) d items ≡ items_at (used_points kept.sparse.level) d (at_points kept d items)
   items-written d items =
@@ -92,7 +92,7 @@ module _ (kept : Kept) where
         (subst (AreSameValues (items_at order zero_value (at_points kept zero_value values))) (sym (part-at {X = Value} (λ row. record { num = share_sum numbers row.shares; den = row.den }) table order))
         (same-at order (at_points kept zero_value values) (row_values table numbers) (is.values numbers many) (subst (λ n. list_all (λ p. nat_lt p n) order ≡ true) (sym count) order-below)))
 
-    -- their entries are those of the points that are written
+    -- the entries of the rows are those of the written points
     pub entries-written : entries_of (rows_at table (used_points kept.sparse.level)).rows
         ≡ sum_by (λ p. length (get_or (refined_supports kept.base scheme kept.sparse.depth) p [])) (written_points kept.base kept.meeting kept.sparse.depth)
     entries-written =

@@ -1,4 +1,4 @@
--- The masks of the next sparse points by where they come from, and which vertices have a point there.
+-- The masks of the next sparse points by their origins, and the vertices that have a point there.
 use Rattle.std.proofs.Common.{◌≡◌, ℕ, ◌-◌, ◌<◌, Bool, true, false, nat_eq, nat_lt, List, length, map, get_or, refl, ap, sym, ◌∙◌, subst, zero-add, if◌then◌else◌}
 use Rattle.std.specs.List.{list_any, list_all, range_with_len}
 use Rattle.std.proofs.lemmas.Bool.{eqb-true, eq-eqb, lt-ltb, ltb-true}
@@ -32,11 +32,11 @@ use Rattle.level_topology.specs.ChildTables.{numbered_origin}
 use Rattle.child_masks.specs.Masks.{mask_from, masks_from, has_origin}
 use Rattle.uniform_walk.proofs.OriginLemmas.{masks-of-all}
 
--- where a point with a number comes from
+-- the origin of a point with a number
 abbrev pub origin_in : Level → ℕ → PointOrigin
 origin_in level n = numbered_origin level.point_count (length level.polygons) n
 
--- What a function makes of the masks of some points is what it makes of those of the whole next level, at these points.
+-- A function of the masks of some points gives the same as for the whole next level at these points.
 module _ {X : Type 0} (f : Mask → X) (d : X) (level : Level) (scheme : Scheme) where
   abbrev of_number : ℕ → X
   of_number n = f (mask_from level scheme (origin_in level n))
@@ -83,7 +83,7 @@ module _ (kept : Kept) (by : AgreeingTest kept) where
       corner-point (child_points kept.sparse.level.point_count kept.sparse.level.polygons) (kids s) found.0 n (child-over-points kept.sparse.level.point_count kept.sparse.level.polygons kept.is.over) found.2)
       (next_points_of by) (points-own s)
 
-  -- a vertex that has a point there lies on a selected face
+  -- a vertex that has a point at the next level lies on a selected face
   pub origin-on : (v : ℕ) → has_origin (map (origin_in kept.sparse.level) (next_points_of by)) (FromVertex v) ≡ true
       → (v < kept.sparse.level.point_count) × (is_on kept.sparse.level.polygons (chosen_by by) v ≡ true)
   origin-on v h =
@@ -97,7 +97,7 @@ module _ (kept : Kept) (by : AgreeingTest kept) where
       go n same below among =
           (subst (λ m. m < kept.sparse.level.point_count) same below, ap (is_on kept.sparse.level.polygons (chosen_by by)) (sym same) ∙ point-on (selection kept by) n below among)
 
-  -- and a vertex that lies on one has a point there
+  -- a vertex that lies on a selected face has a point at the next level
   on-corner : (v : ℕ) → is_on kept.sparse.level.polygons (chosen_by by) v ≡ true → is_corner (kids (selection kept by)) v ≡ true
   on-corner v on =
       let s = selection kept by in

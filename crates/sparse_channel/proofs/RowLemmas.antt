@@ -43,11 +43,11 @@ entries-more some order i n h same =
     ap entries_of (picked-more some order i h) ∙ sum_by_push (λ (row : table.Row). length row.shares) (picked some (take i order)) (row_at some (get_or order i 0))
     ∙ ap (λ m. entries_of (picked some (take i order)) + length (row_at some m).shares) (sym same)
 
--- a row that is asked for is there
+-- a requested row exists
 pub row-inside : (some : Table) (order : List ℕ) (i n : ℕ) → HasRows some order → i < length order → n ≡ get_or order i 0 → n < length some.rows
 row-inside some order i n has h same = subst (λ m. m < length some.rows) (sym same) (ltb-true _ _ (all-at (λ row. nat_lt row (length some.rows)) order i 0 h has))
 
--- no row is asked for of a table without rows
+-- a table without rows gets no request
 pub none-asked : (some : Table) (order : List ℕ) → HasRows some order → some.rows ≡ [] → order ≡ []
 none-asked some [] has none = refl
 none-asked some (n ∷ order) has none = let inside = row-inside some (n ∷ order) 0 n has (omega arith) refl in absurd (omega (arith, inside, ap length none))

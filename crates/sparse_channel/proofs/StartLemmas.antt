@@ -1,4 +1,4 @@
--- The place from which a walk over sparse levels starts that carries the table of a channel.
+-- The start of a walk over sparse levels that carries the table of a channel.
 use Rattle.std.proofs.Common.{◌≡◌, ℕ, ◌*◌, ◌≤◌, Bool, max, [], ◌∷◌, length, None, arith, ap, sym, ◌∙◌, subst}
 use Rattle.std.proofs.lemmas.List.FromFn.{length-map-range_with_len}
 use Rattle.subdiv_model.specs.Level.{Level}
@@ -25,7 +25,7 @@ use Rattle.sparse_channel.proofs.WalkedLemmas.{IsAt, at-start}
 pub sparse-base : (base : Topology) → IsBase base → IsSparseBase base
 sparse-base base is = record { complete = is.complete; boundary = is.boundary }
 
--- level 0 with the table of its own points, where nothing is kept yet
+-- level 0 with the table of its own points; no level is kept yet
 module _ (test : FaceFacts → Bool) (channel : Channel) (depth : ℕ) (base : Topology) (is : IsBase base) (here : base.level ≡ channel.base) (formed : IsTopology base)
     (short : max channel.greatest channel.common ≤ number_bound) (most : ℕ) (same : most ≡ max channel.greatest channel.common) (scheme : Scheme) (by : scheme ≡ channel.scheme) where
   pub started : (start : Place Walked Table (KeptSoFar Table)) → IsStart base start.reached → start.visitor ≡ kept_so_far [] None → IsAt test channel depth most same scheme by start 0 start
@@ -41,7 +41,7 @@ module _ (test : FaceFacts → Bool) (channel : Channel) (depth : ℕ) (base : T
       times : (great amount : ℕ) → great ≡ 1 → amount ≤ number_bound → great * amount ≤ number_bound
       times great amount one h = subst (λ n. n * amount ≤ number_bound) (sym one) (omega (arith, h))
 
--- its table has a row for each of its points
+-- the table has a row for each point
 pub start-rows : (base : Topology) (start : Reached Walked Table) → IsStart base start → length start.carried.rows ≡ start.level.sparse.topology.level.point_count
 start-rows base start from =
     ap (λ (t : Table). length t.rows) from.table ∙ length-map-range_with_len (λ v. record { den = 1; shares = (v, 1) ∷ [] }) 0 base.level.point_count

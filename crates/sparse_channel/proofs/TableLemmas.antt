@@ -1,4 +1,4 @@
--- The tables of sparse levels, each made from the one before it: their rows are those of the uniform points.
+-- The tables of sparse levels, each from the one before it. Their rows are those of the uniform points.
 use Rattle.std.proofs.Common.{◌≡◌, ℕ, suc, ℤ, pos, List, [], ◌∷◌, length, map, get_or, refl, ap, sym, ◌∙◌, subst}
 use Rattle.std.specs.List.{sum_by}
 use Rattle.std.proofs.lemmas.List.{length-map}
@@ -48,7 +48,7 @@ module _ (kept : Kept) (by : AgreeingTest kept) (scheme : Scheme) (table : Table
   abbrev level : Level
   level = kept.sparse.level
 
-  -- the denominators and the controls that are composed are those of the next uniform points
+  -- the composed denominators and controls are those of the next uniform points
   pub dens-next : dens_from kept.sparse.level scheme (dens_of table) origins ≡ at_next_points kept 1 (refined_denominators kept.base scheme (suc kept.sparse.depth))
   dens-next =
       ap (dens_from level scheme (dens_of table)) from
@@ -76,7 +76,7 @@ module _ (kept : Kept) (by : AgreeingTest kept) (scheme : Scheme) (table : Table
       ∙ at-origins (mask_value (source_value level values)) (whole_value (pos 0)) level scheme (next_points_of by) (next-below kept by)
       ∙ same-values kept by scheme numbers
 
-  -- so the table that is composed is that of the next sparse level
+  -- the composed table is that of the next sparse level
   pub uniform-next : (next : Table) → IsComposed kept.sparse.level scheme origins table next → IsUniformTable kept.base scheme kept.meeting (suc kept.sparse.depth) next
   uniform-next next composed = record {
     controls = composed.controls ∙ is.controls;

@@ -42,7 +42,7 @@ valued-at controls first j (level ∷ levels) (suc i) none d h =
     valued-at controls first (suc j) levels i none d (omega (arith, h))
     ∙ ap (λ n. valued controls (kept_order first n (get_or levels i d)) (get_or levels i d)) (sym (shift j i))
 
--- the entries of all levels, where those of each are at most so many
+-- the entries of all levels, with a bound for each
 entries-within : (first : List ℕ) (most : ℕ → ℕ) (j : ℕ) (levels : List (KeptLevel Table))
     → ((i : ℕ) (d : KeptLevel Table) → i < length levels → valued_entries (kept_order first (j + i) (get_or levels i d)) (get_or levels i d) ≤ most (j + i))
     → entries_in first j levels ≤ sum_by most (range_with_len j (length levels))
@@ -108,11 +108,11 @@ module _ (test : FaceFacts → Bool) (channel : Channel) (depth : ℕ) (levels :
       subst (λ order. IsComposedLevel channel (meeting_to test channel.base depth) k (kept_order order k (get_or levels k d)) (get_or levels k d).faces (get_or levels k d).carried) (sym ordered)
       (is.each k d (omega (arith, h, is.count)))
 
-  -- they can be evaluated
+  -- the levels can be evaluated
   pub can-value-all : CanValueAll controls first levels
   can-value-all k d h = can-value channel (meeting_to test channel.base depth) k (kept_order first k (get_or levels k d)) (get_or levels k d) (one-level k d h) controls are
 
-  -- and make the sparse levels of the definitions
+  -- their values are the sparse levels of the definitions
   pub all-valued : (made : List SparseRows) → made ≡ valued_from controls first 0 levels → AreSparseTo test channel (control_rows controls) depth made
   all-valued made same = subst (AreSparseTo test channel (control_rows controls) depth) (sym same) (record {
     fine = is.fine;

@@ -1,4 +1,4 @@
--- What a walk over sparse levels comes to that carries the table of a channel.
+-- The result of a walk over sparse levels that carries the table of a channel.
 use Rattle.std.proofs.Common.{◌≡◌, ℕ, suc, ◌+◌, ◌*◌, ◌<◌, ◌≤◌, inl, inr, Bool, false, max, List, [], length, map, get_or, None, arith, refl, ap, sym, ◌∙◌, subst}
 use Rattle.std.specs.List.{sum_by, range_with_len}
 use Rattle.std.proofs.lemmas.Bool.{le-ltb}
@@ -62,7 +62,7 @@ module _ (test : FaceFacts → Bool) (channel : Channel) (depth : ℕ) where
   abbrev meeting : Meeting
   meeting = meeting_to test channel.base depth
 
-  -- what is known of the table of a level, and the steps that were taken
+  -- the facts about the table of a level, and the steps that were taken
   pub record IsHeld (start k : ℕ) (table : Table) (steps : ℕ) : Type 0 where
     pub table_is : IsUniformTable channel.base channel.scheme (meeting_to test channel.base depth) k table
     pub none : (j : ℕ) → j < k → HasNone channel (meeting_to test channel.base depth) j
@@ -127,7 +127,7 @@ module _ (test : FaceFacts → Bool) (channel : Channel) (depth : ℕ) where
               (few-step made.step step-of) (fine-step made.step step-of).fine depth (omega (arith, within, is.deep)) (λ j h. held.none j (omega (arith, h, is.deep))) why fails)
 
   module _ (most : ℕ) (same : most ≡ max channel.greatest channel.common) (scheme : Scheme) (by : scheme ≡ channel.scheme) (start : Place Walked Table (KeptSoFar Table)) where
-    -- what holds of this amount and this scheme holds of those of the channel
+    -- a fact about this amount and this scheme is one about those of the channel
     of-channel : (P : ℕ → Scheme → Type 0) → P most scheme → P (max channel.greatest channel.common) channel.scheme
     of-channel P p = subst (P (max channel.greatest channel.common)) by (subst (λ m. P m scheme) same p)
 

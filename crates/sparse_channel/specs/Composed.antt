@@ -1,4 +1,4 @@
--- The sparse levels of a channel with their tables, and what the tables evaluate to at the points that are written.
+-- The sparse levels of a channel with their tables, and the values of the tables at the written points.
 use Rattle.std.specs.Prelude.{ℕ, zero, suc, ◌≡◌, ◌+◌, ◌*◌, ◌<◌, ◌≤◌, Bool, true, nat_lt, ℤ, pos, List, [], ◌∷◌, length, map, get_or, max}
 use Rattle.std.specs.List.{list_all, range_with_len}
 use Rattle.subdiv_model.specs.Value.{whole_value}
@@ -21,18 +21,18 @@ use Rattle.sparse_channel.specs.Refined.{SparseRows, meeting_of, present_to}
 abbrev pub rows_at : Table → List ℕ → Table
 rows_at table order = record { controls = table.controls; rows = map (row_at table) order }
 
--- The points that are written, in their order, as rows of the table of a level. In level 0 these are the corners of its faces, and in
--- the levels after it all points.
+-- The written points of a level in their order, as rows of its table: the corners of the faces in level 0, all points in a later level.
 abbrev pub order_at : List ℕ → ℕ → Table → List ℕ
 order_at first zero table = first
 order_at first (suc k) table = range_with_len 0 (length table.rows)
 
--- a table has a row for each of these points
+-- the table has a row for each of these points
 abbrev pub HasRows : Table → List ℕ → Type 0
 HasRows table order = list_all (λ row. nat_lt row (length table.rows)) order ≡ true
 
--- The level is written as in the definitions. Its table has a row for each written point, with the uniform common denominator, which
--- makes the uniform value of all controls. The greatest denominator keeps the bound of the channel's numbers.
+-- The level contains the faces that the definitions write. Its table has a row for each written point: over the point's common
+-- denominator in the whole level, and with its value there for any controls. The greatest denominator is within the bound of the
+-- channel's numbers.
 pub record IsComposedLevel (channel : Channel) (meeting : Meeting) (k : ℕ) (order : List ℕ) (faces : WrittenLevel) (table : Table) : Type 0 where
   pub written : faces ≡ written_level channel.base meeting k
   pub made : IsTable table
@@ -45,43 +45,45 @@ pub record IsComposedLevel (channel : Channel) (meeting : Meeting) (k : ℕ) (or
   pub entries : entries_of (rows_at table order).rows ≤ present_entries channel meeting k
   pub fits : greatest_of table * max channel.greatest channel.common ≤ number_bound
 
--- the order of a level that is kept, where the first level has this one
+-- the order of a kept level, given that of the first
 abbrev pub kept_order : List ℕ → ℕ → KeptLevel Table → List ℕ
 kept_order first k level = order_at first k level.carried
 
--- no level to the depth has a fault, and these are the levels from 0 on
+-- no level up to the depth has a fault, and the list has each level from 0 on
 pub record AreComposedTo (test : FaceFacts → Bool) (channel : Channel) (depth : ℕ) (levels : List (KeptLevel Table)) : Type 0 where
   pub fine : (track : Track) → sparse_faults Tables channel (meeting_of test channel depth) track depth ≡ []
   pub count : length levels ≡ depth + 1
   pub each : (k : ℕ) (d : KeptLevel Table) → k ≤ depth
       → IsComposedLevel channel (meeting_of test channel depth) k (kept_order (used_points channel.base) k (get_or levels k d)) (get_or levels k d).faces (get_or levels k d).carried
 
--- at most one step is taken for each face that is present in the levels after the first
+-- the call takes at most one step for each face of the levels after the first
 pub record AreComposeSteps (test : FaceFacts → Bool) (channel : Channel) (depth old new : ℕ) : Type 0 where
   pub most : new ≤ old + present_to channel.base (meeting_of test channel depth) depth
   pub later : old ≤ new
 
--- a level whose table can be evaluated at the points that are written
+-- a level whose table can be evaluated at the written points
 pub record CanValue (controls : List (List ℤ)) (order : List ℕ) (level : KeptLevel Table) : Type 0 where
   pub can : CanEvaluate level.carried controls
   pub has_rows : HasRows level.carried order
 
+-- each level can be evaluated at its written points, given the order of the first
 abbrev pub CanValueAll : List (List ℤ) → List ℕ → List (KeptLevel Table) → Type 0
 CanValueAll controls first levels = (k : ℕ) (d : KeptLevel Table) → k < length levels → CanValue controls (kept_order first k (get_or levels k d)) (get_or levels k d)
 
--- its faces, and the values of these points
+-- the faces of a level and the values of its written points
 abbrev pub valued : List (List ℤ) → List ℕ → KeptLevel Table → SparseRows
 valued controls order level = record { written = level.faces; rows = evaluated (rows_at level.carried order) controls }
 
--- how many entries their rows have
+-- the number of entries of the rows of the written points
 abbrev pub valued_entries : List ℕ → KeptLevel Table → ℕ
 valued_entries order level = entries_of (rows_at level.carried order).rows
 
--- of all levels, where the first has this order
+-- the values of all levels, given the order of the first
 abbrev pub valued_from : List (List ℤ) → List ℕ → ℕ → List (KeptLevel Table) → List SparseRows
 valued_from controls first k [] = []
 valued_from controls first k (level ∷ levels) = valued controls (kept_order first k level) level ∷ valued_from controls first (suc k) levels
 
+-- the number of entries of the rows of all levels' written points, given the order of the first
 abbrev pub entries_in : List ℕ → ℕ → List (KeptLevel Table) → ℕ
 entries_in first k [] = 0
 entries_in first k (level ∷ levels) = valued_entries (kept_order first k level) level + entries_in first (suc k) levels

@@ -1,7 +1,7 @@
--- Points that are met, each with a mark.
+-- Marked points.
 use Rattle.std.specs.Prelude.{ℕ, ◌≡◌, ◌<◌, Bool, false, List, length, get_or}
 use Rattle.subdiv_model.specs.Polygons.{is_among}
 
--- those are met that have a mark
+-- a point has a mark exactly if the list contains it
 abbrev pub AreMarked : List ℕ → List Bool → Type 0
 AreMarked points marks = (n : ℕ) → n < length marks → get_or marks n false ≡ is_among points n

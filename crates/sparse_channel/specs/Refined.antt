@@ -1,4 +1,4 @@
--- The sparse levels of a channel to a depth, with the values of the points that are written.
+-- The sparse levels of a channel up to a depth, with the values of the written points.
 -- Source: this profile.
 use Rattle.std.specs.Prelude.{ℕ, ◌≡◌, ◌+◌, ◌*◌, ◌<◌, ◌≤◌, pos, Bool, List, [], length, get_or, max, Some}
 use Rattle.std.specs.List.{All, sum_by, range_with_len}
@@ -21,17 +21,17 @@ use Rattle.level_walk.specs.declared.fault.Cause.{Cause}
 use Rattle.level_walk.specs.declared.fault.Cause.TheVariants.{TooManyFaces, Overflow, TooManyEntries, Memory}
 use Rattle.level_walk.specs.declared.fault.WalkFault.{WalkFault}
 
--- what is written of a level, and the values of its written points, as rows
+-- the written part of a level, and the values of its written points as rows
 pub record SparseRows : Type 0 where
   pub written : WrittenLevel
   pub rows : List Row
 
--- the predicate of a test to a depth
+-- the faces to refine, by a test and a depth
 abbrev pub meeting_of : (FaceFacts → Bool) → Channel → ℕ → Meeting
 meeting_of test channel depth = meeting_to test channel.base depth
 
--- The level is written as in the definitions. In each column its rows are the uniform values at the written points, over the uniform
--- common denominators.
+-- The level contains the faces that the definitions write. Each column of its rows contains the values of the whole level at the written
+-- points, over the common denominators there.
 pub record IsSparseLevel (channel : Channel) (meeting : Meeting) (controls : List Row) (k : ℕ) (level : SparseRows) : Type 0 where
   pub written : level.written ≡ written_level channel.base meeting k
   pub dens : dens_of level.rows ≡ items_at (written_points channel.base meeting k) 1 (denominators_after channel k)
@@ -42,41 +42,44 @@ pub record IsSparseLevel (channel : Channel) (meeting : Meeting) (controls : Lis
   pub positive : All (λ row. 0 < row.den) level.rows
   pub alike : All (λ row. length row.numbers ≡ length (row_at controls 0).numbers) level.rows
 
--- no level to the depth has a fault, and these are the levels from 0 on
+-- no level up to the depth has a fault, and the list has each level from 0 on
 pub record AreSparseLevels (channel : Channel) (meeting : Meeting) (controls : List Row) (depth : ℕ) (levels : List SparseRows) : Type 0 where
   pub fine : (track : Track) → sparse_faults Tables channel meeting track depth ≡ []
   pub count : length levels ≡ depth + 1
   pub each : (k : ℕ) → k ≤ depth → IsSparseLevel channel meeting controls k (get_or levels k (record { written = record { point_count = 0; faces = [] }; rows = [] }))
 
--- the first fault of the sparse levels to a depth is this one, whatever the track is called
+-- the first fault of the sparse levels up to a depth, for any track
 abbrev pub IsFirstSparse : Channel → Meeting → ℕ → (Track → Fault) → Type 0
 IsFirstSparse channel meeting depth fault = (track : Track) → first_of (sparse_faults Tables channel meeting track depth) ≡ Some (fault track)
 
--- the level with this number is the first that is not reached, and this is why; memory may run out at any level
+-- the level with this number is the first that is not reached, and the cause fits; memory may run out at any level
 abbrev pub IsSparseCause : Channel → Meeting → ℕ → ℕ → Cause → Type 0
 IsSparseCause channel meeting depth level (TooManyFaces count) = IsFirstSparse channel meeting depth (λ track. model.TooLarge (model.LevelFaces level count))
 IsSparseCause channel meeting depth level (Overflow kind) = IsFirstSparse channel meeting depth (λ track. model.Overflow track level (kind_of kind))
 IsSparseCause channel meeting depth level TooManyEntries = IsFirstSparse channel meeting depth (λ track. model.TooLarge (model.Entries level))
 IsSparseCause channel meeting depth level Memory = Unit {0}
 
+-- the fault is the first of the sparse levels up to a depth
 abbrev pub IsSparseFault : Channel → Meeting → ℕ → WalkFault → Type 0
 IsSparseFault channel meeting depth fault = IsSparseCause channel meeting depth fault.level fault.cause
 
--- for the predicate of a test
+-- the sparse levels for the predicate of a test
 abbrev pub AreSparseTo : (FaceFacts → Bool) → Channel → List Row → ℕ → List SparseRows → Type 0
 AreSparseTo test channel controls depth levels = AreSparseLevels channel (meeting_of test channel depth) controls depth levels
 
+-- the fault is the first of the sparse levels for the predicate of a test
 abbrev pub IsSparseFaultTo : (FaceFacts → Bool) → Channel → ℕ → WalkFault → Type 0
 IsSparseFaultTo test channel depth fault = IsSparseFault channel (meeting_of test channel depth) depth fault
 
--- how many faces are present at the levels from 1 to a depth, and how many entries the tables of the present points from level 0 have
+-- the number of present faces of the levels from 1 to a depth
 abbrev pub present_to : Level → Meeting → ℕ → ℕ
 present_to base meeting depth = sum_by (present_faces base meeting) (range_with_len 1 depth)
 
+-- the number of entries of the tables of the present points, from level 0 to a depth
 abbrev pub entries_to : Channel → Meeting → ℕ → ℕ
 entries_to channel meeting depth = sum_by (present_entries channel meeting) (range_with_len 0 (depth + 1))
 
--- at most one step is taken for each of these faces, and one for each of these entries
+-- the call takes at most one step for each present face after level 0 and one for each entry of the tables of present points
 pub record AreSparseSteps (test : FaceFacts → Bool) (channel : Channel) (depth old new : ℕ) : Type 0 where
   pub most : new ≤ old + present_to channel.base (meeting_of test channel depth) depth + entries_to channel (meeting_of test channel depth) depth
   pub later : old ≤ new

@@ -1,4 +1,4 @@
-//! The points that are corners of faces, by first appearance.
+//! The points that are corners of faces, in the order of their first appearance.
 
 ghost use Rattle.std.specs.Prelude.{◌≡◌, ◌<◌, length, IfOk, OnOk};
 ghost use Rattle.std.specs.List.{All};
@@ -10,7 +10,7 @@ use level_topology::Level;
 use ratio128::Memory;
 use std::alloc::Global;
 
-// A point more, unless it has a mark.
+// Adds a point unless it is marked already.
 fn note_point(n: u32, met: &mut Vec<bool>, points: &mut Vec<u32>) -> Result<(), Memory>
     requires marks { AreMarked points.old.items met.old.items }
     requires inside { n < length met.old.items }
@@ -26,7 +26,7 @@ fn note_point(n: u32, met: &mut Vec<bool>, points: &mut Vec<u32>) -> Result<(), 
     Ok(())
 }
 
-// Some points more, each unless it has a mark.
+// Adds those points of a list that are not marked.
 fn note_points(corners: &[u32], met: &mut Vec<bool>, points: &mut Vec<u32>) -> Result<(), Memory>
     requires marks { AreMarked points.old.items met.old.items }
     requires inside { All (λ n. n < length met.old.items) corners.now }

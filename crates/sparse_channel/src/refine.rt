@@ -19,12 +19,16 @@ use sparse_faces::SparseValues;
 use std::alloc::Global;
 use std::sync::ledger::Ledger;
 
-/// The sparse levels of a channel from 0 to a depth of at most 10, with the faces that the rule selects refined further. The values of
-/// points come from tables that are composed through the sparse levels, of which one is kept for each level. It is one step for each
-/// face of the levels after the first, and at most one for each entry of the tables.
+/// Returns the sparse levels of a channel from 0 to `depth`. The rule selects the faces that the next level refines. Level 0 lists the
+/// corners of its faces in the order of their first appearance; each later level lists all its points.
 ///
-/// A fault is that of the first level, counted from 1, that cannot be had: more than 2^22 present faces, and then the first number that
-/// passes its bound, in the order of the variants of [`OverflowKind`](level_walk::OverflowKind), with too many entries before the last.
+/// `controls` has one value for each point of level 0, as many numbers for each, none above the channel's greatest amount. Each value
+/// returned is the one of the whole level, over the common denominator of its point. The call counts at most one step for each face of
+/// the levels after the first and one for each entry of the tables.
+///
+/// The error is the first fault of the first level, counted from 1, that the call cannot make. More than 2^22 present faces comes first;
+/// then the variants of [`OverflowKind`](level_walk::OverflowKind) in their order, with `TooManyEntries` before the last. Only numbers of
+/// present points count. `Memory` may come at any level. The call drops the channel in any case.
 pub fn refine_sparse<P: Primvar<L>, T: FaceTest, F: Fn(&FaceFacts) -> bool, L: Ledger>(
     alloc: Global,
     base: BaseChannel,

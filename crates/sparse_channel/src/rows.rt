@@ -1,4 +1,4 @@
-//! Some rows of a table over controls.
+//! The values of some rows of a table.
 
 ghost use Rattle.std.specs.Prelude.{◌≡◌, ◌+◌, ◌≤◌, [], length, map, get_or, IfOk, OnOk};
 ghost use Rattle.std.specs.Vec.{vec_capacity};
@@ -13,7 +13,7 @@ use std::alloc::Global;
 use std::sync::ledger::Ledger;
 use stencil_apply::{StencilTable, sum_at, sum_width};
 
-// Adds the sum of each of some rows over its denominator, for which there is room.
+// Adds the value of each chosen row to `values`, which has capacity for all.
 fn push_rows<P: Primvar<L>, L: Ledger>(
     table: &StencilTable,
     rows: &[u32],
@@ -41,7 +41,7 @@ fn push_rows<P: Primvar<L>, L: Ledger>(
     }
 }
 
-// The sum of each of some rows of a table over its denominator, in one step for each of their entries.
+// The value of each chosen row of a table over its denominator. It counts one step for each entry of these rows.
 pub(crate) fn evaluate_rows<P: Primvar<L>, L: Ledger>(
     alloc: Global,
     table: &StencilTable,

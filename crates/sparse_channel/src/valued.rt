@@ -1,4 +1,4 @@
-//! The values of the points that are written of sparse levels.
+//! The values of the written points of sparse levels.
 
 ghost use Rattle.std.specs.Prelude.{◌≡◌, ◌+◌, ◌≤◌, [], ◌∷◌, ◌++◌, length, map, IfOk, OnOk};
 ghost use Rattle.sparse_channel.specs.Composed.{CanValue, CanValueAll, kept_order, valued, valued_entries, valued_from, entries_in};
@@ -13,7 +13,7 @@ use std::alloc::Global;
 use std::sync::ledger::Ledger;
 use stencil_apply::StencilTable;
 
-// Level 0 with the values of these points.
+// Level 0 with the values of its written points.
 fn first_values<P: Primvar<L>, L: Ledger>(
     alloc: Global,
     level: KeptLevel<StencilTable>,
@@ -48,7 +48,7 @@ fn later_values<P: Primvar<L>, L: Ledger>(
     Ok(SparseValues { faces, values })
 }
 
-// A level with the values of its written points, where so many levels stand before it and level 0 has its points in this order.
+// A level with the values of its written points. `order` lists the written points of level 0.
 fn level_values<P: Primvar<L>, L: Ledger>(
     alloc: Global,
     level: KeptLevel<StencilTable>,
@@ -90,7 +90,7 @@ fn push_values<P: Primvar<L>, L: Ledger>(
     Ok(())
 }
 
-// All levels with the values of their written points, where level 0 has its points in this order.
+// All levels with the values of their written points. `order` lists the written points of level 0.
 pub(crate) fn all_values<P: Primvar<L>, L: Ledger>(
     alloc: Global,
     kept: Vec<KeptLevel<StencilTable>>,

@@ -24,14 +24,14 @@ use Rattle.sparse_texture_laws.specs.Selection.{is_selected_kind, selected_numbe
 use Rattle.sparse_texture_laws.proofs.MeetingLemmas.{written-selected}
 use Rattle.sparse_face_varying.specs.Chosen.{AreMarkedBy, AreWritten}
 
--- what is read of those of the first faces that pass
+-- the values of those of the first faces that pass
 abbrev pub picked : (ℕ → Bool) → (ℕ → ℕ) → ℕ → List ℕ
 picked test read n = map read (filter test (range_with_len 0 n))
 
 range-more : (n : ℕ) → range_with_len 0 (n + 1) ≡ range_with_len 0 n ++ n ∷ []
 range-more n = sym (map-id (range_with_len 0 (n + 1))) ∙ map-range_with_len_more (λ k. k) 0 n n (omega arith) ∙ ap (λ l. l ++ n ∷ []) (map-id (range_with_len 0 n))
 
--- a face more
+-- one more face
 pub picked-more : (test : ℕ → Bool) (read : ℕ → ℕ) (n : ℕ) (before after : List ℕ) (put : Bool) (number : ℕ) → before ≡ picked test read n → after ≡ (if put then before ++ number ∷ [] else before) → put ≡ test n → number ≡ read n → after ≡ picked test read (n + 1)
 picked-more test read n before after put number so is p e = is ∙ ap (λ b. if b then before ++ number ∷ [] else before) p ∙ go (test n) refl ∙ sym (ap (λ l. map read (filter test l)) (range-more n) ∙ ap (map read) (filter-append test (range_with_len 0 n) (n ∷ [])) ∙ map-append read (filter test (range_with_len 0 n)) (filter test (n ∷ [])))
   where
@@ -85,7 +85,7 @@ pub levels-selected : {P : Type 0} (levels : List (SparseValues P)) (base : Leve
 levels-selected levels base meeting depth long are =
     from-level base meeting 0 depth levels (omega (arith, long)) (λ j d less. are j d (omega (arith, less)) ∙ ap (written_level base meeting) (let e : j ≡ 0 + j = omega arith in e))
 
--- also as a result
+-- the same for a result
 pub levels-found : {P E : Type 0} (levels : List (SparseValues P)) (base : Level) (meeting : Meeting) (depth : ℕ) → length levels ≡ depth + 1 → AreWritten levels base meeting depth → (r : Result (Vec (Vec ℕ Global) Global) E) → IfOk r (λ numbers. map (λ n. n.items) numbers.items ≡ each_of (take depth levels)) → IfOk r (λ numbers. map (λ n. n.items) numbers.items ≡ selected_to base meeting depth)
 levels-found levels base meeting depth long are (Ok numbers) h = h ∙ levels-selected levels base meeting depth long are
 levels-found levels base meeting depth long are (Err fault) h = tt

@@ -1,4 +1,4 @@
--- Numbers that ascend, searched.
+-- A search in ascending numbers.
 use Rattle.std.proofs.Common.{◌≡◌, ℕ, ◌<◌, ◌≤◌, Bool, true, false, nat_eq, nat_lt, List, length, get_or, arith, refl, ap, sym, ◌∙◌, ◌⊎◌, inl, inr, Result, Ok, Err}
 use Rattle.std.specs.List.Sorted.{IsBinarySearchResult, IsStrictlyIncreasing}
 use Rattle.std.specs.Ordering.{nat_cmp}
@@ -20,7 +20,7 @@ rise-at xs up i j h k = go (cases_lt i j)
     go (inl less) = let at : get_or xs i 0 < get_or xs j 0 = AllPairs-from_increasing xs up i j 0 less k in omega arith
     go (inr more) = let e : i ≡ j = omega (arith, h, more) in let same : get_or xs i 0 ≡ get_or xs j 0 = ap (λ n. get_or xs n 0) e in omega (arith, same)
 
--- a search finds what is there
+-- a search finds a number exactly if it is in the list
 pub search-known : (xs : List ℕ) (x : ℕ) (r : Result ℕ ℕ) (b : Bool) → IsBinarySearchResult (λ y. nat_cmp y x) xs r → IsStrictlyIncreasing xs → b ≡ is_ok r → b ≡ is_among xs x
 search-known xs x r b found up is = is ∙ go r (searched xs x r found (rise-at xs up))
   where

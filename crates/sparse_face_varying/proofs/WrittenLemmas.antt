@@ -1,4 +1,4 @@
--- The sparse levels of a channel are written as in the definitions, for callers that list what these levels select.
+-- The sparse levels of a channel are written as the definitions say, for callers that list the selected faces.
 use Rattle.std.proofs.Common.{◌≡◌, ℕ, ◌+◌, ℤ, List, [], length, map, arith, ap, sym, ◌∙◌}
 use Rattle.std.proofs.lemmas.List.{length-map, get_or-map}
 use Rattle.subdiv_model.specs.Channel.{Channel}

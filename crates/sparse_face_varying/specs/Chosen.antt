@@ -1,4 +1,4 @@
--- Which faces are chosen by their numbers, and where the numbers are those of selected faces.
+-- The faces that numbers choose, and the lists of numbers of selected faces.
 use Rattle.std.specs.Prelude.{ℕ, ◌≡◌, ◌≤◌, Bool, false, List, length, map, get_or, Option, Some, None}
 use Rattle.std.specs.List.{All, range_with_len}
 use Rattle.std.specs.List.Sorted.{IsStrictlyIncreasing}
@@ -11,17 +11,17 @@ use Rattle.sparse_level.specs.View.{SparseTopology, SparseChild, level_of}
 use Rattle.sparse_faces.specs.declared.values.SparseValues.{SparseValues}
 use Rattle.sparse_texture_laws.specs.Selection.{is_chosen, is_chosen_in}
 
--- with no numbers no face is chosen
+-- a face is chosen by its number; without numbers none is
 abbrev pub chosen_by : Option (List ℕ) → FaceFacts → Bool
 chosen_by None facts = false
 chosen_by (Some numbers) facts = is_chosen numbers facts
 
--- with no numbers of levels no face is chosen
+-- a face is chosen by its level and number; without numbers none is
 abbrev pub chosen_in : Option (List (List ℕ)) → FaceFacts → Bool
 chosen_in None facts = false
 chosen_in (Some numbers) facts = is_chosen_in numbers facts
 
--- the marks of a step are those of the faces that a test selects
+-- the step marks exactly the faces that the test selects
 abbrev pub AreMarkedBy : (FaceFacts → Bool) → SparseTopology → SparseChild → Type 0
 AreMarkedBy test t step = step.selected ≡ map (is_selected_in test (level_of t)) (range_with_len 0 (length t.topology.level.polygons))
 
@@ -29,6 +29,6 @@ AreMarkedBy test t step = step.selected ≡ map (is_selected_in test (level_of t
 abbrev pub AreAscending : List (List ℕ) → Type 0
 AreAscending numbers = All IsStrictlyIncreasing numbers
 
--- each level to a depth is written as in the definitions
+-- each level up to a depth is written as the definitions say
 abbrev pub AreWritten : {P : Type 0} → List (SparseValues P) → Level → Meeting → ℕ → Type 0
 AreWritten {P} levels base meeting depth = (k : ℕ) (d : SparseValues P) → k ≤ depth → (get_or levels k d).faces ≡ written_level base meeting k

@@ -1,10 +1,10 @@
--- How many steps the sparse levels of a channel take.
+-- The steps that the sparse levels of a channel take.
 use Rattle.std.specs.Prelude.{ℕ, ◌+◌, ◌≤◌}
 use Rattle.subdiv_model.specs.Channel.{Channel}
 use Rattle.subdiv_model.specs.Sparse.{Meeting}
 use Rattle.sparse_channel.specs.Refined.{present_to, entries_to}
 
--- at most one step is taken for each face that is present in the levels after the first, and one for each entry of the tables of the present points
+-- the call takes at most one step for each face of the levels after the first and one for each entry of the tables of the present points
 pub record AreMeetingSteps (channel : Channel) (meeting : Meeting) (depth old new : ℕ) : Type 0 where
   pub most : new ≤ old + present_to channel.base meeting depth + entries_to channel meeting depth
   pub later : old ≤ new

@@ -1,4 +1,4 @@
-//! Tests of faces by their numbers.
+//! Tests of faces by their numbers in the uniform level.
 
 ghost use Rattle.std.specs.Prelude.{◌≡◌, List, map, Option, option_map};
 ghost use Rattle.std.specs.List.Sorted.{IsStrictlyIncreasing};
@@ -10,9 +10,11 @@ ghost use Rattle.sparse_face_varying.specs.Chosen.{AreAscending, chosen_by, chos
 use feature_select::FaceTest;
 use level_topology::FaceFacts;
 
-/// The faces of one level that have some numbers and are no holes. The numbers are those of the whole level, counted from 0.
+/// Selects the faces of one level that have one of these numbers and are not holes. The numbers count the faces of the whole level from
+/// 0. Without numbers it selects no face.
 #[derive(Clone, Copy, Debug)]
 pub struct Chosen<'a> {
+    /// The numbers of the faces, ascending.
     pub numbers: &'a [u64],
 }
 
@@ -20,10 +22,11 @@ impl FaceTest for Chosen<'_> {
     ghost meets = { λ kept facts. chosen_by (option_map (λ test. test.numbers.now) kept) facts };
 }
 
-/// Of each level the faces that have some numbers and are no holes. The numbers of level 0 stand first; past the last of them no face
-/// is chosen.
+/// Selects in each level the faces that have one of the level's numbers and are not holes. The lists start with level 0. Past the last
+/// list it selects no face.
 #[derive(Clone, Copy, Debug)]
 pub struct ChosenLevels<'a> {
+    /// The numbers of each level's faces, ascending, from level 0 on.
     pub levels: &'a [Vec<u64>],
 }
 
@@ -31,21 +34,21 @@ impl FaceTest for ChosenLevels<'_> {
     ghost meets = { λ kept facts. chosen_in (option_map (λ test. map (λ n. n.items) test.levels.now) kept) facts };
 }
 
-// Whether a number is one of those that ascend.
+// Whether an ascending list contains a number.
 fn has_number(numbers: &[u64], number: u64) -> bool
     ensures { IsStrictlyIncreasing numbers.now → result ≡ is_among numbers.now number }
 {
     numbers.binary_search(&number).is_ok()
 }
 
-/// Whether a face has one of the numbers, which ascend, and is no hole.
+/// Whether a face has one of the numbers, which ascend, and is not a hole.
 pub(crate) fn is_chosen(numbers: &[u64], facts: &FaceFacts) -> bool
     ensures { IsStrictlyIncreasing numbers.now → result ≡ is_chosen numbers.now (facts_of_code facts.now) }
 {
     has_number(numbers, facts.number) && !facts.hole
 }
 
-/// Whether a face has one of the numbers of its level, which ascend, and is no hole.
+/// Whether a face has one of the ascending numbers of its level and is not a hole.
 pub(crate) fn is_chosen_in(levels: &[Vec<u64>], facts: &FaceFacts) -> bool
     ensures { AreAscending (map (λ n. n.items) levels.now)
         → result ≡ is_chosen_in (map (λ n. n.items) levels.now) (facts_of_code facts.now) }

@@ -1,4 +1,5 @@
-//! Sparse levels of a texture channel: at each level those faces are selected that the mesh selects there.
+//! Refines a texture channel sparsely, at the faces that the mesh selects. The crate lists the selected faces of each mesh level by their
+//! numbers in the uniform level, then refines the channel at the same faces. So the texture has a child for each child that the mesh has.
 #![tactic(auto)]
 
 mod chosen;

@@ -17,7 +17,7 @@ use sparse_faces::{FaceKind, SparseFaces, SparseValues};
 use sparse_level::{SparseLevel, SparseStep};
 use std::alloc::Global;
 
-// Puts a number behind the others, where it is said to.
+// Appends a number if `put` is true.
 fn put_if(put: bool, numbers: &mut Vec<u64>, number: u64) -> Result<(), Memory>
     ensures { OnOk result (numbers.new.items ≡ (if put then numbers.old.items ++ number ∷ [] else numbers.old.items)) }
 {
@@ -27,9 +27,9 @@ fn put_if(put: bool, numbers: &mut Vec<u64>, number: u64) -> Result<(), Memory>
     Ok(())
 }
 
-/// The numbers in the uniform level of the faces that a step selects of the level that it is made of, ascending and counted from 0.
+/// Returns the numbers, in the uniform level, of the faces that a step selects, ascending and counted from 0.
 ///
-/// It answers `Memory` where memory runs out.
+/// Error: `Memory`.
 pub fn selected_numbers(
     alloc: Global,
     sparse: &SparseLevel,
@@ -54,7 +54,7 @@ fn is_selected(kind: FaceKind) -> bool
     matches!(kind, FaceKind::Selected)
 }
 
-// The numbers of the selected faces of a level as it is written, in the order of the faces.
+// The numbers of the selected faces of a written level, in the order of the faces.
 fn written_as_selected(alloc: Global, faces: &SparseFaces) -> Result<Vec<u64>, Memory>
     ensures { IfOk result (λ numbers. numbers.items ≡ selected_numbers faces.now) }
 {
@@ -65,7 +65,7 @@ fn written_as_selected(alloc: Global, faces: &SparseFaces) -> Result<Vec<u64>, M
     Ok(numbers)
 }
 
-// Of each level, as it is written, the numbers of its selected faces.
+// The numbers of the selected faces of each written level.
 fn each_selected<P>(alloc: Global, levels: &[SparseValues<P>]) -> Result<Vec<Vec<u64>>, Memory>
     ensures { IfOk result (λ numbers. map (λ n. n.items) numbers.items ≡ map (λ level. selected_numbers level.faces) levels.now) }
 {
@@ -77,10 +77,10 @@ fn each_selected<P>(alloc: Global, levels: &[SparseValues<P>]) -> Result<Vec<Vec
     Ok(numbers)
 }
 
-/// For each level below the depth the numbers of its selected faces in the uniform level, ascending and counted from 0. The levels
-/// are given as they are written, from level 0 to the depth.
+/// Returns, for each level below `depth`, the numbers of its selected faces in the uniform level, ascending and counted from 0. `levels`
+/// contains the written levels from 0 to `depth`.
 ///
-/// It answers `Memory` where memory runs out.
+/// Error: `Memory`.
 pub fn selected_levels<P>(
     alloc: Global,
     levels: &[SparseValues<P>],

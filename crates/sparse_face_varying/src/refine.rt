@@ -1,4 +1,4 @@
-//! Sparse levels of a texture channel, where faces are selected by their numbers.
+//! Sparse levels of a texture channel at faces that are selected by number.
 
 ghost use Rattle.std.specs.Prelude.{◌≡◌, ◌+◌, ◌<◌, ◌≤◌, length, map, IfOk, MatchResult};
 ghost use Rattle.std.specs.List.Sorted.{IsStrictlyIncreasing};
@@ -22,11 +22,14 @@ use sparse_refiner::{RefineFault, SparseLevel, SparseStep, refine_selected};
 use std::alloc::Global;
 use std::sync::ledger::Ledger;
 
-/// The next sparse level of a channel, where those faces are selected that have one of the numbers and are no holes. The numbers
-/// ascend. They are searched for each inner face. It is one step for each new face.
+/// Returns the next sparse level of a channel. The step selects the faces whose number is in `numbers`, which ascend, and that are not
+/// holes. It counts at most one step for each new face.
 ///
-/// It answers `TooLarge` with the number of new faces where there are more than 2^22, before anything is made, `Chaikin` with the
-/// least vertex on a selected face at which halves of edges overflow, and `Memory` where memory runs out.
+/// Errors:
+///
+/// - `TooLarge`: the level would have more than 2^22 new faces; it names their number and comes before anything is made;
+/// - `Chaikin`: the least vertex of a selected face at which the half of an edge overflows;
+/// - `Memory`.
 pub fn refine_like<L: Ledger>(
     alloc: Global,
     channel: &SparseLevel,
@@ -46,12 +49,15 @@ pub fn refine_like<L: Ledger>(
     refine_selected(alloc, channel, &rule, steps)
 }
 
-/// The sparse levels of a channel from 0 to a depth of at most 10, where at each level those faces are selected that have one of its
-/// numbers. It is one step for each face of the levels after the first, and at most one for each entry of the tables of present points.
+/// Returns the sparse levels of a channel from 0 to `depth`. `numbers` lists the faces to select for each level below `depth`: ascending,
+/// and no holes. The call counts at most one step for each face of the levels after the first and one for each entry of the tables of
+/// present points.
 ///
-/// A fault is that of the first level, counted from 1, that cannot be had: more than 2^22 present faces, and then the first number that
-/// passes its bound, in the order of the variants of [`OverflowKind`](level_walk::OverflowKind), with too many entries before the last.
-/// Memory may run out at any level.
+/// `controls` has one value for each point of level 0, as many numbers for each, none above the channel's greatest amount.
+///
+/// The error is the first fault of the first level, counted from 1, that the call cannot make. More than 2^22 present faces comes first;
+/// then the variants of [`OverflowKind`](level_walk::OverflowKind) in their order, with `TooManyEntries` before the last. `Memory` may
+/// come at any level.
 pub fn refine_sparse_texture<P: Primvar<L>, L: Ledger>(
     alloc: Global,
     base: BaseChannel,

@@ -1,4 +1,4 @@
--- How many corners all faces have together.
+-- The number of corners of all faces together.
 use Rattle.std.proofs.Common.{◌≡◌, ℕ, ◌+◌, ◌-◌, List, [], ◌∷◌, length, map, get_or, arith, ap, sym, ◌∙◌}
 use Rattle.std.specs.List.{sum, sum_by, range_with_len}
 use Rattle.std.proofs.lemmas.List.{get_or-map, get_or_default, length-map}
@@ -12,7 +12,7 @@ use Rattle.sparse_faces.specs.Numbers.{NumberedFaces}
 use Rattle.sparse_faces.specs.View.{written_at, written_of}
 use Rattle.sparse_faces.specs.declared.kind.FaceKind.{FaceKind}
 
--- the pieces have what lies between the first place and the last
+-- the pieces have the items between the first place and the last
 pub pieces-count : (first : ℕ) (starts corners : List ℕ) → Ascend (first ∷ starts) (length corners) →
     sum_by length (pieces (first ∷ starts) corners) + first ≡ get_or (first ∷ starts) (length starts) 0
 pieces-count first [] corners a = omega arith
@@ -20,7 +20,7 @@ pieces-count first (next ∷ starts) corners a =
     let here : next - first ≡ length (get_or (pieces (first ∷ next ∷ starts) corners) 0 []) = ap (λ (l : List ℕ). get_or l 0 0) (gaps-pieces (first ∷ next ∷ starts) corners a) in
     omega (arith, here, a.0, pieces-count next starts corners a.1, sum_by-cons length (get_or (pieces (first ∷ next ∷ starts) corners) 0 []) (pieces (next ∷ starts) corners))
 
--- so do those of all places
+-- the pieces of all places have the items between the first place and the last
 pub all-pieces-count : (starts corners : List ℕ) (at first last : ℕ) → Ascend starts (length corners) → at ≡ length starts - 1 → first ≡ get_or starts 0 first → last ≡ get_or starts at last →
     sum_by length (pieces starts corners) + first ≡ last
 all-pieces-count [] corners at first last a e f g = absurd a

@@ -49,7 +49,7 @@ starts-whole s (t ∷ starts) end (p ∷ polygons) g a =
     let rest = starts-whole t starts end polygons (ap (drop 1) g) a.1 in
     omega (arith, here, rest, a.0, sum_by-cons length p polygons)
 
--- so they split the corners of faces as the faces do
+-- the places split the corners of all faces into faces
 pieces-joined : (s : ℕ) (starts : List ℕ) (end : ℕ) (before : List ℕ) (polygons : List Polygon) → s ≡ length before → gaps (s ∷ starts) ≡ map length polygons → Ascend (s ∷ starts) end → pieces (s ∷ starts) (before ++ corners_of polygons) ≡ polygons
 pieces-joined s [] end before [] e g a = refl
 pieces-joined s [] end before (p ∷ polygons) e g a = absurd (cc)
@@ -86,7 +86,7 @@ module _ (level : Level) (starts corners : List ℕ) (sizes : gaps starts ≡ ma
       both : {p p' : ℕ} {fs fs' : List Polygon} → p ≡ p' → fs ≡ fs' → numbered p fs ≡ numbered p' fs'
       both e g = cc
 
-  -- and the places ascend to their end
+  -- the places ascend to their end
   pub starts-ascend : Ascend starts (length corners)
   starts-ascend =
       let count : length corners ≡ sum_by length level.polygons = ap length are ∙ length-map (corners_of level.polygons) (λ v. position_or_len (nat_eq v) (used_points level)) ∙ joined-length level.polygons in
@@ -123,7 +123,7 @@ module _ (s : SparseLevel) (selected : List ℕ) (kinds : List FaceKind) (number
   as-many-corners : length corners.faces ≡ length s.level.polygons
   as-many-corners = ap (λ (n : NumberedFaces). length n.faces) corners_are ∙ length-map s.level.polygons (places_among (used_points s.level))
 
-  -- and a number and corners
+  -- there is a number and a list of corners for each face
   pub each-written : length s.numbers ≡ length s.level.polygons → length s.level.polygons ≤ 2 ^ 22 → IsWritten kinds numbers corners
   each-written listed few = record { numbers_listed = ap length numbers_are ∙ listed ∙ sym as-many-kinds; corners_listed = as-many-corners ∙ sym as-many-kinds; few = omega (arith, few, as-many-kinds) }
 
@@ -141,7 +141,7 @@ module _ (s : SparseLevel) (selected : List ℕ) (kinds : List FaceKind) (number
       same : {k k' : model.FaceKind} {n n' : ℕ} {c c' : Polygon} → k ≡ k' → n ≡ n' → c ≡ c' → ◌≡◌ {A = WrittenFace} (record { kind = k; number = n; corners = c }) (record { kind = k'; number = n'; corners = c' })
       same e g i = cc
 
-  -- what is kept is what is written
+  -- the kept faces are those that are written
   pub all-written : written_of kinds numbers corners ≡ written_here s selected
   all-written =
       let n : ℕ = length s.level.polygons in

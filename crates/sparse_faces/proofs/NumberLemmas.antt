@@ -105,7 +105,7 @@ among-push : (met : List ℕ) (v u : ℕ) → is_among (met ++ v ∷ []) u ≡ (
 among-push [] v u = grind (arith, nat_tests)
 among-push (w ∷ met) v u = let behind = among-push met v u in grind (arith, nat_tests)
 
--- what is there in the end: the points so far, and what is new of the list by first appearance
+-- the points in the end: those so far, then the new ones of the list by first appearance
 points-are : (met list : List ℕ) → with_points met list ≡ met ++ filter (λ u. not (is_among met u)) (each_once_by nat_eq list)
 points-are met [] = sym (append-nil met)
 points-are met (v ∷ list) = here (is_among met v) refl (points-are (with_point met v) list)
@@ -149,6 +149,6 @@ points-once list = points-are [] list ∙ keeps-all (each_once_by nat_eq list)
     keeps-all [] = refl
     keeps-all (u ∷ l) = ap (λ (m : List ℕ). u ∷ m) (keeps-all l)
 
--- and the numbers are those of the points
+-- the numbers are those of the points
 pub numbers-once : (list : List ℕ) → numbers_after [] list ≡ numbers_of list
 numbers-once list = numbers-are [] list ∙ ap (λ (points : List ℕ). places_among points list) (points-once list)

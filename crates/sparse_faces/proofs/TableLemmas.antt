@@ -1,4 +1,4 @@
--- The table of the numbers of points, and the numbers that stand in the place of points.
+-- The table of the numbers of points, and the numbers that replace the points.
 use Rattle.std.proofs.Common.{◌≡◌, ◌≢◌, ℕ, suc, ◌+◌, ◌-◌, ◌<◌, ◌≤◌, ◌^◌, Bool, true, false, nat_eq, cond, List, [], ◌∷◌, ◌++◌, length, get_or, take, drop, slice_set, subst, arith, refl, ap, sym, ◌∙◌}
 use Rattle.std.specs.Int.{from_bool}
 use Rattle.std.specs.List.{position_or_len}
@@ -22,7 +22,7 @@ module _ (met table : List ℕ) (v e : ℕ) (is : IsInverse met table) (inside :
       let known = with-known met v (entry-some met table v e is inside (omega (arith, few)) there some) in
       subst (λ (l : List ℕ). IsInverse l table) (sym known) is
 
-  -- and one that it has not
+  -- a point that the table does not have
   pub new-number : e ≡ 2 ^ 32 - 1 → length met ≡ position_or_len (nat_eq v) met
   new-number none = sym (none-number met v (entry-none met table v e is inside (omega (arith, few)) there none))
 
@@ -79,7 +79,7 @@ module _ (old : List ℕ) (i next : ℕ) (table now : List ℕ) (are : AreNumber
   done-length : i < length old → length done ≡ i
   done-length h = numbers-length [] (take i old) ∙ length-take-le i old (omega (arith, h))
 
-  -- what stands in the next place
+  -- the item at the next place
   pub point-there : (d : ℕ) → i < length old → get_or now i d ≡ get_or old i d
   point-there d h = ap (λ (l : List ℕ). get_or l i d) are.now_is ∙ put-read done old i d (done-length h) h
 

@@ -7,20 +7,20 @@ use Rattle.subdiv_model.specs.Level.{Level}
 use Rattle.sparse_laws.specs.Written.{used_points}
 use Rattle.sparse_level.specs.Places.{with_point}
 
--- each point by its place among these
+-- for each point its place in a list of points
 abbrev pub places_among : List ℕ → List ℕ → List ℕ
 places_among points list = map (λ v. position_or_len (nat_eq v) points) list
 
--- the number of each point of a list, where the points of the list are numbered by first appearance
+-- the number of each point of a list, by first appearance in the list
 abbrev pub numbers_of : List ℕ → List ℕ
 numbers_of list = places_among (each_once_by nat_eq list) list
 
--- the number of each point: its place among those before, or how many these are
+-- the number of each point: its place among the points before, or their number if it is new
 abbrev pub numbers_after : List ℕ → List ℕ → List ℕ
 numbers_after met [] = []
 numbers_after met (v ∷ list) = position_or_len (nat_eq v) met ∷ numbers_after (with_point met v) list
 
--- the corners of faces by the numbers of points, and how many points there are
+-- the corners of faces as numbers of points, and the number of points
 pub record NumberedFaces : Type 0 where
   pub points : ℕ
   pub faces : List Polygon

@@ -1,4 +1,4 @@
--- The kinds of faces, and faces as they are kept, seen as the definitions name them.
+-- The kinds of faces, and the kept faces, in the terms of the definitions.
 use Rattle.std.specs.Prelude.{ℕ, ◌≡◌, ◌<◌, ◌^◌, List, [], length, map, get_or}
 use Rattle.std.specs.List.{range_with_len}
 use Rattle.subdiv_model.specs.SparseText as model

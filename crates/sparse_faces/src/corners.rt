@@ -1,4 +1,4 @@
-//! The corners of all faces, each by the number of its point.
+//! The corners of all faces, as numbers of points.
 
 ghost use Rattle.std.specs.Prelude.{◌≡◌, ◌+◌, ◌<◌, [], length, get_or, IfOk};
 ghost use Rattle.std.specs.List.{sum_by};
@@ -12,11 +12,11 @@ use ratio128::Memory;
 use std::alloc::Global;
 use std::marker::Model;
 
-/// The corners of each face, numbered by first appearance, and how many points they are.
+/// The corners of each face, with the points numbered by first appearance, and the number of points.
 #[derive(Drop)]
 pub(crate) struct NumberedCorners {
     points: u32,
-    // Where the corners of each face begin, and at the end where the last ends.
+    // The start of each face in the list of corners, and then the end of the last face.
     starts: Vec<u32>,
     corners: Vec<u32>,
 }
@@ -33,7 +33,7 @@ impl Model for NumberedCorners {
     ghost invariant = { λ n. Ascend n.starts.items (length n.corners.items) };
 }
 
-// The vertices of all corners, face by face, where there are `count` of them.
+// Returns the vertices of all `count` corners, face by face.
 fn copy_corners(alloc: Global, level: &Level, count: u32) -> Result<Vec<u32>, Memory>
     ensures { IfOk result (λ corners. corners.items ≡ corners_of level.now.level.polygons) }
 {
@@ -44,7 +44,7 @@ fn copy_corners(alloc: Global, level: &Level, count: u32) -> Result<Vec<u32>, Me
     Ok(corners)
 }
 
-// The corners from a place on, up to the next.
+// Returns the corners of face `f`.
 fn piece<'a>(starts: &[u32], corners: &'a [u32], f: usize) -> &'a [u32]
     requires ascend { Ascend starts.now (length corners.now) }
     requires inside { f + 1 < length starts.now }
@@ -56,7 +56,7 @@ fn piece<'a>(starts: &[u32], corners: &'a [u32], f: usize) -> &'a [u32]
 }
 
 impl NumberedCorners {
-    // The corners of the faces of a level.
+    // Returns the corners of the faces of a level.
     pub(crate) fn of(alloc: Global, level: &Level) -> Result<NumberedCorners, Memory>
         ensures { IfOk result (λ corners. corners ≡ numbered_faces level.now.level) }
     {
@@ -71,21 +71,21 @@ impl NumberedCorners {
         })
     }
 
-    // How many points have a number.
+    // Returns the number of points that have a number.
     pub(crate) fn points(&self) -> u32
         ensures { result ≡ self.now.points }
     {
         self.points
     }
 
-    // How many corners all faces have together.
+    // Returns the number of corners of all faces together.
     pub(crate) fn count(&self) -> u32
         ensures { result ≡ sum_by length self.now.faces }
     {
         self.starts[self.starts.len() - 1] - self.starts[0]
     }
 
-    // The corners of a face.
+    // Returns the corners of a face.
     pub(crate) fn list(&self, f: u32) -> &[u32]
         requires { f < length self.now.faces }
         ensures { result.now ≡ get_or self.now.faces f [] }

@@ -1,4 +1,4 @@
-//! The faces of a sparse level as they are written.
+//! The faces of a sparse level in the form in which they are written.
 
 ghost use Rattle.std.specs.Prelude.{◌≡◌, ◌<◌, length, IfOk};
 ghost use Rattle.std.specs.List.{sum_by};
@@ -14,7 +14,7 @@ use sparse_level::SparseLevel;
 use std::alloc::Global;
 use std::marker::Model;
 
-/// The faces of a sparse level as they are written, and how many points their corners are.
+/// The faces of a sparse level in the form in which they are written, and the number of points at their corners.
 ///
 /// It takes 13 bytes a face and 4 bytes a corner.
 #[derive(Drop)]
@@ -35,7 +35,7 @@ impl Model for SparseFaces {
     ghost invariant = { λ s. IsWritten s.kinds.items s.numbers.items s.corners };
 }
 
-// The numbers of all faces in the uniform level.
+// Returns the number of each face in the uniform level.
 fn put_numbers(alloc: Global, sparse: &SparseLevel) -> Result<Vec<u64>, Memory>
     ensures { IfOk result (λ numbers. numbers.items ≡ sparse.now.numbers) }
 {
@@ -49,10 +49,10 @@ fn put_numbers(alloc: Global, sparse: &SparseLevel) -> Result<Vec<u64>, Memory>
 }
 
 impl SparseFaces {
-    /// What is written of a sparse level whose selected faces are marked. A face without a mark is not selected, so there
-    /// may be fewer marks than faces.
+    /// Returns the faces of a sparse level. `selected` marks its selected faces; it may be shorter than the list of faces,
+    /// and a face without a mark is not selected.
     ///
-    /// It answers `Memory` where memory runs out.
+    /// Reports `Memory` where memory runs out.
     pub fn of(alloc: Global, sparse: &SparseLevel, selected: &[bool]) -> Result<SparseFaces, Memory>
         ensures { IfOk result (λ faces. faces ≡ written_here (level_of sparse.now) (marked selected.now)) }
     {
@@ -66,28 +66,28 @@ impl SparseFaces {
         })
     }
 
-    /// How many points the corners are.
+    /// Returns the number of points at the corners of the faces.
     pub fn points(&self) -> u32
         ensures { result ≡ self.now.point_count }
     {
         self.corners.points()
     }
 
-    /// How many faces there are.
+    /// Returns the number of faces.
     pub fn len(&self) -> u32
         ensures { result ≡ length self.now.faces }
     {
         self.kinds.len() as u32
     }
 
-    /// How many corners all faces have together.
+    /// Returns the number of corners of all faces together.
     pub fn corner_count(&self) -> u32
         ensures { result ≡ sum_by (λ face. length face.corners) self.now.faces }
     {
         self.corners.count()
     }
 
-    /// The kind of a face.
+    /// Returns the kind of face `f`, counted from 0.
     pub fn kind(&self, f: u32) -> FaceKind
         requires { f < length self.now.faces }
         ensures { kind_of result ≡ (face_at self.now f).kind }
@@ -95,7 +95,7 @@ impl SparseFaces {
         self.kinds[f as usize]
     }
 
-    /// The number of a face in the uniform level, counted from 0.
+    /// Returns the number of face `f` in the uniform level, counted from 0.
     pub fn number(&self, f: u32) -> u64
         requires { f < length self.now.faces }
         ensures { result ≡ (face_at self.now f).number }
@@ -103,7 +103,8 @@ impl SparseFaces {
         self.numbers[f as usize]
     }
 
-    /// The corners of a face, each by the number of its point, counted from 0.
+    /// Returns the corners of face `f` as numbers of points, counted from 0. Points are numbered by first appearance among
+    /// the corners.
     pub fn corners(&self, f: u32) -> &[u32]
         requires { f < length self.now.faces }
         ensures { result.now ≡ (face_at self.now f).corners }

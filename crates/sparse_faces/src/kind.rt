@@ -1,4 +1,4 @@
-//! What a present face is.
+//! The kind of a present face.
 
 ghost use Rattle.std.specs.Prelude.{◌≡◌, ◌<◌, false, length, map, get_or, IfOk};
 ghost use Rattle.std.specs.List.{range_with_len};
@@ -11,27 +11,27 @@ use ratio128::Memory;
 use sparse_level::SparseLevel;
 use std::alloc::Global;
 
-/// What a present face is.
+/// The kind of a present face: the first of these that fits it.
 #[derive(Clone, Copy, Debug, PartialEq, Eq)]
 pub enum FaceKind {
-    /// A hole.
+    /// The face is a hole.
     Hole,
-    /// Its parent is not selected.
+    /// The parent of the face is not selected.
     Outer,
-    /// It is selected to be refined.
+    /// The face is selected for refinement.
     Selected,
-    /// It is refined no further.
+    /// The face is refined no further.
     Leaf,
 }
 
-// Whether a face is marked. A face without a mark is not.
+// Returns whether a face is marked. A face beyond the end of the marks is not.
 fn is_marked(selected: &[bool], f: u32) -> bool
     ensures { result ≡ get_or selected.now f false }
 {
     (f as usize) < selected.len() && selected[f as usize]
 }
 
-// The first kind that a face is of.
+// Returns the first kind that fits a face.
 fn kind_at(sparse: &SparseLevel, selected: &[bool], f: u32) -> FaceKind
     requires { f < length sparse.now.topology.level.polygons }
     ensures { kind_of result ≡ kind_in (level_of sparse.now) (marked selected.now) f }
@@ -48,7 +48,7 @@ fn kind_at(sparse: &SparseLevel, selected: &[bool], f: u32) -> FaceKind
     FaceKind::Leaf
 }
 
-// The kinds of all faces.
+// Returns the kinds of all faces.
 pub(crate) fn put_kinds(
     alloc: Global,
     sparse: &SparseLevel,

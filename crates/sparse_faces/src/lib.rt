@@ -1,4 +1,7 @@
-//! The faces of a sparse level as they are written: the kind and the number of each, and its corners by first appearance.
+//! Keeps the faces of a sparse level in the form in which the program writes them.
+//!
+//! Each face has a kind, its number in the uniform level, and its corners. The points are numbered by first appearance among
+//! the corners.
 #![tactic(auto)]
 
 mod corners;

@@ -10,10 +10,10 @@ ghost use Rattle.sparse_faces.specs.Numbers.{numbers_of};
 use ratio128::Memory;
 use std::alloc::Global;
 
-// What stands in the table where a point has no number yet.
+// The mark in the table of a point without a number.
 const UNNUMBERED: u32 = u32::MAX;
 
-// The number that the table has of a point, or else the next one, which it has from then on.
+// Returns the number of a point. A point without one gets `next`.
 fn number_of(table: &mut Vec<u32>, point: u32, next: u32) -> u32
     requires within { point < length table.old.items }
     requires few { next ≤ 2 ^ 30 }
@@ -29,8 +29,8 @@ fn number_of(table: &mut Vec<u32>, point: u32, next: u32) -> u32
     next
 }
 
-// Puts the number of each point in its place, and answers how many numbers there are. The points are numbered by first
-// appearance, through a table with a place for each of `count` points.
+// Replaces each point by its number, and returns how many numbers there are. Points are numbered by first appearance, through
+// a table with a place for each of `count` points.
 pub(crate) fn number_points(alloc: Global, count: u32, points: &mut Vec<u32>) -> Result<u32, Memory>
     requires within { All (λ point. point < count) points.old.items }
     requires few { length points.old.items ≤ 2 ^ 30 }

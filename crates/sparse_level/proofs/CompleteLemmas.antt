@@ -22,11 +22,11 @@ use Rattle.sparse_level.proofs.PlaceLemmas.{mark-at}
 pub all-more : (on : List Bool) (vertices : List ℕ) (i : ℕ) → i < length vertices → list_all (λ v. get_or on v false) (take i vertices) ≡ true → get_or on (get_or vertices i 0) false ≡ true → list_all (λ v. get_or on v false) (take (i + 1) vertices) ≡ true
 all-more on vertices i h so more = list_all_more (λ v. get_or on v false) vertices i 0 h ∙ ap (λ b. b && get_or on (get_or vertices i 0) false) so ∙ more
 
--- and one that is not marked
+-- a vertex without a mark ends the test
 pub one-off : (on : List Bool) (vertices : List ℕ) (i : ℕ) → i < length vertices → get_or on (get_or vertices i 0) false ≡ false → false ≡ list_all (λ v. get_or on v false) vertices
 one-off on vertices i h off = sym (list_all_at (λ v. get_or on v false) vertices i 0 h off)
 
--- where the marks are those of the vertices on selected faces, all are marked where all are on these
+-- all vertices are marked exactly where all lie on selected faces
 all-agree : (level : Level) (selected : List ℕ) (on : List Bool) (vertices : List ℕ) → on ≡ marks_on level selected → All (λ v. v < level.point_count) vertices → list_all (λ v. get_or on v false) vertices ≡ list_all (is_on level.polygons selected) vertices
 all-agree level selected on [] e below = refl
 all-agree level selected on (v ∷ vertices) e below =
@@ -42,7 +42,7 @@ old-vertices level n points e h =
     let first : nat_lt n level.point_count ≡ true = lt-ltb n level.point_count (omega (arith, e, h)) in
     rw first refl
 
--- that of a face
+-- the vertices of a point that comes from a face
 pub face-vertices : (level : Level) (n points faces : ℕ) → points ≡ level.point_count → faces ≡ length level.polygons → points ≤ n → n - points < faces → polygon_at level.polygons (n - points) ≡ vertices_of level n
 face-vertices level n points faces e f h k =
     let first : nat_lt n level.point_count ≡ false = le-ltb n level.point_count (omega (arith, e, h)) in
@@ -50,7 +50,7 @@ face-vertices level n points faces e f h k =
     let place : n - points ≡ n - level.point_count = omega (arith, e) in
     rw (first, second, place) refl
 
--- and that of an edge
+-- the vertices of a point that comes from an edge
 pub edge-vertices : (level : Level) (n points faces : ℕ) → points ≡ level.point_count → faces ≡ length level.polygons → points ≤ n → faces ≤ n - points → (edge : ℕ × ℕ) → edge ≡ edge_at level.polygons (n - points - faces) → edge.0 ∷ edge.1 ∷ [] ≡ vertices_of level n
 edge-vertices level n points faces e f h k edge q =
     let first : nat_lt n level.point_count ≡ false = le-ltb n level.point_count (omega (arith, e, h)) in
@@ -67,7 +67,7 @@ first-end a b = grind (arith, nat_tests)
 second-end : (a b : ℕ) → has_end b (a, b) ≡ true
 second-end a b = grind (arith, nat_tests)
 
--- its ends are vertices
+-- the ends of an edge are vertices
 pub ends-below : (t : Topology) → IsTopology t → (e count : ℕ) (edge : ℕ × ℕ) → e < length (edges_of t.level.polygons) → edge ≡ edge_at t.level.polygons e → count ≡ t.level.point_count → All (λ v. v < count) (edge.0 ∷ edge.1 ∷ [])
 ends-below t is e count edge h q long =
     let P : ℕ → Type 0 = λ v. v < count in

@@ -10,6 +10,6 @@ made-more g xs old new i d y inside e f h = f ∙ ap (λ ys. ys ++ y ∷ []) e �
 pub made-all : {X Y : Type 0} (g : X → Y) (xs : List X) (made : List Y) (i : ℕ) → length xs ≤ i → made ≡ map g (take i xs) → made ≡ map g xs
 made-all g xs made i past e = e ∙ ap (map g) (take_all i xs past)
 
--- where it sees a list through another
+-- all values of a function that reads the list through another function
 pub made-through : {X Y Z : Type 0} (f : X → Y) (g : Y → Z) (xs : List X) (made : List Z) (i : ℕ) → length xs ≤ i → made ≡ map (λ x. g (f x)) (take i xs) → made ≡ map g (map f xs)
 made-through f g xs made i past e = made-all (λ x. g (f x)) xs made i past e ∙ sym (map-twice f g xs)

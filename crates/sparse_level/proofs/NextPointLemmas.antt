@@ -23,7 +23,7 @@ use Rattle.sparse_level.specs.Places.{points_at, AreWithin}
 abbrev places_after : ℕ → List Polygon → List (ℕ × ℕ)
 places_after f polygons = flat_map (λ face. map (λ c. (face.0, c)) (range_with_len 0 (length face.1))) (enumerate_from f polygons)
 
--- each is that of a corner
+-- a claim about the places of corners holds for each place
 places-each : (P : ℕ × ℕ → Type 0) (f : ℕ) (polygons : List Polygon) → ((k c : ℕ) → c < length (polygon_at polygons k) → P (f + k, c)) → All P (places_after f polygons)
 places-each P f [] h = All-nil P
 places-each P f (p ∷ polygons) h =
@@ -39,7 +39,7 @@ places-each P f (p ∷ polygons) h =
         let same : f + 0 ≡ f = omega arith in
         subst P (ap (λ (k : ℕ). (k, i)) same ∙ sym (get_or-map-range_with_len pair 0 (length p) i i d inside (omega arith))) (h 0 i inside)
 
--- and they are counted as the corners are
+-- child faces are counted as the corners are
 places-rise : (number : ℕ × ℕ → ℕ) (f a : ℕ) (polygons : List Polygon) → ((k c : ℕ) → c < length (polygon_at polygons k) → number (f + k, c) ≡ a + (sum_by length (take k polygons) + c)) → (i : ℕ) (d : ℕ × ℕ) → i < length (places_after f polygons) → number (get_or (places_after f polygons) i d) ≡ a + i
 places-rise number f a [] h i d inside = absurd (omega (arith, inside))
 places-rise number f a (p ∷ polygons) h i d inside = go (nat_lt i (length p)) refl (places-rise number (f + 1) (a + length p) polygons later (i - length p) d)
@@ -76,7 +76,7 @@ places-within level selected i h =
     All-filter (λ place. is_on level.polygons selected (vertex_at level.polygons place)) (λ place. place.1 < length (polygon_at level.polygons place.0)) (corner_places level.polygons)
     (places-each (λ place. place.1 < length (polygon_at level.polygons place.0)) 0 level.polygons (λ k c l. subst (λ (f : ℕ). c < length (polygon_at level.polygons f)) (let e : k ≡ 0 + k = omega arith in e) l)) i (0, 0) h
 
--- and their child faces ascend
+-- the child faces of present places ascend
 pub places-ascend : (polygons : List Polygon) (selected : List ℕ) → AllPairs (λ a b. place_number polygons a < place_number polygons b) (next_places polygons selected)
 places-ascend polygons selected = AllPairs-filter (λ a b. place_number polygons a < place_number polygons b) (λ place. is_on polygons selected (vertex_at polygons place)) (corner_places polygons) (λ i j d less inside.
     let at = places-rise (place_number polygons) 0 0 polygons (λ k c l.

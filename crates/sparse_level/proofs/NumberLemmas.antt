@@ -30,7 +30,7 @@ module _ (s : SparseTopology) (is : IsSparseTopology s) (t : Topology) (same : t
       let test = eq-eqb s.depth 0 (sym d ∙ zero) in
       rw test (ap (λ n. n + c) (e ∙ ap (λ (k : Topology). first_child k.level.polygons f) same))
 
-  -- and after it four times that of the face and the corner
+  -- a child face after level 0 has four times the number of the face, plus the corner
   pub number-small : (n : ℕ) → n ≡ get_or s.numbers f 0 → n < 2 ^ 28 * 4 ^ 10
   number-small n e =
       let listed : f < length s.numbers = omega (arith, face-there, is.numbers_listed) in

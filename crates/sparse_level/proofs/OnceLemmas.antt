@@ -115,7 +115,7 @@ distinct-few xs count once below =
     within : (n : ℕ) → n < count → is_among (range_with_len 0 count) n ≡ true
     within n h = let is = among-range 0 count n in grind (arith, nat_tests)
 
--- each of distinct numbers stands at one place
+-- each of distinct numbers has one place
 pub own-place : (xs : List ℕ) (i : ℕ) → is_distinct xs ≡ true → i < length xs → position_or_len (nat_eq (get_or xs i 0)) xs ≡ i
 own-place [] i once h = absurd (omega arith)
 own-place (x ∷ xs) zero once h = let self = eq-eqb x x refl in rw self refl
@@ -131,7 +131,7 @@ own-place (x ∷ xs) (suc i) once h =
 pub own-among : (xs : List ℕ) (i : ℕ) → i < length xs → is_among xs (get_or xs i 0) ≡ true
 own-among xs i h = list_any_at (nat_eq (get_or xs i 0)) xs i 0 h (eq-eqb (get_or xs i 0) (get_or xs i 0) refl)
 
--- and each that is among them stands at its place
+-- the place of a number in a list has that number
 pub place-of : (xs : List ℕ) (n : ℕ) → is_among xs n ≡ true → (position_or_len (nat_eq n) xs < length xs) × (get_or xs (position_or_len (nat_eq n) xs) 0 ≡ n)
 place-of xs n h =
     let within = first-within (nat_eq n) xs h in

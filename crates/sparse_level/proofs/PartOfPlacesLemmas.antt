@@ -66,7 +66,7 @@ module _ (level : Level) (places : List (ℕ × ℕ)) (points : List ℕ) (are :
       let all = flat_map (λ place. quad_at level.point_count level.polygons place.0 place.1) places in
       omega (arith, ap length are, once-length all, quads-length level places)
 
--- they are points of the whole next level
+-- the corners of the child faces are points of the whole next level
 pub points-below : (t : Topology) → IsTopology t → (places : List (ℕ × ℕ)) (points : List ℕ) → points ≡ points_at t.level places → AreWithin t.level places → All (λ n. n < child_points t.level.point_count t.level.polygons) points
 points-below t is places points are within i d h =
     let count = child_points t.level.point_count t.level.polygons in
@@ -79,7 +79,7 @@ points-below t is places points are within i d h =
     let whole : list_all below points ≡ true = ap (list_all below) are ∙ all-once nat_eq below (flat_map quad places) (all-flat_map below quad places ∙ each) in
     ltb-true _ _ (AllPass-from_list_all below points whole i d h)
 
--- and the present ones are a part
+-- the present child faces are a part of the next level
 pub part-of-places : (level : Level) (selected points : List ℕ) → points ≡ points_at level (next_places level.polygons selected)
     → IsPart level.point_count level.polygons (part (next_places level.polygons selected) (λ n. is_among points n) (λ n. position_or_len (nat_eq n) points))
 part-of-places level selected points are = part-of level (next_places level.polygons selected) points are (places-within level selected) (places-ascend level.polygons selected)

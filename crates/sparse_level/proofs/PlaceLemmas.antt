@@ -71,7 +71,7 @@ marked-more on face (p ∷ polygons) (suc f) h =
 pub marked-all : (on : List Bool) (polygons : List Polygon) (f : ℕ) → length polygons ≤ f → marked_places on 0 (take f polygons) ≡ marked_places on 0 polygons
 marked-all on polygons f h = ap (marked_places on 0) (take_all f polygons h)
 
--- they are as many as vertices that are marked
+-- a face has as many marked corners as marked vertices
 corners-count : (on : List Bool) (f : ℕ) (polygon : Polygon) → length (marked_corners on f polygon) ≡ count_by (λ v. get_or on v false) polygon
 corners-count on f polygon = length-map (places (λ v. get_or on v false) polygon) (λ c. (f, c)) ∙ places-from-length (λ v. get_or on v false) 0 polygon
 
@@ -81,7 +81,7 @@ count-more on polygons f count more h e m =
     let both = ap length (marked-more on 0 polygons f h) ∙ length-append (marked_places on 0 (take f polygons)) (marked_corners on (0 + f) (polygon_at polygons f)) in
     omega (arith, both, e, m, corners-count on (0 + f) (polygon_at polygons f))
 
--- and few
+-- a face has few such corners
 pub more-few : (t : Topology) → IsTopology t → (on : List Bool) (f more : ℕ) → f < length t.level.polygons → more ≡ count_by (λ v. get_or on v false) (polygon_at t.level.polygons f) → more ≤ 2 ^ 16
 more-few t is on f more h m = omega (arith, m, count_by-le-length (λ v. get_or on v false) (polygon_at t.level.polygons f), corners-few t is f h)
 

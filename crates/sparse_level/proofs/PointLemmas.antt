@@ -30,7 +30,7 @@ module _ (points table : List ℕ) (n e : ℕ) (is : ArePointsIn points table) (
   there : e ≡ get_or table n 0
   there = read ∙ get_or_default table n e 0 inside
 
-  -- the table tells whether a point is there
+  -- the table has a number exactly where the point is in the list
   pub point-found : not (nat_eq e (2 ^ 32 - 1)) ≡ is_among points n
   point-found = go (nat_eq e (2 ^ 32 - 1)) refl
     where
@@ -38,7 +38,7 @@ module _ (points table : List ℕ) (n e : ℕ) (is : ArePointsIn points table) (
       go true q = ap not q ∙ sym (entry-none points table n e is.inverse inside is.few there (eqb-true _ _ q))
       go false q = ap not q ∙ sym (entry-some points table n e is.inverse inside is.few there (eqb-false _ _ q))
 
-  -- and its number
+  -- the number in the table is the place of the point
   pub point-number : is_among points n ≡ true → e ≡ position_or_len (nat_eq n) points
   point-number h = entry-of points table n e is.inverse inside is.few there h
 
@@ -81,7 +81,7 @@ module _ (points table : List ℕ) (n e : ℕ) (is : ArePointsIn points table) (
             let last : length points ≡ i = omega (arith, ltb-false i (length points) e, h, length_push points n) in
             omega (arith, get_or_push points n 0 i last, inside, length-set table n (length points))
 
--- the points are no more than the table is long, so there is room for four more
+-- the points are no more than the table is long, so the numbers of four more fit
 pub points-few : (t : Topology) → IsTopology t → (xs points table : List ℕ) → points ≡ each_once_by nat_eq xs → ArePointsIn points table → length table ≡ child_points t.level.point_count t.level.polygons → length points + 4 ≤ 2 ^ 31
 points-few t whole xs points table so is long =
     let once : is_distinct points ≡ true = ap is_distinct so ∙ once-distinct xs in

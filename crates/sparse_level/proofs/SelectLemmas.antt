@@ -17,14 +17,14 @@ use Rattle.sparse_level.specs.Places.{marked}
 
 module _ (s : SparseTopology) (t : Topology) (same : t ≡ s.topology) (f depth number : ℕ) (d : depth ≡ s.depth) (n : number ≡ get_or s.numbers f 0) (facts : feature.FaceFacts)
     (is : facts ≡ record (feature.facts_of t.level depth f) { number = number }) where
-  -- they are those of a sparse level's face
+  -- the facts are those of a sparse level's face
   pub facts-are : facts ≡ facts_in (level_of s) f
   facts-are =
       is ∙ ap (λ (k : Topology). record (feature.facts_of k.level depth f) { number = number }) same
       ∙ ap (λ (k : ℕ). record (feature.facts_of s.topology.level k f) { number = number }) d
       ∙ ap (λ (k : ℕ). record (feature.facts_of s.topology.level s.depth f) { number = k }) n
 
-  -- so the rule tells whether an inner face is selected
+  -- the rule decides whether an inner face is selected
   pub inner-selected : (test : feature.FaceFacts → Bool) (inner result : Bool) → inner ≡ get_or s.inner f false → inner ≡ true → result ≡ selects test facts → result ≡ is_selected_in test (level_of s) f
   inner-selected test inner result e inside h = h ∙ ap (selects test) facts-are ∙ ap (λ b. b && selects test (facts_in (level_of s) f)) (sym inside ∙ e)
 
@@ -43,6 +43,6 @@ outer-selected s f test inner e outside = ap (λ b. b && selects test (facts_in 
 pub selected-more : (test : ℕ → Bool) (f : ℕ) (now new : List Bool) (result : Bool) → now ≡ map test (range_with_len 0 f) → new ≡ now ++ result ∷ [] → result ≡ test f → new ≡ map test (range_with_len 0 (f + 1))
 selected-more test f now new result so put e = put ∙ ap (λ l. l ++ result ∷ []) so ∙ ap (λ b. map test (range_with_len 0 f) ++ b ∷ []) e ∙ sym (map-range_with_len_more test 0 f f (omega arith))
 
--- those that are marked are those that are selected
+-- the marked faces are the selected ones
 pub selected-marked : (test : feature.FaceFacts → Bool) (s : SparseLevel) → marked (map (is_selected_in test s) (range_with_len 0 (length s.level.polygons))) ≡ selected_in test s
 selected-marked test s = places-of-range (is_selected_in test s) (λ mark. mark) 0 (length s.level.polygons)

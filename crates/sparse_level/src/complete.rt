@@ -10,7 +10,7 @@ use level_topology::Level;
 use ratio128::Memory;
 use std::alloc::Global;
 
-// Whether all of some vertices are marked.
+// Returns whether all of some vertices are marked.
 fn are_marked(vertices: &[u32], on: &[bool]) -> bool
     requires { All (λ v. v < length on.now) vertices.now }
     ensures { result ≡ list_all (λ v. get_or on.now v false) vertices.now }
@@ -23,7 +23,7 @@ fn are_marked(vertices: &[u32], on: &[bool]) -> bool
     true
 }
 
-// Whether all vertices that a point of the next level comes from are marked.
+// Returns whether every vertex that a point of the next level comes from is marked.
 fn has_all_faces(level: &Level, on: &[bool], n: u32) -> bool
     requires marks { length on.now ≡ level.now.level.point_count }
     requires inside { n < child_points level.now.level.point_count level.now.level.polygons }
@@ -41,10 +41,10 @@ fn has_all_faces(level: &Level, on: &[bool], n: u32) -> bool
     are_marked(&[first, second], on)
 }
 
-/// A mark for each of some points of the next level: whether all vertices that it comes from lie on selected faces. Then all faces at
-/// the point are present.
+/// Returns a mark for each of `points`, numbers of points of the whole next level. The mark is true where every vertex that
+/// the point comes from lies on a selected face; `on` marks these vertices. All faces at such a point are present.
 ///
-/// It answers `Memory` where memory runs out.
+/// Reports `Memory` where memory runs out.
 pub fn mark_complete(
     alloc: Global,
     level: &Level,

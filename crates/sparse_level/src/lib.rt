@@ -1,7 +1,8 @@
-//! Sparse levels, and what is present of the next one: the faces that a rule selects, the corners whose child faces are present, and
-//! the points of these child faces.
+//! Provides sparse levels: some faces of a level, each with its number in the uniform level.
 //!
-//! Source: OpenSubdiv's Vtr layer for sparse refinement; which faces are present is this profile's.
+//! The crate also finds which part of the next level is present: the faces that a rule selects, the corners with child faces,
+//! and the points of these child faces. Source: the sparse refinement of OpenSubdiv's Vtr layer. The choice of the present
+//! faces is this library's own.
 #![tactic(auto)]
 
 mod complete;

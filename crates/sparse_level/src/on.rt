@@ -20,7 +20,7 @@ fn mark_corners(corners: &[u32], on: &mut Vec<bool>)
     }
 }
 
-// Marks the corners of a face, where it is selected.
+// Marks the corners of a face, if it is selected.
 fn mark_face(level: &Level, f: u32, is_selected: bool, on: &mut Vec<bool>)
     requires known { f < length level.now.level.polygons }
     requires count { length on.old.items ≡ level.now.level.point_count }
@@ -34,9 +34,9 @@ fn mark_face(level: &Level, f: u32, is_selected: bool, on: &mut Vec<bool>)
     }
 }
 
-/// A mark for each vertex of a level: whether it lies on a marked face.
+/// Returns a mark for each vertex of a level: true where the vertex lies on a face that `selected` marks.
 ///
-/// It answers `Memory` where memory runs out.
+/// Reports `Memory` where memory runs out.
 pub fn mark_points(alloc: Global, level: &Level, selected: &[bool]) -> Result<Vec<bool>, Memory>
     requires { length selected.now ≡ length level.now.level.polygons }
     ensures { IfOk result (λ on. on.items ≡ marks_on level.now.level (marked selected.now)) }

@@ -1,4 +1,4 @@
-//! Where the points of the next level come from.
+//! The origins of the points of the next level.
 
 ghost use Rattle.std.specs.Prelude.{◌≡◌, length, map, IfOk};
 ghost use Rattle.level_topology.specs.ChildTables.{origin_of, numbered_origin};
@@ -7,7 +7,7 @@ use level_topology::{Level, Origin};
 use ratio128::Memory;
 use std::alloc::Global;
 
-// The origin of the point with a number, where so many vertices come first and then so many faces.
+// Returns the origin of point `n`: vertices come first, then faces, then edges.
 fn origin_at(n: u32, vertices: u32, faces: u32) -> Origin
     ensures { origin_of result ≡ numbered_origin vertices faces n }
 {
@@ -20,9 +20,10 @@ fn origin_at(n: u32, vertices: u32, faces: u32) -> Origin
     }
 }
 
-/// The parts of a level that some points of the next level come from.
+/// Returns the origin of each of `points`, numbers of points of the whole next level. An origin is a vertex, a face or an
+/// edge of the level.
 ///
-/// It answers `Memory` where memory runs out.
+/// Reports `Memory` where memory runs out.
 pub fn put_origins(alloc: Global, level: &Level, points: &[u32]) -> Result<Vec<Origin>, Memory>
     ensures { IfOk result (λ origins. map origin_of origins.items
         ≡ map (numbered_origin level.now.level.point_count (length level.now.level.polygons)) points.now) }

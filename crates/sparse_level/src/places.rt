@@ -1,4 +1,4 @@
-//! The corners whose child faces are present, and what is kept of these child faces.
+//! The corners whose child faces are present, with the number and the mark of each child face.
 
 ghost use Rattle.std.specs.Prelude.{◌≡◌, ℕ, ◌<◌, ◌≤◌, ◌++◌, false, List, [], ◌∷◌, length, map, get_or, IfOk, OnOk, if◌then◌else◌};
 ghost use Rattle.std.specs.List.{All, count_by};
@@ -14,7 +14,7 @@ use level_topology::{FacePlace, Level};
 use ratio128::Memory;
 use std::alloc::Global;
 
-// How many of a face's corners have a marked vertex.
+// Returns the number of a face's corners that have a marked vertex.
 fn count_corners(corners: &[u32], on: &[bool]) -> u64
     requires { All (λ v. v < length on.now) corners.now }
     ensures { result ≡ count_by (λ v. get_or on.now v false) corners.now }
@@ -26,7 +26,7 @@ fn count_corners(corners: &[u32], on: &[bool]) -> u64
     count
 }
 
-/// How many corners of faces have a marked vertex. It takes no memory.
+/// Returns the number of corners of faces that have a marked vertex. The call takes no memory.
 pub fn count_places(level: &Level, on: &[bool]) -> u64
     requires { length on.now ≡ level.now.level.point_count }
     ensures { (selected : List ℕ) → on.now ≡ marks_on level.now.level selected
@@ -40,7 +40,7 @@ pub fn count_places(level: &Level, on: &[bool]) -> u64
     count
 }
 
-// Puts a place, where it is marked.
+// Adds a place, if it is marked.
 fn put_place(places: &mut Vec<FacePlace>, place: FacePlace, is_marked: bool) -> Result<(), Memory>
     ensures { OnOk result (places.new.items ≡ places.old.items ++ (if is_marked then place ∷ [] else [])) }
 {
@@ -50,7 +50,7 @@ fn put_place(places: &mut Vec<FacePlace>, place: FacePlace, is_marked: bool) -> 
     Ok(())
 }
 
-// Puts the corners of a face that have a marked vertex.
+// Adds the corners of a face that have a marked vertex.
 fn put_corners(
     level: &Level,
     on: &[bool],
@@ -74,9 +74,10 @@ fn put_corners(
     Ok(())
 }
 
-/// The corners of faces that have a marked vertex, face by face. There is room for `count` of them from the start.
+/// Returns the corners of faces that have a marked vertex, face by face. Each place is a face and a corner, counted from 0.
+/// The list reserves `count` places at the start.
 ///
-/// It answers `Memory` where memory runs out.
+/// Reports `Memory` where memory runs out.
 pub fn put_places(
     alloc: Global,
     level: &Level,
@@ -95,7 +96,7 @@ pub fn put_places(
     Ok(places)
 }
 
-// The number in the uniform level of the child face of a corner.
+// Returns the number in the uniform level of the child face of a corner.
 fn child_number(sparse: &SparseLevel, place: FacePlace) -> u64
     requires { place.corner < length (polygon_at sparse.now.topology.level.polygons place.face) }
     ensures { result ≡ uniform_child (level_of sparse.now) (place_of place) }
@@ -110,9 +111,9 @@ fn child_number(sparse: &SparseLevel, place: FacePlace) -> u64
     }
 }
 
-/// The numbers in the uniform level of the child faces of some corners.
+/// Returns the number of each child face in the uniform level, counted from 0.
 ///
-/// It answers `Memory` where memory runs out.
+/// Reports `Memory` where memory runs out.
 pub fn put_numbers(
     alloc: Global,
     sparse: &SparseLevel,
@@ -128,9 +129,9 @@ pub fn put_numbers(
     Ok(numbers)
 }
 
-/// For each of some corners the mark of its face.
+/// Returns for each place the mark of its face.
 ///
-/// It answers `Memory` where memory runs out.
+/// Reports `Memory` where memory runs out.
 pub fn put_inner(
     alloc: Global,
     selected: &[bool],

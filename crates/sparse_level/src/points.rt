@@ -13,17 +13,18 @@ use ratio128::Memory;
 use std::alloc::Global;
 use std::marker::Model;
 
-// What stands in the table where a point is not there.
+// The mark in the table of a point without a number.
 const NOWHERE: u32 = u32::MAX;
 
-// Whether a point is there, by what stands in the table.
+// Returns whether an entry of the table is a number.
 fn is_there(number: u32) -> bool
     ensures { result ≡ not (nat_eq number (2 ^ 32 - 1)) }
 {
     number != NOWHERE
 }
 
-/// Points of the next level, each with a number. Each is known by its number in the whole next level.
+/// Some points of the next level, each with a number of its own. A caller names a point by its number in the whole next
+/// level.
 #[derive(Drop)]
 pub struct NumberedPoints {
     // For each point of the whole next level its number here.
@@ -57,7 +58,7 @@ impl ChildPoints for NumberedPoints {
 }
 
 impl NumberedPoints {
-    /// The points by their numbers in the whole next level, in the order of their own numbers.
+    /// Returns the number of each point in the whole next level, in the order of the points' own numbers.
     pub fn points(&self) -> &[u32]
         ensures { result.now ≡ self.now }
     {
@@ -65,7 +66,7 @@ impl NumberedPoints {
     }
 }
 
-// A point more, where it is not there yet.
+// Adds a point, if it has no number yet.
 fn add_point(n: u32, table: &mut Vec<u32>, points: &mut Vec<u32>) -> Result<(), Memory>
     requires is { ArePointsIn points.old.items table.old.items }
     requires inside { n < length table.old.items }
@@ -83,7 +84,7 @@ fn add_point(n: u32, table: &mut Vec<u32>, points: &mut Vec<u32>) -> Result<(), 
     Ok(())
 }
 
-// Some points more, where they are not there yet.
+// Adds each of some points that has no number yet.
 fn add_points(corners: &[u32], table: &mut Vec<u32>, points: &mut Vec<u32>) -> Result<(), Memory>
     requires is { ArePointsIn points.old.items table.old.items }
     requires inside { All (λ n. n < length table.old.items) corners.now }
@@ -98,7 +99,7 @@ fn add_points(corners: &[u32], table: &mut Vec<u32>, points: &mut Vec<u32>) -> R
     Ok(())
 }
 
-// The corners of the child faces of some corners, each once.
+// Adds the corners of the child faces of some corners, each once.
 fn put_points(
     level: &Level,
     places: &[FacePlace],
@@ -121,7 +122,7 @@ fn put_points(
     Ok(())
 }
 
-// A table for the points of the whole next level, in which none is yet.
+// Returns a table for the points of the whole next level, in which none has a number.
 fn point_table(alloc: Global, level: &Level) -> Result<Vec<u32>, Memory>
     ensures count { IfOk result (λ table. length table.items ≡ child_points level.now.level.point_count level.now.level.polygons) }
     ensures none { IfOk result (λ table. ArePointsIn [] table.items) }
@@ -131,9 +132,9 @@ fn point_table(alloc: Global, level: &Level) -> Result<Vec<u32>, Memory>
     Ok(vec![in alloc; NOWHERE; count as usize]?)
 }
 
-/// The corners of the child faces of some corners of a level, numbered by first appearance.
+/// Numbers the corners of the child faces at `places`, by first appearance.
 ///
-/// It answers `Memory` where memory runs out.
+/// Reports `Memory` where memory runs out.
 pub fn number_points(
     alloc: Global,
     level: &Level,

@@ -12,7 +12,7 @@ use level_topology::FaceFacts;
 use ratio128::Memory;
 use std::alloc::Global;
 
-// Whether a face is inner and the rule selects it.
+// Returns whether a face is inner and the rule selects it.
 fn is_selected<T: FaceTest, F: Fn(&FaceFacts) -> bool>(
     sparse: &SparseLevel,
     chosen: &SelectRule<T, F>,
@@ -30,9 +30,10 @@ fn is_selected<T: FaceTest, F: Fn(&FaceFacts) -> bool>(
     chosen.holds(&level.face_facts(f, sparse.depth(), sparse.number(f)))
 }
 
-/// A mark for each face of a sparse level: whether it is inner and the rule selects it. The rule is asked of inner faces alone.
+/// Returns a mark for each face of a sparse level: true where the face is inner and the rule selects it. The call asks the
+/// rule only about inner faces.
 ///
-/// It answers `Memory` where memory runs out.
+/// Reports `Memory` where memory runs out.
 pub fn select_faces<T: FaceTest, F: Fn(&FaceFacts) -> bool>(
     alloc: Global,
     sparse: &SparseLevel,

@@ -10,7 +10,7 @@ use ratio128::Memory;
 use std::alloc::Global;
 use std::marker::Model;
 
-// The numbers from 0 up to a count.
+// Returns the numbers from 0 to `count` - 1.
 fn numbers_below(alloc: Global, count: u32) -> Result<Vec<u64>, Memory>
     ensures { IfOk result (λ numbers. numbers.items ≡ range_with_len 0 count) }
 {
@@ -21,7 +21,7 @@ fn numbers_below(alloc: Global, count: u32) -> Result<Vec<u64>, Memory>
     Ok(numbers)
 }
 
-// For each face of a level its number, and a mark.
+// Returns for each face of a level its number and the mark `true`.
 fn base_lists(alloc: Global, level: &Level) -> Result<(Vec<u64>, Vec<bool>), Memory>
     ensures numbers { IfOk result (λ lists. lists.0.items ≡ range_with_len 0 (length level.now.level.polygons)) }
     ensures inner { IfOk result (λ lists. lists.1.items ≡ replicate (length level.now.level.polygons) true) }
@@ -31,9 +31,10 @@ fn base_lists(alloc: Global, level: &Level) -> Result<(Vec<u64>, Vec<bool>), Mem
     Ok((numbers, inner))
 }
 
-/// Some faces of a level: those that are near selected faces of the level before.
+/// A sparse level: the faces near the selected faces of the level before.
 ///
-/// Each face has its number in the uniform level, counted from 0, and a mark that says whether its parent is selected.
+/// Each face has its number in the uniform level, counted from 0. A face is inner if its parent is selected; at level 0 each
+/// face is inner.
 #[derive(Drop)]
 pub struct SparseLevel {
     level: Level,
@@ -53,9 +54,9 @@ impl Model for SparseLevel {
 }
 
 impl SparseLevel {
-    /// The whole level as sparse level 0: each face is present and inner. Each vertex of the level is complete.
+    /// Returns the whole level as sparse level 0: each face is present and inner. Each vertex of the level must be complete.
     ///
-    /// It answers `Memory` where memory runs out, and the level is dropped then.
+    /// Reports `Memory` where memory runs out, and drops the level.
     pub fn base(alloc: Global, level: Level) -> Result<SparseLevel, Memory>
         requires { (v : ℕ) → v < level.level.point_count → get_or level.complete v false ≡ true }
         ensures { IfOk result (λ sparse. sparse ≡ base_of level) }
@@ -65,14 +66,14 @@ impl SparseLevel {
         Ok(SparseLevel::with_parts(level, numbers, inner, 0))
     }
 
-    /// The level that a step made.
+    /// Returns the level that a step made.
     pub fn after(step: SparseStep) -> SparseLevel
         ensures { result ≡ next_of step }
     {
         step.into_sparse()
     }
 
-    // A sparse level of its parts.
+    // Returns a sparse level from its parts.
     pub(crate) fn with_parts(
         level: Level,
         numbers: Vec<u64>,
@@ -90,14 +91,14 @@ impl SparseLevel {
         }
     }
 
-    /// The present faces as a level.
+    /// Returns the level of the present faces.
     pub fn level(&self) -> &Level
         ensures { result.now ≡ self.now.topology }
     {
         &self.level
     }
 
-    /// The number of a face in the uniform level.
+    /// Returns the number of face `f` in the uniform level.
     pub fn number(&self, f: u32) -> u64
         requires { f < length self.now.topology.level.polygons }
         ensures { result ≡ get_or self.now.numbers f 0 }
@@ -105,14 +106,14 @@ impl SparseLevel {
         self.numbers[f as usize]
     }
 
-    /// The numbers of all faces in the uniform level.
+    /// Returns the number of each face in the uniform level.
     pub fn numbers(&self) -> &[u64]
         ensures { result.now ≡ self.now.numbers }
     {
         &self.numbers
     }
 
-    /// Whether the parent of a face is selected; at level 0 each face is inner.
+    /// Returns whether the parent of face `f` is selected. At level 0 it returns true for each face.
     pub fn is_inner(&self, f: u32) -> bool
         requires { f < length self.now.topology.level.polygons }
         ensures { result ≡ get_or self.now.inner f false }
@@ -120,14 +121,14 @@ impl SparseLevel {
         self.inner[f as usize]
     }
 
-    /// After how many steps the level is.
+    /// Returns the number of steps from level 0, at most 10.
     pub fn depth(&self) -> u32
         ensures { result ≡ self.now.depth }
     {
         self.depth
     }
 
-    /// What holds of each sparse level.
+    /// States what holds for each sparse level.
     pub fn facts(&self)
         ensures { IsSparseTopology self.now }
     {

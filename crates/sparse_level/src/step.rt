@@ -1,4 +1,4 @@
-//! The next sparse level, with its tables from the level before.
+//! The next sparse level, with the tables that connect it to the level before.
 
 ghost use Rattle.std.specs.Prelude.{◌≡◌, ◌<◌, false, length, get_or};
 ghost use Rattle.sparse_level.specs.View.{next_of, sparse_child, IsSparseTopology};
@@ -7,7 +7,7 @@ use crate::sparse::SparseLevel;
 use level_topology::Child;
 use std::marker::Model;
 
-/// The next sparse level as a child of the level before, and which faces of that level are selected.
+/// The next sparse level as a child of the level before, and the marks of the selected faces of that level.
 #[derive(Drop)]
 pub struct SparseStep {
     child: Child,
@@ -28,8 +28,8 @@ impl Model for SparseStep {
 }
 
 impl SparseStep {
-    /// A step, of its parts: the marks of the faces of the level before, and of each new face its number and its mark. It takes no
-    /// memory.
+    /// Returns a step from its parts: a mark for each face of the level before, and a number and a mark for each new face.
+    /// The call takes no memory.
     pub fn of(
         child: Child,
         selected: Vec<bool>,
@@ -49,14 +49,14 @@ impl SparseStep {
         }
     }
 
-    /// The new level as a child of the level before.
+    /// Returns the new level as a child of the level before.
     pub fn child(&self) -> &Child
         ensures { result.now ≡ self.now.child }
     {
         &self.child
     }
 
-    /// Whether a face of the level before is selected.
+    /// Returns whether face `f` of the level before is selected.
     pub fn is_selected(&self, f: u32) -> bool
         requires { f < length self.now.selected }
         ensures { result ≡ get_or self.now.selected f false }
@@ -64,35 +64,35 @@ impl SparseStep {
         self.selected[f as usize]
     }
 
-    /// The marks of the faces of the level before.
+    /// Returns the marks of the faces of the level before.
     pub fn selected(&self) -> &[bool]
         ensures { result.now ≡ self.now.selected }
     {
         &self.selected
     }
 
-    /// The numbers of all new faces in the uniform level.
+    /// Returns the number of each new face in the uniform level.
     pub fn numbers(&self) -> &[u64]
         ensures { result.now ≡ self.now.numbers }
     {
         &self.numbers
     }
 
-    /// After how many steps the new level is.
+    /// Returns the number of steps from level 0 to the new level.
     pub fn depth(&self) -> u32
         ensures { result ≡ self.now.depth }
     {
         self.depth
     }
 
-    /// What holds of each new level.
+    /// States what holds for each new level.
     pub fn facts(&self)
         ensures { IsSparseTopology (next_of self.now) }
     {
         let _ = &self.child;
     }
 
-    /// The new level, and the marks of the faces of the level before.
+    /// Returns the new level, and the marks of the faces of the level before.
     pub fn into_parts(self) -> (SparseLevel, Vec<bool>)
         ensures level { result.0 ≡ next_of self }
         ensures selected { result.1.items ≡ self.selected }
@@ -106,7 +106,7 @@ impl SparseStep {
         (level, self.selected)
     }
 
-    // The new level alone.
+    // Returns the new level.
     pub(crate) fn into_sparse(self) -> SparseLevel
         ensures { result ≡ next_of self }
     {

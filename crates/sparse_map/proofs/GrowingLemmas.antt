@@ -1,4 +1,4 @@
--- What a walk over sparse levels comes to whose visitor makes the map.
+-- The result of a walk over sparse levels whose visitor makes the map.
 use Rattle.std.proofs.Common.{◌≡◌, ℕ, zero, suc, ◌+◌, ◌<◌, ◌≤◌, inl, inr, Bool, true, false, nat_eq, [], length, map, arith, refl, ap, sym, ◌∙◌, subst}
 use Rattle.std.specs.List.{sum_by, range_with_len}
 use Rattle.std.proofs.lemmas.Bool.{ne_eqb}
@@ -53,7 +53,7 @@ module _ {C : Type 0} (test : FaceFacts → Bool) (base : Level) (depth : ℕ) (
   abbrev IsReached : ℕ → SparseTopology → Type 0
   IsReached k t = levels.IsReached test base depth k t
 
-  -- the map of the levels before can grow by this one, and then has the levels to this one
+  -- the map of the levels before can grow by this level, and then has all levels up to it
   pub record IsAt (k : ℕ) (place : Place Walked C LevelMap) : Type 0 where
     pub reached : IsReached k place.reached.level.sparse
     pub later : start.steps ≤ place.steps
@@ -112,7 +112,7 @@ module _ {C : Type 0} (test : FaceFacts → Bool) (base : Level) (depth : ℕ) (
     walked-to (suc k) end within (before, (walked, leads)) =
         subst (λ n. IsAt n end) (plus-one k) (at-next k before end (omega (arith, within)) (walked-to k before (omega (arith, within)) walked) leads)
 
-    -- at the depth the map has all levels, once it has the last one
+    -- at the depth the map has all levels, after the last one is added
     pub all-mapped : (end : Place Walked C LevelMap) (whole : LevelMap) → IsWalked topology_of (IsMade test) Follow Takes start depth end → IsWithLevel end.visitor end.reached.level whole → IsMapOf base meeting depth whole
     all-mapped end whole walked with =
         let last = walked-to depth end (omega arith) walked in
@@ -155,7 +155,7 @@ module _ {C : Type 0} (test : FaceFacts → Bool) (base : Level) (depth : ℕ) (
         subst (λ n. Stopped n fault.cause new) (sym is.number)
         (stopped-at is.k is.last new is.within (walked-to is.k is.last (omega (arith, is.within)) is.walked) fault.cause is.cause)
 
--- a walk begins so at the base, with the map of level 0
+-- the walk begins at the base, with the map of level 0
 pub at-begin : {C : Type 0} (test : FaceFacts → Bool) (base : Topology) → IsSparseBase base → IsTopology base → (depth : ℕ) (start : Place Walked C LevelMap) → start.reached.level ≡ walked (base_of base) []
     → (sparse : SparseTopology) → sparse ≡ start.reached.level.sparse → start.visitor ≡ map_of_base sparse.topology.level.polygons → IsAt test base.level depth start 0 start
 at-begin test base is formed depth start same sparse e f =

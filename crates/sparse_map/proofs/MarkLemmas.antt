@@ -28,7 +28,7 @@ module _ (kept : Kept) (by : AgreeingTest kept) where
   abbrev marks : List Bool
   marks = map (is_selected_in by.test kept.sparse) (range_with_len 0 count)
 
-  -- a face is among those that the test selects exactly where its number is among the selected faces
+  -- the test selects a face exactly if its number is among the selected faces
   among-numbers : (f : ℕ) → f < count → is_among (selected kept.base kept.meeting kept.sparse.depth) (face_in numbers f) ≡ is_among (chosen_by by) f
   among-numbers f inside =
       let whole = (refined_level kept.base kept.sparse.depth).polygons in

@@ -1,4 +1,4 @@
-//! A visitor of a walk that makes a map of its levels.
+//! A visitor that maps the levels of a walk.
 
 ghost use Rattle.std.specs.Prelude.{◌≡◌, IfOk};
 ghost use Rattle.patch_map.specs.Map.{map_of_base};
@@ -12,7 +12,7 @@ use sparse_walk::WalkedSparse;
 use std::alloc::Global;
 use std::marker::Model;
 
-/// A visitor that keeps the map of the levels so far.
+/// A visitor that keeps the map of the levels visited so far.
 #[derive(Drop)]
 pub(crate) struct Growing {
     map: PatchMap,
@@ -26,7 +26,7 @@ impl Model for Growing {
     ghost view = { λ g. g.map };
 }
 
-// Puts a level after those of a map. Level 0 is there already.
+// Adds a level to a map. Level 0 is there already.
 fn put_level(map: &mut PatchMap, level: &WalkedSparse) -> Result<(), Memory>
     ensures { IfOk result (λ _. IsWithLevel map.old level.now map.new) }
 {
@@ -39,7 +39,7 @@ fn put_level(map: &mut PatchMap, level: &WalkedSparse) -> Result<(), Memory>
 impl Growing {
     /// The map of level 0.
     ///
-    /// It answers `Memory` where memory runs out.
+    /// Error: `Memory`.
     pub(crate) fn start(alloc: Global, base: &SparseLevel) -> Result<Growing, Memory>
         requires { base.now.depth ≡ 0 }
         ensures { IfOk result (λ growing. growing ≡ map_of_base base.now.topology.level.polygons) }
@@ -48,9 +48,9 @@ impl Growing {
         Ok(Growing { map })
     }
 
-    /// The map of all levels, of which the last is this one.
+    /// The map of all levels, after the last one is added.
     ///
-    /// It answers `Memory` where memory runs out, and the map is dropped then.
+    /// Error: `Memory`; the map is dropped then.
     pub(crate) fn into_map(self, end: &WalkedSparse) -> Result<PatchMap, Memory>
         ensures { IfOk result (λ map. IsWithLevel self end.now map) }
     {

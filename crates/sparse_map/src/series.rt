@@ -1,4 +1,4 @@
-//! The map of all sparse levels to a depth.
+//! The map of all sparse levels up to a depth.
 
 ghost use Rattle.std.specs.Prelude.{◌≡◌, ◌≤◌, MatchResult, OnOk};
 ghost use Rattle.subdiv_model.specs.Channel.{Sharpnesses};
@@ -19,11 +19,14 @@ use sparse_walk::{Sparse, WalkedSparse};
 use std::alloc::Global;
 use std::sync::ledger::Ledger;
 
-/// The map of the sparse levels of a level to a depth. Level 0 is whole, and each further one has the children around the faces that
-/// the rule selects. It is one step for each face that is present in the levels after the first.
+/// Returns the map of the sparse levels of `base` from 0 to `depth`. Level 0 is whole; each later level contains the children around the
+/// faces that the rule selects. The call counts at most one step for each face of the levels after the first.
 ///
-/// A fault is that of the first level that is not reached, from 1: `TooManyFaces` with the number of its present faces where there are
-/// more than 2^22, `Overflow` of the kind `Chaikin` where the halves of edges overflow, and `Memory` where memory runs out.
+/// The error is the fault of the first level, counted from 1, that the call cannot make:
+///
+/// - `TooManyFaces`: the level would have more than 2^22 faces; it names their number;
+/// - `Overflow` of the kind `Chaikin`: a half of an edge passes its bound;
+/// - `Memory`, at any level.
 pub fn map_sparse<T: FaceTest, F: Fn(&FaceFacts) -> bool, L: Ledger>(
     alloc: Global,
     base: Level,

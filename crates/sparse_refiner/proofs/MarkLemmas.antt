@@ -47,7 +47,7 @@ module _ (t : Topology) (is : IsTopology t) (some : List ℕ) (within : list_all
     path = ((is.listed v h).fan mark).path;
   }
 
-  -- so are the child faces at a point all of whose vertices lie on selected faces
+  -- the child faces at a point are one fan if all vertices that it comes from lie on selected faces
   fan-at : (n : ℕ) → IsNew t.level.point_count t.level.polygons n → has_all_faces t.level some n ≡ true → HasOneFan kids n
   fan-at n (inl a) all =
       let here : list_all (is_on t.level.polygons some) (n ∷ []) ≡ true = ap (list_all (is_on t.level.polygons some)) (sym (vertices-old t.level (over-of t is) n a.0)) ∙ all in

@@ -69,7 +69,7 @@ module _ (t : Topology) (is : IsTopology t) (some : List ℕ) (within : list_all
   abbrev kids : List Polygon
   kids = child_polygons t.level.point_count t.level.polygons
 
-  -- the corners of a child face come from where they should
+  -- the corners of a child face come from the corner, the edges and the face that they should
   quad-origins : (f c : ℕ) → f < faces → c < length (polygon_at polygons f) → map origin (quad_at points polygons f c) ≡ corner_origins polygons (f, c)
   quad-origins f c h k =
       let b = before_in polygons f c in

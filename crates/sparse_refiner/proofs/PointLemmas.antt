@@ -43,7 +43,7 @@ module _ (level : Level) (over : is_over level.point_count level.polygons ≡ tr
       let one : is_among (v ∷ []) w ≡ true = ap (λ ns. is_among ns w) (sym (vertices-old level over v below)) ∙ vertex-of level over some within m v found.1 c in
       ap (is_on level.polygons some) (sym (one-among w v one)) ∙ sym (child-on level over some within m c) ∙ found.2
 
-  -- and a vertex on a selected face is a point
+  -- a vertex on a selected face is a point of the next level
   pub on-point : (v : ℕ) → is_on level.polygons some v ≡ true → is_among (next_points level some) v ≡ true
   on-point v on =
       let found = any-number (λ f. has_corner v (polygon_at level.polygons f)) some on in

@@ -80,14 +80,14 @@ module _ (level : Level) (over : is_over level.point_count level.polygons ≡ tr
       let own = owner level.polygons m (omega (arith, corner-place kids m n at, child_polygons-length level.point_count level.polygons)) in
       record { face = own.0; place = own.1; is_face = own.2; is_corner = own.3; number = own.4 }
 
-  -- its vertex is among those that each of its corners comes from
+  -- the vertex of a child face is one that each of its corners comes from
   pub vertex-of : (m n : ℕ) → has_corner n (polygon_at (child_polygons level.point_count level.polygons) m) ≡ true → (c : ChildAt m) → is_among (vertices_of level n) (vertex_at level.polygons (c.face, c.place)) ≡ true
   vertex-of m n at c = own-vertex level over c.face c.place n c.is_face c.is_corner (ap (λ i. has_corner n (polygon_at (child_polygons level.point_count level.polygons) i)) (sym c.number) ∙ at)
 
   pub child-on : (m : ℕ) (c : ChildAt m) → is_among (next_children level.polygons some) m ≡ is_on level.polygons some (vertex_at level.polygons (c.face, c.place))
   child-on m c = ap (is_among (next_children level.polygons some)) c.number ∙ child-there c.face c.place c.is_face c.is_corner
 
-  -- where all vertices that a point comes from lie on selected faces, all child faces at the point are present
+  -- if all vertices that a point comes from lie on selected faces, all child faces at the point are present
   pub whole-at : (n : ℕ) → has_all_faces level some n ≡ true → IsWholeAt (next_children level.polygons some) (child_polygons level.point_count level.polygons) n
   whole-at n all m at =
       let c = child-at m n at in

@@ -1,4 +1,4 @@
--- What the steps of a sparse refinement owe and answer, where some faces are marked.
+-- The conditions and results of the steps of a sparse refinement, for some selected faces.
 use Rattle.std.proofs.Common.{◌≡◌, ℕ, ◌+◌, ◌^◌, ◌<◌, ◌≤◌, Bool, true, false, nat_eq, nat_lt, List, length, map, get_or, Result, Ok, Err, IfOk, IsErr, IsErrAnd, MatchResult, arith, ap, sym, ◌∙◌, subst}
 use Rattle.std.specs.List.{All, list_all, position_or_len, range_with_len}
 use Rattle.std.proofs.lemmas.Bool.{and_parts}
@@ -166,7 +166,7 @@ below-at s level same known present are points so named n =
     subst (λ (t : Topology). All (λ k. k < child_points t.level.point_count t.level.polygons) named) (sym same)
     (subst (λ (ns : List ℕ). All (λ k. k < child_points s.topology.level.point_count s.topology.level.polygons) ns) (sym n) (are-below s (subst IsTopology same known) present are points so))
 
--- the same of the level, the places and the points as they are read
+-- the conditions and results for the level, the places and the points as the code reads them
 module _ (s : SparseTopology) (level : Topology) (same : level ≡ s.topology) (known : IsTopology level) (present : PresentPlaces) (are : ArePresent s present) (places : List FacePlace) (read : places ≡ present.places.items) where
   abbrev whole : IsTopology s.topology
   whole = subst IsTopology same known

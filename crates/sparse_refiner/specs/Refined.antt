@@ -1,4 +1,4 @@
--- What a sparse refinement answers: the next sparse level, or why there is none.
+-- The result of a sparse refinement: the next sparse level, or the reason why there is none.
 use Rattle.std.specs.Prelude.{ℕ, ◌≡◌, ◌^◌, ◌<◌, ◌≤◌, Bool, true, false, List, length, map, IsTrue}
 use Rattle.std.specs.List.{range_with_len}
 use Rattle.subdiv_model.specs.Polygons.{is_over}
@@ -19,12 +19,12 @@ use Rattle.uniform_refiner.specs.declared.fault.RefineFault.TheVariants.{TooLarg
 abbrev pub chosen : (FaceFacts → Bool) → SparseTopology → List ℕ
 chosen test t = selected_in test (level_of t)
 
--- the places of the child faces that are present where these are selected
+-- the places of the present child faces, for the faces that a test selects
 abbrev pub places_for : (FaceFacts → Bool) → SparseTopology → List (ℕ × ℕ)
 places_for test t = next_places t.topology.level.polygons (chosen test t)
 
--- The step has the next sparse level as a child, and the marks of the selected faces. Few enough faces are present, and at no vertex
--- on a selected face do halves overflow.
+-- The step has the next sparse level as a child, and the marks of the selected faces. The next level is within the bound of
+-- faces, and at no vertex on a selected face halves overflow.
 pub record IsRefined (test : FaceFacts → Bool) (t : SparseTopology) (step : SparseChild) : Type 0 where
   pub next : IsNextSparse (level_of t) (chosen test t) (level_of (next_of step))
   pub selected : step.selected ≡ map (is_selected_in test (level_of t)) (range_with_len 0 (length t.topology.level.polygons))
@@ -34,19 +34,20 @@ pub record IsRefined (test : FaceFacts → Bool) (t : SparseTopology) (step : Sp
   pub fine : (v : ℕ) → v < t.topology.level.point_count → is_on t.topology.level.polygons (chosen test t) v ≡ true
       → chaikin_overflows_at t.topology.level v ≡ false
 
--- few enough faces are present, and this is the first vertex on a selected face at which halves overflow
+-- the next level is within the bound of faces, and this is the first vertex on a selected face at which halves overflow
 pub record OverflowsFirst (test : FaceFacts → Bool) (t : SparseTopology) (v : ℕ) : Type 0 where
   pub few : length (places_for test t) ≤ 2 ^ 22
   pub overflows : OverflowsOn t.topology.level (chosen test t) v
   pub first : (u : ℕ) → u < v → is_on t.topology.level.polygons (chosen test t) u ≡ true → chaikin_overflows_at t.topology.level u ≡ false
 
--- so many faces are present and that is too many, or halves overflow at this vertex first; memory may run out at any level
+-- the next level has this number of faces, above the bound, or halves overflow at this vertex first; memory may run out at
+-- any level
 abbrev pub IsRefusal : (FaceFacts → Bool) → SparseTopology → RefineFault → Type 0
 IsRefusal test t (TooLarge count) = (count ≡ length (places_for test t)) × (2 ^ 22 < count)
 IsRefusal test t (Chaikin v) = OverflowsFirst test t v
 IsRefusal test t Memory = Unit {0}
 
--- a sparse level of the definitions, for a predicate that agrees with a test at its depth
+-- the level is a sparse level of the definitions, for a predicate that agrees with the test at its depth
 pub record SparseOf (test : FaceFacts → Bool) (t : SparseTopology) : Type 0 where
   pub base : Level
   pub meeting : Meeting

@@ -1,4 +1,4 @@
-//! The sharpness of the halves of edges at the vertices that have a child point.
+//! The sharpness of the halves of edges, at the vertices that have a child point.
 
 ghost use Rattle.std.specs.Prelude.{◌≡◌, ◌*◌, length, map, MatchResult};
 ghost use Rattle.subdiv_model.specs.Edges.{edges_of};
@@ -14,7 +14,8 @@ use sparse_level::NumberedPoints;
 use std::alloc::Global;
 use uniform_refiner::RefineFault;
 
-// Puts the halves of the edges at vertices that have a child point, or finds the least such vertex at which they overflow.
+// Writes the halves of the edges at vertices that have a child point, or reports the least such vertex at which they
+// overflow.
 fn put_halves(
     alloc: Global,
     level: &Level,
@@ -31,8 +32,8 @@ fn put_halves(
     }
 }
 
-/// The sharpness of the half of each edge at each vertex that has a child point, or `Chaikin` with the least such vertex at which
-/// halves overflow.
+/// Returns the sharpness of the half of each edge at each vertex that has a child point. Reports `Chaikin` with the least
+/// such vertex at which halves overflow.
 pub(crate) fn halves_at(
     alloc: Global,
     level: &Level,

@@ -1,4 +1,4 @@
-//! The level of the next sparse level, without its tables.
+//! The next sparse level, without the tables that connect it to its parent.
 
 ghost use Rattle.std.specs.Prelude.{◌≡◌, ◌+◌, ◌≤◌, length, map, IfOk};
 ghost use Rattle.subdiv_model.specs.Polygons.{is_among};
@@ -17,7 +17,7 @@ use sparse_level::{NumberedPoints, SparseLevel, mark_complete};
 use std::alloc::Global;
 use std::sync::ledger::Ledger;
 
-// A mark for each point: whether all its faces are present.
+// Returns a mark for each point: whether all its faces are present.
 fn complete_marks(
     alloc: Global,
     sparse: &SparseLevel,
@@ -34,7 +34,7 @@ fn complete_marks(
     Ok(complete)
 }
 
-/// The next sparse level where these faces are selected. Each face is one step.
+/// Returns the next sparse level for these selected faces. Each new face is one step.
 pub(crate) fn next_level<L: Ledger>(
     alloc: Global,
     sparse: &SparseLevel,

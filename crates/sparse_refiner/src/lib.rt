@@ -1,6 +1,7 @@
-//! The next sparse level of a sparse level, made from its tables without a map and without a scan.
+//! Makes the next sparse level: the child faces around the faces that a rule selects.
 //!
-//! Source: OpenSubdiv's Vtr layer for sparse refinement; which faces are present is this profile's.
+//! The crate reads the tables of the level, without a map and without a scan. Source: the sparse refinement of OpenSubdiv's
+//! Vtr layer. The choice of the present faces is this library's own.
 #![tactic(auto)]
 
 mod halves;

@@ -10,7 +10,7 @@ use sparse_level::{SparseLevel, count_places, mark_points, put_places};
 use std::alloc::Global;
 use uniform_refiner::RefineFault;
 
-/// Which faces are selected, a mark for each vertex on one of them, and the corners with such a vertex.
+/// The marks of the selected faces, the marks of the vertices on them, and the corners with a marked vertex.
 #[derive(Drop)]
 pub(crate) struct PresentPlaces {
     pub(crate) selected: Vec<bool>,
@@ -18,7 +18,8 @@ pub(crate) struct PresentPlaces {
     pub(crate) places: Vec<FacePlace>,
 }
 
-/// The corners whose child faces are present where these faces are selected, or `TooLarge` where there are more than 2^22.
+/// Returns the corners whose child faces are present, for these selected faces. Reports `TooLarge` where there are more than
+/// 2^22.
 pub(crate) fn find_places(
     alloc: Global,
     sparse: &SparseLevel,

@@ -21,7 +21,7 @@ use std::alloc::Global;
 use std::sync::ledger::Ledger;
 use uniform_refiner::RefineFault;
 
-// The step to the next level of these places and points, where `halves` has the sharpness of the halves of edges.
+// Returns the step to the next level of these places and points; `halves` has the sharpness of the halves of edges.
 fn refine_halved<L: Ledger>(
     alloc: Global,
     sparse: &SparseLevel,
@@ -43,7 +43,7 @@ fn refine_halved<L: Ledger>(
     step_of(alloc, sparse, present, points, next)
 }
 
-// The step to the next level of these places and points.
+// Returns the step to the next level of these places and points.
 fn refine_numbered<L: Ledger>(
     alloc: Global,
     sparse: &SparseLevel,
@@ -65,7 +65,7 @@ fn refine_numbered<L: Ledger>(
     Ok(step)
 }
 
-// The step to the next level of these places.
+// Returns the step to the next level of these places.
 fn refine_present<L: Ledger>(
     alloc: Global,
     sparse: &SparseLevel,
@@ -84,11 +84,12 @@ fn refine_present<L: Ledger>(
     refine_numbered(alloc, sparse, present, &points, steps)
 }
 
-/// The next sparse level: the child faces of all corners whose vertices lie on a face that the rule selects. The rule is asked of
-/// inner faces. Points are numbered as the faces name them first. It is one step for each new face.
+/// Returns the next sparse level: the child face of each corner whose vertex lies on a face that the rule selects. The call
+/// asks the rule only about inner faces. Points are numbered as the faces name them first. Each new face is one step.
 ///
-/// It answers `TooLarge` with the number of new faces where there are more than 2^22, before anything is made, `Chaikin` with the
-/// least vertex on a selected face at which halves of edges overflow, and `Memory` where memory runs out.
+/// Reports `TooLarge` with the number of new faces, before it makes anything, where that is more than 2^22. Reports `Chaikin`
+/// with the least vertex on a selected face, counted from 0, at which halves of edges overflow. Reports `Memory` where memory
+/// runs out.
 pub fn refine_selected<T: FaceTest, F: Fn(&FaceFacts) -> bool, L: Ledger>(
     alloc: Global,
     sparse: &SparseLevel,

@@ -1,4 +1,4 @@
-//! The next sparse level with its tables.
+//! The next sparse level, with its tables.
 
 ghost use Rattle.std.specs.Prelude.{◌≡◌, ◌+◌, ◌<◌, map, IfOk};
 ghost use Rattle.level_topology.specs.Child.{IsChild, child_of};
@@ -11,7 +11,7 @@ use ratio128::Memory;
 use sparse_level::{NumberedPoints, SparseLevel, SparseStep, put_inner, put_numbers, put_origins};
 use std::alloc::Global;
 
-// After how many steps the next level is.
+// Returns the number of steps to the next level.
 fn next_depth(sparse: &SparseLevel) -> u32
     requires { sparse.now.depth < 10 }
     ensures { result ≡ sparse.now.depth + 1 }
@@ -19,7 +19,7 @@ fn next_depth(sparse: &SparseLevel) -> u32
     sparse.depth() + 1
 }
 
-// The next level with where its points and its faces come from.
+// Joins the next level with the origins of its points and faces.
 fn join(
     alloc: Global,
     sparse: &SparseLevel,
@@ -39,7 +39,7 @@ fn join(
     Child::join(alloc, level, next, &origins, &present.places)
 }
 
-/// The step to the next level of these places and points.
+/// Returns the step to the next level of these places and points.
 pub(crate) fn step_of(
     alloc: Global,
     sparse: &SparseLevel,

@@ -34,7 +34,7 @@ pub record IsFine (base : Level) (meeting : Meeting) (k : ℕ) : Type 0 where
 abbrev pub AreFine : Level → Meeting → ℕ → Type 0
 AreFine base meeting depth = (k : ℕ) → k < depth → IsFine base meeting k
 
--- why the level after this one is not made
+-- the reason why the level after this one is not made
 abbrev pub HasCause : Level → Meeting → ℕ → Cause → Type 0
 HasCause base meeting k (cause.TooManyFaces count) = (count ≡ present_faces base meeting (suc k)) × (2 ^ 22 < count)
 HasCause base meeting k (cause.Overflow kind.Chaikin) = (present_faces base meeting (suc k) ≤ 2 ^ 22) × (has_overflow base meeting k ≡ true)
@@ -70,7 +70,7 @@ module _ (channel : Channel) (meeting : Meeting) (track : Track) where
   pub sparse-none : (depth : ℕ) → AreFine channel.base meeting depth → sparse_faults Sharpnesses channel meeting track depth ≡ []
   sparse-none depth are = flat-none (sparse_level_faults Sharpnesses channel meeting track) 0 depth (λ k h. none-there k (are k (omega (arith, h))))
 
-  -- and the first fault of the next level is the first of all
+  -- the first fault of the next level is the first of all
   sparse-first : (k depth : ℕ) (fault : Fault) → k < depth → AreFine channel.base meeting k → first_of (sparse_level_faults Sharpnesses channel meeting track k) ≡ Some fault
       → first_of (sparse_faults Sharpnesses channel meeting track depth) ≡ Some fault
   sparse-first k depth fault within are here =
@@ -113,7 +113,7 @@ module _ (base : Level) (meeting : Meeting) (k depth : ℕ) (within : k < depth)
   refused-first cause.TooManyEntries is = absurd is
   refused-first cause.Memory is = tt
 
--- What a step says of its level is so in the definitions.
+-- The results of a step in the terms of the definitions.
 
 module _ (test : FaceFacts → Bool) (t : SparseTopology) (of : SparseOf test t) where
   counted : length (places_for test t) ≡ present_faces of.base of.meeting (suc t.depth)

@@ -1,4 +1,4 @@
--- What is kept of a walk over sparse levels, whatever is carried along.
+-- The kept levels of a walk over sparse levels, for any data that the walk carries.
 use Rattle.std.proofs.Common.{◌≡◌, ℕ, zero, suc, ◌+◌, ◌<◌, ◌≤◌, Bool, true, false, nat_lt, List, [], ◌∷◌, ◌++◌, length, map, get_or, None, arith, refl, ap, sym, ◌∙◌, subst}
 use Rattle.std.proofs.lemmas.Bool.Decides.{nat_tests}
 use Rattle.std.proofs.lemmas.List.{length-map, get_or-map, get_or_push, get_or_append_left, length_push, same_lists}
@@ -24,9 +24,9 @@ use Rattle.sparse_walk.proofs.ReachedLemmas.{topology_of}
 plus-one : (k : ℕ) → k + 1 ≡ suc k
 plus-one k = omega arith
 
--- What holds of each level, of what is carried there, and of the steps taken by then, is `Holds`.
+-- `Holds` is a claim about each level, its data, and the number of steps by then.
 module _ {C : Type 0} (Holds : ℕ → SparseTopology → C → ℕ → Type 0) (test : FaceFacts → Bool) (base : Level) (depth : ℕ) where
-  -- a level after so many steps is kept as the definitions write it, with what was carried there
+  -- the level after k steps is kept as the definitions write it, with its data
   pub record IsKept (k : ℕ) (level : KeptLevel C) : Type 0 where
     pub sparse : SparseTopology
     pub steps : ℕ
@@ -34,7 +34,7 @@ module _ {C : Type 0} (Holds : ℕ → SparseTopology → C → ℕ → Type 0) 
     pub holds : Holds k sparse level.carried steps
     pub written : level.faces ≡ written_level base (meeting_to test base depth) k
 
-  -- so many levels from 0 on are kept
+  -- the first levels are kept, from 0 on
   pub record AreKept (count : ℕ) (kept : List (KeptLevel C)) : Type 0 where
     pub count_is : length kept ≡ count
     pub each : (k : ℕ) (d : KeptLevel C) → k < count → IsKept k (get_or kept k d)
@@ -56,7 +56,7 @@ module _ {C : Type 0} (Holds : ℕ → SparseTopology → C → ℕ → Type 0) 
           let same : k ≡ count = grind (arith, nat_tests) in
           subst (IsKept k) (sym (get_or_push kept level d k (are.count_is ∙ sym same))) (subst (λ n. IsKept n level) (sym same) is)
 
-  -- they are written as in the definitions
+  -- the kept levels are those of the definitions
   pub all-written : (kept : List (KeptLevel C)) → AreKept (depth + 1) kept → map faces_of kept ≡ written_to base test depth
   all-written kept are =
       let count = length-map kept faces_of in
@@ -81,7 +81,7 @@ module _ {C : Type 0} (Holds : ℕ → SparseTopology → C → ℕ → Type 0) 
   module _ (Follows : Topology → ChildTopology → C → C → ℕ → ℕ → Type 0)
       (follows : (k : ℕ) (from next : Reached Walked C) (old new : ℕ) → k < depth → levels.IsReached test base depth k from.level.sparse → Holds k from.level.sparse from.carried old
       → IsNext topology_of (IsMade test) Follows from next old new → Holds (k + 1) next.level.sparse next.carried new) where
-    -- the level after so many steps, and those before it are kept once the last of these is
+    -- the walk is at the level after k steps; those before it are kept, up to the last, which the next round adds
     pub record IsAt (k : ℕ) (place : Place Walked C (KeptSoFar C)) : Type 0 where
       pub reached : levels.IsReached test base depth k place.reached.level.sparse
       pub holds : Holds k place.reached.level.sparse place.reached.carried place.steps
@@ -111,7 +111,7 @@ module _ {C : Type 0} (Holds : ℕ → SparseTopology → C → ℕ → Type 0) 
           }));
         }
 
-    -- so it is where a walk begins at which nothing is kept
+    -- a walk whose visitor has kept nothing starts at the level after 0 steps
     pub at-start : (start : Place Walked C (KeptSoFar C)) → levels.IsReached test base depth 0 start.reached.level.sparse → Holds 0 start.reached.level.sparse start.reached.carried start.steps
         → start.visitor ≡ kept_so_far [] None → IsAt 0 start
     at-start start reached holds none = record {

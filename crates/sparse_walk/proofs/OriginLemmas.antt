@@ -35,7 +35,7 @@ vertex-number points faces n v h = go (nat_lt n points) (nat_lt (n - points) fac
     go false true e h = absurd (cc)
     go false false e h = absurd (cc)
 
--- and one that comes from an edge stands behind the vertices and the faces
+-- the number of a point that comes from an edge is above those of vertices and faces
 pub record IsAtEdge (points faces n e : ℕ) : Type 0 where
   pub no_vertex : nat_lt n points ≡ false
   pub no_face : nat_lt (n - points) faces ≡ false

@@ -1,4 +1,4 @@
--- What is known after so many steps over sparse levels, whatever is carried along and whoever takes what is left.
+-- The facts of the level after k steps over sparse levels, for any data and any visitor.
 use Rattle.std.proofs.Common.{◌≡◌, ℕ, zero, suc, ◌+◌, ◌<◌, ◌≤◌, Bool, true, false, nat_lt, List, [], ◌∷◌, length, map, arith, refl, ap, sym, ◌∙◌, subst}
 use Rattle.std.specs.List.{filter, range_with_len}
 use Rattle.std.proofs.lemmas.Bool.Decides.{nat_tests}
@@ -42,7 +42,7 @@ marked-from test a (suc n) = go (test a) refl (marked-from test (a + 1) n)
     go true e rest = rw e (ap (λ (ns : List ℕ). a ∷ ns) rest)
     go false e rest = rw e rest
 
--- what is written of a level, when it is known which of its faces are selected
+-- the written form of a level, once its selected faces are known
 here-written : (test : FaceFacts → Bool) (t : SparseTopology) (of : SparseOf test t) (step : SparseChild) → IsRefined test t step
     → written_here (level_of t) (marked step.selected) ≡ written_level of.base of.meeting t.depth
 here-written test t of step refined =
@@ -50,7 +50,7 @@ here-written test t of step refined =
     ∙ ap (written_here (level_of t)) (marked-from (is_selected_in test (level_of t)) 0 (length t.topology.level.polygons))
     ∙ written-refined (kept test t of) (by test t of)
 
--- what is walked, as a level
+-- the level of a state of the walk
 abbrev pub topology_of : Walked → Topology
 topology_of walked = walked.sparse.topology
 
@@ -58,7 +58,7 @@ module _ (test : FaceFacts → Bool) (base : Level) (depth : ℕ) where
   abbrev meeting : Meeting
   meeting = meeting_to test base depth
 
-  -- the level after so many steps, none of which was refused
+  -- the level after k steps, none of which was refused
   pub record IsReached (k : ℕ) (t : SparseTopology) : Type 0 where
     pub deep : t.depth ≡ k
     pub stands : StandsFor test base t
@@ -72,11 +72,11 @@ module _ (test : FaceFacts → Bool) (base : Level) (depth : ℕ) where
     abbrev pub sparse-in : SparseOf test t
     sparse-in = sparse-by test base t is.stands meeting (λ j h. agrees-to test base depth j (omega (arith, h, is.deep, within)))
 
-    -- so many faces are present in the next level
+    -- the number of present faces of the next level
     pub next-counted : length (places_for test t) ≡ present_faces base meeting (suc k)
     next-counted = faces-counted (kept test t sparse-in) (by test t sparse-in) ∙ ap (λ n. present_faces base meeting (suc n)) is.deep
 
-    -- what is written of the level, once the next one is made
+    -- the written form of the level, once the next one is made
     pub level-written : (step : SparseChild) → IsRefined test t step → written_here (level_of t) (marked step.selected) ≡ written_level base meeting k
     level-written step refined = here-written test t sparse-in step refined ∙ ap (written_level base meeting) is.deep
 
@@ -94,12 +94,12 @@ module _ (test : FaceFacts → Bool) (base : Level) (depth : ℕ) where
             let same : k ≡ j = grind (arith, nat_tests) in
             subst (IsFine base meeting) same (subst (IsFine base meeting) is.deep (fine-here test t sparse-in step refined))
 
-    -- where the step refuses the next level, that has the first fault of all
+    -- if the step refuses the next level, its fault is the first of all
     pub fault-here : (cause : Cause) → IsSparseCause test t cause → IsFaultAt Sharpnesses base meeting depth (k + 1) cause
     fault-here cause refused =
         refused-first base meeting k depth within is.fine cause (subst (λ n. HasCause base meeting n cause) is.deep (cause-here test t sparse-in cause refused))
 
-  -- what is written of the last level, of which no face is selected
+  -- the written form of the last level, which has no selected face
   pub last-written : (t : SparseTopology) → IsReached depth t → written_here (level_of t) [] ≡ written_level base meeting depth
   last-written t is =
       written-last (record { base = base; meeting = meeting; sparse = level_of t; over = is.stands.over; is = is.stands.is meeting (λ j h. agrees-to test base depth j (omega (arith, h, is.deep))) })
@@ -111,7 +111,7 @@ module _ (test : FaceFacts → Bool) (base : Level) (depth : ℕ) where
   made-next k from child next old new within is made =
       subst (λ (w : Walked). IsReached (k + 1) w.sparse) (sym made.next_is) (reached-next k from.sparse is within made.step made.refined)
 
-  -- the level after so many rounds
+  -- the level after k rounds
   pub walked-reached : {C V : Type 0} (Follows : Topology → ChildTopology → C → C → ℕ → ℕ → Type 0) (Takes : V → Walked → C → V → Type 0) (start : Place Walked C V) → IsReached 0 start.reached.level.sparse
       → (k : ℕ) (end : Place Walked C V) → k ≤ depth → IsWalked topology_of (IsMade test) Follows Takes start k end → IsReached k end.reached.level.sparse
   walked-reached {C = C} {V = V} Follows Takes start at zero end within is = subst (λ (p : Place Walked C V). IsReached 0 p.reached.level.sparse) (sym is) at

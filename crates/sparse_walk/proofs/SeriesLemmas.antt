@@ -1,4 +1,4 @@
--- What a walk over sparse levels comes to that carries nothing.
+-- The result of a walk over sparse levels without data.
 use Rattle.std.proofs.Common.{◌≡◌, ℕ, zero, suc, ◌+◌, ◌-◌, ◌<◌, ◌≤◌, inl, inr, Bool, List, [], ◌∷◌, ◌++◌, length, map, None, arith, refl, ap, sym, ◌∙◌, subst}
 use Rattle.std.specs.List.{sum_by, range_with_len}
 use Rattle.std.proofs.lemmas.List.FromFn.{map-range_with_len_more}

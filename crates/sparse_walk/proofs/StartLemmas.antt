@@ -25,7 +25,7 @@ module _ (test : feature.FaceFacts → Bool) (base : Topology) (is : IsSparseBas
   same-base : whole_base base.level ≡ level_of (base_of base)
   same-base = ap (λ marks. let s : SparseLevel = record { level = base.level; complete = marks; numbers = range_with_len 0 (length base.level.polygons); inner = replicate (length base.level.polygons) true; depth = 0 } in s) (sym is.complete)
 
-  -- it stands for itself
+  -- the base is a sparse level of itself
   pub stands-base : StandsFor test base.level (base_of base)
   stands-base = record {
     over = first-of-six _ _ _ _ _ _ formed.formed;

@@ -21,14 +21,14 @@ use Rattle.uniform_walk.specs.Step.{cause_of}
 use Rattle.sparse_walk.specs.Step.{AgreesBefore, StandsFor, IsReadyFor, IsSparseCause}
 use Rattle.sparse_walk.proofs.MaskLemmas.{kept, by, can-refine}
 
--- what is known of the one result follows of the other
+-- a claim about one result follows from a claim about the other
 pub as-step : {T : Type 0} (from : Result T RefineFault) (r : Result T Cause) (P : T → Type 0) (Q : RefineFault → Type 0) (P' : T → Type 0) (Q' : Cause → Type 0)
     → MatchResult from (λ next. r ≡ Ok next) (λ fault. r ≡ Err (cause_of fault)) → MatchResult from P Q
     → ((next : T) → P next → P' next) → ((fault : RefineFault) → Q fault → Q' (cause_of fault)) → MatchResult r P' Q'
 as-step (Ok next) r P Q P' Q' is p made refused = subst (λ r. MatchResult r P' Q') (sym is) (made next p)
 as-step (Err fault) r P Q P' Q' is q made refused = subst (λ r. MatchResult r P' Q') (sym is) (refused fault q)
 
--- and what follows where it is made
+-- a weaker claim about the value of a result
 pub where-made : {T : Type 0} (from : Result T RefineFault) (r : Result T Cause) (P : T → Type 0) (Q : RefineFault → Type 0) (P' : T → Type 0)
     → MatchResult from (λ next. r ≡ Ok next) (λ fault. r ≡ Err (cause_of fault)) → MatchResult from P Q → ((next : T) → P next → P' next) → IfOk r P'
 where-made (Ok next) r P Q P' is p made = subst (λ r. IfOk r P') (sym is) (made next p)
@@ -40,7 +40,7 @@ sparse-cause test t (TooLarge count) is = is
 sparse-cause test t (Chaikin v) is = record { few = is.few; v = v; overflows = is.overflows }
 sparse-cause test t Memory is = tt
 
--- the predicate of a test for so many levels agrees with it on them
+-- the predicate of a test agrees with the test on the levels before its depth
 pub agrees-to : (test : feature.FaceFacts → Bool) (base : Level) (depth k : ℕ) → k < depth → Agrees test base (meeting_to test base depth) k
 agrees-to test base depth k within = get_or-map-range_with_len (meeting_of test base) 0 depth k k [] within (omega arith)
 
@@ -58,7 +58,7 @@ module _ (test : feature.FaceFacts → Bool) (base : Level) (t : SparseTopology)
   abbrev pub sparse-here : SparseOf test t
   sparse-here = sparse-by (meeting_to test base (suc t.depth)) (λ k h. agrees-to test base (suc t.depth) k h)
 
-  -- so is the next one
+  -- the next level is a sparse level of the definitions too
   pub stands-next : (step : SparseChild) → IsRefined test t step → StandsFor test base (next_of step)
   stands-next step refined = record {
     over = stands.over;

@@ -1,5 +1,4 @@
--- Why sparse levels do not come to a depth: their first fault.
--- Source: this profile.
+-- The reason why sparse levels do not reach a depth: their first fault. Source: this library.
 use Rattle.std.specs.Prelude.{ℕ, ◌≡◌, Bool, [], Some}
 use Rattle.subdiv_model.specs.Lists.{first_of}
 use Rattle.subdiv_model.specs.Level.{Level}
@@ -14,24 +13,24 @@ use Rattle.level_walk.specs.declared.fault.Cause.{Cause}
 use Rattle.level_walk.specs.declared.fault.Cause.TheVariants.{TooManyFaces, Overflow, TooManyEntries, Memory}
 use Rattle.level_walk.specs.declared.fault.WalkFault.{WalkFault}
 
--- the first fault of the sparse levels to a depth, of those that are asked for, is this one, for each channel of the base and whatever
--- the track is called
+-- this is the first fault of the sparse levels to a depth, of the kinds that count, for each channel of the base; the name of
+-- the track is free
 abbrev pub IsFirstFault : Asked → Level → Meeting → ℕ → (Track → Fault) → Type 0
 IsFirstFault asked base meeting depth fault =
     (channel : Channel) → channel.base ≡ base → (track : Track) → first_of (sparse_faults asked channel meeting track depth) ≡ Some (fault track)
 
--- the level with this number is the first that is not reached, and this is why; memory may run out at any level
+-- this level is the first that is not reached, and this is the cause; memory may run out at any level
 abbrev pub IsFaultAt : Asked → Level → Meeting → ℕ → ℕ → Cause → Type 0
 IsFaultAt asked base meeting depth level (TooManyFaces count) = IsFirstFault asked base meeting depth (λ track. model.TooLarge (model.LevelFaces level count))
 IsFaultAt asked base meeting depth level (Overflow kind) = IsFirstFault asked base meeting depth (λ track. model.Overflow track level (kind_of kind))
 IsFaultAt asked base meeting depth level TooManyEntries = IsFirstFault asked base meeting depth (λ track. model.TooLarge (model.Entries level))
 IsFaultAt asked base meeting depth level Memory = Unit {0}
 
--- why the sparse levels by a test do not come to a depth
+-- the reason why the sparse levels by a test do not reach a depth
 abbrev pub IsSparseFault : Asked → Level → (FaceFacts → Bool) → ℕ → WalkFault → Type 0
 IsSparseFault asked base test depth fault = IsFaultAt asked base (meeting_to test base depth) depth fault.level fault.cause
 
--- they come to it
+-- the sparse levels by a test reach the depth
 abbrev pub HasNoSparseFault : Level → (FaceFacts → Bool) → ℕ → Type 0
 HasNoSparseFault base test depth =
     (channel : Channel) → channel.base ≡ base → (track : Track) → sparse_faults Sharpnesses channel (meeting_to test base depth) track depth ≡ []

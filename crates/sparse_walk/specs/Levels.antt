@@ -1,4 +1,4 @@
--- The sparse levels to a depth, as they are written.
+-- The sparse levels to a depth, in the form in which they are written.
 use Rattle.std.specs.Prelude.{ℕ, ◌+◌, ◌≤◌, Bool, List, map}
 use Rattle.std.specs.List.{sum_by, range_with_len}
 use Rattle.subdiv_model.specs.Level.{Level}
@@ -8,7 +8,7 @@ use Rattle.subdiv_model.specs.SparseFaults.{present_faces}
 use Rattle.subdiv_model.specs.SparseText.{WrittenLevel, written_level}
 use Rattle.sparse_walk.specs.declared.kept.KeptLevel.{KeptLevel}
 
--- what is written of a level that is kept
+-- the written form of a kept level
 abbrev pub faces_of : {C : Type 0} → KeptLevel C → WrittenLevel
 faces_of level = level.faces
 
@@ -16,11 +16,11 @@ faces_of level = level.faces
 abbrev pub written_to : Level → (FaceFacts → Bool) → ℕ → List WrittenLevel
 written_to base test depth = map (written_level base (meeting_to test base depth)) (range_with_len 0 (depth + 1))
 
--- how many faces are present in the levels from 1 to a depth
+-- the number of faces of the sparse levels from 1 to a depth together
 abbrev pub present_to : Level → (FaceFacts → Bool) → ℕ → ℕ
 present_to base test depth = sum_by (present_faces base (meeting_to test base depth)) (range_with_len 1 depth)
 
--- at most one step is taken for each of these faces
+-- the walk takes at most one step for each of these faces
 pub record AreSparseSteps (base : Level) (test : FaceFacts → Bool) (depth old new : ℕ) : Type 0 where
   pub most : new ≤ old + present_to base test depth
   pub later : old ≤ new

@@ -29,15 +29,15 @@ pub record StandsFor (test : feature.FaceFacts → Bool) (base : Level) (t : Spa
   pub boundary : HasSharpBoundary base
   pub is : (meeting : Meeting) → AgreesBefore test base meeting t.depth → IsSparse base meeting (level_of t)
 
--- A level after which so many can be made: it is a sparse level of some base, and none of them is deeper than 10. The rule can be asked
--- of its faces.
+-- This many levels can be made after the level: it is a sparse level of some base, and none of them is deeper than 10. The
+-- rule accepts its faces.
 pub record IsReadyFor {F : Type 0} (call : Shared F (Bor FaceFacts × Unit {0}) Bool) (select : F) (test : feature.FaceFacts → Bool) (t : SparseTopology) (left : ℕ) : Type 0 where
   pub answers : AnswersTest call select test
   pub deep : t.depth + left ≤ 10
   pub base : Level
   pub stands : StandsFor test base t
 
--- at most one step is taken for each face that is present in the next level
+-- the step takes at most one count for each present face of the next level
 pub record ArePresentSteps (test : feature.FaceFacts → Bool) (t : SparseTopology) (old new : ℕ) : Type 0 where
   pub most : new ≤ old + length (places_for test t)
   pub later : old ≤ new
@@ -50,13 +50,13 @@ pub record IsMade (test : feature.FaceFacts → Bool) (parent : Walked) (child :
   pub next_is : next ≡ walked_after step
   pub steps : ArePresentSteps test parent.sparse old new
 
--- few enough faces are present in the next level, and at some vertex on a selected face halves overflow
+-- the next level is within the bound of faces, and at some vertex on a selected face halves overflow
 pub record Overflows (test : feature.FaceFacts → Bool) (t : SparseTopology) : Type 0 where
   pub few : length (places_for test t) ≤ 2 ^ 22
   pub v : ℕ
   pub overflows : OverflowsOn t.topology.level (chosen test t) v
 
--- so many faces are present in the next level and that is too many, or halves overflow; memory may run out at any level
+-- the next level has this many faces, above the bound, or halves overflow; memory may run out at any level
 abbrev pub IsSparseCause : (feature.FaceFacts → Bool) → SparseTopology → Cause → Type 0
 IsSparseCause test t (cause.TooManyFaces count) = (count ≡ length (places_for test t)) × (2 ^ 22 < count)
 IsSparseCause test t (cause.Overflow kind.Chaikin) = Overflows test t
@@ -66,7 +66,7 @@ IsSparseCause test t (cause.Overflow kind.Value) = ⊥
 IsSparseCause test t cause.TooManyEntries = ⊥
 IsSparseCause test t cause.Memory = Unit {0}
 
--- why there is no next level
+-- the reason why there is no next level
 pub record IsRefused (test : feature.FaceFacts → Bool) (parent : Walked) (cause : Cause) (old new : ℕ) : Type 0 where
   pub is : IsSparseCause test parent.sparse cause
   pub steps : ArePresentSteps test parent.sparse old new

@@ -1,8 +1,8 @@
--- What is walked, as contracts see it.
+-- The state of a walk over sparse levels in the terms of contracts.
 use Rattle.std.specs.Prelude.{Bool, List}
 use Rattle.sparse_level.specs.View.{SparseTopology, SparseChild, next_of}
 
--- a sparse level, and which faces of the level before are selected; no level is before level 0
+-- a sparse level, and the marks of the selected faces of the level before; level 0 has none before it
 pub record Walked : Type 0 where
   pub sparse : SparseTopology
   pub before : List Bool

@@ -1,4 +1,4 @@
-//! What is kept of the levels of a walk.
+//! The levels of a walk that a visitor keeps.
 
 ghost use Rattle.std.specs.Prelude.{◌≡◌, ◌≤◌, [], ◌∷◌, ◌++◌, Some, None, IfOk};
 ghost use Rattle.sparse_walk.specs.Kept.{kept_so_far, kept_of, last_kept, kept_to};
@@ -11,16 +11,18 @@ use sparse_level::SparseLevel;
 use std::alloc::Global;
 use std::marker::Model;
 
-/// What is kept of a level: its faces as they are written, and what was carried there.
+/// A kept level: its faces in the form in which they are written, and its data.
 #[derive(Drop)]
 pub struct KeptLevel<C> {
+    /// The faces.
     pub faces: SparseFaces,
+    /// The data at the level.
     pub carried: C,
 }
 
-/// A visitor that keeps each level as it is written, with what was carried there.
+/// A visitor that keeps each level in the form in which it is written, with its data.
 ///
-/// Which faces of a level are selected is known only with the next one. So it keeps the level that was left last whole until then.
+/// Only the next level shows which faces of a level are selected. Until then the visitor keeps the last level whole.
 #[derive(Drop)]
 pub struct Keeping<C> {
     alloc: Global,
@@ -36,7 +38,7 @@ impl<C> Model for Keeping<C> {
     ghost view = { λ k. kept_so_far k.levels.items k.last };
 }
 
-// Puts what is kept of a level after others, where these of its faces are selected.
+// Adds a level with these selected faces.
 fn put_level<C: Drop>(
     alloc: Global,
     levels: &mut Vec<KeptLevel<C>>,
@@ -51,7 +53,7 @@ fn put_level<C: Drop>(
     Ok(())
 }
 
-// The same of the level that was left last, if there is one.
+// Adds the level that was left last, if there is one.
 fn put_last<C: Drop>(
     alloc: Global,
     levels: &mut Vec<KeptLevel<C>>,
@@ -67,9 +69,9 @@ fn put_last<C: Drop>(
 }
 
 impl<C: Drop> Keeping<C> {
-    /// Nothing is kept yet, and there is room for level 0 and for so many levels after it.
+    /// Returns a visitor that has kept nothing, with memory for level 0 and for `depth` levels after it.
     ///
-    /// It answers `Memory` where memory runs out.
+    /// Reports `Memory` where memory runs out.
     pub fn with_room(alloc: Global, depth: u32) -> Result<Keeping<C>, Memory>
         requires { depth ≤ 10 }
         ensures { IfOk result (λ keeping. keeping ≡ kept_so_far [] None) }
@@ -82,9 +84,9 @@ impl<C: Drop> Keeping<C> {
         })
     }
 
-    /// All levels, of which the last is this one. None of its faces is selected.
+    /// Returns all levels; the last one is `end`, and none of its faces is selected.
     ///
-    /// It answers `Memory` where memory runs out, and all that was kept is dropped then.
+    /// Reports `Memory` where memory runs out, and drops all kept levels.
     pub fn into_levels(self, end: WalkedSparse, carried: C) -> Result<Vec<KeptLevel<C>>, Memory>
         ensures { IfOk result (λ levels. levels.items ≡ kept_to self end carried) }
     {

@@ -1,5 +1,7 @@
-//! The sparse step of a walk: each level is what is present of the next one, where a rule selects faces. And all sparse levels to a
-//! depth, as they are written.
+//! Makes the sparse levels of a walk: the present part of each next level, around the faces that a rule selects.
+//!
+//! `Sparse` is the step. `sparse_levels` returns all sparse levels to a depth in the form in which the program writes them.
+//! Its specifications connect the faults of a walk with the first fault in the definitions.
 #![tactic(auto)]
 
 mod kept;

@@ -1,4 +1,4 @@
-//! What is written of all sparse levels to a depth.
+//! All sparse levels to a depth.
 
 ghost use Rattle.std.specs.Prelude.{◌≡◌, ◌≤◌, map, IfOk, MatchResult, OnOk};
 ghost use Rattle.subdiv_model.specs.Channel.{Sharpnesses};
@@ -18,7 +18,7 @@ use sparse_faces::SparseFaces;
 use std::alloc::Global;
 use std::sync::ledger::Ledger;
 
-// What is written of each level, without what was carried there.
+// Returns the faces of each level, without the data.
 fn faces_alone(alloc: Global, levels: Vec<KeptLevel<()>>) -> Result<Vec<SparseFaces>, Memory>
     ensures { IfOk result (λ faces. faces.items ≡ map faces_of levels.items) }
 {
@@ -29,11 +29,12 @@ fn faces_alone(alloc: Global, levels: Vec<KeptLevel<()>>) -> Result<Vec<SparseFa
     Ok(faces)
 }
 
-/// The sparse levels of a level to a depth, as they are written: level 0 whole, and each further one of the children around the faces
-/// that the rule selects. It is one step for each face that is present in the levels after the first.
+/// Returns the sparse levels from 0 to `depth`. Level 0 is whole; each further level has the child faces around the faces
+/// that the rule selects. Each face of the levels after level 0 is one step.
 ///
-/// A fault is that of the first level that is not reached, from 1: `TooManyFaces` with the number of its present faces where there are
-/// more than 2^22, `Overflow` of the kind `Chaikin` where the halves of edges overflow, and `Memory` where memory runs out.
+/// Reports the fault of the first level that is not reached, counted from 1. `TooManyFaces` has the number of its present
+/// faces, which is above 2^22. `Overflow` has the kind `Chaikin`: halves of edges overflow. `Memory` comes where memory runs
+/// out, with the number 0 if that is outside of the walk.
 pub fn sparse_levels<T: FaceTest, F: Fn(&FaceFacts) -> bool, L: Ledger>(
     alloc: Global,
     base: Level,

@@ -13,7 +13,7 @@ use sparse_refiner::{RefineFault, refine_selected};
 use std::alloc::Global;
 use std::sync::ledger::Ledger;
 
-// A fault of a refinement as the cause of a walk.
+// Returns the cause of a walk for a fault of a refinement.
 fn cause_of_fault(fault: RefineFault) -> Cause
     ensures { result ≡ cause_of fault }
 {
@@ -24,7 +24,7 @@ fn cause_of_fault(fault: RefineFault) -> Cause
     }
 }
 
-// What is made, or its fault as the cause of a walk.
+// Returns the result, with its fault as the cause of a walk.
 fn made<T>(made: Result<T, RefineFault>) -> Result<T, Cause>
     ensures { MatchResult made (λ next. result ≡ Ok next) (λ fault. result ≡ Err (cause_of fault)) }
 {
@@ -34,10 +34,14 @@ fn made<T>(made: Result<T, RefineFault>) -> Result<T, Cause>
     }
 }
 
-/// Each level is what is present of the next one: the child faces at the vertices of the faces that a rule selects. It is one step
-/// for each face that is present there.
+/// The step to the present part of the next level: the child faces at the vertices of the faces that a rule selects. Each
+/// present face is one step of the counter.
+///
+/// Reports `TooManyFaces` with the number of present faces where that is above 2^22. Reports `Overflow` of the kind `Chaikin`
+/// where halves of edges overflow, and `Memory` where memory runs out.
 #[derive(Drop)]
 pub struct Sparse<'a, T: FaceTest, F: Fn(&FaceFacts) -> bool> {
+    /// The rule that selects faces.
     pub rule: &'a SelectRule<T, F>,
 }
 

@@ -1,4 +1,4 @@
-//! What is walked.
+//! The state of a walk over sparse levels.
 
 ghost use Rattle.std.specs.Prelude.{◌≡◌, ℕ, ◌<◌, true, false, [], get_or, IfOk};
 ghost use Rattle.sparse_level.specs.View.{base_of};
@@ -10,7 +10,7 @@ use sparse_level::{SparseLevel, SparseStep};
 use std::alloc::Global;
 use std::marker::Model;
 
-/// A sparse level, and which faces of the level before are selected: a mark for each of them. Before level 0 there is none.
+/// A sparse level, and a mark for each face of the level before: whether it is selected. Level 0 has no such marks.
 #[derive(Drop)]
 pub struct WalkedSparse {
     sparse: SparseLevel,
@@ -26,9 +26,9 @@ impl Model for WalkedSparse {
 }
 
 impl WalkedSparse {
-    /// Level 0, which is the whole level. Each vertex of the level is complete.
+    /// Returns level 0, which is the whole level. Each vertex of the level must be complete.
     ///
-    /// It answers `Memory` where memory runs out, and the level is dropped then.
+    /// Reports `Memory` where memory runs out, and drops the level.
     pub fn base(alloc: Global, level: Level) -> Result<WalkedSparse, Memory>
         requires { (v : ℕ) → v < level.level.point_count → get_or level.complete v false ≡ true }
         ensures { IfOk result (λ start. start ≡ walked (base_of level) []) }
@@ -40,7 +40,7 @@ impl WalkedSparse {
         })
     }
 
-    /// The level that a step made.
+    /// Returns the level that a step made.
     pub fn after(step: SparseStep) -> WalkedSparse
         ensures { result ≡ walked_after step }
     {
@@ -48,21 +48,21 @@ impl WalkedSparse {
         WalkedSparse { sparse, before }
     }
 
-    /// The level.
+    /// Returns the sparse level.
     pub fn sparse(&self) -> &SparseLevel
         ensures { result.now ≡ self.now.sparse }
     {
         &self.sparse
     }
 
-    /// The marks of the faces of the level before.
+    /// Returns the marks of the faces of the level before.
     pub fn before(&self) -> &[bool]
         ensures { result.now ≡ self.now.before }
     {
         &self.before
     }
 
-    /// The level, and the marks of the faces of the level before.
+    /// Returns the sparse level, and the marks of the faces of the level before.
     pub fn into_parts(self) -> (SparseLevel, Vec<bool>)
         ensures sparse { result.0 ≡ self.sparse }
         ensures before { result.1.items ≡ self.before }

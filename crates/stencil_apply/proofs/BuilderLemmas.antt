@@ -1,4 +1,4 @@
--- A row more, and room for it.
+-- One more row, and the memory for it.
 use Rattle.std.proofs.Common.{◌≡◌, ℕ, suc, ◌+◌, ◌-◌, ◌^◌, ◌<◌, ◌≤◌, max, List, [], ◌∷◌, ◌++◌, length, map, get_or, arith, refl, ap, sym, ◌∙◌, length-append}
 use Rattle.std.specs.List.{zip, fold, All}
 use Rattle.std.proofs.lemmas.Bool.Decides.{nat_tests}
@@ -66,11 +66,11 @@ width-enough old new number h e = rw e (fits old number h)
     fits width.Narrow number h = grind (arith, nat_tests)
     fits width.Wide number h = omega (arith, h)
 
--- arrays that hold what they held are those of the same table
+-- arrays with the same items are those of the same table
 pub table-grown : (old new : Arrays) → IsGrown old new → table_of new ≡ table_of old
 table-grown old new g = rw (g.controls, g.ends, g.denominators, g.indices, g.numerators) refl
 
--- they are tied
+-- arrays with the same items belong together if the old ones do
 pub AreTied-grown : (old new : Arrays) → IsGrown old new → AreTied old → AreTied new
 AreTied-grown old new g is =
     let same = table-grown old new g in
@@ -82,7 +82,7 @@ AreTied-grown old new g is =
       greatest = g.greatest ∙ is.greatest ∙ sym (ap greatest_of same);
     }
 
--- they have the room that they had
+-- arrays with the same items have the memory that was reserved before
 pub HaveRoom-grown : (old new : Arrays) (rows entries : ℕ) → IsGrown old new → HaveRoom old rows entries → HaveRoom new rows entries
 HaveRoom-grown old new rows entries g have = record {
   tied = AreTied-grown old new g have.tied;
@@ -92,7 +92,7 @@ HaveRoom-grown old new rows entries g have = record {
   numerator_room = omega (arith, ap length g.numerators, have.numerator_room, g.capacity.numerators);
 }
 
--- where there is room for a row and its entries, the arrays have the capacity
+-- the arrays have the capacity for a row that was reserved with its entries
 pub HaveSpace-from_room : (arrays : Arrays) (rows entries n : ℕ) → HaveRoom arrays rows entries → 0 < rows → n ≤ entries → HaveSpace arrays n
 HaveSpace-from_room arrays rows entries n have some short = record {
   ends = omega (arith, have.end_room);
@@ -136,7 +136,7 @@ module _ (old new : Arrays) (row : Row) (pushed : IsPushed old new row) (is : Ar
       rw (pushed.controls, pushed.ends, pushed.denominators, shares-pushed, end-pushed)
       (ap (made_table old.controls) (rows_from-push 0 old.ends.items old.denominators.items row.den (shares_in old) row.shares (ascend-shares old is) is.denominators))
 
-  -- they are tied
+  -- arrays with a new row belong together
   pub AreTied-pushed : IsRow (table_of old).controls row → length (table_of old).rows < 2 ^ 27 → entries_of (table_of old).rows + length row.shares ≤ 2 ^ 27 → AreTied new
   AreTied-pushed good few short = record {
     table = rw table-pushed (IsTable-with_row row (table_of old) is.table good few short);
@@ -146,7 +146,7 @@ module _ (old new : Arrays) (row : Row) (pushed : IsPushed old new row) (is : Ar
     greatest = pushed.greatest ∙ ap (λ g. max g row.den) is.greatest ∙ sym (ap greatest_of table-pushed ∙ greatest-with_row row (table_of old));
   }
 
-  -- one row less, and its entries less, have room
+  -- after a row, the arrays have memory for one row less, and its entries less
   pub HaveRoom-pushed : (rows entries : ℕ) → HaveRoom old rows entries → HaveSpace old (length row.shares) → AreTied new → HaveRoom new (rows - 1) (entries - length row.shares)
   HaveRoom-pushed rows entries have space tied = record {
     tied = tied;
@@ -156,7 +156,7 @@ module _ (old new : Arrays) (row : Row) (pushed : IsPushed old new row) (is : Ar
     numerator_room = omega (arith, ap length pushed.numerators, have.numerator_room, space.numerators, pushed.capacity.numerators, length-append old.numerators.items (map (λ (share : Share). share.1) row.shares), length-map row.shares (λ (share : Share). share.1));
   }
 
--- room was made, and then a row was pushed
+-- memory was reserved, and then a row was added
 module _ (old grown : Arrays) (g : IsGrown old grown) (table : Table) (same : table_of old ≡ table) (rows entries : ℕ) (have : HaveRoom old rows entries) (n : ℕ) (few : length table.rows < 2 ^ 27) (short : entries_of table.rows + n ≤ 2 ^ 27) where
   grown-same : table_of grown ≡ table
   grown-same = table-grown old grown g ∙ same
@@ -170,7 +170,7 @@ module _ (old grown : Arrays) (g : IsGrown old grown) (table : Table) (same : ta
   table-added new row pushed =
       table-pushed grown new row pushed (AreTied-grown old grown g have.tied) ∙ ap (with_row row) grown-same
 
-  -- the arrays are tied, and have room for one row less and its entries less
+  -- the arrays belong together, and have memory for one row less and its entries less
   pub room-added : (new : Arrays) (row : Row) → IsPushed grown new row → n ≡ length row.shares → IsRow table.controls row → HaveSpace grown n → HaveRoom new (rows - 1) (entries - n)
   room-added new row pushed e good space =
       let tied = AreTied-grown old grown g have.tied in

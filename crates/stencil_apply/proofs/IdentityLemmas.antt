@@ -80,7 +80,7 @@ none-after v k (share ∷ shares) after h =
     let rest = none-after v k shares after.1 h in
     grind (arith, nat_tests)
 
--- a control stands in the row once
+-- a row has a control at most once
 pub amount-once : (k : ℕ) (shares : List Share) → IsStrictlyIncreasing (map (λ share. share.0) shares) → amount shares k ≡ numerator_of shares k
 amount-once k [] up = refl
 amount-once k (share ∷ shares) up =

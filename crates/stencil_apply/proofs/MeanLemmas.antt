@@ -12,7 +12,7 @@ use Rattle.stencil_apply.specs.Means.{moved}
 use Rattle.stencil_apply.proofs.ArrayLemmas.{cons_both}
 use Rattle.ratio128.proofs.AmountLemmas.{length-plus_times}
 
--- what is true of each is true of the first, and of each after it
+-- a claim about each item holds for the first, and for each after it
 pub all-first : {X : Type 0} (P : X → Type 0) (x : X) (xs : List X) → All P (x ∷ xs) → P x
 all-first P x xs all = all 0 x (omega arith)
 

@@ -47,6 +47,6 @@ module _ {P : Type 0} (numbers : P → List ℤ) (sums : ℕ → P → List ℤ)
           subst (λ n. numbers (get_or (slice_set out i value) n d) ≡ sums n (get_or start n d)) (sym same)
           (ap numbers (get_or-set_same out i value d inside) ∙ is ∙ ap (sums i) (get_or_default out i place d inside ∙ rest i d (omega arith)))
 
-  -- and the others are as they were
+  -- the other places are unchanged
   pub rest-next : (k : ℕ) (d : P) → i + 1 ≤ k → get_or (slice_set out i value) k d ≡ get_or start k d
   rest-next k d above = get_or-set_other out i k value d (λ e. omega (arith, above, e)) ∙ rest k d (omega (arith, above))

@@ -14,7 +14,7 @@ pub zip-maps : (shares : List Share) → zip (map (λ share. share.0) shares) (m
 zip-maps [] = refl
 zip-maps (share ∷ shares) = ap (λ ps. share ∷ ps) (zip-maps shares)
 
--- and so are lists that are these
+-- lists that equal the control points and the numerators of shares give those shares
 pub zip-row : (indices numerators : List ℕ) (shares : List Share) → indices ≡ map (λ share. share.0) shares → numerators ≡ map (λ share. share.1) shares → zip indices numerators ≡ shares
 zip-row indices numerators shares e f = rw (e, f) (zip-maps shares)
 

@@ -42,7 +42,7 @@ module _ {N X : Type 0} (value : N → ℕ) (numbers : X → List ℤ) (bound : 
   abbrev weight : ℕ
   weight = get_or (map value numerators) i 0
 
-  -- how far the sums can be from 0 for each 1 of the numerators
+  -- the greatest distance of the sums from 0 for each 1 of the numerators
   abbrev most : ℕ
   most = bound / total_of shares
 
@@ -82,7 +82,7 @@ module _ {N X : Type 0} (value : N → ℕ) (numbers : X → List ℤ) (bound : 
     pub weight-short : w ≤ bound
     weight-short = omega (arith, more-le, fits.short, weight-is)
 
-    -- it is a number of 128 bits with a sign
+    -- the numerator fits 128 bits with a sign
     pub weight-fits : bound < 2 ^ 127 → FitsSigned w128 (pos w)
     weight-fits small = record { sfits = omega (arith, weight-short, small) }
 
@@ -111,7 +111,7 @@ module _ {N X : Type 0} (value : N → ℕ) (numbers : X → List ℤ) (bound : 
       can_add-narrow short within =
           CanAddNarrow-within (total_of (take i shares) * most) (w) most xs (numbers control) within room-at (omega (arith, room-for, short))
 
-      -- where numbers of 128 bits are added, the weight is one of them
+      -- if 128-bit numbers are added, the weight is one of them
       pub added-signed : bound < 2 ^ 127 → (after : List ℤ) → after ≡ plus_times (to_z w128 w) xs (numbers control) → after ≡ plus_times (pos w) xs (numbers control)
       added-signed small after added = added ∙ ap (λ z. plus_times z xs (numbers control)) (weight-signed small)
 
@@ -125,7 +125,7 @@ module _ {N X : Type 0} (value : N → ℕ) (numbers : X → List ℤ) (bound : 
             rw (added, more, ← weight-is)
             (IsWithin-more _ _ _ (omega arith) (IsWithin-plus_times (total_of (take i shares) * most) w most xs (numbers control) within room-at))
 
-        -- they are the sums of one entry more
+        -- the sums with one more entry
         pub sums-more : (start : List ℤ) → xs ≡ sum_of_shares start (map numbers controls) (take i shares) → after ≡ sum_of_shares start (map numbers controls) (take (i + 1) shares)
         sums-more start e =
             rw (added, weight-is)

@@ -27,7 +27,7 @@ module _ (arrays : Arrays) (is : AreTied arrays) where
   pub entries_are : length arrays.indices.items ≡ entries_of (table_of arrays).rows
   entries_are = sym (entries-whole arrays.ends.items arrays.denominators.items (shares_in arrays) ascend-shares is.denominators ∙ length-shares)
 
-  -- there are at most 2^27 of either
+  -- there are at most 2^27 rows and 2^27 entries
   pub rows_few : length arrays.ends.items ≤ 2 ^ 27
   rows_few = omega (arith, is.table.rows_few, rows_are)
 
@@ -48,7 +48,7 @@ module _ (arrays : Arrays) (is : AreTied arrays) where
   pub den_at : (row n : ℕ) → row < length (table_of arrays).rows → get_or arrays.denominators.items row n ≡ (row_at (table_of arrays) row).den
   den_at row n h = sym (ap (λ (r : Row). r.den) (row_is row n h))
 
-  -- and those of all rows
+  -- the denominators of all rows
   pub dens_are : arrays.denominators.items ≡ map (λ (r : Row). r.den) (table_of arrays).rows
   dens_are = sym (dens-rows_from 0 arrays.ends.items arrays.denominators.items (shares_in arrays) is.denominators)
 

@@ -1,11 +1,11 @@
--- The flat arrays of a table, seen as its rows.
+-- The flat arrays of a table, as its rows.
 use Rattle.std.specs.Prelude.{ℕ, ◌≡◌, ◌≤◌, List, [], ◌∷◌, length, map, slice_range}
 use Rattle.std.specs.List.{zip}
 use Rattle.stencil_apply.specs.Table.{Share, Row, Table, IsTable, greatest_of}
 use Rattle.stencil_apply.specs.declared.arrays.Arrays.{Arrays}
 use Rattle.stencil_apply.specs.declared.entry.Entry.{Entry}
 
--- the rows from a place of the shares on: each ends where the next begins
+-- the rows from a place of the entries on; each ends where the next begins
 abbrev pub rows_from : ℕ → List ℕ → List ℕ → List Share → List Row
 rows_from from [] dens shares = []
 rows_from from (end ∷ ends) [] shares = []
@@ -23,7 +23,7 @@ shares_in arrays = zip arrays.indices.items arrays.numerators.items
 abbrev pub table_of : Arrays → Table
 table_of arrays = record { controls = arrays.controls; rows = rows_from 0 arrays.ends.items arrays.denominators.items (shares_in arrays) }
 
--- the arrays fit together, and are those of a table
+-- the arrays belong together, and are those of a table
 pub record AreTied (arrays : Arrays) : Type 0 where
   pub table : IsTable (table_of arrays)
   pub ascend : Ascend 0 arrays.ends.items (length arrays.indices.items)

@@ -1,4 +1,4 @@
--- A table that is being put together, and the room that it has for more.
+-- A table under construction, and the memory that it has reserved.
 use Rattle.std.specs.Prelude.{ℕ, ◌≡◌, ◌+◌, ◌≤◌, [], ◌∷◌, ◌++◌, length, map, max}
 use Rattle.std.specs.Vec.{vec_capacity}
 use Rattle.stencil_apply.specs.Table.{Row, Table}
@@ -7,7 +7,7 @@ use Rattle.stencil_apply.specs.declared.arrays.Arrays.{Arrays}
 use Rattle.number_width.specs.declared.width.Width.{Width}
 use Rattle.number_width.specs.declared.width.Width.TheVariants as width
 
--- so many rows more, and so many entries more in all, with numerators of the width take no memory
+-- a table; this many more rows, and this many more entries in all, with numerators of the width take no memory
 pub record Built : Type 0 where
   pub table : Table
   pub width : Width
@@ -22,11 +22,11 @@ wider width.Wide other = width.Wide
 abbrev pub no_rows : ℕ → Table
 no_rows controls = record { controls = controls; rows = [] }
 
--- the table with a row more
+-- the table with one more row
 abbrev pub with_row : Row → Table → Table
 with_row row table = record { controls = table.controls; rows = table.rows ++ row ∷ [] }
 
--- the arrays are tied, and have capacity for so many rows and entries more
+-- the arrays belong together, and have memory for this many more rows and entries
 pub record HaveRoom (arrays : Arrays) (rows entries : ℕ) : Type 0 where
   pub tied : AreTied arrays
   pub end_room : length arrays.ends.items + rows ≤ vec_capacity arrays.ends
@@ -34,7 +34,7 @@ pub record HaveRoom (arrays : Arrays) (rows entries : ℕ) : Type 0 where
   pub index_room : length arrays.indices.items + entries ≤ vec_capacity arrays.indices
   pub numerator_room : length arrays.numerators.items + entries ≤ arrays.numerators.capacity
 
--- the arrays have capacity for a row of so many entries
+-- the arrays have memory for a row with this many entries
 pub record HaveSpace (arrays : Arrays) (entries : ℕ) : Type 0 where
   pub ends : length arrays.ends.items + 1 ≤ vec_capacity arrays.ends
   pub denominators : length arrays.denominators.items + 1 ≤ vec_capacity arrays.denominators
@@ -48,7 +48,7 @@ pub record KeepsCapacity (old new : Arrays) : Type 0 where
   pub indices : vec_capacity old.indices ≤ vec_capacity new.indices
   pub numerators : old.numerators.capacity ≤ new.numerators.capacity
 
--- the arrays hold what they held
+-- the arrays have the same items as before
 pub record IsGrown (old new : Arrays) : Type 0 where
   pub controls : new.controls ≡ old.controls
   pub greatest : new.greatest ≡ old.greatest
@@ -58,7 +58,7 @@ pub record IsGrown (old new : Arrays) : Type 0 where
   pub numerators : new.numerators.items ≡ old.numerators.items
   pub capacity : KeepsCapacity old new
 
--- the arrays hold a row more
+-- the arrays have one more row
 pub record IsPushed (old new : Arrays) (row : Row) : Type 0 where
   pub controls : new.controls ≡ old.controls
   pub greatest : new.greatest ≡ max old.greatest row.den

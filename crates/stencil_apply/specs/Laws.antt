@@ -1,10 +1,10 @@
--- What the laws of rows speak of: a row with the controls that it is summed over, and the controls of the identity.
+-- The terms of the laws of rows: a row with the controls of its sum, and the controls of the identity.
 use Rattle.std.specs.Prelude.{◌≡◌, ℕ, ℤ, List, length, map}
 use Rattle.std.specs.List.{All, range_with_len}
 use Rattle.stencil_apply.specs.Table.{Row, IsRow}
 use Rattle.stencil_apply.specs.Means.{unit_numbers}
 
--- a row, the controls that it is over, and the numbers that its sum starts from; each control has as many numbers as these
+-- a row, its controls, and the numbers from which its sum starts; each control has as many numbers as these
 pub record SummedRow : Type 0 where
   pub row : Row
   pub controls : List (List ℤ)
@@ -12,6 +12,6 @@ pub record SummedRow : Type 0 where
   pub is_row : IsRow (length controls) row
   pub as_many : All (λ numbers. length numbers ≡ length start) controls
 
--- the identity of so many controls: each has as many numbers, with 1 at its own place and 0 at the others
+-- the identity of this many controls: each has as many numbers, with 1 at its own place and 0 elsewhere
 abbrev pub identity_of : ℕ → List (List ℤ)
 identity_of count = map (unit_numbers count) (range_with_len 0 count)

@@ -1,4 +1,4 @@
-//! The evaluation of a table of stencils.
+//! The evaluation of a stencil table.
 
 ghost use Rattle.std.specs.Prelude.{◌≡◌, ℕ, ◌+◌, ◌-◌, ◌*◌, ◌<◌, ◌≤◌, length, map, slice_index_or, nat_le};
 ghost use Rattle.std.specs.List.{All, zip};
@@ -14,19 +14,20 @@ use ratio128::limits::NUMBER_BOUND;
 use ratio128::{Primvar, Steps, times_within};
 use std::sync::ledger::Ledger;
 
-/// Whether the greatest denominator times an amount is at most 2^126 - 1, as [`apply_range`] asks of each control.
+/// Returns whether the greatest denominator times `greatest` is at most 2^126 - 1. [`apply_range`] needs this for each amount
+/// in the controls.
 pub fn scale_fits(table: &StencilTable, greatest: u128) -> bool
     ensures { result ≡ nat_le (greatest_of table.now * greatest) number_bound }
 {
     times_within(table.greatest(), greatest, NUMBER_BOUND).is_some()
 }
 
-// The greatest number of 64 bits with a sign.
+// The greatest signed 64-bit number.
 const WORD_BOUND: u128 = (1 << 63) - 1;
 
-/// The width of sums over these controls, for [`sum_at`]. It is [`Width::Narrow`] exactly where the greatest denominator times the
-/// greatest amount in the controls is at most 2^63 - 1. That amount counts as 1 where no control has one above 0. It visits each
-/// control once.
+/// Returns the width of sums over these controls, for [`sum_at`]. It is [`Width::Narrow`] exactly where the greatest
+/// denominator times the greatest amount in the controls is at most 2^63 - 1. The amount counts as 1 if all numbers are 0.
+/// The call visits each control once.
 pub fn sum_width<P: Primvar<L>, L: Ledger>(table: &StencilTable, controls: &[P]) -> Width
     ensures width { result ≡ sum_width_of table.now (map P.numbers controls.now) }
     ensures narrow { result ≡ Narrow → CanSumNarrow table.now (map P.numbers controls.now) }
@@ -41,7 +42,7 @@ pub fn sum_width<P: Primvar<L>, L: Ledger>(table: &StencilTable, controls: &[P])
     }
 }
 
-// The sum of a row in 64 bits, in one step for each entry.
+// Returns the sum of a row in 64 bits. Each entry is one step.
 fn sum_narrow<T: Natural, P: Primvar<L>, L: Ledger>(
     indices: &[u32],
     numerators: &[T],
@@ -63,7 +64,7 @@ fn sum_narrow<T: Natural, P: Primvar<L>, L: Ledger>(
     sum
 }
 
-// The sum of a row in 128 bits, in one step for each entry.
+// Returns the sum of a row in 128 bits. Each entry is one step.
 fn sum_wide<T: Natural, P: Primvar<L>, L: Ledger>(
     indices: &[u32],
     numerators: &[T],
@@ -85,7 +86,7 @@ fn sum_wide<T: Natural, P: Primvar<L>, L: Ledger>(
     sum
 }
 
-// The sum of a row's numerators times its controls, as long as the list that it is to be like, in one step for each entry.
+// Returns the sum of a row's numerators times its controls, as long as `like`. Each entry is one step.
 fn sum_row<T: Natural, P: Primvar<L>, L: Ledger>(
     indices: &[u32],
     numerators: &[T],
@@ -107,12 +108,12 @@ fn sum_row<T: Natural, P: Primvar<L>, L: Ledger>(
     }
 }
 
-/// The sum of a row of a table, as long as the list that it is to be like, in one step for each entry. It is that of the row's
-/// numerators times the numbers of their controls.
+/// Returns the sum of row `row`, counted from 0: its numerators times the numbers of their controls. The sum is as long as
+/// `like`, and each entry is one step. The call takes no memory.
 ///
-/// There is a control for each control point of the table, all lists of one length. The greatest denominator of the table times
-/// each amount in the controls is at most 2^126 - 1, as [`scale_fits`] tells. Where the width is [`Width::Narrow`], that and the
-/// greatest denominator are at most 2^63 - 1, as [`sum_width`] tells. It takes no memory.
+/// There is a control for each control point of the table, all lists of one length. The greatest denominator of the table
+/// times each amount in the controls is at most 2^126 - 1, which [`scale_fits`] tests. For [`Width::Narrow`] that product and
+/// the greatest denominator must be at most 2^63 - 1; [`sum_width`] returns a width that fits.
 pub fn sum_at<P: Primvar<L>, L: Ledger>(
     table: &StencilTable,
     row: u32,
@@ -139,7 +140,7 @@ pub fn sum_at<P: Primvar<L>, L: Ledger>(
     }
 }
 
-// The width of sums for so many rows. It looks at the controls only where there are no more of them than rows.
+// Returns the width of sums for this many rows. It reads the controls only if there are no more of them than rows.
 fn range_width<P: Primvar<L>, L: Ledger>(table: &StencilTable, controls: &[P], rows: usize) -> Width
     ensures { result ≡ Narrow → CanSumNarrow table.now (map P.numbers controls.now) }
 {
@@ -150,12 +151,12 @@ fn range_width<P: Primvar<L>, L: Ledger>(table: &StencilTable, controls: &[P], r
     }
 }
 
-/// Puts the sums of the rows from `from` up to `to` into `out`, in one step for each of their entries. A row's sum is that of
-/// its numerators times the numbers of their controls; over the row's denominator it is the mean of those controls.
+/// Writes the sums of the rows from `from` to `to` - 1, counted from 0, to `out`. A sum is that of the row's numerators times
+/// the numbers of their controls. Over the row's denominator it is the weighted mean of those controls. Each entry of these
+/// rows is one step. The call takes no memory.
 ///
 /// There is a control for each control point of the table and a place for each row of the range, all lists of one length. The
-/// greatest denominator of the table times each amount in the controls is at most 2^126 - 1, as [`scale_fits`] tells. It takes
-/// no memory.
+/// greatest denominator of the table times each amount in the controls is at most 2^126 - 1, which [`scale_fits`] tests.
 pub fn apply_range<P: Primvar<L>, L: Ledger>(
     table: &StencilTable,
     controls: &[P],

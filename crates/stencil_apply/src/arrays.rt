@@ -1,4 +1,4 @@
-//! The rows of a table, packed into flat arrays: 12 or 20 bytes an entry, and 20 a row.
+//! The rows of a table, packed into flat arrays: 12 or 20 bytes an entry, and 20 bytes a row.
 
 ghost use Rattle.std.specs.Prelude.{◌≡◌, ◌<◌, ◌∷◌, length, get_or, slice_range};
 ghost use Rattle.number_width.specs.Numbers.{numbers_in};
@@ -6,7 +6,7 @@ ghost use Rattle.stencil_apply.specs.Arrays.{Ascend};
 
 use number_width::{NumberList, NumberSlice};
 
-// The entries of a row end where those of the next begin.
+// The rows as arrays. The entries of a row end where those of the next begin.
 #[derive(Drop)]
 pub(crate) struct Arrays {
     pub(crate) controls: u32,
@@ -17,7 +17,7 @@ pub(crate) struct Arrays {
     pub(crate) denominators: Vec<u128>,
 }
 
-// Where the entries of a row begin.
+// Returns the start of the entries of a row.
 pub(crate) fn start(ends: &[u32], row: u32) -> usize
     requires { row < length ends.now }
     ensures { result ≡ get_or (0 ∷ ends.now) row 0 }
@@ -29,7 +29,7 @@ pub(crate) fn start(ends: &[u32], row: u32) -> usize
     }
 }
 
-// The part of an array for the entries of a row.
+// Returns the part of an array for the entries of a row.
 pub(crate) fn part<'a, T>(ends: &[u32], items: &'a [T], row: u32) -> &'a [T]
     requires ascend { Ascend 0 ends.now (length items.now) }
     requires inside { row < length ends.now }
@@ -40,7 +40,7 @@ pub(crate) fn part<'a, T>(ends: &[u32], items: &'a [T], row: u32) -> &'a [T]
     &items[from..to]
 }
 
-// The part of a list of numbers for the entries of a row.
+// Returns the part of a list of numbers for the entries of a row.
 pub(crate) fn number_part<'a>(ends: &[u32], numbers: &'a NumberList, row: u32) -> NumberSlice<'a>
     requires ascend { Ascend 0 ends.now (length numbers.now.items) }
     requires inside { row < length ends.now }

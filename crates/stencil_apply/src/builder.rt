@@ -1,4 +1,4 @@
-//! A table that is being put together, row by row.
+//! The construction of a table, row by row.
 
 ghost use Rattle.std.specs.Prelude.{◌≡◌, ◌+◌, ◌-◌, ◌^◌, ◌<◌, ◌≤◌, length, map, IfOk, OnOk, OnErr, IsOk};
 ghost use Rattle.number_width.specs.Numbers.{most_of, width_for};
@@ -16,7 +16,7 @@ use ratio128::Memory;
 use std::alloc::Global;
 use std::marker::Model;
 
-/// A table that takes rows at its end, and how many rows and entries more take no memory.
+/// A table that gets rows at its end. It knows for how many more rows and entries it has memory.
 #[derive(Drop)]
 pub struct TableBuilder {
     alloc: Global,
@@ -36,7 +36,7 @@ impl Model for TableBuilder {
     ghost invariant = { λ b. HaveRoom b.arrays b.room_rows b.room_entries };
 }
 
-// Takes a row of so many entries from the room for rows and for entries.
+// Takes a row with `taken` entries from the reserved rows and entries.
 fn take_room(rows: &mut u32, entries: &mut u64, taken: usize)
     ensures rows { rows.new ≡ rows.old - 1 }
     ensures entries { entries.new ≡ entries.old - taken }
@@ -46,8 +46,8 @@ fn take_room(rows: &mut u32, entries: &mut u64, taken: usize)
 }
 
 impl TableBuilder {
-    /// A table without rows over so many control points, at most 2^27. Its numerators have 64 bits. It takes no memory, and has
-    /// no room.
+    /// Returns a table without rows over `controls` control points, at most 2^27. Its numerators have 64 bits. The call
+    /// reserves no memory.
     pub fn new(alloc: Global, controls: u32) -> TableBuilder
         requires { controls ≤ 2 ^ 27 }
         ensures { result ≡ record { table = no_rows controls; width = width.Narrow; room_rows = 0; room_entries = 0 } }
@@ -67,8 +67,8 @@ impl TableBuilder {
         }
     }
 
-    /// A table without rows over so many control points, with numerators of a width. It has room for so many rows and for so many
-    /// entries in all. Each number is at most 2^27. [`Memory`] comes where there is none for them.
+    /// Returns a table without rows over `controls` control points, with numerators of a width. It reserves memory for `rows`
+    /// rows and `entries` entries in all. Each number is at most 2^27. Reports [`Memory`] where memory runs out.
     pub fn with_room(
         alloc: Global,
         controls: u32,
@@ -96,7 +96,7 @@ impl TableBuilder {
         })
     }
 
-    /// How many rows more, and how many entries more in all, take no memory.
+    /// Returns how many more rows, and how many more entries in all, take no memory.
     pub fn room(&self) -> (u32, u64)
         ensures rows { result.0 ≡ self.now.room_rows }
         ensures entries { result.1 ≡ self.now.room_entries }
@@ -104,12 +104,12 @@ impl TableBuilder {
         (self.room_rows, self.room_entries)
     }
 
-    /// Adds a row at the end, over a denominator from 1 to 2^126 - 1: control points of the table, each once and ascending, with
-    /// numerators above 0 that sum to the denominator. There are fewer than 2^27 rows before, and at most 2^27 entries in all
-    /// with this row. Numerators have 128 bits from the first denominator on that has more than 64.
+    /// Adds a row at the end, over a denominator from 1 to 2^126 - 1. Its control points ascend, each once, counted from 0.
+    /// Its numerators are above 0 and sum to the denominator. The table has fewer than 2^27 rows before, and at most 2^27
+    /// entries with this row. Numerators get 128 bits from the first denominator above 64 bits on.
     ///
-    /// [`Memory`] comes only where there is no room for the row and its entries, or the denominator has more bits than the
-    /// numerators so far. Then all is as it was.
+    /// Reports [`Memory`] only where the row and its entries were not reserved, or the denominator has more bits than the
+    /// numerators so far. The table is then unchanged.
     pub fn add_row(&mut self, denominator: u128, row: &[Entry]) -> Result<(), Memory>
         requires row { IsRow self.old.table.controls (row_of denominator row.now) }
         requires rows { length self.old.table.rows < 2 ^ 27 }
@@ -127,12 +127,13 @@ impl TableBuilder {
         Ok(())
     }
 
-    /// Adds a row at the end, over a denominator from 1 to 2^126 - 1. It takes the control points of the table, each once and
-    /// ascending, and as many numerators above 0 that sum to the denominator. There are fewer than 2^27 rows before, and at most
-    /// 2^27 entries in all with this row. Numerators have 128 bits from the first denominator on that has more than 64.
+    /// Adds a row at the end, over a denominator from 1 to 2^126 - 1, from control points and numerators in two lists. The
+    /// control points ascend, each once, counted from 0. There are as many numerators; they are above 0 and sum to the
+    /// denominator. The table has fewer than 2^27 rows before, and at most 2^27 entries with this row. Numerators get 128
+    /// bits from the first denominator above 64 bits on.
     ///
-    /// [`Memory`] comes only where there is no room for the row and its entries, or the denominator has more bits than the
-    /// numerators so far. Then all is as it was.
+    /// Reports [`Memory`] only where the row and its entries were not reserved, or the denominator has more bits than the
+    /// numerators so far. The table is then unchanged.
     pub fn add_parts<T: Natural>(
         &mut self,
         denominator: u128,
@@ -156,7 +157,7 @@ impl TableBuilder {
         Ok(())
     }
 
-    /// The table of the rows. It takes no memory.
+    /// Returns the table of the rows. The call takes no memory.
     pub fn finish(self) -> StencilTable
         ensures { result ≡ self.table }
     {

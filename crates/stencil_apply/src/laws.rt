@@ -1,4 +1,4 @@
-//! What is true of all tables and rows.
+//! Laws of all tables and rows.
 //!
 //! Each public function here takes nothing, does nothing and returns nothing: its clauses are the laws.
 
@@ -9,22 +9,22 @@ ghost use Rattle.stencil_apply.specs.Table.{Row, Table, IsRow, entries_of, rows_
 ghost use Rattle.stencil_apply.specs.Means.{moved, numerator_of};
 ghost use Rattle.stencil_apply.specs.Laws.{SummedRow, identity_of};
 
-/// Two ranges of rows that meet have as many entries as both together, and all rows have those of the table. So ranges that
-/// cover each row once take as many steps as the table has entries, in whatever order.
+/// Two ranges of rows that meet have as many entries as both together, and all rows have the entries of the table. So ranges
+/// that cover each row once take as many steps as the table has entries, in any order.
 pub fn ranges_cover_the_table()
     ensures together { (table : Table) (from between to : ℕ) → from ≤ between → between ≤ to → entries_of (rows_in table from between) + entries_of (rows_in table between to) ≡ entries_of (rows_in table from to) }
     ensures whole { (table : Table) → entries_of (rows_in table 0 (length table.rows)) ≡ entries_of table.rows }
 {}
 
-/// With each number of each control moved by one whole number, each number of a row's sum moves by the row's denominator times
-/// that number. So its value over the denominator moves as the controls do.
+/// If every control moves by one list of whole numbers, a row's sum moves by the row's denominator times that list. So the
+/// value over the denominator moves as the controls do.
 pub fn rows_are_means()
     ensures { (sum : SummedRow) (by : ℤ) → sum_of_row sum.start (map (moved by) sum.controls) sum.row
         ≡ moved (pos sum.row.den *ℤ by) (sum_of_row sum.start sum.controls sum.row) }
 {}
 
-/// Over controls of as many numbers as there are controls, each with 1 at its own place and 0 at the others, the sum of a row is
-/// its numerators, each at the place of its control, and 0 where a control does not stand in the row.
+/// Over the controls of the identity, the sum of a row has each numerator at the place of its control, and 0 elsewhere. The
+/// control of the identity at a place has 1 there and 0 elsewhere.
 pub fn rows_of_the_identity()
     ensures { (row : Row) (place : List ℤ) → IsRow (length place) row → sum_of_row (zeros place) (identity_of (length place)) row
         ≡ map (λ v. pos (numerator_of row.shares v)) (range_with_len 0 (length place)) }

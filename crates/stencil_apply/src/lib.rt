@@ -1,6 +1,9 @@
-//! Tables of stencils, each row of which says how a point is made of control points, and their evaluation.
+//! Builds and evaluates stencil tables: each row gives one refined point as a weighted mean of control points, with exact
+//! weights.
 //!
-//! Source: OpenSubdiv's Far layer for stencil tables; exact numerators over a denominator for each row are this profile's.
+//! A row has a denominator and, for each control point it depends on, a numerator. Tables grow row by row; the evaluation
+//! takes ranges of rows. Source: the stencil tables of OpenSubdiv's Far layer; exact numerators over a denominator for each
+//! row are this library's own.
 #![tactic(auto)]
 
 mod apply;

@@ -1,4 +1,4 @@
-//! One row more in the arrays of a table.
+//! The addition of a row to the arrays of a table.
 
 ghost use Rattle.std.specs.Prelude.{◌≡◌, ℕ, ◌+◌, ◌^◌, ◌<◌, ◌≤◌, [], ◌∷◌, ◌++◌, length, map, max, OnOk, OnErr, IsOk};
 ghost use Rattle.std.specs.List.{All};
@@ -27,7 +27,7 @@ fn widen_for(numbers: &mut NumberList, alloc: Global, most: u128) -> Result<(), 
     }
 }
 
-// Makes room for a row of so many entries over a denominator.
+// Reserves memory for a row with this many entries over a denominator.
 pub(crate) fn reserve_row(
     arrays: &mut Arrays,
     alloc: Global,
@@ -47,7 +47,7 @@ pub(crate) fn reserve_row(
     widen_for(&mut arrays.numerators, alloc, denominator)
 }
 
-// Adds the entries of a row. There is capacity for them, so this takes no memory.
+// Adds the entries of a row, in reserved memory.
 fn push_entries(indices: &mut Vec<u32>, numerators: &mut NumberList, row: &[Entry])
     requires index_space { length indices.old.items + length row.now ≤ vec_capacity indices.old }
     requires numerator_space { length numerators.old.items + length row.now ≤ numerators.old.capacity }
@@ -64,7 +64,7 @@ fn push_entries(indices: &mut Vec<u32>, numerators: &mut NumberList, row: &[Entr
     }
 }
 
-// Ends a row after its entries. There is capacity for it, so this takes no memory.
+// Ends a row after its entries, in reserved memory.
 fn end_row(arrays: &mut Arrays, denominator: u128)
     requires end_space { length arrays.old.ends.items < vec_capacity arrays.old.ends }
     requires denominator_space { length arrays.old.denominators.items < vec_capacity arrays.old.denominators }
@@ -83,7 +83,7 @@ fn end_row(arrays: &mut Arrays, denominator: u128)
     arrays.greatest = arrays.greatest.max(denominator);
 }
 
-// Adds a row of entries. There is capacity for it, so this takes no memory.
+// Adds a row of entries, in reserved memory.
 pub(crate) fn push_row(arrays: &mut Arrays, denominator: u128, row: &[Entry])
     requires space { HaveSpace arrays.old (length row.now) }
     requires short { length arrays.old.indices.items + length row.now < 2 ^ 32 }
@@ -94,7 +94,7 @@ pub(crate) fn push_row(arrays: &mut Arrays, denominator: u128, row: &[Entry])
     end_row(arrays, denominator);
 }
 
-// Adds a row of control points and their numerators. There is capacity for it, so this takes no memory.
+// Adds a row of control points and their numerators, in reserved memory.
 pub(crate) fn push_parts<T: Natural>(
     arrays: &mut Arrays,
     denominator: u128,

@@ -8,8 +8,9 @@ use crate::arrays::{Arrays, number_part, part};
 use number_width::NumberSlice;
 use std::marker::Model;
 
-/// Rows of whole numerators above 0, each row over a denominator from 1 to 2^126 - 1 that its numerators sum to. A row has each
-/// of its control points once, ascending. There are at most 2^27 control points, 2^27 rows and 2^27 entries in all.
+/// A table of stencils. Each row has a denominator from 1 to 2^126 - 1, and numerators above 0 that sum to it. A row has each
+/// of its control points once, ascending. There are at most 2^27 control points, 2^27 rows and 2^27 entries in all. Rows,
+/// entries and control points are counted from 0.
 #[derive(Drop)]
 pub struct StencilTable {
     pub(crate) arrays: Arrays,
@@ -27,35 +28,35 @@ impl Model for StencilTable {
 }
 
 impl StencilTable {
-    /// What is true of each table. It does nothing.
+    /// States what holds for each table.
     pub fn facts(&self)
         ensures { IsTable self.now }
     {
         let _ = &self.arrays;
     }
 
-    /// How many control points there are.
+    /// Returns the number of control points.
     pub fn controls(&self) -> u32
         ensures { result ≡ self.now.controls }
     {
         self.arrays.controls
     }
 
-    /// How many rows there are.
+    /// Returns the number of rows.
     pub fn rows(&self) -> u32
         ensures { result ≡ length self.now.rows }
     {
         self.arrays.ends.len() as u32
     }
 
-    /// How many entries there are in all rows.
+    /// Returns the number of entries of all rows together.
     pub fn entries(&self) -> u64
         ensures { result ≡ entries_of self.now.rows }
     {
         self.arrays.indices.len() as u64
     }
 
-    /// How many entries a row has.
+    /// Returns the number of entries of a row.
     pub fn row_len(&self, row: u32) -> u32
         requires { row < length self.now.rows }
         ensures { result ≡ length (row_at self.now row).shares }
@@ -63,7 +64,7 @@ impl StencilTable {
         self.row_indices(row).len() as u32
     }
 
-    /// The control point of an entry of a row.
+    /// Returns the control point of an entry of a row.
     pub fn index(&self, row: u32, at: u32) -> u32
         requires row { row < length self.now.rows }
         requires at { at < length (row_at self.now row).shares }
@@ -72,7 +73,7 @@ impl StencilTable {
         self.row_indices(row)[at as usize]
     }
 
-    /// The numerator of an entry of a row.
+    /// Returns the numerator of an entry of a row.
     pub fn numerator(&self, row: u32, at: u32) -> u128
         requires row { row < length self.now.rows }
         requires at { at < length (row_at self.now row).shares }
@@ -81,7 +82,7 @@ impl StencilTable {
         self.row_numerators(row).get(at as usize)
     }
 
-    /// The denominator of a row.
+    /// Returns the denominator of a row.
     pub fn denominator(&self, row: u32) -> u128
         requires { row < length self.now.rows }
         ensures { result ≡ (row_at self.now row).den }
@@ -89,21 +90,21 @@ impl StencilTable {
         self.arrays.denominators[row as usize]
     }
 
-    /// The greatest denominator, and 1 of a table without rows.
+    /// Returns the greatest denominator, or 1 for a table without rows.
     pub fn greatest(&self) -> u128
         ensures { result ≡ greatest_of self.now }
     {
         self.arrays.greatest
     }
 
-    /// The denominators of all rows, in their order.
+    /// Returns the denominators of all rows, in their order.
     pub fn denominators(&self) -> &[u128]
         ensures { result.now ≡ map (λ row. row.den) self.now.rows }
     {
         &self.arrays.denominators
     }
 
-    /// The control points of a row's entries.
+    /// Returns the control points of a row, ascending.
     pub fn row_indices(&self, row: u32) -> &[u32]
         requires { row < length self.now.rows }
         ensures indices { result.now ≡ map (λ share. share.0) (row_at self.now row).shares }
@@ -112,7 +113,7 @@ impl StencilTable {
         part(&self.arrays.ends, &self.arrays.indices, row)
     }
 
-    /// The numerators of a row's entries.
+    /// Returns the numerators of a row, in the order of its control points.
     pub fn row_numerators(&self, row: u32) -> NumberSlice<'_>
         requires { row < length self.now.rows }
         ensures { numbers_in result ≡ map (λ share. share.1) (row_at self.now row).shares }

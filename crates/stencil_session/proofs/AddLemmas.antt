@@ -66,7 +66,7 @@ module _ (column : List Entry) (before : List Point3) (difference : List ℤ) (c
   none-before : amount_in (take at column) entry.0 ≡ 0
   none-before = omega (arith, sum_by_more_le (amount_at entry.0) column at (0, 0) in-column, same-amount entry.0 refl, can.once at (0, 0) in-column)
 
-  -- its numerator is one that can be added
+  -- the numerator of the entry can be added
   module _ (w : ℕ) (weight : w ≡ get_or numerators at 0) where
     weight-is : w ≡ entry.1
     weight-is = weight ∙ numerator-is

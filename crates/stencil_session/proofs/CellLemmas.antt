@@ -109,7 +109,7 @@ count-short controls cells rest all entry counts i are inside e =
 pub cells-few : (table : Table) → IsTable table → length (cells_from 0 table.rows) ≤ 2 ^ 27
 cells-few table is = omega (arith, length-cells 0 table.rows, is.entries_few)
 
--- where all controls of a row were read, all its entries are done
+-- once all controls of a row are read, all its entries are done
 pub row-done : (table : Table) (row : ℕ) (inside : row < length table.rows) (indices : List ℕ) → indices ≡ map (λ share. share.0) (row_at table row).shares → (at : ℕ) → length indices ≤ at → done table row inside at ≡ cells_before table (row + 1)
 row-done table row inside indices named at past =
     done-all table row inside at (omega (arith, past, ap length named, length-map (row_at table row).shares (λ (share : Share). share.0)))
@@ -129,7 +129,7 @@ module _ (table : Table) (is : IsTable table) (row : ℕ) (inside : row < length
     pub in-counts : get_or indices at 0 < length counts
     in-counts = omega (arith, control-is, control-inside, are.long)
 
-    -- its count fits when it is one more
+    -- the count of a control's entries still fits after one more
     count-is : (count : ℕ) → count ≡ get_or counts (get_or indices at 0) count → count ≡ get_or counts (get_or indices at 0) 0
     count-is count read = read ∙ get_or_default counts (get_or indices at 0) count 0 in-counts
 

@@ -97,7 +97,7 @@ zip-cells : (cells : List Cell) → zip (map (λ (c : Cell). c.1) cells) (map (�
 zip-cells [] = refl
 zip-cells (cell ∷ cells) = ap (λ es. (cell.1, cell.2) ∷ es) (zip-cells cells)
 
--- a control stands in a row once
+-- a row has a control at most once
 pub none-later : (v : ℕ) (shares : List Share) → ((j : ℕ) → j < length (map (λ share. share.0) shares) → v < get_or (map (λ share. share.0) shares) j 0) → list_any (λ share. nat_eq share.0 v) shares ≡ false
 none-later v [] later = refl
 none-later v (share ∷ shares) later =

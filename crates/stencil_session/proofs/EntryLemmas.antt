@@ -45,7 +45,7 @@ at-own entry = grind (arith, nat_tests)
 at-other : (row : ℕ) (entry : Entry) → (entry.0 ≡ row → ⊥) → amount_at row entry ≡ 0
 at-other row entry apart = grind (arith, nat_tests)
 
--- no row before the first stands in it
+-- the column has no row before the first
 amount-before : (i first : ℕ) (rows : List Row) (n : ℕ) → n < first → amount_in (column_from first rows i) n ≡ 0
 amount-before i first [] n h = refl
 amount-before i first (row ∷ rows) n h = go (has_control i row) (amount-before i (first + 1) rows n (omega (arith, h)))
@@ -55,7 +55,7 @@ amount-before i first (row ∷ rows) n h = go (has_control i row) (amount-before
         omega (arith, rest, sum_by-cons (amount_at n) (first, numerator_of row.shares i) (column_from (first + 1) rows i), at-other n (first, numerator_of row.shares i) (λ e. omega (arith, e, h)))
     go false rest = rest
 
--- a row has in it what it has of the control
+-- a row has in the column its numerator of the control
 amount-from : (i first : ℕ) (rows : List Row) (k : ℕ) → k < length rows → amount_in (column_from first rows i) (first + k) ≡ numerator_of (get_or rows k blank).shares i
 amount-from i first [] k h = absurd (omega arith)
 amount-from i first (row ∷ rows) zero h = ap (amount_in (column_from first (row ∷ rows) i)) (omega arith) ∙ go (has_control i row) refl
@@ -76,7 +76,7 @@ amount-from i first (row ∷ rows) (suc k) h =
 pub amount-column : (i : ℕ) (table : Table) (row : ℕ) → row < length table.rows → amount_in (column_of table i) row ≡ numerator_of (row_at table row).shares i
 amount-column i table row h = ap (amount_in (column_of table i)) (omega arith) ∙ amount-from i 0 table.rows row h
 
--- each entry is of a row of the table, and its row stands once
+-- each entry is of a row of the table, and each row occurs once
 record IsOnce (column : List Entry) (first last : ℕ) (entry : Entry) : Type 0 where
   low : first ≤ entry.0
   high : entry.0 < last

@@ -30,7 +30,7 @@ states-after (move ∷ moves) state is alike allowed =
 pub state-after : (moved : MovedState) → IsState (after_moves moved.state moved.moves)
 state-after moved = states-after moved.moves moved.state moved.is_state moved.alike moved.allowed
 
--- each control is what its last move says
+-- each control has the value of its last move
 length-after : (moves : List Move) (state : State) → length (after_moves state moves).controls ≡ length state.controls
 length-after [] state = refl
 length-after (move ∷ moves) state = length-after moves (after_move state move) ∙ length-set state.controls move.0 move.1
@@ -111,7 +111,7 @@ rows-are run =
     ap (λ n. filter (λ row. get_or (after_moves run.state run.moves).marks row false) (range_with_len 0 n)) many
     ∙ filter-same (λ row. get_or (after_moves run.state run.moves).marks row false) (has_moved run.state.table run.moves) 0 (length run.state.table.rows) (λ i h. marks-are run i (omega (arith, h)))
 
--- the answers are those of the marks alone
+-- the results depend only on the marks
 abbrev with_marks : Table → List (List ℤ) → List Bool → State
 with_marks table controls marks = record { table = table; controls = controls; marks = marks }
 
@@ -128,7 +128,7 @@ shift : (n : ℕ) (marks : List Bool) → replicate n false ++ false ∷ marks �
 shift n marks =
     sym (append_assoc (replicate n false) (false ∷ []) marks) ∙ ap (λ clear. clear ++ marks) (replicate_more n false)
 
--- the first mark after so many clear ones is the least
+-- the first mark after n clear ones is the least
 first-least : (n : ℕ) (marks : List Bool) → least_mark (replicate n false ++ true ∷ marks) ≡ Some n
 first-least n marks =
     let clear = replicate n false in

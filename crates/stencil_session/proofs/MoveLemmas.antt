@@ -14,7 +14,7 @@ use Rattle.stencil_session.specs.Session.{State, IsState, Move, move_of, move_fa
 use Rattle.stencil_session.specs.declared.fault.MoveFault.{MoveFault}
 use Rattle.stencil_session.specs.declared.fault.MoveFault.TheVariants.{IndexRange, Overflow}
 
--- there are as many marks as before
+-- a move keeps the number of marks
 pub length-mark_rows : (control : ℕ) (rows : List Row) (marks : List Bool) → length (mark_rows control rows marks) ≡ length marks
 length-mark_rows control [] marks = refl
 length-mark_rows control (row ∷ rows) [] = refl
@@ -61,7 +61,7 @@ made-all table (move ∷ moves) none = go (move_fault table move) refl none (mad
     go None is rest all = made-more table move moves is ∙ ap (λ ms. move ∷ ms) (all rest)
     go (Some fault) is rest all = absurd (cc)
 
--- the moves so far are made: what the rest makes of the state now is what all make of the state before
+-- the moves so far are made: the rest of the moves from the state now gives what all moves give from the first state
 pub record AreMade (start now : State) (moves rest : List Move) (steps_before steps_now : ℕ) : Type 0 where
   pub table : now.table ≡ start.table
   pub made : after_moves now (moves_made now.table rest) ≡ after_moves start (moves_made start.table moves)
@@ -82,7 +82,7 @@ module _ (start now : State) (moves rest : List Move) (steps_before steps_now : 
         steps = omega (arith, taken, are.steps, ap (rows_visited now.table) more, sum_by-cons (λ (m : Move). rows_with m.0 now.table) move (moves_made now.table rest));
       })
 
--- where none is left
+-- no move is left
 pub moved-all : (start now : State) (moves : List Move) (steps_before steps_now : ℕ) → AreMade start now moves [] steps_before steps_now → now ≡ after_moves start moves
 moved-all start now moves steps_before steps_now are =
     are.made ∙ ap (after_moves start) (made-all start.table moves (sym are.cause))

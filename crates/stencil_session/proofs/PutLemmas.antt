@@ -65,7 +65,7 @@ start-most (cell ∷ cells) i =
 
 -- entries are put up to one, which is the next
 module _ (all done rest : List Cell) (entry : Cell) (cut : all ≡ done ++ entry ∷ rest) where
-  -- where the next entry of a column goes
+  -- the place of the next entry of a column
   abbrev place : ℕ → ℕ
   place i = start_of all i + count_by (is_of i) done
 

@@ -1,4 +1,4 @@
--- What a session keeps, as a control is moved.
+-- The data of a session, while a control moves.
 use Rattle.std.proofs.Common.{◌≡◌, ℕ, ◌*◌, ◌<◌, ◌≤◌, Bool, false, None, ℤ, pos, List, [], length, map, get_or, set, replicate, arith, refl, ap, sym, ◌∙◌, subst}
 use Rattle.std.specs.List.{All}
 use Rattle.std.proofs.Math.Nat.{mul-le-mul_right}
@@ -138,7 +138,7 @@ module _ (table : Table) (columns : List (List Entry)) (controls values : List P
               ∙ ap (λ state. row_value state row) (sym view-after);
         }
 
--- what a session keeps at its start
+-- the data of a session at its start
 pub kept-first : (table : Table) (columns : List (List Entry)) (controls values : List Point3) (marks : List Bool) → IsTable table → columns ≡ columns_of table → length controls ≡ table.controls
     → All (λ p. greatest_of table * greatest_amount (numbers_of p) ≤ number_bound) controls → marks ≡ replicate (length table.rows) false → length values ≡ length table.rows
     → ((row : ℕ) (d : Point3) → row < length table.rows → numbers_of (get_or values row d) ≡ sum_of_row none3 (map numbers_of controls) (row_at table row)) → AreKept table columns controls values marks

@@ -54,7 +54,7 @@ plus-difference w (s ∷ start) [] (o ∷ old) e = absurd (omega (arith, e))
 plus-difference w (s ∷ start) (n ∷ new) [] e = absurd (omega (arith, e))
 plus-difference w (s ∷ start) (n ∷ new) (o ∷ old) e = cons_both (one-difference w s n o) (plus-difference w start new old (omega (arith, e)))
 
--- where a control does not stand
+-- a row that does not have the control
 neither : (a b : Bool) → (a || b) ≡ false → (a ≡ false) × (b ≡ false)
 neither false b none = (refl, none)
 neither true b none = absurd (cc)

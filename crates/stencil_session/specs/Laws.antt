@@ -1,11 +1,11 @@
--- What the laws of sessions speak of: moves that none refuses, and marks that are taken one after another.
+-- The terms of the laws of sessions: moves without a fault, and marks that are removed one after another.
 use Rattle.std.specs.Prelude.{ℕ, ◌≡◌, ℤ, Bool, false, nat_eq, List, [], ◌∷◌, length, map, get_or, replicate, Some, None, if◌then◌else◌}
 use Rattle.std.specs.List.{All, filter, list_any, range_with_len}
 use Rattle.point_marks.specs.Tree.{least_mark}
 use Rattle.stencil_apply.specs.Table.{Table, row_at}
 use Rattle.stencil_session.specs.Session.{State, IsState, Move, has_control, move_fault, without_mark}
 
--- a state, and moves of it to three numbers each, none of which is refused
+-- a state, and moves of it without a fault, each to three numbers
 pub record MovedState : Type 0 where
   pub state : State
   pub moves : List Move
@@ -13,7 +13,7 @@ pub record MovedState : Type 0 where
   pub alike : All (λ move. length move.1 ≡ 3) moves
   pub allowed : All (λ move. move_fault state.table move ≡ None) moves
 
--- the last numbers that moves give a control, and what it was before them where none moves it
+-- the numbers of a control's last move, or its own if none moves it
 abbrev pub last_target : List Move → ℕ → List ℤ → List ℤ
 last_target [] control before = before
 last_target (move ∷ moves) control before = last_target moves control (if nat_eq move.0 control then move.1 else before)
@@ -27,7 +27,7 @@ pub record UnmarkedState : Type 0 where
   pub moves : List Move
   pub unmarked : state.marks ≡ replicate (length state.table.rows) false
 
--- whether a row has a control that moves name, and which rows do, ascending
+-- whether a row has a moved control, and the rows that have one, ascending
 abbrev pub has_moved : Table → List Move → ℕ → Bool
 has_moved table moves row = list_any (λ move. has_control move.0 (row_at table row)) moves
 
@@ -38,7 +38,7 @@ moved_rows table moves = filter (has_moved table moves) (range_with_len 0 (lengt
 abbrev pub marked_rows : List Bool → List ℕ
 marked_rows marks = filter (λ row. get_or marks row false) (range_with_len 0 (length marks))
 
--- the answers where the least mark is taken again and again, until there is none
+-- the results of removing the least mark until there is none
 abbrev pub AreTaken : State → List ℕ → Type 0
 AreTaken state [] = least_mark state.marks ≡ None
 AreTaken state (row ∷ rows) = (least_mark state.marks ≡ Some row) × AreTaken (without_mark state (Some row)) rows

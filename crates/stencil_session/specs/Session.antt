@@ -1,5 +1,4 @@
--- A table over controls that are moved: the controls now, and the points that a move changed.
--- Source: this profile.
+-- A table over control points that move: their values, and the points that moves changed. Source: this library.
 use Rattle.std.specs.Prelude.{ℕ, ◌≡◌, ◌*◌, ◌≤◌, ℤ, pos, Bool, false, ◌||◌, nat_eq, nat_le, nat_lt, List, [], ◌∷◌, length, set, Option, Some, None, is_none, if◌then◌else◌}
 use Rattle.std.specs.List.{All, list_any, count_by, sum_by, fold, take_while}
 use Rattle.std.specs.Option.{option_or}
@@ -10,7 +9,7 @@ use Rattle.stencil_apply.specs.Table.{Row, Table, IsTable, row_at, greatest_of, 
 use Rattle.stencil_session.specs.declared.fault.MoveFault.{MoveFault}
 use Rattle.stencil_session.specs.declared.fault.MoveFault.TheVariants.{IndexRange, Overflow}
 
--- a table, its controls now, each as its three numbers, and which of its rows are marked as changed
+-- a table, its controls, each as three numbers, and the marks of its changed rows
 pub record State : Type 0 where
   pub table : Table
   pub controls : List (List ℤ)
@@ -20,7 +19,8 @@ pub record State : Type 0 where
 abbrev pub numbers_of : Point3 → List ℤ
 numbers_of point = point.x ∷ point.y ∷ point.z ∷ []
 
--- a control for each of the table's; the greatest denominator times each of its numbers is within the bound of numbers
+-- there is a control for each of the table's; the greatest denominator times each of its numbers is within the bound of
+-- numbers
 pub record IsState (state : State) : Type 0 where
   pub table : IsTable state.table
   pub each : length state.controls ≡ state.table.controls
@@ -28,19 +28,19 @@ pub record IsState (state : State) : Type 0 where
   pub fits : All (λ numbers. greatest_of state.table * greatest_amount numbers ≤ number_bound) state.controls
   pub marks : length state.marks ≡ length state.table.rows
 
--- whether a row has a control, and how many rows do
+-- whether a row has a control, and the number of rows that have it
 abbrev pub has_control : ℕ → Row → Bool
 has_control control row = list_any (λ share. nat_eq share.0 control) row.shares
 
 abbrev pub rows_with : ℕ → Table → ℕ
 rows_with control table = count_by (has_control control) table.rows
 
--- the marks of rows, with those of the rows that have a control
+-- the marks of rows, together with those of the rows that have a control
 abbrev pub mark_rows : ℕ → List Row → List Bool → List Bool
 mark_rows control (row ∷ rows) (mark ∷ marks) = (has_control control row || mark) ∷ mark_rows control rows marks
 mark_rows control rows marks = marks
 
--- a move of a control to numbers, and what it comes to
+-- a move of a control to numbers, and its result
 abbrev pub Move : Type 0
 Move = ℕ × List ℤ
 
@@ -54,14 +54,14 @@ after_move state move = record {
 abbrev pub after_moves : State → List Move → State
 after_moves state moves = fold after_move state moves
 
--- why a control cannot be moved to numbers
+-- the reason why a control cannot move to numbers
 abbrev pub move_fault : Table → Move → Option MoveFault
 move_fault table move =
     if nat_le table.controls move.0 then Some IndexRange
     else if nat_lt number_bound (greatest_of table * greatest_amount move.1) then Some Overflow
     else None
 
--- why the first of some moves that is refused is refused, and the moves before it
+-- the fault of the first move that has one, and the moves before it
 abbrev pub first_fault : Table → List Move → Option MoveFault
 first_fault table [] = None
 first_fault table (move ∷ moves) = option_or (move_fault table move) (first_fault table moves)
@@ -73,15 +73,15 @@ moves_made table moves = take_while (λ move. is_none (move_fault table move)) m
 abbrev pub move_of : ℕ × Point3 → Move
 move_of move = (move.0, numbers_of move.1)
 
--- the rows that moves visit, each as often as a move visits it
+-- the number of rows that moves visit; a row counts once for each move that visits it
 abbrev pub rows_visited : Table → List Move → ℕ
 rows_visited table moves = sum_by (λ move. rows_with move.0 table) moves
 
--- what a row makes of the controls now, over its denominator
+-- the numerators of a point: the sum of its row over the controls
 abbrev pub row_value : State → ℕ → List ℤ
 row_value state row = sum_of_row (pos 0 ∷ pos 0 ∷ pos 0 ∷ []) state.controls (row_at state.table row)
 
--- without the mark of a row
+-- the state without the mark of a row
 abbrev pub without_mark : State → Option ℕ → State
 without_mark state None = state
 without_mark state (Some row) = record { table = state.table; controls = state.controls; marks = set state.marks row false }

@@ -1,4 +1,4 @@
-//! The difference of a moved control, added to the values of the rows that have it.
+//! The difference of a moved control, and its addition to the values of the rows that have the control.
 
 ghost use Rattle.std.specs.Prelude.{◌≡◌, ◌+◌, ◌^◌, ◌<◌, ◌≤◌, pos, ◌-ℤ◌, unsigned_abs, true, [], ◌∷◌, length, map, get_or, set};
 ghost use Rattle.subdiv_model.specs.Channel.{number_bound};
@@ -13,7 +13,7 @@ use point_marks::Marks;
 use ratio128::{Point3, Primvar, Steps};
 use std::sync::ledger::Ledger;
 
-// A number less another.
+// Returns a number minus another.
 fn minus(number: i128, other: i128) -> i128
     requires number { unsigned_abs number ≤ number_bound }
     requires other { unsigned_abs other ≤ number_bound }
@@ -22,7 +22,7 @@ fn minus(number: i128, other: i128) -> i128
     number - other
 }
 
-// Each number of a point less that of another.
+// Returns each number of a point minus that of another.
 pub(crate) fn difference(target: &Point3, control: &Point3) -> Point3
     requires target { greatest_amount (numbers_of target.now) ≤ number_bound }
     requires control { greatest_amount (numbers_of control.now) ≤ number_bound }
@@ -56,8 +56,8 @@ fn add_entry<L: Ledger>(
     values[row as usize].add_with_weight(numerator as i128, difference, steps);
 }
 
-// Adds each numerator of a control times a difference to the value of its row, and marks the row. It is one step for each entry
-// of the column.
+// Adds each numerator of a control times a difference to the value of its row, and marks the row. Each entry of the column is
+// one step.
 pub(crate) fn add_column<L: Ledger>(
     columns: &Columns,
     control: u32,

@@ -51,7 +51,7 @@ fn count_rows(table: &StencilTable, counts: &mut Vec<u32>)
     }
 }
 
-// Turns counts into where each column begins: the sum of the counts before it.
+// Replaces the counts by the starts of the columns: the sums of the counts before.
 fn begin_columns(counts: &mut Vec<u32>)
     requires { sum counts.old.items ≤ 2 ^ 27 }
     ensures long { length counts.new.items ≡ length counts.old.items }
@@ -65,7 +65,7 @@ fn begin_columns(counts: &mut Vec<u32>)
     }
 }
 
-// Puts the entries of a row into their columns.
+// Writes the entries of a row into their columns.
 fn put_row(table: &StencilTable, row: u32, parts: &mut Parts)
     requires row { row < length table.now.rows }
     requires width { parts.old.numerators.width ≡ width_for (greatest_of table.now) }
@@ -81,7 +81,7 @@ fn put_row(table: &StencilTable, row: u32, parts: &mut Parts)
     }
 }
 
-// Puts the entries of all rows into their columns.
+// Writes the entries of all rows into their columns.
 fn put_rows(table: &StencilTable, parts: &mut Parts)
     requires width { parts.old.numerators.width ≡ width_for (greatest_of table.now) }
     requires empty { ArePut table.now.controls (cells_from 0 table.now.rows) [] parts.old }
@@ -92,7 +92,7 @@ fn put_rows(table: &StencilTable, parts: &mut Parts)
     }
 }
 
-// Puts all entries into their columns. All is zeros before.
+// Writes all entries into their columns, which are zeros before.
 fn fill(table: &StencilTable, parts: &mut Parts)
     requires ends { parts.old.ends.items ≡ replicate table.now.controls 0 }
     requires rows { length parts.old.rows.items ≡ entries_of table.now.rows }
@@ -107,7 +107,8 @@ fn fill(table: &StencilTable, parts: &mut Parts)
 }
 
 impl Columns {
-    // The columns of a table. It takes all memory of the columns, and time in proportion to controls, rows and entries.
+    // Returns the columns of a table, and takes all their memory. The time is proportional to the number of controls, rows
+    // and entries.
     pub(crate) fn of(alloc: Global, table: &StencilTable) -> Result<Columns, Memory>
         ensures { IfOk result (λ columns. columns ≡ columns_of table.now) }
     {
@@ -117,7 +118,7 @@ impl Columns {
         Ok(Columns { parts })
     }
 
-    // The rows that have a control.
+    // Returns the rows that have a control.
     pub(crate) fn rows(&self, control: u32) -> &[u32]
         requires { control < length self.now }
         ensures { result.now ≡ map (λ entry. entry.0) (get_or self.now control []) }
@@ -125,7 +126,7 @@ impl Columns {
         self.parts.rows_of(control)
     }
 
-    // The control's numerator in each of these rows.
+    // Returns the control's numerator in each of these rows.
     pub(crate) fn numerators(&self, control: u32) -> NumberSlice<'_>
         requires { control < length self.now }
         ensures { numbers_in result ≡ map (λ entry. entry.1) (get_or self.now control []) }

@@ -1,4 +1,4 @@
-//! Why a control point is not moved.
+//! The reason why a control point cannot move.
 
 ghost use Rattle.std.specs.Prelude.{◌≡◌, Some, None, MatchResult};
 ghost use Rattle.stencil_session.specs.Session.{move_fault, numbers_of};
@@ -7,20 +7,20 @@ use ratio128::{Point3, Primvar};
 use std::sync::ledger::Ledger;
 use stencil_apply::{StencilTable, scale_fits};
 
-/// Why a control point is not moved.
+/// The reason why a control point cannot move.
 #[derive(Clone, Copy, Debug, PartialEq, Eq)]
 pub enum MoveFault {
     /// There is no such control point.
     IndexRange,
-    /// The greatest denominator of the table times an amount in the value is more than 2^126 - 1.
+    /// The greatest denominator of the table times an amount in the value is above 2^126 - 1.
     Overflow,
 }
 
-/// The greatest denominator of the table times an amount in the value is more than 2^126 - 1.
+/// The greatest denominator of the table times an amount in the value is above 2^126 - 1.
 #[derive(Clone, Copy, Debug, PartialEq, Eq)]
 pub struct TooGreat;
 
-// Whether a control can be moved to a point, and why not.
+// Returns whether a control can move to a point, or the reason why not.
 pub(crate) fn test_move<L: Ledger>(
     table: &StencilTable,
     control: u32,

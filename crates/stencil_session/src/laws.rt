@@ -1,4 +1,4 @@
-//! What is true of all sessions.
+//! Laws of all sessions.
 //!
 //! Each public function here takes nothing, does nothing and returns nothing: its clauses are the laws.
 
@@ -7,8 +7,9 @@ ghost use Rattle.stencil_apply.specs.Table.{row_at, sum_of_row};
 ghost use Rattle.stencil_session.specs.Session.{State, IsState, after_moves, row_value};
 ghost use Rattle.stencil_session.specs.Laws.{MovedState, UnmarkedState, controls_after, has_moved, moved_rows, marked_rows, AreTaken};
 
-/// A session agrees with its table. After moves that none refuses, each control is what the last move of it says, or what it was
-/// where none moves it. The value of each point is its row's sum over these controls, and all is within its bounds.
+/// A session agrees with its table. After moves without a fault, each control has the value of its last move, or its first
+/// value if none moves it. The value of each point is its row's sum over these controls, and all numbers are within their
+/// bounds.
 pub fn sessions_agree_with_their_tables()
     ensures state { (moved : MovedState) → IsState (after_moves moved.state moved.moves) }
     ensures controls { (moved : MovedState) → (after_moves moved.state moved.moves).controls ≡ controls_after moved.state moved.moves }
@@ -16,8 +17,8 @@ pub fn sessions_agree_with_their_tables()
         ≡ sum_of_row (pos 0 ∷ pos 0 ∷ pos 0 ∷ []) (controls_after moved.state moved.moves) (row_at moved.state.table row) }
 {}
 
-/// From a state without marks, moves mark the rows that have a moved control, and no others. Where the least mark is taken until
-/// there is none, the answers are the marked rows, ascending, each once.
+/// From a state without marks, moves mark exactly the rows that have a moved control. Repeated calls of `next_changed` return
+/// the marked rows, ascending, each once.
 pub fn marks_name_the_rows_of_moved_controls()
     ensures marks { (run : UnmarkedState) (row : ℕ) → row < length run.state.table.rows → get_or (after_moves run.state run.moves).marks row false ≡ has_moved run.state.table run.moves row }
     ensures rows { (run : UnmarkedState) → marked_rows (after_moves run.state run.moves).marks ≡ moved_rows run.state.table run.moves }

@@ -1,4 +1,4 @@
-//! The entries of columns, packed into flat arrays: 12 or 20 bytes an entry, and four a column.
+//! The entries of columns, packed into flat arrays: 12 or 20 bytes an entry, and 4 bytes a column.
 
 ghost use Rattle.std.specs.Prelude.{◌≡◌, ◌+◌, ◌<◌, ◌≤◌, ◌^◌, ◌∷◌, length, get_or, set, replicate, slice_range, IfOk};
 ghost use Rattle.number_width.specs.Numbers.{most_of, numbers_in, width_for};
@@ -10,7 +10,8 @@ use ratio128::Memory;
 use std::alloc::Global;
 use stencil_apply::StencilTable;
 
-// The entries of a column end where those of the next begin. While entries are put, an end is where the next entry goes.
+// The columns as arrays. The entries of a column end where those of the next begin. While entries are written, an end is the
+// place of the next entry.
 #[derive(Drop)]
 pub(crate) struct Parts {
     pub(crate) ends: Vec<u32>,
@@ -19,7 +20,8 @@ pub(crate) struct Parts {
 }
 
 impl Parts {
-    // Zeros, as many as the table has controls and entries, and numerators of the width of its greatest denominator.
+    // Returns zeros, as many as the table has controls and entries. The numerators have the width of the greatest
+    // denominator.
     pub(crate) fn zeros(alloc: Global, table: &StencilTable) -> Result<Parts, Memory>
         ensures ends { IfOk result (λ parts. parts.ends.items ≡ replicate table.now.controls 0) }
         ensures rows { IfOk result (λ parts. parts.rows.items ≡ replicate (entries_of table.now.rows) 0) }
@@ -34,7 +36,7 @@ impl Parts {
         })
     }
 
-    // Puts an entry behind those that its column has.
+    // Adds an entry to its column.
     pub(crate) fn put(&mut self, control: u32, row: u32, numerator: u128)
         requires control { control < length self.old.ends.items }
         requires row { get_or self.old.ends.items control 0 < length self.old.rows.items }
@@ -52,7 +54,7 @@ impl Parts {
         self.ends[control as usize] += 1;
     }
 
-    // Where the entries of a column begin.
+    // Returns the start of the entries of a column.
     fn start(&self, control: u32) -> usize
         requires { control < length self.now.ends.items }
         ensures { result ≡ get_or (0 ∷ self.now.ends.items) control 0 }
@@ -64,7 +66,7 @@ impl Parts {
         }
     }
 
-    // Where the entries of a column begin, and where they end.
+    // Returns the start and the end of the entries of a column.
     fn part(&self, control: u32) -> (usize, usize)
         requires inside { control < length self.now.ends.items }
         requires packed { ArePacked self.now }
@@ -76,7 +78,7 @@ impl Parts {
         (self.start(control), self.ends[control as usize] as usize)
     }
 
-    // The rows of a column.
+    // Returns the rows of a column.
     pub(crate) fn rows_of(&self, control: u32) -> &[u32]
         requires inside { control < length self.now.ends.items }
         requires packed { ArePacked self.now }
@@ -86,7 +88,7 @@ impl Parts {
         &self.rows[from..to]
     }
 
-    // The numerators of a column.
+    // Returns the numerators of a column.
     pub(crate) fn numerators_of(&self, control: u32) -> NumberSlice<'_>
         requires inside { control < length self.now.ends.items }
         requires packed { ArePacked self.now }

@@ -20,8 +20,9 @@ use std::marker::Model;
 use std::sync::ledger::Ledger;
 use stencil_apply::{StencilTable, apply_range, scale_fits};
 
-/// A table of stencils over control points that are moved: the controls now, the value of each point, and which points a move
-/// changed. A point is a row of the table. Controls and points are counted from 0, and a value is over its row's denominator.
+/// A stencil table over control points that move: the controls, the value of each point, and marks of the points that moves
+/// changed. A point is a row of the table. Controls and points are counted from 0. A value is three numerators over its row's
+/// denominator.
 #[derive(Drop)]
 pub struct Session {
     table: StencilTable,
@@ -42,7 +43,7 @@ impl Model for Session {
     ghost invariant = { λ s. AreKept s.table s.columns s.controls.items s.values.items s.marks };
 }
 
-// The values of all points, in one step for each entry of the table.
+// Returns the values of all points. Each entry of the table is one step.
 fn evaluate<L: Ledger>(
     table: &StencilTable,
     controls: &[Point3],
@@ -60,10 +61,11 @@ fn evaluate<L: Ledger>(
 }
 
 impl Session {
-    /// The session of a table at these controls, with no point marked. There is a control for each control point of the table, and
-    /// the greatest denominator times each amount in them is at most 2^126 - 1.
+    /// Returns the session of a table at these controls, with no point marked. There is a control for each control point of
+    /// the table. The greatest denominator times each amount in them is at most 2^126 - 1.
     ///
-    /// It takes all memory of the session, and one step for each entry of the table. [`Memory`] comes where there is none for it.
+    /// The call takes all memory of the session. Each entry of the table is one step. The time is proportional to the number
+    /// of controls, rows and entries. Reports [`Memory`] where memory runs out.
     pub fn start<L: Ledger>(
         alloc: Global,
         table: StencilTable,
@@ -92,18 +94,19 @@ impl Session {
         })
     }
 
-    /// What is true of each session. It does nothing.
+    /// States what holds for each session.
     pub fn facts(&self)
         ensures { IsState self.now }
     {
         let _ = &self.table;
     }
 
-    /// Moves a control point, and marks the points whose rows have it, whether their values change or not. It takes no memory, one
-    /// step for each of these rows, and visits no other row.
+    /// Moves control point `i`, and marks the points whose rows have it, even if their values do not change. Each of these
+    /// rows is one step; the call visits no other row. It takes no memory.
     ///
-    /// [`MoveFault::IndexRange`] comes where there is no such control point. Else [`MoveFault::Overflow`] comes where the greatest
-    /// denominator of the table times an amount in the value is more than 2^126 - 1. Then nothing changes, and it takes no step.
+    /// Reports [`MoveFault::IndexRange`] where there is no such control point. Otherwise reports [`MoveFault::Overflow`]
+    /// where the greatest denominator of the table times an amount in the value is above 2^126 - 1. After a fault nothing has
+    /// changed, and no step was taken.
     pub fn move_point<L: Ledger>(
         &mut self,
         i: u32,
@@ -121,10 +124,11 @@ impl Session {
         Ok(())
     }
 
-    /// Moves a control point that there is, as [`Session::move_point`] does. It takes no memory.
+    /// Moves control point `i`, which must exist, and marks the points whose rows have it. Each of these rows is one step.
+    /// The call takes no memory.
     ///
-    /// [`TooGreat`] comes where the greatest denominator of the table times an amount in the value is more than 2^126 - 1. Then
-    /// nothing changes, and it takes no step.
+    /// Reports [`TooGreat`] where the greatest denominator of the table times an amount in the value is above 2^126 - 1. Then
+    /// nothing has changed, and no step was taken.
     pub fn move_known<L: Ledger>(
         &mut self,
         i: u32,
@@ -146,7 +150,7 @@ impl Session {
         Ok(())
     }
 
-    // Moves a control point to a value that is within the bound of numbers.
+    // Moves a control point to a value within the bound of numbers.
     fn move_within<L: Ledger>(&mut self, i: u32, value: Point3, steps: &mut Steps<L>)
         requires { move_fault self.old.table (i, numbers_of value) ≡ None }
         ensures moved { self.new ≡ after_move self.old (i, numbers_of value) }
@@ -164,9 +168,10 @@ impl Session {
         self.controls[i as usize] = value;
     }
 
-    /// Makes moves one after another, each of a control point to a value, as [`Session::move_point`] does. It takes no memory.
+    /// Makes moves in their order, each of a control point to a value. Each works like [`Session::move_point`]. The call
+    /// takes no memory.
     ///
-    /// It stops at the first move that is refused, with the fault of that move. Those before it are made, and those behind it are
+    /// Reports the fault of the first move that has one, and stops there. The moves before it are made; those after it are
     /// not.
     pub fn move_points<L: Ledger>(
         &mut self,
@@ -184,15 +189,15 @@ impl Session {
         Ok(())
     }
 
-    /// How many points are marked.
+    /// Returns the number of marked points.
     pub fn changed(&self) -> u32
         ensures { result ≡ mark_count self.now.marks }
     {
         self.marks.count()
     }
 
-    /// The least marked point with its numerators now. The point is marked no more, and all else is as it was. `None` comes exactly
-    /// where no point is marked. It takes no memory.
+    /// Returns the least marked point with its numerators, and removes its mark. Returns `None` exactly where no point is
+    /// marked. The call takes no memory.
     pub fn next_changed(&mut self) -> Option<(u32, Point3)>
         ensures least { option_map (λ found. found.0) result ≡ least_mark self.old.marks }
         ensures value { IfSome result (λ found. numbers_of found.1 ≡ row_value self.old found.0) }
@@ -204,21 +209,21 @@ impl Session {
         Some((point, self.values[point as usize]))
     }
 
-    /// How many control points there are.
+    /// Returns the number of control points.
     pub fn controls(&self) -> u32
         ensures { result ≡ self.now.table.controls }
     {
         self.table.controls()
     }
 
-    /// The table.
+    /// Returns the table.
     pub fn table(&self) -> &StencilTable
         ensures { result.now ≡ self.now.table }
     {
         &self.table
     }
 
-    /// A control point now.
+    /// Returns the value of control point `i`.
     pub fn control(&self, i: u32) -> Point3
         requires { i < length self.now.controls }
         ensures { numbers_of result ≡ get_or self.now.controls i [] }
@@ -226,7 +231,7 @@ impl Session {
         self.controls[i as usize]
     }
 
-    /// The numerators of a point now.
+    /// Returns the numerators of a point, over the point's denominator.
     pub fn value(&self, point: u32) -> Point3
         requires { point < length self.now.table.rows }
         ensures { numbers_of result ≡ row_value self.now point }
@@ -234,7 +239,7 @@ impl Session {
         self.values[point as usize]
     }
 
-    /// Whether a point is marked.
+    /// Returns whether a point is marked.
     pub fn is_changed(&self, point: u32) -> bool
         requires { point < length self.now.table.rows }
         ensures { result ≡ get_or self.now.marks point false }
@@ -242,7 +247,7 @@ impl Session {
         self.marks.is_marked(point)
     }
 
-    /// The denominator of a point.
+    /// Returns the denominator of a point.
     pub fn denominator(&self, point: u32) -> u128
         requires { point < length self.now.table.rows }
         ensures { result ≡ (row_at self.now.table point).den }

@@ -1,4 +1,4 @@
--- One row more in the table of a caller's arrays.
+-- One more row in the table of a caller's arrays.
 use Rattle.std.proofs.Common.{◌≡◌, ℕ, ◌+◌, ◌-◌, ◌^◌, ◌<◌, ◌≤◌, true, nat_eq, nat_le, List, length, arith, ap, sym, ◌∙◌, leb-true}
 use Rattle.std.proofs.lemmas.Bool.{and_parts}
 use Rattle.std.proofs.lemmas.List.{length-map}
@@ -13,7 +13,7 @@ use Rattle.stored_arrays.specs.Rows.{IsGoodRow, is_in_shape, number_at, row_in, 
 use Rattle.stored_arrays.specs.declared.rows.ExactRows.{ExactRows}
 use Rattle.stored_arrays.proofs.EntryLemmas.{same-row}
 
--- there are no more rows and entries than a table can have
+-- the numbers of rows and entries are within the limits of a table
 record IsSmall (rows : ExactRows) : Type 0 where
   rows_few : length rows.denominators.now ≤ 2 ^ 27
   entries_few : length rows.indices.now ≤ 2 ^ 27
@@ -26,11 +26,11 @@ small rows shape =
     let few = and_parts (nat_le rows.controls (2 ^ 27)) (nat_le (length rows.denominators.now) (2 ^ 27)) entries.0 in
     record { rows_few = leb-true (length rows.denominators.now) (2 ^ 27) few.1; entries_few = leb-true (length rows.indices.now) (2 ^ 27) entries.1 }
 
--- a row has the entries from its start up to the next
+-- a row has the entries from its start up to the next start
 length-shares : (rows : ExactRows) (r : ℕ) → length (row_in rows r).shares ≡ start_of rows (r + 1) - start_of rows r
 length-shares rows r = length-map-range_with_len (share_at rows) (start_of rows r) (start_of rows (r + 1) - start_of rows r)
 
--- there is room for one row more and its entries
+-- there is capacity for one more row and its entries
 pub rows-few : (rows : ExactRows) (r : ℕ) (table : Table) → is_in_shape rows ≡ true → r < length rows.denominators.now → AreFirstRows rows r table → length table.rows < 2 ^ 27
 rows-few rows r table shape inside first =
     omega (arith, (small rows shape).rows_few, ap (λ (t : Table). length t.rows) first.same, length-map-range_with_len (row_in rows) 0 r)
@@ -41,7 +41,7 @@ entries-few rows r table items entries shape first good are same =
     let as_many : length (shares_of items) ≡ length items = length-map items (λ (e : Entry). (e.index, e.numerator)) in
     omega (arith, (small rows shape).entries_few, first.entries, good.forward, good.inside, length-shares rows r, ap length are, as_many, ap length same)
 
--- one row more
+-- one more row
 pub row-added : (rows : ExactRows) (r den : ℕ) (before after : Table) (items entries : List Entry) → AreFirstRows rows r before → IsGoodRow rows r
     → shares_of items ≡ (row_in rows r).shares → entries ≡ items → den ≡ number_at rows.denominators.now r → after ≡ with_row (row_of den entries) before
     → AreFirstRows rows (r + 1) after

@@ -1,4 +1,4 @@
--- What comes of a text beside a table.
+-- The results of comparing a text with a table.
 use Rattle.std.proofs.Common.{◌≡◌, ℕ, suc, ◌+◌, ◌≤◌, ◌⊎◌, inl, inr, Bool, true, false, nat_eq, nat_lt, List, [], length, drop, Option, Some, None, option_map, Result, Ok, Err, IsErr, IsErrAnd, MatchResult, arith, ap, sym, subst, ◌∙◌, append-nil, le-ltb, if◌then◌else◌}
 use Rattle.std.proofs.lemmas.Bool.{cond-false}
 use Rattle.std.proofs.lemmas.Bool.Decides.{nat_tests}
@@ -17,13 +17,13 @@ use Rattle.fault_record.specs.declared.record.FaultRecord.{FaultRecord}
 use Rattle.stored_arrays.specs.Texts.{IsReadOf, IsRefusedFor, read_refusal, reading_refusal, text_limit}
 use Rattle.stored_arrays.specs.Checked.{IsTextChecked, IsWhole, check_refusal}
 
--- what is refused is handed on
+-- the refusal is passed on
 pub handed-on : {X : Type 0} (Good : X → Type 0) (Refused : FaultRecord → Type 0) (r : Result X FaultRecord) (found : FaultRecord) → IsErr r → IsErrAnd r (λ g. g ≡ found) → Refused found
     → MatchResult r Good Refused
 handed-on Good Refused (Ok x) found err same refused = absurd (cc)
 handed-on Good Refused (Err g) found err same refused = subst Refused (sym same) refused
 
--- a record of one refusal is that of another that says the same
+-- the record of a refusal is that of another with the same claim
 turned : (a b : Option Fault) (found : FaultRecord) → ((fault : Fault) → a ≡ Some fault → b ≡ Some fault) → IsRefusedFor a found → IsRefusedFor b found
 turned a b found more refused = record { fault = refused.fault; is = by refused.is; recorded = refused.recorded }
   where
@@ -31,7 +31,7 @@ turned a b found more refused = record { fault = refused.fault; is = by refused.
     by (inl e) = inl (more refused.fault e)
     by (inr memory) = inr memory
 
--- what a text is refused for where it is read, it is refused for beside each table
+-- a text that is refused when read is refused beside each table
 pub read-refused : (text : List ℕ) (found : FaultRecord) → IsRefusedFor (read_refusal text) found → (own : tables.Table) → IsRefusedFor (check_refusal own text) found
 read-refused text found refused own = turned (read_refusal text) (check_refusal own text) found (kept (nat_lt text_limit (length text)) (read_table text)) refused
   where
@@ -50,7 +50,7 @@ read-refused text found refused own = turned (read_refusal text) (check_refusal 
 by-table : (own : tables.Table) (text : List ℕ) → length text ≤ text_limit → check_refusal own text ≡ stored_fault 0 own (read_table text)
 by-table own text short = cond-false _ _ _ (le-ltb text_limit (length text) short)
 
--- other bytes stand behind those of the table
+-- other bytes follow those of the table
 pub bytes-behind : (text : List ℕ) (read : TableRead) → IsReadOf text read → (line : ℕ) (found : FaultRecord) → nat_eq read.end (length text) ≡ false
     → line ≡ length read.table.rows + 2 → IsRecordOf found (Table (record { line = line; cause = Form })) → (own : tables.Table) → IsRefusedFor (check_refusal own text) found
 bytes-behind text read is line found more behind recorded own =

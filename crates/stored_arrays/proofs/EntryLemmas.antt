@@ -1,4 +1,4 @@
--- The entries of a row of a caller's arrays, and whether they are a row.
+-- The entries of a row of a caller's arrays, and the test of whether they are a row.
 use Rattle.std.proofs.Common.{◌≡◌, ℕ, ◌+◌, ◌-◌, ◌≤◌, Bool, true, false, nat_eq, List, [], ◌∷◌, ◌++◌, length, map, get_or, arith, ap, sym, ◌∙◌, eqb-true, eq-eqb, true≢false}
 use Rattle.std.specs.List.{range_with_len}
 use Rattle.std.proofs.lemmas.Bool.{and_parts, and_from}
@@ -14,7 +14,7 @@ use Rattle.stored_arrays.specs.Entries.{IsJudged, is_row}
 use Rattle.stored_arrays.specs.Rows.{number_at, row_in, share_at, shares_between, start_of}
 use Rattle.stored_arrays.specs.declared.rows.ExactRows.{ExactRows}
 
--- one entry more
+-- one more entry
 pub shares-more : (rows : ExactRows) (from at numerator : ℕ) (items new : List Entry) → from ≤ at → shares_of items ≡ shares_between rows from at
     → numerator ≡ number_at rows.numerators.now at → new ≡ items ++ (record { index = get_or rows.indices.now at 0; numerator = numerator }) ∷ []
     → shares_of new ≡ shares_between rows from (at + 1)
@@ -29,7 +29,7 @@ shares-more rows from at numerator items new forward so_far is pushed =
     ∙ sym (map-range_with_len_more (share_at rows) from (at - from) at place)
     ∙ ap (λ n. map (share_at rows) (range_with_len from n)) (sym count)
 
--- the test decides whether a row is one
+-- the test decides whether the entries are a row
 row-passed : (controls : ℕ) (row : Row) → is_row controls row ≡ true → IsRow controls row
 row-passed controls row passed =
     let both = and_parts (is_row_in_range controls row) (nat_eq (total_of row.shares) row.den) passed in
@@ -39,7 +39,7 @@ passes : (controls : ℕ) (row : Row) → IsRow controls row → is_row controls
 passes controls row is =
     and_from (is_row_in_range controls row) (nat_eq (total_of row.shares) row.den) (row-in-range controls row is) (eq-eqb (total_of row.shares) row.den is.whole)
 
--- entries that were copied are those of the row
+-- copied entries are those of the row
 pub same-row : (rows : ExactRows) (r den : ℕ) (items entries : List Entry) → shares_of items ≡ (row_in rows r).shares → den ≡ number_at rows.denominators.now r → entries ≡ items
     → row_of den entries ≡ row_in rows r
 same-row rows r den items entries are d same =
@@ -47,7 +47,7 @@ same-row rows r den items entries are d same =
     ∙ ap (λ (shares : List Share). record { den = den; shares = shares }) are
     ∙ ap (λ (n : ℕ). record { den = n; shares = (row_in rows r).shares }) d
 
--- a row within the arrays is good where it passes the test
+-- a row within the arrays is valid exactly if it passes the test
 pub judged : (rows : ExactRows) (r den : ℕ) (items entries : List Entry) (good : Bool) → start_of rows r ≤ start_of rows (r + 1) → start_of rows (r + 1) ≤ length rows.indices.now
     → shares_of items ≡ (row_in rows r).shares → den ≡ number_at rows.denominators.now r → entries ≡ items → good ≡ is_row rows.controls (row_of den entries)
     → IsJudged rows r items good

@@ -23,7 +23,7 @@ own-refined mesh depth refined is = record {
   own = table-own refined.mesh depth refined.composed is.composed ∙ ap (own_table depth) is.good.same;
 }
 
--- what comes of the text beside this table comes of it beside that of the mesh
+-- a result of the text beside this table is one beside the table of the mesh
 pub checked : (mesh : MeshArrays) (depth : ℕ) (own : Table) (text : List ℕ) (r : Result ℕ FaultRecord) → IsOwn mesh depth own → IsTextChecked own text r → IsChecked mesh depth text r
 checked mesh depth own text (Ok rows) is are = record { has = is.has; is = subst (λ (t : Table). IsTextOf t text rows) is.own are }
 checked mesh depth own text (Err found) is refused = inr (record { has = is.has; refused = subst (λ (t : Table). IsRefusedFor (check_refusal t text) found) is.own refused })

@@ -1,4 +1,4 @@
--- A text beside the table of a mesh in a caller's arrays: it is the table's own, or is refused.
+-- The comparison of a text with the table of a mesh in a caller's arrays.
 use Rattle.std.specs.Prelude.{ℕ, ◌≡◌, ◌≤◌, ◌⊎◌, nat_lt, List, [], length, Option, Some, None, Result, Ok, MatchResult, if◌then◌else◌}
 use Rattle.subdiv_model.specs.Fault.{Fault, Long}
 use Rattle.subdiv_model.specs.ReadTable.{read_table}
@@ -14,7 +14,7 @@ use Rattle.array_answers.specs.Refused.{IsRefusal}
 use Rattle.fault_record.specs.declared.record.FaultRecord.{FaultRecord}
 use Rattle.stored_arrays.specs.Texts.{IsRefusedFor, text_limit}
 
--- what is wrong with a text that must be the text of a table: it is too long, a line is bad, bytes stand behind it, or a row differs
+-- the faults of a text that must be the text of a table: it is too long, a line is bad, bytes follow it, or a row differs
 abbrev pub check_refusal : Table → List ℕ → Option Fault
 check_refusal own text = if nat_lt text_limit (length text) then Some Long else stored_fault 0 own (read_table text)
 
@@ -28,33 +28,35 @@ pub record HasTable (mesh : MeshArrays) (depth : ℕ) : Type 0 where
 abbrev pub table_at : MeshArrays → ℕ → Table
 table_at mesh depth = own_table depth (mesh_of_arrays mesh)
 
--- it is this one
+-- the arrays are a mesh with this table at the depth
 pub record IsOwn (mesh : MeshArrays) (depth : ℕ) (table : Table) : Type 0 where
   pub has : HasTable mesh depth
   pub own : table ≡ table_at mesh depth
 
--- the mesh is refused at the depth, as the command `stencils` refuses it
+-- the command `stencils` refuses the mesh at the depth, and this is the record
 abbrev pub IsMeshRefused : MeshArrays → ℕ → FaultRecord → Type 0
 IsMeshRefused mesh depth found = IsRefusal depth (table_faults depth (mesh_of_arrays mesh)) mesh found
 
+-- the table of the mesh at the depth, or the record of the mesh's refusal
 abbrev pub IsOwnTable : MeshArrays → ℕ → Result Table FaultRecord → Type 0
 IsOwnTable mesh depth result = MatchResult result (IsOwn mesh depth) (IsMeshRefused mesh depth)
 
--- the text is not too long, and is that of this table and no more
+-- the text is not too long, and is exactly the text of this table
 pub record IsWhole (text : List ℕ) (table : Table) : Type 0 where
   pub short : length text ≤ text_limit
   pub read : read_table text ≡ Ok (record { table = table; rest = [] })
 
--- or it is refused, whatever the table should be
+-- the table whose exact text these bytes are, or the record of the text's fault beside any table
 abbrev pub IsWholeTable : List ℕ → Result Table FaultRecord → Type 0
 IsWholeTable text result = MatchResult result (IsWhole text) (λ found. (own : Table) → IsRefusedFor (check_refusal own text) found)
 
--- the text is that of the table, which has so many rows
+-- the text is that of the table, which has this number of rows
 pub record IsTextOf (own : Table) (text : List ℕ) (rows : ℕ) : Type 0 where
   pub short : length text ≤ text_limit
   pub same : text ≡ text_of_table own
   pub count : rows ≡ length own.rows
 
+-- the number of rows of the table whose text this is, or the record of the text's fault
 abbrev pub IsTextChecked : Table → List ℕ → Result ℕ FaultRecord → Type 0
 IsTextChecked own text result = MatchResult result (IsTextOf own text) (IsRefusedFor (check_refusal own text))
 
@@ -63,13 +65,15 @@ pub record IsOwnText (mesh : MeshArrays) (depth : ℕ) (text : List ℕ) (rows :
   pub has : HasTable mesh depth
   pub is : IsTextOf (table_at mesh depth) text rows
 
--- the mesh is refused, or it has a table at the depth and the text is refused
+-- the mesh has a table at the depth, and the record is that of the text's fault
 pub record IsTextRefused (mesh : MeshArrays) (depth : ℕ) (text : List ℕ) (found : FaultRecord) : Type 0 where
   pub has : HasTable mesh depth
   pub refused : IsRefusedFor (check_refusal (table_at mesh depth) text) found
 
+-- the record of the mesh's refusal, or of the text's fault
 abbrev pub IsNotOwn : MeshArrays → ℕ → List ℕ → FaultRecord → Type 0
 IsNotOwn mesh depth text found = IsMeshRefused mesh depth found ⊎ IsTextRefused mesh depth text found
 
+-- the number of rows of the mesh's table, whose text this is; or the record of the first fault
 abbrev pub IsChecked : MeshArrays → ℕ → List ℕ → Result ℕ FaultRecord → Type 0
 IsChecked mesh depth text result = MatchResult result (IsOwnText mesh depth text) (IsNotOwn mesh depth text)

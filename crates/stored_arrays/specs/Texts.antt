@@ -1,4 +1,4 @@
--- What is read of the text of a stored table, or the record of the fault for which it is refused.
+-- The table of a text, or the record of the text's fault.
 use Rattle.std.specs.Prelude.{ℕ, ◌≡◌, ◌≤◌, ◌^◌, ◌⊎◌, nat_lt, List, length, Option, Some, None, Result, Ok, Err, MatchResult, if◌then◌else◌}
 use Rattle.subdiv_model.specs.Fault.{Fault, Long, Table, Memory}
 use Rattle.subdiv_model.specs.ReadTable.{Reading, read_table}
@@ -7,28 +7,30 @@ use Rattle.table_file.specs.Read.{TableRead, IsReadUpTo}
 use Rattle.fault_record.specs.Back.{IsRecordOf}
 use Rattle.fault_record.specs.declared.record.FaultRecord.{FaultRecord}
 
--- the record is that of what is refused, or of want of memory
+-- the record is that of the fault, or of no memory
 pub record IsRefusedFor (refusal : Option Fault) (found : FaultRecord) : Type 0 where
   pub fault : Fault
   pub is : (refusal ≡ Some fault) ⊎ (fault ≡ Memory)
   pub recorded : IsRecordOf found fault
 
--- the most bytes of a text
+-- the greatest number of bytes of a text
 abbrev pub text_limit : ℕ
 text_limit = 2 ^ 28
 
--- what is wrong with a text that begins with a table: it is too long, or a line is bad
+-- the faults of a text that begins with a table: it is too long, or a line is bad
 abbrev pub reading_refusal : Result Reading TableFault → Option Fault
 reading_refusal (Ok reading) = None
 reading_refusal (Err fault) = Some (Table fault)
 
+-- the fault of a text that begins with a table, or none
 abbrev pub read_refusal : List ℕ → Option Fault
 read_refusal text = if nat_lt text_limit (length text) then Some Long else reading_refusal (read_table text)
 
--- the text is not too long, and begins with the text of this table, which has so many bytes
+-- the text is not too long, and begins with the text of this table, which has this number of bytes
 pub record IsReadOf (text : List ℕ) (read : TableRead) : Type 0 where
   pub short : length text ≤ text_limit
   pub table : IsReadUpTo (read_table text) text read.table read.end
 
+-- the table of the text, or the record of the text's fault
 abbrev pub IsReadStored : List ℕ → Result TableRead FaultRecord → Type 0
 IsReadStored text result = MatchResult result (IsReadOf text) (IsRefusedFor (read_refusal text))

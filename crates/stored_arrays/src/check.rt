@@ -1,4 +1,4 @@
-//! A stored table beside the table of a mesh in arrays.
+//! The comparison of a stored table with the table of a mesh in arrays.
 
 ghost use Rattle.std.specs.Prelude.{◌≡◌, length, nat_eq, MatchResult, option_map};
 ghost use Rattle.subdiv_model.specs.Fault.{Differs};
@@ -20,13 +20,13 @@ fn own_table(alloc: Global, arrays: &MeshArrays, depth: u32) -> Result<StencilTa
     ensures { IsOwnTable arrays.now depth result }
 {
     let refined = refine_arrays(alloc, arrays, depth)?;
-    // The prover proves a drop by name once for its type.
+    // The prover proves a named drop once for each type.
     drop(refined.mesh);
     drop(refined.composed.level);
     Ok(refined.composed.table)
 }
 
-// Whether no bytes stand behind the text of a table.
+// Whether the text of a table ends with the bytes.
 fn is_whole(read: &ReadTable, text: &[u8]) -> bool
     ensures { result ≡ nat_eq read.now.end (length text.now) }
 {
@@ -45,7 +45,7 @@ fn whole_table(alloc: Global, text: &[u8]) -> Result<StencilTable, FaultRecord>
     }
     table.facts();
     let line = table.rows() + 2;
-    // The prover proves a drop by name once for its type.
+    // The prover proves a named drop once for each type.
     drop(table);
     Err(record_of(&FarFault::Table {
         line,
@@ -53,7 +53,7 @@ fn whole_table(alloc: Global, text: &[u8]) -> Result<StencilTable, FaultRecord>
     }))
 }
 
-// How many rows a table has that is the same as its own.
+// The number of rows of a table that equals the mesh's own, or the fault.
 fn compare(stored: &StencilTable, own: &StencilTable) -> Result<u32, FaultRecord>
     ensures { MatchResult result
         (λ rows. (model.first_difference stored.now own.now ≡ None) × (rows ≡ length own.now.rows))
@@ -65,7 +65,7 @@ fn compare(stored: &StencilTable, own: &StencilTable) -> Result<u32, FaultRecord
     }
 }
 
-// How many rows a table has whose text these bytes are.
+// The number of rows of the table whose text these bytes are, or the fault.
 fn check_text(alloc: Global, own: &StencilTable, text: &[u8]) -> Result<u32, FaultRecord>
     ensures { IsTextChecked own.now text.now result }
 {
@@ -73,17 +73,17 @@ fn check_text(alloc: Global, own: &StencilTable, text: &[u8]) -> Result<u32, Fau
     compare(&stored, own)
 }
 
-/// Returns how many rows the table of a mesh in arrays has at a depth of at most 10, where the bytes are its text and no others.
+/// Checks that `text` is exactly the text of the table of a mesh in arrays at `depth`, at most 10, and returns the number of rows of that
+/// table.
 ///
-/// The record is that of the first of these:
+/// The record is that of the first fault; `Memory` may come at any time:
 ///
-/// - `BAD_ARGUMENT` where the depth is above 10, the first fault of the arrays, and the faults of the command `stencils` in their order;
-/// - `Long` where the text has more than 2^28 bytes;
-/// - `Table` with the first bad line of the text, counted from 1, and its cause;
-/// - `Table` with `Form` and the line behind the table's text, where bytes follow it;
-/// - `Differs` with the first row that differs, counted from 0, which is 0 where the numbers of control points differ.
-///
-/// `Memory` may come at any arrays and any text.
+/// - `BAD_ARGUMENT` for a depth above 10, a fault of the arrays, or a fault of the command `stencils`, in this order;
+/// - `Long`: the text has more than 2^28 bytes;
+/// - `Table`: the first bad line of the text, counted from 1, and its cause;
+/// - `Table` with `Form`: the line behind the table, if bytes follow its text;
+/// - `Differs`: the first row, counted from 0, that differs from the mesh's own or is missing in one table; 0 if the numbers of control
+///   points differ.
 pub fn check_stored(
     alloc: Global,
     arrays: &MeshArrays,

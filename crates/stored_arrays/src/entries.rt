@@ -1,4 +1,4 @@
-//! The entries of one row.
+//! The entries of a row.
 
 ghost use Rattle.std.specs.Prelude.{◌≡◌, ◌≤◌, ◌<◌, true, length, nat_eq, IfOk, OnOk};
 ghost use Rattle.subdiv_model.specs.Channel.{number_bound};
@@ -14,7 +14,7 @@ use stencil_apply::Entry;
 
 const NUMBER_LIMIT: u128 = (1 << 126) - 1;
 
-// Copies the entries from a place up to another.
+// Copies the entries from one place up to another.
 fn copy_entries(
     rows: &ExactRows,
     from: usize,
@@ -43,7 +43,7 @@ fn is_term(number: u128) -> bool
     1 <= number && number <= NUMBER_LIMIT
 }
 
-// Whether the control points ascend and are there, and the numerators are within their limits.
+// Whether the control points ascend and exist, and the numerators are within their limits.
 fn are_in_range(entries: &[Entry], controls: u32) -> bool
     ensures { result ≡ are_shares_in_range controls 0 (shares_of entries.now) }
 {
@@ -59,7 +59,7 @@ fn are_in_range(entries: &[Entry], controls: u32) -> bool
     true
 }
 
-// Whether the numerators sum to a denominator.
+// Whether the numerators sum to the denominator.
 fn sum_to(entries: &[Entry], denominator: u128) -> bool
     requires { denominator ≤ number_bound }
     ensures { result ≡ nat_eq (total_of (shares_of entries.now)) denominator }
@@ -71,14 +71,14 @@ fn sum_to(entries: &[Entry], denominator: u128) -> bool
     total == denominator
 }
 
-// Whether the entries are a row over a denominator.
+// Whether the entries are a row over the denominator.
 fn are_row(entries: &[Entry], denominator: u128, controls: u32) -> bool
     ensures { result ≡ is_row controls (row_of denominator entries.now) }
 {
     is_term(denominator) && are_in_range(entries, controls) && sum_to(entries, denominator)
 }
 
-// Copies the entries of a row of the arrays, and returns whether the row is good.
+// Copies the entries of a row of the arrays, and returns whether the row is valid.
 pub(crate) fn read_row(rows: &ExactRows, r: usize, entries: &mut Vec<Entry>) -> Result<bool, Memory>
     requires shape { is_in_shape rows.now ≡ true }
     requires inside { r < length rows.now.denominators.now }

@@ -10,11 +10,11 @@ use table_file::{ReadTable, TableReadFault, read_table};
 
 const TEXT_LIMIT: usize = 1 << 28;
 
-/// Returns the table whose text these bytes begin with, and how many bytes its text has. There are at most 2^28 bytes, and those behind the
-/// text are left unread.
+/// Returns the table whose text these bytes begin with, and the length of that text in bytes. The call does not look at bytes behind the
+/// text.
 ///
-/// The record is that of the first of these faults: `Long` where there are more bytes, and `Table` with the first bad line, counted from 1, and
-/// its cause. `Memory` may come at any bytes.
+/// The record is that of the first fault: `Long` for more than 2^28 bytes; `Table` with the first bad line, counted from 1, and its
+/// cause. `Memory` may come at any time.
 pub fn read_stored(alloc: Global, text: &[u8]) -> Result<ReadTable, FaultRecord>
     ensures { IsReadStored text.now result }
 {

@@ -1,4 +1,4 @@
-//! The rows of a table in arrays of a caller.
+//! The rows of a table in a caller's arrays.
 
 ghost use Rattle.std.specs.Prelude.{◌≡◌, ◌<◌, length};
 ghost use Rattle.stored_arrays.specs.Rows as spec;
@@ -7,22 +7,23 @@ use flat_arrays::Wide;
 
 const LIMIT: usize = 1 << 27;
 
-/// The rows of a table in arrays: a row for each denominator. Rows, entries and control points are counted from 0.
+/// The rows of a table in arrays, one for each denominator. Rows, entries and control points are counted from 0.
 #[repr(C)]
 #[derive(Clone, Copy)]
 pub struct ExactRows<'a> {
-    /// How many control points there are.
+    /// The number of control points.
     pub controls: u32,
-    /// Where the entries of each row begin, and at the end where the last ones end.
+    /// The place of each row's first entry, and at the end the number of all entries.
     pub starts: &'a [u32],
     /// The control points of all entries.
     pub indices: &'a [u32],
     /// The numerators of all entries.
     pub numerators: &'a [Wide],
+    /// The denominator of each row.
     pub denominators: &'a [Wide],
 }
 
-// Whether the arrays are as long as they have to be, and no longer than a table can be.
+// Whether the arrays have the lengths that they need, and none above the limit of tables.
 pub(crate) fn are_in_shape(rows: &ExactRows) -> bool
     ensures { result ≡ spec.is_in_shape rows.now }
 {

@@ -1,4 +1,4 @@
-//! The table of rows in arrays of a caller.
+//! The table of rows in a caller's arrays.
 
 ghost use Rattle.std.specs.Prelude.{◌≡◌, ◌<◌, true, length, IfOk, MatchResult};
 ghost use Rattle.fault_record.specs.Arrays.{row};
@@ -14,14 +14,14 @@ use ratio128::Memory;
 use std::alloc::Global;
 use stencil_apply::{Entry, StencilTable, TableBuilder};
 
-// The rows that were added, and a place for the entries of one row.
+// The rows added so far, and a buffer for the entries of one row.
 #[derive(Drop)]
 struct Added {
     builder: TableBuilder,
     entries: Vec<Entry>,
 }
 
-// No rows, with room for those of the arrays.
+// No rows, with capacity for those of the arrays.
 fn no_rows(alloc: Global, rows: &ExactRows) -> Result<Added, Memory>
     requires { is_in_shape rows.now ≡ true }
     ensures { IfOk result (λ added. AreFirstRows rows.now 0 added.builder.table) }
@@ -39,7 +39,7 @@ fn no_rows(alloc: Global, rows: &ExactRows) -> Result<Added, Memory>
     })
 }
 
-// Adds a row behind those before it, and returns whether it is good.
+// Adds a row, and returns whether it is valid.
 fn add_row(rows: &ExactRows, r: usize, added: &mut Added) -> Result<bool, Memory>
     requires shape { is_in_shape rows.now ≡ true }
     requires inside { r < length rows.now.denominators.now }
@@ -55,7 +55,7 @@ fn add_row(rows: &ExactRows, r: usize, added: &mut Added) -> Result<bool, Memory
     Ok(true)
 }
 
-// Adds all rows, and returns the first one that is not good.
+// Adds all rows, and returns the first invalid one.
 fn add_rows(rows: &ExactRows, added: &mut Added) -> Result<Option<usize>, Memory>
     requires shape { is_in_shape rows.now ≡ true }
     requires none { AreFirstRows rows.now 0 added.old.builder.table }
@@ -69,7 +69,7 @@ fn add_rows(rows: &ExactRows, added: &mut Added) -> Result<Option<usize>, Memory
     Ok(None)
 }
 
-// A record of arrays that are no rows.
+// A record of invalid arrays.
 fn bad_arrays(first: u64, second: u64) -> FaultRecord
     ensures { result ≡ row 17 17 first second }
 {
@@ -81,9 +81,9 @@ fn bad_arrays(first: u64, second: u64) -> FaultRecord
     }
 }
 
-// Why there is no table.
+// The cause why the arrays have no table.
 enum RowsFault {
-    // The row is not good.
+    // The row is invalid.
     Row(usize),
     Memory,
 }
@@ -98,7 +98,7 @@ impl From<Memory> for RowsFault {
     }
 }
 
-// The table of arrays that fit together.
+// The table of arrays whose lengths fit.
 fn table_in_shape(alloc: Global, rows: &ExactRows) -> Result<StencilTable, RowsFault>
     requires { is_in_shape rows.now ≡ true }
     ensures { MatchResult result (IsTableOf rows.now) (IsRowsFault rows.now) }
@@ -110,14 +110,14 @@ fn table_in_shape(alloc: Global, rows: &ExactRows) -> Result<StencilTable, RowsF
     }
 }
 
-/// Returns the table of the rows in the arrays. The work grows with the entries and the rows alone.
+/// Returns the table of the rows in the arrays. The work grows with the number of rows and entries only.
 ///
-/// There are at most 2^27 control points, rows and entries, as many numerators as control points of entries, and exactly one start more than
-/// there are denominators. Row `r` has the entries from `starts[r]` up to `starts[r + 1]`. These are within the arrays, and a row over the
-/// control points: each once and ascending, with numerators above 0 that sum to the denominator, which is from 1 to 2^126 - 1.
+/// There are at most 2^27 control points, rows and entries. `numerators` is as long as `indices`, and `starts` has one place
+/// more than there are denominators. Row `r` has the entries from `starts[r]` up to `starts[r + 1]`. Its control points ascend without
+/// repetition. Its numerators are above 0 and sum to its denominator, which is from 1 to 2^126 - 1.
 ///
-/// The record has the status `BAD_ARRAYS` and the kind 17. Where the arrays do not fit together or are too long, its numbers are 0 and 1. Else
-/// they are the first row, counted from 0, that is none or has entries outside the arrays, and 0. `Memory` may come at any rows.
+/// The record has the status `BAD_ARRAYS` and the kind 17. Its numbers are 0 and 1 if the lengths do not fit or pass a limit. Else they
+/// are the first invalid row, counted from 0, and 0. `Memory` may come at any time.
 pub fn table_of_rows(alloc: Global, rows: &ExactRows) -> Result<StencilTable, FaultRecord>
     ensures { IsTableOfRows rows.now result }
 {

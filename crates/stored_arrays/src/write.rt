@@ -11,7 +11,7 @@ use obj_out::Out;
 use stencil_apply::StencilTable;
 use table_file::put_table;
 
-// Writes the text of a table and hands it on.
+// Writes the text of a table and flushes it.
 fn write_table<K: Sink>(table: &StencilTable, sink: &mut K) -> Result<(), WriteFailed>
     ensures { Writes K.Sink sink.old sink.new (text_of_table table.now) result }
 {
@@ -20,10 +20,11 @@ fn write_table<K: Sink>(table: &StencilTable, sink: &mut K) -> Result<(), WriteF
     out.end()
 }
 
-/// Writes the text of a table into the bytes, as much as fits, and returns how many bytes the whole text has. The call takes no memory.
+/// Writes as much of the text of a table as fits to the front of `out`, and returns the length of the whole text in bytes. It takes no
+/// memory.
 ///
-/// What stands behind the text in a longer slice is not said. A table over more than 2^20 control points has a text too, which
-/// `read_stored` refuses.
+/// No clause says what a longer slice holds behind the text. A table over more than 2^20 control points has a text too, but
+/// [`read_stored`] refuses it.
 pub fn write_stored(table: &StencilTable, out: &mut [u8]) -> u64
     ensures stored { IsStored (text_of_table table.now) out.new }
     ensures written { result ≡ count_of (text_of_table table.now) }

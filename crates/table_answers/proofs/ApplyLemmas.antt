@@ -1,4 +1,4 @@
--- What comes of a stored table over the points of the text behind it.
+-- The results of evaluating a stored table over the points of the text behind it.
 use Rattle.std.proofs.Common.{◌≡◌, ◌≢◌, ℕ, zero, suc, ◌+◌, ◌*◌, ◌<◌, ◌≤◌, max, Bool, true, false, not, cond, nat_eq, nat_lt, ℤ, pos, ◌+ℤ◌, ◌*ℤ◌, List, [], ◌∷◌, ◌++◌, length, map, get_or, Option, Some, None, Result, Ok, Err, IsErr, IsErrAnd, IsOkAnd, IfOk, OnOk, MatchResult, arith, refl, ap, sym, subst, ◌∙◌}
 use Rattle.std.specs.List.{All, AllByRecursion, AllZip, flat_map}
 use Rattle.std.proofs.lemmas.List.{length-map, get_or-map}
@@ -128,7 +128,7 @@ module _ (table : Table) (mesh : ObjMesh) (is : IsEvaluable table mesh) where
         put = subst (λ n. All (CanBeWritten n) reply.values.items) (sym over) (subst (All (CanBeWritten mesh.common)) (sym same) written);
       }
 
-  -- where the values were found, they are the reply
+  -- if the values were found, they are the reply
   pub points-replied : {X E : Type 0} (found : Result X E) (r : Result Reply E) (made : X → TablePoints) (P : X → Type 0)
       → MatchResult found (λ x. IsOkAnd r (λ reply. reply ≡ Points (made x))) (λ fault. r ≡ Err fault) → IfOk found P
       → ((x : X) → P x → IsReplyOf (evaluated table mesh) (Points (made x))) → IfOk r (IsReplyOf (evaluated table mesh))
@@ -145,7 +145,7 @@ points-taken table (Ok x) (Err fault) Made old new made all most later = absurd 
 points-taken table (Err fault) r Made old new same all most later =
     subst (λ r. StepsTaken r old new (entries_of table.rows) (entries_of table.rows)) (sym same) (record { least = tt; most = most; later = later })
 
--- The answer where a text stands behind a table.
+-- The answer for a text behind a table.
 module _ (table : Table) (text : List ℕ) where
   pub text-refused : (fault : Fault) → IsFound fault (control_fault table (read_obj_fault text 0) (read_obj_mesh text 0)) → IsFound fault (answer_behind table text).refusal
   text-refused fault found = subst (IsFound fault) (sym (unless-refusal (control_fault table (read_obj_fault text 0) (read_obj_mesh text 0)) (points_text table (read_obj_mesh text 0)))) found
@@ -155,7 +155,7 @@ module _ (table : Table) (text : List ℕ) where
       ap (evaluated table) same
       ∙ sym (ap (λ fault. answer_unless (control_fault table fault (read_obj_mesh text 0)) (points_text table (read_obj_mesh text 0))) good)
 
--- The answer to an input is that to what stands behind its table.
+-- The answer to an input is that to the text behind its table.
 pub behind-table : (bytes : List ℕ) (table : Table) (rest text : List ℕ) (r : Result Reply FarFault) (old new : ℕ) → read_table bytes ≡ Ok (record { table = table; rest = rest }) → text ≡ rest
     → IsAnswerOf (answer_behind table text) r → StepsTaken r old new (entries_of table.rows) (entries_of table.rows) → IsStoredAnswer Apply bytes r old new
 behind-table bytes table rest text r old new read same found taken =
@@ -166,7 +166,7 @@ behind-table bytes table rest text r old new read same found taken =
       steps = subst (λ x. StepsTaken r old new (entries_read x) (entries_read x)) (sym here) taken;
     }
 
--- an input that begins with no table is refused, in no step
+-- an input that does not begin with a table is refused, in no step
 pub no-table : (bytes : List ℕ) (r : Result Reply FarFault) (fault : FarFault) (steps : ℕ) → IsErr r → IsErrAnd r (λ g. g ≡ fault) → IsFound (fault_of fault) (answer_of_apply (read_table bytes)).refusal
     → IsStoredAnswer Apply bytes r steps steps
 no-table bytes (Ok reply) fault steps err same found = absurd (cc)

@@ -1,4 +1,4 @@
--- How many lines and points a text has, and that its fault names one of its lines.
+-- The numbers of lines and points of a text. Its fault names one of its lines.
 use Rattle.std.proofs.Common.{◌≡◌, ℕ, zero, suc, ◌+◌, ◌-◌, ◌^◌, ◌≤◌, Bool, true, false, not, ◌&&◌, cond, nat_eq, nat_le, nat_lt, List, [], ◌∷◌, ◌++◌, length, map, take, drop, take_all, Result, Err, Option, Some, None, arith, leb-true, refl, sym, subst, ap, ◌∙◌}
 use Rattle.std.specs.Option.{option_or}
 use Rattle.std.specs.List.{filter, slice_split}
@@ -15,7 +15,7 @@ use Rattle.subdiv_model.specs.TableFault.{Count, Form, Range, TableCause, TableF
 use Rattle.obj_laws.proofs.FirstFaultLemmas.{bad-first, first_from, good-first}
 use Rattle.obj_laws.proofs.ObjSizeLemmas.{without-mark-bytes}
 
--- the fault, where there is one, names one of so many lines
+-- the fault, if there is one, names one of the lines
 abbrev NamesLine : ℕ → Option ObjFault → Type 0
 NamesLine count None = Unit {0}
 NamesLine count (Some fault) = fault.line ≤ count
@@ -62,7 +62,7 @@ lines-names lines least =
     or-names (length lines) (first_bad_line lines) (first_late_fault least lines) (fault-names (fault_at lines) (length lines))
     (lesser-names (length lines) _ _ (late-names is_vertex_line _ lines) (late-names _ 1 lines))
 
--- a text has at most as many lines as bytes, and one more
+-- a text has at most one line more than bytes
 closed-few : (parts : List (List ℕ)) → length (closed_lines parts) ≤ length parts
 closed-few [] = omega arith
 closed-few (line ∷ []) = cond_both (nat_eq (length line) 0) [] (line ∷ []) (λ lines. length lines ≤ 1) (λ _. omega arith) (λ _. omega arith)
@@ -74,7 +74,7 @@ lines-few text =
     let parts = slice_split (λ b. nat_eq b 10) bare in
     omega (arith, length-map (lines_of bare) line_words, closed-few parts, length-slice_split (λ b. nat_eq b 10) bare, count_by-le-length (λ b. nat_eq b 10) bare, without-mark-bytes text)
 
--- so its fault has such a number, and it has as many points at most
+-- the line of its fault and its number of points are at most that
 pub fault-line-few : (text : List ℕ) (fault : ObjFault) → read_obj_fault text 0 ≡ Some fault → fault.line ≤ length text + 1
 fault-line-few text fault is =
     let within : fault.line ≤ length (obj_lines text) = subst (NamesLine (length (obj_lines text))) is (lines-names (obj_lines text) 0) in

@@ -1,4 +1,4 @@
--- The lines that a search for a stored table went by, and the place where it ends.
+-- The lines that a search for a stored table passed, and the place where it ends.
 use Rattle.std.proofs.Common.{◌≡◌, ℕ, zero, suc, ◌+◌, ◌-◌, ◌<◌, ◌≤◌, min, Bool, true, false, not, nat_eq, List, [], ◌∷◌, ◌++◌, length, map, take, drop, get_or, bytes_eq, arith, refl, ap, sym, ◌∙◌, All, append_assoc, append-nil, eqb-true, length-append, length-drop}
 use Rattle.std.specs.List.{slice_split, position_or_len, before_first, after_first}
 use Rattle.std.specs.Cmp.Lexicographic.{same_text}
@@ -14,7 +14,7 @@ use Rattle.far_model.specs.Stored.{is_table_line, lines_before_table, mesh_part,
 use Rattle.obj_laws.proofs.ObjLineLemmas.{lines-first}
 use Rattle.table_answers.specs.Place.{IsTablePlace}
 
--- so many closed lines stand before a place, and none of them begins a table
+-- this number of closed lines comes before a place, and none of them begins a table
 pub record IsScanned (bytes : List ℕ) (start lines : ℕ) : Type 0 where
   pub text : List ℕ
   pub words : List (List (List ℕ))
@@ -26,14 +26,14 @@ pub record IsScanned (bytes : List ℕ) (start lines : ℕ) : Type 0 where
   pub inside : start ≤ length bytes
   pub behind : behind_lines lines (without_mark bytes) ≡ drop start bytes
 
--- the bytes without their mark begin as far behind their start as they are shorter
+-- the bytes without their mark begin as far after their start as they are shorter
 mark-dropped : (bytes : List ℕ) → drop (length bytes - length (without_mark bytes)) bytes ≡ without_mark bytes
 mark-dropped bytes =
     cond_both (bytes_eq (take 3 bytes) byte_order_mark) (drop 3 bytes) bytes (λ text. drop (length bytes - length text) bytes ≡ text)
     (λ _. let e : length bytes - length (drop 3 bytes) ≡ min 3 (length bytes) = omega (arith, length-drop 3 bytes) in ap (λ n. drop n bytes) e ∙ drop_min 3 bytes)
     (λ _. let e : length bytes - length bytes ≡ 0 = omega arith in ap (λ n. drop n bytes) e)
 
--- no line stands before the text of the first line
+-- no line comes before the text of the first line
 pub scanned-start : (bytes text : List ℕ) → text ≡ without_mark bytes → IsScanned bytes (length bytes - length text) 0
 scanned-start bytes text e =
     let rest : drop (length bytes - length text) bytes ≡ without_mark bytes = ap (λ t. drop (length bytes - length t) bytes) e ∙ mark-dropped bytes in
@@ -53,7 +53,7 @@ closed-cons : (line : List ℕ) (parts : List (List ℕ)) → 0 < length parts �
 closed-cons line [] some = absurd (omega arith)
 closed-cons line (part ∷ parts) some = refl
 
--- what stands before the first LF is a line before any bytes
+-- the bytes before the first line feed are a line before any bytes
 line-closed : (rest more : List ℕ) → position_or_len is_lf rest < length rest
     → lines_of (before_first is_lf rest ++ 10 ∷ more) ≡ before_first is_lf rest ∷ lines_of more
 line-closed rest more h =
@@ -62,13 +62,13 @@ line-closed rest more h =
     ap closed_lines (slice_split_at is_lf (before_first is_lf rest) 10 more front refl)
     ∙ closed-cons (before_first is_lf rest) (slice_split is_lf more) (omega (arith, length-slice_split is_lf more))
 
--- the bytes up to the first LF, LF, and the bytes behind it
+-- the bytes up to the first line feed, the line feed, and the bytes behind it
 line-cut : (rest : List ℕ) → position_or_len is_lf rest < length rest → rest ≡ before_first is_lf rest ++ 10 ∷ after_first is_lf rest
 line-cut rest h =
     split_at_first is_lf rest 0 h
     ∙ ap (λ b. before_first is_lf rest ++ b ∷ after_first is_lf rest) (eqb-true (get_or rest (position_or_len is_lf rest) 0) 10 (passes_at_first is_lf rest 0 h))
 
--- one line more is left behind after the others
+-- one more line is passed
 behind-more : (lines : ℕ) (bytes : List ℕ) → behind_lines (suc lines) bytes ≡ behind_line (behind_lines lines bytes)
 behind-more zero bytes = refl
 behind-more (suc lines) bytes = behind-more lines (behind_line bytes)
@@ -93,7 +93,7 @@ line-kept words others plain =
     take_while-cons (λ line. not (is_table_line line)) words others
     ∙ cond-true (not (is_table_line words)) (words ∷ lines_before_table others) [] (not_from_false (is_table_line words) plain)
 
--- none is kept from a line on that begins a table
+-- no line is kept from the first that begins a table
 table-met : (words : List (List ℕ)) (others : List (List (List ℕ))) → is_table_line words ≡ true → lines_before_table (words ∷ others) ≡ []
 table-met words others met =
     take_while-cons (λ line. not (is_table_line line)) words others
@@ -109,13 +109,13 @@ kept-more before words kept plain others =
     ∙ ap (λ more. before ++ more) (line-kept words others plain)
     ∙ sym (append_assoc before (words ∷ []) (lines_before_table others))
 
--- what the bytes before a place are
+-- the bytes before a place
 front-is : (bytes front : List ℕ) (start : ℕ) → start ≤ length bytes → bytes ≡ front ++ drop start bytes → take start bytes ≡ front
 front-is bytes front start inside e =
     let n : length front ≡ start = omega (arith, ap length e, length-append front (drop start bytes), length-drop start bytes) in
     ap (take start) e ∙ take_at front (drop start bytes) start n
 
--- bytes have no mark where they stand before others with which they have none
+-- bytes have no mark before others if they have none with them
 unmarked : (text more : List ℕ) → bytes_eq (take 3 (text ++ more)) byte_order_mark ≡ false → without_mark text ≡ text
 unmarked [] more none = refl
 unmarked (a ∷ []) more none = rw (and_right (nat_eq a 239) false refl) refl
@@ -140,7 +140,7 @@ mark-taken bytes text start inside split = by (bytes_eq (take 3 bytes) byte_orde
         ap without_mark (front-is bytes text start inside whole)
         ∙ unmarked text (drop start bytes) (sym (ap (λ t. bytes_eq (take 3 t) byte_order_mark) whole) ∙ e)
 
--- the words of all lines, of which those before a place are known
+-- the words of all lines, some of which are known from before a place
 scanned-words : (bytes : List ℕ) (start lines : ℕ) (scanned : IsScanned bytes start lines)
     → obj_lines bytes ≡ scanned.words ++ map line_words (lines_of (drop start bytes))
 scanned-words bytes start lines scanned =
@@ -207,7 +207,7 @@ module _ (bytes : List ℕ) (start lines finish : ℕ) (scanned : IsScanned byte
       (ap lines_before_table rest-words
       ∙ table-met (line_words (line-from bytes start)) (map line_words (lines_of (behind-from bytes start))) (cut-words true met))
 
-  -- a search ends behind a last line that nothing closes
+  -- a search ends behind a last line without a line feed
   pub placed-last : is_table_line (line_words (take (finish - start) (drop start bytes))) ≡ false → finish ≡ length bytes
       → IsTablePlace bytes (record { lines = lines + 1; start = finish })
   placed-last plain last =
@@ -235,7 +235,7 @@ module _ (bytes : List ℕ) (start lines finish : ℕ) (scanned : IsScanned byte
             ∙ ap (λ n. behind_lines n (without_mark bytes)) count;
       }
 
-  -- LF closes a line that begins no table
+  -- a line feed closes a line that begins no table
   pub scanned-more : is_table_line (line_words (take (finish - start) (drop start bytes))) ≡ false → finish < length bytes
       → IsScanned bytes (finish + 1) (lines + 1)
   scanned-more plain closed =

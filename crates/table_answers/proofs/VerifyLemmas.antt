@@ -1,4 +1,4 @@
--- What comes of a stored table beside the table of the mesh before it.
+-- The results of comparing a stored table with the table of the mesh before it.
 use Rattle.std.proofs.Common.{◌≡◌, ℕ, suc, ◌+◌, ◌≤◌, Bool, true, false, cond, nat_eq, List, [], length, drop, Option, Some, None, option_map, Result, Ok, Err, IsErr, IsErrAnd, MatchResult, arith, refl, ap, sym, subst, ◌∙◌}
 use Rattle.std.specs.Option.{option_or}
 use Rattle.std.proofs.lemmas.Bool.Decides.{nat_tests}
@@ -30,13 +30,13 @@ use Rattle.table_answers.specs.Answers.{IsAnswerOf, IsOwn, IsOwnTable, IsReplyOf
 use Rattle.table_answers.specs.Place.{IsTablePlace}
 use Rattle.table_answers.specs.declared.place.TablePlace.{TablePlace}
 
--- a fault that is handed on is refused as it was
+-- a fault that is passed on is refused as before
 pub handed-refusal : {X : Type 0} (P : X → Type 0) (r : Result X FarFault) (fault : FarFault) (refusal : Option Fault) → IsErr r → IsErrAnd r (λ g. g ≡ fault)
     → IsFound (fault_of fault) refusal → MatchResult r P (λ fault. IsFound (fault_of fault) refusal)
 handed-refusal P (Ok x) fault refusal err same found = absurd (cc)
 handed-refusal P (Err other) fault refusal err same found = subst (λ f. IsFound (fault_of f) refusal) (sym same) found
 
--- where the bytes behind a table are empty, and where they are not
+-- the bytes behind a table are empty, or they are not
 module _ (text : List ℕ) (table : tables.Table) (end : ℕ) (within : end ≤ length text) (read : read_table text ≡ Ok (record { table = table; rest = drop end text })) where
   pub is-whole : end ≡ length text → IsWhole text table
   is-whole all = read ∙ ap (λ rest. Ok (record { table = table; rest = rest })) (drop_all end text (omega (arith, all)))
@@ -105,7 +105,7 @@ module _ (bytes : List ℕ) (depth : ℕ) (place : TablePlace) (at : IsTablePlac
   mesh-refused text fault lines found =
       own-refused (fault_of fault) (composition_refusal depth 0 (mesh_part bytes)) (subst (λ l. IsFound (fault_of fault) (composition_refusal depth 0 l)) lines found) (read_table (table_part bytes))
 
-  -- without one the stored table decides
+  -- without a refusal of the mesh the stored table decides
   module _ (text : List ℕ) (lines : obj_lines text ≡ mesh_part bytes) (table : tables.Table) (is : IsOwn text depth table) where
     none : composition_refusal depth 0 (mesh_part bytes) ≡ None
     none = ap (composition_refusal depth 0) (sym lines) ∙ is.good
@@ -148,7 +148,7 @@ verify-steps r bytes text depth old new lines later most = by r
     by (Ok x) = record { least = omega (arith, later); most = limit; later = later }
     by (Err e) = record { least = tt; most = limit; later = later }
 
--- The table of a mesh that is composed is its own.
+-- The composed table of a mesh is its own.
 module _ (text : List ℕ) (mesh : ObjMesh) (read : IsMeshText text 0 mesh) (depth : ℕ) where
   pub own-composed : (composed : ComposedChannel) → IsComposedOf mesh depth composed → IsOwn text depth composed.table
   own-composed composed is = record {

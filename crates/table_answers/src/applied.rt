@@ -1,4 +1,4 @@
-//! A stored table over the points of the text behind it.
+//! A stored table evaluated over the points of the text behind it.
 
 ghost use Rattle.std.specs.Prelude.{◌≡◌, ◌^◌, ◌≤◌, length, Err, IfOk, IsOkAnd, MatchResult};
 ghost use Rattle.far_model.specs.Command.{Apply};
@@ -34,7 +34,7 @@ fn first_table(alloc: Global, bytes: &[u8]) -> Result<ReadTable, FarFault>
     }
 }
 
-// The mesh of a text that stands behind the lines of a table.
+// The mesh of the text behind the lines of a table.
 fn mesh_behind(alloc: Global, table: &StencilTable, text: &[u8]) -> Result<RawMesh, FarFault>
     requires { length text.now ≤ 2 ^ 28 }
     ensures { IsControlMesh text.now table.now result }
@@ -51,7 +51,7 @@ fn mesh_behind(alloc: Global, table: &StencilTable, text: &[u8]) -> Result<RawMe
     }
 }
 
-// The table, where it can be evaluated over the points of a mesh.
+// The table, if it can be evaluated over the points of a mesh, or the fault.
 fn evaluable(table: StencilTable, mesh: &RawMesh) -> Result<StencilTable, FarFault>
     requires { length mesh.now.points ≤ 2 ^ 29 }
     ensures { MatchResult result
@@ -60,14 +60,14 @@ fn evaluable(table: StencilTable, mesh: &RawMesh) -> Result<StencilTable, FarFau
 {
     let count = mesh.points().len() as u32;
     if count != table.controls() {
-        // The prover proves a drop by name once for its type.
+        // The prover proves a named drop once for each type.
         drop(table);
         return Err(FarFault::Controls { count });
     }
     fitting(table, most_of(mesh), Track::Positions, 0)
 }
 
-// The reply with the points of a table, where they were found.
+// The reply with the points of a table, or the fault.
 fn with_points(mesh: &RawMesh, values: Result<Vec<Valued<Point3>>, Memory>) -> Result<Reply, Memory>
     ensures { MatchResult values
         (λ values. IsOkAnd result (λ reply. reply ≡ variant.Points (record { values = values; common = mesh.now.common })))
@@ -77,7 +77,7 @@ fn with_points(mesh: &RawMesh, values: Result<Vec<Valued<Point3>>, Memory>) -> R
     values.map(|values| Reply::Points(TablePoints { values, common }))
 }
 
-// The reply with the points of a table, which is evaluated over those of a mesh.
+// The reply with the points of a table, evaluated over those of a mesh.
 fn points_reply<L: Ledger>(
     alloc: Global,
     table: StencilTable,
@@ -90,7 +90,7 @@ fn points_reply<L: Ledger>(
 {
     mesh.facts();
     let values = evaluate(alloc, &table, mesh.points(), steps);
-    // The prover proves a drop by name once for its type.
+    // The prover proves a named drop once for each type.
     drop(table);
     with_points(mesh, values)
 }
@@ -110,7 +110,7 @@ fn table_points<L: Ledger>(
     Ok(points_reply(alloc, table, mesh, steps)?)
 }
 
-// The answer of the table at the beginning of an input, over the points of the text behind it.
+// The answer for an input that begins with a table and ends with an OBJ text.
 fn answer_read<L: Ledger>(
     alloc: Global,
     read: ReadTable,
@@ -126,20 +126,16 @@ fn answer_read<L: Ledger>(
     table_points(alloc, table, &mesh, steps)
 }
 
-/// Returns the points of a stored table over those of the text behind it. The input has at most 2^28 bytes: the text of a table, and
-/// then an OBJ text. The faces of this text need not be those of a manifold.
+/// Returns the points of a stored table over the points of the text behind it. The input has at most 2^28 bytes: the text of a table,
+/// then an OBJ text, whose faces need not form a manifold. The reply has a point for each row, over the row's denominator times the
+/// common one of the text. The call counts exactly one step for each entry of the table if it returns a reply, else at most that.
 ///
-/// The reply has a point for each row of the table, over the row's denominator times the common one of the text.
+/// Errors, in this order; `Memory` may come at any time. Lines are counted from 1 over the whole input.
 ///
-/// The fault is the first of these:
-///
-/// - `Table` with the first bad line of the table's text;
-/// - `Obj` with the least bad line of the OBJ text;
-/// - `Controls` with how many points the OBJ text has, where the table has another number of control points;
-/// - `Overflow` of the positions at level 0, where a numerator can pass its bound (`Value`).
-///
-/// Lines are counted from 1 over the whole input. `Memory` may come of any input. The call takes at most one step for each entry of
-/// the table, and where it returns a reply it took one for each.
+/// - `Table`: the first bad line of the table, and its cause;
+/// - `Obj`: the first bad line of the OBJ text, and its cause;
+/// - `Controls`: the number of points of the OBJ text, if the table has another number of control points;
+/// - `Overflow` of the positions at level 0 and `Value`: a numerator can pass its bound.
 pub fn apply<L: Ledger>(
     alloc: Global,
     bytes: &[u8],

@@ -1,4 +1,5 @@
-//! What the commands answer that take a stored table: a reply, or the fault for which they refuse their input. No call writes anything.
+//! Answers the commands `verify` and `apply`, which read a stored table. Each call returns a whole reply, or the fault for which it
+//! refuses the input, before anything is written. The pages of `far_text` and `far_fault` describe replies and faults.
 #![tactic(auto)]
 
 mod applied;

@@ -1,4 +1,4 @@
-//! Where the stored table of an input begins.
+//! The place of the stored table in an input.
 
 ghost use Rattle.std.specs.Prelude.{◌≡◌, ◌≤◌, ◌^◌, length};
 ghost use Rattle.far_model.specs.Stored.{is_table_line};
@@ -8,7 +8,7 @@ ghost use Rattle.table_answers.specs.Place.{IsTablePlace};
 use obj_tags::skip_mark;
 use obj_text::{line_end, words_of};
 
-/// Where a stored table begins: how many lines stand before it, and the place of its first byte, counted from 0.
+/// The place of a stored table: the number of lines before it, and the place of its first byte, counted from 0.
 #[derive(Clone, Copy, Debug, PartialEq, Eq)]
 pub(crate) struct TablePlace {
     pub(crate) lines: u32,
@@ -25,8 +25,8 @@ fn begins_table(line: &[u8]) -> bool
     }
 }
 
-/// Returns the place of the first line whose first word is `table`, or the end of the input where no line begins so.
-/// A byte order mark before the first line is no part of that line.
+/// Returns the place of the first line whose first word is `table`, or the end of the input if no line begins so. A byte order mark
+/// before the first line does not count as part of it.
 pub(crate) fn place_of_table(bytes: &[u8]) -> TablePlace
     requires { length bytes.now ≤ 2 ^ 28 }
     ensures { IsTablePlace bytes.now result }

@@ -1,4 +1,4 @@
-//! A stored table beside the table of the mesh before it.
+//! The comparison of a stored table with the table of the mesh before it.
 
 ghost use Rattle.std.specs.Prelude.{◌≡◌, ℕ, ◌^◌, ◌≤◌, List, [], length, drop, Ok};
 ghost use Rattle.far_model.specs.Command.{Verify};
@@ -31,12 +31,12 @@ fn own_table<L: Ledger>(
 {
     let mesh = mesh_of_text(alloc, text, 0)?;
     let composed = compose(alloc, &mesh, depth, steps)?;
-    // The prover proves a drop by name once for its type.
+    // The prover proves a named drop once for each type.
     drop(composed.level);
     Ok(composed.table)
 }
 
-// The table that was read from the beginning of a text, where nothing stands behind it. The text has so many bytes, and stands behind so many lines.
+// The table read from the beginning of a text, or the fault if bytes follow it.
 fn whole_table(read: ReadTable, len: usize, lines: u32) -> Result<StencilTable, FarFault>
     requires few { lines ≤ 2 ^ 28 }
     ensures { (text : List ℕ) → length text ≡ len → read.end ≤ len
@@ -48,7 +48,7 @@ fn whole_table(read: ReadTable, len: usize, lines: u32) -> Result<StencilTable, 
         return Ok(table);
     }
     let line = lines + table.rows() + 2;
-    // The prover proves a drop by name once for its type.
+    // The prover proves a named drop once for each type.
     drop(table);
     Err(FarFault::Table {
         line,
@@ -56,7 +56,7 @@ fn whole_table(read: ReadTable, len: usize, lines: u32) -> Result<StencilTable, 
     })
 }
 
-// The table whose text these bytes are, which stand behind so many lines.
+// The table whose text these bytes are, after the lines of the mesh.
 fn stored_table(alloc: Global, text: &[u8], lines: u32) -> Result<StencilTable, FarFault>
     requires short { length text.now ≤ 2 ^ 28 }
     requires few { lines ≤ 2 ^ 28 }
@@ -72,7 +72,7 @@ fn stored_table(alloc: Global, text: &[u8], lines: u32) -> Result<StencilTable, 
     }
 }
 
-// The answer of a stored table beside the table of the mesh.
+// The answer of the comparison of a stored table with the table of the mesh.
 fn compare(stored: &StencilTable, own: &StencilTable) -> Result<Reply, FarFault>
     ensures { IsAnswerOf (compared stored.now own.now) result }
 {
@@ -82,29 +82,27 @@ fn compare(stored: &StencilTable, own: &StencilTable) -> Result<Reply, FarFault>
     }
 }
 
-// The answer of both tables, which the function drops.
+// The answer of the comparison. The function drops both tables.
 fn compare_and_drop(stored: StencilTable, own: StencilTable) -> Result<Reply, FarFault>
     ensures { IsAnswerOf (compared stored own) result }
 {
     let answer = compare(&stored, &own);
-    // The prover proves a drop by name once for its type.
+    // The prover proves a named drop once for each type.
     drop(stored);
     drop(own);
     answer
 }
 
-/// Returns whether the stored table of an input is that of the mesh before it, at a depth of at most 10. The input has at most 2^28
-/// bytes: an OBJ text, and from the first line on whose first word is `table` the text of a table.
+/// Compares the stored table of an input with the table of the mesh before it, at a depth of at most 10. The input has at most 2^28
+/// bytes: an OBJ text, and the text of a table from the first line whose first word is `table`. If both tables agree, the reply has their
+/// number of rows. The call counts at most one step for each face of the levels from 0 to the depth.
 ///
-/// The reply has how many rows both tables have. The fault is the first of these:
+/// Errors, in this order; `Memory` may come at any time. Lines are counted from 1 over the whole input.
 ///
-/// - a fault of [`stencils`](mesh_answers::stencils) for the mesh, or `Obj` with the least bad line of its text;
-/// - `Table` with the first bad line of the table's text, and `Form` at the line behind the last where no line begins with `table`;
-/// - `Table` with `Form` at the line behind the table's text, where bytes follow it;
-/// - `Differs` with the first row that differs, counted from 0, which is 0 where the numbers of control points differ.
-///
-/// Lines are counted from 1 over the whole input. `Memory` may come of any input. The call takes at most one step for each face of
-/// the levels from 0 to the depth.
+/// - `Obj`: the first bad line of the mesh text, and its cause; else an error of [`stencils`](mesh_answers::stencils);
+/// - `Table`: the first bad line of the table, and its cause; `Form` at the line behind the last one if no line begins with `table`;
+/// - `Table` with `Form`: the line behind the table, if bytes follow its text;
+/// - `Differs`: the first row, counted from 0, that differs or is missing in one table; 0 if the numbers of control points differ.
 pub fn verify<L: Ledger>(
     alloc: Global,
     bytes: &[u8],

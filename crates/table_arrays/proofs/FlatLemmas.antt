@@ -1,4 +1,4 @@
--- Where the entries of rows stand.
+-- The places of the entries of rows.
 use Rattle.std.proofs.Common.{◌≡◌, ℕ, zero, suc, ◌+◌, ◌<◌, ◌≤◌, List, [], ◌∷◌, ◌++◌, length, take, get_or, set, arith, ap, sym, ◌∙◌}
 use Rattle.std.proofs.lemmas.List.{take_all, take_more, take_more_set}
 use Rattle.std.proofs.lemmas.List.Sums.{sum_by-cons}
@@ -22,7 +22,7 @@ entries-room rows i = counts-room (λ row. length row.shares) rows i blank
 pub entries-all : (rows : List Row) (i at : ℕ) → length rows ≤ i → at ≡ entries_of (take i rows) → at ≡ entries_of rows
 entries-all rows = counts-all (λ row. length row.shares) rows
 
--- where rows begin
+-- the starts of rows are one more than the rows
 pub length-starts : (at : ℕ) (rows : List Row) → length (starts_from at rows) ≡ length rows + 1
 length-starts at [] = omega arith
 length-starts at (row ∷ rows) = omega (arith, length-starts (at + length row.shares) rows)

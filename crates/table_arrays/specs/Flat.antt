@@ -1,9 +1,9 @@
--- A table of stencils as flat lists.
+-- A stencil table as flat lists.
 use Rattle.std.specs.Prelude.{ℕ, ◌+◌, ℤ, pos, List, [], ◌∷◌, length, map}
 use Rattle.std.specs.List.{flat_map}
 use Rattle.subdiv_model.specs.Table.{Row}
 
--- where the entries of each row begin, after so many before them, and where the last ones end
+-- the start of each row, after this many entries before, then the end of the last row
 abbrev pub starts_from : ℕ → List Row → List ℕ
 starts_from at [] = at ∷ []
 starts_from at (row ∷ rows) = at ∷ starts_from (at + length row.shares) rows

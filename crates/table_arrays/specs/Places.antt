@@ -1,4 +1,4 @@
--- A table in a caller's arrays: how long they have to be, and what is written there.
+-- A table in a caller's arrays: the lengths of the arrays, and what they contain.
 use Rattle.std.specs.Prelude.{ℕ, ◌≡◌, ◌+◌, ◌&&◌, Bool, List, nat_le, length, map, take}
 use Rattle.subdiv_model.specs.Table.{Table, entries_of}
 use Rattle.nearest_arrays.specs.Nearest.{AreNearest}
@@ -10,11 +10,11 @@ use Rattle.table_arrays.specs.declared.places.DoublePlaces.{DoublePlaces}
 use Rattle.table_arrays.specs.declared.places.FloatPlaces.{FloatPlaces}
 use Rattle.nearest_float.specs.Binary.{binary32, binary64}
 
--- how many control points, rows and entries a table has
+-- the number of control points, rows and entries of a table
 abbrev pub counts_of : Table → TableCounts
 counts_of table = record { controls = table.controls; rows = length table.rows; entries = entries_of table.rows }
 
--- places for so many: one more than there are rows, and one for each entry
+-- the arrays are long enough: one place more than there are rows, and one for each entry
 abbrev pub are_rows_long_enough : TableCounts → List ℕ → List ℕ → Bool
 are_rows_long_enough counts starts indices = nat_le (counts.rows + 1) (length starts) && nat_le counts.entries (length indices)
 
@@ -31,7 +31,7 @@ abbrev pub are_floats_long_enough : TableCounts → FloatPlaces → Bool
 are_floats_long_enough counts places =
     are_rows_long_enough counts places.starts.now places.indices.now && nat_le counts.entries (length places.weights.now)
 
--- where the entries of each row begin, and their control points
+-- the start of each row, and the control points of all entries
 pub record AreRowsWritten (table : Table) (starts indices : List ℕ) : Type 0 where
   pub begin : take (length table.rows + 1) starts ≡ row_starts table.rows
   pub control : take (entries_of table.rows) indices ≡ indices_of table.rows
@@ -42,12 +42,12 @@ pub record IsExactWritten (table : Table) (places : ExactPlaces) : Type 0 where
   pub numerators : map natural_of (take (entries_of table.rows) places.numerators.now) ≡ numerators_of table.rows
   pub denominators : map natural_of (take (length table.rows) places.denominators.now) ≡ denominators_of table.rows
 
--- the rows with the nearest doubles of their weights
+-- the rows with the binary64 numbers nearest to their weights
 pub record AreDoublesWritten (table : Table) (places : DoublePlaces) : Type 0 where
   pub rows : AreRowsWritten table places.starts.now places.indices.now
   pub weights : AreNearest binary64 (fractions_of table.rows) (take (entries_of table.rows) places.weights.now)
 
--- the rows with the nearest floats of their weights
+-- the rows with the binary32 numbers nearest to their weights
 pub record AreFloatsWritten (table : Table) (places : FloatPlaces) : Type 0 where
   pub rows : AreRowsWritten table places.starts.now places.indices.now
   pub weights : AreNearest binary32 (fractions_of table.rows) (take (entries_of table.rows) places.weights.now)

@@ -1,4 +1,4 @@
-//! The weights of the entries, as the nearest doubles.
+//! The weights of the entries, as the nearest binary64 numbers.
 
 ghost use Rattle.std.specs.Prelude.{◌≡◌, ◌^◌, ◌<◌, ◌≤◌, pos, length, map, take, drop};
 ghost use Rattle.std.specs.List.{All};
@@ -41,9 +41,9 @@ fn fill_weights64(table: &StencilTable, row: u32, out: &mut [u64])
 }
 
 /// Writes the bits of the binary64 number nearest to the weight of each entry, row by row. A weight is a numerator over its
-/// row's denominator. These are the first places of the array, as many as the table has entries; the others stay.
+/// row's denominator.
 ///
-/// The array has at least as many places as the table has entries.
+/// The array has at least one place for each entry. The call leaves later places unchanged.
 pub fn put_weights64(table: &StencilTable, out: &mut [u64])
     requires fits { entries_of table.now.rows ≤ length out.old }
     ensures written { AreNearest binary64 (fractions_of table.now.rows) (take (entries_of table.now.rows) out.new) }

@@ -1,4 +1,6 @@
-//! Tables of stencils, written into flat arrays that a caller owns. No call takes memory.
+//! Writes stencil tables into flat arrays that the caller owns, with exact weights or with weights as floating-point numbers.
+//!
+//! No call takes memory or reports an error. `counts_of` returns the lengths that the arrays need.
 #![tactic(auto)]
 
 mod doubles;

@@ -33,10 +33,9 @@ fn fill_numerators(table: &StencilTable, row: u32, out: &mut [Wide])
     }
 }
 
-/// Writes the numerators of all entries, row by row. These are the first places of the array, as many as the table has entries;
-/// the others stay.
+/// Writes the numerators of all entries, row by row, in two words each.
 ///
-/// The array has at least as many places as the table has entries.
+/// The array has at least one place for each entry. The call leaves later places unchanged.
 pub fn put_numerators(table: &StencilTable, out: &mut [Wide])
     requires fits { entries_of table.now.rows ≤ length out.old }
     ensures written { map natural_of (take (entries_of table.now.rows) out.new) ≡ numerators_of table.now.rows }
@@ -51,9 +50,9 @@ pub fn put_numerators(table: &StencilTable, out: &mut [Wide])
     }
 }
 
-/// Writes the denominators of all rows. These are the first places of the array, as many as the table has rows; the others stay.
+/// Writes the denominators of all rows, in two words each.
 ///
-/// The array has at least as many places as the table has rows.
+/// The array has at least one place for each row. The call leaves later places unchanged.
 pub fn put_denominators(table: &StencilTable, out: &mut [Wide])
     requires fits { length table.now.rows ≤ length out.old }
     ensures written { map natural_of (take (length table.now.rows) out.new) ≡ denominators_of table.now.rows }

@@ -1,4 +1,4 @@
-//! A table written into all arrays of a caller at once.
+//! A table in the arrays of a caller.
 
 ghost use Rattle.std.specs.Prelude.{◌≡◌, ◌≤◌, length, true, false};
 ghost use Rattle.flat_arrays.specs.Places.{IsSameArray};
@@ -11,17 +11,19 @@ use crate::rows::{put_indices, put_starts};
 use flat_arrays::Wide;
 use stencil_apply::StencilTable;
 
-/// How many control points, rows and entries a table has.
+/// The number of control points, rows and entries of a table.
 #[repr(C)]
 #[derive(Clone, Copy, Debug, PartialEq, Eq)]
 pub struct TableCounts {
+    /// The number of control points.
     pub controls: u32,
+    /// The number of rows.
     pub rows: u32,
-    /// The entries of all rows.
+    /// The number of entries of all rows together.
     pub entries: u64,
 }
 
-/// Returns how many control points, rows and entries the table has.
+/// Returns the number of control points, rows and entries of the table.
 pub fn counts_of(table: &StencilTable) -> TableCounts
     ensures { result ≡ spec.counts_of table.now }
 {
@@ -32,26 +34,28 @@ pub fn counts_of(table: &StencilTable) -> TableCounts
     }
 }
 
-// Whether there are places for the rows of a table.
+// Returns whether the arrays are long enough for the rows of a table.
 fn are_rows_long_enough(counts: &TableCounts, starts: &[u32], indices: &[u32]) -> bool
     ensures { result ≡ spec.are_rows_long_enough counts.now starts.now indices.now }
 {
     (counts.rows as u64) < starts.len() as u64 && counts.entries <= indices.len() as u64
 }
 
-/// Arrays of a caller for a table with exact numerators, an entry each, over denominators, a row each.
+/// The arrays of a caller for a table with exact weights: a numerator for each entry, and a denominator for each row.
 #[repr(C)]
 #[derive(Drop)]
 pub struct ExactPlaces<'a> {
-    /// Where the entries of each row begin, and at the end where the last ones end.
+    /// The start of each row in the list of entries, then the end of the last row.
     pub starts: &'a mut [u32],
-    /// The control points of all entries.
+    /// The control points of all entries, counted from 0.
     pub indices: &'a mut [u32],
+    /// The numerator of each entry.
     pub numerators: &'a mut [Wide],
+    /// The denominator of each row.
     pub denominators: &'a mut [Wide],
 }
 
-// Whether each array has a place for each item.
+// Returns whether each array is long enough.
 fn are_exact_long_enough(counts: &TableCounts, places: &ExactPlaces) -> bool
     ensures { result ≡ spec.are_exact_long_enough counts.now places.now }
 {
@@ -60,7 +64,8 @@ fn are_exact_long_enough(counts: &TableCounts, places: &ExactPlaces) -> bool
         && counts.rows as u64 <= places.denominators.len() as u64
 }
 
-/// Writes a table into arrays, from their front, where each is long enough, and returns whether it did.
+/// Writes a table to the front of the arrays, and returns whether it did. It returns `false` and writes nothing if some array
+/// is too short.
 pub fn put_exact_table(table: &StencilTable, places: &mut ExactPlaces) -> bool
     ensures long_enough { result ≡ spec.are_exact_long_enough (spec.counts_of table.now) places.old }
     ensures written { result ≡ true → spec.IsExactWritten table.now places.new }
@@ -80,18 +85,19 @@ pub fn put_exact_table(table: &StencilTable, places: &mut ExactPlaces) -> bool
     true
 }
 
-/// Arrays of a caller for a table whose weights are the bits of doubles.
+/// The arrays of a caller for a table whose weights are the bits of binary64 numbers.
 #[repr(C)]
 #[derive(Drop)]
 pub struct DoublePlaces<'a> {
-    /// Where the entries of each row begin, and at the end where the last ones end.
+    /// The start of each row in the list of entries, then the end of the last row.
     pub starts: &'a mut [u32],
-    /// The control points of all entries.
+    /// The control points of all entries, counted from 0.
     pub indices: &'a mut [u32],
+    /// The weight of each entry, as the bits of a binary64 number.
     pub weights: &'a mut [u64],
 }
 
-// Whether each array has a place for each item.
+// Returns whether each array is long enough.
 fn are_doubles_long_enough(counts: &TableCounts, places: &DoublePlaces) -> bool
     ensures { result ≡ spec.are_doubles_long_enough counts.now places.now }
 {
@@ -99,7 +105,8 @@ fn are_doubles_long_enough(counts: &TableCounts, places: &DoublePlaces) -> bool
         && counts.entries <= places.weights.len() as u64
 }
 
-/// Writes a table into arrays, from their front, where each is long enough, and returns whether it did.
+/// Writes a table to the front of the arrays, and returns whether it did. It returns `false` and writes nothing if some array
+/// is too short.
 pub fn put_double_table(table: &StencilTable, places: &mut DoublePlaces) -> bool
     ensures long_enough { result ≡ spec.are_doubles_long_enough (spec.counts_of table.now) places.old }
     ensures written { result ≡ true → spec.AreDoublesWritten table.now places.new }
@@ -117,18 +124,19 @@ pub fn put_double_table(table: &StencilTable, places: &mut DoublePlaces) -> bool
     true
 }
 
-/// Arrays of a caller for a table whose weights are the bits of floats.
+/// The arrays of a caller for a table whose weights are the bits of binary32 numbers.
 #[repr(C)]
 #[derive(Drop)]
 pub struct FloatPlaces<'a> {
-    /// Where the entries of each row begin, and at the end where the last ones end.
+    /// The start of each row in the list of entries, then the end of the last row.
     pub starts: &'a mut [u32],
-    /// The control points of all entries.
+    /// The control points of all entries, counted from 0.
     pub indices: &'a mut [u32],
+    /// The weight of each entry, as the bits of a binary32 number.
     pub weights: &'a mut [u32],
 }
 
-// Whether each array has a place for each item.
+// Returns whether each array is long enough.
 fn are_floats_long_enough(counts: &TableCounts, places: &FloatPlaces) -> bool
     ensures { result ≡ spec.are_floats_long_enough counts.now places.now }
 {
@@ -136,7 +144,8 @@ fn are_floats_long_enough(counts: &TableCounts, places: &FloatPlaces) -> bool
         && counts.entries <= places.weights.len() as u64
 }
 
-/// Writes a table into arrays, from their front, where each is long enough, and returns whether it did.
+/// Writes a table to the front of the arrays, and returns whether it did. It returns `false` and writes nothing if some array
+/// is too short.
 pub fn put_float_table(table: &StencilTable, places: &mut FloatPlaces) -> bool
     ensures long_enough { result ≡ spec.are_floats_long_enough (spec.counts_of table.now) places.old }
     ensures written { result ≡ true → spec.AreFloatsWritten table.now places.new }

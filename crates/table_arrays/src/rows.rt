@@ -1,4 +1,4 @@
-//! Where the entries of each row stand, and their control points.
+//! The starts of the rows, and the control points of their entries.
 
 ghost use Rattle.std.specs.Prelude.{◌≡◌, ◌+◌, ◌≤◌, length, take, drop};
 ghost use Rattle.stencil_apply.specs.Table.{entries_of};
@@ -7,10 +7,10 @@ ghost use Rattle.table_arrays.specs.Flat.{indices_of, row_starts};
 use flat_arrays::put_items;
 use stencil_apply::StencilTable;
 
-/// Writes where the entries of each row begin, counted from 0 over the entries of all rows, and behind these where the last ones
-/// end. These are the first `rows + 1` places of the array; the others stay.
+/// Writes the start of each row in the list of entries, counted from 0, and then the end of the last row.
 ///
-/// The array has at least as many places as the table has rows, and one more.
+/// The array has at least one place more than the table has rows. The call leaves places after the first `rows + 1`
+/// unchanged.
 pub fn put_starts(table: &StencilTable, out: &mut [u32])
     requires fits { length table.now.rows + 1 ≤ length out.old }
     ensures written { take (length table.now.rows + 1) out.new ≡ row_starts table.now.rows }
@@ -26,10 +26,9 @@ pub fn put_starts(table: &StencilTable, out: &mut [u32])
     out[table.rows() as usize] = at;
 }
 
-/// Writes the control points of all entries, counted from 0, row by row. These are the first places of the array, as many as the table has
-/// entries; the others stay.
+/// Writes the control points of all entries, counted from 0, row by row.
 ///
-/// The array has at least as many places as the table has entries.
+/// The array has at least one place for each entry. The call leaves later places unchanged.
 pub fn put_indices(table: &StencilTable, out: &mut [u32])
     requires fits { entries_of table.now.rows ≤ length out.old }
     ensures written { take (entries_of table.now.rows) out.new ≡ indices_of table.now.rows }

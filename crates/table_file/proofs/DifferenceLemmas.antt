@@ -1,4 +1,4 @@
--- Where one of two lists of rows ends.
+-- The end of the shorter of two lists of rows.
 use Rattle.std.proofs.Common.{◌≡◌, ◌≢◌, ℕ, ◌<◌, min, List, [], ◌∷◌, length, drop, Some, arith, refl, length-drop, ⊎_elim}
 use Rattle.std.proofs.lemmas.Bool.{cases_lt}
 use Rattle.stencil_apply.specs.Table.{Row}

@@ -1,4 +1,4 @@
--- The lines of a table's text are what is put first, the words and the end.
+-- Each line of a table's text is its beginning, its words and its end.
 use Rattle.std.proofs.Common.{◌≡◌, ℕ, ◌<◌, ◌≤◌, List, [], ◌∷◌, ◌++◌, length, map, get_or, take, take_all, codes, arith, append_assoc, refl, ap, sym, ◌∙◌}
 use Rattle.std.specs.List.{flat_map, zip}
 use Rattle.std.proofs.lemmas.Slice.Zip.{length-zip, get_or-zip}

@@ -33,7 +33,7 @@ above a (b ∷ digits) =
 first-digit : (b : ℕ) (rest : List ℕ) → is_number_word (b ∷ rest) ≡ true → 0 < length rest → 1 ≤ b - 48
 first-digit b rest h some = grind (arith, nat_tests)
 
--- a number of more than so many digits is at least this power of ten
+-- a number of more than n digits is at least 10^n
 pub number-above : (word : List ℕ) (n : ℕ) → is_number_word word ≡ true → n < length word → 0 < n → 10 ^ n ≤ number_of_digits word
 number-above [] n h long some = absurd (omega arith)
 number-above (b ∷ rest) n h long some =
@@ -51,7 +51,7 @@ first-all digits k h =
     (and_parts (list_all is_digit (take k digits)) (list_all is_digit (drop k digits))
     (sym (list_all-append is_digit (take k digits) (drop k digits)) ∙ ap (list_all is_digit) (take-append-drop k digits) ∙ h)).0
 
--- what the digits before a place say, where there are at most so many more than those before the last
+-- the number of the digits before a place, of at most n digits, is below 10^n
 pub number-before : (digits : List ℕ) (k n : ℕ) → list_all is_digit digits ≡ true → k < length digits → length digits ≤ n + 1 → number_of_digits (take k digits) < 10 ^ n
 number-before digits k n h within few =
     number-below (take k digits) n (first-all digits k h) (omega (arith, length-take-le k digits (omega arith)))

@@ -42,7 +42,7 @@ module _ (header : Header) (rows : Rows) (bytes line : List ℕ) (at next number
       read-bad header (header.rows - length rows.builder.table.rows) left rows.builder.table.rows (drop at bytes) (cause_of bad) total (next-cause ∙ ap (option_map cause_of) e)
       ∙ ap (λ n. Err (record { line = n + 2; cause = cause_of bad })) count
 
-  -- it is that of a row, which was added
+  -- the line of the next row is good, and the row was added
   pub line-good : (new : Rows) → found ≡ None → AreRowsWith header rows new (row_of_words (spaced_words line)) → IsRowRead header bytes at rows new next
   line-good new e with_row =
       let grown : length new.builder.table.rows ≡ length rows.builder.table.rows + 1 =
@@ -65,7 +65,7 @@ no-rows header rows bytes none =
     ap (λ list. read_rows header (header.rows - length list) list bytes) none
     ∙ ap (λ n. read_rows header n [] bytes) (omega arith)
 
--- what is said of a reading is said of one that is the same
+-- a claim about a reading holds for an equal one
 pub same-reading : (bytes : List ℕ) (a b : Result Reading model.TableFault) (result : Result TableRead TableReadFault) → a ≡ b →
     MatchResult result (λ found. IsReadUpTo a bytes found.table found.end) (λ fault. IsFaultOf a fault) →
     MatchResult result (λ found. IsReadUpTo b bytes found.table found.end) (λ fault. IsFaultOf b fault)

@@ -87,7 +87,7 @@ module _ (list first : List (List ℕ)) (keyword : List ℕ) (den : Bor (List �
     numbers = pairs-numbers (words_left shares) pairs;
   }
 
--- what is known of the first of shares in range
+-- the facts of the first of some shares in range
 first-share : (controls least : ℕ) (share : Share) → is_share_in_range controls least share ≡ true →
     (least ≤ share.0) × (share.0 < controls) × (0 < share.1)
 first-share controls least share h =
@@ -147,7 +147,7 @@ row-is controls row h whole =
       whole = whole;
     }
 
--- where nothing is wrong with a row in range, its numerators sum to its denominator
+-- if a row in range has no fault, its numerators sum to its denominator
 sum-whole : (b : Bool) (other : Option model.TableCause) → None ≡ (if not b then Some model.Sum else other) → b ≡ true
 sum-whole true other e = refl
 sum-whole false other e = absurd (some-not e)

@@ -33,7 +33,7 @@ words-end line word others n e f g none =
     slice_split_none is_space line (λ k d l. fails_before_first is_space line k d (omega arith))
     ∙ ap (λ first. first ∷ []) (sym (f ∙ take_all n line whole))
 
--- no LF stands in bytes that have none before their end
+-- bytes without LF before their end have no LF
 none-in : (p : ℕ → Bool) (bytes : List ℕ) → length bytes ≤ position_or_len p bytes → list_any p bytes ≡ false
 none-in p bytes h = list_any_none p bytes (λ k d l. fails_before_first p bytes k d (omega arith))
 

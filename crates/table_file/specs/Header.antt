@@ -8,7 +8,7 @@ use Rattle.table_file.specs.declared.header.HeaderWords.{HeaderWords}
 abbrev pub is_named_number : List ℕ → List (List ℕ) → Bool
 is_named_number name words = nat_le 2 (length words) && bytes_eq (get_or words 0 []) name && is_number_word (get_or words 1 [])
 
--- the words begin with a name and this number, and others follow them
+-- the words begin with a name and this number, and others follow
 abbrev pub IsNamedNumber : List ℕ → List (List ℕ) → List ℕ → List (List ℕ) → Type 0
 IsNamedNumber name words number others = (is_named_number name words ≡ true) × (number ≡ get_or words 1 []) × (others ≡ drop 2 words)
 

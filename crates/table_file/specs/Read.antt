@@ -1,4 +1,4 @@
--- What reading a stored table comes to.
+-- The result of reading a stored table.
 use Rattle.std.specs.Prelude.{ℕ, ◌≡◌, ◌≤◌, true, List, length, drop, Result, Ok, Err, MatchResult}
 use Rattle.std.specs.List.{before_first}
 use Rattle.subdiv_model.specs.ObjLine.{is_lf}
@@ -9,28 +9,28 @@ use Rattle.table_file.specs.View.{cause_of}
 use Rattle.table_file.specs.declared.fault.TableReadFault.{TableReadFault}
 use Rattle.table_file.specs.declared.fault.TableReadFault.TheVariants as read
 
--- a table that was read, and how many bytes its text has
+-- a table that was read, and the number of bytes of its text
 pub record TableRead : Type 0 where
   pub table : Table
   pub end : ℕ
 
--- the line stands at a place, and the next one begins at another
+-- the line begins at a place, and the next line at another
 pub record IsLine (bytes : List ℕ) (at : ℕ) (line : List ℕ) (next : ℕ) : Type 0 where
   pub closed : has_line (drop at bytes) ≡ true
   pub whole : line ≡ before_first is_lf (drop at bytes)
   pub behind : drop next bytes ≡ behind_line (drop at bytes)
   pub inside : next ≤ length bytes
 
--- what is read is this table, and the bytes from a place on are behind it
+-- the result is this table, and the bytes from a place on come after it
 abbrev pub IsReadUpTo : Result Reading TableFault → List ℕ → Table → ℕ → Type 0
 IsReadUpTo reading bytes table end = (reading ≡ Ok (record { table = table; rest = drop end bytes })) × (end ≤ length bytes)
 
--- the fault is that of the reading; nothing is said where memory ran out
+-- the fault is that of the definition; it is free where memory ran out
 abbrev pub IsFaultOf : Result Reading TableFault → TableReadFault → Type 0
 IsFaultOf reading (read.Table line cause) = reading ≡ Err (record { line = line; cause = cause_of cause })
 IsFaultOf reading read.Memory = Unit {0}
 
--- bytes are read as the definition reads them, unless memory runs out
+-- the result is that of the definition, unless memory runs out
 abbrev pub IsTableRead : List ℕ → Result TableRead TableReadFault → Type 0
 IsTableRead bytes result =
     MatchResult result (λ found. IsReadUpTo (read_table bytes) bytes found.table found.end) (λ fault. IsFaultOf (read_table bytes) fault)

@@ -1,4 +1,4 @@
--- The faults of this crate, seen as those of the definitions, and a table that was read.
+-- The faults of this crate in the terms of the definitions, and a table that was read.
 use Rattle.subdiv_model.specs.Fault as run
 use Rattle.subdiv_model.specs.TableFault as model
 use Rattle.table_file.specs.declared.fault.TableCause.{TableCause}

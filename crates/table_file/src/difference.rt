@@ -9,7 +9,7 @@ ghost use Rattle.far_model.specs.Stored.{are_same_rows, row_difference};
 use number_width::NumberSlice;
 use stencil_apply::StencilTable;
 
-// Whether numbers of any width are the same.
+// Returns whether numbers of any width are the same.
 fn are_same_numbers(a: &NumberSlice<'_>, b: &NumberSlice<'_>) -> bool
     ensures { result ≡ bytes_eq (numbers_in a.now) (numbers_in b.now) }
 {
@@ -24,7 +24,7 @@ fn are_same_numbers(a: &NumberSlice<'_>, b: &NumberSlice<'_>) -> bool
     true
 }
 
-// Whether both tables have the same row at a place.
+// Returns whether both tables have the same row at a place.
 fn have_same_row(a: &StencilTable, b: &StencilTable, row: u32) -> bool
     requires first { row < length a.now.rows }
     requires second { row < length b.now.rows }
@@ -35,7 +35,7 @@ fn have_same_row(a: &StencilTable, b: &StencilTable, row: u32) -> bool
         && are_same_numbers(&a.row_numerators(row), &b.row_numerators(row))
 }
 
-// The first row that differs, or that one of the tables lacks.
+// Returns the first row that differs, or that one of the tables lacks.
 fn first_row(a: &StencilTable, b: &StencilTable) -> Option<u32>
     ensures { result ≡ row_difference 0 a.now.rows b.now.rows }
 {
@@ -51,8 +51,9 @@ fn first_row(a: &StencilTable, b: &StencilTable) -> Option<u32>
     Some(both)
 }
 
-/// Returns the first row, counted from 0, at which two tables differ: in its denominator, its control points or its numerators, or
-/// since one of the tables lacks it. It returns 0 where they have not as many control points, and `None` where they are the same.
+/// Returns the first row, counted from 0, at which two tables differ. The rows differ in the denominator, the control points
+/// or the numerators, or one table has no such row. Returns 0 if the tables have different numbers of control points, and
+/// `None` if they are equal.
 pub fn first_difference(a: &StencilTable, b: &StencilTable) -> Option<u32>
     ensures { result ≡ stored.first_difference a.now b.now }
 {

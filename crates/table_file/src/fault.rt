@@ -1,4 +1,4 @@
-//! Why a text is no stored table.
+//! The reason why a text is not a stored table.
 
 ghost use Rattle.std.specs.Prelude.{◌≡◌, ◌++◌, codes, Some};
 ghost use Rattle.subdiv_model.specs.Fault.{fault_text, table_cause_text, table_fault_text};
@@ -8,37 +8,41 @@ use ratio128::Memory;
 use std::fmt;
 use text_pieces::Pieces;
 
-/// What is wrong with a line of a stored table. A line has the first of these causes that applies.
+/// The fault of a line of a stored table: the first of these that applies.
 #[derive(Clone, Copy, Debug, PartialEq, Eq)]
 pub enum TableCause {
-    /// The line is not there, LF does not close it, or it is not of the words that stand in such a line.
+    /// The line is missing, does not end with LF, or does not have the words of such a line. A number with a zero before
+    /// other digits is not such a word.
     Form,
-    /// A number passes its limit, a denominator or a numerator is 0, or the control points of a row do not ascend or are not there.
+    /// A number exceeds its limit, a denominator or a numerator is 0, or the control points of a row do not ascend. A control
+    /// point that the table does not have also exceeds its limit.
     Range,
     /// The numerators of a row do not sum to its denominator.
     Sum,
-    /// There are more entries up to this line than the first line says, or fewer where it is the last.
+    /// There are more entries up to this line than the first line states, or fewer after the last line.
     Count,
 }
 
-/// The first bad line of a stored table, counted from 1, and what is wrong with it.
+/// The first bad line of a stored table, counted from 1, and its fault.
 #[derive(Clone, Copy, Debug, PartialEq, Eq)]
 pub struct TableFault {
+    /// The line, counted from 1.
     pub line: u32,
+    /// The fault of the line.
     pub cause: TableCause,
 }
 
-/// Why a stored table was not read.
+/// The reason why a stored table was not read.
 #[derive(Clone, Copy, Debug, PartialEq, Eq)]
 pub enum TableReadFault {
-    /// A line is bad. `line` is the first such line, counted from 1.
+    /// A line is bad; `line` is the first bad line, counted from 1.
     Table { line: u32, cause: TableCause },
     /// Memory ran out.
     Memory,
 }
 
 impl TableCause {
-    /// Returns the cause in a few words, as in the line that `far` prints.
+    /// Returns the cause in a few words, as the program `far` prints it.
     pub fn text(&self) -> &'static str
         ensures { result.now ≡ table_cause_text (cause_of self.now) }
     {
@@ -62,7 +66,7 @@ impl fmt::Display for TableCause {
 impl std::error::Error for TableCause {}
 
 impl TableFault {
-    /// Returns the line and its cause in words.
+    /// Returns the text of the line and its cause.
     pub fn pieces(&self) -> Pieces
         ensures { result ≡ table_fault_text (fault_of self.now) }
     {
@@ -81,7 +85,7 @@ impl fmt::Display for TableFault {
 impl std::error::Error for TableFault {}
 
 impl TableReadFault {
-    /// Returns the fault in words.
+    /// Returns the text of the fault.
     pub fn pieces(&self) -> Pieces
         ensures { result ≡ fault_text (read_fault_of self.now) }
     {

@@ -12,7 +12,7 @@ use crate::number::{is_number, read_between};
 use crate::words::{Words, is_word, words_of};
 use std::marker::Model;
 
-// How many control points, rows and entries a table has by its first line.
+// The numbers of control points, rows and entries in the first line.
 #[derive(Drop)]
 pub(crate) struct Header {
     pub(crate) controls: u32,
@@ -32,7 +32,7 @@ impl Model for Header {
 }
 
 impl Header {
-    // Whether there are too many entries up to a line, or too few for the last line. So many rows are to come behind the line.
+    // Returns whether there are too many entries up to a line, or too few after the last one. `left` rows follow the line.
     pub(crate) fn is_miscounted(&self, left: u32, entries: u64) -> bool
         ensures { result ≡ is_miscounted self.now left entries }
     {
@@ -41,10 +41,10 @@ impl Header {
     }
 }
 
-// The most control points of a stored table.
+// The greatest number of control points of a stored table.
 const CONTROL_LIMIT: u32 = 1 << 20;
 
-// The most rows of a stored table, and the most entries of all of them.
+// The greatest number of rows of a stored table, and of their entries.
 const ENTRY_LIMIT: u32 = 1 << 27;
 
 // The words of the three numbers of a first line.
@@ -55,7 +55,7 @@ pub(crate) struct HeaderWords<'a> {
     entries: &'a [u8],
 }
 
-// Takes a word that is this name, and the number behind it. It returns `None` where the next words are others.
+// Takes a name and the number after it from the words. It returns `None` if the next words are others.
 fn named_number<'a>(words: &mut Words<'a>, name: &[u8]) -> Option<&'a [u8]>
     ensures { MatchOption result (is_named_number name.now (words_left words.old) ≡ false)
         (λ number. IsNamedNumber name.now (words_left words.old) number.now (words_left words.new)) }
@@ -70,7 +70,7 @@ fn named_number<'a>(words: &mut Words<'a>, name: &[u8]) -> Option<&'a [u8]>
     Some(number)
 }
 
-// The words of the numbers of a first line. It returns `None` where the line is not of the words of one.
+// Returns the words of the numbers of a first line. It returns `None` if the line has other words.
 fn header_words(line: &[u8]) -> Option<HeaderWords<'_>>
     ensures { MatchOption result (is_header_form (spaced_words line.now) ≡ false)
         (λ words. (is_header_form (spaced_words line.now) ≡ true) × AreHeaderWords words (spaced_words line.now) × AreNumbers words) }
@@ -92,7 +92,7 @@ fn header_words(line: &[u8]) -> Option<HeaderWords<'_>>
     }
 }
 
-// The counts that the words say. It returns `None` where one of them passes its limit.
+// Returns the counts in the words. It returns `None` if one of them exceeds its limit.
 fn header_in_range(words: &HeaderWords<'_>) -> Option<Header>
     requires { AreNumbers words.now }
     ensures { MatchOption result (is_header_in_range (header_of_words words.now) ≡ false)

@@ -1,4 +1,4 @@
-//! Stored tables: their text, written and read, and where two tables differ.
+//! Writes stencil tables as text, reads them back, and finds the first row at which two tables differ.
 #![tactic(auto)]
 
 mod difference;

@@ -1,4 +1,4 @@
-//! The lines of a stored table, each of which LF closes.
+//! The lines of a stored table. Each ends with LF.
 
 ghost use Rattle.std.specs.Prelude.{◌≡◌, ◌+◌, ◌≤◌, false, nat_lt, length, drop, MatchOption};
 ghost use Rattle.std.specs.List.{before_first};
@@ -8,14 +8,14 @@ ghost use Rattle.table_file.specs.Read.{IsLine};
 
 use obj_text::line_end;
 
-// Whether LF stands at the end of a line, which is a place of the bytes or their length.
+// Returns whether a line ends with LF; its end is a place of the bytes or their length.
 fn is_closed(bytes: &[u8], end: usize) -> bool
     ensures { result ≡ nat_lt end (length bytes.now) }
 {
     end < bytes.len()
 }
 
-// The line that begins at a place, and the place behind its LF. It returns `None` where no LF follows.
+// Returns the line that begins at a place, and the place after its LF. It returns `None` if no LF follows.
 pub(crate) fn line_at(bytes: &[u8], at: usize) -> Option<(&[u8], usize)>
     requires { at ≤ length bytes.now }
     ensures { MatchOption result (has_line (drop at bytes.now) ≡ false) (λ found. IsLine bytes.now at found.0.now found.1) }

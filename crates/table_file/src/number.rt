@@ -7,7 +7,7 @@ ghost use Rattle.subdiv_model.specs.ReadTable.{is_term};
 
 use ratio128::limits::NUMBER_BOUND;
 
-// Whether the bytes are digits, all of them.
+// Returns whether all bytes are digits.
 fn has_digits_alone(bytes: &[u8]) -> bool
     ensures { result ≡ list_all is_digit bytes.now }
 {
@@ -19,7 +19,7 @@ fn has_digits_alone(bytes: &[u8]) -> bool
     true
 }
 
-// Whether the word is a number, without a zero before other digits.
+// Returns whether the word is a number, without a zero before other digits.
 pub(crate) fn is_number(word: &[u8]) -> bool
     ensures { result ≡ is_number_word word.now }
 {
@@ -32,7 +32,7 @@ pub(crate) fn is_number(word: &[u8]) -> bool
     }
 }
 
-// The number that at most 19 digits say.
+// Returns the number of at most 19 digits.
 fn short_number(digits: &[u8]) -> u64
     requires digits { list_all is_digit digits.now ≡ true }
     requires few { length digits.now ≤ 19 }
@@ -45,7 +45,7 @@ fn short_number(digits: &[u8]) -> u64
     number
 }
 
-// The number that at most 38 digits say.
+// Returns the number of at most 38 digits.
 fn wide_number(digits: &[u8]) -> u128
     requires digits { list_all is_digit digits.now ≡ true }
     requires few { length digits.now ≤ 38 }
@@ -58,7 +58,7 @@ fn wide_number(digits: &[u8]) -> u128
     number
 }
 
-// The number that a word says. It returns `None` where there are more than 38 digits.
+// Returns the number of a word. It returns `None` if there are more than 38 digits.
 fn number_of(word: &[u8]) -> Option<u128>
     requires { is_number_word word.now ≡ true }
     ensures { MatchOption result (10 ^ 38 ≤ number_of_digits word.now) (λ n. n ≡ number_of_digits word.now) }
@@ -72,7 +72,7 @@ fn number_of(word: &[u8]) -> Option<u128>
     None
 }
 
-// The denominator or numerator that a word says. It returns `None` where that is none.
+// Returns the denominator or numerator in a word. It returns `None` if the number is neither.
 pub(crate) fn read_term(word: &[u8]) -> Option<u128>
     requires { is_number_word word.now ≡ true }
     ensures { MatchOption result (is_term (number_of_digits word.now) ≡ false)
@@ -85,7 +85,7 @@ pub(crate) fn read_term(word: &[u8]) -> Option<u128>
     Some(number)
 }
 
-// The number that a word says, from one number on and below another. It returns `None` where that is another.
+// Returns the number in a word. It returns `None` if the number is below `least`, or is `end` or more.
 pub(crate) fn read_between(word: &[u8], least: u32, end: u32) -> Option<u32>
     requires { is_number_word word.now ≡ true }
     ensures { let n = number_of_digits word.now in

@@ -14,7 +14,7 @@ use number_width::NumberSlice;
 use obj_out::Out;
 use stencil_apply::StencilTable;
 
-// Puts the first line of a table, from its counts.
+// Writes the first line of a table, from its counts.
 fn put_first_line<K: Sink>(
     out: &mut Out<'_, K>,
     controls: u64,
@@ -29,7 +29,7 @@ fn put_first_line<K: Sink>(
     out.put_byte(b'\n')
 }
 
-// Puts how many control points, rows and entries a table has.
+// Writes the number of control points, rows and entries of a table.
 fn put_counts<K: Sink>(table: &StencilTable, out: &mut Out<'_, K>) -> Result<(), WriteFailed>
     ensures { Puts K.Sink out.old out.new (table_line table.now.controls (length table.now.rows) (entries_of table.now.rows)) result }
 {
@@ -41,14 +41,14 @@ fn put_counts<K: Sink>(table: &StencilTable, out: &mut Out<'_, K>) -> Result<(),
     )
 }
 
-// Puts a control point, counted from 0, after a space.
+// Writes a control point, counted from 0, after a space.
 fn put_control<K: Sink>(out: &mut Out<'_, K>, control: u32) -> Result<(), WriteFailed>
     ensures { Puts K.Sink out.old out.new (32 ∷ number_text control) result }
 {
     out.put_number_after(b' ', control as u64)
 }
 
-// Puts a control point with its numerator, each after a space.
+// Writes a control point with its numerator, each after a space.
 fn put_share<K: Sink>(
     out: &mut Out<'_, K>,
     control: u32,
@@ -60,7 +60,7 @@ fn put_share<K: Sink>(
     out.put_wide_after(b' ', numerator)
 }
 
-// Puts control points, each with its numerator.
+// Writes control points, each with its numerator.
 fn put_shares<K: Sink>(
     out: &mut Out<'_, K>,
     indices: &[u32],
@@ -76,7 +76,7 @@ fn put_shares<K: Sink>(
     Ok(())
 }
 
-// Puts the denominator of a row, after a space.
+// Writes the denominator of a row, after a space.
 fn put_denominator<K: Sink>(
     table: &StencilTable,
     row: u32,
@@ -88,7 +88,7 @@ fn put_denominator<K: Sink>(
     out.put_wide_after(b' ', table.denominator(row))
 }
 
-// Puts the line of a row.
+// Writes the line of a row.
 fn put_row<K: Sink>(table: &StencilTable, row: u32, out: &mut Out<'_, K>) -> Result<(), WriteFailed>
     requires inside { row < length table.now.rows }
     ensures { Puts K.Sink out.old out.new (row_text (row_at table.now row)) result }
@@ -99,7 +99,7 @@ fn put_row<K: Sink>(table: &StencilTable, row: u32, out: &mut Out<'_, K>) -> Res
     out.put_byte(b'\n')
 }
 
-// Puts a line for each row.
+// Writes a line for each row.
 fn put_rows<K: Sink>(table: &StencilTable, out: &mut Out<'_, K>) -> Result<(), WriteFailed>
     requires fine { out.old.failed ≡ false }
     ensures { Puts K.Sink out.old out.new (flat_map row_text table.now.rows) result }
@@ -110,10 +110,10 @@ fn put_rows<K: Sink>(table: &StencilTable, out: &mut Out<'_, K>) -> Result<(), W
     Ok(())
 }
 
-/// Puts the text of a table. Its first line has how many control points, rows and entries there are. Each row follows as a line
-/// with its denominator, and with each of its control points, counted from 0, before its numerator.
+/// Writes the text of a table. Its first line contains the number of control points, rows and entries. Each row follows as a
+/// line: its denominator, then each of its control points, counted from 0, and its numerator.
 ///
-/// `WriteFailed` is returned where the sink failed, and a prefix of the text is put then. No call takes memory.
+/// Reports `WriteFailed` where the sink fails; a prefix of the text is written then. The call takes no memory.
 pub fn put_table<K: Sink>(table: &StencilTable, out: &mut Out<'_, K>) -> Result<(), WriteFailed>
     requires fine { out.old.failed ≡ false }
     ensures { Puts K.Sink out.old out.new (text_of_table table.now) result }

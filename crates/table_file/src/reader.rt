@@ -1,4 +1,4 @@
-//! A stored table at the beginning of some bytes.
+//! A stored table at the start of some bytes.
 
 ghost use Rattle.std.specs.Prelude.{◌≡◌, ◌≤◌, ◌^◌, [], length, drop, MatchResult};
 ghost use Rattle.subdiv_model.specs.ReadTable as model;
@@ -13,7 +13,7 @@ use std::alloc::Global;
 use std::marker::Model;
 use stencil_apply::StencilTable;
 
-/// A stored table that was read, and how many bytes its text has.
+/// A table that was read, and the number of bytes of its text.
 #[derive(Drop)]
 pub struct ReadTable {
     table: StencilTable,
@@ -32,7 +32,7 @@ impl Model for ReadTable {
 }
 
 impl ReadTable {
-    /// What is true of each table that was read. It does nothing.
+    /// States what holds for each table that was read.
     pub fn facts(&self)
         ensures controls { self.now.table.controls ≤ 2 ^ 20 }
         ensures rows { length self.now.table.rows ≤ 2 ^ 27 }
@@ -41,21 +41,21 @@ impl ReadTable {
         self.table.facts();
     }
 
-    /// How many bytes the text of the table has.
+    /// Returns the number of bytes of the table's text.
     pub fn end(&self) -> usize
         ensures { result ≡ self.now.end }
     {
         self.end
     }
 
-    /// The table.
+    /// Returns the table.
     pub fn table(&self) -> &StencilTable
         ensures { result.now ≡ self.now.table }
     {
         &self.table
     }
 
-    /// The table, by value. It takes no memory.
+    /// Returns the table by value. The call takes no memory.
     pub fn into_table(self) -> StencilTable
         ensures { result ≡ self.table }
     {
@@ -63,7 +63,7 @@ impl ReadTable {
     }
 }
 
-// Reads the first line, and returns where the rows begin.
+// Reads the first line, and returns the start of the rows.
 fn read_first(bytes: &[u8]) -> Result<(Header, usize), TableReadFault>
     ensures { MatchResult result (λ first. IsFirstRead bytes.now first.0 first.1) (λ fault. IsFaultOf (model.read_table bytes.now) fault) }
 {
@@ -100,10 +100,11 @@ fn read_rest(
     })
 }
 
-/// Reads the table whose text these bytes begin with. There are at most 2^28 bytes, and those behind the text are left unread.
+/// Reads the table whose text begins the bytes. There are at most 2^28 bytes. The call does not read bytes after the text. It
+/// reserves memory for the rows and entries of the first line, but for no more than the bytes can contain.
 ///
-/// [`TableReadFault::Table`] has the first bad line, counted from 1, and its cause. [`TableReadFault::Memory`] comes where there is
-/// no memory for the table.
+/// Reports [`TableReadFault::Table`] with the first bad line, counted from 1, and its cause. Reports
+/// [`TableReadFault::Memory`] where memory runs out.
 pub fn read_table(alloc: Global, bytes: &[u8]) -> Result<ReadTable, TableReadFault>
     requires { length bytes.now ≤ 2 ^ 28 }
     ensures { IsTableRead bytes.now result }

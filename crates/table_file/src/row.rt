@@ -20,14 +20,14 @@ use crate::words::{Words, is_word, words_of};
 use ratio128::Memory;
 use stencil_apply::Entry;
 
-// The words of a row's numbers: its denominator, and those of its entries.
+// The words of a row's numbers: its denominator, and its entries.
 #[derive(Clone, Copy, Drop)]
 pub(crate) struct RowWords<'a> {
     denominator: &'a [u8],
     shares: Words<'a>,
 }
 
-// Whether the words are numbers, and come in pairs.
+// Returns whether the words are numbers and come in pairs.
 fn are_pairs(words: &mut Words<'_>) -> bool
     ensures { result ≡ are_number_pairs (words_left words.old) }
 {
@@ -42,7 +42,7 @@ fn are_pairs(words: &mut Words<'_>) -> bool
     true
 }
 
-// The words of the numbers of a row. It returns `None` where the line is not of the words of a row.
+// Returns the words of the numbers of a row. It returns `None` if the line has other words.
 pub(crate) fn row_words(line: &[u8]) -> Option<RowWords<'_>>
     ensures { MatchOption result (is_row_form (spaced_words line.now) ≡ false) (λ words. IsRowForm words (spaced_words line.now)) }
 {
@@ -64,7 +64,7 @@ pub(crate) fn row_words(line: &[u8]) -> Option<RowWords<'_>>
     })
 }
 
-// The entry that two words say. It returns `None` where a number is out of range.
+// Returns the entry of two words. It returns `None` if a number is out of range.
 fn read_entry(control: &[u8], numerator: &[u8], least: u32, controls: u32) -> Option<Entry>
     requires control { is_number_word control.now ≡ true }
     requires numerator { is_number_word numerator.now ≡ true }
@@ -119,7 +119,7 @@ pub(crate) fn read_values(
     Ok(Some(denominator))
 }
 
-// Whether the numerators of a row sum to a denominator.
+// Returns whether the numerators of a row sum to a denominator.
 fn sums_to(row: &[Entry], denominator: u128) -> bool
     requires { denominator ≤ number_bound }
     ensures { result ≡ nat_eq (total_of (shares_of row.now)) denominator }
@@ -131,7 +131,7 @@ fn sums_to(row: &[Entry], denominator: u128) -> bool
     total == denominator
 }
 
-// What is wrong with a row whose numbers are in range. So many rows are to come behind it, and there are so many entries before it.
+// Returns the fault of a row whose numbers are in range. `left` rows follow it, and `entries` entries come before it.
 pub(crate) fn cause_in_range(
     denominator: u128,
     row: &[Entry],

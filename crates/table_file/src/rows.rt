@@ -18,7 +18,7 @@ use ratio128::Memory;
 use std::alloc::Global;
 use stencil_apply::{Entry, TableBuilder};
 
-// The rows that were read, how many entries they have, and a place for the entries of one row.
+// The rows that were read, the number of their entries, and a place for the entries of one row.
 #[derive(Drop)]
 pub(crate) struct Rows {
     pub(crate) builder: TableBuilder,
@@ -26,7 +26,8 @@ pub(crate) struct Rows {
     entries: u64,
 }
 
-// No rows, with room for those that a first line promises and so many bytes can have. A row has at least 8 bytes, and an entry 4.
+// Returns no rows, with memory for those of a first line, but for no more than this many bytes can contain. A row has at
+// least 8 bytes, and an entry 4.
 pub(crate) fn rows_for(alloc: Global, header: &Header, bytes: usize) -> Result<Rows, Memory>
     requires { bytes ≤ 2 ^ 28 }
     ensures good { IfOk result (λ rows. AreRowsOf header.now rows) }
@@ -62,7 +63,7 @@ fn add_row(rows: &mut Rows, denominator: u128) -> Result<(), Memory>
     Ok(())
 }
 
-// Reads the line of a row, behind which so many rows are to come, and adds the row. It returns what is wrong with the line.
+// Reads the line of a row and adds the row, or returns the fault of the line. `left` rows follow it.
 fn read_row(
     line: &[u8],
     header: &Header,
@@ -89,7 +90,7 @@ fn read_row(
     Ok(None)
 }
 
-// Reads the line of a row at a place, and returns where the next line begins. Rows are counted from 0.
+// Reads the line of a row at a place, and returns the start of the next line. Rows are counted from 0.
 fn read_line(
     bytes: &[u8],
     at: usize,
@@ -120,7 +121,7 @@ fn read_line(
     }
 }
 
-// Reads all rows from a place on, and returns the place behind them.
+// Reads all rows from a place on, and returns the place after them.
 pub(crate) fn read_all(
     bytes: &[u8],
     from: usize,

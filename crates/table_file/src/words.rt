@@ -1,17 +1,17 @@
-//! The words of a line, which single spaces part.
+//! The words of a line. Single spaces separate them.
 
 ghost use Rattle.std.specs.Prelude.{◌≡◌, ◌∷◌, [], bytes_eq, MatchOption};
 ghost use Rattle.std.specs.List.{position_or_len};
 ghost use Rattle.subdiv_model.specs.ReadTable.{spaced_words};
 ghost use Rattle.table_file.specs.Words.{is_space, words_in, words_left};
 
-// The words of a line that are still to come.
+// The rest of the words of a line.
 #[derive(Clone, Copy, Drop)]
 pub(crate) struct Words<'a> {
     rest: Option<&'a [u8]>,
 }
 
-// The words of a line, in their order. There is at least one word, which may have no bytes.
+// Returns the words of a line, in their order. There is at least one word, which may be empty.
 pub(crate) fn words_of<'a>(line: &'a [u8]) -> Words<'a>
     ensures { words_left result ≡ spaced_words line.now }
 {
@@ -30,7 +30,7 @@ impl<'a> Words<'a> {
     }
 }
 
-// How many bytes stand before the first space.
+// Returns the number of bytes before the first space.
 fn word_len(line: &[u8]) -> usize
     ensures { result ≡ position_or_len is_space line.now }
 {
@@ -42,7 +42,7 @@ fn word_len(line: &[u8]) -> usize
     line.len()
 }
 
-// The first word of a line, and what follows the space behind it.
+// Returns the first word of a line, and the bytes after the space that follows it.
 fn first_word(line: &[u8]) -> (&[u8], Option<&[u8]>)
     ensures { spaced_words line.now ≡ result.0.now ∷ words_in result.1 }
 {
@@ -53,7 +53,7 @@ fn first_word(line: &[u8]) -> (&[u8], Option<&[u8]>)
     }
 }
 
-// Whether a word is this text.
+// Returns whether a word is this text.
 pub(crate) fn is_word(word: &[u8], text: &[u8]) -> bool
     ensures { result ≡ bytes_eq word.now text.now }
 {

@@ -1,4 +1,4 @@
-//! A piece of a text.
+//! One piece of a text.
 
 ghost use Rattle.std.specs.Prelude.{◌≡◌, Some};
 ghost use Rattle.subdiv_model.specs.NumberText.{number_text};
@@ -7,14 +7,14 @@ ghost use Rattle.text_pieces.specs.Text.{piece_text};
 use itoa::Buffer;
 use std::fmt;
 
-/// A piece of a text: words, or a number in decimal digits.
+/// One piece of a text: words, or a number in decimal digits.
 #[derive(Clone, Copy)]
 pub enum Piece {
     Text(&'static str),
     Number(u64),
 }
 
-// The number in decimal digits, which stand in the buffer.
+// The decimal digits of the number, written to the buffer.
 fn digits(number: u64, buffer: &mut Buffer) -> &str
     ensures { result.now ≡ number_text number }
 {
@@ -22,7 +22,7 @@ fn digits(number: u64, buffer: &mut Buffer) -> &str
 }
 
 impl Piece {
-    /// The piece as a text. That of a number stands in the buffer.
+    /// Returns the text of the piece. The digits of a number are written to the buffer.
     pub fn text<'a>(&self, buffer: &'a mut Buffer) -> &'a str
         ensures { result.now ≡ piece_text self.now }
     {

@@ -1,4 +1,4 @@
-//! A text of a few pieces.
+//! Texts of at most five pieces.
 
 ghost use Rattle.std.specs.Prelude.{◌≡◌, ℕ, ◌++◌, List, length, Some};
 ghost use Rattle.subdiv_model.specs.NumberText.{number_text};
@@ -9,10 +9,10 @@ use crate::piece::Piece::{Number, Text};
 use std::fmt;
 use std::marker::Model;
 
-// What stands in the place of a piece where there are fewer than five.
+// The empty piece that fills unused places.
 const NOTHING: Piece = Text("");
 
-/// A text of at most five pieces. Contracts see the text.
+/// A text of at most five pieces. Contracts read it as its text.
 #[derive(Drop)]
 pub struct Pieces {
     pieces: [Piece; 5],
@@ -27,7 +27,7 @@ impl Model for Pieces {
 }
 
 impl Pieces {
-    /// A text without numbers.
+    /// Returns a text of words only.
     pub fn plain(text: &'static str) -> Pieces
         ensures { result ≡ text.now }
     {
@@ -36,7 +36,7 @@ impl Pieces {
         }
     }
 
-    /// A number in a text.
+    /// Returns words, a number and words.
     pub fn about(before: &'static str, number: u64, after: &'static str) -> Pieces
         ensures { result ≡ before.now ++ (number_text number ++ after.now) }
     {
@@ -45,7 +45,7 @@ impl Pieces {
         }
     }
 
-    /// Two numbers in a text.
+    /// Returns words, a number, words, a second number and words.
     pub fn about_two(
         before: &'static str,
         first: u64,
@@ -66,7 +66,7 @@ impl Pieces {
         }
     }
 
-    /// A number in a text, and a text after it.
+    /// Returns words, a number, words and a last text, such as "line 7: " and its cause.
     pub fn about_with(
         before: &'static str,
         number: u64,
@@ -86,7 +86,7 @@ impl Pieces {
         }
     }
 
-    /// The pieces in their order. Some of them may be empty.
+    /// Returns the five pieces in order. The ones that the text does not need are empty.
     pub fn as_slice(&self) -> &[Piece]
         ensures { pieces_text result.now ≡ self.now }
     {

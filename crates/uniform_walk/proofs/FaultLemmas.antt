@@ -22,13 +22,13 @@ pub first-behind : {X : Type 0} (xs ys : List X) → first_of xs ≡ None → fi
 first-behind [] ys h = refl
 first-behind (y ∷ xs) ys h = absurd (cc)
 
--- what is listed of each number of a range, where nothing is
+-- empty lists for each number of a range give an empty list
 pub flat-none : {X : Type 0} (f : ℕ → List X) (a n : ℕ) → ((k : ℕ) → k < a + n → f k ≡ []) → flat_map f (range_with_len a n) ≡ []
 flat-none f a zero none = refl
 flat-none f a (suc n) none =
     ap (λ xs. xs ++ flat_map f (range_with_len (a + 1) n)) (none a (omega arith)) ∙ flat-none f (a + 1) n (λ k h. none k (omega (arith, h)))
 
--- and where something is of one number, and nothing of those before it
+-- the first item comes from the first number of the range with a list that is not empty
 pub flat-first : {X : Type 0} (f : ℕ → List X) (a n gap : ℕ) (x : X) → gap < n → ((j : ℕ) → j < a + gap → f j ≡ []) → first_of (f (a + gap)) ≡ Some x →
     first_of (flat_map f (range_with_len a n)) ≡ Some x
 flat-first f a zero gap x within none here = absurd (omega (arith, within))
@@ -47,7 +47,7 @@ flat-first f a (suc n) (suc gap) x within none here =
 zero-plus : (k : ℕ) → 0 + k ≡ k
 zero-plus k = omega arith
 
--- the same from 0 on
+-- the same claim for a range from 0 on
 pub first-from-0 : {X : Type 0} (f : ℕ → List X) (n k : ℕ) (x : X) → k < n → ((j : ℕ) → j < k → f j ≡ []) → first_of (f k) ≡ Some x →
     first_of (flat_map f (range_with_len 0 n)) ≡ Some x
 first-from-0 f n k x within none here = flat-first f 0 n k x within (λ j h. none j (omega (arith, h))) (ap (λ i. first_of (f i)) (zero-plus k) ∙ here)
@@ -87,7 +87,7 @@ any-here test a (suc n) (suc gap) within here =
 pub any-from-0 : (test : ℕ → Bool) (n v : ℕ) → v < n → test v ≡ true → list_any test (range_with_len 0 n) ≡ true
 any-from-0 test n v within here = any-here test 0 n v within (ap test (zero-plus v) ∙ here)
 
--- Where the sharpnesses alone are asked for.
+-- The case in which only sharpnesses count.
 
 none-where : (b : Bool) (fault : Fault) → b ≡ false → fault_where b fault ++ [] ≡ []
 none-where true fault h = absurd (cc)
@@ -103,7 +103,7 @@ none-made channel depth made track k h =
 pub no-fault-made : (channel : Channel) (depth : ℕ) → AreMade channel.base depth → (track : Track) → channel_faults Sharpnesses channel track depth ≡ []
 no-fault-made channel depth made track = none-of-levels Sharpnesses (whole_levels channel) track depth (none-made channel depth made track)
 
--- The next level cannot be made, and the levels before it have no fault of those that are asked for.
+-- The next level cannot be made, and the levels before it have no fault of the kinds that count.
 
 first-where : (b : Bool) (fault : Fault) (others : List Fault) → b ≡ true → first_of (fault_where b fault ++ others) ≡ Some fault
 first-where true fault others h = refl

@@ -12,7 +12,7 @@ use Rattle.level_topology.specs.Child.{ChildTopology}
 use Rattle.uniform_refiner.specs.Refined.{IsRefined}
 use Rattle.uniform_walk.specs.Levels.{CanBeRefined, AreMade, faces_to}
 
--- the level after so many steps, which could all be made
+-- the level after k steps, each of which could be made
 pub record IsReached (base : Level) (k : ℕ) (t : Topology) : Type 0 where
   pub level : t.level ≡ refined_level base k
   pub made : AreMade base k
@@ -53,7 +53,7 @@ faces-more base k =
     ap (sum_by faces) (range-more 1 k) ∙ sum_by_push faces (range_with_len 1 k) (1 + k)
     ∙ ap (λ n. faces_to base k + n) (ap faces number ∙ child_polygons-length (refined_level base k).point_count (refined_level base k).polygons)
 
--- and those of more levels are no fewer
+-- more levels have no fewer faces
 pub faces-rise : (base : Level) (k more : ℕ) → faces_to base k ≤ faces_to base (k + more)
 faces-rise base k zero = let same : faces_to base (k + 0) ≡ faces_to base k = ap (faces_to base) (none k) in omega (arith, same)
   where

@@ -43,7 +43,7 @@ module _ (parent : Topology) (child : ChildTopology) (refined : IsRefined parent
       edge-within parent.level.point_count (length parent.level.polygons) (length (edges_of parent.level.polygons)) e
       (ap (λ origins. has_origin origins (FromEdge e)) (sym origins-are) ∙ h)
 
-  -- each mask of the child can be had
+  -- each mask of the child exists
   pub can-refine : (scheme : Scheme) → IsTopology parent → parent.complete ≡ replicate parent.level.point_count true → IsTrue (has_sharp_boundary parent.level) → CanRefine parent child scheme
   can-refine scheme is complete boundary = record {
     vertices = ap (λ (c : ChildTopology). c.parent_points) refined.uniform.of;
@@ -72,7 +72,7 @@ module _ (parent : Topology) (child : ChildTopology) (refined : IsRefined parent
   pub terms-are : (scheme : Scheme) → step_terms parent.level scheme child.origins ≡ mask_terms parent.level scheme
   terms-are scheme = ap (step_terms parent.level scheme) origins-are ∙ terms-of-all parent.level scheme
 
-  -- and so are the common denominators
+  -- the common denominators are those of the next level
   pub dens-are : (scheme : Scheme) (dens : List ℕ)
       → map (mask_denominator (source_denominator parent.level dens)) (masks_from parent.level scheme child.origins) ≡ child_denominators parent.level scheme dens
   dens-are scheme dens = ap (map (mask_denominator (source_denominator parent.level dens))) (masks-are scheme)

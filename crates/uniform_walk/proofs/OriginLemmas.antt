@@ -34,7 +34,7 @@ origin-edge points faces n e is =
     let same : n - points - faces ≡ e = omega (arith, is) in
     rw (high, past) (ap FromEdge same)
 
--- a range in two parts, and what is made over two ranges alike
+-- a range in two parts, and functions over two ranges that give equal lists
 pub range-append : (a m n : ℕ) → range_with_len a (m + n) ≡ range_with_len a m ++ range_with_len (a + m) n
 range-append a zero n =
     let count : 0 + n ≡ n = omega arith in
@@ -66,7 +66,7 @@ map-twice : {X Y Z : Type 0} (f : Y → Z) (g : X → Y) (xs : List X) → map f
 map-twice f g [] = refl
 map-twice f g (x ∷ xs) = ap (λ ys. f (g x) ∷ ys) (map-twice f g xs)
 
--- what is found in a range, and what is not kept of one
+-- an item found in a range, and an item that a filter of a range drops
 any-found : (test : ℕ → Bool) (a n : ℕ) → list_any test (range_with_len a n) ≡ true → (k : ℕ) × (k < a + n) × (test k ≡ true)
 any-found test a zero h = absurd (cc)
 any-found test a (suc n) h = go (test a) refl h (λ found. any-found test (a + 1) n found)

@@ -13,7 +13,7 @@ level-cause t (TooLarge count) is = is
 level-cause t (Chaikin v) is = record { few = is.few; v = v; exists = is.exists; overflows = is.overflows }
 level-cause t Memory is = tt
 
--- and what is known of the one result follows of the other
+-- a claim about one result follows from a claim about the other
 pub as-step : {T : Type 0} (from : Result T RefineFault) (r : Result T Cause) (P : T → Type 0) (Q : RefineFault → Type 0) (P' : T → Type 0) (Q' : Cause → Type 0)
     → MatchResult from (λ next. r ≡ Ok next) (λ fault. r ≡ Err (cause_of fault)) → MatchResult from P Q
     → ((next : T) → P next → P' next) → ((fault : RefineFault) → Q fault → Q' (cause_of fault)) → MatchResult r P' Q'

@@ -17,7 +17,7 @@ use Rattle.level_topology.proofs.ChildLemmas.{edges-corners}
 use Rattle.uniform_refiner.specs.Refined.{IsRefined}
 use Rattle.uniform_walk.specs.Step.{IsWhole}
 
--- what follows of each value
+-- a weaker claim about the value of a result
 pub where-ok : {A B : Type 0} (r : Result A B) (P : A → Type 0) (Q : B → Type 0) (P' : A → Type 0) → MatchResult r P Q → ((x : A) → P x → P' x) → IfOk r P'
 where-ok (Ok x) P Q P' is follows = follows x is
 where-ok (Err f) P Q P' is follows = tt

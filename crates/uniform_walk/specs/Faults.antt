@@ -1,5 +1,5 @@
--- Why a channel does not come to a depth: the first fault of its levels.
--- Source: this profile.
+-- The reason why a channel does not reach a depth: the first fault of its levels. `Asked` chooses the faults that count:
+-- those of sharpness, also those of values, or also those of tables. Source: this library.
 use Rattle.std.specs.Prelude.{ℕ, ◌≡◌, ◌-◌, ◌^◌, ◌<◌, ◌≤◌, [], length, Some}
 use Rattle.std.specs.List.{sum_by}
 use Rattle.subdiv_model.specs.Lists.{first_of}
@@ -12,7 +12,7 @@ use Rattle.level_walk.specs.declared.fault.Cause.TheVariants.{TooManyFaces, Over
 use Rattle.level_walk.specs.declared.fault.OverflowKind.{OverflowKind}
 use Rattle.level_walk.specs.declared.fault.WalkFault.{WalkFault}
 
--- the level has too many faces, and the levels before it have no fault of those that are asked for
+-- the level has too many faces, and the levels before it have no fault of the kinds that count
 pub record IsTooLarge (asked : Asked) (channel : Channel) (depth level count : ℕ) : Type 0 where
   pub after_level_0 : 1 ≤ level
   pub within : level ≤ depth
@@ -20,21 +20,21 @@ pub record IsTooLarge (asked : Asked) (channel : Channel) (depth level count : �
   pub count_is : count ≡ sum_by length (channel_level channel (level - 1)).polygons
   pub many : 2 ^ 22 < count
 
--- the first fault of the levels to a depth, of those that are asked for, is this one, whatever the track is called
+-- this is the first fault of the levels to a depth, of the kinds that count; the name of the track is free
 abbrev pub IsFirstFault : Asked → Channel → ℕ → (Track → Fault) → Type 0
 IsFirstFault asked channel depth fault = (track : Track) → first_of (channel_faults asked channel track depth) ≡ Some (fault track)
 
--- it is that of a number at a level
+-- the first fault is a number that exceeds its bound at a level
 abbrev pub IsFirstOverflow : Asked → Channel → ℕ → ℕ → OverflowKind → Type 0
 IsFirstOverflow asked channel depth level kind = IsFirstFault asked channel depth (λ track. model.Overflow track level (kind_of kind))
 
--- the level with this number is the first that is not reached, and this is why; memory may run out at any level
+-- this level is the first that is not reached, and this is the cause; memory may run out at any level
 abbrev pub IsLevelFault : Asked → Channel → ℕ → ℕ → Cause → Type 0
 IsLevelFault asked channel depth level (TooManyFaces count) = IsTooLarge asked channel depth level count
 IsLevelFault asked channel depth level (Overflow kind) = IsFirstOverflow asked channel depth level kind
 IsLevelFault asked channel depth level TooManyEntries = IsFirstFault asked channel depth (λ track. model.TooLarge (model.Entries level))
 IsLevelFault asked channel depth level Memory = Unit {0}
 
--- why the channel does not come to a depth
+-- the reason why the channel does not reach a depth
 abbrev pub IsChannelFault : Asked → Channel → ℕ → WalkFault → Type 0
 IsChannelFault asked channel depth fault = IsLevelFault asked channel depth fault.level fault.cause

@@ -13,14 +13,14 @@ use Rattle.uniform_refiner.specs.declared.fault.RefineFault.{RefineFault}
 use Rattle.uniform_refiner.specs.declared.fault.RefineFault.TheVariants.{TooLarge, Chaikin, Memory}
 use Rattle.uniform_walk.specs.Levels.{Overflows}
 
--- A level of which all next ones can be made: each point is complete, and the boundary is infinitely sharp. It has at most 2^28
--- points beside two for each face, and so have the levels after it, since a face has three corners or more.
+-- A level from which all next ones can be made: each point is complete, and the boundary is infinitely sharp. It has at most
+-- 2^28 points besides two for each face. The levels after it keep that bound, since a face has at least three corners.
 pub record IsWhole (t : Topology) : Type 0 where
   pub complete : t.complete ≡ replicate t.level.point_count true
   pub points : t.level.point_count ≤ 2 ^ 28 + 2 * length t.level.polygons
   pub boundary : IsTrue (has_sharp_boundary t.level)
 
--- at most one step is taken for each face of the next level
+-- the step takes at most one count for each face of the next level
 pub record AreFaceSteps (t : Topology) (old new : ℕ) : Type 0 where
   pub most : new ≤ old + sum_by length t.level.polygons
   pub later : old ≤ new
@@ -37,7 +37,8 @@ cause_of (TooLarge count) = cause.TooManyFaces count
 cause_of (Chaikin v) = cause.Overflow kind.Chaikin
 cause_of Memory = cause.Memory
 
--- the next level would have so many faces and that is too many, or halves overflow at some point; memory may run out at any level
+-- the next level would have this many faces, above the bound, or halves overflow at some point; memory may run out at any
+-- level
 abbrev pub IsLevelCause : Level → Cause → Type 0
 IsLevelCause level (cause.TooManyFaces count) = (count ≡ sum_by length level.polygons) × (2 ^ 22 < count)
 IsLevelCause level (cause.Overflow kind.Chaikin) = Overflows level
@@ -47,7 +48,7 @@ IsLevelCause level (cause.Overflow kind.Value) = ⊥
 IsLevelCause level cause.TooManyEntries = ⊥
 IsLevelCause level cause.Memory = Unit {0}
 
--- why there is no next level
+-- the reason why there is no next level
 pub record IsRefused (parent : Topology) (cause : Cause) (old new : ℕ) : Type 0 where
   pub is : IsLevelCause parent.level cause
   pub steps : AreFaceSteps parent old new

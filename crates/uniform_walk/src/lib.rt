@@ -1,4 +1,7 @@
-//! The uniform step of a walk: each level is the whole next one, as the definitions make it.
+//! Makes each level of a walk the whole next level, as the definitions do.
+//!
+//! `Uniform` is the step. Its specifications connect the faults of a walk with the first fault of a channel in the
+//! definitions.
 #![tactic(auto)]
 
 mod step;

@@ -10,7 +10,7 @@ use std::alloc::Global;
 use std::sync::ledger::Ledger;
 use uniform_refiner::{RefineFault, refine};
 
-// A fault of a refinement as the cause of a walk.
+// Returns the cause of a walk for a fault of a refinement.
 fn cause_of_fault(fault: RefineFault) -> Cause
     ensures { result ≡ cause_of fault }
 {
@@ -21,7 +21,7 @@ fn cause_of_fault(fault: RefineFault) -> Cause
     }
 }
 
-// What is made, or its fault as the cause of a walk.
+// Returns the result, with its fault as the cause of a walk.
 fn made<T>(made: Result<T, RefineFault>) -> Result<T, Cause>
     ensures { MatchResult made (λ next. result ≡ Ok next) (λ fault. result ≡ Err (cause_of fault)) }
 {
@@ -31,7 +31,10 @@ fn made<T>(made: Result<T, RefineFault>) -> Result<T, Cause>
     }
 }
 
-/// Each level is the whole next one. It is one step for each of its faces.
+/// The step to the whole next level. Each of its faces is one step of the counter.
+///
+/// Reports `TooManyFaces` with the number of faces where the next level would have more than 2^22. Reports `Overflow` of the
+/// kind `Chaikin` where halves of edges overflow, and `Memory` where memory runs out.
 #[derive(Clone, Copy)]
 pub struct Uniform;
 

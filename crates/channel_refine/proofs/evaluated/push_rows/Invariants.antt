@@ -5,7 +5,7 @@ use Rattle.primvar_refine.specs.View.{rows_of}
 use Rattle.channel_refine.proofs.EvaluatedLemmas.{evaluated_rows}
 use Rattle.channel_refine.proofs.evaluated.push_rows.Given as goal
 
--- the values of the rows so far, the room for the others, and the steps
+-- the values of the rows so far, the capacity for the others, and the steps
 abbrev pub invariant-loop-row : goal.invariant-loop-row
 invariant-loop-row g l = record {
   values : rows_of g.P.Primvar.numbers l.values.items ≡ evaluated_rows (map g.P.Primvar.numbers l.controls) (take l.row l.table.rows);

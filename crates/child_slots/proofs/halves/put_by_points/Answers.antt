@@ -11,7 +11,7 @@ returns g c =
     let last : c.loop-v.v ≡ c.args.level.now.level.point_count = omega (arith, c.loop-v-test.false, c.loop-v.auto.v-end, c.points-v-end.ensures) in
     halves-all c.args.level.now c.facts.ensures (g.P.ChildPoints.has c.args.points.now) c.loop-v.v (map sharpness_of c.loop-v.halves) last c.loop-v.invariant
 
--- asked for by name, so that a body that breaks it is refused at once
+-- proved by name, so that the prover refuses a body that breaks it at once
 pub put_point-requires-clause-before : goal.put_point-requires-clause-before
 put_point-requires-clause-before g c = search rules
 

@@ -3,7 +3,7 @@ use Rattle.sharpness_rules.specs.View.{sharpness_of}
 use Rattle.child_slots.specs.HalfTable.{AreHalvesPut}
 use Rattle.child_slots.proofs.halves.put_halves.Given as goal
 
--- those of the edges so far are put
+-- the halves of the edges so far are written
 abbrev pub invariant-loop-i : goal.invariant-loop-i
 invariant-loop-i l = record {
   count : length l.halves ≡ length l.fn.halves;

@@ -1,6 +1,6 @@
 use Rattle.std.proofs.Common.{rules}
 use Rattle.face_varying.proofs.build_sides.side_sharpness.Goals as goal
 
--- asked for by name, so that a body that breaks it is refused at once
+-- proved by name, so that the prover refuses a body that breaks it at once
 pub returns-then-apart-e : goal.returns-then-apart-e
 returns-then-apart-e c = search rules

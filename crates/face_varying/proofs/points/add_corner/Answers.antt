@@ -1,7 +1,7 @@
 use Rattle.std.proofs.Common.{rules}
 use Rattle.face_varying.proofs.points.add_corner.Goals as goal
 
--- asked for by name, so that a body that breaks it is refused at once
+-- proved by name, so that the prover refuses a body that breaks it at once
 pub returns-in_ok-push_point-clause-vertices : goal.returns-in_ok-push_point-clause-vertices
 returns-in_ok-push_point-clause-vertices c = search rules
 

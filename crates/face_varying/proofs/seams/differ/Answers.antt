@@ -1,7 +1,7 @@
 use Rattle.std.proofs.Common.{rules}
 use Rattle.face_varying.proofs.seams.differ.Goals as goal
 
--- asked for by name, so that a body that breaks it is refused at once
+-- proved by name, so that the prover refuses a body that breaks it at once
 pub returns-then-pair-other : goal.returns-then-pair-other
 returns-then-pair-other c = search rules
 

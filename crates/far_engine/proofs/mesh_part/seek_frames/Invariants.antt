@@ -2,7 +2,7 @@ use Rattle.std.proofs.Common.{◌≡◌, ℕ, ◌^◌, ◌+◌, ◌≤◌, List,
 use Rattle.far_engine.specs.MeshPart.{IsMeshLines}
 use Rattle.far_engine.proofs.mesh_part.seek_frames.Given as goal
 
--- these lines were read, and each took a byte at least
+-- these lines were read, and each took at least one byte
 abbrev pub invariant-loop-end : goal.invariant-loop-end
 invariant-loop-end g l = record {
   lines : List (List ℕ);

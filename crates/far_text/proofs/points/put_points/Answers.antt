@@ -6,7 +6,7 @@ use Rattle.ratio128.specs.declared.valued.Valued.{Valued}
 use Rattle.far_text.specs.Lines.{valued_line}
 use Rattle.far_text.proofs.points.put_points.Goals as goal
 
--- what stands at a place that there is not
+-- a read past the end gives the default
 abbrev none : Valued Point3
 none = record { value = record { x = pos 0; y = pos 0; z = pos 0 }; den = 0 }
 

@@ -5,7 +5,7 @@ use Rattle.ratio128.specs.declared.valued.Valued.{Valued}
 use Rattle.far_text.specs.Lines.{valued_texture_line}
 use Rattle.far_text.proofs.texture.put_texture.Goals as goal
 
--- what stands at a place that there is not
+-- a read past the end gives the default
 abbrev none : Valued Point2
 none = record { value = record { u = pos 0; v = pos 0 }; den = 0 }
 

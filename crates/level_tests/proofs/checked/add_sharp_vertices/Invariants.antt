@@ -3,7 +3,7 @@ use Rattle.subdiv_model.specs.Polygons.{Polygon}
 use Rattle.level_tests.specs.Faces.{IsUnmarked}
 use Rattle.level_tests.proofs.checked.add_sharp_vertices.Given as goal
 
--- what is told of sharpness changes nothing else
+-- the sharpness of points changes nothing else
 abbrev pub invariant-loop-v : goal.invariant-loop-v
 invariant-loop-v g l = record {
   count : l.builder.level.point_count ≡ l.points;

@@ -2,7 +2,7 @@ use Rattle.std.proofs.Common.{◌-◌}
 use Rattle.level_walk.specs.Walk.{IsWalked, at}
 use Rattle.level_walk.proofs.along.walk.Given as goal
 
--- where the walk is
+-- the place of the walk
 abbrev pub invariant-loop-k : goal.invariant-loop-k
 invariant-loop-k g l = record {
   ready : g.S.NextLevel.IsReady l.step l.reached.level (l.fn.depth - l.k);

@@ -1,7 +1,7 @@
 use Rattle.std.proofs.Common.{rules}
 use Rattle.mask_rules.proofs.edge.below_one.Goals as goal
 
--- asked for by name, so that a body that breaks it is refused at once
+-- proved by name, so that the prover refuses a body that breaks it at once
 pub returns-in-Infinite : goal.returns-in-Infinite
 returns-in-Infinite c = search rules
 

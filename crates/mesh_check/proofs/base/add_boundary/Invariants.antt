@@ -5,7 +5,7 @@ use Rattle.subdiv_model.specs.Edges.{edges_of}
 use Rattle.mesh_check.specs.Base.{with_edge_tags, infinite}
 use Rattle.mesh_check.proofs.base.add_boundary.Given as goal
 
--- what is done, and what is done from here on, is all
+-- the tags so far and those of the rest are all tags
 abbrev pub invariant-loop-rest : goal.invariant-loop-rest
 invariant-loop-rest l = record {
   all : with_edge_tags (infinite l.rest) l.builder ≡ with_edge_tags (infinite l.boundary) l.fn.builder;

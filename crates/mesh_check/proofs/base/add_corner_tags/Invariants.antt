@@ -4,7 +4,7 @@ use Rattle.raw_mesh.specs.View.{corner_tag_of}
 use Rattle.mesh_check.specs.Base.{with_vertex_tags}
 use Rattle.mesh_check.proofs.base.add_corner_tags.Given as goal
 
--- what is done, and what is done from here on, is all
+-- the tags so far and those of the rest are all tags
 abbrev pub invariant-loop-rest : goal.invariant-loop-rest
 invariant-loop-rest l = record {
   all : with_vertex_tags (map corner_tag_of l.rest) l.builder ≡ with_vertex_tags (map corner_tag_of l.tags) l.fn.builder;

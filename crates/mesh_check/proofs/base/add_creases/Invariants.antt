@@ -3,7 +3,7 @@ use Rattle.raw_mesh.specs.View.{crease_of}
 use Rattle.mesh_check.specs.Base.{with_edge_tags}
 use Rattle.mesh_check.proofs.base.add_creases.Given as goal
 
--- what is done, and what is done from here on, is all
+-- the tags so far and those of the rest are all tags
 abbrev pub invariant-loop-rest : goal.invariant-loop-rest
 invariant-loop-rest l = record {
   all : with_edge_tags (map crease_of l.rest) l.builder ≡ with_edge_tags (map crease_of l.creases) l.fn.builder;

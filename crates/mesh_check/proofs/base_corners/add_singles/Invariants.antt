@@ -3,7 +3,7 @@ use Rattle.subdiv_model.specs.Lists.{places_from}
 use Rattle.mesh_check.specs.Base.{infinite, single_corners, with_vertex_tags}
 use Rattle.mesh_check.proofs.base_corners.add_singles.Given as goal
 
--- what is done, and what is done from here on, is all
+-- the tags so far and those of the rest are all tags
 abbrev pub invariant-loop-rest : goal.invariant-loop-rest
 invariant-loop-rest l = record {
   all : with_vertex_tags (infinite (places_from l.v (λ count. nat_eq count 1) l.rest)) l.builder ≡ with_vertex_tags (infinite (single_corners l.counts)) l.fn.builder;

@@ -2,7 +2,7 @@ use Rattle.std.proofs.Common.{◌≡◌, length}
 use Rattle.mesh_check.specs.Chain.{goes_on, is_long_walk}
 use Rattle.mesh_check.proofs.chain.is_long_walk.Given as goal
 
--- what is left of the walk decides
+-- the rest of the walk decides
 abbrev pub invariant-loop-steps : goal.invariant-loop-steps
 invariant-loop-steps l = record {
   decides : goes_on 1 l.next l.marks.items l.steps l.i ≡ is_long_walk l.next l.start;

@@ -5,7 +5,7 @@ use Rattle.subdiv_model.specs.MeshFault.{RepeatedVertex, repeating_faces}
 use Rattle.mesh_check.specs.View.{mesh_fault_of}
 use Rattle.mesh_check.proofs.corners.put_repeating_faces.Given as goal
 
--- what is put, and the faces from here on that have a vertex twice, are all, and no mark is later than the last face
+-- the faults so far and the rest of the faces that have a vertex twice are all, and no mark is later than the last face
 abbrev pub invariant-loop-f : goal.invariant-loop-f
 invariant-loop-f l = record {
   put : map mesh_fault_of l.faults.items ++ map RepeatedVertex (places_from l.f (λ polygon. not (is_distinct polygon)) (drop l.f l.raw.faces))

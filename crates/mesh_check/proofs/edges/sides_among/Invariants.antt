@@ -3,7 +3,7 @@ use Rattle.std.specs.List.{filter}
 use Rattle.mesh_check.specs.Keys.{is_named}
 use Rattle.mesh_check.proofs.edges.sides_among.Given as goal
 
--- what is found, and what is found from here on, is all
+-- the sides found so far and those of the rest are all
 abbrev pub invariant-loop-rest : goal.invariant-loop-rest
 invariant-loop-rest l = l.found.items ++ filter (is_named l.directed l.known) l.rest ≡ filter (is_named l.directed l.known) l.sides
 

@@ -2,7 +2,7 @@ use Rattle.std.proofs.Common.{◌≡◌, ◌++◌, length}
 use Rattle.mesh_check.specs.Keys.{each_once}
 use Rattle.mesh_check.proofs.keys.each_once.Given as goal
 
--- what is found, and what is found from here on, is all
+-- the numbers found so far and those of the rest are all
 abbrev pub invariant-loop-rest : goal.invariant-loop-rest
 invariant-loop-rest l = l.found.items ++ each_once l.rest ≡ each_once l.keys
 

@@ -2,7 +2,7 @@ use Rattle.std.proofs.Common.{◌≡◌, ◌++◌, length}
 use Rattle.mesh_check.specs.Keys.{repeats}
 use Rattle.mesh_check.proofs.keys.repeats.Given as goal
 
--- what is found, and what is found from here on, is all
+-- the numbers found so far and those of the rest are all
 abbrev pub invariant-loop-rest : goal.invariant-loop-rest
 invariant-loop-rest l = l.found.items ++ repeats l.gap l.rest ≡ repeats l.gap l.keys
 

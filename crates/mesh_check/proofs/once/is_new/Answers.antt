@@ -5,7 +5,7 @@ use Rattle.mesh_check.proofs.once.is_new.Goals as goal
 pub returns-in-Ok-clause-new : goal.returns-in-Ok-clause-new
 returns-in-Ok-clause-new c =
     let found = found-new c.args.keys.now c.args.marks.now.items c.args.key _ _ _ c.binary_search.ensures.position c.in-Ok.is c.requires.rises c.requires.once c.mark_at.ensures.was in
-    -- asked for by name, so that a body that breaks it is refused at once
+    -- proved by name, so that the prover refuses a body that breaks it at once
     search (rules, found.0)
 
 pub returns-in-Ok-clause-marks : goal.returns-in-Ok-clause-marks

@@ -7,7 +7,7 @@ use Rattle.mesh_check.specs.Keys.{each_once}
 use Rattle.mesh_check.specs.Groups.{vertices, AreGroups}
 use Rattle.mesh_check.proofs.split.put_split_vertices.Given as goal
 
--- the corners from here on are groups; what is put, and those of their vertices that are not one fan, are all
+-- the rest of the corners are groups; the faults so far, and those of the rest of the vertices, are all
 abbrev pub invariant-loop-rest : goal.invariant-loop-rest
 invariant-loop-rest l = record {
   groups : AreGroups l.raw.faces l.rest;

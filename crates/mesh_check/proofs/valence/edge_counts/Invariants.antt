@@ -3,7 +3,7 @@ use Rattle.std.specs.List.{All, count_by, sum_by}
 use Rattle.mesh_check.specs.Keys.{ends_of_key, each_once}
 use Rattle.mesh_check.proofs.valence.edge_counts.Given as goal
 
--- what is counted, and what is counted from here on, is all
+-- the counts so far and those of the rest are all
 abbrev pub invariant-loop-rest : goal.invariant-loop-rest
 invariant-loop-rest l = record {
   counts : (v : ℕ) → get_or l.counts.items v 0 + sum_by (λ key. count_by (nat_eq v) (ends_of_key key)) (each_once l.rest) ≡ sum_by (λ key. count_by (nat_eq v) (ends_of_key key)) (each_once l.edges);

@@ -3,6 +3,6 @@ use Rattle.primvar_refine.specs.Rows.{dens_of}
 use Rattle.primvar_refine.specs.View.{rows_of}
 use Rattle.primvar_refine.proofs.dens.denominators.Given as goal
 
--- those of the values so far
+-- the denominators of the values so far
 abbrev pub invariant-loop-value : goal.invariant-loop-value
 invariant-loop-value g l = l.dens.items ≡ take l.value-index (dens_of (rows_of g.P.Primvar.numbers l.values))

@@ -21,7 +21,7 @@ loop-term-init g c = record {
   taken = omega arith;
 }
 
--- a term as it is seen
+-- the term at a place beyond the end
 abbrev blank : Term
 blank = record { at = Point 0; weight = 0 }
 

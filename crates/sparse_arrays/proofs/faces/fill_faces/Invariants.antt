@@ -2,7 +2,7 @@ use Rattle.std.proofs.Common.{◌≡◌, length, map, take}
 use Rattle.sparse_arrays.specs.Flat.{kind_number}
 use Rattle.sparse_arrays.proofs.faces.fill_faces.Given as goal
 
--- those of the faces so far
+-- the kinds, numbers and sizes of the faces so far
 abbrev pub invariant-loop-f : goal.invariant-loop-f
 invariant-loop-f l = record {
   kinds : take l.f l.kinds ≡ map (λ face. kind_number face.kind) (take l.f l.level.faces);

@@ -3,7 +3,7 @@ use Rattle.sparse_level.specs.Places.{with_points}
 use Rattle.sparse_channel.specs.Marks.{AreMarked}
 use Rattle.sparse_channel.proofs.points.note_points.Given as goal
 
--- those so far are there
+-- the points so far are in the list
 abbrev pub invariant-loop-n : goal.invariant-loop-n
 invariant-loop-n l = record {
   points : l.points.items ≡ with_points l.fn.points.items (take l.n-index l.corners);

@@ -6,7 +6,7 @@ use Rattle.channel_refine.proofs.EvaluatedLemmas.{evaluated_rows}
 use Rattle.sparse_channel.proofs.RowLemmas.{picked}
 use Rattle.sparse_channel.proofs.rows.push_rows.Given as goal
 
--- the values of the rows so far, the room for the others, and the steps
+-- the values of the rows so far, the capacity for the others, and the steps
 abbrev pub invariant-loop-row : goal.invariant-loop-row
 invariant-loop-row g l = record {
   values : rows_of g.P.Primvar.numbers l.values.items ≡ evaluated_rows (map g.P.Primvar.numbers l.controls) (picked l.table (take l.row-index l.rows));

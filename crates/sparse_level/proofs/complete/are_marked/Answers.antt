@@ -4,7 +4,7 @@ use Rattle.std.proofs.lemmas.List.{take_all}
 use Rattle.sparse_level.proofs.CompleteLemmas.{all-more, one-off}
 use Rattle.sparse_level.proofs.complete.are_marked.Goals as goal
 
--- asked for by name, so that a body that breaks it is refused at once
+-- proved by name, so that the prover refuses a body that breaks it at once
 pub returns-then-not-on-v : goal.returns-then-not-on-v
 returns-then-not-on-v c = search (rules, one-off)
 

@@ -2,7 +2,7 @@ use Rattle.std.proofs.Common.{◌≡◌, ℕ, ◌<◌, ◌||◌, false, length, 
 use Rattle.subdiv_model.specs.Polygons.{has_corner}
 use Rattle.sparse_level.proofs.on.mark_corners.Given as goal
 
--- those so far are marked beside the old ones
+-- the corners so far are marked, besides those marked before
 abbrev pub invariant-loop-v : goal.invariant-loop-v
 invariant-loop-v l = record {
   count : length l.on.items ≡ length l.fn.on.items;

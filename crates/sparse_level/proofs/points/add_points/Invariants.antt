@@ -2,7 +2,7 @@ use Rattle.std.proofs.Common.{◌≡◌, ◌+◌, ◌≤◌, length, take}
 use Rattle.sparse_level.specs.Places.{with_points, ArePointsIn}
 use Rattle.sparse_level.proofs.points.add_points.Given as goal
 
--- those so far are there
+-- the points so far have numbers
 abbrev pub invariant-loop-n : goal.invariant-loop-n
 invariant-loop-n l = record {
   points : l.points.items ≡ with_points l.fn.points.items (take l.n-index l.corners);

@@ -15,7 +15,7 @@ pub mark_complete-requires-clause-inside : goal.mark_complete-requires-clause-in
 mark_complete-requires-clause-inside c =
     below-at c.args.sparse.now c.level-level.result.now c.level-level.ensures c.facts.ensures c.args.present.now c.requires.present c.args.points.now c.requires.points c.points.result.now c.points.ensures
 
--- asked for by name, so that a body that breaks it is refused at once
+-- proved by name, so that the prover refuses a body that breaks it at once
 pub returns : goal.returns
 returns c =
     let marks =

@@ -4,7 +4,7 @@ use Rattle.std.proofs.lemmas.List.{length-map}
 use Rattle.std.proofs.lemmas.Slice.Zip.{length-zip, firsts-zip, seconds-zip}
 use Rattle.stencil_apply.proofs.push.push_parts.Goals as goal
 
--- asked for by name, so that a body that breaks it is refused at once
+-- proved by name, so that the prover refuses a body that breaks it at once
 pub returns : goal.returns
 returns g c =
     let numbers = map g.T.Natural.value c.args.numerators.now in

@@ -3,7 +3,7 @@ use Rattle.std.proofs.Common.{arith}
 use Rattle.stencil_apply.proofs.BuilderLemmas.{length-shares_of, firsts-shares_of, seconds-shares_of}
 use Rattle.stencil_apply.proofs.push.push_row.Goals as goal
 
--- asked for by name, so that a body that breaks it is refused at once
+-- proved by name, so that the prover refuses a body that breaks it at once
 pub returns : goal.returns
 returns c =
     let count = length-shares_of c.args.row.now in

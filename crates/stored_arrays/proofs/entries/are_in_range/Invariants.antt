@@ -3,7 +3,7 @@ use Rattle.subdiv_model.specs.ReadTable.{are_shares_in_range}
 use Rattle.stencil_apply.specs.Arrays.{shares_of}
 use Rattle.stored_arrays.proofs.entries.are_in_range.Given as goal
 
--- the entries that are left say what all entries say
+-- the test of the entries that are left is the test of all entries
 abbrev pub invariant-loop-rest : goal.invariant-loop-rest
 invariant-loop-rest l = are_shares_in_range l.controls l.least (shares_of l.rest) ≡ are_shares_in_range l.controls 0 (shares_of l.entries)
 

@@ -5,7 +5,7 @@ use Rattle.subdiv_model.specs.TableText.{row_text}
 use Rattle.table_file.proofs.LineLemmas.{all-rows}
 use Rattle.table_file.proofs.put.put_rows.Goals as goal
 
--- what stands at a place that there is not
+-- the row at a place beyond the end
 abbrev none : Row
 none = record { den = 1; shares = [] }
 

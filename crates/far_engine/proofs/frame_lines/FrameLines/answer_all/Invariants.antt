@@ -1,7 +1,7 @@
 use Rattle.far_engine.specs.FrameLines.{CanCount, IsStreaming, Origin, bytes_left}
 use Rattle.far_engine.proofs.frame_lines.FrameLines.answer_all.Given as goal
 
--- all lines so far were answered, wherever the run began
+-- all lines so far are answered, for any start of the run
 abbrev pub invariant-loop-more : goal.invariant-loop-more
 invariant-loop-more g l = record {
   counted : CanCount l.self;
