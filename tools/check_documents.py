@@ -1,29 +1,37 @@
 #!/usr/bin/env python3
-"""Runs the commands of the documents, and compares what they print with what stands there.
+"""Checks the links of the documents, and runs their commands.
 
-In a document, that is in each Markdown file of the repository, a block that is fenced with ```console is checked:
+    tools/check_documents.py
+    tools/check_documents.py --links
+    tools/check_documents.py docs/guide/README.md
+
+A link to a file of the repository has to lead to a tracked file or to a folder of such files, and its anchor to a heading. That
+holds for each Markdown file. With --links nothing else is checked.
+
+In each Markdown file but those of docs/reference, a block that is fenced with ```console is checked:
 
     $ ./far gen seed=0 size=1 depth=1
     gen points 4 faces 1
     ..
     last 0 5 3
 
-A line that begins with `$ ` is a command, and goes on where it ends with a backslash. The lines up to the next
-command are what it prints on both outputs together; a line `..` stands for any number of lines, also for none.
-Commands run by bash, those of a document one after another, at the top of a copy of the tracked files in which
-`./far` runs the proved program, and `drillolive` the command over the library of build/lib. Where one writes a picture with
-`-o docs/NAME`, that has to be the file of the repository. A block that is fenced with ```python runs there too, by this Python, and
-has to end without an error. What needs the library is left out where there is none, and a line says so.
+A line that begins with `$ ` is a command, and goes on where it ends with a backslash. The lines up to the next command are its
+output on both streams together. A line `..` is any number of lines, also none. Bash runs the commands of a document one after
+another, at the top of a copy of the tracked files. There `./far` runs the proved program, and `drillolive` the command over the
+library of build/lib. A picture that a command writes with `-o docs/NAME` has to be the file of the repository. A block that is
+fenced with ```python runs there too, by this Python, and has to end without an error. Commands that need the library, or numpy,
+are left out where there is none, and a line says so.
 
-Commands that are not run stand in blocks that are fenced with ```sh, and in NOT_RUN here with the reason. Any other
-command there, and one in another block, is a fault.
+Blocks that are fenced with ```sh have the commands that are not run. NOT_RUN lists them, each with the reason. Any other command
+in such a block, and a command in a block of another kind, is a fault.
 
-The last line is `N commands of M documents: as told`, and the exit status 0. It is 1 where something differs or is
-not checked, which is printed, and 2 where there is no program.
+The last line is `N commands of M documents: no fault`, and the exit status 0. The status is 1 where there is a fault, which is
+printed, and 2 without a program.
 """
 
 import argparse
 import difflib
+import importlib.util
 import os
 import re
 import shlex
@@ -34,51 +42,62 @@ import tempfile
 from concurrent.futures import ThreadPoolExecutor
 from fnmatch import fnmatch
 from pathlib import Path
+from typing import Dict, Iterator, List, Optional, Tuple
 
+from document_links import Documents
 from tracked_files import PROGRAM, TOP, copy_files, put_program, tracked_files
 
 SECONDS = 300
 MOST_LINES = 40
 ANY_LINES = ".."
+MADE = "docs/reference/"
 FENCE = re.compile(r"( *)```+ *(\w*)")
 PICTURE = re.compile(r" -o +(docs/\S+)")
-LOOKS_LIKE_A_COMMAND = re.compile(r"\$ |\./far\b|tools/|rt |drillolive ")
+LOOKS_LIKE_A_COMMAND = re.compile(r"\$ |\./far\b|tools/|tests/|bench/|rt |drillolive ")
 NEEDS_THE_LIBRARY = re.compile(r"\bdrillolive\b")
+NEEDS_NUMPY = re.compile(r"^import numpy$", re.MULTILINE)
+HAS_NUMPY = importlib.util.find_spec("numpy") is not None
 LIBRARY = TOP / "build/lib/libdrillolive.so"
 
 # Patterns of the commands that are not run, each with the reason.
 NOT_RUN = {
     ".ci/run": "it runs this check, and takes an hour from nothing",
-    "./far --install *": "it proves all, and tools/test_launcher.py runs it over a stand-in of rt",
-    "bindings/blender/build_addon.py*": "tools/test_blender.py makes the zip and installs it",
+    "./far --install *": "it proves all, and tests/run/test_launcher.py runs it over a stand-in of rt",
+    "bindings/blender/build_addon.py*": "tests/run/test_blender.py makes the zip and installs it",
     "blender *": "it needs Blender, and draws a picture for a document",
     "pip *": "it installs, and bindings/python/tests tries it in a folder of its own",
     "cc *": "tools/build_library.py compiles the examples and the tests",
     "./far --build": "it proves the program, which takes an hour from nothing",
     "git *": "it is for a machine without the repository, or changes it",
     "cd *": "it only leads to the command after it",
+    "cp -r *": "it makes a repository of one's own, whose proof takes minutes",
+    "echo '*' >> crates.txt": "it is for a repository of one's own",
+    "sed -i *": "it is for a repository of one's own",
     "rt *": "it proves, or changes what is kept of proofs",
-    "tools/bench.py*": "it takes many minutes, and prints times",
-    "tools/colliding_edges.py*": "it searches for minutes",
-    "tools/compare_random.py*": "it is run by .ci/run",
-    "tools/run_cases.py*": "it is run by .ci/run",
-    "tools/refuse_memory.py*": "it needs a C compiler",
+    "bench/bench.py*": "it takes many minutes, and prints times",
+    "bench/colliding_edges.py*": "it searches for minutes",
+    "tests/random/compare_random.py*": "it is run by .ci/run",
+    "tests/run/run_cases.py*": "it is run by .ci/run",
+    "tests/run/refuse_memory.py*": "it needs a C compiler",
 }
 
 
 class Command:
-    """A command of a document: the number of its line, its text, and the lines that stand below it."""
+    """A command of a document: the number of its line, its text, and the lines below it, which it has to print."""
 
-    def __init__(self, line, text):
-        self.line, self.text, self.told = line, text, []
+    def __init__(self, line: int, text: str) -> None:
+        self.line, self.text = line, text
+        self.wanted: List[str] = []
 
 
 # Reading documents
 
 
-def blocks(text):
+def blocks(text: str) -> Iterator[Tuple[str, int, List[str]]]:
     """The fenced blocks: of each the word after its fence, the number of its first line, and its lines."""
-    kind, indent, first, held = None, 0, 0, []
+    kind: Optional[str] = None
+    indent, first = 0, 0
+    held: List[str] = []
     for number, line in enumerate(text.splitlines(), start=1):
         fence = FENCE.match(line)
         if fence and kind is None:
@@ -90,9 +109,10 @@ def blocks(text):
             held.append(line[indent:])
 
 
-def commands_of(first, lines):
-    """The commands of a block for a console; lines above the first are told by a command without text."""
-    found, goes_on = [], False
+def commands_of(first: int, lines: List[str]) -> List[Command]:
+    """The commands of a block for a console. A command without text has the lines above the first one."""
+    found: List[Command] = []
+    goes_on = False
     for number, line in enumerate(lines, start=first):
         if goes_on:
             found[-1].text += "\n" + line
@@ -101,21 +121,22 @@ def commands_of(first, lines):
         else:
             if not found:
                 found.append(Command(number, ""))
-            found[-1].told.append(line)
+            found[-1].wanted.append(line)
         goes_on = (goes_on or line.startswith("$ ")) and line.endswith("\\")
     return found
 
 
-def python_of(first, lines):
+def python_of(first: int, lines: List[str]) -> Command:
     """The command that runs a block of Python, which prints nothing."""
     return Command(first, f"{shlex.quote(sys.executable)} - <<'END_OF_BLOCK'\n" + "\n".join(lines) + "\nEND_OF_BLOCK")
 
 
-def is_not_run(command):
+def is_not_run(command: str) -> bool:
+    """Whether a command is listed as one that is not run."""
     return any(fnmatch(command, pattern) for pattern in NOT_RUN)
 
 
-def unchecked(kind, first, lines):
+def unchecked(kind: str, first: int, lines: List[str]) -> Iterator[Tuple[int, str]]:
     """The commands of a block for no console that are not run for no reason that is listed, with their lines."""
     goes_on = False
     for number, line in enumerate(lines, start=first):
@@ -126,9 +147,10 @@ def unchecked(kind, first, lines):
         goes_on = line.endswith("\\")
 
 
-def read_document(name):
-    """The commands of a document that are run, and what is said of those that are not checked."""
-    commands, faults = [], []
+def read_document(name: str) -> Tuple[List[Command], List[str]]:
+    """The commands of a document that are run, and a line for each that is not checked."""
+    commands: List[Command] = []
+    faults: List[str] = []
     for kind, first, lines in blocks((TOP / name).read_text(encoding="utf-8")):
         if kind == "console":
             commands += commands_of(first, lines)
@@ -142,12 +164,13 @@ def read_document(name):
 # Running commands
 
 
-def is_as_told(told, written):
-    """Whether the lines that are written are those that are told, where `..` is any number of lines."""
-    if ANY_LINES not in told:
-        return told == written
-    parts, part = [], []
-    for line in told:
+def is_output(wanted: List[str], written: List[str]) -> bool:
+    """Whether the lines that are written are the wanted ones, where `..` is any number of lines."""
+    if ANY_LINES not in wanted:
+        return wanted == written
+    parts: List[List[str]] = []
+    part: List[str] = []
+    for line in wanted:
         if line == ANY_LINES:
             parts.append(part)
             part = []
@@ -165,16 +188,16 @@ def is_as_told(told, written):
     return True
 
 
-def difference(told, written):
-    """The first lines in which what is written differs from what is told."""
-    lines = list(difflib.unified_diff(told, written[: 10 * MOST_LINES], "told", "written", lineterm=""))
+def difference(wanted: List[str], written: List[str]) -> str:
+    """The first lines in which the written ones differ from the wanted ones."""
+    lines = list(difflib.unified_diff(wanted, written[: 10 * MOST_LINES], "wanted", "written", lineterm=""))
     if len(lines) > MOST_LINES:
         lines[MOST_LINES:] = [f"({len(lines) - MOST_LINES} more lines)"]
     return "".join(f"    {line}\n" for line in lines).rstrip("\n")
 
 
-def wrong_pictures(command, copy):
-    """What is said of the pictures that the command wrote in the copy and that are not those of the repository."""
+def wrong_pictures(command: Command, copy: Path) -> Iterator[str]:
+    """A line for each picture that the command wrote in the copy and that is not the one of the repository."""
     for name in PICTURE.findall(command.text):
         made, kept = copy / name, TOP / name
         if not kept.is_file():
@@ -183,16 +206,23 @@ def wrong_pictures(command, copy):
             yield f"the file {name} that it writes is not the one of the repository"
 
 
-def environment(copy):
+def environment(copy: Path) -> Dict[str, str]:
     """The environment of commands: `drillolive` is that of the copy, and so is the package of Python, over the library that is built."""
     paths = {"PATH": f"{copy}:{os.environ['PATH']}", "PYTHONPATH": str(copy / "bindings/python")}
     return {**os.environ, **paths, "DRILLOLIVE_LIBRARY": str(LIBRARY), "PYTHONDONTWRITEBYTECODE": "1"}
 
 
-def lines_written(text, copy):
+def lines_written(text: str, copy: Path) -> Optional[List[str]]:
     """The lines that bash writes on both outputs when it runs the text in the copy; None where it does not end in time."""
-    how = {"stdin": subprocess.DEVNULL, "stdout": subprocess.PIPE, "stderr": subprocess.STDOUT, "start_new_session": True}
-    with subprocess.Popen(["bash", "-c", text], cwd=copy, env=environment(copy), **how) as started:
+    with subprocess.Popen(
+        ["bash", "-c", text],
+        cwd=copy,
+        env=environment(copy),
+        stdin=subprocess.DEVNULL,
+        stdout=subprocess.PIPE,
+        stderr=subprocess.STDOUT,
+        start_new_session=True,
+    ) as started:
         try:
             written = started.communicate(timeout=SECONDS)[0]
         except subprocess.TimeoutExpired:
@@ -202,28 +232,33 @@ def lines_written(text, copy):
     return lines[:-1] if lines[-1] == "" else lines
 
 
-def run_command(command, copy):
-    """What is wrong with the command; none where it does as the document tells."""
+def run_command(command: Command, copy: Path) -> List[str]:
+    """What is wrong with the command; nothing where it prints what the document says."""
     if not command.text:
-        return ["these lines stand below no command"]
+        return ["these lines have no command above them"]
     for name in PICTURE.findall(command.text):
         (copy / name).unlink(missing_ok=True)
     lines = lines_written(command.text, copy)
     if lines is None:
         return [f"no end after {SECONDS} seconds"]
-    wrong = [] if is_as_told(command.told, lines) else [difference(command.told, lines)]
+    wrong = [] if is_output(command.wanted, lines) else [difference(command.wanted, lines)]
     return wrong + list(wrong_pictures(command, copy))
 
 
-def check_document(name, names, program):
-    """How many commands of the document were run, and what is wrong with it."""
+def lacks_something(command: Command) -> bool:
+    """Whether a command needs the library, or numpy, and this machine has none."""
+    lacks_library = not LIBRARY.is_file() and NEEDS_THE_LIBRARY.search(command.text)
+    return bool(lacks_library or not HAS_NUMPY and NEEDS_NUMPY.search(command.text))
+
+
+def check_document(name: str, names: List[str], program: Path) -> Tuple[int, List[str]]:
+    """The number of commands of the document that were run, and its faults."""
     commands, faults = read_document(name)
-    if not LIBRARY.is_file():
-        commands = [command for command in commands if not NEEDS_THE_LIBRARY.search(command.text)]
+    commands = [command for command in commands if not lacks_something(command)]
     if not commands:
         return 0, faults
-    with tempfile.TemporaryDirectory(prefix="documents-") as room:
-        copy = Path(room)
+    with tempfile.TemporaryDirectory(prefix="documents-") as folder:
+        copy = Path(folder)
         copy_files(names, copy)
         put_program(program, copy)
         for command in commands:
@@ -231,31 +266,47 @@ def check_document(name, names, program):
     return len(commands), faults
 
 
-def arguments():
-    parser = argparse.ArgumentParser(description="Runs the commands of the documents.")
-    parser.add_argument("documents", nargs="*", help="Markdown files, from the top of the repository; none: all")
-    parser.add_argument("--program", type=Path, default=TOP / PROGRAM, help="the program that ./far runs")
-    return parser.parse_args()
-
-
-def main():
-    options = arguments()
-    if not os.access(options.program, os.X_OK):
-        print(f"no program {options.program}: `./far --build` or `rt ci` builds it", file=sys.stderr)
-        return 2
-    names = tracked_files()
-    documents = options.documents or [name for name in names if name.endswith(".md")]
+def check_commands(documents: List[str], names: List[str], program: Path) -> int:
+    """Runs the commands of documents. Prints the faults, or the number of commands, and returns the exit status."""
     with ThreadPoolExecutor(os.cpu_count()) as pool:
-        outcomes = list(pool.map(lambda name: check_document(name, names, options.program), documents))
-    faults = [fault for _, told in outcomes for fault in told]
+        outcomes = list(pool.map(lambda name: check_document(name, names, program), documents))
+    faults = [fault for _, found in outcomes for fault in found]
     if faults:
         print("\n".join(faults))
         return 1
     if not LIBRARY.is_file():
-        print("there is no library in build/lib: commands of drillolive and blocks of Python are skipped")
+        print("build/lib has no library: commands of drillolive and blocks of Python are skipped")
+    elif not HAS_NUMPY:
+        print(f"{sys.executable} has no numpy: blocks of Python that import it are skipped")
     counts = [count for count, _ in outcomes if count]
-    print(f"{sum(counts)} commands of {len(counts)} documents: as told")
+    print(f"{sum(counts)} commands of {len(counts)} documents: no fault")
     return 0
+
+
+def arguments() -> argparse.Namespace:
+    """The options of the command line."""
+    parser = argparse.ArgumentParser(description="Checks the links and runs the commands of the documents.")
+    parser.add_argument("documents", nargs="*", help="Markdown files, from the top of the repository; none: all")
+    parser.add_argument("--links", action="store_true", help="check the links only")
+    parser.add_argument("--program", type=Path, default=TOP / PROGRAM, help="the program that ./far runs")
+    return parser.parse_args()
+
+
+def main() -> int:
+    options = arguments()
+    names = tracked_files()
+    documents = options.documents or [name for name in names if name.endswith(".md")]
+    faults = Documents(TOP, names).faults(documents)
+    if faults:
+        print("\n".join(faults))
+    if options.links:
+        print(f"{len(documents)} documents, {len(faults)} links that lead nowhere")
+        return 1 if faults else 0
+    if not os.access(options.program, os.X_OK):
+        print(f"no program {options.program}: `./far --build` or `rt ci` builds it", file=sys.stderr)
+        return 2
+    status = check_commands([name for name in documents if not name.startswith(MADE)], names, options.program)
+    return 1 if faults else status
 
 
 if __name__ == "__main__":

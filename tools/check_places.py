@@ -1,9 +1,9 @@
 #!/usr/bin/env python3
-"""Checks that each command and each crate stands in every place where it must stand.
+"""Checks that each command and each crate is in every place that needs it.
 
 The commands are those of `command_table` in the definitions. The crates are those of crates.txt, and the folders of
 crates/ that have sources. COMMAND_PLACES and CRATE_PLACES list the places. CONTRIBUTING.md says them in words, and must
-name each of their files.
+name each of their files. Pages that tools/make_reference.py makes are no places.
 
     tools/check_places.py
     tools/check_places.py --list command
@@ -11,7 +11,7 @@ name each of their files.
     tools/check_places.py --command NAME --kind make
 
 Each place that lacks a command or a crate is a line, `command NAME: missing in FILE: WHAT`, in the order of the list. A
-name that stands in no table yet lacks all places that are left to do. The kind of a command is that of its constructor
+name that is in no table yet lacks all places that are left to do. The kind of a command is that of its constructor
 in the definitions, or else what `--kind` says. The last line is `N places, M missing`, and the exit status 1 where
 something is missing, else 0.
 """
@@ -21,6 +21,8 @@ import re
 import sys
 from pathlib import Path
 from typing import Dict, Iterator, List, NamedTuple, Optional, Set, Tuple
+
+from reference_pages.crates import CODE, DEFINITIONS, EXAMPLE, INTERFACE, LAWS, PROGRAM, TESTS, crate_lines, kind_of
 
 COMMAND_TABLE = "crates/far_model/specs/Words.antt"
 COMMANDS = "crates/far_model/specs/Command.antt"
@@ -42,38 +44,36 @@ ROW_OF_RUN = r'(?:    \(|        )(?:"<name>(?: [^"]*)?"|<constant>),'
 
 NUMBERS = "no one two three four five six seven eight nine ten".split()
 
-# The kinds of commands, and those of crates: definitions and laws have no calls, a program none but `main`, and an interface its exports for C.
+# The kinds of commands.
 READ, STORED, MAKE, STREAM = "read", "stored", "make", "stream"
-CODE, LAWS, TESTS, PROGRAM, INTERFACE = "code", "laws", "tests", "program", "interface"
 
-# Of each kind of command the constructor of `Command` in the definitions, what documents say that such a command does, and the
-# record of a run.
+# Of each kind of command the constructor of `Command` in the definitions, and what the help says that such a command does.
 KINDS = {
-    READ: ("Reads", "read", "RunsRead"),
-    STORED: ("Stored", "take", "RunsRead"),
-    MAKE: ("Makes", "make", "RunsMake"),
-    STREAM: ("Streams", "stream", "RunsStream"),
+    READ: ("Reads", "reads? a mesh on"),
+    STORED: ("Stored", "(?:reads?|takes?) a stored table"),
+    MAKE: ("Makes", "makes? its"),
+    STREAM: ("Streams", "(?:streams?|reads? a mesh and)"),
 }
 
 
 class Place(NamedTuple):
-    """A place where a command or a crate must stand: in a file, or in one of the files of a pattern. `crates/*/` is the
+    """A place that needs a command or a crate: in a file, or in one of the files of a pattern. `crates/*/` is the
     folder of the crate itself."""
 
     file: str
-    # What stands there, in words. `<name>`, here and in the text, is the name; `command` and `crate` have the other words.
+    # What is there, in words. `<name>`, here and in the text, is the name; `command` and `crate` have the other words.
     what: str
     # A regular expression that the text of the file has. An empty one asks that there is such a file, and None nothing,
     # since another tool checks the place.
     text: Optional[str] = ""
-    # The kinds of commands or crates that stand there; none: all.
+    # The kinds of commands or crates that the place needs; none: all.
     kinds: Tuple[str, ...] = ()
     # The files of the pattern that do not count.
     without: str = ""
 
 
 class Subject(NamedTuple):
-    """A command or a crate: its title, its kind, and the words that stand for it in places."""
+    """A command or a crate: its title, its kind, and the words by which places name it."""
 
     title: str
     kind: str
@@ -178,53 +178,45 @@ ANSWER_PLACES = [
 ]
 
 REFERENCE_PLACES = [
-    Place("tools/run_reference.py", "its options, an entry of `OPTIONS`", r'^    b"<name>": '),
+    Place("tests/reference/run.py", "its options, an entry of `OPTIONS`", r'^    b"<name>": '),
     Place(
-        "tools/reference.py",
+        "tests/reference/reference.py",
         "its text, an entry of `TEXTS_OF_MESH`",
         r'^TEXTS_OF_MESH = \{\n(?:    .*\n)*?    b"<name>": ',
         (READ,),
     ),
     Place(
-        "tools/reference.py",
+        "tests/reference/reference.py",
         "its text, an entry of `TEXTS_OF_TABLE`",
         r'^TEXTS_OF_TABLE = \{\n(?:    .*\n)*?    b"<name>": ',
         (STORED,),
     ),
     Place(
-        "tools/reference.py",
+        "tests/reference/reference.py",
         "its text, an entry of `TEXTS_OF_OPTIONS`",
         r'^TEXTS_OF_OPTIONS = \{\n(?:    .*\n)*?    b"<name>": ',
         (MAKE,),
     ),
     Place(
-        "tools/reference.py",
+        "tests/reference/reference.py",
         "its texts, an entry of `TEXTS_OF_INPUT`",
         r'^TEXTS_OF_INPUT = \{\n(?:    .*\n)*?    b"<name>": ',
         (STREAM,),
     ),
-    Place("tools/compare_random.py", "random words of it, in `Words`", r'\breturn \["<name>"[,\]]', (READ, MAKE, STREAM)),
-    Place("tools/compare_random.py", "random inputs of it, in `kinds_of_runs`", r'^    yield .*\(\["<name>"[,\]]', (STORED,)),
-    Place("tools/test_launcher.py", "a run of it, in `runs`", r'\byield \["<name>"[,\]]'),
-    Place("tools/refuse_memory.py", "a run of it, in `runs`", r'\byield "<name>[ "]'),
+    Place("tests/random/compare_random.py", "random words of it, in `Words`", r'\breturn \["<name>"[,\]]', (READ, MAKE, STREAM)),
+    Place("tests/random/compare_random.py", "random inputs of it, in `kinds_of_runs`", r'^    yield .*\(\["<name>"[,\]]', (STORED,)),
+    Place("tests/run/test_launcher.py", "a run of it, in `runs`", r'\byield \["<name>"[,\]]'),
+    Place("tests/run/refuse_memory.py", "a run of it, in `runs`", r'\byield "<name>[ "]'),
 ]
 
 DOCUMENT_PLACES = [
-    Place("docs/formats.md", "how many commands there are, <commands>", r"(?i:\bhas <commands> commands\b)"),
-    Place("docs/formats.md", "an example of its words", r"^far <name>\b"),
-    Place("docs/formats.md", "a part that says what it writes", r"^## Output of `<name>`$"),
-    Place("docs/help.txt", "how many of its kind there are, <of_kind>", r"(?i:^<of_kind> commands? <verb>s?\b)"),
+    Place("docs/help.txt", "the number of its kind, <of_kind>", r"(?i:^<of_kind> commands? <verb>\b)"),
     Place("docs/help.txt", "its options and an example", r"^  \./far <name>\b"),
-    Place("docs/rules/answers.md", "a row of the table of options", r"^\|[^|\n]*`<name>`[^|\n]*\|"),
+    Place("docs/guide/formats.md", "the form of what it writes", r"`<name>`"),
+    Place("docs/rules/answers.md", "a row of the table of what commands ask", r"^\|[^|\n]*`<name>`[^|\n]*\|"),
     Place("docs/rules/answers.md", "its name, beside its kind", r"^- `<Kind>Command` .*`<name>`"),
-    Place("docs/proofs.md", "how many commands there are, <commands>", r"(?i:\bthe <commands> commands\b)"),
-    Place("docs/proofs.md", "what it writes, in the sentence on the program", r"^> .*`<name>`"),
-    Place("docs/architecture.md", "its call, in the row of `mesh_answers`", r"^\| `mesh_answers` \|.*`<call>`", (READ, MAKE)),
-    Place("docs/architecture.md", "its call, in the row of `table_answers`", r"^\| `table_answers` \|.*`<call>`", (STORED,)),
-    Place("crates/far_engine/README.md", "its name, beside the record of its kind", r"`<record>`, of [^|\n]*`<name>`"),
-    Place("README.md", "how many commands read a mesh, <of_kind>", r"(?i:\b<of_kind> commands read\b)", (READ,)),
-    Place("README.md", "a row of the table of commands", r"^\| \[`<name>`\]\(#<name>\) \|"),
-    Place("README.md", "a part with an example", r"^### `<name>`$"),
+    Place("docs/proofs.md", "the number of commands, <commands>", r"(?i:\b<commands> commands\b)"),
+    Place("docs/proofs.md", "what it writes, in the theorem on the program", r"^> .*`<name>`"),
 ]
 
 TEST_PLACES = [
@@ -249,15 +241,12 @@ COMMAND_PLACES = [
 ]
 
 CRATE_PLACES = [
-    Place(CRATES, "its line, with the crates that it stands on", r"^<name>(?: staticlib)?:"),
-    Place("crates/*/src/lib.rt", "a comment that says what the crate is", r"\A//! ", (CODE, LAWS, TESTS, INTERFACE)),
+    Place(CRATES, "its line, with the crates that it depends on", r"^<name>(?: staticlib)?:"),
+    Place("crates/*/src/lib.rt", "a comment that says what the crate is", r"\A//! ", (CODE, DEFINITIONS, EXAMPLE, LAWS, TESTS, INTERFACE)),
     Place("crates/*/src/main.rt", "a comment that says what the program does", r"\A//! ", (PROGRAM,)),
-    Place("crates/*/README.md", "what it is, an example and its contracts, as tools/check_crates.py checks", None),
-    Place("crates/*/must-fail/*.edit", "wrong bodies that the prover must refuse", "", (CODE, INTERFACE)),
-    Place("docs/architecture.md", "its place in a picture", r"\A(?:[^|\n].*\n|\n)*?.*\b<name>\b"),
-    Place("docs/architecture.md", "a row of the table of crates", r"^\| `<name>` \|"),
-    Place("docs/proofs.md", "a row of the table of crates", r"^\| \[`<name>`\]\(\.\./crates/<name>/README\.md\) \|"),
-    Place("docs/proofs.md", "rows of its edits in the table of wrong bodies", r"^\| `<name>` \| `", (CODE, INTERFACE)),
+    Place("crates/*/README.md", "what it is for, and an example, as tools/check_crates.py checks", None),
+    Place("crates/*/must-fail/*.edit", "wrong bodies that the prover must refuse", "", (CODE, EXAMPLE, INTERFACE)),
+    Place("docs/architecture.md", "its place in the picture", r"\b<name>\b", (CODE, DEFINITIONS, INTERFACE, LAWS, PROGRAM, TESTS)),
     Place("crates/*_tests/src/*.rt", "a test that calls it, or a crate above it", r"^use (?:<users>)::", (CODE,)),
     Place("bindings/c/*.h", "its exports, as C declares them", r"\b<name>\b", (INTERFACE,)),
 ]
@@ -285,16 +274,10 @@ def command_names(top: Path) -> List[str]:
     return re.findall(r'record \{ name = codes "([^"]+)"; options ', table[1]) if table else []
 
 
-def crate_dependencies(top: Path) -> Dict[str, List[str]]:
-    """Each crate of crates.txt with the names that stand on its line."""
-    lines = [line.split("#")[0].partition(":") for line in text_of(top, CRATES).splitlines()]
-    return {name.split()[0]: rest.split() for name, colon, rest in lines if colon}
-
-
 def crate_names(top: Path) -> List[str]:
     """The crates of crates.txt, and then the folders of crates/ that have sources and no line there."""
     folders = sorted(path.parent.name for path in top.glob("crates/*/src"))
-    return list(dict.fromkeys([*crate_dependencies(top), *folders]))
+    return list(dict.fromkeys([*(name for name, _, _ in crate_lines(top)), *folders]))
 
 
 def in_words(count: int) -> str:
@@ -328,18 +311,18 @@ def unmade_reply(top: Path) -> Optional[str]:
     return next((it for it in re.findall(r"^    (\w+)", variants[1] if variants else "", re.M) if it not in made), None)
 
 
-def call_and_reply(top: Path, name: str, variant: str) -> Tuple[str, str]:
-    """The call that finds the reply of a command, and the variant of `Reply` that it makes. Where there is no such call yet,
-    it has the name of the command, and the variant is the one that no call makes, or else has that name too."""
+def reply_of(top: Path, variant: str) -> str:
+    """The variant of `Reply` that the call for a command makes. Where there is no such call yet, the variant that no call
+    makes, or else one with the name of the command."""
     for path in reply_files(top):
         text = read(path)
         # A file may have private calls before the public one, one of which makes the reply.
-        contracts = list(re.finditer(filled(FINDS_REPLY, {"variant": variant}), text))
-        after = text[contracts[0].end() :] if contracts else ""
+        contract = re.search(filled(FINDS_REPLY, {"variant": variant}), text)
+        after = text[contract.end() :] if contract else ""
         replies = re.findall(r"\bReply::(\w+)", after) or re.findall(r"\bReply::(\w+)", text)
-        if contracts and replies:
-            return re.findall(r"\bfn (\w+)", text[: contracts[-1].start()])[-1], replies[0]
-    return re.sub("-", "_", name), unmade_reply(top) or variant
+        if contract and replies:
+            return replies[0]
+    return unmade_reply(top) or variant
 
 
 def command(top: Path, name: str, otherwise: str) -> Subject:
@@ -347,27 +330,21 @@ def command(top: Path, name: str, otherwise: str) -> Subject:
     variant = variant_of(name)
     kinds = {it: kind_of_command(top, variant_of(it), otherwise) for it in [*command_names(top), name]}
     kind = kinds[name]
-    call, reply = call_and_reply(top, name, variant)
     words = {"name": re.escape(name), "variant": variant, "kind": kind, "Kind": kind.capitalize()}
-    words.update(constant=re.sub("-", "_", name).upper(), call=call, reply=reply)
-    words.update(zip(("constructor", "verb", "record"), KINDS[kind]))
+    words.update(constant=re.sub("-", "_", name).upper(), reply=reply_of(top, variant))
+    words.update(zip(("constructor", "verb"), KINDS[kind]))
     words.update(commands=in_words(len(kinds)), of_kind=in_words(list(kinds.values()).count(kind)))
     return Subject(f"command {name}", kind, words)
 
 
 def kind_of_crate(top: Path, name: str) -> str:
-    if (top / "crates" / name / "src" / "main.rt").is_file():
-        return PROGRAM
-    if re.search(rf"^{name} staticlib:", text_of(top, CRATES), re.M):
-        return INTERFACE
-    if name.endswith("_laws") or name.endswith("_model") or name in ("sparse_values", "theorems"):
-        return LAWS
-    return TESTS if name.endswith("_tests") else CODE
+    """The kind of a crate."""
+    return kind_of(top, name, next((words for other, words, _ in crate_lines(top) if other == name), []))
 
 
 def users_of(top: Path, name: str) -> Set[str]:
-    """A crate with all crates that stand on it, directly or by others."""
-    dependencies = crate_dependencies(top)
+    """A crate with all crates that depend on it, directly or by others."""
+    dependencies = {user: below for user, _, below in crate_lines(top)}
     users: Set[str] = set()
     found = {name}
     while found:
@@ -402,7 +379,7 @@ def file_of(place: Place, subject: Subject) -> str:
 
 
 def is_there(top: Path, place: Place, subject: Subject) -> bool:
-    """Whether a command or a crate stands in one of the files of a place."""
+    """Whether one of the files of a place has a command or a crate."""
     wanted = re.compile(filled(place.text or "", subject.words), re.M)
     found = top.glob(file_of(place, subject))
     kept = [path for path in found if not (place.without and path.match(place.without))]
@@ -410,6 +387,7 @@ def is_there(top: Path, place: Place, subject: Subject) -> bool:
 
 
 def missing_places(top: Path, list_name: str, subject: Subject) -> Iterator[Missing]:
+    """The places of a list that lack a command or a crate."""
     for place in places_of(list_name, subject):
         if not is_there(top, place, subject):
             yield Missing(subject.title, file_of(place, subject), filled(place.what, subject.words))
@@ -433,7 +411,7 @@ def missing_in_guide(top: Path, list_name: str) -> Iterator[Missing]:
 
 
 def print_list(list_name: str) -> None:
-    """Prints the places of a list in their order, each with the kinds that stand there, where not all do."""
+    """Prints the places of a list in their order, each with the kinds that it needs, where it does not need all."""
     for number, place in enumerate(LISTS[list_name], start=1):
         kinds = f" ({', '.join(place.kinds)})" if place.kinds else ""
         print(f"{number}. {place.file}: {place.what}{kinds}")
@@ -450,10 +428,11 @@ def check(top: Path, subjects: List[Tuple[str, Subject]], guide: List[str]) -> i
 
 
 def arguments() -> argparse.Namespace:
-    parser = argparse.ArgumentParser(description="Checks that each command and each crate stands in every place.")
+    """The options of the command line."""
+    parser = argparse.ArgumentParser(description="Checks that each command and each crate is in every place that needs it.")
     parser.add_argument("--list", choices=sorted(LISTS), help="print the places of a command or of a crate, and check nothing")
-    parser.add_argument("--command", metavar="NAME", help="check this command alone")
-    parser.add_argument("--crate", metavar="NAME", help="check this crate alone")
+    parser.add_argument("--command", metavar="NAME", help="check only this command")
+    parser.add_argument("--crate", metavar="NAME", help="check only this crate")
     parser.add_argument("--kind", choices=tuple(KINDS), default=READ, help="the kind of a command that has no constructor yet")
     parser.add_argument("--top", type=Path, default=Path(__file__).resolve().parent.parent, help="the repository")
     return parser.parse_args()

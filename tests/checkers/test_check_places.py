@@ -2,34 +2,37 @@
 """Shows that tools/check_places.py finds each kind of place that is forgotten.
 
 In a copy of the tracked files one omission after another is planted. Each must add its own line to what the script
-prints before, and no other, and end the script with status 1. Beside them it tries a name that stands nowhere, and a
-crate that stands everywhere. Where all is found it prints `the places: N checks passed` and ends with 0; otherwise it
-prints each check that failed, and ends with 1.
+prints before, and no other, and end the script with status 1. Beside them it tries a name that no table has, and a crate
+that is in every place.
 """
 
-import subprocess
-import sys
 import tempfile
+import unittest
 from contextlib import contextmanager
-from functools import lru_cache
 from pathlib import Path
-from typing import Iterator, List, NamedTuple, Tuple
+from typing import Dict, Iterator, List, NamedTuple, Tuple
 
+import paths  # noqa: F401
 from check_places import CODE, COMMAND_PLACES, CRATE_PLACES, LISTS, MAKE, READ, STORED, STREAM, Place
-from tracked_files import TOP, copy_files, tracked_files
-
-SCRIPT = TOP / "tools" / "check_places.py"
+from copies import check
+from tracked_files import copy_files, tracked_files
 
 
 class Plant(NamedTuple):
     """An omission: in a file, or in all files of a pattern, a text becomes another one; where it is empty the files are
-    removed. Then the line that must be printed, and the options of the script."""
+    removed. Then the line that must be printed, and further options of the script."""
 
     file: str
     text: str
     other: str
     line: str
-    options: Tuple[str, ...] = ()
+    more: Tuple[str, ...] = ()
+
+    @property
+    def options(self) -> Tuple[str, ...]:
+        """The options of the script, which checks the command or the crate of the line only."""
+        subject, name = self.line.split(":")[0].split(" ")
+        return () if subject == "list" else (f"--{subject}", name, *self.more)
 
 
 PLANTS = [
@@ -38,14 +41,13 @@ PLANTS = [
         '    ∷ record { name = codes "levels"; options = required_option (codes "depth") 0 10 ∷ [] }\n',
         "",
         "command levels: missing in crates/far_model/specs/Words.antt: a row of `command_table`",
-        ("--command", "levels"),
     ),
     Plant(
         "crates/far_model/specs/Command.antt",
         "  Gen : ",
         "  Other : ",
         "command gen: missing in crates/far_model/specs/Command.antt: a constructor of `MakeCommand`",
-        ("--command", "gen", "--kind", "make"),
+        ("--kind", "make"),
     ),
     Plant(
         "crates/far_model/specs/Command.antt",
@@ -151,78 +153,70 @@ PLANTS = [
         "command apply: missing in crates/far_engine/src/command.rt: an arm of `find_stored`",
     ),
     Plant(
-        "tools/reference.py",
+        "tests/reference/reference.py",
         'b"verify": ',
         'b"other": ',
-        "command verify: missing in tools/reference.py: its text, an entry of `TEXTS_OF_TABLE`",
+        "command verify: missing in tests/reference/reference.py: its text, an entry of `TEXTS_OF_TABLE`",
     ),
     Plant(
-        "tools/compare_random.py",
+        "tests/random/compare_random.py",
         '(["apply"], ',
         '(["other"], ',
-        "command apply: missing in tools/compare_random.py: random inputs of it, in `kinds_of_runs`",
+        "command apply: missing in tests/random/compare_random.py: random inputs of it, in `kinds_of_runs`",
     ),
     Plant(
-        "tools/reference.py",
+        "tests/reference/reference.py",
         'b"gen": ',
         'b"other": ',
-        "command gen: missing in tools/reference.py: its text, an entry of `TEXTS_OF_OPTIONS`",
+        "command gen: missing in tests/reference/reference.py: its text, an entry of `TEXTS_OF_OPTIONS`",
     ),
     Plant(
-        "tools/reference.py",
+        "tests/reference/reference.py",
         'b"frames": ',
         'b"other": ',
-        "command frames: missing in tools/reference.py: its texts, an entry of `TEXTS_OF_INPUT`",
+        "command frames: missing in tests/reference/reference.py: its texts, an entry of `TEXTS_OF_INPUT`",
     ),
     Plant(
-        "tools/compare_random.py",
+        "tests/random/compare_random.py",
         'return ["stencils", ',
         'return ["other", ',
-        "command stencils: missing in tools/compare_random.py: random words of it, in `Words`",
+        "command stencils: missing in tests/random/compare_random.py: random words of it, in `Words`",
     ),
     Plant(
-        "docs/formats.md",
-        "has 11 commands",
-        "has nine commands",
-        "command gen: missing in docs/formats.md: how many commands there are, 11",
-        ("--command", "gen"),
+        "docs/guide/formats.md",
+        "`levels`",
+        "`other`",
+        "command levels: missing in docs/guide/formats.md: the form of what it writes",
+    ),
+    Plant(
+        "docs/proofs.md",
+        "11 commands",
+        "nine commands",
+        "command gen: missing in docs/proofs.md: the number of commands, 11",
+    ),
+    Plant(
+        "docs/rules/answers.md",
+        "- `MakeCommand`",
+        "- `OtherCommand`",
+        "command gen: missing in docs/rules/answers.md: its name, beside its kind",
     ),
     Plant(
         "docs/help.txt",
         "One command makes",
         "Two commands make",
-        "command gen: missing in docs/help.txt: how many of its kind there are, one",
+        "command gen: missing in docs/help.txt: the number of its kind, one",
     ),
     Plant(
         "docs/help.txt",
-        "Two commands take",
-        "Three commands take",
-        "command verify: missing in docs/help.txt: how many of its kind there are, two",
-        ("--command", "verify"),
+        "Two commands ",
+        "Three commands ",
+        "command verify: missing in docs/help.txt: the number of its kind, two",
     ),
     Plant(
         "docs/help.txt",
         "  ./far stencils ",
         "  ./far other ",
         "command stencils: missing in docs/help.txt: its options and an example",
-    ),
-    Plant(
-        "docs/architecture.md",
-        "`levels`, `generate`;",
-        "`levels`;",
-        "command gen: missing in docs/architecture.md: its call, in the row of `mesh_answers`",
-    ),
-    Plant(
-        "crates/far_engine/README.md",
-        "`RunsRead`, of `refine`, ",
-        "`RunsRead`, of ",
-        "command refine: missing in crates/far_engine/README.md: its name, beside the record of its kind",
-    ),
-    Plant(
-        "README.md",
-        "### `levels`",
-        "### Levels",
-        "command levels: missing in README.md: a part with an example",
     ),
     Plant(
         "cases/words/*/words",
@@ -252,7 +246,7 @@ PLANTS = [
         "crates.txt",
         "\nsheet_maker:",
         "\n# sheet_maker:",
-        "crate sheet_maker: missing in crates.txt: its line, with the crates that it stands on",
+        "crate sheet_maker: missing in crates.txt: its line, with the crates that it depends on",
     ),
     Plant(
         "crates.txt",
@@ -280,15 +274,9 @@ PLANTS = [
     ),
     Plant(
         "docs/architecture.md",
-        "| `theorems` |",
-        "| theorems |",
-        "crate theorems: missing in docs/architecture.md: a row of the table of crates",
-    ),
-    Plant(
-        "docs/proofs.md",
-        "| `obj_out` | `",
-        "| `other` | `",
-        "crate obj_out: missing in docs/proofs.md: rows of its edits in the table of wrong bodies",
+        "theorems",
+        "theorem",
+        "crate theorems: missing in docs/architecture.md: its place in the picture",
     ),
     Plant(
         "CONTRIBUTING.md",
@@ -320,32 +308,6 @@ def planted(top: Path, plant: Plant) -> Iterator[bool]:
         path.write_bytes(data)
 
 
-def run(top: Path, options: Tuple[str, ...]) -> Tuple[int, List[str]]:
-    """The exit status of the script on a copy, and the lines that it prints."""
-    command = [sys.executable, str(SCRIPT), "--top", str(top), *options]
-    done = subprocess.run(command, stdout=subprocess.PIPE, check=False)
-    return done.returncode, done.stdout.decode("utf-8").splitlines()
-
-
-@lru_cache(maxsize=None)
-def lines_before(top: Path, options: Tuple[str, ...]) -> List[str]:
-    """The lines on a copy without an omission. The last one has the counts."""
-    return run(top, options)[1][:-1]
-
-
-def fault_of_plant(top: Path, plant: Plant) -> str:
-    """What is wrong where an omission is planted; nothing where it is found."""
-    before = lines_before(top, plant.options)
-    with planted(top, plant) as is_planted:
-        status, lines = run(top, plant.options)
-    added = [line for line in lines[:-1] if line not in before]
-    if not is_planted:
-        return "there is nothing to leave out"
-    if added != [plant.line] or status != 1 or len(lines) != len(before) + 2:
-        return f"status {status}, and these lines are new: {added}"
-    return ""
-
-
 def checked_places(places: List[Place], kind: str) -> int:
     """How many places of a list are checked for one kind."""
     return sum(place.text is not None and (not place.kinds or kind in place.kinds) for place in places)
@@ -363,29 +325,44 @@ RUNS = [
 ]
 
 
-def faults(top: Path) -> Iterator[str]:
-    """A line for each check that fails."""
-    for plant in PLANTS:
-        fault = fault_of_plant(top, plant)
-        if fault:
-            yield f"FAILED {plant.line}: {fault}"
-    for options, status, count in RUNS:
-        given, lines = run(top, options)
-        if (given, len(lines)) != (status, count):
-            yield f"FAILED {' '.join(options)}: status {given}, and {len(lines)} lines where {count} are wanted"
+class CheckPlaces(unittest.TestCase):
+    """Runs the checker on a copy of the repository, and plants one omission at a time."""
 
+    folder: "tempfile.TemporaryDirectory[str]"
+    top: Path
 
-def main() -> int:
-    with tempfile.TemporaryDirectory(prefix="places-") as folder:
-        top = Path(folder)
-        copy_files(tracked_files(), top)
-        failed = list(faults(top))
-    if failed:
-        print("\n".join(failed))
-        return 1
-    print(f"the places: {len(PLANTS) + len(RUNS)} checks passed")
-    return 0
+    @classmethod
+    def setUpClass(cls) -> None:
+        cls.folder = tempfile.TemporaryDirectory(prefix="places-")
+        cls.top = Path(cls.folder.name)
+        copy_files([name for name in tracked_files() if not name.startswith(("docs/reference/", "docs/pictures/"))], cls.top)
+
+    @classmethod
+    def tearDownClass(cls) -> None:
+        cls.folder.cleanup()
+
+    def test_clean(self) -> None:
+        status, lines = check("check_places", self.top)
+        self.assertEqual((status, len(lines)), (0, 1), lines)
+
+    def test_plants(self) -> None:
+        before: Dict[Tuple[str, ...], List[str]] = {}
+        for plant in PLANTS:
+            if plant.options not in before:
+                before[plant.options] = check("check_places", self.top, *plant.options)[1][:-1]
+            with self.subTest(line=plant.line):
+                with planted(self.top, plant) as is_planted:
+                    status, lines = check("check_places", self.top, *plant.options)
+                self.assertTrue(is_planted, "there is nothing to leave out")
+                added = [line for line in lines[:-1] if line not in before[plant.options]]
+                self.assertEqual((status, added, len(lines)), (1, [plant.line], len(before[plant.options]) + 2))
+
+    def test_runs(self) -> None:
+        for options, status, count in RUNS:
+            with self.subTest(options=options):
+                given, lines = check("check_places", self.top, *options)
+                self.assertEqual((given, len(lines)), (status, count))
 
 
 if __name__ == "__main__":
-    sys.exit(main())
+    unittest.main()
