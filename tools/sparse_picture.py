@@ -1,22 +1,40 @@
 #!/usr/bin/env python3
 """Draws the sparse levels of a mesh side by side as one SVG picture.
 
-It reads the text of `far sparse`. Green faces are selected, blue ones are leaves, sand ones are outer faces, and holes are
-not filled. Pale faces are leaves of the levels before, which lie where the level has no faces:
+It reads the text of `far sparse`. Green faces are selected, blue ones are leaves, and sand ones are outer faces. Holes are not
+filled. Pale faces are leaves of the levels before, which lie where the level has no faces.
 
     ./far sparse depth=3 < examples/cube.obj | tools/sparse_picture.py --columns 2 > cube.svg
 
-The same text and options give the same bytes. It ends with status 0, with 2 where its options are wrong, and with 1 and
-Python's own words where a text is not of this form.
+The same text and options give the same bytes. The status is 0, and 2 where the options are wrong. A text of another form ends
+it with status 1 and an error of Python.
 """
+
+from __future__ import annotations
 
 import argparse
 from fractions import Fraction
-from math import ceil, sqrt
-from typing import NamedTuple
+from typing import Iterator, NamedTuple, Sequence
 
-from picture import EDGE, LETTERS, TEXT, colour_of, frame_of, path, read_text, seen_sides, volume_sign, write_lines
-from picture_mesh import Mesh, is_closed
+from picture_mesh import Mesh, Point, is_closed, plain_mesh, upright
+from picture_page import (
+    EDGE,
+    MARGIN,
+    Drawing,
+    add_columns,
+    box_of,
+    line_width,
+    page,
+    parsed,
+    parser_of,
+    path,
+    read_bytes,
+    view_of,
+    words_line,
+    write_lines,
+)
+from picture_shade import Colours, colour_of, hexadecimal
+from picture_view import Frame, Seen, Side, frame_of, seen_from, seen_sides
 
 # Of each kind its name, and its colours in the shade, in the light, and turned straight to it.
 KINDS = {
@@ -27,128 +45,104 @@ KINDS = {
 }
 BEFORE = "leaf of a level before", ((214, 219, 226), (242, 244, 247), (253, 253, 254))
 PALE_EDGE = "#b4bcc8"
+ENTRY = 110  # pixels of an entry of the legend
 
 
 class Level(NamedTuple):
     """A level: its line without the word `level`, its points, and of each face its kind and its points from 0."""
 
     counts: str
-    points: list
-    faces: list
+    points: list[Point]
+    faces: list[tuple[str, list[int]]]
 
 
-def read_levels(text):
+def read_levels(text: str, up: str) -> list[Level]:
     """The levels of a text of `far sparse`."""
-    levels = []
+    levels: list[Level] = []
     for line in text.splitlines():
         keyword, *words = line.split()
         if keyword == "level":
             levels.append(Level(f"level {words[0]}: {words[2]} points, {words[4]} faces", [], []))
         elif keyword == "v":
-            levels[-1].points.append(tuple(map(Fraction, words)))
+            levels[-1].points.append(upright(tuple(map(Fraction, words)), up))
         elif keyword == "f":
             levels[-1].faces.append((words[0], [int(word) - 1 for word in words[2:]]))
     return levels
 
 
-def drawn(levels):
-    """What is drawn of the last of these levels as one mesh: the leaves of the levels before, and then its own faces. Of
-    each face its kind comes with it, or None of a leaf before."""
-    points, faces, kinds = [], [], []
+def drawn(levels: Sequence[Level]) -> tuple[Mesh, list[str | None]]:
+    """What is drawn of the last of these levels as one mesh: the leaves of the levels before, and then its own faces. Each
+    face has its kind, or None where it is a leaf of a level before."""
+    points: list[Point] = []
+    faces: list[list[int]] = []
+    kinds: list[str | None] = []
     for level in levels:
         is_last = level is levels[-1]
         kept = [(kind, face) for kind, face in level.faces if is_last or kind == "l"]
         faces += [[len(points) + corner for corner in face] for _, face in kept]
         kinds += [kind if is_last else None for kind, _ in kept]
         points += level.points
-    return Mesh(points, faces, [], [], {}, {}, set()), kinds
+    return plain_mesh(points, faces), kinds
 
 
-def shown_sides(first, mesh, points, distance):
-    """The sides that are drawn: where nothing is seen through level 0, those that look out of it. Its points come first."""
-    every, faces = seen_sides(mesh, points, distance), [face for _, face in first.faces]
+def shown_sides(first: Level, mesh: Mesh, seen: Seen) -> list[Side]:
+    """The sides that are drawn. Where level 0 is closed and has no holes, these are the fronts."""
+    faces = [face for _, face in first.faces]
     if not is_closed(faces) or any(kind == "h" for kind, _ in first.faces):
-        return list(every)
-    looks_out = volume_sign(points, faces) > 0
-    return [side for side in every if side.is_front == looks_out]
+        return list(seen_sides(mesh.faces, seen))
+    return [side for side in seen_sides(mesh.faces, seen) if side.is_front]
 
 
-def face_line(side, places, kind):
+def face_line(side: Side, outline: str, kind: str | None) -> str:
     """The line of a face of a kind, or of a leaf of a level before."""
-    name, colours = KINDS.get(kind, BEFORE)
+    _, colours = KINDS[kind] if kind else BEFORE
     style = "" if kind else f'stroke="{PALE_EDGE}" '
     fill = f'{style}fill="{colour_of(side, colours)}"' if colours else 'fill="none" stroke-dasharray="2 3"'
-    return f'<path {fill} d="{path(places)}z"/>'
+    return f'<path {fill} d="{outline}z"/>'
 
 
-def panel(levels, frame, options):
-    """The lines of the last of these levels: its faces, the farthest first."""
+def drawing(levels: Sequence[Level], frame: Frame, options: argparse.Namespace) -> Drawing:
+    """The drawing of the last of these levels."""
     mesh, kinds = drawn(levels)
-    points = [frame.to_eye(point) for point in mesh.points]
-    places = [frame.to_page(point) for point in points]
-    shown = shown_sides(levels[0], mesh, points, options.distance)
+    seen = seen_from(frame, mesh.points)
     # Leaves of levels before come first, so that none of them lies over the edge of another face.
-    shown.sort(key=lambda side: (kinds[side.number] is not None, -side.away))
-    width = min(0.9, max(0.4, 14 / sqrt(len(mesh.faces) + 1)))
-    yield f'<g stroke="{EDGE}" stroke-width="{width:.2f}" stroke-linejoin="round" stroke-linecap="round">'
+    shown = sorted(shown_sides(levels[0], mesh, seen), key=lambda side: (kinds[side.number] is not None, -side.away))
+    width = line_width(options.line, len(mesh.faces))
+    lines = [f'<g stroke="{EDGE}" stroke-width="{width:.2f}" stroke-linejoin="round" stroke-linecap="round">']
     for side in shown:
-        yield face_line(side, [places[vertex] for vertex in mesh.faces[side.number]], kinds[side.number])
-    yield "</g>"
+        outline = path(seen.places[vertex] for vertex in mesh.faces[side.number])
+        lines.append(face_line(side, outline, kinds[side.number]))
+    return Drawing(box_of(seen.places_of(mesh.faces)), [*lines, "</g>"], levels[-1].counts)
 
 
-def words_line(across, down, words, anchor="middle"):
-    style = f'fill="{TEXT}" font-family="sans-serif" font-size="14"'
-    return f'<text x="{across:g}" y="{down:g}" text-anchor="{anchor}" {style}>{words}</text>'
+def legend(kinds: list[tuple[str, Colours]]) -> Drawing:
+    """The names of the colours of these kinds."""
+    lines = []
+    for number, (name, colours) in enumerate(kinds):
+        lines.append(f'<rect x="{ENTRY * number}" y="0" width="14" height="14" fill="{hexadecimal(colours[1])}" stroke="{EDGE}"/>')
+        lines.append(words_line(ENTRY * number + 20, 12, name, "start"))
+    return Drawing((0, 0, ENTRY * len(kinds) + 4 * MARGIN, 14), lines, "")
 
 
-def legend(kinds, across, down):
-    """The lines that name the colours of these kinds, the first of them here."""
-    for name, colours in kinds:
-        red, green, blue = colours[1]
-        yield f'<rect x="{across}" y="{down}" width="14" height="14" fill="#{red:02x}{green:02x}{blue:02x}" stroke="{EDGE}"/>'
-        yield words_line(across + 20, down + 12, name, "start")
-        across += 110
+def picture(levels: list[Level], options: argparse.Namespace) -> Iterator[str]:
+    """The whole SVG text: the levels in rows, and below them the names of the colours."""
+    frame = frame_of([point for level in levels for point in level.points], view_of(options))
+    drawings = [drawing(levels[: number + 1], frame, options) for number in range(len(levels))]
+    there: set[str] = {kind for level in levels for kind, _ in level.faces}
+    below = legend([KINDS[kind] for kind in "slr" if kind in there] + [BEFORE])
+    return page(drawings, options.columns, below=below)
 
 
-def picture(levels, options):
-    """The whole SVG text: the levels in rows, and below them what the colours say."""
-    frame = frame_of([point for level in levels for point in level.points], options)
-    columns, high = min(options.columns or len(levels), len(levels)), ceil(frame.height) + LETTERS
-    width, below = options.size * columns, high * -(-len(levels) // columns)
-    height = below + LETTERS
-    yield f'<svg xmlns="http://www.w3.org/2000/svg" viewBox="0 0 {width} {height}" width="{width}" height="{height}">'
-    yield '<rect width="100%" height="100%" fill="#ffffff"/>'
-    for number, level in enumerate(levels):
-        across, down = options.size * (number % columns), high * (number // columns)
-        lower = (high - LETTERS - frame.height) / 2
-        placed = frame._replace(left=frame.left + across, down=frame.down + down + lower)
-        yield from panel(levels[: number + 1], placed, options)
-        yield words_line(across + options.size / 2, down + high - LETTERS + 14, level.counts)
-    there = {kind for level in levels for kind, _ in level.faces}
-    yield from legend([KINDS[kind] for kind in "slr" if kind in there] + [BEFORE], 20, below + 4)
-    yield "</svg>"
-
-
-def arguments():
-    parser = argparse.ArgumentParser(description="Draws the sparse levels of a mesh side by side as one SVG picture.")
+def arguments() -> argparse.Namespace:
+    parser = parser_of("Draws the sparse levels of a mesh side by side as one SVG picture.", 360)
+    add_columns(parser)
     parser.add_argument("sparse", nargs="?", default="-", help="the text of `far sparse`; - is standard input (the default)")
-    parser.add_argument("-o", "--output", help="the file to write; standard output without it")
-    parser.add_argument("--columns", type=int, help="how many levels stand side by side (default all)")
-    parser.add_argument("--size", type=int, default=360, help="the width of each level (default 360)")
-    parser.add_argument("--turn", type=float, default=30, help="degrees round the z axis (default 30)")
-    parser.add_argument("--tilt", type=float, default=25, help="degrees that the eye looks down (default 25)")
-    parser.add_argument("--distance", type=float, default=5, help="the eye's distance in radii; 0: no perspective")
-    options = parser.parse_args()
-    if options.distance and options.distance <= 1:
-        parser.error("the eye's distance must be 0 or above 1")
-    if options.columns is not None and options.columns < 1:
-        parser.error("there is at least one column")
-    return options
+    return parsed(parser)
 
 
-def main():
+def main() -> None:
     options = arguments()
-    write_lines(picture(read_levels(read_text(options.sparse)), options), options.output)
+    write_lines(picture(read_levels(read_bytes(options.sparse).decode(), options.up), options), options.output)
 
 
 if __name__ == "__main__":

@@ -7,12 +7,15 @@ It takes Debian's chromium, and the library: the one of build/lib, or the one th
 line is `made N pictures`, and the exit status 0.
 """
 
+from __future__ import annotations
+
 import sys
 import tempfile
 from pathlib import Path
 from typing import NamedTuple
 
-TOP = Path(__file__).resolve().parent.parent
+from paths import TOP
+
 sys.path[:0] = [str(TOP / "bindings/python"), str(TOP / "bindings/python/tests")]
 
 from browser import CHROMIUM, WEBGL, Browser, Tab  # noqa: E402
@@ -33,7 +36,7 @@ class Picture(NamedTuple):
     depth: int
     up: str
     state: str
-    size: tuple = (1200, 760)
+    size: tuple[int, int] = (1200, 760)
 
 
 SHOWN = [
@@ -49,7 +52,7 @@ SHOWN = [
 ]  # fmt: skip
 
 
-def make(picture, browser, folder):
+def make(picture: Picture, browser: Browser, folder: str) -> None:
     """Writes a picture. SystemExit: the page has a problem, or the picture too many bytes."""
     file = read_obj_file((TOP / f"examples/{picture.mesh}.obj").read_bytes())
     page = Path(folder) / f"{picture.name}.html"
@@ -64,7 +67,7 @@ def make(picture, browser, folder):
     (PICTURES / f"{picture.name}.png").write_bytes(data)
 
 
-def main():
+def main() -> None:
     if not CHROMIUM:
         sys.exit("chromium is missing: apt-get install chromium")
     browser = Browser(*WEBGL)
