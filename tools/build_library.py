@@ -5,17 +5,20 @@
     tools/build_library.py --test
     tools/build_library.py --after-gate --test
 
-`rt lib` proves the exports of crates/far_c first, with all crates below, and builds their archive. With `--after-gate` the crates below are the libraries that
-`.ci/run` proved and left in this checkout. With `--archive FILE` the archive is the caller's, and the libraries go to build/given. The C code of bindings/c over them is compiled, and joined with
-the archive and with the toolchain's code of the heap. All symbols are hidden but `drillolive_*`, in both libraries.
+`rt lib` proves the exports of crates/far_c first, with all crates below, and builds their archive. With `--after-gate` the
+crates below are the libraries that `.ci/run` proved and left in this checkout. With `--archive FILE` the archive is the
+caller's, and the libraries go to build/given. The script compiles the C code of bindings/c, and joins it with the archive and
+with the toolchain's code of the heap. Both libraries hide all symbols but `drillolive_*`.
 
-With `--test` the tests of bindings/c/test run: in C on the static library, and anew under AddressSanitizer and the sanitizer of undefined behaviour; in
-C++ with exceptions and without; and the examples of examples/c and examples/cpp. What a compiler lacks is skipped, and a line says so. The last line is
-then `the library: N programs passed`.
+`--test` runs the tests of bindings/c/test in C, under AddressSanitizer and the sanitizer of undefined behaviour too, and in
+C++ with exceptions and without. It runs the examples of examples/c and examples/cpp. It skips what a compiler lacks, and says
+so in a line. The last line is then `the library: N programs passed`.
 
-The exit status is 0 where all is built and passed, and also where there is no C compiler, which a line says. It is 1 where a build or a test fails,
-and 2 where the exports could not be proved and built.
+The exit status is 0 where all is built and passed. It is 0 too where there is no C compiler, with a line that says so. It is 1
+where a build or a test fails, and 2 where the exports could not be proved and built.
 """
+
+from __future__ import annotations
 
 import argparse
 import os
@@ -23,13 +26,14 @@ import shutil
 import subprocess
 import sys
 from pathlib import Path
+from typing import Any, Iterable
 
-TOP = Path(__file__).resolve().parent.parent
+from paths import PROGRAM, TOP
+
 CRATE = TOP / "crates/far_c"
 SOURCES = TOP / "bindings/c"
 TESTS = SOURCES / "test"
 BUILD = TOP / "build"
-PROGRAM = TOP / "crates/far_cli/out/far_cli"
 C = ["-std=c11", "-Wall", "-Wextra", "-Werror", f"-I{TOP / 'include'}"]
 CXX = ["-std=c++17", "-Wall", "-Wextra", "-Werror", f"-I{TOP / 'include'}"]
 OPTIMISED = ["-O3", "-fPIC"]
@@ -41,12 +45,12 @@ TEST_FILES = ["test.c", "rows.c", "misuse.c", "refuse.c", "random.c"]
 class Failed(Exception):
     """A command that failed, or a thing that is missing, and the exit status for it."""
 
-    def __init__(self, what, status=1):
+    def __init__(self, what: str, status: int = 1):
         super().__init__(what)
         self.status = status
 
 
-def run(words, **options):
+def run(words: Iterable[str | int | Path], **options: Any) -> str:
     """Runs a command, whose words may be paths, and returns what it prints."""
     words = [str(word) for word in words]
     done = subprocess.run(words, stdout=subprocess.PIPE, stderr=subprocess.STDOUT, universal_newlines=True, **options)
@@ -55,13 +59,13 @@ def run(words, **options):
     return done.stdout
 
 
-def compiler(variable, name):
+def compiler(variable: str, name: str) -> list[str] | None:
     """The compiler that an environment variable names, or else this one; None where it is not there."""
     words = os.environ.get(variable, name).split()
     return words if words and shutil.which(words[0]) else None
 
 
-def prove_exports():
+def prove_exports() -> Path:
     """Proves the exports, and returns their archive."""
     if not shutil.which("rt"):
         raise Failed("the exports cannot be proved: the command rt of the toolchain is missing", 2)
@@ -74,7 +78,7 @@ def prove_exports():
     return CRATE / "out/libfar_c.a"
 
 
-def libraries_of(name):
+def libraries_of(name: str) -> list[str]:
     """The crates that a line of crates.txt lists."""
     for line in (TOP / "crates.txt").read_text(encoding="utf-8").splitlines():
         head, _, rest = line.partition(":")
@@ -83,7 +87,7 @@ def libraries_of(name):
     raise Failed(f"crates.txt has no line for {name}", 2)
 
 
-def built(name):
+def built(name: str) -> Path:
     """The library of a crate that the gate proved and left, or one of the toolchain's."""
     left = TOP / f"crates/{name}/out/rlib/{name}.rlib"
     kit = toolchain() / f"rlibs/{name}.rlib"
@@ -93,16 +97,18 @@ def built(name):
     return found
 
 
-def prove_over_libraries():
-    """Proves the exports over the libraries that the gate left, and returns their archive. The toolchain's checker is called as `rt lib` calls it, but
-    `rt lib` takes no library that the gate left."""
+def prove_over_libraries() -> Path:
+    """Proves the exports over the libraries that the gate left, and returns their archive. It calls the toolchain's checker
+    itself, since `rt lib` takes no library that the gate left."""
     kit, archive = toolchain(), CRATE / "out/libfar_c.a"
-    words = [kit / "bin/rattle", "build", "--crate-name", "far_c", "src/lib.rt", "--extern", f"std={built('std')}", "-L", f"dependency={kit / 'rlibs'}"]
+    words = [kit / "bin/rattle", "build", "--crate-name", "far_c", "src/lib.rt"]
+    words += ["--extern", f"std={built('std')}", "-L", f"dependency={kit / 'rlibs'}"]
     for name in libraries_of("far_c"):
         words += ["--extern", f"{name}={built(name)}"]
     for path in sorted(TOP.glob("crates/*/out/rlib")):
         words += ["-L", f"dependency={path}"]
-    words += ["--antt-project", kit / "rattle/logic/antt-project.json", "--logic-built", kit / "logic_built", "--jobs", str(os.cpu_count() or 1)]
+    words += ["--antt-project", kit / "rattle/logic/antt-project.json", "--logic-built", kit / "logic_built"]
+    words += ["--jobs", str(os.cpu_count() or 1)]
     words += ["--crate-type", "staticlib", "--toolchain", kit / "toolchain", "--backend", "llvm", "-o", archive]
     archive.parent.mkdir(parents=True, exist_ok=True)
     try:
@@ -112,20 +118,20 @@ def prove_over_libraries():
     return archive
 
 
-def toolchain():
-    """The folder of the toolchain, in which the page stands that `rt doc` names."""
+def toolchain() -> Path:
+    """The folder of the toolchain: it has the page that `rt doc` names."""
     return Path(run(["rt", "doc"]).strip().splitlines()[-1]).parent
 
 
-def heap_of_toolchain():
-    """The toolchain's archive of the heap, which stands beside the page that `rt doc` names."""
+def heap_of_toolchain() -> Path:
+    """The toolchain's archive of the heap."""
     return toolchain() / "c/liblibc_c.a"
 
 
 class Library:
     """The builds of the library, and the programs that passed on it."""
 
-    def __init__(self, archive, proved, heap, cc, cxx, sequences):
+    def __init__(self, archive: Path, proved: bool, heap: Path, cc: list[str], cxx: list[str] | None, sequences: int):
         self.archive, self.heap, self.cc, self.cxx, self.sequences = archive, heap, cc, cxx, sequences
         self.objects, self.programs = BUILD / "obj", BUILD / "test"
         # What is installed is the library of exports that were proved here.
@@ -135,8 +141,8 @@ class Library:
         for folder in (self.objects, self.folder, self.programs):
             folder.mkdir(parents=True, exist_ok=True)
 
-    def join(self):
-        """Compiles the C code, and joins all into one object that shows `drillolive_*` alone."""
+    def join(self) -> Path:
+        """Compiles the C code, and joins all into one object that shows only `drillolive_*`."""
         made = []
         for source in sorted(SOURCES.glob("*.c")):
             made.append(self.objects / f"{source.stem}.o")
@@ -147,7 +153,7 @@ class Library:
         run(["objcopy", "--wildcard", "--keep-global-symbol=drillolive_*", joined, shown])
         return shown
 
-    def build(self):
+    def build(self) -> None:
         joined = self.join()
         script = self.objects / "drillolive.map"
         script.write_text("{ global: drillolive_*; local: *; };\n")
@@ -162,7 +168,7 @@ class Library:
             if others or not any("drillolive_run" in line for line in listed):
                 raise Failed(f"{path} shows other symbols: {others}")
 
-    def try_program(self, name, compiled, arguments=(), wanted="passed"):
+    def try_program(self, name: str, compiled: list, arguments: Iterable = (), wanted: str = "passed") -> None:
         """Compiles a program and runs it. Its last line has to have this text."""
         program = self.programs / name
         run([*compiled, "-o", program])
@@ -173,9 +179,10 @@ class Library:
         print(f"{name}: {last}")
         self.passed += 1
 
-    def test_c(self):
+    def test_c(self) -> None:
         tests = [TESTS / name for name in TEST_FILES]
-        arguments = [self.sequences, *([PROGRAM] if PROGRAM.is_file() else [])]
+        program = TOP / PROGRAM
+        arguments = [self.sequences, *([program] if program.is_file() else [])]
         self.try_program("c_static", [*self.cc, *C, "-O1", *tests, self.static, *WRAPPED, "-lm"], arguments)
         shared = ["-L", self.folder, "-ldrillolive"]
         threads = TOP / "examples/c/threads.c"
@@ -188,7 +195,7 @@ class Library:
         sources = [*sorted(SOURCES.glob("*.c")), *tests, self.archive, self.heap]
         self.try_program("c_sanitized", [*self.cc, *C, *SANITIZED, f"-I{SOURCES}", *sources, *WRAPPED, "-lm"], arguments)
 
-    def has_sanitizers(self):
+    def has_sanitizers(self) -> bool:
         program = self.programs / "empty"
         source = self.programs / "empty.c"
         source.write_text("int main(void) { return 0; }\n")
@@ -199,7 +206,7 @@ class Library:
             return False
         return True
 
-    def test_cxx(self):
+    def test_cxx(self) -> None:
         if not self.cxx:
             print("there is no C++ compiler: skipped")
             return
@@ -216,7 +223,7 @@ class Library:
             self.try_program("opensubdiv", compiled, wanted="skipped")
 
 
-def main():
+def main() -> int:
     parser = argparse.ArgumentParser(description="Builds and tests the library for C and C++.")
     parser.add_argument("--test", action="store_true", help="run the tests and the examples")
     parser.add_argument("--sequences", type=int, default=2000, help="how many random sequences of calls the tests make")

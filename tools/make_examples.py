@@ -6,22 +6,25 @@ the files come out the same, byte for byte.
     tools/make_examples.py
 """
 
-import math
+from __future__ import annotations
+
 from decimal import Decimal
 from fractions import Fraction
 from itertools import product
-from pathlib import Path
-from typing import NamedTuple
+from typing import Iterable, NamedTuple
 
-EXAMPLES = Path(__file__).resolve().parent.parent / "examples"
+from mesh_makers import Cell, surface, torus
+from paths import TOP
+
+EXAMPLES = TOP / "examples"
 
 
-def decimals(point):
+def decimals(point: Iterable) -> tuple[Decimal, ...]:
     """Fractions as decimals, which are exact where the denominators have no factors but 2 and 5."""
     return tuple(Decimal(Fraction(value).numerator) / Fraction(value).denominator for value in point)
 
 
-def write_mesh(name, points, faces, *comments):
+def write_mesh(name: str, points: Iterable[Iterable], faces: Iterable[Iterable[int]], *comments: str) -> None:
     lines = [f"# {comment}" for comment in comments]
     lines += ["v " + " ".join(map(str, point)) for point in points]
     lines += ["f " + " ".join(str(vertex + 1) for vertex in face) for face in faces]
@@ -43,32 +46,7 @@ BLOCKS = {
     "tip of the tail": (range(0, 2), range(1, 3), range(6, 9)),
 }
 
-# The corners of a unit cube's faces, by the direction that each looks in, counterclockwise from outside.
-CUBE_FACES = {
-    (1, 0, 0): ((1, 0, 0), (1, 1, 0), (1, 1, 1), (1, 0, 1)),
-    (-1, 0, 0): ((0, 0, 0), (0, 0, 1), (0, 1, 1), (0, 1, 0)),
-    (0, 1, 0): ((0, 1, 0), (0, 1, 1), (1, 1, 1), (1, 1, 0)),
-    (0, -1, 0): ((0, 0, 0), (1, 0, 0), (1, 0, 1), (0, 0, 1)),
-    (0, 0, 1): ((0, 0, 1), (1, 0, 1), (1, 1, 1), (0, 1, 1)),
-    (0, 0, -1): ((0, 0, 0), (0, 1, 0), (1, 1, 0), (1, 0, 0)),
-}
-
-
-def moved(place, step):
-    return tuple(a + b for a, b in zip(place, step))
-
-
-def surface(cubes):
-    """The outer faces of a set of unit cubes, over the points that they use."""
-    points, faces = {}, []
-    for cube in sorted(cubes):
-        for direction, corners in CUBE_FACES.items():
-            if moved(cube, direction) not in cubes:
-                faces.append([points.setdefault(moved(cube, corner), len(points)) for corner in corners])
-    return list(points), faces
-
-
-def dog():
+def dog() -> tuple[list[Cell], list[tuple[int, ...]]]:
     return surface({cube for block in BLOCKS.values() for cube in product(*block)})
 
 
@@ -83,10 +61,10 @@ class Part(NamedTuple):
     axes: tuple
     still: tuple
 
-    def holds(self, point):
+    def holds(self, point: Cell) -> bool:
         return all(low <= value <= high for low, value, high in zip(self.least, point, self.greatest))
 
-    def turned(self, point, way):
+    def turned(self, point: Cell, way: int) -> list:
         """Where a point is then. The cosine of the angle is 4/5, and its sine 3/5."""
         (a, b), place, cosine, sine = self.axes, list(point), Fraction(4, 5), Fraction(3 * way, 5)
         along, up = point[a] - self.still[0], point[b] - self.still[1]
@@ -110,7 +88,7 @@ FRAMES = {
 }
 
 
-def posed(point, turns):
+def posed(point: Cell, turns: list[tuple[Part, int]]) -> tuple[Decimal, ...]:
     """Where a point of the dog is in a frame."""
     place = point
     for part, way in turns:
@@ -119,7 +97,7 @@ def posed(point, turns):
     return decimals(place)
 
 
-def write_moves(name, points, frames, comment):
+def write_moves(name: str, points: list, frames: dict[str, list[tuple[Part, int]]], comment: str) -> None:
     lines, now = [f"# {comment}", "frames"], points
     for words, turns in frames.items():
         before, now = now, [posed(point, turns) for point in points]
@@ -139,7 +117,7 @@ HALF_TURN = Fraction(4, 5), Fraction(3, 5)  # cosine and sine of half the angle
 TURN = Fraction(7, 25), Fraction(24, 25)
 
 
-def bent(point):
+def bent(point: Cell) -> tuple:
     """Where a point of the arm is when it is bent: what is before the elbow stays, and that at it turns half way."""
     x, y, z = point
     if x < ELBOW[0]:
@@ -148,36 +126,10 @@ def bent(point):
     return decimals((ELBOW[0] + cosine * along - sine * up, y, ELBOW[1] + sine * along + cosine * up))
 
 
-# The torus: 32 rings of 32 points, rounded to whole numbers.
-
-
-def torus(rings=32, sides=32, great=3000, small=1200):
-    points = []
-    for ring, side in product(range(rings), range(sides)):
-        round_axis, round_tube = 2 * math.pi * ring / rings, 2 * math.pi * side / sides
-        distance = great + small * math.cos(round_tube)
-        points.append(
-            (
-                round(distance * math.cos(round_axis)),
-                round(distance * math.sin(round_axis)),
-                round(small * math.sin(round_tube)),
-            )
-        )
-
-    def place(ring, side):
-        return ring % rings * sides + side % sides
-
-    faces = [
-        (place(ring, side), place(ring + 1, side), place(ring + 1, side + 1), place(ring, side + 1))
-        for ring, side in product(range(rings), range(sides))
-    ]
-    return points, faces
-
-
 if __name__ == "__main__":
     write_mesh("dog.obj", *dog())
     write_moves("dog_moves.txt", dog()[0], FRAMES, "Moves of dog.obj for far frames, with up to two decimals.")
     arm, faces = surface(ARM)
     write_mesh("arm_straight.obj", arm, faces, "An arm, stretched out. arm_bent.obj has the same faces.")
     write_mesh("arm_bent.obj", [bent(point) for point in arm], faces, "The arm of arm_straight.obj, bent at the elbow.")
-    write_mesh("grid1024.obj", *torus())
+    write_mesh("grid1024.obj", *torus(32, 32, 3000, 1200))

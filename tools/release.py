@@ -3,12 +3,15 @@
 
     tools/release.py FOLDER
 
-The gate, `.ci/run`, runs first, over sources that are all committed. Where it passes, `./far --install` puts what it proved and built into a folder of
-its own, and FOLDER gets `drillolive-VERSION-x86_64-linux.tar.xz` of it. The tar has one file more, `share/drillolive/release`: the version, the commit
-and the hash of the sources, the toolchain, the last line of the gate, and the SHA-256 of each file. The same commit makes the same tar of the same files.
+The gate, `.ci/run`, runs first, over sources that are all committed. Where it passes, `./far --install` installs the proved
+program and library into a folder of their own, and FOLDER gets `drillolive-VERSION-x86_64-linux.tar.xz` of that. The tar has
+one file more, `share/drillolive/release`: the version, the commit and the hash of the sources, the toolchain, the last line of
+the gate, and the SHA-256 of each file. The same commit makes the same tar of the same files.
 
 The exit status is 0 where the tar was written and what it holds ran, and 1 where anything failed, which a line says.
 """
+
+from __future__ import annotations
 
 import argparse
 import hashlib
@@ -18,8 +21,10 @@ import sys
 import tarfile
 import tempfile
 from pathlib import Path
+from typing import Any
 
-TOP = Path(__file__).resolve().parent.parent
+from paths import TOP
+
 FACTS = "share/drillolive/release"
 
 
@@ -27,7 +32,7 @@ class Failed(Exception):
     """What failed."""
 
 
-def said_by(words, **options):
+def said_by(words: list[str], **options: Any) -> str:
     """What a command prints. Its status has to be 0."""
     done = subprocess.run(words, cwd=TOP, stdout=subprocess.PIPE, universal_newlines=True, **options)
     if done.returncode != 0:
@@ -35,7 +40,7 @@ def said_by(words, **options):
     return done.stdout.strip()
 
 
-def run_gate():
+def run_gate() -> str:
     """Runs the gate, shows what it says, and returns its last line."""
     last = ""
     with subprocess.Popen([str(TOP / ".ci/run")], cwd=TOP, stdout=subprocess.PIPE, universal_newlines=True) as gate:
@@ -47,7 +52,7 @@ def run_gate():
     return last
 
 
-def version_in(header):
+def version_in(header: Path) -> str:
     """The version that the header of the library says."""
     for line in header.read_text(encoding="utf-8").splitlines():
         if line.startswith("#define DRILLOLIVE_VERSION "):
@@ -55,7 +60,7 @@ def version_in(header):
     raise Failed(f"{header} has no version")
 
 
-def facts_of(gate_line):
+def facts_of(gate_line: str) -> list[str]:
     """What the release says of its sources."""
     return [
         f"version {version_in(TOP / 'include/drillolive.h')}",
@@ -66,7 +71,7 @@ def facts_of(gate_line):
     ]
 
 
-def write_facts(prefix, facts):
+def write_facts(prefix: Path, facts: list[str]) -> None:
     """Adds the file of the release to what was installed."""
     files = sorted(path for path in prefix.rglob("*") if path.is_file())
     sums = [f"sha256 {hashlib.sha256(path.read_bytes()).hexdigest()} {path.relative_to(prefix)}" for path in files]
@@ -75,7 +80,7 @@ def write_facts(prefix, facts):
     path.write_text("\n".join([*facts, *sums]) + "\n", encoding="utf-8")
 
 
-def pack(prefix, name, seconds, out):
+def pack(prefix: Path, name: str, seconds: int, out: Path) -> None:
     """Writes the tar of a folder, in an order of its own, with one date and without owners."""
     with lzma.open(out, "wb", preset=9) as packed, tarfile.open(fileobj=packed, mode="w", format=tarfile.GNU_FORMAT) as tar:
         for path in sorted(prefix.rglob("*")):
@@ -88,7 +93,7 @@ def pack(prefix, name, seconds, out):
                 tar.addfile(entry)
 
 
-def try_program(archive, name):
+def try_program(archive: Path, name: str) -> None:
     """Unpacks the tar elsewhere, and runs its program on the cube."""
     with tempfile.TemporaryDirectory() as folder:
         with tarfile.open(archive) as tar:
@@ -99,7 +104,7 @@ def try_program(archive, name):
             raise Failed("the program of the tar does not run")
 
 
-def make_release(prefix, facts, seconds, folder):
+def make_release(prefix: Path, facts: list[str], seconds: int, folder: Path) -> Path:
     """Packs what was installed with the facts of the release, tries it, and returns the path of the tar."""
     name = f"drillolive-{facts[0].split()[1]}-x86_64-linux"
     write_facts(prefix, facts)
@@ -110,7 +115,7 @@ def make_release(prefix, facts, seconds, folder):
     return archive
 
 
-def main():
+def main() -> int:
     parser = argparse.ArgumentParser(description="Makes a tar of the proved program and library.")
     parser.add_argument("folder", type=Path, help="where the tar goes")
     given = parser.parse_args()
