@@ -32,6 +32,30 @@ COUNTED = """
   }));
 """
 
+# Makes drawings of the 192 triangles of level 2 of the cube take long, lets 24 faces be the fewest that are drawn in
+# motion, and notes each drawing in `drawings`, with what the page says of it.
+SLOW = """
+  const { renderer, pace } = page.view;
+  const draw = renderer.draw.bind(renderer);
+  window.drawings = [];
+  renderer.draw = (...given) => {
+    const drawn = draw(...given);
+    const end = performance.now() + (drawn.triangles === 192 ? 120 : 0);
+    while (performance.now() < end);
+    drawings.push([drawn.triangles, part("caption").textContent]);
+    return drawn;
+  };
+  pace.fewest = 24;
+  for (let time = 0; time < 2; time++) page.view.drawNow();
+  drawings.length = 0;
+"""
+# Waits until the view rests.
+AT_REST = """
+  for (const end = performance.now() + 60000; page.state.isMoving || page.view.isAsked; await wait(20)) {
+    if (performance.now() > end) throw new Error("the view does not rest");
+  }
+"""
+
 
 def counts_of(name: str, depth: int) -> list[dict[str, int]]:
     """Returns the counts of the levels of an example, as the program tells them."""
@@ -72,7 +96,8 @@ class BrowserTest(unittest.TestCase):
         path = self.folder / "page.html"
         path.write_text(page_of(held), "utf-8")
         tab = Tab(self.browser, path, fragment, **options)
-        tab.run("await wait(100)")  # for the sizes of all parts to settle
+        # For the sizes of all parts to settle, which takes two frames, however late they come.
+        tab.run("await wait(100); for (const _ of [1, 2]) await new Promise(requestAnimationFrame)")
         self.addCleanup(tab.close)
         self.addCleanup(lambda: self.assertEqual((tab.problems, tab.requests), ([], [])))
         return tab
@@ -291,6 +316,31 @@ class BrowserTest(unittest.TestCase):
         did({2, 3, 4, 5})
         stands = "const fitted = look(); await wait(400); return look().join() === fitted.join()"
         self.assertTrue(tab.run(stands))
+
+    def test_a_slow_machine_turns_a_coarser_level(self) -> None:
+        for before in ("", NO_WEBGL):
+            self.assert_turns_a_coarser_level(self.open(self.held("cube", 2), before=before))
+
+    def assert_turns_a_coarser_level(self, tab: Tab) -> None:
+        """Asserts that a page of the cube with a level 2 that takes long is drawn by level 1 while it moves."""
+        tab.run(SLOW)
+        # What is fast enough is drawn whole all the time, and not once more at rest.
+        tab.run("page.view.pace.longest = Infinity")
+        tab.key("ArrowLeft")
+        self.assertEqual(tab.run(f"{AT_REST} await wait(400); return drawings.splice(0)"), [[192, ""]])
+        tab.run("page.view.pace.longest = 50")
+        motions = {
+            "key": lambda: tab.key("ArrowLeft"),
+            "drag": lambda: tab.drag((200, 300), (240, 330)),
+            "touch": lambda: tab.touch([(200, 300)], [(215, 305)], [(240, 320)]),
+            "wheel": lambda: tab.mouse("mouseWheel", 200, 300, deltaX=0, deltaY=100),
+            "glide": lambda: tab.run("part('fit').click()"),
+        }
+        coarse = [48, "Thinned: level 2 is drawn by the 24 faces of level 1 while the view moves."]
+        for name, motion in motions.items():
+            motion()
+            drawings, triangles = tab.run(f"{AT_REST} return [drawings.splice(0), view.dataset.triangles]")
+            self.assertEqual((drawings[-2:], triangles), ([coarse, [192, ""]], "192"), (name, drawings))
 
     def test_the_address_has_the_state(self) -> None:
         words = ("surface=sparse", "layers=cage+special", "up=z", "shading=flat", "point=12", "theme=dark")

@@ -66,6 +66,9 @@
       return { triangles, lines, dots };
     }
 
+    /** Has nothing to wait for: the longest part of a drawing is done when it returns. */
+    finish() {}
+
     /** Returns what is drawn with the unit normals of its faces, which are kept while the same faces are drawn. */
     partOf({ key, make }) {
       if (this.kept?.key !== key) {

@@ -174,6 +174,12 @@ void main() {
       return { triangles, lines, dots };
     }
 
+    /** Waits until all is drawn, for the calls that draw return before. Only what reads the picture surely waits. */
+    finish() {
+      const { gl } = this;
+      gl.readPixels(0, 0, 1, 1, gl.RGBA, gl.UNSIGNED_BYTE, new Uint8Array(4));
+    }
+
     makeMesh(part) {
       const { gl } = this;
       const mesh = new Mesh(part);

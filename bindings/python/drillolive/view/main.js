@@ -52,11 +52,13 @@
     /** Shows the state. */
     update(changed) {
       if (changed.includes("theme")) this.applyTheme();
+      if (changed.includes("hasOwnCamera")) this.view.move();
       this.panels.update();
       this.pointPanel.update();
       this.updatePointFields();
       this.view.draw();
-      if (!changed.every((name) => ["hasOwnCamera", "hover"].includes(name)) || !changed.length) this.texture.draw();
+      const isOfView = (name) => ["hasOwnCamera", "hover", "isMoving"].includes(name);
+      if (!changed.every(isOfView) || !changed.length) this.texture.draw();
       this.describe();
     }
 
@@ -141,7 +143,7 @@
         if (this.state.hasOwnCamera) return;
         camera.distance = between(from.distance, to.distance);
         camera.target = to.target.map((value, axis) => between(from.target[axis], value));
-        this.view.draw();
+        this.view.move();
         if (part < 1) requestAnimationFrame(glide);
       };
       glide(began);

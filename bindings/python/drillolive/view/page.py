@@ -14,8 +14,8 @@ SOURCES = Path(__file__).resolve().parent
 # The scripts in the order in which they run. Each adds its part to the one global name, `drillolive`.
 SCRIPTS = (
     "unpacking.js", "fractions.js", "topology.js", "sparse.js", "scene.js", "shapes.js", "camera.js", "state.js",
-    "palette.js", "layers.js", "draw_webgl.js", "draw_canvas.js", "draw.js", "pick.js", "charts.js", "panels.js",
-    "point_panel.js", "input.js", "main.js",
+    "palette.js", "layers.js", "draw_webgl.js", "draw_canvas.js", "pace.js", "draw.js", "pick.js", "charts.js",
+    "panels.js", "point_panel.js", "input.js", "main.js",
 )  # fmt: skip
 PLACE = re.compile(r"<!-- place: (\w+) -->")
 

@@ -21,6 +21,7 @@
       this.hover = null;
       this.theme = null; // that of the system, until the other is chosen
       this.hasOwnCamera = false; // until then the whole mesh is in the picture
+      this.isMoving = false; // from a motion of the camera until shortly after it
       this.renderer = null;
       this.listeners = [];
       this.timer = null;
