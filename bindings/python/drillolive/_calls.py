@@ -62,7 +62,7 @@ def whole(value: Any, what: str, least: int = 0, greatest: int = GREATEST_INDEX)
     try:
         number = operator.index(value)
     except TypeError:
-        raise argument_error(f"{what} {value!r} is no whole number", advice) from None
+        raise argument_error(f"{what} {value!r} is not a whole number", advice) from None
     if not least <= number <= greatest:
         raise argument_error(f"{what} {number} is out of range", advice)
     return number

@@ -239,7 +239,7 @@ class Command(FolderTest):
         face = SQUARE + "f 1 2 3 4\n"
         cases = [
             (["-o", "out.obj"], face, 2, "--split"),
-            (["-d", "1", "--split"], face, 2, "-d is not understood with --split"),
+            (["-d", "1", "--split"], face, 2, "-d and --split exclude each other"),
             (["-d", "11"], face, 2, "0 to 10"),
             ([], SQUARE + "f 1 2 9", 1, "line 5: index out of range"),
             ([], "v 0 0 nan\n" + SQUARE + "f 1 2 3", 1, "line 1: bad numeral"),

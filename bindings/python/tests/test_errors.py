@@ -94,7 +94,7 @@ OWN_CASES: list[Any] = [
     (lambda: cube().limit(0), "ArgumentError", "depth 0 is out of range", "from 1 to 10"),
     (lambda: cube().refine(-1), "ArgumentError", "depth -1", "from 0 to 10"),
     (lambda: cube().table(2**32), "ArgumentError", "depth 4294967296", "from 0 to 10"),
-    (lambda: cube().refine(1.5), "ArgumentError", "depth 1.5 is no whole number", "from 0 to 10"),
+    (lambda: cube().refine(1.5), "ArgumentError", "depth 1.5 is not a whole number", "from 0 to 10"),
     (lambda: cube().refine(1, uv="corner"),
      "ArgumentError", "uv 'corner' is not known", "smooth, corners, boundaries, linear"),
     (lambda: cube().sparse(1, select="feature"), "ArgumentError", "select 'feature'", "features, all"),

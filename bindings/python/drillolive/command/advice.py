@@ -39,10 +39,10 @@ class Parser(argparse.ArgumentParser):
         if message.startswith("unrecognized arguments: "):
             word = message.partition(": ")[2].split()[0].partition("=")[0]
             if not word.startswith("-"):
-                return "One FILE is read, and options stand apart from it."
+                return "Give one FILE, and separate options by spaces."
             return did_you_mean(word, self._option_string_actions) or self._see_help()
         if "-d/--depth" in message and "required" in message:
-            return f"Say how many steps are made, such as {self.prog} -d 2."
+            return f"Give the number of steps, as in {self.prog} -d 2."
         return self._see_help()
 
     def _see_help(self) -> str:
@@ -70,8 +70,8 @@ def advice_on_command(words: list[str], commands: Any) -> CommandError:
     word = words[0]
     near = did_you_mean(word, commands)
     if word.startswith("-"):
-        return CommandError(f"{word} is no command", f"Say the command first, as in {HOW}.", USAGE)
+        return CommandError(f"{word} is not a command", f"Say the command first, as in {HOW}.", USAGE)
     if not near and (Path(word).exists() or word.lower().endswith(".obj")):
-        advice = f"Say what is done with it, as in drillolive refine -d 2 {word}."
-        return CommandError(f"{word} is no command", advice, USAGE)
-    return CommandError(f"{word} is no command", near or "`drillolive --help` lists the commands.", USAGE)
+        advice = f"Put a command before the file, as in drillolive refine -d 2 {word}."
+        return CommandError(f"{word} is not a command", advice, USAGE)
+    return CommandError(f"{word} is not a command", near or "`drillolive --help` lists the commands.", USAGE)

@@ -22,9 +22,9 @@ from .warnings import warnings_of
 def add_arguments(parser: argparse.ArgumentParser) -> None:
     """Adds the options of the command."""
     add_file_argument(parser)
-    text = f"warn of what keeps the mesh from N steps of refinement, too: 0 to {DEPTH_LIMIT}"
+    text = f"also warn of what prevents N steps of refinement: 0 to {DEPTH_LIMIT}"
     parser.add_argument("-d", "--depth", type=whole(0, DEPTH_LIMIT), metavar="N", help=text)
-    text = "write a manifold: fans of faces get points of their own, and faces that are none are left out"
+    text = "write a manifold: each fan of faces gets its own points, and degenerate faces are left out"
     parser.add_argument("--split", action="store_true", help=text)
     add_output_argument(parser)
 
@@ -35,7 +35,7 @@ def run(arguments: argparse.Namespace) -> int:
         return run_split(arguments)
     if arguments.output is not None:
         advice = "Say --split too, or > FILE for the list."
-        raise CommandError("check: -o is understood with --split alone", advice, USAGE)
+        raise CommandError("check: -o needs --split", advice, USAGE)
     file = open_mesh(arguments.file, quiet=True)
     with in_file(arguments.file, file):
         faults, warnings = arguments.progress.do(
@@ -73,7 +73,7 @@ def counted(count: int, noun: str) -> str:
 def run_split(arguments: argparse.Namespace) -> int:
     """Writes the file with a manifold made of its mesh, and says on standard error what was done."""
     if arguments.depth is not None:
-        raise CommandError("check: -d is not understood with --split", "Check the file that is written with -d.", USAGE)
+        raise CommandError("check: -d and --split exclude each other", "Check the file that is written with -d.", USAGE)
     name, file = name_of(arguments.file), open_mesh(arguments.file)
     # The numbers of a refusal here are those of the parted mesh, and not those of the file.
     with in_file(arguments.file):

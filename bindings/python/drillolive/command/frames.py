@@ -29,7 +29,7 @@ def add_arguments(parser: argparse.ArgumentParser) -> None:
     text = "OBJ files of poses: the same number of points, and the same faces or none"
     parser.add_argument("poses", nargs="+", metavar="POSE", help=text)
     add_depth_argument(parser)
-    text = "the files that are written, with the number of the pose, from 1: out_%%04d.obj"
+    text = "the output files, with the number of the pose from 1, as in out_%%04d.obj"
     parser.add_argument("-o", "--output", metavar="PATTERN", type=output_path, required=True, help=text)
     add_digits_argument(parser)
     add_look_arguments(parser)
@@ -55,7 +55,7 @@ def names_of_frames(pattern: str, count: int) -> list[str]:
     """Returns the file of each frame. Raises CommandError where the pattern does not tell several frames apart."""
     if len(PATTERN.findall(pattern)) > 1 or (count > 1 and not PATTERN.search(pattern)):
         advice = "Put one number into it, as in -o out_%04d.obj."
-        raise CommandError(f"{pattern}: this does not number {count} frames", advice, USAGE)
+        raise CommandError(f"{pattern}: this pattern does not number {count} frames", advice, USAGE)
     return [PATTERN.sub(lambda place: place.group() % number, pattern) for number in range(1, count + 1)]
 
 

@@ -17,19 +17,19 @@ from .source import name_of
 
 # Each subcommand is a module here of the same name, with `add_arguments` and `run`.
 COMMANDS = {
-    "refine": "write the mesh after some steps, as OBJ text",
-    "limit": "write it with each point where further steps take it in the end",
+    "refine": "write the refined mesh as OBJ text",
+    "limit": "write the limit points of a level, with its faces",
     "frames": "refine poses of one mesh by one table, and write a file for each",
-    "check": "list all faults of a mesh in the lines of its file, or write a mesh without them",
-    "levels": "write a table of counts: points, edges, faces and features of each level",
-    "sparse": "write the levels with the faces near features alone",
-    "table": "write how each point of a level is made of the points of the mesh",
+    "check": "list all faults of a mesh with their lines, or write a mesh without them",
+    "levels": "count the points, edges, faces and features of each level",
+    "sparse": "write the sparse levels: the faces near features",
+    "table": "write a stencil table: each point of a level as a weighted mean of points of the mesh",
     "view": "write a page that shows the levels in a browser",
 }
 
 DESCRIPTION = (
-    "Refines polygon meshes in OBJ files by the rules of Catmull and Clark, with semi-sharp creases.\n"
-    "Numbers are exact inside, and each is written as the nearest double."
+    "Refines polygon meshes in OBJ files by the Catmull-Clark rules, with semi-sharp creases.\n"
+    "Numbers are exact inside, and are written as the nearest doubles."
 )
 EXAMPLE = "example: drillolive refine -d 2 cube.obj -o smooth.obj"
 

@@ -64,7 +64,7 @@ def whole(least: int, most: int) -> Any:
 
     def read(word: str) -> int:
         if not (word.isascii() and word.isdigit() and least <= int(word) <= most):
-            raise argparse.ArgumentTypeError(f"{word} is no whole number from {least} to {most}")
+            raise argparse.ArgumentTypeError(f"{word} is not a whole number from {least} to {most}")
         return int(word)
 
     return read
@@ -73,7 +73,7 @@ def whole(least: int, most: int) -> Any:
 def add_number_arguments(parser: argparse.ArgumentParser) -> None:
     """Adds the options that say how numbers are written."""
     group = parser.add_mutually_exclusive_group()
-    group.add_argument("--exact", action="store_true", help="write exact fractions, such as 5/9, and no doubles")
+    group.add_argument("--exact", action="store_true", help="write exact fractions, such as 5/9, which most programs cannot read")
     add_digits_argument(group)
 
 

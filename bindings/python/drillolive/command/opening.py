@@ -25,18 +25,18 @@ OTHER_FORMATS = frozenset(
 
 def add_file_argument(parser: argparse.ArgumentParser) -> None:
     """Adds the file of the mesh."""
-    parser.add_argument("file", nargs="?", metavar="FILE", help="the OBJ file; standard input where it is - or missing")
+    parser.add_argument("file", nargs="?", metavar="FILE", help="the OBJ file; without it, or with -, standard input")
 
 
 def add_depth_argument(parser: argparse.ArgumentParser, least: int = 0) -> None:
     """Adds the depth."""
-    text = f"how many steps are made: {least} to {DEPTH_LIMIT}"
+    text = f"the number of steps: {least} to {DEPTH_LIMIT}"
     parser.add_argument("-d", "--depth", type=whole(least, DEPTH_LIMIT), required=True, metavar="N", help=text)
 
 
 def add_output_argument(parser: argparse.ArgumentParser) -> None:
     """Adds the file that is written."""
-    text = "the file that is written, whole or not at all; standard output where it is - or missing"
+    text = "the output file, written whole or not at all; without it, or with -, standard output"
     parser.add_argument("-o", "--output", type=output_path, metavar="FILE", help=text)
 
 
@@ -44,7 +44,7 @@ def output_path(word: str) -> str:
     """Returns the path of a file of text. Raises ArgumentTypeError for one with the name of another format."""
     suffix = Path(word).suffix.lower()
     if suffix in OTHER_FORMATS:
-        raise argparse.ArgumentTypeError(f"no {suffix} file is written, but OBJ text: say {Path(word).stem}.obj")
+        raise argparse.ArgumentTypeError(f"the command writes OBJ text and no {suffix} file: say {Path(word).stem}.obj")
     return word
 
 

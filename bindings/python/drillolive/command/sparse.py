@@ -31,9 +31,9 @@ def add_arguments(parser: argparse.ArgumentParser) -> None:
     add_depth_argument(parser)
     add_output_argument(parser)
     add_number_arguments(parser)
-    text = "which faces are refined: features (the default), or all that are no holes"
+    text = "the faces that are refined: features (default) faces at features, all every face except holes"
     parser.add_argument("--select", choices=SELECTIONS, default="features", help=text)
-    text = "write texture too, of which smooth keeps nothing fixed, linear all; none is the default"
+    text = "the texture points that stay fixed: smooth none, corners, boundaries, linear all; none (default) writes no texture"
     parser.add_argument("--uv", choices=MODES, default=NO_TEXTURE, help=text)
     add_round_argument(parser)
 

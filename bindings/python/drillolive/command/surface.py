@@ -37,14 +37,14 @@ def add_surface_arguments(parser: argparse.ArgumentParser, least_depth: int = 0)
 
 def add_texture_argument(parser: argparse.ArgumentParser) -> None:
     """Adds the option that says what stays fixed of texture."""
-    text = "what stays fixed of texture: smooth nothing, corners, boundaries (the default), linear all; none drops it"
+    text = "the texture points that stay fixed: smooth none, corners, boundaries (default), linear all; none drops the texture"
     parser.add_argument("--uv", choices=MODES, default=DEFAULT_MODE, help=text)
 
 
 def add_look_arguments(parser: argparse.ArgumentParser) -> None:
     """Adds the options that say what is written beside the points."""
     add_texture_argument(parser)
-    parser.add_argument("--normals", action="store_true", help="write vn lines: the mean of the faces at each point")
+    parser.add_argument("--normals", action="store_true", help="write vn lines: at each point the mean normal of its faces")
     add_round_argument(parser)
 
 

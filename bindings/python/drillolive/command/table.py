@@ -20,7 +20,7 @@ def add_arguments(parser: argparse.ArgumentParser) -> None:
     """Adds the options of the command."""
     add_file_argument(parser)
     add_depth_argument(parser)
-    text = "the file: .npz for arrays, .txt for text in exact fractions; text on standard output where it is missing"
+    text = "the output file: .npz for arrays, .txt for exact text; without it, text on standard output"
     parser.add_argument("-o", "--output", metavar="FILE", help=text)
 
 

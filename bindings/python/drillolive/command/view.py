@@ -21,11 +21,11 @@ DEFAULT_DEPTH = 2
 def add_arguments(parser: argparse.ArgumentParser) -> None:
     """Adds the options of the command."""
     add_file_argument(parser)
-    text = f"how many steps are made at most: 0 to {DEPTH_LIMIT}; {DEFAULT_DEPTH} is the default"
+    text = f"the greatest number of steps: 0 to {DEPTH_LIMIT}; {DEFAULT_DEPTH} is the default"
     parser.add_argument("-d", "--depth", type=whole(0, DEPTH_LIMIT), default=DEFAULT_DEPTH, metavar="N", help=text)
-    text = "the page that is written; MESH.html beside MESH.obj where it is missing, and standard output where it is -"
+    text = "the page; without it MESH.html beside MESH.obj, and with - standard output"
     parser.add_argument("-o", "--output", metavar="FILE", help=text)
-    text = "the axis that is up at first: y (the default) or z"
+    text = "the axis that points up at first: y (default) or z"
     parser.add_argument("--up", choices=("y", "z"), default="y", help=text)
     add_texture_argument(parser)
     add_round_argument(parser)
