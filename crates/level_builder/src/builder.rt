@@ -89,7 +89,7 @@ fn face_room(
     ensures holes { IfOk result (λ made. made.1.items ≡ []) }
 {
     let holes = Vec::with_capacity(alloc, faces as usize)?;
-    Ok((PackedLists::with_room(alloc, faces, corners)?, holes))
+    Ok((PackedLists::with_limits(alloc, faces, corners)?, holes))
 }
 
 // Marks for points: all smooth, and none complete.

@@ -47,20 +47,20 @@ same_place-true a b h =
 
 -- A thing that its number determines has the number of every thing equal to it.
 numbers-same : {X : Type 0} (number : X → ℕ) (back : ℕ → X) (same : X → X → Bool) → ((a : X) → same a a ≡ true) → ((a b : X) → same a b ≡ true → a ≡ b) → (a b : X) → back (number a) ≡ a → back (number b) ≡ b → nat_eq (number a) (number b) ≡ same a b
-numbers-same number back same itself equal a b told_a told_b =
+numbers-same number back same itself equal a b back_a back_b =
     same_from_decides (nat_eq (number a) (number b)) (same a b)
-    ((λ h. sym told_a ∙ ap back (eqb-true _ _ h) ∙ told_b), (λ e. eq-eqb _ _ (ap number e)))
+    ((λ h. sym back_a ∙ ap back (eqb-true _ _ h) ∙ back_b), (λ e. eq-eqb _ _ (ap number e)))
     ((equal a b), (λ e. ap (same a) (sym e) ∙ itself a))
 
 -- Its number in the whole next level determines the origin of a point.
-pub origin-told : (points faces edges : ℕ) (origin : PointOrigin) → IsOriginWithin points faces edges origin → numbered_origin points faces (point_number points faces origin) ≡ origin
-origin-told points faces edges (FromVertex v) h = let here = lt-ltb v points h in rw here refl
-origin-told points faces edges (FromFace f) h =
+pub origin-of-number : (points faces edges : ℕ) (origin : PointOrigin) → IsOriginWithin points faces edges origin → numbered_origin points faces (point_number points faces origin) ≡ origin
+origin-of-number points faces edges (FromVertex v) h = let here = lt-ltb v points h in rw here refl
+origin-of-number points faces edges (FromFace f) h =
     let past = le-ltb (points + f) points (omega arith) in
     let at : points + f - points ≡ f = omega arith in
     let here = lt-ltb f faces h in
     rw (past, at, here) refl
-origin-told points faces edges (FromEdge e) h =
+origin-of-number points faces edges (FromEdge e) h =
     let past = le-ltb (points + faces + e) points (omega arith) in
     let at : points + faces + e - points ≡ faces + e = omega arith in
     let beyond = le-ltb (faces + e) faces (omega arith) in
@@ -74,7 +74,7 @@ origin-below points faces edges (FromEdge e) h = omega (arith, h)
 
 pub origin-numbers : (points faces edges : ℕ) (a b : PointOrigin) → IsOriginWithin points faces edges a → IsOriginWithin points faces edges b → nat_eq (point_number points faces a) (point_number points faces b) ≡ same_origin a b
 origin-numbers points faces edges a b ha hb =
-    numbers-same (point_number points faces) (numbered_origin points faces) same_origin same_origin-refl same_origin-true a b (origin-told points faces edges a ha) (origin-told points faces edges b hb)
+    numbers-same (point_number points faces) (numbered_origin points faces) same_origin same_origin-refl same_origin-true a b (origin-of-number points faces edges a ha) (origin-of-number points faces edges b hb)
 
 -- Its number there determines the place of a face.
 head-at : (starts : List ℕ) (end i : ℕ) → Ascend starts end → i < length starts → get_or starts 0 0 ≤ get_or starts i 0
@@ -86,30 +86,30 @@ length-gaps [] = refl
 length-gaps (a ∷ []) = refl
 length-gaps (a ∷ (b ∷ starts)) = omega (arith, length-gaps (b ∷ starts))
 
-place-told-from : (face : ℕ) (starts : List ℕ) (end g c : ℕ) → Ascend starts end → c < get_or (gaps starts) g 0 → numbered_place face starts (get_or starts g 0 + c) ≡ (face + g, c)
-place-told-from face [] end g c a h = absurd (omega arith)
-place-told-from face (s ∷ []) end g c a h = absurd (omega arith)
-place-told-from face (s ∷ (t ∷ starts)) end zero c a h =
+place-of-number-from : (face : ℕ) (starts : List ℕ) (end g c : ℕ) → Ascend starts end → c < get_or (gaps starts) g 0 → numbered_place face starts (get_or starts g 0 + c) ≡ (face + g, c)
+place-of-number-from face [] end g c a h = absurd (omega arith)
+place-of-number-from face (s ∷ []) end g c a h = absurd (omega arith)
+place-of-number-from face (s ∷ (t ∷ starts)) end zero c a h =
     let here = lt-ltb (s + c) t (omega arith) in
     let at : s + c - s ≡ c = omega arith in
     let first : face ≡ face + 0 = omega arith in
     rw (here, at) (ap (λ n. (n, c)) first)
-place-told-from face (s ∷ (t ∷ starts)) end (suc g) c a h =
+place-of-number-from face (s ∷ (t ∷ starts)) end (suc g) c a h =
     let some : g < length (gaps (t ∷ starts)) = inside (gaps (t ∷ starts)) g h in
     let above : t ≤ get_or (t ∷ starts) g 0 = head-at (t ∷ starts) end g a.1 (omega (arith, length-gaps (t ∷ starts))) in
     let past = le-ltb (get_or (t ∷ starts) g 0 + c) t (omega arith) in
     let next : face + 1 + g ≡ face + suc g = omega arith in
-    rw past (place-told-from (face + 1) (t ∷ starts) end g c a.1 h ∙ ap (λ n. (n, c)) next)
+    rw past (place-of-number-from (face + 1) (t ∷ starts) end g c a.1 h ∙ ap (λ n. (n, c)) next)
   where
     inside : (sizes : List ℕ) (k : ℕ) → c < get_or sizes k 0 → k < length sizes
     inside [] k h = absurd (omega arith)
     inside (m ∷ sizes) zero h = omega arith
     inside (m ∷ sizes) (suc k) h = omega (arith, inside sizes k h)
 
-pub place-told : (starts : List ℕ) (end : ℕ) (place : ℕ × ℕ) → Ascend starts end → place.1 < get_or (gaps starts) place.0 0 → numbered_place 0 starts (corner_number starts place) ≡ place
-place-told starts end place a h =
+pub place-of-number : (starts : List ℕ) (end : ℕ) (place : ℕ × ℕ) → Ascend starts end → place.1 < get_or (gaps starts) place.0 0 → numbered_place 0 starts (corner_number starts place) ≡ place
+place-of-number starts end place a h =
     let at : 0 + place.0 ≡ place.0 = omega arith in
-    place-told-from 0 starts end place.0 place.1 a h ∙ ap (λ n. (n, place.1)) at
+    place-of-number-from 0 starts end place.0 place.1 a h ∙ ap (λ n. (n, place.1)) at
 
 pub place-below : (starts : List ℕ) (end : ℕ) (place : ℕ × ℕ) → Ascend starts end → place.1 < get_or (gaps starts) place.0 0 → (place.0 + 1 < length starts) × (corner_number starts place < end)
 place-below [] end place a h = absurd a
@@ -122,7 +122,7 @@ place-below (s ∷ starts) end place a h = go s starts place.0 a h
 
 pub place-numbers : (starts : List ℕ) (end : ℕ) (a b : ℕ × ℕ) → Ascend starts end → a.1 < get_or (gaps starts) a.0 0 → b.1 < get_or (gaps starts) b.0 0 → nat_eq (corner_number starts a) (corner_number starts b) ≡ same_place a b
 place-numbers starts end a b ascend ha hb =
-    numbers-same (corner_number starts) (numbered_place 0 starts) same_place same_place-refl same_place-true a b (place-told starts end a ascend ha) (place-told starts end b ascend hb)
+    numbers-same (corner_number starts) (numbered_place 0 starts) same_place same_place-refl same_place-true a b (place-of-number starts end a ascend ha) (place-of-number starts end b ascend hb)
 
 -- There are at most as many edges as corners.
 sides-corners : (polygons : List Polygon) → length (all_sides polygons) ≡ sum_by length polygons

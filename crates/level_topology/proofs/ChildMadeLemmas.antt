@@ -9,10 +9,10 @@ use Rattle.level_topology.specs.Packed.{Ascend, gaps}
 use Rattle.level_topology.specs.Child.{PointOrigin, FromVertex, FromFace, FromEdge, same_origin, IsOriginWithin, same_place, IsPlaceWithin, IsChild, ChildTopology, child_of, HasParent, point_from, face_from}
 use Rattle.level_topology.specs.declared.child_origin.Origin.{Origin}
 use Rattle.level_topology.specs.declared.child_tables.ChildTables.{ChildTables}
-use Rattle.level_topology.specs.ChildTables.{origin_of, point_number, numbered_origin, corner_number, numbered_place, told_place, IsInverse, AreNumbered, numbers_in, child_in, AreOfChild}
+use Rattle.level_topology.specs.ChildTables.{origin_of, point_number, numbered_origin, corner_number, numbered_place, present_place, IsInverse, AreNumbered, numbers_in, child_in, AreOfChild}
 use Rattle.level_topology.proofs.PieceLemmas.{ascend-some}
-use Rattle.level_topology.proofs.ChildTableLemmas.{pairs-map, map-back, numbers-back, told-kept, position-same}
-use Rattle.level_topology.proofs.ChildLemmas.{origin-told, origin-below, origin-numbers, place-told, place-below, place-numbers, length-gaps}
+use Rattle.level_topology.proofs.ChildTableLemmas.{pairs-map, map-back, numbers-back, present-kept, position-same}
+use Rattle.level_topology.proofs.ChildLemmas.{origin-of-number, origin-below, origin-numbers, place-of-number, place-below, place-numbers, length-gaps}
 
 -- the number of a point with an origin within is within
 pub number-below : (points faces edges : ℕ) (origins : List Origin) (p : ℕ) (d : Origin) → All (IsOriginWithin points faces edges) (map origin_of origins) → p < length origins → point_number points faces (origin_of (get_or origins p d)) < points + faces + edges
@@ -23,7 +23,7 @@ number-below points faces edges origins p d within inside =
 -- Different origins have different numbers, and different places have different numbers.
 pub origin-pairs : (points faces edges : ℕ) (origins : List PointOrigin) → All (IsOriginWithin points faces edges) origins → AllPairs (λ a b. a ≢ b) origins → AllPairs (λ a b. a ≢ b) (map (point_number points faces) origins)
 origin-pairs points faces edges origins within once =
-    pairs-map (point_number points faces) (numbered_origin points faces) origins (λ k d h. origin-told points faces edges _ (within k d h)) once
+    pairs-map (point_number points faces) (numbered_origin points faces) origins (λ k d h. origin-of-number points faces edges _ (within k d h)) once
 
 -- a face's size is the gap between its start and the next
 size-at : (polygons : List Polygon) (g : ℕ) → get_or (map length polygons) g 0 ≡ length (polygon_at polygons g)
@@ -42,7 +42,7 @@ module _ (polygons : List Polygon) (starts : List ℕ) (same : gaps starts ≡ m
   place-corners places within k d h = (place-below starts _ _ ascend (gap-at _ (within k d h))).1
 
   pub place-back : (places : List (ℕ × ℕ)) → All (IsPlaceWithin polygons) places → All (λ place. numbered_place 0 starts (corner_number starts place) ≡ place) places
-  place-back places within k d h = place-told starts _ _ ascend (gap-at _ (within k d h))
+  place-back places within k d h = place-of-number starts _ _ ascend (gap-at _ (within k d h))
 
   pub place-pairs : (places : List (ℕ × ℕ)) → All (IsPlaceWithin polygons) places → AllPairs (λ a b. a ≢ b) places → AllPairs (λ a b. a ≢ b) (map (corner_number starts) places)
   place-pairs places within once = pairs-map (corner_number starts) (numbered_place 0 starts) places (place-back places within) once
@@ -85,11 +85,11 @@ module _ (parent level : Topology) (origins : List PointOrigin) (places : List (
   origins-same : map (numbered_origin t.vertices t.faces) t.numbers.items ≡ origins
   origins-same =
       ap (map (numbered_origin t.vertices t.faces)) numbered.numbers
-      ∙ map-back (point_number t.vertices t.faces) (numbered_origin t.vertices t.faces) origins (λ k d h. told k d h)
+      ∙ map-back (point_number t.vertices t.faces) (numbered_origin t.vertices t.faces) origins (λ k d h. recovers k d h)
     where
-      told : All (λ origin. numbered_origin t.vertices t.faces (point_number t.vertices t.faces origin) ≡ origin) origins
-      told k d h =
-          rw (vertices, faces) (origin-told parent.level.point_count (length parent.level.polygons) (length (edges_of parent.level.polygons)) _ (is.origins_within k d h))
+      recovers : All (λ origin. numbered_origin t.vertices t.faces (point_number t.vertices t.faces origin) ≡ origin) origins
+      recovers k d h =
+          rw (vertices, faces) (origin-of-number parent.level.point_count (length parent.level.polygons) (length (edges_of parent.level.polygons)) _ (is.origins_within k d h))
 
   places-same : map (numbered_place 0 t.starts.items) (numbers_in t.child_faces.items (length level.level.polygons)) ≡ places
   places-same =
@@ -156,7 +156,7 @@ module _ (level : Topology) (t : ChildTables) (is : AreOfChild level t) where
   few-faces : length (child_in level t).places < 2 ^ 32
   few-faces = omega (arith, is.parent.is.each_face, is.parent.level_is.small.faces)
 
-  pub point-found : (origin : PointOrigin) → IsOriginWithin t.vertices t.faces (length t.points.items - t.vertices - t.faces) origin → told_place (get_or t.points.items (point_number t.vertices t.faces origin) 0) ≡ point_from (child_in level t) origin
+  pub point-found : (origin : PointOrigin) → IsOriginWithin t.vertices t.faces (length t.points.items - t.vertices - t.faces) origin → present_place (get_or t.points.items (point_number t.vertices t.faces origin) 0) ≡ point_from (child_in level t) origin
   point-found origin within =
       let parent = is.parent.parent in
       let edges = length t.points.items - t.vertices - t.faces in
@@ -169,11 +169,11 @@ module _ (level : Topology) (t : ChildTables) (is : AreOfChild level t) where
       (ap (λ (c : ChildTopology). c.parent_points) is.parent.of) faces (ap (λ (c : ChildTopology). c.parent_edges) is.parent.of) (is.parent.is.origins_within k d h) in
       let below : number origin < length t.points.items = omega (arith, origin-below t.vertices t.faces edges origin within, is.total) in
       let few : length (map number origins) < 2 ^ 32 = omega (arith, length-map origins number, few-points) in
-      ap told_place (is.points (number origin) below)
-      ∙ told-kept (nat_eq (number origin)) (map number origins) few
+      ap present_place (is.points (number origin) below)
+      ∙ present-kept (nat_eq (number origin)) (map number origins) few
       ∙ position-same (IsOriginWithin t.vertices t.faces edges) number same_origin (origin-numbers t.vertices t.faces edges) origin origins within all
 
-  pub face-found : (place : ℕ × ℕ) → place.1 < get_or (gaps t.starts.items) place.0 0 → told_place (get_or t.child_faces.items (corner_number t.starts.items place) 0) ≡ face_from (child_in level t) place
+  pub face-found : (place : ℕ × ℕ) → place.1 < get_or (gaps t.starts.items) place.0 0 → present_place (get_or t.child_faces.items (corner_number t.starts.items place) 0) ≡ face_from (child_in level t) place
   face-found place within =
       let parent = is.parent.parent in
       let number = corner_number t.starts.items in
@@ -183,6 +183,6 @@ module _ (level : Topology) (t : ChildTables) (is : AreOfChild level t) where
       omega (arith, is.parent.is.places_within k d h, ap (λ ss. get_or ss (get_or places k d).0 0) sizes, size-at parent.level.polygons (get_or places k d).0) in
       let below = (place-below t.starts.items (length t.child_faces.items) place is.ascend within).1 in
       let few : length (map number places) < 2 ^ 32 = omega (arith, length-map places number, few-faces) in
-      ap told_place (is.faces (number place) below)
-      ∙ told-kept (nat_eq (number place)) (map number places) few
+      ap present_place (is.faces (number place) below)
+      ∙ present-kept (nat_eq (number place)) (map number places) few
       ∙ position-same (λ p. p.1 < get_or (gaps t.starts.items) p.0 0) number same_place (λ a b. place-numbers t.starts.items (length t.child_faces.items) a b is.ascend) place places within all

@@ -7,7 +7,7 @@ use Rattle.std.proofs.lemmas.List.FromFn.{fill_by_all}
 use Rattle.std.proofs.lemmas.List.Folds.{position_or_len_push}
 use Rattle.std.proofs.lemmas.List.Sums.{position_or_len_is, prefix_len-le-length}
 use Rattle.std.proofs.lemmas.List.Quantifiers.{position-Some}
-use Rattle.level_topology.specs.ChildTables.{kept_place, told_place, IsInverse, numbers_in}
+use Rattle.level_topology.specs.ChildTables.{kept_place, present_place, IsInverse, numbers_in}
 
 -- An item at the end of a list is found there, if no earlier item passes.
 pub push-new : {X : Type 0} (test : X → Bool) (xs : List X) (y : X) → position_or_len test xs ≡ length xs → test y ≡ true → position_or_len test (xs ++ y ∷ []) ≡ length xs
@@ -81,19 +81,19 @@ position-there test xs p at inside = let within = lt-ltb p (length xs) inside in
 
 -- Different things that their numbers determine have different numbers.
 pub pairs-map : {X : Type 0} (number : X → ℕ) (back : ℕ → X) (xs : List X) → All (λ x. back (number x) ≡ x) xs → AllPairs (λ a b. a ≢ b) xs → AllPairs (λ a b. a ≢ b) (map number xs)
-pairs-map number back [] told once i j d before inside = absurd (omega arith)
-pairs-map number back (x ∷ xs) told once i j d before inside = λ same.
+pairs-map number back [] recovers once i j d before inside = absurd (omega arith)
+pairs-map number back (x ∷ xs) recovers once i j d before inside = λ same.
     let all = x ∷ xs in
     let second : j < length all = omega (arith, inside, length-map all number) in
     let first : i < length all = omega arith in
     let numbers = sym (get_or-map number all i x d first) ∙ same ∙ get_or-map number all j x d second in
-    once i j x before second (sym (told i x first) ∙ ap back numbers ∙ told j x second)
+    once i j x before second (sym (recovers i x first) ∙ ap back numbers ∙ recovers j x second)
 
 pub map-back : {X : Type 0} (number : X → ℕ) (back : ℕ → X) (xs : List X) → All (λ x. back (number x) ≡ x) xs → map back (map number xs) ≡ xs
-map-back number back [] told = refl
-map-back number back (x ∷ xs) told =
-    let first = told 0 x (omega arith) in
-    let rest = map-back number back xs (λ k d h. told (suc k) d (omega arith)) in
+map-back number back [] recovers = refl
+map-back number back (x ∷ xs) recovers =
+    let first = recovers 0 x (omega arith) in
+    let rest = map-back number back xs (λ k d h. recovers (suc k) d (omega arith)) in
     cc
 
 -- The numbers of a table are those of its list.
@@ -123,10 +123,10 @@ numbers-back numbers table count is counted few inside once =
                 rw kept (ne_eqb p q (λ same. absurd (omega (arith, ap (λ k. get_or numbers k 0) same))))
 
 -- A table returns the place that it keeps.
-pub told-kept : {X : Type 0} (test : X → Bool) (xs : List X) → length xs < 2 ^ 32 → told_place (kept_place (position test xs)) ≡ position test xs
-told-kept test xs few = here (nat_lt (position_or_len test xs) (length xs)) refl
+pub present-kept : {X : Type 0} (test : X → Bool) (xs : List X) → length xs < 2 ^ 32 → present_place (kept_place (position test xs)) ≡ position test xs
+present-kept test xs few = here (nat_lt (position_or_len test xs) (length xs)) refl
   where
-    here : (b : Bool) → nat_lt (position_or_len test xs) (length xs) ≡ b → told_place (kept_place (position test xs)) ≡ position test xs
+    here : (b : Bool) → nat_lt (position_or_len test xs) (length xs) ≡ b → present_place (kept_place (position test xs)) ≡ position test xs
     here true e =
         let inside = ltb-true (position_or_len test xs) (length xs) e in
         let other = ne_eqb (position_or_len test xs) (2 ^ 32 - 1) (λ same. absurd (omega arith)) in

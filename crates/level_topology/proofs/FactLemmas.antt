@@ -53,25 +53,25 @@ count-most test xs i d count more passes inside em ep ec =
     omega (arith, count-next test xs i d count more passes inside em ep ec, count_by-le-length test (take (i + 1) xs), length-take (i + 1) xs)
 
 -- which of the three kinds a regular point can be
-inside-alone : (b four smooth two one infinite : Bool) → b ≡ false
+inside-kind : (b four smooth two one infinite : Bool) → b ≡ false
     → ((not b && four && smooth) || (b && two && smooth) || (b && one && infinite)) ≡ (four && smooth)
-inside-alone true four smooth two one infinite h = absurd (cc)
-inside-alone false true true two one infinite h = refl
-inside-alone false true false two one infinite h = refl
-inside-alone false false smooth two one infinite h = refl
+inside-kind true four smooth two one infinite h = absurd (cc)
+inside-kind false true true two one infinite h = refl
+inside-kind false true false two one infinite h = refl
+inside-kind false false smooth two one infinite h = refl
 
-boundary-alone : (b four smooth two one infinite : Bool) → b ≡ true
+boundary-kind : (b four smooth two one infinite : Bool) → b ≡ true
     → ((not b && four && smooth) || (b && two && smooth) || (b && one && infinite)) ≡ ((two && smooth) || (one && infinite))
-boundary-alone true four smooth two one infinite h = refl
-boundary-alone false four smooth two one infinite h = absurd (cc)
+boundary-kind true four smooth two one infinite h = refl
+boundary-kind false four smooth two one infinite h = absurd (cc)
 
 pub regular-inside : (level : Level) (v : ℕ) → is_at_boundary level v ≡ false
     → is_regular level v ≡ (nat_eq (length (edges_at level v)) 4 && is_smooth_at level v)
-regular-inside level v h = inside-alone _ _ _ _ _ _ h
+regular-inside level v h = inside-kind _ _ _ _ _ _ h
 
 regular-outside : (level : Level) (v : ℕ) → is_at_boundary level v ≡ true
     → is_regular level v ≡ ((nat_eq (length (faces_at level v)) 2 && is_smooth_at level v) || (nat_eq (length (faces_at level v)) 1 && is_infinite (vertex_sharpness_of level v)))
-regular-outside level v h = boundary-alone _ _ _ _ _ _ h
+regular-outside level v h = boundary-kind _ _ _ _ _ _ h
 
 -- and on the boundary it depends on how many faces there are
 module _ (level : Level) (v n : ℕ) (boundary : is_at_boundary level v ≡ true) (count : n ≡ length (faces_at level v)) where
@@ -80,22 +80,22 @@ module _ (level : Level) (v n : ℕ) (boundary : is_at_boundary level v ≡ true
       ∙ ap (λ k. (nat_eq k 2 && is_smooth_at level v) || (nat_eq k 1 && is_infinite (vertex_sharpness_of level v))) (sym count)
 
   pub regular-side : n ≡ 2 → is_regular level v ≡ is_smooth_at level v
-  regular-side two = by-count ∙ alone n _ _ two
+  regular-side two = by-count ∙ one-test n _ _ two
     where
-      alone : (n : ℕ) (smooth infinite : Bool) → n ≡ 2 → ((nat_eq n 2 && smooth) || (nat_eq n 1 && infinite)) ≡ smooth
-      alone n smooth infinite h = grind (arith, nat_tests)
+      one-test : (n : ℕ) (smooth infinite : Bool) → n ≡ 2 → ((nat_eq n 2 && smooth) || (nat_eq n 1 && infinite)) ≡ smooth
+      one-test n smooth infinite h = grind (arith, nat_tests)
 
   pub regular-corner : n ≡ 1 → is_regular level v ≡ is_infinite (vertex_sharpness_of level v)
-  regular-corner one = by-count ∙ alone n _ _ one
+  regular-corner one = by-count ∙ one-test n _ _ one
     where
-      alone : (n : ℕ) (smooth infinite : Bool) → n ≡ 1 → ((nat_eq n 2 && smooth) || (nat_eq n 1 && infinite)) ≡ infinite
-      alone n smooth infinite h = grind (arith, nat_tests)
+      one-test : (n : ℕ) (smooth infinite : Bool) → n ≡ 1 → ((nat_eq n 2 && smooth) || (nat_eq n 1 && infinite)) ≡ infinite
+      one-test n smooth infinite h = grind (arith, nat_tests)
 
   pub regular-neither : n ≢ 2 → n ≢ 1 → is_regular level v ≡ nat_eq n 1
-  regular-neither two one = by-count ∙ alone n _ _ two one
+  regular-neither two one = by-count ∙ one-test n _ _ two one
     where
-      alone : (n : ℕ) (smooth infinite : Bool) → n ≢ 2 → n ≢ 1 → ((nat_eq n 2 && smooth) || (nat_eq n 1 && infinite)) ≡ nat_eq n 1
-      alone n smooth infinite h k = grind (arith, nat_tests)
+      one-test : (n : ℕ) (smooth infinite : Bool) → n ≢ 2 → n ≢ 1 → ((nat_eq n 2 && smooth) || (nat_eq n 1 && infinite)) ≡ nat_eq n 1
+      one-test n smooth infinite h k = grind (arith, nat_tests)
 
 module _ (t : Topology) (is : IsTopology t) where
   -- The listed edges at a point pass a test exactly if those of the definitions do.

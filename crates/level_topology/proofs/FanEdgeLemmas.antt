@@ -142,7 +142,7 @@ module _ (polygons : List Polygon) (simple : list_all is_simple polygons ≡ tru
     end-cases : (n : ℕ) → is_among (edge_numbers_at polygons v) n ≡ true → (is_among (map (edge_before polygons v) fan) n ≡ true) ⊎ (edge_after polygons v (last_face fan) ≡ n)
     end-cases n there =
         let found = end-side polygons v n there in
-        way found (or_cases (nat_eq v found.side.0) (nat_eq v found.side.1) found.ends)
+        at-either-end found (or_cases (nat_eq v found.side.0) (nat_eq v found.side.1) found.ends)
       where
         out : (f : ℕ) → has_corner v (polygon_at polygons f) ≡ true → edge_after polygons v f ≡ n → (is_among (map (edge_before polygons v) fan) n ≡ true) ⊎ (edge_after polygons v (last_face fan) ≡ n)
         out f at after =
@@ -158,12 +158,12 @@ module _ (polygons : List Polygon) (simple : list_all is_simple polygons ≡ tru
                 inl (before-among (get_or fan (i + 1) 0) n (face-at (i + 1) more)
                 (edge-between polygons simple distinct v (get_or fan i 0) (get_or fan (i + 1) 0) (path-at polygons v fan i is.path more) ∙ ap (edge_after polygons v) here ∙ after))
 
-        way : (found : IsEndSide polygons v n) → (nat_eq v found.side.0 ≡ true) ⊎ (nat_eq v found.side.1 ≡ true) → (is_among (map (edge_before polygons v) fan) n ≡ true) ⊎ (edge_after polygons v (last_face fan) ≡ n)
-        way found (inl e) =
+        at-either-end : (found : IsEndSide polygons v n) → (nat_eq v found.side.0 ≡ true) ⊎ (nat_eq v found.side.1 ≡ true) → (is_among (map (edge_before polygons v) fan) n ≡ true) ⊎ (edge_after polygons v (last_face fan) ≡ n)
+        at-either-end found (inl e) =
             let side : has_side (v, found.side.1) (polygon_at polygons found.face) ≡ true = subst (λ m. has_side (m, found.side.1) (polygon_at polygons found.face) ≡ true) (sym (eqb-true _ _ e)) found.has in
             let number : edge_number polygons (v, found.side.1) ≡ n = ap (λ m. edge_number polygons (m, found.side.1)) (eqb-true _ _ e) ∙ found.number in
             out found.face (side-start (polygon_at polygons found.face) (v, found.side.1) side) (after-is polygons simple distinct v found.face found.side.1 side ∙ number)
-        way found (inr e) =
+        at-either-end found (inr e) =
             let side : has_side (found.side.0, v) (polygon_at polygons found.face) ≡ true = subst (λ m. has_side (found.side.0, m) (polygon_at polygons found.face) ≡ true) (sym (eqb-true _ _ e)) found.has in
             let number : edge_number polygons (found.side.0, v) ≡ n = ap (λ m. edge_number polygons (found.side.0, m)) (eqb-true _ _ e) ∙ found.number in
             inl (before-among found.face n (side-end (polygon_at polygons found.face) (found.side.0, v) side) (before-is polygons simple distinct v found.face found.side.0 side ∙ number))
@@ -198,7 +198,7 @@ module _ (polygons : List Polygon) (simple : list_all is_simple polygons ≡ tru
         one n (inr h) = before-among start n (ap (λ f. has_corner v (polygon_at polygons f)) (sym is.first) ∙ face-at 0 is.some) (edge-between polygons simple distinct v (last_face fan) start leads ∙ h)
 
     -- a fan to whose first face none leads
-    module _ (alone : (f : ℕ) → IsSuccessor polygons v f start → ⊥) where
+    module _ (no_predecessor : (f : ℕ) → IsSuccessor polygons v f start → ⊥) where
       abbrev open_edges : List ℕ
       open_edges = map (edge_before polygons v) fan ++ edge_after polygons v (last_face fan) ∷ []
 
@@ -240,7 +240,7 @@ module _ (polygons : List Polygon) (simple : list_all is_simple polygons ≡ tru
           absurd (clash place.0 place.1 found.0 place.2 leads))
         where
           clash : (i : ℕ) → i < length fan → (f : ℕ) → get_or fan i 0 ≡ f → IsSuccessor polygons v (last_face fan) f → ⊥
-          clash zero inside f at leads = alone (last_face fan) (subst (λ (g : ℕ). IsSuccessor polygons v (last_face fan) g) (sym at ∙ is.first) leads)
+          clash zero inside f at leads = no_predecessor (last_face fan) (subst (λ (g : ℕ). IsSuccessor polygons v (last_face fan) g) (sym at ∙ is.first) leads)
           clash (suc i) inside f at leads =
               let next : i + 1 ≡ suc i = omega arith in
               let before : IsSuccessor polygons v (get_or fan i 0) f = subst (λ (g : ℕ). IsSuccessor polygons v (get_or fan i 0) g) (ap (λ k. get_or fan k 0) next ∙ at) (path-at polygons v fan i is.path (omega (arith, inside))) in

@@ -90,12 +90,12 @@ module _ (polygons : List Polygon) (simple : list_all is_simple polygons ≡ tru
       let found = before-side f (side-end (polygon_at polygons f) (u, v) side) in
       found.2 ∙ ap (λ n. edge_number polygons (n, v)) (leader-unique (polygon_at polygons f) v found.0 u (distinct-at polygons f simple) found.1 side)
 
-  either-way : (a b : ℕ) → edge_number polygons (a, b) ≡ edge_number polygons (b, a)
-  either-way a b = position-alike (a, b) (b, a) (edges_of polygons) (grind (arith, nat_tests))
+  either-direction : (a b : ℕ) → edge_number polygons (a, b) ≡ edge_number polygons (b, a)
+  either-direction a b = position-alike (a, b) (b, a) (edges_of polygons) (grind (arith, nat_tests))
 
   -- the edge after a face is the edge before its successor
   pub edge-between : (f g : ℕ) → IsSuccessor polygons v f g → edge_before polygons v g ≡ edge_after polygons v f
-  edge-between f g leads = before-is g leads.corner leads.leads_back ∙ either-way leads.corner v ∙ sym (after-is f leads.corner leads.follows)
+  edge-between f g leads = before-is g leads.corner leads.leads_back ∙ either-direction leads.corner v ∙ sym (after-is f leads.corner leads.follows)
 
   -- one face leads to a face
   pub predecessor-unique : (f g next : ℕ) → IsSuccessor polygons v f next → IsSuccessor polygons v g next → f ≡ g
@@ -138,8 +138,8 @@ module _ (polygons : List Polygon) (simple : list_all is_simple polygons ≡ tru
   fan-all is f = same-tests _ _ (is.all f).0 (is.all f).1
 
   -- a face to which none leads begins the fan
-  pub fan-from-alone : (start : ℕ) → HasOneFan polygons v → has_corner v (polygon_at polygons start) ≡ true → ((f : ℕ) → IsSuccessor polygons v f start → ⊥) → (fan : List ℕ) × IsFanFrom polygons v start fan
-  fan-from-alone start is has alone =
+  pub fan-from-first : (start : ℕ) → HasOneFan polygons v → has_corner v (polygon_at polygons start) ≡ true → ((f : ℕ) → IsSuccessor polygons v f start → ⊥) → (fan : List ℕ) × IsFanFrom polygons v start fan
+  fan-from-first start is has no_predecessor =
       let found = among-at start is.fan (fan-all is start ∙ has) in (
         is.fan,
         record {
@@ -156,7 +156,7 @@ module _ (polygons : List Polygon) (simple : list_all is_simple polygons ≡ tru
       go (suc i) inside at =
           let next : i + 1 ≡ suc i = omega arith in
           let leads = path-at polygons v is.fan i is.path (omega (arith, inside)) in
-          absurd (alone (get_or is.fan i 0) (subst (λ (f : ℕ). IsSuccessor polygons v (get_or is.fan i 0) f) (ap (λ k. get_or is.fan k 0) next ∙ at) leads))
+          absurd (no_predecessor (get_or is.fan i 0) (subst (λ (f : ℕ). IsSuccessor polygons v (get_or is.fan i 0) f) (ap (λ k. get_or is.fan k 0) next ∙ at) leads))
 
   -- where one leads to each face, the fan begins at any of them
   pub fan-from-any : (start : ℕ) → HasOneFan polygons v → has_corner v (polygon_at polygons start) ≡ true → ((f : ℕ) → has_corner v (polygon_at polygons f) ≡ true → (p : ℕ) × IsSuccessor polygons v p f) → (fan : List ℕ) × IsFanFrom polygons v start fan

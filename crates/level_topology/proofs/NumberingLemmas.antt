@@ -129,11 +129,11 @@ module _ (polygons : List Polygon) (simple : list_all is_simple polygons ≡ tru
   known-faces taken s t pair fresh own same was =
       let before : list_any (same_edge t) taken ≡ false = sym (any-same s t taken same) ∙ own in
       let after : list_any (same_edge t) (taken ++ s ∷ []) ≡ true = list_any-append (same_edge t) taken (s ∷ []) ∙ (let back = same_edge-sym t s in grind (arith, nat_tests)) in
-      let alone : faces_of_pair pair ≡ faces_of_edge polygons t = was ∙ rw before (append-nil (faces_of_edge polygons t)) in
+      let as-before : faces_of_pair pair ≡ faces_of_edge polygons t = was ∙ rw before (append-nil (faces_of_edge polygons t)) in
       let few : length (faces_of_edge polygons t) ≤ 1 = omega (arith, faces-few polygons s simple distinct fresh, ap length (faces-alike s t 0 polygons same)) in
-      let one = one-face (faces_of_edge polygons t) few (λ none. pair-some pair (alone ∙ none)) in
+      let one = one-face (faces_of_edge polygons t) few (λ none. pair-some pair (as-before ∙ none)) in
       let below : one.0 < length polygons = omega (arith, places-below (has_edge t) 0 polygons one.0 [] one.1) in
-      pair-second pair one.0 (length polygons) (alone ∙ one.1) below ∙ sym (rw after (ap (λ fs. fs ++ length polygons ∷ []) one.1))
+      pair-second pair one.0 (length polygons) (as-before ∙ one.1) below ∙ sym (rw after (ap (λ fs. fs ++ length polygons ∷ []) one.1))
 
   new-faces : (taken : List (ℕ × ℕ)) (s : ℕ × ℕ) → list_any (same_edge s) (first_named (all_sides polygons ++ taken)) ≡ false → faces_of_pair (length polygons, length polygons) ≡ faces_so_far polygons (taken ++ s ∷ []) s
   new-faces taken s none =

@@ -20,8 +20,8 @@ module _ (polygons : List Polygon) (simple : list_all is_simple polygons ≡ tru
   -- the edges that go with it
   pub turned-edges : (is_path : Bool) (fan edges : List ℕ) → IsTurned polygons v is_path fan → edges ≡ map (edge_before polygons v) fan ++ (if is_path then edge_after polygons v (last_face fan) ∷ [] else []) → IsPermutation (edge_numbers_at polygons v) edges × IsFan polygons v fan edges
   turned-edges true fan edges is e = (
-    subst (λ es. IsPermutation (edge_numbers_at polygons v) es) (sym e) (open-permutation polygons simple distinct v is.start fan is.is (is.alone refl)),
-    subst (λ es. IsFan polygons v fan es) (sym e) (open-fan polygons simple distinct v is.start fan is.is (is.alone refl)),
+    subst (λ es. IsPermutation (edge_numbers_at polygons v) es) (sym e) (open-permutation polygons simple distinct v is.start fan is.is (is.no_predecessor refl)),
+    subst (λ es. IsFan polygons v fan es) (sym e) (open-fan polygons simple distinct v is.start fan is.is (is.no_predecessor refl)),
   )
   turned-edges false fan edges is e =
       let plain : edges ≡ map (edge_before polygons v) fan = e ∙ append-nil (map (edge_before polygons v) fan) in (
@@ -37,14 +37,14 @@ none-listed (x ∷ xs) h = let self = eq-eqb x x refl in absurd (h x (grind (ari
 pub edges-none : (polygons : List Polygon) (v : ℕ) → faces_of_point polygons v ≡ [] → edge_numbers_at polygons v ≡ []
 edges-none polygons v none = none-listed (edge_numbers_at polygons v) (λ n there.
     let found = end-side polygons v n there in
-    no-face found.face (way found.face found.side found.has (or_cases (nat_eq v found.side.0) (nat_eq v found.side.1) found.ends)))
+    no-face found.face (at-either-end found.face found.side found.has (or_cases (nat_eq v found.side.0) (nat_eq v found.side.1) found.ends)))
   where
     no-face : (f : ℕ) → has_corner v (polygon_at polygons f) ≡ true → ⊥
     no-face f has = let empty : is_among [] f ≡ true = ap (λ xs. is_among xs f) (sym none) ∙ faces-among polygons v f ∙ has in cc
 
-    way : (f : ℕ) (s : ℕ × ℕ) → has_side s (polygon_at polygons f) ≡ true → (nat_eq v s.0 ≡ true) ⊎ (nat_eq v s.1 ≡ true) → has_corner v (polygon_at polygons f) ≡ true
-    way f s has (inl e) = subst (λ k. has_corner k (polygon_at polygons f) ≡ true) (sym (eqb-true _ _ e)) (side-start (polygon_at polygons f) s has)
-    way f s has (inr e) = subst (λ k. has_corner k (polygon_at polygons f) ≡ true) (sym (eqb-true _ _ e)) (side-end (polygon_at polygons f) s has)
+    at-either-end : (f : ℕ) (s : ℕ × ℕ) → has_side s (polygon_at polygons f) ≡ true → (nat_eq v s.0 ≡ true) ⊎ (nat_eq v s.1 ≡ true) → has_corner v (polygon_at polygons f) ≡ true
+    at-either-end f s has (inl e) = subst (λ k. has_corner k (polygon_at polygons f) ≡ true) (sym (eqb-true _ _ e)) (side-start (polygon_at polygons f) s has)
+    at-either-end f s has (inr e) = subst (λ k. has_corner k (polygon_at polygons f) ≡ true) (sym (eqb-true _ _ e)) (side-end (polygon_at polygons f) s has)
 
 pub empty-row : (polygons : List Polygon) (v : ℕ) (complete : Bool) (faces at edges ends : List ℕ) → faces ≡ [] → faces ≡ faces_of_point polygons v → at ≡ map (corner_of polygons v) faces → edges ≡ edge_numbers_at polygons v → ends ≡ map (end_of polygons v) edges → IsRow polygons v complete faces at edges ends
 empty-row polygons v complete faces at edges ends none f a e n =

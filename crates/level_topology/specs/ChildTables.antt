@@ -47,8 +47,8 @@ kept_place None = 2 ^ 32 - 1
 kept_place (Some p) = p
 
 -- The place that a table keeps, or `None` for the mark of a missing one.
-abbrev pub told_place : ℕ → Option ℕ
-told_place p = if nat_eq p (2 ^ 32 - 1) then None else Some p
+abbrev pub present_place : ℕ → Option ℕ
+present_place p = if nat_eq p (2 ^ 32 - 1) then None else Some p
 
 -- The table has the place of each number in the list, if the list contains it.
 abbrev pub IsInverse : List ℕ → List ℕ → Type 0

@@ -32,7 +32,7 @@ pub record IsRow (polygons : List Polygon) (v : ℕ) (complete : Bool) (faces at
 pub record IsTurned (polygons : List Polygon) (v : ℕ) (is_path : Bool) (fan : List ℕ) : Type 0 where
   pub start : ℕ
   pub is : IsFanFrom polygons v start fan
-  pub alone : is_path ≡ true → (f : ℕ) → IsSuccessor polygons v f start → ⊥
+  pub no_predecessor : is_path ≡ true → (f : ℕ) → IsSuccessor polygons v f start → ⊥
   pub led : is_path ≡ false → IsSuccessor polygons v (last_face fan) start
 
 -- The lists of the first `count` points.

@@ -55,7 +55,7 @@ rows_of t = record {
 }
 
 -- The lists of faces, of edges and of points have equal lengths each, and there is room for every item.
-pub record HaveRoom (t : LevelTables) : Type 0 where
+pub record AreParallelTables (t : LevelTables) : Type 0 where
   pub holes : length t.holes.items ≡ length t.faces.lists
   pub edge_vertices : length t.edge_vertices.items ≡ length t.edge_sharpness.sharpness
   pub edge_faces : length t.edge_faces.items ≡ length t.edge_sharpness.sharpness
@@ -64,7 +64,7 @@ pub record HaveRoom (t : LevelTables) : Type 0 where
   pub complete : length t.complete.items ≡ length t.vertex_faces.lists
   pub edge_points : t.vertex_edges.list_limit ≡ t.vertex_faces.list_limit
   pub sharp_points : t.vertex_sharpness.limit ≡ t.vertex_faces.list_limit
-  pub hole_room : t.faces.list_limit ≤ vec_capacity t.holes
-  pub end_room : t.edge_sharpness.limit ≤ vec_capacity t.edge_vertices
-  pub face_room : t.edge_sharpness.limit ≤ vec_capacity t.edge_faces
-  pub mark_room : t.vertex_faces.list_limit ≤ vec_capacity t.complete
+  pub hole_capacity : t.faces.list_limit ≤ vec_capacity t.holes
+  pub end_capacity : t.edge_sharpness.limit ≤ vec_capacity t.edge_vertices
+  pub face_capacity : t.edge_sharpness.limit ≤ vec_capacity t.edge_faces
+  pub mark_capacity : t.vertex_faces.list_limit ≤ vec_capacity t.complete

@@ -5,7 +5,7 @@ ghost use Rattle.level_topology.specs.Child.{FromVertex, FromFace, FromEdge, IsC
 ghost use Rattle.level_topology.specs.ChildTables.{origin_of, place_of};
 
 use crate::child_origin::{FacePlace, Origin};
-use crate::child_tables::{ChildTables, origin_from, tables_of, told};
+use crate::child_tables::{ChildTables, origin_from, present_place, tables_of};
 use crate::level::Level;
 use ratio128::Memory;
 use std::alloc::Global;
@@ -77,7 +77,7 @@ impl Child {
         requires { v < self.now.parent_points }
         ensures { result ≡ point_from self.now (FromVertex v) }
     {
-        told(self.tables.points[v as usize])
+        present_place(self.tables.points[v as usize])
     }
 
     /// The point that comes from a face of the parent, if there is one.
@@ -85,7 +85,7 @@ impl Child {
         requires { f < length self.now.parent_sizes }
         ensures { result ≡ point_from self.now (FromFace f) }
     {
-        told(self.tables.points[self.tables.vertices as usize + f as usize])
+        present_place(self.tables.points[self.tables.vertices as usize + f as usize])
     }
 
     /// The point that comes from an edge of the parent, if there is one.
@@ -94,7 +94,7 @@ impl Child {
         ensures { result ≡ point_from self.now (FromEdge e) }
     {
         let first = self.tables.vertices as usize + self.tables.faces as usize;
-        told(self.tables.points[first + e as usize])
+        present_place(self.tables.points[first + e as usize])
     }
 
     /// The face that comes from a corner of a face of the parent, if there is one. `corner` is the place of the corner in the face.
@@ -103,7 +103,7 @@ impl Child {
         ensures { result ≡ face_from self.now (f, corner) }
     {
         let first = self.tables.starts[f as usize] as usize;
-        told(self.tables.child_faces[first + corner as usize])
+        present_place(self.tables.child_faces[first + corner as usize])
     }
 
     /// The part of the parent that a point comes from.

@@ -12,7 +12,7 @@ ghost use Rattle.std.specs.Prelude.{◌≡◌, ◌≢◌, ℕ, ◌+◌, ◌-◌,
 ghost use Rattle.std.specs.List.{All, AllPairs};
 ghost use Rattle.level_topology.specs.Packed.{Ascend, gaps};
 ghost use Rattle.level_topology.specs.Child.{IsChild, IsOriginWithin, child_of};
-ghost use Rattle.level_topology.specs.ChildTables.{origin_of, place_of, point_number, numbered_origin, corner_number, told_place, IsInverse, AreNumbered, child_in, AreOfChild};
+ghost use Rattle.level_topology.specs.ChildTables.{origin_of, place_of, point_number, numbered_origin, corner_number, present_place, IsInverse, AreNumbered, child_in, AreOfChild};
 
 use crate::child_origin::{FacePlace, Origin};
 use crate::level::Level;
@@ -33,8 +33,8 @@ pub(crate) struct ChildTables {
 }
 
 // The place in a table, or `None` for the mark of a missing one.
-pub(crate) fn told(place: u32) -> Option<u32>
-    ensures { result ≡ told_place place }
+pub(crate) fn present_place(place: u32) -> Option<u32>
+    ensures { result ≡ present_place place }
 {
     if place == NOWHERE { None } else { Some(place) }
 }

@@ -36,7 +36,7 @@ pub fn edges_stand_at_their_ends()
 /// Each edge has its own number, in either direction.
 pub fn edges_have_their_numbers()
     ensures own { (polygons : List Polygon) (e : ℕ) → e < length (edges_of polygons) → edge_number polygons (edge_at polygons e) ≡ e }
-    ensures either_way { (polygons : List Polygon) (e : ℕ) (pair : ℕ × ℕ) → e < length (edges_of polygons)
+    ensures either_direction { (polygons : List Polygon) (e : ℕ) (pair : ℕ × ℕ) → e < length (edges_of polygons)
         → IsTrue (same_edge pair (edge_at polygons e)) → edge_number polygons pair ≡ e }
 {}
 

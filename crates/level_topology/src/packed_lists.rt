@@ -9,7 +9,7 @@ use ratio128::Memory;
 use std::alloc::Global;
 use std::marker::Model;
 
-/// Lists of numbers, each beside a list of equal length. Only `with_room` and `make_room` take memory.
+/// Lists of numbers, each beside a list of equal length. Only `with_limits` and `make_room` take memory.
 #[derive(Drop)]
 pub struct PackedLists<T: Copy> {
     starts: Vec<u32>,
@@ -73,7 +73,7 @@ fn append<T: Copy>(
 
 impl<T: Copy> PackedLists<T> {
     /// Returns no lists, with room for `lists` lists and `items` items in all. `Memory`: memory ran out.
-    pub fn with_room(alloc: Global, lists: u32, items: u32) -> Result<PackedLists<T>, Memory>
+    pub fn with_limits(alloc: Global, lists: u32, items: u32) -> Result<PackedLists<T>, Memory>
         ensures { IfOk result (λ p. p ≡ record { lists = []; beside = []; list_limit = lists; item_limit = items }) }
     {
         let mut starts = Vec::with_capacity(alloc, lists as usize + 1)?;

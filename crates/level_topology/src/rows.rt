@@ -24,13 +24,13 @@ pub struct LevelRows {
 
 impl Model for LevelRows {
     ghost use Rattle.level_topology.specs.Rows.{Rows};
-    ghost use Rattle.level_topology.specs.View.{rows_of, HaveRoom};
+    ghost use Rattle.level_topology.specs.View.{rows_of, AreParallelTables};
 
     ghost Value = { Rows };
 
     ghost view = { λ l. rows_of l.tables };
 
-    ghost invariant = { λ l. HaveRoom l.tables };
+    ghost invariant = { λ l. AreParallelTables l.tables };
 }
 
 impl LevelRows {
@@ -60,8 +60,8 @@ impl LevelRows {
         let (vertex_sharpness, complete) = mark_tables(alloc, points)?;
         let (edge_vertices, edge_faces, edge_sharpness) = edge_tables(alloc, edges)?;
         let (faces, holes) = face_tables(alloc, faces, corners)?;
-        let vertex_faces = PackedLists::with_room(alloc, points, face_places)?;
-        let vertex_edges = PackedLists::with_room(alloc, points, edge_places)?;
+        let vertex_faces = PackedLists::with_limits(alloc, points, face_places)?;
+        let vertex_edges = PackedLists::with_limits(alloc, points, edge_places)?;
         Ok(LevelRows {
             tables: LevelTables {
                 faces,

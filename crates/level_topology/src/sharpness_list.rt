@@ -54,7 +54,7 @@ fn code_of(values: &mut Vec<Sharpness>, s: Sharpness) -> u32
 
 impl SharpnessList {
     // An empty list with room for `limit` items.
-    pub(crate) fn with_room(alloc: Global, limit: u32) -> Result<SharpnessList, Memory>
+    pub(crate) fn with_limit(alloc: Global, limit: u32) -> Result<SharpnessList, Memory>
         ensures { IfOk result (λ s. s ≡ record { sharpness = []; limit = limit }) }
     {
         let mut values = Vec::with_capacity(alloc, limit as usize + 1)?;
@@ -104,7 +104,7 @@ impl SharpnessList {
         requires { length values.now < 2 ^ 32 }
         ensures { IfOk result (λ s. s ≡ kept (map sharpness_of values.now) (length values.now)) }
     {
-        let mut sharps = SharpnessList::with_room(alloc, values.len() as u32)?;
+        let mut sharps = SharpnessList::with_limit(alloc, values.len() as u32)?;
         for i in 0..values.len() {
             sharps.push(values[i]);
         }

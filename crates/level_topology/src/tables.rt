@@ -55,7 +55,7 @@ pub(crate) fn face_tables(
     ensures room { IfOk result (λ made. faces ≤ vec_capacity made.1) }
 {
     let holes = Vec::with_capacity(alloc, faces as usize)?;
-    Ok((PackedLists::with_room(alloc, faces, corners)?, holes))
+    Ok((PackedLists::with_limits(alloc, faces, corners)?, holes))
 }
 
 // Room for the ends, the faces and the sharpness of edges.
@@ -66,12 +66,12 @@ pub(crate) fn edge_tables(
     ensures ends { IfOk result (λ made. made.0.items ≡ []) }
     ensures faces { IfOk result (λ made. made.1.items ≡ []) }
     ensures sharpness { IfOk result (λ made. made.2 ≡ kept [] edges) }
-    ensures end_room { IfOk result (λ made. edges ≤ vec_capacity made.0) }
-    ensures face_room { IfOk result (λ made. edges ≤ vec_capacity made.1) }
+    ensures end_capacity { IfOk result (λ made. edges ≤ vec_capacity made.0) }
+    ensures face_capacity { IfOk result (λ made. edges ≤ vec_capacity made.1) }
 {
     let ends = Vec::with_capacity(alloc, edges as usize)?;
     let faces = Vec::with_capacity(alloc, edges as usize)?;
-    Ok((ends, faces, SharpnessList::with_room(alloc, edges)?))
+    Ok((ends, faces, SharpnessList::with_limit(alloc, edges)?))
 }
 
 // Room for the sharpness and the marks of points.
@@ -81,5 +81,5 @@ pub(crate) fn mark_tables(alloc: Global, points: u32) -> Result<(SharpnessList, 
     ensures room { IfOk result (λ made. points ≤ vec_capacity made.1) }
 {
     let complete = Vec::with_capacity(alloc, points as usize)?;
-    Ok((SharpnessList::with_room(alloc, points)?, complete))
+    Ok((SharpnessList::with_limit(alloc, points)?, complete))
 }

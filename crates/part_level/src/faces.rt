@@ -82,7 +82,7 @@ pub(crate) fn faces_of<P: ChildPoints, L: Ledger>(
     ensures later { steps.old ≤ steps.new }
 {
     let count = shape.places.len() as u32;
-    let mut faces = PackedLists::with_room(alloc, count, 4 * count)?;
+    let mut faces = PackedLists::with_limits(alloc, count, 4 * count)?;
     put_faces(shape, edges, &mut faces, steps);
     Ok(faces)
 }

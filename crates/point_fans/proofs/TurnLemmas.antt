@@ -14,7 +14,7 @@ use Rattle.mesh_laws.proofs.WalkLemmas.{one_fan-from_test}
 use Rattle.level_topology.proofs.LawLemmas.{edges-at}
 use Rattle.level_topology.specs.Topology.{corner_of, end_of, edge_after, edge_before, edge_numbers_at}
 use Rattle.level_topology.specs.PointRows.{IsFanFrom, IsTurned, IsRow, last_face}
-use Rattle.level_topology.proofs.FanWalkLemmas.{fan-from-alone, fan-from-any, fan-permutation, closes-last, from-corner}
+use Rattle.level_topology.proofs.FanWalkLemmas.{fan-from-first, fan-from-any, fan-permutation, closes-last, from-corner}
 use Rattle.level_topology.proofs.TurnLemmas.{turned-edges}
 
 -- functions that agree on a list
@@ -49,15 +49,15 @@ module _ (polygons : List Polygon) (simple : list_all is_simple polygons ≡ tru
   -- from the first face the walk meets all
   pub turned : (start : ℕ) (is_path : Bool) → has_one_fan polygons v ≡ true → has_corner v (polygon_at polygons start) ≡ true → (is_path ≡ true → (g : ℕ) → IsSuccessor polygons v g start → ⊥) → (is_path ≡ false → (f : ℕ) → is_among (faces_of_point polygons v) f ≡ true → (g : ℕ) × IsSuccessor polygons v g f) → (fan : List ℕ) × (length fan ≡ length (faces_of_point polygons v)) × IsFanFrom polygons v start fan × IsTurned polygons v is_path fan
   turned start true one has alone led =
-      let found = fan-from-alone polygons simple distinct v start (one_fan-from_test polygons v one) has (alone refl) in
-      (found.0, length_permutation _ _ (fan-permutation polygons simple distinct v start found.0 found.1), found.1, record { start = start; is = found.1; alone = alone; led = λ no. absurd (cc) })
+      let found = fan-from-first polygons simple distinct v start (one_fan-from_test polygons v one) has (alone refl) in
+      (found.0, length_permutation _ _ (fan-permutation polygons simple distinct v start found.0 found.1), found.1, record { start = start; is = found.1; no_predecessor = alone; led = λ no. absurd (cc) })
   turned start false one has alone led =
       let found = fan-from-any polygons simple distinct v start (one_fan-from_test polygons v one) has (λ f at. led refl f (faces-among polygons v f ∙ at)) in
       let first = led refl start (faces-among polygons v start ∙ has) in
       let leads : IsSuccessor polygons v first.0 (get_or found.0 0 0) = subst (λ (k : ℕ). IsSuccessor polygons v first.0 k) (sym found.1.first) first.1 in
       let there : is_among found.0 first.0 ≡ true = found.1.all first.0 ∙ (from-corner polygons simple distinct v first.0 start first.1).0 in
       let last = closes-last polygons simple distinct v found.0 first.0 found.1.path found.1.once there leads in
-      (found.0, length_permutation _ _ (fan-permutation polygons simple distinct v start found.0 found.1), found.1, record { start = start; is = found.1; alone = λ no. absurd (cc); led = λ yes. subst (λ (k : ℕ). IsSuccessor polygons v k start) last first.1 })
+      (found.0, length_permutation _ _ (fan-permutation polygons simple distinct v start found.0 found.1), found.1, record { start = start; is = found.1; no_predecessor = λ no. absurd (cc); led = λ yes. subst (λ (k : ℕ). IsSuccessor polygons v k start) last first.1 })
 
   -- the lists in fan order
   pub turned-row : (is_path : Bool) (fan at edges ends corners : List ℕ) → IsTurned polygons v is_path fan → ((f : ℕ) → has_corner v (polygon_at polygons f) ≡ true → get_or corners f 0 ≡ corner_of polygons v f) → at ≡ map (λ f. get_or corners f 0) fan → edges ≡ map (edge_before polygons v) fan ++ (if is_path then edge_after polygons v (last_face fan) ∷ [] else []) → ends ≡ map (end_of polygons v) edges → IsRow polygons v true fan at edges ends

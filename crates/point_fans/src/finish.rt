@@ -156,8 +156,8 @@ impl NumberedFaces {
         ensures { IfOk result (λ r. AreListed self.now r.0 r.1) }
     {
         let points = self.parts.complete.len() as u32;
-        let faces = PackedLists::with_room(self.alloc, points, self.parts.faces.total() as u32)?;
-        let edges = PackedLists::with_room(
+        let faces = PackedLists::with_limits(self.alloc, points, self.parts.faces.total() as u32)?;
+        let edges = PackedLists::with_limits(
             self.alloc,
             points,
             2 * self.parts.edge_ends.len() as u32,

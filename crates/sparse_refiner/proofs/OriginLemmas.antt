@@ -12,7 +12,7 @@ use Rattle.mesh_laws.proofs.SideLemmas.{distinct-places}
 use Rattle.level_topology.specs.Topology.{Topology, IsTopology}
 use Rattle.level_topology.specs.Child.{PointOrigin, FromVertex, FromFace, FromEdge, IsOriginWithin, IsPlaceWithin, IsChild, origins_along, corner_origins}
 use Rattle.level_topology.specs.ChildTables.{numbered_origin, point_number}
-use Rattle.level_topology.proofs.ChildLemmas.{origin-told}
+use Rattle.level_topology.proofs.ChildLemmas.{origin-of-number}
 use Rattle.level_topology.proofs.LawLemmas.{edge-exists}
 use Rattle.level_topology.proofs.FactLemmas.{corners-exist}
 use Rattle.child_slots.specs.Slots.{before_in, corner_at, edge_from, quad_at}
@@ -73,10 +73,10 @@ module _ (t : Topology) (is : IsTopology t) (some : List ℕ) (within : list_all
   quad-origins : (f c : ℕ) → f < faces → c < length (polygon_at polygons f) → map origin (quad_at points polygons f c) ≡ corner_origins polygons (f, c)
   quad-origins f c h k =
       let b = before_in polygons f c in
-      four (origin-told points faces edges (FromVertex (corner_at polygons f c)) (corners-exist t is f h c 0 k))
-      (origin-told points faces edges (FromEdge (edge_from polygons f c)) (edge-exists polygons f c k))
-      (origin-told points faces edges (FromFace f) h)
-      (origin-told points faces edges (FromEdge (edge_from polygons f b)) (edge-exists polygons f b (before-within polygons f c k)))
+      four (origin-of-number points faces edges (FromVertex (corner_at polygons f c)) (corners-exist t is f h c 0 k))
+      (origin-of-number points faces edges (FromEdge (edge_from polygons f c)) (edge-exists polygons f c k))
+      (origin-of-number points faces edges (FromFace f) h)
+      (origin-of-number points faces edges (FromEdge (edge_from polygons f b)) (edge-exists polygons f b (before-within polygons f c k)))
 
   -- a place of the next level is that of a corner
   pub record PlaceAt (k : ℕ) : Type 0 where

@@ -234,7 +234,7 @@ module _ (t : Topology) (is : IsTopology t) (n : Slotted) (are : AreChildEdges t
   pub face-row : (faces at edges ends : List ℕ) → faces ≡ fan → at ≡ replicate (length faces) 2 → edges ≡ map (λ i. number_at n.slots (inner_slot polygons f (turn_at size i))) (range_with_len 0 size) → ends ≡ map (end_in n.ends x) edges → IsRow quads x true faces at edges ends
   face-row faces at edges ends e a b o =
       subst (λ xs. IsRow quads x true xs at edges ends) (sym e)
-      (row-of quads (kids-simple t is) (kids-distinct t is) x false fan at edges ends (record { start = get_or fan 0 0; is = from; alone = λ no. absurd (cc); led = λ yes. led }) corners befores (o ∙ ap (λ es. map (end_in es x) edges) (ends-all t is n are)))
+      (row-of quads (kids-simple t is) (kids-distinct t is) x false fan at edges ends (record { start = get_or fan 0 0; is = from; no_predecessor = λ no. absurd (cc); led = λ yes. led }) corners befores (o ∙ ap (λ es. map (end_in es x) edges) (ends-all t is n are)))
     where
       corners : at ≡ map (corner_of quads x) fan
       corners = a ∙ ap (λ xs. replicate (length xs) 2) e ∙ sym (map-all (corner_of quads x) fan 2 (λ k h.

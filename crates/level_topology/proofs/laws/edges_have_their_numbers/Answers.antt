@@ -4,5 +4,5 @@ use Rattle.level_topology.proofs.laws.edges_have_their_numbers.Goals as goal
 pub returns-clause-own : goal.returns-clause-own
 returns-clause-own c = own-number
 
-pub returns-clause-either_way : goal.returns-clause-either_way
-returns-clause-either_way c = either-number
+pub returns-clause-either_direction : goal.returns-clause-either_direction
+returns-clause-either_direction c = either-number

@@ -2,7 +2,7 @@ use Rattle.std.proofs.Common.{rules, ◌≡◌, ◌+◌, ◌<◌, ap, length, ve
 use Rattle.std.proofs.lemmas.List.{get_or_read}
 use Rattle.level_topology.specs.Child.{ChildTopology}
 use Rattle.level_topology.specs.Packed.{gaps}
-use Rattle.level_topology.specs.ChildTables.{told_place}
+use Rattle.level_topology.specs.ChildTables.{present_place}
 use Rattle.level_topology.proofs.ChildLemmas.{place-below}
 use Rattle.level_topology.proofs.ChildMadeLemmas.{face-found}
 use Rattle.level_topology.proofs.child.Child.child_face.Goals as goal
@@ -31,5 +31,5 @@ returns c =
     let at : c.index.result.now + c.args.corner < length t.child_faces.items = omega (arith, first, below.1) in
     let read = get_or_read t.child_faces.items (c.index.result.now + c.args.corner) c.index-2.result.now at c.index-2.ensures 0 in
     rw (← c.self.view_is)
-    (c.told.ensures ∙ ap told_place (read ∙ ap (λ n. get_or t.child_faces.items (n + c.args.corner) 0) first)
+    (c.present_place.ensures ∙ ap present_place (read ∙ ap (λ n. get_or t.child_faces.items (n + c.args.corner) 0) first)
     ∙ face-found c.self.inside.level t c.self.invariant (c.args.f, c.args.corner) within)

@@ -1,7 +1,7 @@
 use Rattle.std.proofs.Common.{◌+◌, ◌<◌, ◌-◌, ap, length, ◌∙◌, arith}
 use Rattle.std.proofs.lemmas.List.{get_or_read}
 use Rattle.level_topology.specs.Child.{FromEdge, ChildTopology}
-use Rattle.level_topology.specs.ChildTables.{told_place}
+use Rattle.level_topology.specs.ChildTables.{present_place}
 use Rattle.level_topology.proofs.ChildMadeLemmas.{point-found}
 use Rattle.level_topology.proofs.child.Child.edge_point.Goals as goal
 
@@ -10,4 +10,4 @@ returns c =
     let t = c.self.inside.tables in
     let within : c.args.e < length t.points.items - t.vertices - t.faces = omega (arith, ap (λ (x : ChildTopology). x.parent_edges) c.self.view_is, c.self.invariant.face_count) in
     let read = get_or_read t.points.items (t.vertices + t.faces + c.args.e) c.index.result.now (omega (arith, within, c.self.invariant.total)) c.index.ensures 0 in
-    rw (← c.self.view_is) (c.told.ensures ∙ ap told_place read ∙ point-found c.self.inside.level t c.self.invariant (FromEdge c.args.e) within)
+    rw (← c.self.view_is) (c.present_place.ensures ∙ ap present_place read ∙ point-found c.self.inside.level t c.self.invariant (FromEdge c.args.e) within)
