@@ -1,8 +1,8 @@
 -- The subjects of the laws of a child: a child with its parent, and the origins of its points and faces.
-use Rattle.std.specs.Prelude.{ℕ, List, length, map, get_or, Option}
+use Rattle.std.specs.Prelude.{ℕ, List, length, map, get_or, Option, Some}
 use Rattle.subdiv_model.specs.Polygons.{Polygon, polygon_at}
 use Rattle.level_topology.specs.Topology.{Topology}
-use Rattle.level_topology.specs.Child.{PointOrigin, FromVertex, ChildTopology, IsChild, corner_origins, point_from}
+use Rattle.level_topology.specs.Child.{PointOrigin, FromVertex, ChildTopology, IsChild, corner_origins, origins_along, point_from}
 
 -- A child with its parent.
 pub record ParentAndChild : Type 0 where
@@ -17,6 +17,14 @@ face_count child = length child.topology.level.polygons
 -- The corners of a face of the child.
 abbrev pub face_corners : ChildTopology → ℕ → Polygon
 face_corners child f = polygon_at child.topology.level.polygons f
+
+-- The origins of the corners of a face of the child.
+abbrev pub face_origins : ChildTopology → ℕ → List PointOrigin
+face_origins child f = origins_along child.origins (face_corners child f)
+
+-- The corners of a face of the child, each as a point that is present.
+abbrev pub present_corners : ChildTopology → ℕ → List (Option ℕ)
+present_corners child f = map (λ p. Some p) (face_corners child f)
 
 -- The origin of a point of the child.
 abbrev pub point_origin : ChildTopology → ℕ → PointOrigin

@@ -1,9 +1,9 @@
 //! Laws of a child, each for all levels and parents.
 
-ghost use Rattle.std.specs.Prelude.{◌≡◌, ℕ, ◌<◌, length, map, Some};
+ghost use Rattle.std.specs.Prelude.{◌≡◌, ℕ, ◌<◌, length, Some};
 ghost use Rattle.level_topology.specs.Topology.{IsTopology};
-ghost use Rattle.level_topology.specs.Child.{PointOrigin, corner_origins, origins_along, point_from, face_from};
-ghost use Rattle.level_topology.specs.ChildLaws.{ParentAndChild, face_count, face_corners, point_origin, face_place, points_from_corner};
+ghost use Rattle.level_topology.specs.Child.{PointOrigin, corner_origins, point_from, face_from};
+ghost use Rattle.level_topology.specs.ChildLaws.{ParentAndChild, face_count, face_corners, face_origins, present_corners, point_origin, face_place, points_from_corner};
 
 /// A point's origin and the point that comes from a part of the parent are inverse to each other.
 pub fn points_have_their_origins()
@@ -25,8 +25,8 @@ pub fn faces_have_their_places()
 /// before it.
 pub fn corners_come_from_their_places()
     ensures origins { (pair : ParentAndChild) (f : ℕ) → f < face_count pair.child
-        → origins_along pair.child.origins (face_corners pair.child f) ≡ corner_origins pair.parent.level.polygons (face_place pair.child f) }
+        → face_origins pair.child f ≡ corner_origins pair.parent.level.polygons (face_place pair.child f) }
     ensures quad { (pair : ParentAndChild) (f : ℕ) → f < face_count pair.child → length (face_corners pair.child f) ≡ 4 }
     ensures points { (pair : ParentAndChild) (place : ℕ × ℕ) (f : ℕ) → IsTopology pair.child.topology → face_from pair.child place ≡ Some f
-        → points_from_corner pair place ≡ map (λ p. Some p) (face_corners pair.child f) }
+        → points_from_corner pair place ≡ present_corners pair.child f }
 {}
