@@ -50,7 +50,7 @@ module _ (polygons : List Polygon) (simple : list_all is_simple polygons ≡ tru
 
     only : nat_eq pair.0 pair.1 ≡ true → (g : ℕ) → is_among (faces_of_pair pair) g ≡ true → g ≡ pair.0
     only one g there =
-        let alone : is_among (pair.0 ∷ []) g ≡ true = rw one at there in
+        let among_one : is_among (pair.0 ∷ []) g ≡ true = rw one at there in
         eqb-true _ _ (grind (arith, nat_tests))
 
     -- an edge of one face has no other

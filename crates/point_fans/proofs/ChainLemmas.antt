@@ -243,22 +243,22 @@ pub places-none : ArePlaces [] [] [] []
 places-none = record { items_are = refl; owner_count = refl; within_count = refl; owners_are = λ v. refl; within_are = λ v. refl }
 
 -- room for one list more
-pub places-room : (lists : List Polygon) (items owners within list : List ℕ) (i : ℕ) → i < length lists → list ≡ get_or lists i [] → ArePlaces (take i lists) items owners within → length items + length list ≤ sum_by length lists
-places-room lists items owners within list i inside e is =
+pub places-fit : (lists : List Polygon) (items owners within list : List ℕ) (i : ℕ) → i < length lists → list ≡ get_or lists i [] → ArePlaces (take i lists) items owners within → length items + length list ≤ sum_by length lists
+places-fit lists items owners within list i inside e is =
     omega (arith, ap length e, ap length is.items_are, joined-length (take i lists), sum_by_more_le length lists i [] inside)
 
 -- one list more of some
 pub places-more : (lists : List Polygon) (items owners within list items' owners' within' : List ℕ) (i : ℕ) → i < length lists → list ≡ get_or lists i [] → list_all is_distinct lists ≡ true → ArePlaces (take i lists) items owners within → items' ≡ items ++ list → owners' ≡ owners ++ replicate (length list) i → within' ≡ within ++ range_with_len 0 (length list) → ArePlaces (take (i + 1) lists) items' owners' within'
 places-more lists items owners within list items' owners' within' i inside e distinct is a b c =
     let own : length (take i lists) ≡ i = length-take-le i lists (omega (arith, inside)) in
-    let alone : is_distinct list ≡ true = ap is_distinct e ∙ all-at is_distinct lists i [] inside distinct in
+    let each_once : is_distinct list ≡ true = ap is_distinct e ∙ all-at is_distinct lists i [] inside distinct in
     let next : take i lists ++ list ∷ [] ≡ take (i + 1) lists = ap (λ l. take i lists ++ l ∷ []) e ∙ sym (take_more lists i [] inside) in
     let o : owners ++ replicate (length list) (length (take i lists)) ≡ owners' = ap (λ k. owners ++ replicate (length list) k) own ∙ sym b in
     subst (λ ls. ArePlaces ls items' owners' within') next
     (subst (λ xs. ArePlaces (take i lists ++ list ∷ []) xs owners' within') (sym a)
     (subst (λ xs. ArePlaces (take i lists ++ list ∷ []) (items ++ list) xs within') o
     (subst (λ xs. ArePlaces (take i lists ++ list ∷ []) (items ++ list) (owners ++ replicate (length list) (length (take i lists))) xs) (sym c)
-    (places-list (take i lists) list items owners within alone is))))
+    (places-list (take i lists) list items owners within each_once is))))
 
 pub places-all : (lists : List Polygon) (items owners within : List ℕ) (i : ℕ) → length lists ≤ i → ArePlaces (take i lists) items owners within → ArePlaces lists items owners within
 places-all lists items owners within i past is = subst (λ ls. ArePlaces ls items owners within) (take_all i lists past) is
@@ -276,11 +276,11 @@ pairs-distinct (s ∷ ends) h =
     let behind = pairs-distinct ends parts.1 in
     grind (arith, nat_tests)
 
-pub pair-room : (ends : List (ℕ × ℕ)) (items owners within : List ℕ) (i : ℕ) → i < length ends → ArePlaces (map pair_list (take i ends)) items owners within → length items + 2 ≤ 2 * length ends
-pair-room ends items owners within i inside is =
+pub pair-fits : (ends : List (ℕ × ℕ)) (items owners within : List ℕ) (i : ℕ) → i < length ends → ArePlaces (map pair_list (take i ends)) items owners within → length items + 2 ≤ 2 * length ends
+pair-fits ends items owners within i inside is =
     let inside' : i < length (map pair_list ends) = omega (arith, inside, length-map ends pair_list) in
-    let room = places-room (map pair_list ends) items owners within (pair_list (get_or ends i (0, 0))) i inside' (sym (get_or-map pair_list ends i (0, 0) [] inside)) (subst (λ ls. ArePlaces ls items owners within) (pairs-as-lists ends i) is) in
-    omega (arith, room, pairs-total ends)
+    let fit = places-fit (map pair_list ends) items owners within (pair_list (get_or ends i (0, 0))) i inside' (sym (get_or-map pair_list ends i (0, 0) [] inside)) (subst (λ ls. ArePlaces ls items owners within) (pairs-as-lists ends i) is) in
+    omega (arith, fit, pairs-total ends)
 
 pub pair-more : (ends : List (ℕ × ℕ)) (items owners within items' owners' within' : List ℕ) (i : ℕ) → i < length ends → list_all (λ s. not (nat_eq s.0 s.1)) ends ≡ true → ArePlaces (map pair_list (take i ends)) items owners within → items' ≡ items ++ pair_list (get_or ends i (0, 0)) → owners' ≡ owners ++ replicate 2 i → within' ≡ within ++ range_with_len 0 2 → ArePlaces (map pair_list (take (i + 1) ends)) items' owners' within'
 pair-more ends items owners within items' owners' within' i inside distinct is a b c =

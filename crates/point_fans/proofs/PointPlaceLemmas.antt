@@ -57,8 +57,8 @@ pub ends-few : (ends : List (ℕ × ℕ)) (items : List ℕ) → items ≡ joine
 ends-few ends items is = ap length is ∙ joined-length (map pair_list ends) ∙ pairs-total ends
 
 -- the lists at a point take the room of its places
-pub push-room : (lists : List Polygon) (items owners within : List ℕ) (v sum : ℕ) (row : List ℕ) → ArePlaces lists items owners within → sum ≡ count_by (λ x. nat_lt x v) items → IsPermutation (lists_with lists v) row → (sum + length row ≡ count_by (λ x. nat_lt x (v + 1)) items) × (sum + length row ≤ sum_by length lists)
-push-room lists items owners within v sum row is e moved =
+pub push-fits : (lists : List Polygon) (items owners within : List ℕ) (v sum : ℕ) (row : List ℕ) → ArePlaces lists items owners within → sum ≡ count_by (λ x. nat_lt x v) items → IsPermutation (lists_with lists v) row → (sum + length row ≡ count_by (λ x. nat_lt x (v + 1)) items) × (sum + length row ≤ sum_by length lists)
+push-fits lists items owners within v sum row is e moved =
     let own : length row ≡ count_by (nat_eq v) items = length_permutation _ _ moved ∙ ap length (sym (is.owners_are v)) ∙ length-map (places (nat_eq v) items) (λ p. get_or owners p 0) ∙ places-from-length (nat_eq v) 0 items in
     let total : length items ≡ sum_by length lists = ap length is.items_are ∙ joined-length lists in
     (omega (arith, own, e, below-more items v), omega (arith, own, e, below-more items v, total, count-le (λ x. nat_lt x (v + 1)) items))

@@ -48,10 +48,10 @@ module _ (polygons : List Polygon) (simple : list_all is_simple polygons ≡ tru
 
   -- from the first face the walk meets all
   pub turned : (start : ℕ) (is_path : Bool) → has_one_fan polygons v ≡ true → has_corner v (polygon_at polygons start) ≡ true → (is_path ≡ true → (g : ℕ) → IsSuccessor polygons v g start → ⊥) → (is_path ≡ false → (f : ℕ) → is_among (faces_of_point polygons v) f ≡ true → (g : ℕ) × IsSuccessor polygons v g f) → (fan : List ℕ) × (length fan ≡ length (faces_of_point polygons v)) × IsFanFrom polygons v start fan × IsTurned polygons v is_path fan
-  turned start true one has alone led =
-      let found = fan-from-first polygons simple distinct v start (one_fan-from_test polygons v one) has (alone refl) in
-      (found.0, length_permutation _ _ (fan-permutation polygons simple distinct v start found.0 found.1), found.1, record { start = start; is = found.1; no_predecessor = alone; led = λ no. absurd (cc) })
-  turned start false one has alone led =
+  turned start true one has none_before led =
+      let found = fan-from-first polygons simple distinct v start (one_fan-from_test polygons v one) has (none_before refl) in
+      (found.0, length_permutation _ _ (fan-permutation polygons simple distinct v start found.0 found.1), found.1, record { start = start; is = found.1; no_predecessor = none_before; led = λ no. absurd (cc) })
+  turned start false one has none_before led =
       let found = fan-from-any polygons simple distinct v start (one_fan-from_test polygons v one) has (λ f at. led refl f (faces-among polygons v f ∙ at)) in
       let first = led refl start (faces-among polygons v start ∙ has) in
       let leads : IsSuccessor polygons v first.0 (get_or found.0 0 0) = subst (λ (k : ℕ). IsSuccessor polygons v first.0 k) (sym found.1.first) first.1 in

@@ -136,7 +136,7 @@ impl NumberedFaces {
         requires there { All (λ f. has_corner v (polygon_at self.now.level.polygons f) ≡ true) faces.now }
         requires corners { at.now ≡ map (corner_of self.now.level.polygons v) faces.now }
         ensures there { has_corner v (polygon_at self.now.level.polygons result.0) ≡ true }
-        ensures alone { result.1 ≡ true → (g : ℕ) → IsSuccessor self.now.level.polygons v g result.0 → ⊥ }
+        ensures no_predecessor { result.1 ≡ true → (g : ℕ) → IsSuccessor self.now.level.polygons v g result.0 → ⊥ }
         ensures led { result.1 ≡ false → (f : ℕ) → is_among faces.now f ≡ true → (g : ℕ) × IsSuccessor self.now.level.polygons v g f }
     {
         for i in 0..faces.len() {

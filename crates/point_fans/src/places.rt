@@ -29,14 +29,14 @@ pub(crate) struct Chains {
 }
 
 impl Places {
-    // Room for `items` items.
-    pub(crate) fn with_room(alloc: Global, items: usize) -> Result<Places, Memory>
+    // An empty list with capacity for `items` items.
+    pub(crate) fn with_capacity(alloc: Global, items: usize) -> Result<Places, Memory>
         ensures empty { IfOk result (λ p. p.items.items ≡ []) }
         ensures no_owners { IfOk result (λ p. p.owners.items ≡ []) }
         ensures no_places { IfOk result (λ p. p.within.items ≡ []) }
-        ensures item_room { IfOk result (λ p. items ≤ vec_capacity p.items) }
-        ensures owner_room { IfOk result (λ p. items ≤ vec_capacity p.owners) }
-        ensures place_room { IfOk result (λ p. items ≤ vec_capacity p.within) }
+        ensures items_fit { IfOk result (λ p. items ≤ vec_capacity p.items) }
+        ensures owners_fit { IfOk result (λ p. items ≤ vec_capacity p.owners) }
+        ensures places_fit { IfOk result (λ p. items ≤ vec_capacity p.within) }
     {
         Ok(Places {
             items: Vec::with_capacity(alloc, items)?,
@@ -48,9 +48,9 @@ impl Places {
     // Adds the items of the next list.
     pub(crate) fn add(&mut self, owner: u32, list: &[u32])
         requires size { length list.now ≤ 2 ^ 16 }
-        requires item_room { vec_len self.old.items + length list.now ≤ vec_capacity self.old.items }
-        requires owner_room { vec_len self.old.owners + length list.now ≤ vec_capacity self.old.owners }
-        requires place_room { vec_len self.old.within + length list.now ≤ vec_capacity self.old.within }
+        requires items_fit { vec_len self.old.items + length list.now ≤ vec_capacity self.old.items }
+        requires owners_fit { vec_len self.old.owners + length list.now ≤ vec_capacity self.old.owners }
+        requires places_fit { vec_len self.old.within + length list.now ≤ vec_capacity self.old.within }
         ensures items { self.new.items.items ≡ self.old.items.items ++ list.now }
         ensures owners { self.new.owners.items ≡ self.old.owners.items ++ replicate (length list.now) owner }
         ensures within { self.new.within.items ≡ self.old.within.items ++ range_with_len 0 (length list.now) }

@@ -19,7 +19,7 @@ pub(crate) fn places_of(alloc: Global, lists: &PackedLists<u32>) -> Result<Place
     requires short { sum_by length lists.now.lists < 2 ^ 32 }
     ensures { IfOk result (λ p. ArePlaces lists.now.lists p.items.items p.owners.items p.within.items) }
 {
-    let mut places = Places::with_room(alloc, lists.total())?;
+    let mut places = Places::with_capacity(alloc, lists.total())?;
     for i in 0..lists.len() {
         places.add(i as u32, lists.list(i));
     }
@@ -32,7 +32,7 @@ pub(crate) fn places_of_ends(alloc: Global, ends: &[(u32, u32)]) -> Result<Place
     requires few { length ends.now < 2 ^ 31 }
     ensures { IfOk result (λ p. ArePlaces (map pair_list ends.now) p.items.items p.owners.items p.within.items) }
 {
-    let mut places = Places::with_room(alloc, 2 * ends.len())?;
+    let mut places = Places::with_capacity(alloc, 2 * ends.len())?;
     for e in 0..ends.len() {
         places.add(e as u32, &[ends[e].0, ends[e].1]);
     }

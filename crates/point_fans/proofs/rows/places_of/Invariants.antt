@@ -8,7 +8,7 @@ use Rattle.point_fans.proofs.rows.places_of.Given as goal
 abbrev pub invariant-loop-i : goal.invariant-loop-i
 invariant-loop-i l = record {
   placed : ArePlaces (take l.i l.lists.lists) l.places.items.items l.places.owners.items l.places.within.items;
-  item_room : sum_by length l.lists.lists ≤ vec_capacity l.places.items;
-  owner_room : sum_by length l.lists.lists ≤ vec_capacity l.places.owners;
-  place_room : sum_by length l.lists.lists ≤ vec_capacity l.places.within;
+  items_fit : sum_by length l.lists.lists ≤ vec_capacity l.places.items;
+  owners_fit : sum_by length l.lists.lists ≤ vec_capacity l.places.owners;
+  places_fit : sum_by length l.lists.lists ≤ vec_capacity l.places.within;
 }

@@ -8,7 +8,7 @@ use Rattle.point_fans.proofs.rows.places_of_ends.Given as goal
 abbrev pub invariant-loop-e : goal.invariant-loop-e
 invariant-loop-e l = record {
   placed : ArePlaces (map pair_list (take l.e l.ends)) l.places.items.items l.places.owners.items l.places.within.items;
-  item_room : 2 * length l.ends ≤ vec_capacity l.places.items;
-  owner_room : 2 * length l.ends ≤ vec_capacity l.places.owners;
-  place_room : 2 * length l.ends ≤ vec_capacity l.places.within;
+  items_fit : 2 * length l.ends ≤ vec_capacity l.places.items;
+  owners_fit : 2 * length l.ends ≤ vec_capacity l.places.owners;
+  places_fit : 2 * length l.ends ≤ vec_capacity l.places.within;
 }

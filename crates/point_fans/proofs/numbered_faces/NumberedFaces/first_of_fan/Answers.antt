@@ -8,8 +8,8 @@ use Rattle.std.proofs.lemmas.Bool.{or_cases, eqb-true}
 use Rattle.subdiv_model.specs.Manifold.{IsSuccessor}
 use Rattle.point_fans.proofs.numbered_faces.NumberedFaces.first_of_fan.Goals as goal
 
-pub returns-then-is_none-clause-alone : goal.returns-then-is_none-clause-alone
-returns-then-is_none-clause-alone c = λ alone. none-of _ c.face_before.result c.if-is_none.ensures c.face_before.ensures
+pub returns-then-is_none-clause-no_predecessor : goal.returns-then-is_none-clause-no_predecessor
+returns-then-is_none-clause-no_predecessor c = λ none. none-of _ c.face_before.result c.if-is_none.ensures c.face_before.ensures
 
 pub face_before-requires-clause-there : goal.face_before-requires-clause-there
 face_before-requires-clause-there c = c.requires.there c.loop-i.i 0 c.loop-i-test.true

@@ -33,7 +33,7 @@ returns-clause-turned c =
     let polygons = c.args.self.now.level.polygons in
     let led : c.first_of_fan-first.result.1 ≡ false → (f : ℕ) → is_among (faces_of_point polygons c.args.v) f ≡ true → (g : ℕ) × IsSuccessor polygons c.args.v g f =
     λ no f there. c.first_of_fan-first.ensures.led no f (ap (λ xs. is_among xs f) (c.deref-3.ensures.value ∙ c.requires.listed) ∙ there) in
-    let found = turned polygons c.facts.ensures.simple c.facts.ensures.sides_once c.args.v c.first_of_fan-first.result.0 c.first_of_fan-first.result.1 c.requires.fan c.first_of_fan-first.ensures.there c.first_of_fan-first.ensures.alone led in
+    let found = turned polygons c.facts.ensures.simple c.facts.ensures.sides_once c.args.v c.first_of_fan-first.result.0 c.first_of_fan-first.result.1 c.requires.fan c.first_of_fan-first.ensures.there c.first_of_fan-first.ensures.no_predecessor led in
     let n : c.len.result ≡ length c.args.listed.now.faces.items = search rules in
     let walked = c.in_ok-walk.ensures found.0 found.2 (found.1 ∙ ap length (sym c.requires.listed) ∙ sym n) in
     subst (λ xs. IsTurned polygons c.args.v c.first_of_fan-first.result.1 xs) (sym walked) found.3

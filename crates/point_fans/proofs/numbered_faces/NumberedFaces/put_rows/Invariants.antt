@@ -12,7 +12,7 @@ invariant-loop-v l = record {
   edge_sum : sum_by length l.edges.lists ≡ count_by (λ x. nat_lt x l.v) l.places.edges.places.items.items;
   size : length l.turning.corners.items ≡ length l.self.level.polygons;
   face_limit : l.faces.list_limit ≡ l.points;
-  face_room : l.faces.item_limit ≡ sum_by length l.self.level.polygons;
+  face_items : l.faces.item_limit ≡ sum_by length l.self.level.polygons;
   edge_limit : l.edges.list_limit ≡ l.points;
-  edge_room : l.edges.item_limit ≡ 2 * length (edges_of l.self.level.polygons);
+  edge_items : l.edges.item_limit ≡ 2 * length (edges_of l.self.level.polygons);
 }
