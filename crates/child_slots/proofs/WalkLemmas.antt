@@ -23,13 +23,13 @@ use Rattle.level_topology.proofs.NumberingLemmas.{numbering-sides, numbering-fac
 use Rattle.child_slots.proofs.PartLemmas.{edge-renumbered, quads-count, quads-simple, fresh-side, first-distinct}
 
 -- where equal slots mean equal sides, a slot is in the list exactly where its side is, and at the same place
-pub told-alike : (a : ℕ) (s : ℕ × ℕ) (slots : List ℕ) (ends : List (ℕ × ℕ)) → length slots ≡ length ends → ((e : ℕ) → e < length ends → nat_eq a (get_or slots e 0) ≡ same_edge s (get_or ends e (0, 0))) → (is_among slots a ≡ list_any (same_edge s) ends) × (number_at slots a ≡ number_in ends s)
-told-alike a s [] [] long tells = (refl, refl)
-told-alike a s [] (t ∷ ends) long tells = absurd (omega (arith, long))
-told-alike a s (b ∷ slots) [] long tells = absurd (omega (arith, long))
-told-alike a s (b ∷ slots) (t ∷ ends) long tells =
+pub slot-and-side-alike : (a : ℕ) (s : ℕ × ℕ) (slots : List ℕ) (ends : List (ℕ × ℕ)) → length slots ≡ length ends → ((e : ℕ) → e < length ends → nat_eq a (get_or slots e 0) ≡ same_edge s (get_or ends e (0, 0))) → (is_among slots a ≡ list_any (same_edge s) ends) × (number_at slots a ≡ number_in ends s)
+slot-and-side-alike a s [] [] long tells = (refl, refl)
+slot-and-side-alike a s [] (t ∷ ends) long tells = absurd (omega (arith, long))
+slot-and-side-alike a s (b ∷ slots) [] long tells = absurd (omega (arith, long))
+slot-and-side-alike a s (b ∷ slots) (t ∷ ends) long tells =
     let first : nat_eq a b ≡ same_edge s t = tells 0 (omega arith) in
-    let rest = told-alike a s slots ends (omega (arith, long)) (λ e h. tells (suc e) (omega (arith, h))) in
+    let rest = slot-and-side-alike a s slots ends (omega (arith, long)) (λ e h. tells (suc e) (omega (arith, h))) in
     (rw (first, rest.0) refl, rw (first, rest.1) refl)
 
 -- a slot and a side that are found alike give the same edges
@@ -56,7 +56,7 @@ module _ (points : ℕ) (polygons : List Polygon) (over : is_over points polygon
     pub count_is : n.count ≡ slot_count polygons
 
   pub slot-known : (n : Slotted) (a : ℕ) (s : ℕ × ℕ) → HasSlots n → IsPartSlot points polygons p a s → (is_among n.slots a ≡ list_any (same_edge s) n.ends) × (number_at n.slots a ≡ number_in n.ends s)
-  slot-known n a s has slot = told-alike a s n.slots n.ends has.listed (λ e h. part-slots-tell a (get_or n.slots e 0) s (get_or n.ends e (0, 0)) slot (has.slots e h))
+  slot-known n a s has slot = slot-and-side-alike a s n.slots n.ends has.listed (λ e h. part-slots-tell a (get_or n.slots e 0) s (get_or n.ends e (0, 0)) slot (has.slots e h))
 
   -- with one side more, each edge still has its slot
   has-more : (face : ℕ) (n : Slotted) (a : ℕ) (s : ℕ × ℕ) → HasSlots n → IsPartSlot points polygons p a s → HasSlots (with_slot face n (a, s))

@@ -5,6 +5,11 @@ use Rattle.subdiv_model.specs.Sharpness.{Sharpness, Smooth}
 use Rattle.subdiv_model.specs.Level.{Level}
 use Rattle.subdiv_model.specs.Child.{half_sharpness}
 use Rattle.subdiv_model.specs.Channel.{chaikin_overflows_at}
+use Rattle.sharpness_rules.specs.declared.child.Method.{Method}
+use Rattle.sharpness_rules.specs.declared.sharpness.Sharpness as code
+use Rattle.sharpness_rules.specs.declared.halves.Halves.{Halves}
+use Rattle.sharpness_rules.specs.View.{sharpness_of}
+use Rattle.sharpness_rules.specs.Halves.{AreHalves, halves_overflow, half_in}
 use Rattle.level_topology.specs.Topology.{Topology, edge_at}
 use Rattle.child_slots.specs.Slots.{half_slot}
 use Rattle.child_slots.specs.declared.fault.HalfFault.{HalfFault}
@@ -30,6 +35,16 @@ pub record AreHalvesPut (t : Topology) (has : ℕ → Bool) (v i : ℕ) (halves 
   pub fine : (u : ℕ) → u < v → has u ≡ true → chaikin_overflows_at t.level u ≡ false
   pub points : (u e : ℕ) → u < v → has u ≡ true → e < length (edges_of t.level.polygons) → has_end u (edge_at t.level.polygons e) ≡ true → IsHalfPut t.level halves u e
   pub places : (k : ℕ) → k < i → k < length (get_or t.edges_at v []) → IsHalfPut t.level halves v (get_or (get_or t.edges_at v []) k 0)
+
+-- at the part's points before this one all halves are written and none overflows
+abbrev pub AreHalvesBefore : Topology → (ℕ → Bool) → ℕ → List code.Sharpness → Type 0
+AreHalvesBefore t has v halves = AreHalvesPut t has v 0 (map sharpness_of halves)
+
+-- the half of a sharpness in each ring that has it and whose halves do not overflow
+abbrev pub IsHalfInRing : Halves → code.Sharpness → code.Sharpness → Type 0
+IsHalfInRing around s half =
+    (method : Method) (ring : List code.Sharpness) (at : ℕ) → AreHalves method ring around → halves_overflow method ring ≡ false → at < length ring
+    → s ≡ get_or ring at s → sharpness_of half ≡ half_in method ring s
 
 -- all halves at the points of a part are written, and none overflows
 pub record AreAllHalves (t : Topology) (has : ℕ → Bool) (halves : List Sharpness) : Type 0 where

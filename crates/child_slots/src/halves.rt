@@ -1,13 +1,9 @@
 //! The sharpness of the halves of all edges, by their slots. No half depends on the order of the edges at its point.
 
-ghost use Rattle.std.specs.Prelude.{◌≡◌, ℕ, ◌+◌, ◌*◌, ◌<◌, Bool, true, false, List, length, map, get_or, IfOk, MatchResult, OnOk};
-ghost use Rattle.subdiv_model.specs.Sharpness.{half_child};
+ghost use Rattle.std.specs.Prelude.{◌≡◌, ℕ, ◌+◌, ◌*◌, ◌<◌, Bool, true, length, map, IfOk, MatchResult, OnOk};
 ghost use Rattle.subdiv_model.specs.Edges.{edges_of};
-ghost use Rattle.sharpness_rules.specs.declared.child.Method.{Method};
-ghost use Rattle.sharpness_rules.specs.declared.sharpness.Sharpness.{Sharpness};
-ghost use Rattle.sharpness_rules.specs.View.{sharpness_of, method_of};
-ghost use Rattle.sharpness_rules.specs.Halves.{AreHalves, halves_overflow};
-ghost use Rattle.child_slots.specs.HalfTable.{AreHalvesPut, AreAllHalves, IsHalfRefusal, ring_listed};
+ghost use Rattle.sharpness_rules.specs.View.{sharpness_of};
+ghost use Rattle.child_slots.specs.HalfTable.{AreHalvesPut, AreHalvesBefore, AreAllHalves, IsHalfInRing, IsHalfRefusal, ring_listed};
 
 use crate::corners::half_slot_of;
 use crate::fault::HalfFault;
@@ -33,8 +29,7 @@ fn put_ring(level: &Level, v: u32, ring: &mut Vec<Sharpness>) -> Result<(), Memo
 
 // Returns the sharpness of the half of an edge, in a ring whose halves do not overflow.
 fn half_of(around: Halves, s: Sharpness) -> Sharpness
-    ensures { (method : Method) (ring : List Sharpness) (at : ℕ) → AreHalves method ring around → halves_overflow method ring ≡ false
-        → at < length ring → s ≡ get_or ring at s → sharpness_of result ≡ half_child (method_of method) (map sharpness_of ring) (sharpness_of s) }
+    ensures { IsHalfInRing around s result }
 {
     match around.half(s) {
         Ok(half) => half,
@@ -52,8 +47,8 @@ fn put_halves(
     requires known { v < level.now.level.point_count }
     requires size { length halves.old ≡ 2 * length (edges_of level.now.level.polygons) }
     requires ring { map sharpness_of ring.now ≡ ring_listed level.now v }
-    ensures { (has : ℕ → Bool) → has v ≡ true → AreHalvesPut level.now has v 0 (map sharpness_of halves.old)
-        → MatchResult result (λ _. AreHalvesPut level.now has (v + 1) 0 (map sharpness_of halves.new)) (IsHalfRefusal level.now has) }
+    ensures { (has : ℕ → Bool) → has v ≡ true → AreHalvesBefore level.now has v halves.old
+        → MatchResult result (λ _. AreHalvesBefore level.now has (v + 1) halves.new) (IsHalfRefusal level.now has) }
 {
     level.facts();
     let around = Halves::of(level.method(), ring);

@@ -39,12 +39,12 @@ impl SlotEdges {
     pub(crate) fn with_table(alloc: Global, count: u32) -> Result<SlotEdges, Memory>
         ensures { IfOk result (λ edges. edges ≡ no_slots count) }
     {
-        let room = count as usize;
+        let size = count as usize;
         Ok(SlotEdges {
-            table: vec![in alloc; NOWHERE; room]?,
-            slots: Vec::with_capacity(alloc, room)?,
-            ends: Vec::with_capacity(alloc, room)?,
-            faces: Vec::with_capacity(alloc, room)?,
+            table: vec![in alloc; NOWHERE; size]?,
+            slots: Vec::with_capacity(alloc, size)?,
+            ends: Vec::with_capacity(alloc, size)?,
+            faces: Vec::with_capacity(alloc, size)?,
         })
     }
 
