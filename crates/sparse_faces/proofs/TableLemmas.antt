@@ -13,25 +13,25 @@ use Rattle.sparse_faces.specs.Numbers.{numbers_of, numbers_after}
 use Rattle.sparse_faces.proofs.NumberLemmas.{points-push, numbers-push, numbers-length, numbers-once, points-once, with-known, with-new, with-length}
 
 -- a point that the table has
-module _ (met table : List ℕ) (v e : ℕ) (is : IsInverse met table) (inside : v < length table) (few : length met ≤ 2 ^ 30) (there : e ≡ get_or table v 0) where
-  pub known-number : e ≢ 2 ^ 32 - 1 → e ≡ position_or_len (nat_eq v) met
-  known-number some = entry-of met table v e is inside (omega (arith, few)) there (entry-some met table v e is inside (omega (arith, few)) there some)
+module _ (earlier table : List ℕ) (v e : ℕ) (is : IsInverse earlier table) (inside : v < length table) (few : length earlier ≤ 2 ^ 30) (there : e ≡ get_or table v 0) where
+  pub known-number : e ≢ 2 ^ 32 - 1 → e ≡ position_or_len (nat_eq v) earlier
+  known-number some = entry-of earlier table v e is inside (omega (arith, few)) there (entry-some earlier table v e is inside (omega (arith, few)) there some)
 
-  pub known-table : e ≢ 2 ^ 32 - 1 → IsInverse (with_point met v) table
+  pub known-table : e ≢ 2 ^ 32 - 1 → IsInverse (with_point earlier v) table
   known-table some =
-      let known = with-known met v (entry-some met table v e is inside (omega (arith, few)) there some) in
+      let known = with-known earlier v (entry-some earlier table v e is inside (omega (arith, few)) there some) in
       subst (λ (l : List ℕ). IsInverse l table) (sym known) is
 
   -- a point that the table does not have
-  pub new-number : e ≡ 2 ^ 32 - 1 → length met ≡ position_or_len (nat_eq v) met
-  new-number none = sym (none-number met v (entry-none met table v e is inside (omega (arith, few)) there none))
+  pub new-number : e ≡ 2 ^ 32 - 1 → length earlier ≡ position_or_len (nat_eq v) earlier
+  new-number none = sym (none-number earlier v (entry-none earlier table v e is inside (omega (arith, few)) there none))
 
-  pub new-table : (next : ℕ) → e ≡ 2 ^ 32 - 1 → next ≡ length met → IsInverse (with_point met v) (slice_set table v next)
+  pub new-table : (next : ℕ) → e ≡ 2 ^ 32 - 1 → next ≡ length earlier → IsInverse (with_point earlier v) (slice_set table v next)
   new-table next none is_next =
-      let new = entry-none met table v e is inside (omega (arith, few)) there none in
-      let made : IsInverse (met ++ v ∷ []) (slice_set table v (length met)) = inverse-more met table v is inside (none-number met v new) in
-      let one : IsInverse (met ++ v ∷ []) (slice_set table v next) = subst (λ n. IsInverse (met ++ v ∷ []) (slice_set table v n)) (sym is_next) made in
-      subst (λ (l : List ℕ). IsInverse l (slice_set table v next)) (sym (with-new met v new)) one
+      let new = entry-none earlier table v e is inside (omega (arith, few)) there none in
+      let made : IsInverse (earlier ++ v ∷ []) (slice_set table v (length earlier)) = inverse-more earlier table v is inside (none-number earlier v new) in
+      let one : IsInverse (earlier ++ v ∷ []) (slice_set table v next) = subst (λ n. IsInverse (earlier ++ v ∷ []) (slice_set table v n)) (sym is_next) made in
+      subst (λ (l : List ℕ). IsInverse l (slice_set table v next)) (sym (with-new earlier v new)) one
 
 -- a list of which the first places are written
 abbrev pub put_in : List ℕ → ℕ → List ℕ → List ℕ
@@ -73,8 +73,8 @@ module _ (old : List ℕ) (i next : ℕ) (table now : List ℕ) (are : AreNumber
   abbrev done : List ℕ
   done = numbers_after [] (take i old)
 
-  abbrev met : List ℕ
-  met = with_points [] (take i old)
+  abbrev earlier : List ℕ
+  earlier = with_points [] (take i old)
 
   done-length : i < length old → length done ≡ i
   done-length h = numbers-length [] (take i old) ∙ length-take-le i old (omega (arith, h))
@@ -89,20 +89,20 @@ module _ (old : List ℕ) (i next : ℕ) (table now : List ℕ) (are : AreNumber
       ∙ sym (length-append (take i old) (drop i old)) ∙ ap length (take-append-drop i old)
 
   -- a point more
-  pub one-numbered : (number next' : ℕ) (table' : List ℕ) → i < length old → number ≡ position_or_len (nat_eq (get_or old i 0)) met
-      → IsInverse (with_point met (get_or old i 0)) table' → next' ≡ next + from_bool (nat_eq number next)
+  pub one-numbered : (number next' : ℕ) (table' : List ℕ) → i < length old → number ≡ position_or_len (nat_eq (get_or old i 0)) earlier
+      → IsInverse (with_point earlier (get_or old i 0)) table' → next' ≡ next + from_bool (nat_eq number next)
       → AreNumbered old (i + 1) next' table' (slice_set now i number)
   one-numbered number next' table' h number_is table_is more =
       let v : ℕ = get_or old i 0 in
       let taken = take_more old i 0 h in
-      let met_more : with_points [] (take (i + 1) old) ≡ with_point met v = ap (with_points []) taken ∙ points-push [] (take i old) v in
+      let earlier_more : with_points [] (take (i + 1) old) ≡ with_point earlier v = ap (with_points []) taken ∙ points-push [] (take i old) v in
       let done_more : numbers_after [] (take (i + 1) old) ≡ done ++ number ∷ [] =
       ap (numbers_after []) taken ∙ numbers-push [] (take i old) v ∙ ap (λ n. done ++ n ∷ []) (sym number_is) in
-      let counted : length (with_point met v) ≡ next + cond (nat_eq number next) 1 0 =
-      with-length met v ∙ ap (λ n. length met + cond (nat_eq n (length met)) 1 0) (sym number_is) ∙ ap (λ n. n + cond (nat_eq number n) 1 0) (sym are.next_is) in
+      let counted : length (with_point earlier v) ≡ next + cond (nat_eq number next) 1 0 =
+      with-length earlier v ∙ ap (λ n. length earlier + cond (nat_eq n (length earlier)) 1 0) (sym number_is) ∙ ap (λ n. n + cond (nat_eq number n) 1 0) (sym are.next_is) in
       record {
-        table_is = subst (λ (l : List ℕ). IsInverse l table') (sym met_more) table_is;
-        next_is = more ∙ ap (λ n. next + n) (from-cond (nat_eq number next)) ∙ sym counted ∙ ap length (sym met_more);
+        table_is = subst (λ (l : List ℕ). IsInverse l table') (sym earlier_more) table_is;
+        next_is = more ∙ ap (λ n. next + n) (from-cond (nat_eq number next)) ∙ sym counted ∙ ap length (sym earlier_more);
         few = omega (arith, are.few, more, at-most-one (nat_eq number next));
         now_is =
             ap (λ (l : List ℕ). slice_set l i number) are.now_is ∙ put-more done old i number (done-length h) h

@@ -17,8 +17,8 @@ numbers_of list = places_among (each_once_by nat_eq list) list
 
 -- the number of each point: its place among the points before, or their number if it is new
 abbrev pub numbers_after : List ℕ → List ℕ → List ℕ
-numbers_after met [] = []
-numbers_after met (v ∷ list) = position_or_len (nat_eq v) met ∷ numbers_after (with_point met v) list
+numbers_after earlier [] = []
+numbers_after earlier (v ∷ list) = position_or_len (nat_eq v) earlier ∷ numbers_after (with_point earlier v) list
 
 -- the corners of faces as numbers of points, and the number of points
 pub record NumberedFaces : Type 0 where

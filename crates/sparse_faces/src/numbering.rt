@@ -17,8 +17,8 @@ const UNNUMBERED: u32 = u32::MAX;
 fn number_of(table: &mut Vec<u32>, point: u32, next: u32) -> u32
     requires within { point < length table.old.items }
     requires few { next ≤ 2 ^ 30 }
-    ensures number { (met : List ℕ) → IsInverse met table.old.items → next ≡ length met → result ≡ position_or_len (nat_eq point) met }
-    ensures table { (met : List ℕ) → IsInverse met table.old.items → next ≡ length met → IsInverse (with_point met point) table.new.items }
+    ensures number { (earlier : List ℕ) → IsInverse earlier table.old.items → next ≡ length earlier → result ≡ position_or_len (nat_eq point) earlier }
+    ensures table { (earlier : List ℕ) → IsInverse earlier table.old.items → next ≡ length earlier → IsInverse (with_point earlier point) table.new.items }
     ensures size { length table.new.items ≡ length table.old.items }
 {
     let number = table[point as usize];

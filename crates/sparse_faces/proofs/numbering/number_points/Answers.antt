@@ -11,11 +11,11 @@ loop-i-preserved c =
     let old = c.args.points.now.items in
     let i = c.loop-i.i in
     let are = c.loop-i.invariant.numbered in
-    let met = with_points [] (take i old) in
+    let earlier = with_points [] (take i old) in
     let h : i < length old = omega (arith, c.loop-i-test.true, c.len-i-end.ensures, c.args.points.now.ok.0) in
     let v : c.index.result.now ≡ get_or old i 0 = c.index.ensures ∙ point-there old i c.loop-i.next c.loop-i.table.items c.loop-i.points.items are c.index.result.now h ∙ get_or_default old i c.index.result.now 0 h in
-    let number = c.number_of-number.ensures.number met are.table_is are.next_is ∙ ap (λ n. position_or_len (nat_eq n) met) v in
-    let table = subst (λ n. IsInverse (with_point met n) c.number_of-number.new.table.items) v (c.number_of-number.ensures.table met are.table_is are.next_is) in
+    let number = c.number_of-number.ensures.number earlier are.table_is are.next_is ∙ ap (λ n. position_or_len (nat_eq n) earlier) v in
+    let table = subst (λ n. IsInverse (with_point earlier n) c.number_of-number.new.table.items) v (c.number_of-number.ensures.table earlier are.table_is are.next_is) in
     record {
       numbered = one-numbered old i c.loop-i.next c.loop-i.table.items c.loop-i.points.items are c.number_of-number.result _ c.number_of-number.new.table.items h number table (ap (λ n. c.loop-i.next + n) c.from-next.ensures);
       size = c.number_of-number.ensures.size ∙ c.loop-i.invariant.size;
