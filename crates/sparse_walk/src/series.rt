@@ -19,7 +19,7 @@ use std::alloc::Global;
 use std::sync::ledger::Ledger;
 
 // Returns the faces of each level, without the data.
-fn faces_alone(alloc: Global, levels: Vec<KeptLevel<()>>) -> Result<Vec<SparseFaces>, Memory>
+fn faces_by_level(alloc: Global, levels: Vec<KeptLevel<()>>) -> Result<Vec<SparseFaces>, Memory>
     ensures { IfOk result (λ faces. faces.items ≡ map faces_of levels.items) }
 {
     let mut faces = Vec::with_capacity(alloc, levels.len())?;
@@ -65,5 +65,5 @@ pub fn sparse_levels<T: FaceTest, F: Fn(&FaceFacts) -> bool, L: Ledger>(
         steps,
     )?;
     let levels = keeping.into_levels(end.level, end.carried)?;
-    Ok(faces_alone(alloc, levels)?)
+    Ok(faces_by_level(alloc, levels)?)
 }

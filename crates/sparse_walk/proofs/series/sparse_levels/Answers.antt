@@ -33,8 +33,8 @@ returns-in_err-levels-clause-steps g c =
     (at-start test c.args.base.level c.args.depth _ (reached-start test c.args.base c.requires.base c.facts.ensures c.args.depth c.in_ok-level.level c.in_ok-level.ensures) c.in_ok-keeping.ensures)
     (at c.in_ok-end.end c.walk.new.visitor c.walk.new.steps) c.in_ok-end.ensures
 
-pub returns-in_err-faces_alone-clause-steps : goal.returns-in_err-faces_alone-clause-steps
-returns-in_err-faces_alone-clause-steps g c =
+pub returns-in_err-faces_by_level-clause-steps : goal.returns-in_err-faces_by_level-clause-steps
+returns-in_err-faces_by_level-clause-steps g c =
     let test = g.T.FaceTest.meets c.args.rule.now.1 in
     all-steps test c.args.base.level c.args.depth _
     (at-start test c.args.base.level c.args.depth _ (reached-start test c.args.base c.requires.base c.facts.ensures c.args.depth c.in_ok-level.level c.in_ok-level.ensures) c.in_ok-keeping.ensures)
@@ -45,7 +45,7 @@ returns-clause-written g c =
     let test = g.T.FaceTest.meets c.args.rule.now.1 in
     all-written test c.args.base.level c.args.depth _
     (at-start test c.args.base.level c.args.depth _ (reached-start test c.args.base c.requires.base c.facts.ensures c.args.depth c.in_ok-level.level c.in_ok-level.ensures) c.in_ok-keeping.ensures)
-    (at c.in_ok-end.end c.walk.new.visitor c.walk.new.steps) _ _ c.in_ok-end.ensures c.in_ok-levels.ensures c.in_ok-faces_alone.ensures
+    (at c.in_ok-end.end c.walk.new.visitor c.walk.new.steps) _ _ c.in_ok-end.ensures c.in_ok-levels.ensures c.in_ok-faces_by_level.ensures
 
 pub returns-clause-fine : goal.returns-clause-fine
 returns-clause-fine g c =
