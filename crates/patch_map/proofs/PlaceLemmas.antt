@@ -63,17 +63,17 @@ pub first-put : (selected : List Bool) (starts numbers : List ℕ) (f place : �
 first-put selected starts numbers f place is_marked first e h is = is ∙ ap (λ b. if b then Some place else None) e ∙ ap (λ p. if get_or selected f false then Some p else None) h
 
 -- the descent goes on to a child, or ends
-pub way-on : (grid : ℕ) (level : MapLevel) (others : List MapLevel) (quad : Bool) (place : ℕ) (leaf next : Location) (first corner stand : ℕ) (pair : ℕ × ℕ)
+pub descent-continues : (grid : ℕ) (level : MapLevel) (others : List MapLevel) (quad : Bool) (place : ℕ) (leaf next : Location) (first corner stand : ℕ) (pair : ℕ × ℕ)
     → get_or level.firsts place None ≡ Some first → corner ≡ corner_in grid quad leaf → stand ≡ first + corner → pair ≡ pair_in grid quad leaf → next ≡ face_at level stand pair
     → leaf_below grid others true stand next ≡ leaf_below grid (level ∷ others) quad place leaf
-way-on grid level others quad place leaf next first corner stand pair some c s p n =
+descent-continues grid level others quad place leaf next first corner stand pair some c s p n =
     let below : ℕ → Location = λ k. leaf_below grid others true (k + corner_in grid quad leaf) (face_at level (k + corner_in grid quad leaf) (pair_in grid quad leaf)) in
     let where_is : stand ≡ first + corner_in grid quad leaf = s ∙ ap (λ k. first + k) c in
     ap (leaf_below grid others true stand) (n ∙ ap (face_at level stand) p)
     ∙ ap (λ k. leaf_below grid others true k (face_at level k (pair_in grid quad leaf))) where_is
     ∙ sym (ap (λ o. option_map_or below o leaf) some)
 
-pub way-ends : (grid : ℕ) (level : MapLevel) (others : List MapLevel) (quad : Bool) (place : ℕ) (leaf : Location) → get_or level.firsts place None ≡ None → leaf ≡ leaf_below grid (level ∷ others) quad place leaf
-way-ends grid level others quad place leaf none =
+pub descent-ends : (grid : ℕ) (level : MapLevel) (others : List MapLevel) (quad : Bool) (place : ℕ) (leaf : Location) → get_or level.firsts place None ≡ None → leaf ≡ leaf_below grid (level ∷ others) quad place leaf
+descent-ends grid level others quad place leaf none =
     let below : ℕ → Location = λ k. leaf_below grid others true (k + corner_in grid quad leaf) (face_at level (k + corner_in grid quad leaf) (pair_in grid quad leaf)) in
     sym (ap (λ o. option_map_or below o leaf) none)
