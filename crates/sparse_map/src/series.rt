@@ -39,7 +39,7 @@ pub fn map_sparse<T: FaceTest, F: Fn(&FaceFacts) -> bool, L: Ledger>(
     requires answers { AnswersTest F.Fn rule.now.0 (T.meets rule.now.1) }
     ensures map { MatchResult result
         (λ map. IsMapOf base.level (meeting_to (T.meets rule.now.1) base.level depth) depth map)
-        (λ fault. IsSparseFault Sharpnesses base.level (T.meets rule.now.1) depth fault) }
+        (IsSparseFault Sharpnesses base.level (T.meets rule.now.1) depth) }
     ensures fine { OnOk result (HasNoSparseFault base.level (T.meets rule.now.1) depth) }
     ensures steps { AreSparseSteps base.level (T.meets rule.now.1) depth steps.old steps.new }
 {
