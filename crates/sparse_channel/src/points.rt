@@ -11,31 +11,35 @@ use ratio128::Memory;
 use std::alloc::Global;
 
 // Adds a point unless it is marked already.
-fn note_point(n: u32, met: &mut Vec<bool>, points: &mut Vec<u32>) -> Result<(), Memory>
-    requires marks { AreMarked points.old.items met.old.items }
-    requires inside { n < length met.old.items }
+fn note_point(n: u32, is_listed: &mut Vec<bool>, points: &mut Vec<u32>) -> Result<(), Memory>
+    requires marks { AreMarked points.old.items is_listed.old.items }
+    requires inside { n < length is_listed.old.items }
     ensures points { OnOk result (points.new.items ≡ with_point points.old.items n) }
-    ensures marks { OnOk result (AreMarked points.new.items met.new.items) }
-    ensures size { OnOk result (length met.new.items ≡ length met.old.items) }
+    ensures marks { OnOk result (AreMarked points.new.items is_listed.new.items) }
+    ensures size { OnOk result (length is_listed.new.items ≡ length is_listed.old.items) }
 {
-    if met[n as usize] {
+    if is_listed[n as usize] {
         return Ok(());
     }
     points.push(n)?;
-    met[n as usize] = true;
+    is_listed[n as usize] = true;
     Ok(())
 }
 
 // Adds those points of a list that are not marked.
-fn note_points(corners: &[u32], met: &mut Vec<bool>, points: &mut Vec<u32>) -> Result<(), Memory>
-    requires marks { AreMarked points.old.items met.old.items }
-    requires inside { All (λ n. n < length met.old.items) corners.now }
+fn note_points(
+    corners: &[u32],
+    is_listed: &mut Vec<bool>,
+    points: &mut Vec<u32>,
+) -> Result<(), Memory>
+    requires marks { AreMarked points.old.items is_listed.old.items }
+    requires inside { All (λ n. n < length is_listed.old.items) corners.now }
     ensures points { OnOk result (points.new.items ≡ with_points points.old.items corners.now) }
-    ensures marks { OnOk result (AreMarked points.new.items met.new.items) }
-    ensures size { OnOk result (length met.new.items ≡ length met.old.items) }
+    ensures marks { OnOk result (AreMarked points.new.items is_listed.new.items) }
+    ensures size { OnOk result (length is_listed.new.items ≡ length is_listed.old.items) }
 {
     for n in corners {
-        note_point(*n, met, points)?;
+        note_point(*n, is_listed, points)?;
     }
     Ok(())
 }
@@ -45,10 +49,10 @@ pub(crate) fn used_points(alloc: Global, level: &Level) -> Result<Vec<u32>, Memo
     ensures { IfOk result (λ points. points.items ≡ points_used level.now.level) }
 {
     level.facts();
-    let mut met = vec![in alloc; false; level.points() as usize]?;
+    let mut is_listed = vec![in alloc; false; level.points() as usize]?;
     let mut points = Vec::new(alloc);
     for f in 0..level.faces() {
-        note_points(level.face_vertices(f), &mut met, &mut points)?;
+        note_points(level.face_vertices(f), &mut is_listed, &mut points)?;
     }
     Ok(points)
 }

@@ -7,6 +7,6 @@ use Rattle.sparse_channel.proofs.points.note_points.Given as goal
 abbrev pub invariant-loop-n : goal.invariant-loop-n
 invariant-loop-n l = record {
   points : l.points.items ≡ with_points l.fn.points.items (take l.n-index l.corners);
-  marks : AreMarked l.points.items l.met.items;
-  size : length l.met.items ≡ length l.fn.met.items;
+  marks : AreMarked l.points.items l.is_listed.items;
+  size : length l.is_listed.items ≡ length l.fn.is_listed.items;
 }

@@ -8,6 +8,6 @@ use Rattle.sparse_channel.proofs.points.used_points.Given as goal
 abbrev pub invariant-loop-f : goal.invariant-loop-f
 invariant-loop-f l = record {
   points : l.points.items ≡ each_once_by nat_eq (corners_of (take l.f l.level.level.polygons));
-  marks : AreMarked l.points.items l.met.items;
-  size : length l.met.items ≡ l.level.level.point_count;
+  marks : AreMarked l.points.items l.is_listed.items;
+  size : length l.is_listed.items ≡ l.level.level.point_count;
 }
