@@ -4,8 +4,8 @@ ghost use Rattle.std.specs.Prelude.{◌≤◌, map, MatchResult};
 ghost use Rattle.feature_select.specs.Rule.{AnswersTest};
 ghost use Rattle.channel_refine.specs.Evaluated.{control_rows};
 ghost use Rattle.channel_refine.specs.Refined.{AreControls};
-ghost use Rattle.sparse_channel.specs.Refined.{AreSparseSteps, AreSparseTo, IsSparseFaultTo};
-ghost use Rattle.sparse_channel.specs.View.{sparse_rows};
+ghost use Rattle.sparse_channel.specs.Refined.{AreSparseSteps, IsSparseFaultTo};
+ghost use Rattle.sparse_channel.specs.View.{AreSparseValuesTo};
 
 use crate::compose::compose_sparse;
 use crate::points::used_points;
@@ -41,8 +41,8 @@ pub fn refine_sparse<P: Primvar<L>, T: FaceTest, F: Fn(&FaceFacts) -> bool, L: L
     requires controls { AreControls base (control_rows (map P.numbers controls.now)) }
     requires answers { AnswersTest F.Fn rule.now.0 (T.meets rule.now.1) }
     ensures refined { MatchResult result
-        (λ levels. AreSparseTo (T.meets rule.now.1) base (control_rows (map P.numbers controls.now)) depth (map (sparse_rows P.numbers) levels.items))
-        (λ fault. IsSparseFaultTo (T.meets rule.now.1) base depth fault) }
+        (λ levels. AreSparseValuesTo P.numbers (T.meets rule.now.1) base controls.now depth levels.items)
+        (IsSparseFaultTo (T.meets rule.now.1) base depth) }
     ensures steps { AreSparseSteps (T.meets rule.now.1) base depth steps.old steps.new }
 {
     let first = used_points(alloc, base.level())?;

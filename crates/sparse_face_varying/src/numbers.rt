@@ -38,7 +38,7 @@ pub fn selected_numbers(
     requires { length step.now.selected ≡ length sparse.now.topology.level.polygons }
     ensures marked { IfOk result (λ numbers. numbers.items ≡ map (face_in sparse.now.numbers) (marked step.now.selected)) }
     ensures selected { (test : FaceFacts → Bool) (of : SparseOf test sparse.now) → AreMarkedBy test sparse.now step.now
-        → IfOk result (λ numbers. numbers.items ≡ selected of.base of.meeting sparse.now.depth) }
+        → IfOk result (λ made. made.items ≡ selected of.base of.meeting sparse.now.depth) }
 {
     let mut numbers = Vec::new(alloc);
     for f in 0..sparse.level().faces() {

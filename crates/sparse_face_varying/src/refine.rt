@@ -5,8 +5,8 @@ ghost use Rattle.std.specs.List.Sorted.{IsStrictlyIncreasing};
 ghost use Rattle.channel_refine.specs.Evaluated.{control_rows};
 ghost use Rattle.channel_refine.specs.Refined.{AreControls};
 ghost use Rattle.sparse_refiner.specs.Refined.{IsNextOf, IsRefined, IsRefusal, SparseOf, places_for};
-ghost use Rattle.sparse_channel.specs.Refined.{AreSparseLevels, IsSparseFault};
-ghost use Rattle.sparse_channel.specs.View.{sparse_rows};
+ghost use Rattle.sparse_channel.specs.Refined.{IsSparseFault};
+ghost use Rattle.sparse_channel.specs.View.{AreValuesTo};
 ghost use Rattle.sparse_texture_laws.specs.Selection.{IsSelection, is_chosen};
 ghost use Rattle.sparse_face_varying.specs.Steps.{AreMeetingSteps};
 
@@ -70,8 +70,8 @@ pub fn refine_sparse_texture<P: Primvar<L>, L: Ledger>(
     requires controls { AreControls base (control_rows (map P.numbers controls.now)) }
     requires selection { IsSelection base.base depth (map (λ n. n.items) numbers.now) }
     ensures refined { MatchResult result
-        (λ levels. AreSparseLevels base (map (λ n. n.items) numbers.now) (control_rows (map P.numbers controls.now)) depth (map (sparse_rows P.numbers) levels.items))
-        (λ fault. IsSparseFault base (map (λ n. n.items) numbers.now) depth fault) }
+        (λ made. AreValuesTo P.numbers base (map (λ n. n.items) numbers.now) controls.now depth made.items)
+        (IsSparseFault base (map (λ n. n.items) numbers.now) depth) }
     ensures steps { AreMeetingSteps base (map (λ n. n.items) numbers.now) depth steps.old steps.new }
 {
     let rule = SelectRule::with(ChosenLevels { levels: numbers }, |facts: &FaceFacts| {
