@@ -104,7 +104,7 @@ sharp-child level is =
       sharp =
           sharp-from (child_level level) (λ t alone.
           let from = child-boundary level.point_count level.polygons is.over is.simple is.distinct t alone in
-          let edge : is_infinite (edge_sharpness_of level from.edge) ≡ true = sharp-at level is.simple is.sharp from.edge from.alone in
+          let edge : is_infinite (edge_sharpness_of level from.edge) ≡ true = sharp-at level is.simple is.sharp from.edge from.on_boundary in
           let half : edge_sharpness_of (child_level level) t ≡ half_sharpness level from.edge from.end =
           edge-alike (child_level level) t _ from.half ∙ half-sharp level is.over from.edge from.end from.named from.at_end in
           ap is_infinite half ∙ infinite-half level.method (ring_at level from.end) (edge_sharpness_of level from.edge) edge);

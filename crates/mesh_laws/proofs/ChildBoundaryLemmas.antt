@@ -20,15 +20,15 @@ pub record IsBoundaryHalf (points : ℕ) (polygons : List Polygon) (t : ℕ × �
   pub edge : ℕ × ℕ
   pub end : ℕ
   pub at_end : has_end end edge ≡ true
-  pub alone : is_boundary polygons edge ≡ true
+  pub on_boundary : is_boundary polygons edge ≡ true
   pub inside : is_inside points edge ≡ true
   pub named : is_named points polygons edge ≡ true
   pub half : same_edge t (end, edge_point points polygons edge) ≡ true
 
-first-end : (s : ℕ × ℕ) → has_end s.0 s ≡ true
+pub first-end : (s : ℕ × ℕ) → has_end s.0 s ≡ true
 first-end s = grind (arith, nat_tests)
 
-second-end : (s : ℕ × ℕ) → has_end s.1 s ≡ true
+pub second-end : (s : ℕ × ℕ) → has_end s.1 s ≡ true
 second-end s = grind (arith, nat_tests)
 
 -- the other way it has the same ends, and names the same edge
@@ -52,9 +52,9 @@ module _ (points : ℕ) (polygons : List Polygon) (over : is_over points polygon
   quads-simple = child-simple points polygons children (all-child points polygons over simple)
 
   -- a side that occurs the other way as often as its half does, and that is never, is of one face
-  alone-from : (k : ℕ) (s : ℕ × ℕ) → Within points polygons over simple k s → times_used polygons (reversed s) ≡ 0
+  unused-from : (k : ℕ) (s : ℕ × ℕ) → Within points polygons over simple k s → times_used polygons (reversed s) ≡ 0
       → is_boundary polygons s ≡ true
-  alone-from k s w none =
+  unused-from k s w none =
       one-is (is_boundary polygons s) (omega (arith, boundary-back polygons simple distinct s (any-here (same_side s) polygons k w.1)))
     where
       one-is : (b : Bool) → one_if b ≡ 1 → b ≡ true
@@ -62,13 +62,13 @@ module _ (points : ℕ) (polygons : List Polygon) (over : is_over points polygon
       one-is false h = absurd (omega arith)
 
   pub child-boundary : (t : ℕ × ℕ) → is_boundary children t ≡ true → IsBoundaryHalf points polygons t
-  child-boundary t alone =
+  child-boundary t on_boundary =
       let sides = all_sides children in
       let found =
-      any-all (same_edge t) (λ s. list_any (same_side s) sides) sides (boundary-side children quads-simple t alone)
+      any-all (same_edge t) (λ s. list_any (same_side s) sides) sides (boundary-side children quads-simple t on_boundary)
       (among-themselves sides) in
       let a : ℕ × ℕ = found.0 in
-      let one : is_boundary children a ≡ true = sym (boundary-alike children quads-simple t a found.1) ∙ alone in
+      let one : is_boundary children a ≡ true = sym (boundary-alike children quads-simple t a found.1) ∙ on_boundary in
       let none : times_used children (reversed a) ≡ 0 =
       omega (
         arith,
@@ -90,7 +90,7 @@ module _ (points : ℕ) (polygons : List Polygon) (over : is_over points polygon
             edge = s;
             end = s.0;
             at_end = first-end s;
-            alone = alone-from k s w (sym back ∙ ap (λ (n : ℕ). times_used children (n, s.0)) (back-point points polygons over simple s) ∙ turned);
+            on_boundary = unused-from k s w (sym back ∙ ap (λ (n : ℕ). times_used children (n, s.0)) (back-point points polygons over simple s) ∙ turned);
             inside = w.3;
             named = w.2;
             half = same-forth t a _ same h;
@@ -113,7 +113,7 @@ module _ (points : ℕ) (polygons : List Polygon) (over : is_over points polygon
             edge = s;
             end = s.1;
             at_end = second-end s;
-            alone = alone-from k s w (sym back ∙ ap (λ (n : ℕ). times_used children (s.1, n)) (back-point points polygons over simple s) ∙ turned);
+            on_boundary = unused-from k s w (sym back ∙ ap (λ (n : ℕ). times_used children (s.1, n)) (back-point points polygons over simple s) ∙ turned);
             inside = w.3;
             named = w.2;
             half = same-back t a _ same h;

@@ -15,7 +15,7 @@ use Rattle.mesh_laws.proofs.SideLemmas.{same_side-alike, same_edge-refl, distinc
 use Rattle.mesh_laws.proofs.EdgeLemmas.{any-first_named, faces-count}
 use Rattle.mesh_laws.proofs.ClosedLemmas.{any-all, any-side-edge}
 
-first-none : {X : Type 0} (xs : List X) → first_of xs ≡ None → xs ≡ []
+pub first-none : {X : Type 0} (xs : List X) → first_of xs ≡ None → xs ≡ []
 first-none [] h = refl
 first-none (x ∷ xs) h = absurd (cc)
 

@@ -41,8 +41,8 @@ distinct-le (x ∷ xs) ys d within =
 nat_eq-swap : (m n : ℕ) → nat_eq m n ≡ nat_eq n m
 nat_eq-swap m n = grind (arith, nat_tests)
 
-alone : (face n : ℕ) → (not (nat_eq face n) && is_among (face ∷ []) n) ≡ false
-alone face n = grind (arith, nat_tests)
+none-besides : (face n : ℕ) → (not (nat_eq face n) && is_among (face ∷ []) n) ≡ false
+none-besides face n = grind (arith, nat_tests)
 
 none-among : (numbers : List ℕ) → ((n : ℕ) → is_among numbers n ≡ false) → numbers ≡ []
 none-among [] none = refl
@@ -123,7 +123,7 @@ module _ (polygons : List Polygon) (v : ℕ) where
   walk-complete : ((face f g : ℕ) → IsSuccessor polygons v face f → IsSuccessor polygons v face g → f ≡ g) → (rest : List ℕ) (steps face : ℕ) (faces : List ℕ) → IsPath polygons v (face ∷ rest) → is_distinct (face ∷ rest) ≡ true → ((n : ℕ) → is_among (face ∷ rest) n ≡ is_among faces n) → length (face ∷ rest) ≤ steps → left_after steps polygons v (Some face) faces ≡ []
   walk-complete unique rest zero face faces path once all enough = absurd (omega arith)
   walk-complete unique [] (suc steps) face faces path once all enough =
-      let none : without face faces ≡ [] = none-among (without face faces) (λ n. among-without face n faces ∙ ap (λ b. not (nat_eq face n) && b) (sym (all n)) ∙ alone face n) in
+      let none : without face faces ≡ [] = none-among (without face faces) (λ n. among-without face n faces ∙ ap (λ b. not (nat_eq face n) && b) (sym (all n)) ∙ none-besides face n) in
       ap (λ xs. left_after steps polygons v (find (is_successor polygons v face) xs) xs) none ∙ left-none steps []
   walk-complete unique (next ∷ rest) (suc steps) face faces path once all enough =
       let parts = and_parts (not (is_among (next ∷ rest) face)) (is_distinct (next ∷ rest)) once in

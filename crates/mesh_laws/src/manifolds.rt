@@ -1,13 +1,14 @@
 //! Laws of edges, of manifolds and of the topology of their child levels.
 
-ghost use Rattle.std.specs.Prelude.{◌≡◌, ℕ, ◌<◌, ◌≤◌, List, length, None, IsTrue, ◌↔◌};
+ghost use Rattle.std.specs.Prelude.{◌≡◌, ℕ, ◌<◌, List, length, None, IsTrue, ◌↔◌};
 ghost use Rattle.std.specs.List.{All, count_by, list_any};
 ghost use Rattle.subdiv_model.specs.Polygons.{Polygon, same_side, same_edge, is_distinct, is_over};
-ghost use Rattle.subdiv_model.specs.Edges.{all_sides, edges_of, faces_of_edge, is_closed, goes_both_ways};
+ghost use Rattle.subdiv_model.specs.Edges.{all_sides, edges_of, is_closed, goes_both_ways};
 ghost use Rattle.subdiv_model.specs.Manifold.{IsManifold, is_manifold};
 ghost use Rattle.subdiv_model.specs.MeshFault.{first_mesh_fault};
 ghost use Rattle.subdiv_model.specs.Level.{Level};
 ghost use Rattle.subdiv_model.specs.Child.{child_polygons, child_points, refined_level};
+ghost use Rattle.mesh_laws.specs.Edges.{HasOneOrTwoFaces};
 ghost use Rattle.mesh_laws.specs.Manifolds.{IsManifoldOver, IsClosedManifold};
 
 /// The test `is_manifold` accepts exactly the manifolds: its walk around a point visits all faces exactly where they form one
@@ -23,7 +24,7 @@ pub fn no_fault_exactly_at_a_manifold()
 
 /// In a manifold each edge has one or two faces.
 pub fn edges_have_one_or_two_faces()
-    ensures { (points : ℕ) (polygons : List Polygon) → IsManifold points polygons → All (λ edge. (1 ≤ length (faces_of_edge polygons edge)) × (length (faces_of_edge polygons edge) ≤ 2)) (edges_of polygons) }
+    ensures { (points : ℕ) (polygons : List Polygon) → IsManifold points polygons → All (HasOneOrTwoFaces polygons) (edges_of polygons) }
 {}
 
 /// The list of edges contains the edge of each directed edge once, in the direction that one of its faces has.

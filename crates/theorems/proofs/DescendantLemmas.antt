@@ -68,7 +68,7 @@ module _ (base : Level) (is : IsSharpAtBoundary base) where
       any-flat_map (same_edge t) (two_halves level) (boundary_descendants base k)
       ∙ any-weaker (same_edge from.edge) (λ x. list_any (same_edge t) (two_halves level x))
       (λ x same. half-listed level t from.edge x from.end from.at_end from.half same) (boundary_descendants base k)
-      (alone-listed k from.edge from.alone)
+      (alone-listed k from.edge from.on_boundary)
 
   -- the descendants are exactly the edges of one face
   pub descendants-exact : (k : ℕ) (t : ℕ × ℕ)

@@ -203,8 +203,8 @@ module _ (level : Level) (m : ℕ) (number : ℕ → ℤ) (xs ys : List Value) (
       here from = which (or_cases _ _ (half-ends p from.end (point_of level from.edge) t at from.half))
         where
           which : (nat_eq p from.end ≡ true) ⊎ (nat_eq p (point_of level from.edge) ≡ true) → P p
-          which (inl h) = subst P (sym (eqb-true p from.end h)) (old from.edge from.end from.alone from.at_end)
-          which (inr h) = subst P (sym (eqb-true p (point_of level from.edge) h)) (new from.edge from.alone)
+          which (inl h) = subst P (sym (eqb-true p from.end h)) (old from.edge from.end from.on_boundary from.at_end)
+          which (inr h) = subst P (sym (eqb-true p (point_of level from.edge) h)) (new from.edge from.on_boundary)
 
   -- the next level keeps it
   pub straight-child : IsStraight (child_level level) (2 * m) next xs_next ys_next
