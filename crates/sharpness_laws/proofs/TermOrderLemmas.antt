@@ -99,13 +99,13 @@ permuted-terms (t ∷ xs) ys d p e q h =
     let none = not-true (has_source xs s) once.0 in
     let above : 0 < t.weight = ltb-true 0 t.weight positive.0 in
     let weight : weight_in ys s ≡ t.weight = omega (arith, h s, weight_in-cons t xs s, weight_of-own t, weight-absent s xs none) in
-    let alone : without s (t ∷ xs) ≡ xs = ap (λ b. cond (not b) (t ∷ without s xs) (without s xs)) (source-refl s) ∙ without-absent s xs none in
+    let removed : without s (t ∷ xs) ≡ xs = ap (λ b. cond (not b) (t ∷ without s xs) (without s xs)) (source-refl s) ∙ without-absent s xs none in
     let out = taken-out s ys e (found s ys (omega arith)) in
     let there : IsPermutation ys (t ∷ without s ys) = subst (λ n. IsPermutation ys (weigh n s ∷ without s ys)) weight out in
     let rest =
     permuted-terms xs (without s ys) once.1 positive.1 (distinct-kept (λ u. not (same_source s u.source)) ys e)
     (all-kept (λ u. not (same_source s u.source)) (λ u. nat_lt 0 u.weight) ys q)
-    (λ source. ap (λ l. weight_in l source) (sym alone) ∙ weight-without s (t ∷ xs) source
+    (λ source. ap (λ l. weight_in l source) (sym removed) ∙ weight-without s (t ∷ xs) source
     ∙ ap (λ n. if same_source s source then 0 else n) (h source) ∙ sym (weight-without s ys source)) in
     IsPermutation-trans _ _ _ (IsPermutation-cons t xs (without s ys) rest) (IsPermutation-sym ys (t ∷ without s ys) there)
 

@@ -5,6 +5,7 @@ use Rattle.subdiv_model.specs.Sharpness.{Sharpness, Method, uniform_child}
 use Rattle.subdiv_model.specs.Level.{Level, edge_sharpness_of, vertex_sharpness_of, edges_at, faces_at}
 use Rattle.subdiv_model.specs.Rule.{vertex_rule, same_mask, child_ring, transition_weight, transition_overflows}
 use Rattle.subdiv_model.specs.Mask.{Mask, mask_of_rule, mask_of_vertex, other_end}
+use Rattle.sharpness_laws.specs.SameWeights.{HaveSameWeights}
 
 -- a sharpness in a level, and the one in the next level
 abbrev pub Decrement : Type 0
@@ -23,12 +24,12 @@ abbrev pub has_one_mask : Decrement → List Decrement → Bool
 has_one_mask vertex ring = same_mask (vertex_rule vertex.0 (ring_now ring)) (vertex_rule vertex.1 (ring_next ring))
 
 -- the weight of the transition of a vertex
-abbrev pub weight_between : Decrement → List Decrement → ℕ × ℕ
-weight_between vertex ring = transition_weight vertex.0 vertex.1 (ring_now ring) (ring_next ring)
+abbrev pub weight_in_transition : Decrement → List Decrement → ℕ × ℕ
+weight_in_transition vertex ring = transition_weight vertex.0 vertex.1 (ring_now ring) (ring_next ring)
 
 -- the weight of the transition is refused
-abbrev pub overflows_between : Decrement → List Decrement → Bool
-overflows_between vertex ring = transition_overflows vertex.0 vertex.1 (ring_now ring) (ring_next ring)
+abbrev pub overflows_in_transition : Decrement → List Decrement → Bool
+overflows_in_transition vertex ring = transition_overflows vertex.0 vertex.1 (ring_now ring) (ring_next ring)
 
 -- the edges at a vertex, each by its other end and its sharpness in one level or in two, and the faces at the vertex
 pub record Star (S : Type 0) : Type 0 where
@@ -53,8 +54,8 @@ abbrev pub mask_by_rule : Sharpness → ℕ → Star Sharpness → Mask
 mask_by_rule vertex v star = mask_of_rule v (ends_of star) star.faces (vertex_rule vertex (ring_of star))
 
 -- the mask of a vertex between two levels
-abbrev pub mask_between : Decrement → ℕ → Star Decrement → Mask
-mask_between vertex v star =
+abbrev pub mask_in_transition : Decrement → ℕ → Star Decrement → Mask
+mask_in_transition vertex v star =
     mask_of_vertex vertex.0 vertex.1 (map (λ edge. edge.1.0) star.edges) (map (λ edge. edge.1.1) star.edges) v (ends_of star) star.faces
 
 -- the mask of a vertex between two levels, where the method gives the sharpness of the edges in the next level
@@ -78,3 +79,7 @@ abbrev pub mask_in_order : Level → ℕ → List (ℕ × ℕ) → List ℕ → 
 mask_in_order level v edges faces =
     let vertex = vertex_sharpness_of level v in
     mask_of_vertex vertex (uniform_child vertex) (ring_in level edges) (child_ring level.method (ring_in level edges)) v (map (other_end v) edges) faces
+
+-- the mask has the same weights in every order of the edges and faces of a star
+abbrev pub IgnoresOrder : {S : Type 0} → (Star S → Mask) → Type 0
+IgnoresOrder {S} mask = (star other : Star S) → IsReordered star other → HaveSameWeights (mask star) (mask other)

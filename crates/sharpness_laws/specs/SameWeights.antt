@@ -1,5 +1,5 @@
 -- Masks that give each source the same weight, in whatever order of terms.
-use Rattle.std.specs.Prelude.{◌≡◌, Bool, ◌&&◌, nat_lt}
+use Rattle.std.specs.Prelude.{◌≡◌, Bool, ◌&&◌, nat_lt, IsTrue}
 use Rattle.std.specs.List.{list_all}
 use Rattle.subdiv_model.specs.Mask.{SourcePoint, Mask, weight_in, has_distinct_sources}
 
@@ -11,3 +11,7 @@ pub record HaveSameWeights (m n : Mask) : Type 0 where
 -- each source is in one term, and no weight is 0
 abbrev pub is_joined : Mask → Bool
 is_joined mask = has_distinct_sources mask.terms && list_all (λ t. nat_lt 0 t.weight) mask.terms
+
+-- the mask lists each source once, with a weight above 0
+abbrev pub IsJoined : Mask → Type 0
+IsJoined mask = IsTrue (is_joined mask)

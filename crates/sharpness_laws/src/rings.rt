@@ -6,7 +6,7 @@ ghost use Rattle.subdiv_model.specs.Fractions.{sum_of_fractions};
 ghost use Rattle.subdiv_model.specs.Multiples.{common_denominator};
 ghost use Rattle.subdiv_model.specs.Sharpness.{Sharpness, Method, sharpness_of_fraction, chaikin_value, chaikin_child_of, chaikin_overflows, half_child};
 ghost use Rattle.subdiv_model.specs.Rule.{child_ring, at_most_one};
-ghost use Rattle.sharpness_laws.specs.Orders.{Decrement, weight_between, overflows_between};
+ghost use Rattle.sharpness_laws.specs.Orders.{Decrement, weight_in_transition, overflows_in_transition};
 ghost use Rattle.sharpness_laws.specs.SameFraction.{IsSameFraction};
 
 /// The sum of fractions and their common denominator do not depend on the order of the fractions.
@@ -31,9 +31,9 @@ pub fn chaikin_children_do_not_see_the_order()
 /// its sharpness in this level and in the next.
 pub fn transition_weights_do_not_see_the_order()
     ensures weight { (vertex : Decrement) (ring other : List Decrement) → IsPermutation ring other
-        → weight_between vertex ring ≡ weight_between vertex other }
+        → weight_in_transition vertex ring ≡ weight_in_transition vertex other }
     ensures overflow { (vertex : Decrement) (ring other : List Decrement) → IsPermutation ring other
-        → overflows_between vertex ring ≡ overflows_between vertex other }
+        → overflows_in_transition vertex ring ≡ overflows_in_transition vertex other }
 {}
 
 /// Equal fractions give the same sharpness, the same weight and the same child, whatever their terms.
