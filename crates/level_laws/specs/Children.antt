@@ -1,11 +1,12 @@
 -- The corners, edges and faces of a level and what they become in the next level, for the laws of levels.
-use Rattle.std.specs.Prelude.{ℕ, ◌+◌, ◌<◌, List, ◌∷◌, length, get_or, take, IsTrue}
+use Rattle.std.specs.Prelude.{◌≡◌, ℕ, ◌+◌, ◌<◌, List, ◌∷◌, length, get_or, take, IsTrue}
 use Rattle.std.specs.List.{list_any, sum_by}
 use Rattle.subdiv_model.specs.Lists.{last_of}
 use Rattle.subdiv_model.specs.Polygons.{Polygon, sides_of, same_edge, polygon_at, is_over}
 use Rattle.subdiv_model.specs.Edges.{edges_of, has_end}
-use Rattle.subdiv_model.specs.Level.{Level}
-use Rattle.subdiv_model.specs.Child.{edge_point, face_point}
+use Rattle.subdiv_model.specs.Sharpness.{Smooth}
+use Rattle.subdiv_model.specs.Level.{Level, edge_sharpness_of}
+use Rattle.subdiv_model.specs.Child.{child_face, child_level, edge_point, face_point}
 
 -- a corner of a face, by the number of the face and its place in the face
 pub record Corner (polygons : List Polygon) : Type 0 where
@@ -30,6 +31,10 @@ side_to corner = get_or (last_of (0, 0) (sides_at corner) ∷ sides_at corner) c
 abbrev pub side_from : {polygons : List Polygon} → Corner polygons → ℕ × ℕ
 side_from corner = get_or (sides_at corner) corner.place (0, 0)
 
+-- the child face of a corner
+abbrev pub child_face_of : {polygons : List Polygon} → ℕ → Corner polygons → Polygon
+child_face_of {polygons} points corner = child_face points polygons corner.face (side_to corner) (side_from corner)
+
 -- the end v of an edge of the level, whose corners are points
 pub record EdgeEnd (level : Level) : Type 0 where
   pub edge : ℕ × ℕ
@@ -50,3 +55,7 @@ edge_point_of level edge = edge_point level.point_count level.polygons edge
 -- the new point of a face of the level
 abbrev pub face_point_of : Level → ℕ → ℕ
 face_point_of level face = face_point level.point_count face
+
+-- the edge of the next level is smooth
+abbrev pub IsSmoothNext : Level → ℕ × ℕ → Type 0
+IsSmoothNext level edge = edge_sharpness_of (child_level level) edge ≡ Smooth

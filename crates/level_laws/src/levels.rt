@@ -7,9 +7,9 @@ ghost use Rattle.subdiv_model.specs.Edges.{edges_of, is_closed};
 ghost use Rattle.subdiv_model.specs.Sharpness.{Smooth, uniform_child};
 ghost use Rattle.subdiv_model.specs.ObjMesh.{ObjMesh, has_faces_over_points};
 ghost use Rattle.subdiv_model.specs.Level.{Level, edge_sharpness_of, vertex_sharpness_of, is_hole, is_well_formed, plain_level};
-ghost use Rattle.subdiv_model.specs.Child.{child_face, child_polygons, half_sharpness, child_level, refined_level, faces_after};
+ghost use Rattle.subdiv_model.specs.Child.{child_polygons, half_sharpness, child_level, refined_level, faces_after};
 ghost use Rattle.subdiv_model.specs.Base.{base_level};
-ghost use Rattle.level_laws.specs.Children.{Corner, EdgeEnd, IsFaceOverPoints, child_place, side_to, side_from, edge_point_of, face_point_of};
+ghost use Rattle.level_laws.specs.Children.{Corner, EdgeEnd, IsFaceOverPoints, IsSmoothNext, child_place, child_face_of, edge_point_of, face_point_of};
 ghost use Rattle.level_laws.specs.Tags.{HasProperTags, IsUntagged};
 
 /// Level 0 of a mesh is well formed where the corners of faces are points and the tags are well formed.
@@ -39,7 +39,7 @@ pub fn levels_have_so_many_faces()
 pub fn child_faces_are_holes_as_their_parents()
     ensures place { (points : ℕ) (faces : List Polygon) (corner : Corner faces)
         → polygon_at (child_polygons points faces) (child_place corner)
-        ≡ child_face points faces corner.face (side_to corner) (side_from corner) }
+        ≡ child_face_of points corner }
     ensures hole { (level : Level) (corner : Corner level.polygons)
         → is_hole (child_level level) (child_place corner) ≡ is_hole level corner.face }
 {}
@@ -53,10 +53,10 @@ pub fn halves_have_their_sharpness()
 /// An edge inside a face, from its face point to an edge point, is smooth.
 pub fn edges_inside_faces_are_smooth()
     ensures from_face_point { (level : Level) (face : ℕ) → IsFaceOverPoints level face
-        → All (λ edge. edge_sharpness_of (child_level level) (face_point_of level face, edge_point_of level edge) ≡ Smooth)
+        → All (λ edge. IsSmoothNext level (face_point_of level face, edge_point_of level edge))
         (edges_of level.polygons) }
     ensures to_face_point { (level : Level) (face : ℕ) → IsFaceOverPoints level face
-        → All (λ edge. edge_sharpness_of (child_level level) (edge_point_of level edge, face_point_of level face) ≡ Smooth)
+        → All (λ edge. IsSmoothNext level (edge_point_of level edge, face_point_of level face))
         (edges_of level.polygons) }
 {}
 
