@@ -138,37 +138,37 @@ border-leaf grid (suc further) base meeting at leaf (c ∷ path) is one on =
     border-leaf grid further base meeting (child_at grid level at c) leaf path (child-inside grid level at is c one.1) one.2 (border-at grid level at is c one.1 on)
 
 -- two leaves share only their borders
-pub leaves-share : (grid further : ℕ) (base : Level) (meeting : Meeting) (at leaf other : Location) (path way : List ℕ) → IsInGrid grid at → path ≢ way
-    → IsLeafOn grid further base meeting at path leaf → IsLeafOn grid further base meeting at way other
+pub leaves-share : (grid further : ℕ) (base : Level) (meeting : Meeting) (at leaf other : Location) (path other_path : List ℕ) → IsInGrid grid at → path ≢ other_path
+    → IsLeafOn grid further base meeting at path leaf → IsLeafOn grid further base meeting at other_path other
     → (is_on_border grid (leaf.s, leaf.t) ≡ true) × (is_on_border grid (other.s, other.t) ≡ true)
 leaves-share grid zero base meeting at leaf other [] [] is apart one two = absurd (apart refl)
-leaves-share grid zero base meeting at leaf other [] (d ∷ way) is apart one two = absurd two
-leaves-share grid zero base meeting at leaf other (c ∷ path) way is apart one two = absurd one
+leaves-share grid zero base meeting at leaf other [] (d ∷ other_path) is apart one two = absurd two
+leaves-share grid zero base meeting at leaf other (c ∷ path) other_path is apart one two = absurd one
 leaves-share grid (suc further) base meeting at leaf other [] [] is apart one two = absurd (apart refl)
-leaves-share grid (suc further) base meeting at leaf other [] (d ∷ way) is apart one two = let no = one.0 in let yes = two.0 in absurd (cc)
+leaves-share grid (suc further) base meeting at leaf other [] (d ∷ other_path) is apart one two = let no = one.0 in let yes = two.0 in absurd (cc)
 leaves-share grid (suc further) base meeting at leaf other (c ∷ path) [] is apart one two = let yes = one.0 in let no = two.0 in absurd (cc)
-leaves-share grid (suc further) base meeting at leaf other (c ∷ path) (d ∷ way) is apart one two =
+leaves-share grid (suc further) base meeting at leaf other (c ∷ path) (d ∷ other_path) is apart one two =
     go (nat_eq c d) refl (λ same. let level = refined_level base at.level in
-    leaves-share grid further base meeting (child_at grid level at c) leaf other path way (child-inside grid level at is c one.1)
+    leaves-share grid further base meeting (child_at grid level at c) leaf other path other_path (child-inside grid level at is c one.1)
     (λ e. apart (ap (λ (n : ℕ). n ∷ path) same ∙ ap (λ (l : List ℕ). d ∷ l) e)) one.2
-    (subst (λ k. IsLeafOn grid further base meeting (child_at grid level at k) way other) (sym same) two.2))
+    (subst (λ k. IsLeafOn grid further base meeting (child_at grid level at k) other_path other) (sym same) two.2))
   where
     go : (b : Bool) → nat_eq c d ≡ b → (c ≡ d → (is_on_border grid (leaf.s, leaf.t) ≡ true) × (is_on_border grid (other.s, other.t) ≡ true))
         → (is_on_border grid (leaf.s, leaf.t) ≡ true) × (is_on_border grid (other.s, other.t) ≡ true)
     go true e rest = rest (eqb-true c d e)
     go false e rest = (
-      border-leaf grid further base meeting (child_at grid (refined_level base at.level) at c) leaf path (child-inside grid (refined_level base at.level) at is c one.1) one.2 (between (is_quad_at (refined_level base at.level) at) refl).0,
-      border-leaf grid further base meeting (child_at grid (refined_level base at.level) at d) other way (child-inside grid (refined_level base at.level) at is d two.1) two.2 (between (is_quad_at (refined_level base at.level) at) refl).1,
+      border-leaf grid further base meeting (child_at grid (refined_level base at.level) at c) leaf path (child-inside grid (refined_level base at.level) at is c one.1) one.2 (both-on_border (is_quad_at (refined_level base at.level) at) refl).0,
+      border-leaf grid further base meeting (child_at grid (refined_level base at.level) at d) other other_path (child-inside grid (refined_level base at.level) at is d two.1) two.2 (both-on_border (is_quad_at (refined_level base at.level) at) refl).1,
     )
       where
         differ : c ≢ d
         differ = λ same. let yes : nat_eq c d ≡ true = grind (arith, nat_tests) in absurd (cc)
 
-        between : (b : Bool) → is_quad_at (refined_level base at.level) at ≡ b → (is_on_border grid (pair_at grid (refined_level base at.level) at c) ≡ true) × (is_on_border grid (pair_at grid (refined_level base at.level) at d) ≡ true)
-        between true f =
+        both-on_border : (b : Bool) → is_quad_at (refined_level base at.level) at ≡ b → (is_on_border grid (pair_at grid (refined_level base at.level) at c) ≡ true) × (is_on_border grid (pair_at grid (refined_level base at.level) at d) ≡ true)
+        both-on_border true f =
             let first = quad-corner grid (refined_level base at.level) at is c one.1 f in
             let second = quad-corner grid (refined_level base at.level) at is d two.1 f in
             let here = shared-border grid c d at.s at.t is.s is.t first.1 second.1 differ first.0 second.0 in
             let there = shared-border grid d c at.s at.t is.s is.t second.1 first.1 (λ same. differ (sym same)) second.0 first.0 in
             (rw f here, rw f there)
-        between false f = absurd (differ (other-corner grid (refined_level base at.level) at is c one.1 f ∙ sym (other-corner grid (refined_level base at.level) at is d two.1 f)))
+        both-on_border false f = absurd (differ (other-corner grid (refined_level base at.level) at is c one.1 f ∙ sym (other-corner grid (refined_level base at.level) at is d two.1 f)))

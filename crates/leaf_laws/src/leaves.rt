@@ -1,6 +1,6 @@
 //! Laws of the leaves of a location.
 
-ghost use Rattle.std.specs.Prelude.{◌≡◌, ℕ, ◌<◌, ◌≤◌, length};
+ghost use Rattle.std.specs.Prelude.{◌≡◌, ℕ, ◌<◌, length};
 ghost use Rattle.subdiv_model.specs.Leaf.{Location, leaves_within, leaf_of};
 ghost use Rattle.subdiv_model.specs.Level.{Level};
 ghost use Rattle.subdiv_model.specs.Sparse.{Meeting};

@@ -1,6 +1,6 @@
 //! Laws of places, as pairs of steps, on a quad and on its children.
 
-ghost use Rattle.std.specs.Prelude.{◌≡◌, ℕ, ◌*◌, ◌<◌, ◌≤◌, true};
+ghost use Rattle.std.specs.Prelude.{◌≡◌, ℕ, ◌*◌, ◌≤◌, true};
 ghost use Rattle.leaf_laws.specs.FirstLeaf.{ChildPair};
 ghost use Rattle.subdiv_model.specs.Leaf.{in_quad, in_child, has_pair};
 

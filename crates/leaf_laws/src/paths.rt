@@ -19,6 +19,6 @@ pub fn leaves_have_the_least_paths()
 {}
 
 /// If two leaves on different paths contain a location, the location is on the border of both.
-pub fn leaves_share_borders_alone()
+pub fn leaves_share_only_borders()
     ensures { (grid further : ℕ) (base : Level) (meeting : Meeting) (at : Location) (two : TwoLeaves grid further base meeting at) → IsInGrid grid at → two.path ≢ two.other_path → ShareBorders two }
 {}

@@ -1,5 +1,5 @@
 use Rattle.leaf_laws.proofs.PathLemmas.{leaves-share}
-use Rattle.leaf_laws.proofs.paths.leaves_share_borders_alone.Goals as goal
+use Rattle.leaf_laws.proofs.paths.leaves_share_only_borders.Goals as goal
 
 pub returns : goal.returns
 returns c = λ grid further base meeting at two is apart.
