@@ -102,8 +102,8 @@ sharp-child level is =
       simple = simple;
       distinct = child-distinct level.point_count level.polygons is.over is.simple is.distinct;
       sharp =
-          sharp-from (child_level level) (λ t alone.
-          let from = child-boundary level.point_count level.polygons is.over is.simple is.distinct t alone in
+          sharp-from (child_level level) (λ t on_boundary.
+          let from = child-boundary level.point_count level.polygons is.over is.simple is.distinct t on_boundary in
           let edge : is_infinite (edge_sharpness_of level from.edge) ≡ true = sharp-at level is.simple is.sharp from.edge from.on_boundary in
           let half : edge_sharpness_of (child_level level) t ≡ half_sharpness level from.edge from.end =
           edge-alike (child_level level) t _ from.half ∙ half-sharp level is.over from.edge from.end from.named from.at_end in
@@ -119,5 +119,5 @@ sharp-levels level (suc k) is = sharp-child (refined_level level k) (sharp-level
 -- each boundary edge of a mesh is infinite, whatever its tags
 pub boundary-base : (mesh : ObjMesh) → IsManifold (length mesh.points) mesh.faces → IsTrue (has_sharp_boundary (base_level mesh))
 boundary-base mesh is =
-    sharp-from (base_level mesh) (λ t alone.
-    ap is_infinite (boundary-edge mesh t (boundary-named (base_level mesh) (all-simple (length mesh.points) mesh.faces is) t alone) alone))
+    sharp-from (base_level mesh) (λ t on_boundary.
+    ap is_infinite (boundary-edge mesh t (boundary-named (base_level mesh) (all-simple (length mesh.points) mesh.faces is) t on_boundary) on_boundary))

@@ -20,20 +20,20 @@ use Rattle.mask_laws.specs.SharpBoundary.{is_infinite, has_sharp_boundary}
 use Rattle.mask_laws.proofs.BoundaryLemmas.{infinite-half}
 
 -- edges of one face that end at a point have infinite places in its ring
-ring-infinite : (alone end : ℕ × ℕ → Bool) (f : ℕ × ℕ → Sharpness) (edges : List (ℕ × ℕ))
-    → list_all (λ e. not (alone e) || is_infinite (f e)) edges ≡ true
-    → count_by (λ e. alone e && end e) edges ≤ count_by is_infinite (map f (filter end edges))
-ring-infinite alone end f [] h = omega arith
-ring-infinite alone end f (e ∷ edges) h =
-    let parts = and_parts (not (alone e) || is_infinite (f e)) (list_all (λ x. not (alone x) || is_infinite (f x)) edges) h in
-    let behind = ring-infinite alone end f edges parts.1 in
+ring-infinite : (on_boundary end : ℕ × ℕ → Bool) (f : ℕ × ℕ → Sharpness) (edges : List (ℕ × ℕ))
+    → list_all (λ e. not (on_boundary e) || is_infinite (f e)) edges ≡ true
+    → count_by (λ e. on_boundary e && end e) edges ≤ count_by is_infinite (map f (filter end edges))
+ring-infinite on_boundary end f [] h = omega arith
+ring-infinite on_boundary end f (e ∷ edges) h =
+    let parts = and_parts (not (on_boundary e) || is_infinite (f e)) (list_all (λ x. not (on_boundary x) || is_infinite (f x)) edges) h in
+    let behind = ring-infinite on_boundary end f edges parts.1 in
     let rest = map f (filter end edges) in
     cond_both (end e) (e ∷ filter end edges) (filter end edges)
-    (λ es. count_by (λ x. alone x && end x) (e ∷ edges) ≤ count_by is_infinite (map f es))
+    (λ es. count_by (λ x. on_boundary x && end x) (e ∷ edges) ≤ count_by is_infinite (map f es))
     (λ yes.
-    let here : one_if (alone e && end e) ≤ one_if (is_infinite (f e)) = at-most (alone e) (end e) (is_infinite (f e)) parts.0 in
-    omega (arith, count-cons (λ x. alone x && end x) e edges, count-cons is_infinite (f e) rest))
-    (λ no. let here : one_if (alone e && end e) ≡ 0 = none (alone e) (end e) no in omega (arith, count-cons (λ x. alone x && end x) e edges))
+    let here : one_if (on_boundary e && end e) ≤ one_if (is_infinite (f e)) = at-most (on_boundary e) (end e) (is_infinite (f e)) parts.0 in
+    omega (arith, count-cons (λ x. on_boundary x && end x) e edges, count-cons is_infinite (f e) rest))
+    (λ no. let here : one_if (on_boundary e && end e) ≡ 0 = none (on_boundary e) (end e) no in omega (arith, count-cons (λ x. on_boundary x && end x) e edges))
   where
     at-most : (a b c : Bool) → (not a || c) ≡ true → one_if (a && b) ≤ one_if c
     at-most a b c h = grind (arith, nat_tests)

@@ -1,8 +1,7 @@
 -- Each mask of a manifold with a sharp boundary is a mean of points and faces of the level.
-use Rattle.std.proofs.Common.{◌≡◌, ℕ, ◌<◌, ◌≤◌, Bool, true, false, not, ◌&&◌, ◌||◌, nat_le, nat_lt, nat_eq, List, [], ◌∷◌, ◌++◌, length, map, arith, refl, ap, ◌∙◌, ℤ, IsTrue}
+use Rattle.std.proofs.Common.{◌≡◌, ℕ, ◌<◌, ◌≤◌, Bool, true, false, not, ◌||◌, nat_le, nat_lt, nat_eq, List, [], ◌∷◌, ◌++◌, length, map, arith, refl, ap, ◌∙◌, ℤ, IsTrue}
 use Rattle.std.specs.List.{list_all, range_with_len}
 use Rattle.std.proofs.lemmas.Bool.{and_from, and_parts, cond_both, lt-ltb, leb-true, eqb-true}
-use Rattle.std.proofs.lemmas.Bool.Decides.{nat_tests}
 use Rattle.std.proofs.lemmas.List.Folds.{list_all-map}
 use Rattle.subdiv_model.specs.Polygons.{is_over, is_distinct, polygon_at, has_edge, has_corner}
 use Rattle.subdiv_model.specs.Edges.{all_sides, edges_of, faces_of_edge, has_end, is_boundary}
@@ -29,7 +28,7 @@ use Rattle.mesh_laws.proofs.PointLemmas.{one-or-two}
 use Rattle.subdiv_model.specs.ObjMesh.{ObjMesh, has_faces_over_points}
 use Rattle.subdiv_model.specs.Base.{base_level}
 use Rattle.sharpness_laws.proofs.ProperLemmas.{IsProper, proper-at, proper-well_formed}
-use Rattle.level_laws.proofs.WellFormedLemmas.{levels-well-formed}
+use Rattle.level_laws.proofs.WellFormedLemmas.{levels-well-formed, first-of-six}
 use Rattle.level_laws.proofs.BaseLemmas.{base-well-formed}
 
 module _ (level : Level) (is : IsSharpAtBoundary level) (proper : IsProper level) where
@@ -124,9 +123,6 @@ module _ (level : Level) (is : IsSharpAtBoundary level) (proper : IsProper level
       ∙ all-range (λ f. is_mean_of level (face_mask level f)) 0 (length level.polygons) (λ f low high. face-mean f (omega arith)))
       (edge-means scheme (edges_of level.polygons) edges-inside (one-or-two level.polygons is.simple is.distinct) is.sharp))
 
-first-of-six : (a b c d e f : Bool) → (a && b && c && d && e && f) ≡ true → a ≡ true
-first-of-six a b c d e f h = grind (arith, nat_tests)
-
 sharp-manifold : (level : Level) → is_over level.point_count level.polygons ≡ true → IsManifold level.point_count level.polygons
     → has_sharp_boundary level ≡ true → IsSharpAtBoundary level
 sharp-manifold level over is sharp = record {
@@ -160,10 +156,10 @@ child-sharp level over is sharp =
 pub boundary-meshes : (mesh : ObjMesh) (k : ℕ) (edge : ℕ × ℕ) → IsManifold (length mesh.points) mesh.faces
     → IsTrue (has_faces_over_points mesh) → IsTrue (is_boundary (refined_level (base_level mesh) k).polygons edge)
     → edge_sharpness_of (refined_level (base_level mesh) k) edge ≡ Infinite
-boundary-meshes mesh k edge is over alone =
+boundary-meshes mesh k edge is over on_boundary =
     let here = sharp-levels (base_level mesh) k (sharp-manifold (base_level mesh) over is (boundary-base mesh is)) in
     is-infinite (edge_sharpness_of (refined_level (base_level mesh) k) edge)
-    (sharp-at (refined_level (base_level mesh) k) here.simple here.sharp edge alone)
+    (sharp-at (refined_level (base_level mesh) k) here.simple here.sharp edge on_boundary)
 
 pub moved-levels : (level : Level) (scheme : Scheme) (controls : List ℤ) (t : ℤ) (k : ℕ) → length controls ≡ level.point_count
     → IsTrue (is_well_formed level) → IsManifold level.point_count level.polygons → IsTrue (has_sharp_boundary level)

@@ -149,11 +149,11 @@ mean-weight : (values : List (ℕ × ℕ)) → list_all is_positive values ≡ t
 mean-weight [] h some = absurd (some refl)
 mean-weight (x ∷ values) h some = weight-of (mean_of (x ∷ values)) (sum-num x values h)
 
-pub weight-between : (method : Method) (vertex : Sharpness) (ring : List Sharpness) → is_proper_sharpness vertex ≡ true
+pub weight-bounds : (method : Method) (vertex : Sharpness) (ring : List Sharpness) → is_proper_sharpness vertex ≡ true
     → list_all is_proper_sharpness ring ≡ true
     → same_mask (vertex_rule vertex ring) (vertex_rule (uniform_child vertex) (child_ring method ring)) ≡ false
     → IsWeight (transition_weight vertex (uniform_child vertex) ring (child_ring method ring))
-weight-between method vertex ring h k differ =
+weight-bounds method vertex ring h k differ =
     mean-weight (ended_values vertex (uniform_child vertex) ring (child_ring method ring)) (values-positive method vertex ring h k)
     (λ none. true≢false (sym (same-itself (vertex_rule vertex ring))
     ∙ ap (same_mask (vertex_rule vertex ring)) (sym (rule-kept method vertex ring none)) ∙ differ))
@@ -169,7 +169,7 @@ mean-vertex method vertex ring v ends faces h k now next =
     (transition_mask (transition_weight vertex (uniform_child vertex) ring (child_ring method ring))
     (mask_of_rule v ends faces parent) (mask_of_rule v ends faces child))
     (λ mask. is_mean mask ≡ true) (λ _. mean-rule v ends faces parent now)
-    (λ differ. let w = weight-between method vertex ring h k differ in
+    (λ differ. let w = weight-bounds method vertex ring h k differ in
     mean-transition _ _ _ w.0 w.1 (mean-rule v ends faces parent now) (mean-rule v ends faces child next))
 
 -- what the test at a point says

@@ -10,8 +10,8 @@ use Rattle.subdiv_model.specs.Level.{Level, is_well_formed}
 use Rattle.subdiv_model.specs.Child.{refined_level}
 use Rattle.subdiv_model.specs.Rule.{is_smooth_or_dart, vertex_rule, same_mask, child_ring, transition_weight}
 use Rattle.subdiv_model.specs.Mask.{Scheme, SourcePoint, Term, weight_in, is_interior, rule_at, child_rule_at, has_means}
-use Rattle.subdiv_model.specs.Value.{Value, weighted, sum_of_values}
-use Rattle.subdiv_model.specs.Refined.{control_values, translated_controls, refined_values}
+use Rattle.subdiv_model.specs.Value.{Value, IsSameValue, weighted, sum_of_values}
+use Rattle.subdiv_model.specs.Refined.{AreTranslatedBy, control_values, translated_controls, refined_values}
 use Rattle.mask_laws.specs.SharpBoundary.{has_sharp_boundary}
 
 -- Meshes.
@@ -86,6 +86,10 @@ GiveSameWeights first second = (source : SourcePoint) → weight_in first source
 abbrev pub value_of_terms : (SourcePoint → Value) → List Term → ℕ → Value
 value_of_terms value terms q = sum_of_values (map (λ t. weighted t.weight q (value t.source)) terms)
 
+-- both lists of terms have the same value over a denominator
+abbrev pub GiveSameValue : (SourcePoint → Value) → ℕ → List Term → List Term → Type 0
+GiveSameValue value q first second = IsSameValue (value_of_terms value first q) (value_of_terms value second q)
+
 -- Controls.
 
 -- a number for each control point of the level
@@ -108,3 +112,7 @@ values_of {level} refinement =
 abbrev pub translated_values : {level : Level} → ℤ → Refinement level → List Value
 translated_values {level} t refinement =
     refined_values level refinement.scheme (control_values (translated_controls t refinement.controls.numbers)) refinement.steps
+
+-- a number added to each control number is added to each value
+abbrev pub IsTranslatedBy : {level : Level} → ℤ → Refinement level → Type 0
+IsTranslatedBy t refinement = AreTranslatedBy t (values_of refinement) (translated_values t refinement)

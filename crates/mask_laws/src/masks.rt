@@ -3,7 +3,6 @@
 ghost use Rattle.std.specs.Prelude.{◌≡◌, ◌*◌, ◌<◌, ◌≤◌, IsTrue, ℕ, length, List, [], get_or, false};
 ghost use Rattle.std.specs.List.{sum_by};
 ghost use Rattle.subdiv_model.specs.Edges.{faces_of_edge, is_boundary, is_closed};
-ghost use Rattle.subdiv_model.specs.Polygons.{is_over};
 ghost use Rattle.subdiv_model.specs.ObjMesh.{ObjMesh};
 ghost use Rattle.subdiv_model.specs.Base.{base_level, is_at_boundary};
 ghost use Rattle.subdiv_model.specs.Manifold.{IsManifold};
@@ -12,10 +11,11 @@ ghost use Rattle.subdiv_model.specs.Level.{Level, edge_sharpness_of, edges_at};
 ghost use Rattle.subdiv_model.specs.Child.{child_level, refined_level};
 ghost use Rattle.subdiv_model.specs.Rule.{is_smooth_or_dart};
 ghost use Rattle.subdiv_model.specs.Mask.{Mask, Scheme, SourcePoint, Term, CatmullClark, Linear, mask_of, total_weight, face_mask, edge_mask, vertex_mask, mask_of_edge, blend, is_mean, is_interior, is_proper_at, rule_at, child_rule_at, has_means, has_distinct_sources, has_distinct_masks};
-ghost use Rattle.subdiv_model.specs.Value.{IsSameValue, weighted};
+ghost use Rattle.subdiv_model.specs.Value.{IsSameValue};
 ghost use Rattle.subdiv_model.specs.Refined.{mask_value};
+ghost use Rattle.mesh_laws.specs.Manifolds.{IsManifoldOver};
 ghost use Rattle.mask_laws.specs.SharpBoundary.{has_sharp_boundary};
-ghost use Rattle.mask_laws.specs.Laws.{Transition, SourceValues, BoundaryPoint, IsManifoldMesh, HasProperTags, IsManifoldWithSharpBoundary, IsInteriorWhereSmooth, GiveSameWeights, mesh_level, weight_of, value_of_terms};
+ghost use Rattle.mask_laws.specs.Laws.{Transition, SourceValues, BoundaryPoint, IsManifoldMesh, HasProperTags, IsManifoldWithSharpBoundary, IsInteriorWhereSmooth, GiveSameWeights, GiveSameValue, mesh_level, weight_of, value_of_terms};
 
 /// The mask of a face that has a corner is a mean: its weights are above 0 and sum to the denominator.
 pub fn face_masks_are_means()
@@ -56,7 +56,7 @@ pub fn transition_weights_are_above_zero()
 pub fn boundary_edges_stay_infinite()
     ensures mesh { (mesh : ObjMesh) → IsManifold (length mesh.points) mesh.faces → IsTrue (has_sharp_boundary (base_level mesh)) }
     ensures closed { (level : Level) → IsTrue (is_closed level.polygons) → IsTrue (has_sharp_boundary level) }
-    ensures child { (level : Level) → IsTrue (is_over level.point_count level.polygons) → IsManifold level.point_count level.polygons
+    ensures child { (level : Level) → IsManifoldOver level.point_count level.polygons
         → IsTrue (has_sharp_boundary level) → IsTrue (has_sharp_boundary (child_level level)) }
     ensures edges { (mesh : ObjMesh) (k : ℕ) (edge : ℕ × ℕ) → IsManifoldMesh mesh
         → IsTrue (is_boundary (mesh_level mesh k).polygons edge) → edge_sharpness_of (mesh_level mesh k) edge ≡ Infinite }
@@ -97,5 +97,5 @@ pub fn sums_do_not_see_how_terms_are_joined()
     ensures value { (values : SourceValues) (terms : List Term) (q : ℕ) → 0 < q
         → IsSameValue (mask_value values.value (mask_of terms q)) (value_of_terms values.value terms q) }
     ensures order { (values : SourceValues) (first second : List Term) (q : ℕ) → 0 < q → GiveSameWeights first second
-        → IsSameValue (value_of_terms values.value first q) (value_of_terms values.value second q) }
+        → GiveSameValue values.value q first second }
 {}

@@ -6,8 +6,8 @@ ghost use Rattle.subdiv_model.specs.Level.{Level};
 ghost use Rattle.subdiv_model.specs.Value.{IsWholeOver};
 ghost use Rattle.subdiv_model.specs.ObjMesh.{ObjMesh};
 ghost use Rattle.subdiv_model.specs.Base.{base_level};
-ghost use Rattle.subdiv_model.specs.Refined.{AreTranslatedBy, refined_denominators};
-ghost use Rattle.mask_laws.specs.Laws.{Refinement, IsManifoldMesh, HasProperTags, IsManifoldWithSharpBoundary, HasMeansInSteps, values_of, translated_values};
+ghost use Rattle.subdiv_model.specs.Refined.{refined_denominators};
+ghost use Rattle.mask_laws.specs.Laws.{Refinement, IsManifoldMesh, HasProperTags, IsManifoldWithSharpBoundary, HasMeansInSteps, IsTranslatedBy, values_of};
 
 /// Each refined value is a whole number over the common denominator of its point, whatever the control points.
 pub fn values_are_whole_over_common_denominators()
@@ -21,9 +21,9 @@ pub fn values_are_whole_over_common_denominators()
 /// the masks of each step are means.
 pub fn translating_controls_translates_points()
     ensures manifold { (level : Level) (refinement : Refinement level) (t : ℤ) → IsManifoldWithSharpBoundary level
-        → AreTranslatedBy t (values_of refinement) (translated_values t refinement) }
+        → IsTranslatedBy t refinement }
     ensures mesh { (mesh : ObjMesh) (refinement : Refinement (base_level mesh)) (t : ℤ) → IsManifoldMesh mesh → HasProperTags mesh
-        → AreTranslatedBy t (values_of refinement) (translated_values t refinement) }
+        → IsTranslatedBy t refinement }
     ensures means { (level : Level) (refinement : Refinement level) (t : ℤ) → HasMeansInSteps level refinement.scheme refinement.steps
-        → AreTranslatedBy t (values_of refinement) (translated_values t refinement) }
+        → IsTranslatedBy t refinement }
 {}

@@ -9,7 +9,7 @@ pub returns-clause-closed : goal.returns-clause-closed
 returns-clause-closed c = closed-sharp
 
 pub returns-clause-child : goal.returns-clause-child
-returns-clause-child c = child-sharp
+returns-clause-child c = λ level is. child-sharp level is.over is.manifold
 
 pub returns-clause-edges : goal.returns-clause-edges
 returns-clause-edges c = λ mesh k edge is. boundary-meshes mesh k edge is.manifold is.over_points
