@@ -1,6 +1,7 @@
 -- A refined point, its support, its value and the shares of control points, for the laws of supports.
 -- Source: Drillolive.
 use Rattle.std.specs.Prelude.{◌≡◌, ℕ, ◌<◌, ℤ, pos, List, [], get_or, IsTrue}
+use Rattle.std.specs.List.{range_with_len}
 use Rattle.subdiv_model.specs.Polygons.{is_among}
 use Rattle.subdiv_model.specs.Level.{Level}
 use Rattle.subdiv_model.specs.Child.{refined_level}
@@ -8,7 +9,7 @@ use Rattle.subdiv_model.specs.Mask.{Scheme}
 use Rattle.subdiv_model.specs.Value.{Value}
 use Rattle.subdiv_model.specs.Refined.{control_values, point_value, refined_denominators, refined_values}
 use Rattle.subdiv_model.specs.Support.{refined_supports, stencil_numerator}
-use Rattle.mask_laws.specs.Laws.{HasMeansInSteps}
+use Rattle.mask_laws.specs.Laws.{Controls, HasMeansInSteps}
 use Rattle.stencil_laws.specs.Rows.{value_of_shares}
 
 -- a point, by its number, after a number of steps of a scheme from a level
@@ -30,6 +31,10 @@ IsMadeByMeans point = HasMeansInSteps point.level point.scheme point.steps
 abbrev pub support_of : RefinedPoint → List ℕ
 support_of point = get_or (refined_supports point.level point.scheme point.steps) point.number []
 
+-- all control points of the level that the point is refined from
+abbrev pub all_controls : RefinedPoint → List ℕ
+all_controls point = range_with_len 0 point.level.point_count
+
 -- the common denominator of the point
 abbrev pub denominator_of : RefinedPoint → ℕ
 denominator_of point = get_or (refined_denominators point.level point.scheme point.steps) point.number 1
@@ -49,3 +54,7 @@ value_by_shares point numbers controls = value_of_shares point.level point.schem
 -- both lists have the same number at each of these control points
 abbrev pub AgreeAt : List ℕ → List ℤ → List ℤ → Type 0
 AgreeAt controls numbers others = (v : ℕ) → IsTrue (is_among controls v) → get_or numbers v (pos 0) ≡ get_or others v (pos 0)
+
+-- both have the same number at each control point that the point depends on
+abbrev pub AgreeOnSupport : (point : RefinedPoint) → Controls point.level → Controls point.level → Type 0
+AgreeOnSupport point controls others = AgreeAt (support_of point) controls.numbers others.numbers

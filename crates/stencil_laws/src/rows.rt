@@ -1,7 +1,7 @@
 //! Laws of the control points that a refined point depends on, and of their shares in it.
 
 ghost use Rattle.std.specs.Prelude.{◌≡◌, ◌<◌, IsTrue, false, ℕ, length};
-ghost use Rattle.std.specs.List.{All, range_with_len, sum_by};
+ghost use Rattle.std.specs.List.{All, sum_by};
 ghost use Rattle.std.specs.List.Sorted.{IsStrictlyIncreasing};
 ghost use Rattle.subdiv_model.specs.Polygons.{is_among, is_distinct};
 ghost use Rattle.subdiv_model.specs.Level.{Level};
@@ -10,11 +10,11 @@ ghost use Rattle.subdiv_model.specs.Mask.{Scheme};
 ghost use Rattle.subdiv_model.specs.Value.{IsSameValue};
 ghost use Rattle.subdiv_model.specs.Support.{entries_after, refined_supports};
 ghost use Rattle.mask_laws.specs.Laws.{Controls, IsManifoldWithSharpBoundary};
-ghost use Rattle.stencil_laws.specs.Laws.{RefinedPoint, IsInLevel, IsMadeByMeans, AgreeAt, support_of, denominator_of, share_of, value_of, value_by_shares};
+ghost use Rattle.stencil_laws.specs.Laws.{RefinedPoint, IsInLevel, IsMadeByMeans, AgreeOnSupport, all_controls, support_of, denominator_of, share_of, value_of, value_by_shares};
 
 /// A refined point depends on the control points of its support only: others can change without changing its value.
-pub fn values_depend_on_supports_alone()
-    ensures { (point : RefinedPoint) (controls others : Controls point.level) → AgreeAt (support_of point) controls.numbers others.numbers
+pub fn values_depend_only_on_supports()
+    ensures { (point : RefinedPoint) (controls others : Controls point.level) → AgreeOnSupport point controls others
         → value_of point controls.numbers ≡ value_of point others.numbers }
 {}
 
@@ -35,7 +35,7 @@ pub fn entries_are_the_sizes_of_supports()
 /// over all control points and the sum over the support are the same.
 pub fn shares_make_the_value()
     ensures all { (point : RefinedPoint) (controls : Controls point.level) → IsSameValue (value_of point controls.numbers)
-        (value_by_shares point controls.numbers (range_with_len 0 point.level.point_count)) }
+        (value_by_shares point controls.numbers (all_controls point)) }
     ensures support { (point : RefinedPoint) (controls : Controls point.level) → IsSameValue (value_of point controls.numbers)
         (value_by_shares point controls.numbers (support_of point)) }
 {}
@@ -46,7 +46,7 @@ pub fn shares_outside_the_support_are_none()
     ensures outside { (point : RefinedPoint) (v : ℕ) → is_among (support_of point) v ≡ false → share_of point v ≡ 0 }
     ensures inside { (point : RefinedPoint) (v : ℕ) → IsMadeByMeans point → IsTrue (is_among (support_of point) v) → 0 < share_of point v }
     ensures total { (point : RefinedPoint) → IsMadeByMeans point → IsInLevel point
-        → sum_by (share_of point) (range_with_len 0 point.level.point_count) ≡ denominator_of point }
+        → sum_by (share_of point) (all_controls point) ≡ denominator_of point }
     ensures total_of_support { (point : RefinedPoint) → IsMadeByMeans point → IsInLevel point
         → sum_by (share_of point) (support_of point) ≡ denominator_of point }
     ensures manifold_inside { (point : RefinedPoint) (v : ℕ) → IsManifoldWithSharpBoundary point.level → IsInLevel point

@@ -1,5 +1,5 @@
 use Rattle.stencil_laws.proofs.SupportLemmas.{values-from-support}
-use Rattle.stencil_laws.proofs.rows.values_depend_on_supports_alone.Goals as goal
+use Rattle.stencil_laws.proofs.rows.values_depend_only_on_supports.Goals as goal
 
 pub returns : goal.returns
 returns c = λ p controls others.
