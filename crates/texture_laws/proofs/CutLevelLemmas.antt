@@ -26,6 +26,7 @@ use Rattle.texture_laws.proofs.ChannelLemmas.{cut-count, cut-over, cut-whole}
 use Rattle.texture_laws.proofs.JoinLemmas.{places-agree, edge-same}
 use Rattle.texture_laws.proofs.SeamlessLemmas.{seamless-once}
 use Rattle.texture_laws.proofs.RenamedLemmas.{renamed-alike, renamed-edges, renamed-faces, renamed-number, renamed-listed}
+use Rattle.mesh_laws.proofs.ChildFaceLemmas.{both-all}
 
 -- an item listed for each edge in order is at the number of the edge
 listed-at : {Y : Type 0} (f : ℕ × ℕ → Y) (d : Y) → ((s t : ℕ × ℕ) → same_edge s t ≡ true → f s ≡ f t) → (edge : ℕ × ℕ) (edges : List (ℕ × ℕ)) → list_any (same_edge edge) edges ≡ true → get_or (map f edges) (position_or_len (same_edge edge) edges) d ≡ f edge
@@ -57,13 +58,6 @@ all-mapped p f each (x ∷ xs) = and_from _ _ (each x) (all-mapped p f each xs)
 
 second-and-last-two : (a b c d e f : Bool) → (a && b && c && d && e && f) ≡ true → (b ≡ true) × (e ≡ true) × (f ≡ true)
 second-and-last-two a b c d e f h = (grind (arith, nat_tests), grind (arith, nat_tests), grind (arith, nat_tests))
-
-all-both : (p q : ℕ × ℕ → Bool) (sides : List (ℕ × ℕ)) → list_all p sides ≡ true → list_all q sides ≡ true → list_all (λ s. p s && q s) sides ≡ true
-all-both p q [] h k = refl
-all-both p q (s ∷ sides) h k =
-    let one = and_parts (p s) (list_all p sides) h in
-    let two = and_parts (q s) (list_all q sides) k in
-    and_from _ _ (and_from _ _ one.0 two.0) (all-both p q sides one.1 two.1)
 
 mapped-agree : {Y : Type 0} (f g : ℕ × ℕ → Y) (q : ℕ × ℕ → Bool) → ((s : ℕ × ℕ) → q s ≡ true → f s ≡ g s) → (sides : List (ℕ × ℕ)) → list_all q sides ≡ true → map f sides ≡ map g sides
 mapped-agree f g q alike [] all = refl
@@ -168,7 +162,7 @@ module _ (mesh : ObjMesh) where
     seamless-sharpness =
         let polygons = cut_faces mesh in
         mapped-agree (cut_edge_sharpness (base_level mesh) (channel_points mesh) polygons) (λ s. base_edge_sharpness mesh (vertices_of mesh s)) (λ s. is_inside (cut_point_count mesh) s && list_any (same_edge s) (edges_of polygons)) one-edge (edges_of polygons)
-        (all-both (is_inside (cut_point_count mesh)) (λ s. list_any (same_edge s) (edges_of polygons)) (edges_of polygons) (first_named-all (is_inside (cut_point_count mesh)) (all_sides polygons) (sides-inside (cut_point_count mesh) polygons (cut-over mesh)))
+        (both-all (is_inside (cut_point_count mesh)) (λ s. list_any (same_edge s) (edges_of polygons)) (edges_of polygons) (first_named-all (is_inside (cut_point_count mesh)) (all_sides polygons) (sides-inside (cut_point_count mesh) polygons (cut-over mesh)))
         (first_named-all (λ s. list_any (same_edge s) (edges_of polygons)) (all_sides polygons) (all-named (all_sides polygons))))
         ∙ sym (map-map (base_edge_sharpness mesh) (vertices_of mesh) (edges_of polygons))
         ∙ ap (map (base_edge_sharpness mesh)) seamless-edges

@@ -106,19 +106,19 @@ module _ (near : ℕ → ℕ → Bool) (faces : List ℕ) where
         here (inl same) behind = let stays = reached-stays steps (next_reached reached) (sym same) in ap next_reached stays ∙ sym same ∙ sym stays
         here (inr more) behind = behind (omega arith)
 
-    alone-within : (face : ℕ) → is_among faces face ≡ true → IsWithin (face ∷ []) faces
-    alone-within face inside n h = here (or_cases (nat_eq n face) false h)
+    single-within : (face : ℕ) → is_among faces face ≡ true → IsWithin (face ∷ []) faces
+    single-within face inside n h = here (or_cases (nat_eq n face) false h)
       where
         here : (nat_eq n face ≡ true) ⊎ (false ≡ true) → is_among faces n ≡ true
         here (inl same) = ap (is_among faces) (eqb-true n face same) ∙ inside
         here (inr none) = absurd (cc)
 
     pub joined-itself : (face : ℕ) → is_among faces face ≡ true → is_among (joined_with face) face ≡ true
-    joined-itself face inside = reached-has (length faces) (face ∷ []) (alone-within face inside) face (or_left _ _ (eq-eqb face face refl))
+    joined-itself face inside = reached-has (length faces) (face ∷ []) (single-within face inside) face (or_left _ _ (eq-eqb face face refl))
 
     pub joined-stable : (face : ℕ) → is_among faces face ≡ true → next_reached (joined_with face) ≡ joined_with face
     joined-stable face inside =
-        let within = alone-within face inside in
+        let within = single-within face inside in
         let some = among-some face (next_reached (face ∷ [])) (next-has (face ∷ []) within face (or_left _ _ (eq-eqb face face refl))) in
         reached-stable (length faces) (face ∷ []) within (omega arith)
 
