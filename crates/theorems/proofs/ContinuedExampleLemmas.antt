@@ -1,8 +1,8 @@
 -- The example meets the premises.
 use Rattle.std.proofs.Common.{◌≡◌, ℕ, true, None, refl}
 use Rattle.far_model.specs.Command.{RefineOptions, SmoothUv, ByTable}
-use Rattle.theorems.specs.Continued.{TaggedText, FurtherSteps, tagged_text, text_after, text_at_once}
-use Rattle.theorems.specs.ContinuedExamples.{quads_text, quads_refined_text}
+use Rattle.theorems.specs.Continued.{TaggedText, FurtherSteps, text_after, text_at_once}
+use Rattle.theorems.specs.ContinuedExamples.{AreStepsOfQuads, quads_text}
 use Rattle.theorems.proofs.ContinuedLemmas.{texts-again}
 
 abbrev at_depth : ℕ → RefineOptions
@@ -22,6 +22,6 @@ further = record {
   accepted_at_once = refl;
 }
 
-pub quads-further : (given : TaggedText) × (steps : FurtherSteps given) × (given.bytes ≡ quads_text)
-    × (tagged_text given ≡ quads_refined_text) × (steps.after.depth ≡ 1) × (text_after steps ≡ text_at_once steps)
-quads-further = (quads, further, refl, refl, refl, texts-again quads further refl refl)
+pub quads-further : (given : TaggedText) × (steps : FurtherSteps given) × AreStepsOfQuads given steps
+    × (text_after steps ≡ text_at_once steps)
+quads-further = (quads, further, record { bytes = refl; text = refl; depth = refl }, texts-again quads further refl refl)

@@ -84,7 +84,7 @@ module _ (mesh : ObjMesh) (is : IsManifoldMesh mesh) (proper : HasProperTags mes
       record {
         formed = cut-well-formed mesh mode base-sharp.formed;
         manifold = manifold;
-        sharp_boundary = sharp-from cut (λ t alone. ap is_infinite (cut-boundary mesh mode t (boundary-named cut simple t alone) alone));
+        sharp_boundary = sharp-from cut (λ t on_boundary. ap is_infinite (cut-boundary mesh mode t (boundary-named cut simple t on_boundary) on_boundary));
       }
 
   pub cut-levels-sharp : (k : ℕ) → IsManifoldWithSharpBoundary (refined_level (cut_level mode mesh) k)

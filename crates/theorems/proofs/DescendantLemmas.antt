@@ -18,26 +18,21 @@ use Rattle.theorems.specs.Descendants.{half_from, two_halves, boundary_descendan
 use Rattle.limit_laws.proofs.HalfEdgeLemmas.{end-kept, end-cases, half-boundary}
 use Rattle.limit_laws.proofs.CreaseLemmas.{first-end, second-end}
 use Rattle.limit_laws.proofs.PlaceLemmas.{kept-pass}
-
--- two tests that imply each other
-both-ways : (b c : Bool) → (b ≡ true → c ≡ true) → (c ≡ true → b ≡ true) → b ≡ c
-both-ways true c h k = sym (h refl)
-both-ways false true h k = k refl
-both-ways false false h k = refl
+use Rattle.mesh_laws.proofs.WalkLemmas.{same-tests}
 
 module _ (base : Level) (is : IsSharpAtBoundary base) where
   -- each descendant is an edge of one face
-  pub descendants-alone : (k : ℕ) → list_all (is_boundary (refined_level base k).polygons) (boundary_descendants base k) ≡ true
-  descendants-alone zero = kept-pass (is_boundary base.polygons) (edges_of base.polygons)
-  descendants-alone (suc k) =
+  pub descendants-boundary : (k : ℕ) → list_all (is_boundary (refined_level base k).polygons) (boundary_descendants base k) ≡ true
+  descendants-boundary zero = kept-pass (is_boundary base.polygons) (edges_of base.polygons)
+  descendants-boundary (suc k) =
       let level = refined_level base k in
       let here = sharp-levels base k is in
       let child = half-boundary level.point_count level.polygons here.over here.simple in
       let test = is_boundary (refined_level base (suc k)).polygons in
       all-flat_map test (two_halves level) (boundary_descendants base k)
       ∙ all-weaker (is_boundary level.polygons) (λ e. list_all test (two_halves level e))
-      (λ e alone. and_from _ _ (child e e.0 alone (first-end e)) (and_from _ _ (child e e.1 alone (second-end e)) refl))
-      (boundary_descendants base k) (descendants-alone k)
+      (λ e on_boundary. and_from _ _ (child e e.0 on_boundary (first-end e)) (and_from _ _ (child e e.1 on_boundary (second-end e)) refl))
+      (boundary_descendants base k) (descendants-boundary k)
 
   -- an edge that is the half of a descendant is one of the two
   half-listed : (level : Level) (t e x : ℕ × ℕ) (v : ℕ) → has_end v e ≡ true → same_edge t (v, point_of level e) ≡ true → same_edge e x ≡ true
@@ -54,28 +49,28 @@ module _ (base : Level) (is : IsSharpAtBoundary base) where
           or_right _ _ (or_left _ _ (ap (λ n. same_edge t (half_from level x n)) (sym (eqb-true v x.1 (end-cases v x ends h))) ∙ moved))
 
   -- each edge of one face is a descendant
-  alone-listed : (k : ℕ) (t : ℕ × ℕ) → is_boundary (refined_level base k).polygons t ≡ true
+  boundary-listed : (k : ℕ) (t : ℕ × ℕ) → is_boundary (refined_level base k).polygons t ≡ true
       → list_any (same_edge t) (boundary_descendants base k) ≡ true
-  alone-listed zero t alone =
+  boundary-listed zero t on_boundary =
       any-both (is_boundary base.polygons) (same_edge t) (edges_of base.polygons)
       ∙ any-weaker (same_edge t) (λ x. is_boundary base.polygons x && same_edge t x)
-      (λ x same. and_from _ _ (sym (boundary-alike base.polygons is.simple t x same) ∙ alone) same) (edges_of base.polygons)
-      (boundary-named base is.simple t alone)
-  alone-listed (suc k) t alone =
+      (λ x same. and_from _ _ (sym (boundary-alike base.polygons is.simple t x same) ∙ on_boundary) same) (edges_of base.polygons)
+      (boundary-named base is.simple t on_boundary)
+  boundary-listed (suc k) t on_boundary =
       let level = refined_level base k in
       let here = sharp-levels base k is in
-      let from = child-boundary level.point_count level.polygons here.over here.simple here.distinct t alone in
+      let from = child-boundary level.point_count level.polygons here.over here.simple here.distinct t on_boundary in
       any-flat_map (same_edge t) (two_halves level) (boundary_descendants base k)
       ∙ any-weaker (same_edge from.edge) (λ x. list_any (same_edge t) (two_halves level x))
       (λ x same. half-listed level t from.edge x from.end from.at_end from.half same) (boundary_descendants base k)
-      (alone-listed k from.edge from.on_boundary)
+      (boundary-listed k from.edge from.on_boundary)
 
   -- the descendants are exactly the edges of one face
   pub descendants-exact : (k : ℕ) (t : ℕ × ℕ)
       → list_any (same_edge t) (boundary_descendants base k) ≡ is_boundary (refined_level base k).polygons t
   descendants-exact k t =
-      both-ways _ _
+      same-tests _ _
       (λ there.
-      let found = any-all (same_edge t) (is_boundary (refined_level base k).polygons) (boundary_descendants base k) there (descendants-alone k) in
+      let found = any-all (same_edge t) (is_boundary (refined_level base k).polygons) (boundary_descendants base k) there (descendants-boundary k) in
       boundary-alike (refined_level base k).polygons (sharp-levels base k is).simple t found.0 found.1 ∙ found.2)
-      (alone-listed k t)
+      (boundary-listed k t)

@@ -30,7 +30,7 @@ use Rattle.limit_laws.proofs.HalfEdgeLemmas.{end-kept, edge-of-one}
 use Rattle.limit_laws.proofs.CreaseLemmas.{end-inside}
 use Rattle.limit_laws.proofs.NumberLemmas.{IsNumber, same-number}
 use Rattle.theorems.proofs.StraightLemmas.{IsStraight, straight-child}
-use Rattle.theorems.proofs.DescendantLemmas.{descendants-alone, descendants-exact}
+use Rattle.theorems.proofs.DescendantLemmas.{descendants-boundary, descendants-exact}
 
 -- Linear refinement sees the points and polygons of its levels, and nothing else.
 
@@ -95,8 +95,8 @@ module _ (base : Level) (is : IsSharpAtBoundary base) (kept : HasSharpEnds base)
     record {
       positive = omega arith;
       is = is;
-      both = λ t p alone at. record { first = control-number controls p; second = control-number controls p };
-      point = λ t p alone at. inl (kept t p alone at);
+      both = λ t p on_boundary at. record { first = control-number controls p; second = control-number controls p };
+      point = λ t p on_boundary at. inl (kept t p on_boundary at);
     },
   )
   straight-levels (suc k) =
@@ -109,7 +109,7 @@ module _ (base : Level) (is : IsSharpAtBoundary base) (kept : HasSharpEnds base)
       (point_value (refined_values base Linear (control_values controls) k) p)
   linear-there k p there =
       let level = refined_level base k in
-      let found = any-all (has_end p) (is_boundary level.polygons) (boundary_descendants base k) there (descendants-alone base is k) in
+      let found = any-all (has_end p) (is_boundary level.polygons) (boundary_descendants base k) there (descendants-boundary base is k) in
       let straight = straight-levels k in
       let both = straight.2.both found.0 p found.2 found.1 in
       record {
@@ -136,21 +136,21 @@ module _ (mesh : ObjMesh) (manifold : IsManifold (length mesh.points) mesh.faces
         over = cut-over mesh;
         simple = simple;
         distinct = cut-is.sides_once;
-        sharp = sharp-from base (λ t alone. ap is_infinite (cut-boundary mesh BoundarySeams t (boundary-named base simple t alone) alone));
+        sharp = sharp-from base (λ t on_boundary. ap is_infinite (cut-boundary mesh BoundarySeams t (boundary-named base simple t on_boundary) on_boundary));
       }
 
   -- an end of a boundary edge is at the boundary
   at-boundary : (t : ℕ × ℕ) (p : ℕ) → is_boundary (cut_faces mesh) t ≡ true → has_end p t ≡ true → is_at_boundary (cut_faces mesh) p ≡ true
-  at-boundary t p alone at =
+  at-boundary t p on_boundary at =
       any-weaker (same_edge t) (λ edge. is_boundary (cut_faces mesh) edge && has_end p edge)
-      (λ edge same. and_from _ _ (sym (boundary-alike (cut_faces mesh) cut-sharp.simple t edge same) ∙ alone) (end-kept p t edge same at))
-      (edges_of (cut_faces mesh)) (boundary-named base cut-sharp.simple t alone)
+      (λ edge same. and_from _ _ (sym (boundary-alike (cut_faces mesh) cut-sharp.simple t edge same) ∙ on_boundary) (end-kept p t edge same at))
+      (edges_of (cut_faces mesh)) (boundary-named base cut-sharp.simple t on_boundary)
 
   -- the mode keeps each end of a boundary edge sharp
   cut-kept : HasSharpEnds base
-  cut-kept t p alone at =
-      let inside = (edge-of-one (cut_point_count mesh) (cut_faces mesh) cut-sharp.over cut-sharp.simple t alone).inside in
-      cut-vertex-sharp mesh BoundarySeams p (ltb-true p (cut_point_count mesh) (end-inside (cut_point_count mesh) p t inside at)) (at-boundary t p alone at)
+  cut-kept t p on_boundary at =
+      let inside = (edge-of-one (cut_point_count mesh) (cut_faces mesh) cut-sharp.over cut-sharp.simple t on_boundary).inside in
+      cut-vertex-sharp mesh BoundarySeams p (ltb-true p (cut_point_count mesh) (end-inside (cut_point_count mesh) p t inside at)) (at-boundary t p on_boundary at)
 
   -- the law of seams, with its denominators
   pub seams-linear : (controls : List ℤ) (k p : ℕ) → IsTrue (list_any (has_end p) (boundary_descendants base k))

@@ -25,7 +25,7 @@ use Rattle.limit_laws.proofs.NumberLemmas.{IsNumber, corner-number, middle-numbe
 use Rattle.limit_laws.proofs.ChildValueLemmas.{listed, listed-same, value-old, value-new, next_number, number-old, number-listed, number-new}
 
 -- the point is a crease, and the middle of its two neighbours on the boundary
-pub record IsBetween (level : Level) (number : ℕ → ℤ) (p : ℕ) : Type 0 where
+pub record IsMidway (level : Level) (number : ℕ → ℤ) (p : ℕ) : Type 0 where
   pub a : ℕ
   pub b : ℕ
   pub crease : IsCrease level p a b
@@ -44,7 +44,7 @@ pub record IsStraight (level : Level) (m : ℕ) (number : ℕ → ℤ) (xs ys : 
   pub both : (t : ℕ × ℕ) (p : ℕ) → is_boundary level.polygons t ≡ true → has_end p t ≡ true
       → HasBoth m (number p) (point_value xs p) (point_value ys p)
   pub point : (t : ℕ × ℕ) (p : ℕ) → is_boundary level.polygons t ≡ true → has_end p t ≡ true
-      → (vertex_sharpness_of level p ≡ Infinite) ⊎ IsBetween level number p
+      → (vertex_sharpness_of level p ≡ Infinite) ⊎ IsMidway level number p
 
 -- an end of the pair is one of the two
 half-ends : (p v n : ℕ) (t : ℕ × ℕ) → has_end p t ≡ true → same_edge t (v, n) ≡ true → (nat_eq p v || nat_eq p n) ≡ true
@@ -71,14 +71,14 @@ module _ (level : Level) (m : ℕ) (number : ℕ → ℤ) (xs ys : List Value) (
 
   -- A point of the level.
 
-  module _ (e : ℕ × ℕ) (v : ℕ) (alone : is_boundary level.polygons e ≡ true) (at : has_end v e ≡ true) where
+  module _ (e : ℕ × ℕ) (v : ℕ) (on_boundary : is_boundary level.polygons e ≡ true) (at : has_end v e ≡ true) where
     -- an end of a boundary edge is a point of the level
     old-below : nat_lt v level.point_count ≡ true
-    old-below = end-inside level.point_count v e (edge-of-one level.point_count level.polygons st.is.over st.is.simple e alone).inside at
+    old-below = end-inside level.point_count v e (edge-of-one level.point_count level.polygons st.is.over st.is.simple e on_boundary).inside at
 
     -- with its number
     own : HasBoth m (number v) (point_value xs v) (point_value ys v)
-    own = st.both e v alone at
+    own = st.both e v on_boundary at
 
     -- the mask gives twice the number over twice the denominator
     abbrev Over : Mask → Type 0
@@ -86,22 +86,22 @@ module _ (level : Level) (m : ℕ) (number : ℕ → ℤ) (xs ys : List Value) (
 
     -- the vertex mask gives what the scheme's own corner or crease gives
     old-mask : Over (vertex_mask level CatmullClark v)
-    old-mask = here (st.point e v alone at)
+    old-mask = here (st.point e v on_boundary at)
       where
-        between : (c : IsBetween level number v) → (vertex_mask level CatmullClark v ≡ crease_mask v c.a c.b) ⊎ (vertex_mask level CatmullClark v ≡ crease_mask v c.b c.a)
+        on_crease : (c : IsMidway level number v) → (vertex_mask level CatmullClark v ≡ crease_mask v c.a c.b) ⊎ (vertex_mask level CatmullClark v ≡ crease_mask v c.b c.a)
             → Over (vertex_mask level CatmullClark v)
-        between c (inl h) =
+        on_crease c (inl h) =
             let first = (st.both (v, c.a) c.a c.crease.to_a (second-end (v, c.a))).first in
             let second = (st.both (v, c.b) c.b c.crease.to_b (second-end (v, c.b))).first in
             subst Over (sym h) (crease-number m (source_value level xs) number v c.a c.b own.first first second c.middle)
-        between c (inr h) =
+        on_crease c (inr h) =
             let first = (st.both (v, c.a) c.a c.crease.to_a (second-end (v, c.a))).first in
             let second = (st.both (v, c.b) c.b c.crease.to_b (second-end (v, c.b))).first in
             subst Over (sym h) (crease-number m (source_value level xs) number v c.b c.a own.first second first (+ℤ_comm (number c.b) (number c.a) ∙ c.middle))
 
-        here : (vertex_sharpness_of level v ≡ Infinite) ⊎ IsBetween level number v → Over (vertex_mask level CatmullClark v)
+        here : (vertex_sharpness_of level v ≡ Infinite) ⊎ IsMidway level number v → Over (vertex_mask level CatmullClark v)
         here (inl h) = subst Over (sym (kept-vertex level v h)) (corner-number m (source_value level xs) number v own.first)
-        here (inr c) = between c (crease-vertex level st.is v c.a c.b c.crease)
+        here (inr c) = on_crease c (crease-vertex level st.is v c.a c.b c.crease)
 
     -- an old point has its number in the next level
     old-both : HasBoth (2 * m) (next v) (point_value xs_next v) (point_value ys_next v)
@@ -116,8 +116,8 @@ module _ (level : Level) (m : ℕ) (number : ℕ → ℤ) (xs ys : List Value) (
         }
 
     -- a point between its old neighbours is between its new ones
-    old-between : IsBetween level number v → IsBetween (child_level level) next v
-    old-between c =
+    old-midway : IsMidway level number v → IsMidway (child_level level) next v
+    old-midway c =
         let at_a = (edge-of-one level.point_count level.polygons st.is.over st.is.simple (v, c.a) c.crease.to_a).named in
         let at_b = (edge-of-one level.point_count level.polygons st.is.over st.is.simple (v, c.b) c.crease.to_b).named in
         let itself = number-old level number v old-below in
@@ -136,28 +136,28 @@ module _ (level : Level) (m : ℕ) (number : ℕ → ℤ) (xs ys : List Value) (
         }
 
     -- an old point stays infinitely sharp or between its neighbours
-    old-point : (vertex_sharpness_of (child_level level) v ≡ Infinite) ⊎ IsBetween (child_level level) next v
-    old-point = here (st.point e v alone at)
+    old-point : (vertex_sharpness_of (child_level level) v ≡ Infinite) ⊎ IsMidway (child_level level) next v
+    old-point = here (st.point e v on_boundary at)
       where
-        here : (vertex_sharpness_of level v ≡ Infinite) ⊎ IsBetween level number v
-            → (vertex_sharpness_of (child_level level) v ≡ Infinite) ⊎ IsBetween (child_level level) next v
+        here : (vertex_sharpness_of level v ≡ Infinite) ⊎ IsMidway level number v
+            → (vertex_sharpness_of (child_level level) v ≡ Infinite) ⊎ IsMidway (child_level level) next v
         here (inl h) = inl (old-uniform level v (ltb-true v level.point_count old-below) ∙ ap uniform_child h)
-        here (inr c) = inr (old-between c)
+        here (inr c) = inr (old-midway c)
 
   -- The new point of a boundary edge.
 
-  module _ (e : ℕ × ℕ) (alone : is_boundary level.polygons e ≡ true) where
+  module _ (e : ℕ × ℕ) (on_boundary : is_boundary level.polygons e ≡ true) where
     -- the edge as it is listed
     abbrev as_listed : ℕ × ℕ
     as_listed = listed level e
 
     -- the edge is listed
     named : is_edge level e ≡ true
-    named = (edge-of-one level.point_count level.polygons st.is.over st.is.simple e alone).named
+    named = (edge-of-one level.point_count level.polygons st.is.over st.is.simple e on_boundary).named
 
     -- the edge has one face in its listed direction too
-    listed-alone : is_boundary level.polygons as_listed ≡ true
-    listed-alone = sym (boundary-alike level.polygons st.is.simple e as_listed (listed-same level e named)) ∙ alone
+    listed-boundary : is_boundary level.polygons as_listed ≡ true
+    listed-boundary = sym (boundary-alike level.polygons st.is.simple e as_listed (listed-same level e named)) ∙ on_boundary
 
     -- the new point of the edge has its number in the next level
     new-both : HasBoth (2 * m) (next (point_of level e)) (point_value xs_next (point_of level e)) (point_value ys_next (point_of level e))
@@ -165,9 +165,9 @@ module _ (level : Level) (m : ℕ) (number : ℕ → ℤ) (xs ys : List Value) (
         let P : Value → ℤ → Type 0 = λ x n. IsNumber (2 * m) n x in
         let sum : ℤ = number as_listed.0 +ℤ number as_listed.1 in
         let number_is = sym (number-listed level number e) in
-        let first = st.both as_listed as_listed.0 listed-alone (first-end as_listed) in
-        let second = st.both as_listed as_listed.1 listed-alone (second-end as_listed) in
-        let infinite = is-infinite (edge_sharpness_of level as_listed) (sharp-at level st.is.simple st.is.sharp as_listed listed-alone) in
+        let first = st.both as_listed as_listed.0 listed-boundary (first-end as_listed) in
+        let second = st.both as_listed as_listed.1 listed-boundary (second-end as_listed) in
+        let infinite = is-infinite (edge_sharpness_of level as_listed) (sharp-at level st.is.simple st.is.sharp as_listed listed-boundary) in
         let middle : point_value xs_next (point_of level e) ≡ mask_value (source_value level xs) (sharp_edge_mask as_listed) =
         value-new level CatmullClark xs e named ∙ ap (mask_value (source_value level xs)) (middle-edge level as_listed infinite) in
         record {
@@ -178,16 +178,16 @@ module _ (level : Level) (m : ℕ) (number : ℕ → ℤ) (xs ys : List Value) (
         }
 
     -- a new point is between the ends of its edge
-    new-between : IsBetween (child_level level) next (point_of level e)
-    new-between =
-        let inside = (edge-of-one level.point_count level.polygons st.is.over st.is.simple e alone).inside in
+    new-midway : IsMidway (child_level level) next (point_of level e)
+    new-midway =
+        let inside = (edge-of-one level.point_count level.polygons st.is.over st.is.simple e on_boundary).inside in
         let sums : next e.0 +ℤ next e.1 ≡ pos 2 *ℤ number e.0 +ℤ pos 2 *ℤ number e.1 =
         ap (λ z. z +ℤ next e.1) (number-old level number e.0 (end-inside level.point_count e.0 e inside (first-end e)))
         ∙ ap (λ z. pos 2 *ℤ number e.0 +ℤ z) (number-old level number e.1 (end-inside level.point_count e.1 e inside (second-end e))) in
         record {
           a = e.0;
           b = e.1;
-          crease = new-crease level st.is e alone;
+          crease = new-crease level st.is e on_boundary;
           middle = sums ∙ sym (pos-distrib 2 (number e.0) (number e.1)) ∙ ap (λ z. pos 2 *ℤ z) (sym (number-new level number e named));
         }
 
@@ -197,7 +197,7 @@ module _ (level : Level) (m : ℕ) (number : ℕ → ℤ) (xs ys : List Value) (
   ends-next : (P : ℕ → Type 0) → ((e : ℕ × ℕ) (v : ℕ) → is_boundary level.polygons e ≡ true → has_end v e ≡ true → P v)
       → ((e : ℕ × ℕ) → is_boundary level.polygons e ≡ true → P (point_of level e))
       → (t : ℕ × ℕ) (p : ℕ) → is_boundary (child_level level).polygons t ≡ true → has_end p t ≡ true → P p
-  ends-next P old new t p alone at = here (child-boundary level.point_count level.polygons st.is.over st.is.simple st.is.distinct t alone)
+  ends-next P old new t p on_boundary at = here (child-boundary level.point_count level.polygons st.is.over st.is.simple st.is.distinct t on_boundary)
     where
       here : IsBoundaryHalf level.point_count level.polygons t → P p
       here from = which (or_cases _ _ (half-ends p from.end (point_of level from.edge) t at from.half))
@@ -212,6 +212,6 @@ module _ (level : Level) (m : ℕ) (number : ℕ → ℤ) (xs ys : List Value) (
     positive = omega (arith, st.positive);
     is = sharp-child level st.is;
     both = ends-next (λ p. HasBoth (2 * m) (next p) (point_value xs_next p) (point_value ys_next p)) old-both new-both;
-    point = ends-next (λ p. (vertex_sharpness_of (child_level level) p ≡ Infinite) ⊎ IsBetween (child_level level) next p) old-point
-        (λ e alone. inr (new-between e alone));
+    point = ends-next (λ p. (vertex_sharpness_of (child_level level) p ≡ Infinite) ⊎ IsMidway (child_level level) next p) old-point
+        (λ e on_boundary. inr (new-midway e on_boundary));
   }

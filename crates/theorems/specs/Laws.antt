@@ -1,9 +1,9 @@
 -- Texts and meshes, and the last of their tags that names an item, for the laws of tags.
 -- Source: Drillolive.
-use Rattle.std.specs.Prelude.{◌≡◌, ℕ, Bool, false, nat_eq, List, ◌∷◌, ◌++◌, length, IsTrue}
+use Rattle.std.specs.Prelude.{◌≡◌, ℕ, Bool, false, nat_eq, ◌||◌, List, ◌∷◌, ◌++◌, length, if◌then◌else◌, IsTrue}
 use Rattle.std.specs.List.{list_any, count_by}
 use Rattle.subdiv_model.specs.Polygons.{same_edge, polygon_at}
-use Rattle.subdiv_model.specs.Sharpness.{Sharpness}
+use Rattle.subdiv_model.specs.Sharpness.{Sharpness, Infinite}
 use Rattle.subdiv_model.specs.Boundary.{Boundary}
 use Rattle.subdiv_model.specs.ObjMesh.{ObjMesh}
 use Rattle.subdiv_model.specs.ObjLine.{is_vertex_line}
@@ -38,6 +38,10 @@ LastCrease mesh edge = LastOf (is_crease_of edge) mesh.creases
 -- the last corner tag of the mesh that names the vertex
 abbrev pub LastCornerTag : ObjMesh → ℕ → Type 0
 LastCornerTag mesh v = LastOf (is_corner_tag_of v) mesh.corner_tags
+
+-- the boundary mode of the mesh makes the vertex a corner
+abbrev pub is_corner_by_mode : ObjMesh → ℕ → Bool
+is_corner_by_mode mesh v = is_end_corner mesh.boundary mesh.faces v
 
 -- Texts.
 
@@ -105,3 +109,11 @@ is_named_hole text face = list_any (is_hole_line_of face) text.lines
 -- the boundary mode hides the face of the text
 abbrev pub is_hidden_under : Boundary → Text → ℕ → Bool
 is_hidden_under mode text face = is_hidden mode (faces_of text.lines) (polygon_at (faces_of text.lines) face)
+
+-- the sharpness of the vertex under a boundary mode
+abbrev pub sharpness_under : Boundary → Text → ℕ → Sharpness
+sharpness_under mode text v = if is_corner_under mode text v then Infinite else corner_sharpness text v
+
+-- the face of the text is a hole under a boundary mode
+abbrev pub is_hole_under : Boundary → Text → ℕ → Bool
+is_hole_under mode text face = is_named_hole text face || is_hidden_under mode text face

@@ -9,7 +9,7 @@ ghost use Rattle.far_model.specs.Command.{ReadCommand, Reads};
 ghost use Rattle.far_model.specs.Answer.{IsAcceptedMesh, points_after};
 ghost use Rattle.continued_laws.specs.Laws.{IsPointOver, point_lines};
 ghost use Rattle.theorems.specs.Continued.{TaggedText, tagged_text, first_mesh, second_mesh, written_level, written_points, HasShortNumbers, FurtherSteps, text_after, text_at_once, vertex_lines};
-ghost use Rattle.theorems.specs.ContinuedExamples.{quads_text, quads_refined_text};
+ghost use Rattle.theorems.specs.ContinuedExamples.{AreStepsOfQuads};
 
 /// The text that `refine` writes at depth k with tags, without decimals, gives the level again. If it is read without fault, its
 /// mesh is accepted. Level 0 of that mesh is level k of the first mesh, and its points have the values of the points there.
@@ -42,6 +42,6 @@ pub fn refinement_goes_on()
 /// An example: two quads with a crease, a corner and a hole. One step from their text after a step writes what two steps write at
 /// once.
 pub fn quads_are_refined_further()
-    ensures { (given : TaggedText) × (steps : FurtherSteps given) × (given.bytes ≡ quads_text)
-        × (tagged_text given ≡ quads_refined_text) × (steps.after.depth ≡ 1) × (text_after steps ≡ text_at_once steps) }
+    ensures { (given : TaggedText) × (steps : FurtherSteps given) × AreStepsOfQuads given steps
+        × (text_after steps ≡ text_at_once steps) }
 {}

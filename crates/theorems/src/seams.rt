@@ -1,8 +1,6 @@
 //! Laws of the boundary of a cut mesh, level by level.
 
 ghost use Rattle.std.specs.Prelude.{◌≡◌, ℕ, ◌<◌, ℤ, pos, List, [], ◌∷◌, length};
-ghost use Rattle.std.specs.List.{list_any};
-ghost use Rattle.subdiv_model.specs.Polygons.{same_edge};
 ghost use Rattle.subdiv_model.specs.Edges.{is_boundary};
 ghost use Rattle.subdiv_model.specs.Manifold.{IsManifold};
 ghost use Rattle.subdiv_model.specs.ObjMesh.{ObjMesh};
@@ -12,7 +10,7 @@ ghost use Rattle.subdiv_model.specs.Refined.{point_value, control_values, refine
 ghost use Rattle.subdiv_model.specs.Cut.{SmoothSeams, BoundarySeams, cut_level};
 ghost use Rattle.subdiv_model.specs.Examples.{joined_quads};
 ghost use Rattle.theorems.specs.Descendants.{boundary_descendants};
-ghost use Rattle.theorems.specs.Seams.{SeamEnd, cut_value, seam_descendants, sharp_level, smooth_level};
+ghost use Rattle.theorems.specs.Seams.{SeamEnd, cut_value, halves_of_joined_quads, is_seam_descendant, sharp_level, smooth_level};
 
 /// Where the boundary of a cut mesh stays sharp, texture is refined linearly along it. At every depth each end of a descendant of
 /// a boundary edge has the value that linear refinement gives it, for all control numbers.
@@ -25,7 +23,7 @@ pub fn texture_is_linear_on_sharp_seams()
     ensures above_zero { (end : SeamEnd) (controls : List ℤ)
         → (0 < (cut_value BoundarySeams CatmullClark controls end).den) × (0 < (cut_value SmoothSeams Linear controls end).den) }
     ensures descendants { (mesh : ObjMesh) (k : ℕ) (edge : ℕ × ℕ) → IsManifold (length mesh.points) mesh.faces
-        → list_any (same_edge edge) (seam_descendants mesh k) ≡ is_boundary (sharp_level mesh k).polygons edge }
+        → is_seam_descendant mesh k edge ≡ is_boundary (sharp_level mesh k).polygons edge }
     ensures same_points { (mesh : ObjMesh) (k : ℕ) → (sharp_level mesh k).point_count ≡ (smooth_level mesh k).point_count }
     ensures same_faces { (mesh : ObjMesh) (k : ℕ) → (sharp_level mesh k).polygons ≡ (smooth_level mesh k).polygons }
 {}
@@ -35,8 +33,7 @@ pub fn texture_is_linear_on_sharp_seams()
 pub fn boundary_of_two_quads()
     ensures edges { boundary_descendants (cut_level BoundarySeams joined_quads) 0
         ≡ (0, 1) ∷ (2, 3) ∷ (3, 0) ∷ (1, 4) ∷ (4, 5) ∷ (5, 2) ∷ [] }
-    ensures halves { boundary_descendants (cut_level BoundarySeams joined_quads) 1
-        ≡ (0, 8) ∷ (1, 8) ∷ (2, 10) ∷ (3, 10) ∷ (3, 11) ∷ (0, 11) ∷ (1, 12) ∷ (4, 12) ∷ (4, 13) ∷ (5, 13) ∷ (5, 14) ∷ (2, 14) ∷ [] }
+    ensures halves { boundary_descendants (cut_level BoundarySeams joined_quads) 1 ≡ halves_of_joined_quads }
     ensures sharp { IsSameValue
         (point_value (refined_values (cut_level BoundarySeams joined_quads) CatmullClark (control_values (pos 8 ∷ [])) 1) 0)
         (whole_value (pos 8)) }

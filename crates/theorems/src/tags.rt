@@ -3,7 +3,7 @@
 //! The record `LastOf` holds a list split as `before`, `element` and `after`: the element is of the kind, and nothing in `after`
 //! is.
 
-ghost use Rattle.std.specs.Prelude.{◌≡◌, ℕ, ◌<◌, false, ◌||◌, length, if◌then◌else◌, IsTrue};
+ghost use Rattle.std.specs.Prelude.{◌≡◌, ℕ, ◌<◌, false, ◌||◌, length, IsTrue};
 ghost use Rattle.std.specs.List.{list_any};
 ghost use Rattle.subdiv_model.specs.Polygons.{is_among, polygon_at};
 ghost use Rattle.subdiv_model.specs.Edges.{is_boundary};
@@ -13,9 +13,9 @@ ghost use Rattle.subdiv_model.specs.ObjMesh.{ObjMesh};
 ghost use Rattle.subdiv_model.specs.ObjTag.{tag_creases, tag_corners, tag_mode, tag_method};
 ghost use Rattle.subdiv_model.specs.ReadObj.{faces_of, boundary_of};
 ghost use Rattle.subdiv_model.specs.Level.{edge_sharpness_of, vertex_sharpness_of, is_hole};
-ghost use Rattle.subdiv_model.specs.Base.{tagged_edge, tagged_vertex, is_end_corner, is_hidden, base_level};
+ghost use Rattle.subdiv_model.specs.Base.{tagged_edge, tagged_vertex, is_hidden, base_level};
 ghost use Rattle.mesh_laws.specs.Edges.{IsInnerEdge};
-ghost use Rattle.theorems.specs.Laws.{Text, LastCrease, LastCornerTag, LastCreaseLine, LastCornerLine, LastBoundaryLine, LastMethodLine, is_crease_of, is_corner_tag_of, mesh_of, level_of, edge_sharpness, vertex_sharpness, vertex_count, face_count, corner_sharpness, is_corner_under, is_mode_corner, is_named_hole, is_hidden_under};
+ghost use Rattle.theorems.specs.Laws.{Text, LastCrease, LastCornerTag, LastCreaseLine, LastCornerLine, LastBoundaryLine, LastMethodLine, is_crease_of, is_corner_tag_of, mesh_of, level_of, edge_sharpness, vertex_sharpness, vertex_count, face_count, corner_sharpness, is_corner_by_mode, is_mode_corner, is_hole_under, sharpness_under};
 ghost use Rattle.theorems.specs.TagLines.{is_crease_line_of, is_corner_line_of, is_hole_line_of, is_boundary_line, is_method_line};
 
 // From the text to the mesh.
@@ -66,10 +66,10 @@ pub fn last_tag_names_the_edge()
 /// boundary mode makes a corner is infinitely sharp, whatever its tags.
 pub fn last_tag_names_the_vertex()
     ensures last { (mesh : ObjMesh) (v : ℕ) (last : LastCornerTag mesh v) → v < length mesh.points
-        → is_end_corner mesh.boundary mesh.faces v ≡ false → vertex_sharpness_of (base_level mesh) v ≡ last.element.1 }
+        → is_corner_by_mode mesh v ≡ false → vertex_sharpness_of (base_level mesh) v ≡ last.element.1 }
     ensures untagged { (mesh : ObjMesh) (v : ℕ) → list_any (is_corner_tag_of v) mesh.corner_tags ≡ false
-        → is_end_corner mesh.boundary mesh.faces v ≡ false → vertex_sharpness_of (base_level mesh) v ≡ Smooth }
-    ensures end_corner { (mesh : ObjMesh) (v : ℕ) → v < length mesh.points → IsTrue (is_end_corner mesh.boundary mesh.faces v)
+        → is_corner_by_mode mesh v ≡ false → vertex_sharpness_of (base_level mesh) v ≡ Smooth }
+    ensures end_corner { (mesh : ObjMesh) (v : ℕ) → v < length mesh.points → IsTrue (is_corner_by_mode mesh v)
         → vertex_sharpness_of (base_level mesh) v ≡ Infinite }
 {}
 
@@ -104,16 +104,16 @@ pub fn last_corner_line_gives_the_vertex()
 /// A face of level 0 is a hole exactly where a hole line names it or the boundary mode hides it.
 pub fn hole_lines_give_the_holes()
     ensures { (text : Text) (face : ℕ) → face < face_count text
-        → is_hole (level_of text) face ≡ (list_any (is_hole_line_of face) text.lines || is_hidden_under (boundary_of text.lines) text face) }
+        → is_hole (level_of text) face ≡ is_hole_under (boundary_of text.lines) text face }
 {}
 
 /// The last line that sets a boundary mode decides which vertices of level 0 are infinitely sharp corners and which faces are
 /// hidden. Other vertices have what corner lines give them. Without such a line there are no such corners and no hidden faces.
 pub fn last_boundary_line_gives_the_mode()
     ensures vertices { (text : Text) (v : ℕ) (last : LastBoundaryLine text) → v < vertex_count text
-        → vertex_sharpness text v ≡ (if is_corner_under (tag_mode last.element) text v then Infinite else corner_sharpness text v) }
+        → vertex_sharpness text v ≡ sharpness_under (tag_mode last.element) text v }
     ensures holes { (text : Text) (face : ℕ) (last : LastBoundaryLine text) → face < face_count text
-        → is_hole (level_of text) face ≡ (is_named_hole text face || is_hidden_under (tag_mode last.element) text face) }
+        → is_hole (level_of text) face ≡ is_hole_under (tag_mode last.element) text face }
     ensures untagged_vertices { (text : Text) (v : ℕ) → list_any is_boundary_line text.lines ≡ false → v < vertex_count text
         → vertex_sharpness text v ≡ corner_sharpness text v }
     ensures untagged_holes { (text : Text) (face : ℕ) → list_any is_boundary_line text.lines ≡ false → face < face_count text
