@@ -96,9 +96,6 @@ same-renamed name s t h = go (same_side s t) refl
         rw (one, two) (or_right (same_side (renamed name s) (renamed name t)) true refl)
 
 module _ (name : ℕ → ℕ) (faces : List ℕ) (part whole : Level) (is : IsPart name faces part.polygons whole.polygons) where
-  abbrev kid : ℕ → ℕ
-  kid n = child_name name faces part whole n
-
   pub name-old : (n : ℕ) → n < part.point_count → child_name name faces part whole n ≡ name n
   name-old n h = let below = lt-ltb n part.point_count h in rw below refl
 

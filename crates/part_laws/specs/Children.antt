@@ -1,11 +1,12 @@
 -- The next level of a part, inside the next level of the whole.
-use Rattle.std.specs.Prelude.{◌≡◌, ℕ, ◌+◌, ◌-◌, ◌<◌, nat_lt, List, length, get_or, take, if◌then◌else◌, IsTrue}
+use Rattle.std.specs.Prelude.{◌≡◌, ℕ, ◌+◌, ◌-◌, ◌<◌, nat_lt, List, length, map, get_or, take, if◌then◌else◌, IsTrue}
 use Rattle.std.specs.List.{flat_map, sum_by, range_with_len}
 use Rattle.subdiv_model.specs.Polygons.{Polygon, polygon_at, is_over}
-use Rattle.subdiv_model.specs.Edges.{edges_of}
+use Rattle.subdiv_model.specs.Edges.{edge_number, edges_of}
 use Rattle.subdiv_model.specs.Sharpness.{Chaikin}
 use Rattle.subdiv_model.specs.Level.{Level}
 use Rattle.subdiv_model.specs.Child.{face_point, edge_point, child_polygons, child_level}
+use Rattle.level_laws.specs.Children.{Corner}
 use Rattle.part_laws.specs.Parts.{IsWholeAt, renamed, face_in}
 use Rattle.part_laws.specs.LevelParts.{IsLevelPart, LevelPart}
 
@@ -24,6 +25,10 @@ children_in polygons faces = flat_map (children_of polygons) faces
 -- the edge of this number
 abbrev pub edge_at : List Polygon → ℕ → ℕ × ℕ
 edge_at polygons n = get_or (edges_of polygons) n (0, 0)
+
+-- the edge in the direction in which the list of edges contains it
+abbrev pub as_listed : List Polygon → ℕ × ℕ → ℕ × ℕ
+as_listed polygons edge = edge_at polygons (edge_number polygons edge)
 
 -- the name of a point of the next level: the old name, or the new point of its face or edge in the whole
 abbrev pub child_name : (ℕ → ℕ) → List ℕ → Level → Level → ℕ → ℕ
@@ -58,9 +63,21 @@ name_next part n = child_name part.name part.faces part.level part.whole n
 abbrev pub faces_next : LevelPart → List ℕ
 faces_next part = children_in part.whole.polygons part.faces
 
+-- the number of the child face of a corner, in the next level of the whole
+abbrev pub child_in_whole : (part : LevelPart) → Corner part.level.polygons → ℕ
+child_in_whole part corner = first_child_place part.whole (face_in part.faces corner.face) + corner.place
+
 -- a level that is part of the next level
 pub record NextPart (part : LevelPart) : Type 0 where
   pub name : ℕ → ℕ
   pub faces : List ℕ
   pub level : Level
   pub is_next : IsNextPart part.name part.faces part.level part.whole name faces level
+
+-- the names of its points in the next level of the whole
+abbrev pub name_in_whole : {part : LevelPart} → NextPart part → ℕ → ℕ
+name_in_whole {part} next n = name_next part (next.name n)
+
+-- the numbers of its faces in the next level of the whole
+abbrev pub faces_in_whole : {part : LevelPart} → NextPart part → List ℕ
+faces_in_whole {part} next = map (face_in (faces_next part)) next.faces

@@ -1,8 +1,9 @@
 -- Parts, and points and edges at which a part has all faces, for the laws of parts.
-use Rattle.std.specs.Prelude.{ℕ, nat_lt, List, length, IsTrue}
+use Rattle.std.specs.Prelude.{ℕ, nat_lt, List, length, map, IsTrue}
 use Rattle.std.specs.List.{list_all, list_any}
 use Rattle.subdiv_model.specs.Polygons.{Polygon, same_edge}
-use Rattle.subdiv_model.specs.Edges.{edges_of}
+use Rattle.subdiv_model.specs.Edges.{edges_of, edges_of_point}
+use Rattle.subdiv_model.specs.Mask.{other_end}
 use Rattle.part_laws.specs.Parts.{IsPart, IsWholeAt, IsWholeAlong, is_corner, renamed}
 
 -- polygons that are part of others, with the names of their points and the numbers of the polygons
@@ -42,3 +43,7 @@ pub record WholeEdge (part : Part) : Type 0 where
 -- the edge with the names of its ends
 abbrev pub edge_in : {part : Part} → WholeEdge part → ℕ × ℕ
 edge_in {part} along = renamed part.name along.edge
+
+-- the other ends of the edges at a point
+abbrev pub other_ends_at : List Polygon → ℕ → List ℕ
+other_ends_at polygons v = map (other_end v) (edges_of_point polygons v)

@@ -7,7 +7,7 @@ use Rattle.subdiv_model.specs.Edges.{edges_of}
 use Rattle.subdiv_model.specs.Sharpness.{uniform_child}
 use Rattle.subdiv_model.specs.Rule.{child_ring, transition_weight}
 use Rattle.subdiv_model.specs.Level.{Level, edge_sharpness_of, vertex_sharpness_of, is_hole, ring_at}
-use Rattle.part_laws.specs.Parts.{IsPart, is_corner, renamed, face_in}
+use Rattle.part_laws.specs.Parts.{IsPart, IsWholeAt, is_corner, renamed, face_in}
 use Rattle.part_laws.specs.Laws.{Part, PartEdge, WholePoint, WholeEdge}
 
 -- The polygons of `part` are part of those of `whole`. Both levels have the same method, and the same holes and sharpness at the
@@ -71,3 +71,7 @@ last_name both p = both.name (both.part.name p)
 -- the numbers of the faces in the last level
 abbrev pub last_faces : PartOfPart → List ℕ
 last_faces both = map (face_in both.faces) both.part.faces
+
+-- the faces are all faces of the last level at a point of the first part
+abbrev pub IsWholeIn : PartOfPart → List ℕ → ℕ → Type 0
+IsWholeIn both faces p = IsWholeAt faces both.whole.polygons (last_name both p)

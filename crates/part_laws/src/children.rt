@@ -1,12 +1,12 @@
 //! Laws of the next level of a part: its faces, points and sharpness are those of the next level of the whole.
 
-ghost use Rattle.std.specs.Prelude.{◌≡◌, ℕ, ◌+◌, ◌<◌, List, length, map, IsTrue};
+ghost use Rattle.std.specs.Prelude.{◌≡◌, ℕ, ◌<◌, length, IsTrue};
 ghost use Rattle.subdiv_model.specs.Polygons.{has_corner};
 ghost use Rattle.subdiv_model.specs.Child.{child_level};
 ghost use Rattle.level_laws.specs.Children.{Corner, child_place, face_point_of, edge_point_of};
 ghost use Rattle.part_laws.specs.Parts.{IsPart, IsWholeAt, renamed, face_in};
 ghost use Rattle.part_laws.specs.LevelParts.{IsLevelPart, LevelPart, EdgeOf};
-ghost use Rattle.part_laws.specs.Children.{IsOverPoints, NextPart, first_child_place, name_next, faces_next};
+ghost use Rattle.part_laws.specs.Children.{IsOverPoints, NextPart, child_in_whole, name_next, faces_next, name_in_whole, faces_in_whole};
 ghost use Rattle.part_laws.specs.Values.{NextPoint, HasNextPoint, WholeChild, number_of, corners_of};
 
 /// A point of the part keeps its name in the next level. The new point of a face, or of an edge, gets the name of the new point
@@ -25,7 +25,7 @@ pub fn child_faces_of_parts_are_a_part()
     ensures part { (part : LevelPart) → IsOverPoints part
         → IsPart (name_next part) (faces_next part) (child_level part.level).polygons (child_level part.whole).polygons }
     ensures places { (part : LevelPart) (corner : Corner part.level.polygons)
-        → face_in (faces_next part) (child_place corner) ≡ first_child_place part.whole (face_in part.faces corner.face) + corner.place }
+        → face_in (faces_next part) (child_place corner) ≡ child_in_whole part corner }
 {}
 
 /// The next level of a part has all faces at three kinds of points. They are points where the part has all faces, new points of
@@ -46,5 +46,5 @@ pub fn corners_of_whole_children_are_next_points()
 /// Under the method `normal` every part is. Under `chaikin` each face must be a child at a point where the part has all faces.
 pub fn parts_of_next_levels_are_parts()
     ensures { (part : LevelPart) (next : NextPart part) → IsOverPoints part
-        → IsLevelPart (λ n. name_next part (next.name n)) (map (face_in (faces_next part)) next.faces) next.level (child_level part.whole) }
+        → IsLevelPart (name_in_whole next) (faces_in_whole next) next.level (child_level part.whole) }
 {}

@@ -10,7 +10,7 @@ ghost use Rattle.subdiv_model.specs.Mask.{Scheme, is_interior, rule_at, child_ru
 ghost use Rattle.subdiv_model.specs.Channel.{chaikin_overflows_at, transition_overflows_at};
 ghost use Rattle.part_laws.specs.Parts.{IsWholeAt, renamed};
 ghost use Rattle.part_laws.specs.Laws.{name_of};
-ghost use Rattle.part_laws.specs.LevelParts.{IsLevelPart, LevelPart, PartOfPart, WholePointOf, EdgeOf, weight_at, last_name, last_faces};
+ghost use Rattle.part_laws.specs.LevelParts.{IsLevelPart, LevelPart, PartOfPart, WholePointOf, EdgeOf, IsWholeIn, weight_at, last_name, last_faces};
 
 /// If a part has all faces at a point, its edges there have the sharpness of the whole, in the same order. The law holds in the
 /// level and in the next.
@@ -56,6 +56,5 @@ pub fn levels_are_parts_of_themselves()
 pub fn parts_of_parts_are_parts()
     ensures part { (both : PartOfPart) → IsLevelPart (last_name both) (last_faces both) both.part.level both.whole }
     ensures whole { (both : PartOfPart) (at : WholePointOf both.part)
-        → IsWholeAt both.faces both.whole.polygons (last_name both at.point)
-        → IsWholeAt (last_faces both) both.whole.polygons (last_name both at.point) }
+        → IsWholeIn both both.faces at.point → IsWholeIn both (last_faces both) at.point }
 {}

@@ -2,12 +2,11 @@
 
 ghost use Rattle.std.specs.Prelude.{◌≡◌, ℕ, List, map, IsTrue, ◌↔◌};
 ghost use Rattle.subdiv_model.specs.Polygons.{Polygon};
-ghost use Rattle.subdiv_model.specs.Edges.{edge_number, edges_of_point, faces_of_point, faces_of_edge, has_end, is_boundary};
+ghost use Rattle.subdiv_model.specs.Edges.{edges_of_point, faces_of_point, faces_of_edge, has_end, is_boundary};
 ghost use Rattle.subdiv_model.specs.Manifold.{IsPath, HasOneFan};
-ghost use Rattle.subdiv_model.specs.Mask.{other_end};
 ghost use Rattle.part_laws.specs.Parts.{IsWholeAt, IsWholeAlong, renamed, face_in};
-ghost use Rattle.part_laws.specs.Children.{edge_at};
-ghost use Rattle.part_laws.specs.Laws.{Part, PartFaces, WholePoint, WholeEdge, name_of, edge_in};
+ghost use Rattle.part_laws.specs.Children.{as_listed};
+ghost use Rattle.part_laws.specs.Laws.{Part, PartFaces, WholePoint, WholeEdge, other_ends_at, name_of, edge_in};
 
 /// If a part has all faces at a point, they are the faces of the whole at its name, in the same order.
 pub fn faces_at_whole_points_are_the_same()
@@ -21,8 +20,8 @@ pub fn edges_at_whole_points_are_the_same()
     ensures edges { (part : Part) (at : WholePoint part)
         → map (renamed part.name) (edges_of_point part.polygons at.point) ≡ edges_of_point part.whole (name_of at) }
     ensures ends { (part : Part) (at : WholePoint part)
-        → map part.name (map (other_end at.point) (edges_of_point part.polygons at.point))
-        ≡ map (other_end (name_of at)) (edges_of_point part.whole (name_of at)) }
+        → map part.name (other_ends_at part.polygons at.point)
+        ≡ other_ends_at part.whole (name_of at) }
 {}
 
 /// If a part has all faces along an edge, they are the faces of the whole along it. The edge is a boundary edge in both or in
@@ -32,8 +31,8 @@ pub fn faces_along_whole_edges_are_the_same()
         → map (face_in part.faces) (faces_of_edge part.polygons along.edge) ≡ faces_of_edge part.whole (edge_in along) }
     ensures boundary { (part : Part) (along : WholeEdge part)
         → is_boundary part.polygons along.edge ≡ is_boundary part.whole (edge_in along) }
-    ensures direction { (part : Part) (along : WholeEdge part) → edge_at part.whole (edge_number part.whole (edge_in along))
-        ≡ renamed part.name (edge_at part.polygons (edge_number part.polygons along.edge)) }
+    ensures direction { (part : Part) (along : WholeEdge part) → as_listed part.whole (edge_in along)
+        ≡ renamed part.name (as_listed part.polygons along.edge) }
 {}
 
 /// If a part has all faces at a point, they form one fan exactly where the faces of the whole do. Faces are a path around the
