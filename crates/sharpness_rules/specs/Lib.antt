@@ -1,3 +1,4 @@
 pub mod View
 pub mod Totals
 pub mod Halves
+pub mod Sharp

@@ -3,9 +3,9 @@ use crate::sums::total_of_ring;
 use crate::total::Total;
 use crate::{Method, SharpOverflow, Sharpness, uniform_child};
 
-// How the semi-sharp edges of a ring get their halves.
+// The rule by which the semi-sharp edges of a ring get their halves.
 #[derive(Clone, Copy)]
-enum Way {
+enum HalvesRule {
     // Each edge loses 1.
     Uniform,
     // Each edge gets its share of the sum.
@@ -17,7 +17,7 @@ enum Way {
 /// The halves, at a vertex, of all edges of its ring. One visit of the ring prepares them; each half then takes constant time.
 #[derive(Clone, Copy)]
 pub struct Halves {
-    way: Way,
+    rule: HalvesRule,
 }
 
 impl Halves {
@@ -26,18 +26,18 @@ impl Halves {
     ghost use Rattle.sharpness_rules.specs.declared.child.Method.{Method};
     ghost use Rattle.sharpness_rules.specs.declared.sharpness.Sharpness.{Sharpness};
     ghost use Rattle.sharpness_rules.specs.View.{sharpness_of};
-    ghost use Rattle.sharpness_rules.specs.Halves.{AreHalves, halves_overflow, half_in};
+    ghost use Rattle.sharpness_rules.specs.Halves.{AreHalves, halves_overflow, IsHalfIn};
 
     /// Returns the halves of a ring by a method. `Method::Normal` does not visit the ring.
     pub fn of(method: Method, ring: &[Sharpness]) -> Halves
         requires short { length ring.now < 2 ^ 32 }
         ensures { AreHalves method ring.now result }
     {
-        let way = match method {
-            Method::Normal => Way::Uniform,
-            Method::Chaikin => Way::by_chaikin(ring),
+        let rule = match method {
+            Method::Normal => HalvesRule::Uniform,
+            Method::Chaikin => HalvesRule::by_chaikin(ring),
         };
-        Halves { way }
+        Halves { rule }
     }
 
     /// Returns the sharpness of the half of an edge of the ring, given the sharpness of the edge.
@@ -48,15 +48,15 @@ impl Halves {
         ensures overflow { (method : Method) (ring : List Sharpness) → AreHalves method ring self.now
             → (IsErr result ↔ IsTrue (is_semi_sharp (sharpness_of s) && halves_overflow method ring)) }
         ensures half { (method : Method) (ring : List Sharpness) (at : ℕ) → AreHalves method ring self.now → at < length ring
-            → s ≡ get_or ring at s → IfOk result (λ half. sharpness_of half ≡ half_in method ring s) }
+            → s ≡ get_or ring at s → IfOk result (IsHalfIn method ring s) }
     {
         let Sharpness::Semi(edge) = s else {
             return Ok(s);
         };
-        match self.way {
-            Way::Uniform => Ok(uniform_child(s)),
-            Way::Shared(shares) => Ok(shares.half_of(edge)),
-            Way::TooFine => Err(SharpOverflow),
+        match self.rule {
+            HalvesRule::Uniform => Ok(uniform_child(s)),
+            HalvesRule::Shared(shares) => Ok(shares.half_of(edge)),
+            HalvesRule::TooFine => Err(SharpOverflow),
         }
     }
 
@@ -66,38 +66,38 @@ impl Halves {
         ensures { (method : Method) (ring : List Sharpness) → AreHalves method ring self.now
             → result ≡ halves_overflow method ring }
     {
-        matches!(self.way, Way::TooFine)
+        matches!(self.rule, HalvesRule::TooFine)
     }
 }
 
-impl Way {
+impl HalvesRule {
     ghost use Rattle.std.specs.Prelude.{ℕ, ◌^◌, ◌<◌, ◌≤◌, List, length, map};
     ghost use Rattle.sharpness_rules.specs.Totals.{IsTotal};
     ghost use Rattle.sharpness_rules.specs.View.{sharpness_of};
-    ghost use Rattle.sharpness_rules.specs.Halves.{IsWay, IsWayOf};
+    ghost use Rattle.sharpness_rules.specs.Halves.{IsHalvesRuleOfRing, IsHalvesRuleOfValues};
 
-    // How the method `Chaikin` makes the halves in a ring.
-    fn by_chaikin(ring: &[Sharpness]) -> Way
+    // The rule of the method `Chaikin` in a ring.
+    fn by_chaikin(ring: &[Sharpness]) -> HalvesRule
         requires short { length ring.now < 2 ^ 32 }
-        ensures { IsWay (map sharpness_of ring.now) result }
+        ensures { IsHalvesRuleOfRing (map sharpness_of ring.now) result }
     {
         match total_of_ring(ring) {
-            Ok(total) => Way::of_total(total),
-            Err(_) => Way::TooFine,
+            Ok(total) => HalvesRule::of_total(total),
+            Err(_) => HalvesRule::TooFine,
         }
     }
 
-    // How the method `Chaikin` makes the halves of semi-sharp edges with this sum.
-    fn of_total(total: Total) -> Way
+    // The rule of the method `Chaikin` for semi-sharp edges with this sum.
+    fn of_total(total: Total) -> HalvesRule
         requires few { total.count ≤ 2 ^ 32 }
-        ensures { (values : List (ℕ × ℕ)) → IsTotal values total → IsWayOf values result }
+        ensures { (values : List (ℕ × ℕ)) → IsTotal values total → IsHalvesRuleOfValues values result }
     {
         if total.count < 2 {
-            return Way::Uniform;
+            return HalvesRule::Uniform;
         }
         match Shares::of(total) {
-            Some(shares) => Way::Shared(shares),
-            None => Way::TooFine,
+            Some(shares) => HalvesRule::Shared(shares),
+            None => HalvesRule::TooFine,
         }
     }
 }

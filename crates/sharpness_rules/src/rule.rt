@@ -1,7 +1,6 @@
-ghost use Rattle.std.specs.Prelude.{◌≡◌, ◌+◌, ◌^◌, ◌<◌, ◌≤◌, MatchOption, [], ◌∷◌, length, map, drop};
-ghost use Rattle.subdiv_model.specs.Lists.{places_from};
-ghost use Rattle.subdiv_model.specs.Sharpness.{is_sharp};
+ghost use Rattle.std.specs.Prelude.{◌≡◌, ◌^◌, ◌<◌, ◌≤◌, MatchOption, [], length, map};
 ghost use Rattle.subdiv_model.specs.Rule.{vertex_rule};
+ghost use Rattle.sharpness_rules.specs.Sharp.{sharp_places_from, IsFirstSharp};
 ghost use Rattle.sharpness_rules.specs.View.{sharpness_of, rule_of};
 
 use crate::Sharpness;
@@ -45,9 +44,7 @@ pub fn vertex_rule(vertex: Sharpness, ring: &[Sharpness]) -> Rule
 fn next_sharp(ring: &[Sharpness], from: u32) -> Option<u32>
     requires short { length ring.now < 2 ^ 32 }
     requires within { from ≤ length ring.now }
-    ensures { let rest = places_from from is_sharp (drop from (map sharpness_of ring.now)) in
-        MatchOption result (rest ≡ []) (λ place. (place < length ring.now)
-        × (rest ≡ place ∷ places_from (place + 1) is_sharp (drop (place + 1) (map sharpness_of ring.now)))) }
+    ensures { MatchOption result (sharp_places_from from ring.now ≡ []) (IsFirstSharp from ring.now) }
 {
     for place in from..ring.len() as u32 {
         if ring[place as usize].is_sharp() {

@@ -38,7 +38,7 @@ fn common_denominator(a: u128, b: u128) -> Option<u128>
 
 // The total plus one value if `s` is semi-sharp, and the same total otherwise. `SharpOverflow`: the common denominator exceeds 2^60.
 fn plus(total: Total, s: Sharpness) -> Result<Total, SharpOverflow>
-    requires room { total.count < 2 ^ 32 }
+    requires countable { total.count < 2 ^ 32 }
     ensures { (values : List (ℕ × ℕ)) → IsTotal values total
         → Sums (values ++ semi_values (sharpness_of s)) result }
 {

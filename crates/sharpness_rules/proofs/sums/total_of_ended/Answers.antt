@@ -16,7 +16,7 @@ loop-i-init c =
 
 pub plus-requires : goal.plus-requires
 plus-requires c = record {
-  room = omega (arith, c.loop-i.invariant.count, length-values_before c.args.vertex c.args.vertex_child c.args.ring.now c.args.ring_child.now c.loop-i.i);
+  countable = omega (arith, c.loop-i.invariant.count, length-values_before c.args.vertex c.args.vertex_child c.args.ring.now c.args.ring_child.now c.loop-i.i);
 }
 
 pub returns-in_err-total-2 : goal.returns-in_err-total-2

@@ -6,7 +6,7 @@ use Rattle.sharpness_rules.proofs.sums.total_of_ring.Goals as goal
 
 pub plus-requires : goal.plus-requires
 plus-requires c = record {
-  room = omega (arith, c.loop-s.invariant.count, length-ring (take c.loop-s.s-index c.args.ring.now), length-take c.loop-s.s-index c.args.ring.now);
+  countable = omega (arith, c.loop-s.invariant.count, length-ring (take c.loop-s.s-index c.args.ring.now), length-take c.loop-s.s-index c.args.ring.now);
 }
 
 pub returns-in_err-total : goal.returns-in_err-total

@@ -1,6 +1,6 @@
 use Rattle.std.proofs.Common.{arith}
 use Rattle.sharpness_rules.proofs.RingLemmas.{length-ring, ring-overflows}
-use Rattle.sharpness_rules.proofs.halves.Way.by_chaikin.Goals as goal
+use Rattle.sharpness_rules.proofs.halves.HalvesRule.by_chaikin.Goals as goal
 
 pub of_total-requires : goal.of_total-requires
 of_total-requires c = record { few = omega (arith, c.in-Ok.ensures.count, length-ring c.args.ring.now) }
