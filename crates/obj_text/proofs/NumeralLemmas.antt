@@ -48,8 +48,8 @@ long-word word is =
 
 -- The kept exponent and the real one are equal, or both put the word out of range.
 abbrev AreAlike : ℕ → ℕ → ℕ → ℕ → Type 0
-AreAlike above below told_above told_below =
-    ((above ≡ told_above) × (below ≡ told_below)) ⊎ (((37 + below ≤ above) × (37 + told_below ≤ told_above)) ⊎ ((37 + above < below) × (37 + told_above < told_below)))
+AreAlike above below capped_above capped_below =
+    ((above ≡ capped_above) × (below ≡ capped_below)) ⊎ (((37 + below ≤ above) × (37 + capped_below ≤ capped_above)) ⊎ ((37 + above < below) × (37 + capped_above < capped_below)))
 
 abbrev pub IsFormOf : Option (ℕ × ℕ) → ℕ → ℕ → ℕ → Type 0
 IsFormOf r a above below =
@@ -71,42 +71,42 @@ form-far word None a above below out far h = out
 form-far word (Some n) a above below out far h =
     ⊎_elim (λ (many : BOUND ≤ a * 10 ^ (above - below)). absurd (omega arith)) (λ (fine : 37 < below - above). absurd (omega arith)) far
 
-form-alike : (word : List ℕ) (r : Option (ℕ × ℕ)) (a above below told_above told_below : ℕ) → a ≢ 0
-    → normal_amount word ≡ (a * 10 ^ (above - below), below - above) → AreAlike above below told_above told_below
-    → IsFormOf r a told_above told_below → IsReadAs r word
-form-alike word r a above below told_above told_below some e (inl same) h =
-    form-same word r a told_above told_below (e ∙ ap (λ n. (a * 10 ^ (n - below), below - n)) same.0 ∙ ap (λ n. (a * 10 ^ (told_above - n), n - told_above)) same.1) h
-form-alike word r a above below told_above told_below some e (inr (inl far)) h =
-    form-far word r a told_above told_below (word-outside word _ _ e (inl (zeros-far a (above - below) some (omega arith)))) (inl (zeros-far a (told_above - told_below) some (omega arith))) h
-form-alike word r a above below told_above told_below some e (inr (inr far)) h =
-    form-far word r a told_above told_below (word-outside word _ _ e (inr (omega arith))) (inr (omega arith)) h
+form-alike : (word : List ℕ) (r : Option (ℕ × ℕ)) (a above below capped_above capped_below : ℕ) → a ≢ 0
+    → normal_amount word ≡ (a * 10 ^ (above - below), below - above) → AreAlike above below capped_above capped_below
+    → IsFormOf r a capped_above capped_below → IsReadAs r word
+form-alike word r a above below capped_above capped_below some e (inl same) h =
+    form-same word r a capped_above capped_below (e ∙ ap (λ n. (a * 10 ^ (n - below), below - n)) same.0 ∙ ap (λ n. (a * 10 ^ (capped_above - n), n - capped_above)) same.1) h
+form-alike word r a above below capped_above capped_below some e (inr (inl far)) h =
+    form-far word r a capped_above capped_below (word-outside word _ _ e (inl (zeros-far a (above - below) some (omega arith)))) (inl (zeros-far a (capped_above - capped_below) some (omega arith))) h
+form-alike word r a above below capped_above capped_below some e (inr (inr far)) h =
+    form-far word r a capped_above capped_below (word-outside word _ _ e (inr (omega arith))) (inr (omega arith)) h
 
 -- An exponent kept as the greatest that is distinguished.
-alike-plus : (z f e told : ℕ) → f < 2 ^ 64 → told ≡ min e (10 ^ 20) → AreAlike (z + e) f (z + told) f
-alike-plus z f e told short t =
+alike-plus : (z f e capped : ℕ) → f < 2 ^ 64 → capped ≡ min e (10 ^ 20) → AreAlike (z + e) f (z + capped) f
+alike-plus z f e capped short t =
     ⊎_elim (λ (h : e < 10 ^ 20). inl (omega arith, refl)) (λ (h : 10 ^ 20 ≤ e). inr (inl (omega arith, omega arith))) (cases_lt e (10 ^ 20))
 
-alike-minus : (z f e told : ℕ) → z < 2 ^ 66 → told ≡ min e (10 ^ 20) → AreAlike (z + 0) (f + e) z (f + told)
-alike-minus z f e told short t =
+alike-minus : (z f e capped : ℕ) → z < 2 ^ 66 → capped ≡ min e (10 ^ 20) → AreAlike (z + 0) (f + e) z (f + capped)
+alike-minus z f e capped short t =
     ⊎_elim (λ (h : e < 10 ^ 20). inl (omega arith, omega arith)) (λ (h : 10 ^ 20 ≤ e). inr (inr (omega arith, omega arith))) (cases_lt e (10 ^ 20))
 
 -- The parts that were read of a word give its normal form.
-pub read-plus : (word : List ℕ) (r : Option (ℕ × ℕ)) (a z f told : ℕ) → number_of_digits (all_digits word) ≡ a * 10 ^ z → a ≢ 0
+pub read-plus : (word : List ℕ) (r : Option (ℕ × ℕ)) (a z f capped : ℕ) → number_of_digits (all_digits word) ≡ a * 10 ^ z → a ≢ 0
     → (a % 10 ≡ 0 → a ≡ 0) → false ≡ exponent_has_minus (exponent_part word) → f ≡ length (fraction_digits word) → f < 2 ^ 64
-    → told ≡ min (exponent_amount (exponent_part word)) (10 ^ 20) → IsFormOf r a (z + told) f → IsReadAs r word
-read-plus word r a z f told e some ends minus g short t h =
+    → capped ≡ min (exponent_amount (exponent_part word)) (10 ^ 20) → IsFormOf r a (z + capped) f → IsReadAs r word
+read-plus word r a z f capped e some ends minus g short t h =
     let above : tens_above word ≡ exponent_amount (exponent_part word) = rw (sym minus) refl in
     let below : tens_below word ≡ f = rw (sym minus) (sym g) in
-    form-alike word r a (z + exponent_amount (exponent_part word)) f (z + told) f some
+    form-alike word r a (z + exponent_amount (exponent_part word)) f (z + capped) f some
     (normal-word word a z e some ends ∙ ap (λ n. (a * 10 ^ ((z + n) - tens_below word), tens_below word - (z + n))) above ∙ ap (λ n. (a * 10 ^ ((z + exponent_amount (exponent_part word)) - n), n - (z + exponent_amount (exponent_part word)))) below)
-    (alike-plus z f (exponent_amount (exponent_part word)) told short t) h
+    (alike-plus z f (exponent_amount (exponent_part word)) capped short t) h
 
-pub read-minus : (word : List ℕ) (r : Option (ℕ × ℕ)) (a z f told : ℕ) → number_of_digits (all_digits word) ≡ a * 10 ^ z → a ≢ 0
+pub read-minus : (word : List ℕ) (r : Option (ℕ × ℕ)) (a z f capped : ℕ) → number_of_digits (all_digits word) ≡ a * 10 ^ z → a ≢ 0
     → (a % 10 ≡ 0 → a ≡ 0) → true ≡ exponent_has_minus (exponent_part word) → f ≡ length (fraction_digits word) → z < 2 ^ 66
-    → told ≡ min (exponent_amount (exponent_part word)) (10 ^ 20) → IsFormOf r a z (f + told) → IsReadAs r word
-read-minus word r a z f told e some ends minus g short t h =
+    → capped ≡ min (exponent_amount (exponent_part word)) (10 ^ 20) → IsFormOf r a z (f + capped) → IsReadAs r word
+read-minus word r a z f capped e some ends minus g short t h =
     let above : tens_above word ≡ 0 = rw (sym minus) refl in
     let below : tens_below word ≡ f + exponent_amount (exponent_part word) = rw (sym minus) (ap (λ n. n + exponent_amount (exponent_part word)) (sym g)) in
-    form-alike word r a (z + 0) (f + exponent_amount (exponent_part word)) z (f + told) some
+    form-alike word r a (z + 0) (f + exponent_amount (exponent_part word)) z (f + capped) some
     (normal-word word a z e some ends ∙ ap (λ n. (a * 10 ^ ((z + n) - tens_below word), tens_below word - (z + n))) above ∙ ap (λ n. (a * 10 ^ ((z + 0) - n), n - (z + 0))) below)
-    (alike-minus z f (exponent_amount (exponent_part word)) told short t) h
+    (alike-minus z f (exponent_amount (exponent_part word)) capped short t) h

@@ -4,7 +4,7 @@ ghost use Rattle.obj_text.specs.NumeralParts.{IsNumberUpTo};
 ghost use Rattle.subdiv_model.specs.Digits.{is_digit};
 
 /// Whether every byte is a digit.
-pub(crate) fn has_digits_alone(bytes: &[u8]) -> bool
+pub(crate) fn is_all_digits(bytes: &[u8]) -> bool
     ensures { result ≡ list_all is_digit bytes.now }
 {
     for byte in bytes {

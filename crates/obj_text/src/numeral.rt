@@ -7,7 +7,7 @@ ghost use Rattle.subdiv_model.specs.Digits.{is_digit};
 ghost use Rattle.subdiv_model.specs.Numeral.{signed, is_exponent_mark, is_point, is_decimal};
 
 use crate::decimal::{Significant, with_digits, with_zeros};
-use crate::digits::{digits_up_to, has_digits_alone};
+use crate::digits::{digits_up_to, is_all_digits};
 use crate::fraction::read_fraction;
 use crate::sign::split_sign;
 use crate::terms::{Terms, over_decimals};
@@ -137,7 +137,7 @@ fn parts_of(word: &[u8]) -> Option<Parts<'_>>
     if whole.is_empty() && fraction.is_empty() {
         return None;
     }
-    if !has_digits_alone(whole) || !has_digits_alone(fraction) {
+    if !is_all_digits(whole) || !is_all_digits(fraction) {
         return None;
     }
     let exponent = read_exponent(part)?;
