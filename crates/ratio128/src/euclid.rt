@@ -11,12 +11,12 @@ pub(crate) fn odd_part(n: u128) -> u128
 }
 
 // The odd part of a word above 0: the word without its factors of two.
-fn odd_word(n: u64) -> u64
-    requires { 0 < n }
+fn odd_word(word: u64) -> u64
+    requires { 0 < word }
     ensures odd { result % 2 ≡ 1 }
-    ensures whole { result * 2 ^ trailing_zeros w64 n ≡ n }
+    ensures whole { result * 2 ^ trailing_zeros w64 word ≡ word }
 {
-    n >> n.trailing_zeros()
+    word >> word.trailing_zeros()
 }
 
 // The greatest common divisor of odd words. Each step subtracts and shifts out factors of two, without a division.
