@@ -1,5 +1,5 @@
 -- The arrays of a caller for a mesh: their lengths, and their contents after the write.
-use Rattle.std.specs.Prelude.{ℕ, ◌≡◌, ◌≤◌, ◌&&◌, Bool, true, nat_le, List, length, map, take, if◌then◌else◌}
+use Rattle.std.specs.Prelude.{ℕ, ◌≡◌, ◌≤◌, ◌&&◌, Bool, true, nat_le, List, length, map, take, drop, if◌then◌else◌}
 use Rattle.std.specs.List.{flat_map, sum_by}
 use Rattle.subdiv_model.specs.ObjMesh.{ObjMesh}
 use Rattle.flat_arrays.specs.Places.{IsSameArray}
@@ -68,3 +68,14 @@ pub record AreSamePlaces (old new : MeshPlaces) : Type 0 where
   pub creases : IsSameArray old.creases new.creases
   pub corner_tags : IsSameArray old.corner_tags new.corner_tags
   pub holes : IsSameArray old.holes new.holes
+
+-- Behind the places of these items the arrays keep their contents.
+pub record IsRestKept (counts : MeshCounts) (old new : MeshPlaces) : Type 0 where
+  pub points : drop counts.points new.points.now ≡ drop counts.points old.points.now
+  pub texture : drop counts.texture new.texture.now ≡ drop counts.texture old.texture.now
+  pub sizes : drop counts.faces new.face_sizes.now ≡ drop counts.faces old.face_sizes.now
+  pub corners : drop counts.corners new.corners.now ≡ drop counts.corners old.corners.now
+  pub texture_corners : drop counts.texture_corners new.texture_corners.now ≡ drop counts.texture_corners old.texture_corners.now
+  pub creases : drop counts.creases new.creases.now ≡ drop counts.creases old.creases.now
+  pub corner_tags : drop counts.corner_tags new.corner_tags.now ≡ drop counts.corner_tags old.corner_tags.now
+  pub holes : drop counts.holes new.holes.now ≡ drop counts.holes old.holes.now

@@ -1,6 +1,6 @@
 //! The lists of a mesh, written into arrays.
 
-ghost use Rattle.std.specs.Prelude.{◌≡◌, ◌+◌, ◌*◌, ◌^◌, ◌<◌, ◌≤◌, length, map, take, sum, false, true};
+ghost use Rattle.std.specs.Prelude.{◌≡◌, ◌+◌, ◌*◌, ◌^◌, ◌<◌, ◌≤◌, length, map, take, drop, sum, false, true};
 ghost use Rattle.std.specs.List.{flat_map, sum_by};
 ghost use Rattle.raw_mesh.specs.View as view;
 ghost use Rattle.sharpness_rules.specs.View.{sharpness_of};
@@ -26,6 +26,7 @@ fn wide_point(p: &Point3) -> WidePoint
 pub(crate) fn put_points(points: &[Point3], out: &mut [WidePoint])
     requires fits { length points.now ≤ length out.old }
     ensures written { map point_of (take (length points.now) out.new) ≡ map view.point_of points.now }
+    ensures rest { drop (length points.now) out.new ≡ drop (length points.now) out.old }
     ensures len { length out.new ≡ length out.old }
 {
     for k in 0..points.len() {
@@ -45,6 +46,7 @@ fn wide_value(p: &Point2) -> WideValue
 pub(crate) fn put_values(values: &[Point2], out: &mut [WideValue])
     requires fits { length values.now ≤ length out.old }
     ensures written { map value_of (take (length values.now) out.new) ≡ map view.texture_of values.now }
+    ensures rest { drop (length values.now) out.new ≡ drop (length values.now) out.old }
     ensures len { length out.new ≡ length out.old }
 {
     for k in 0..values.len() {
@@ -80,6 +82,7 @@ fn sharp_edge(crease: &Crease) -> SharpEdge
 pub(crate) fn put_creases(creases: &[Crease], out: &mut [SharpEdge])
     requires fits { length creases.now ≤ length out.old }
     ensures written { map crease_of (take (length creases.now) out.new) ≡ map view.crease_of creases.now }
+    ensures rest { drop (length creases.now) out.new ≡ drop (length creases.now) out.old }
     ensures len { length out.new ≡ length out.old }
 {
     for k in 0..creases.len() {
@@ -102,6 +105,7 @@ fn sharp_point(tag: &CornerTag) -> SharpPoint
 pub(crate) fn put_corner_tags(tags: &[CornerTag], out: &mut [SharpPoint])
     requires fits { length tags.now ≤ length out.old }
     ensures written { map corner_tag_of (take (length tags.now) out.new) ≡ map view.corner_tag_of tags.now }
+    ensures rest { drop (length tags.now) out.new ≡ drop (length tags.now) out.old }
     ensures len { length out.new ≡ length out.old }
 {
     for k in 0..tags.len() {

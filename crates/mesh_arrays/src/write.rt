@@ -1,6 +1,6 @@
 //! A mesh written into arrays.
 
-ghost use Rattle.std.specs.Prelude.{◌≡◌, ◌≤◌, ◌<◌, ◌^◌, length, true};
+ghost use Rattle.std.specs.Prelude.{◌≡◌, ◌≤◌, ◌<◌, ◌^◌, length, drop, true};
 ghost use Rattle.std.specs.List.{sum_by};
 ghost use Rattle.sharpness_rules.specs.View as rules;
 ghost use Rattle.raw_mesh.specs.View as view;
@@ -94,6 +94,7 @@ pub fn are_long_enough(counts: &MeshCounts, places: &MeshPlaces) -> bool
 fn put_texture(mesh: &RawMesh, out: &mut [u32])
     requires { mesh.now.has_texture ≡ true → sum_by length mesh.now.faces ≤ length out.old }
     ensures written { mesh.now.has_texture ≡ true → spec.IsTextureWritten mesh.now out.new }
+    ensures rest { drop (spec.counts_of mesh.now).texture_corners out.new ≡ drop (spec.counts_of mesh.now).texture_corners out.old }
     ensures len { length out.new ≡ length out.old }
 {
     mesh.facts();
@@ -102,10 +103,12 @@ fn put_texture(mesh: &RawMesh, out: &mut [u32])
     }
 }
 
-/// Writes a mesh to the start of the arrays. Each array has a place for each item that [`counts_of`] counts.
+/// Writes a mesh to the start of the arrays. Each array has a place for each item that [`counts_of`] counts. Further places keep their
+/// contents.
 pub fn put_mesh(mesh: &RawMesh, places: &mut MeshPlaces)
     requires { spec.are_long_enough (spec.counts_of mesh.now) places.old ≡ true }
     ensures written { spec.IsWritten mesh.now places.new }
+    ensures rest { spec.IsRestKept (spec.counts_of mesh.now) places.old places.new }
     ensures places { spec.AreSamePlaces places.old places.new }
 {
     put_points(mesh.points(), places.points);

@@ -1,4 +1,4 @@
-use Rattle.std.proofs.Common.{◌≡◌, length, take}
+use Rattle.std.proofs.Common.{◌≡◌, length, take, drop}
 use Rattle.std.specs.List.{flat_map, sum_by}
 use Rattle.mesh_arrays.proofs.put_faces.put_texture_corners.Given as goal
 
@@ -7,5 +7,6 @@ abbrev pub invariant-loop-f : goal.invariant-loop-f
 invariant-loop-f l = record {
   at : l.at ≡ sum_by length (take l.f l.mesh.texture_corners);
   written : take l.at l.out ≡ flat_map (λ face. face) (take l.f l.mesh.texture_corners);
+  rest : drop (sum_by length l.mesh.texture_corners) l.out ≡ drop (sum_by length l.mesh.texture_corners) l.fn.out;
   len : length l.out ≡ length l.fn.out;
 }
