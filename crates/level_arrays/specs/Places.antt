@@ -1,5 +1,5 @@
 -- The arrays of a caller for a level: their lengths, and their contents after the write.
-use Rattle.std.specs.Prelude.{◌≡◌, ◌*◌, ◌&&◌, Bool, nat_le, length, map, take}
+use Rattle.std.specs.Prelude.{◌≡◌, ◌*◌, ◌&&◌, Bool, nat_le, length, map, take, drop}
 use Rattle.std.specs.List.{sum_by}
 use Rattle.subdiv_model.specs.Edges.{edges_of}
 use Rattle.subdiv_model.specs.Level as model
@@ -30,3 +30,10 @@ pub record IsWritten (level : model.Level) (places : LevelPlaces) : Type 0 where
   pub corners : take (sum_by length level.polygons) places.corners.now ≡ corners_of level.polygons
   pub edges : take (2 * length (edges_of level.polygons)) places.edges.now ≡ ends_of (edges_of level.polygons)
   pub holes : take (length level.polygons) places.holes.now ≡ marks_of level.holes
+
+-- Behind the places of these items the arrays keep their contents.
+pub record IsRestKept (counts : LevelCounts) (old new : LevelPlaces) : Type 0 where
+  pub face_sizes : drop counts.faces new.face_sizes.now ≡ drop counts.faces old.face_sizes.now
+  pub corners : drop counts.corners new.corners.now ≡ drop counts.corners old.corners.now
+  pub edges : drop (2 * counts.edges) new.edges.now ≡ drop (2 * counts.edges) old.edges.now
+  pub holes : drop counts.faces new.holes.now ≡ drop counts.faces old.holes.now

@@ -33,10 +33,11 @@ fn are_long_enough(counts: &LevelCounts, places: &LevelPlaces) -> bool
         && counts.faces as u64 <= places.holes.len() as u64
 }
 
-/// Writes a level to the start of the arrays if each of them is long enough. Returns whether it did.
+/// Writes a level to the start of the arrays if each of them is long enough. Returns whether it did. Further places keep their contents.
 pub fn put_level(level: &Level, places: &mut LevelPlaces) -> bool
     ensures long_enough { result ≡ spec.are_long_enough (spec.counts_of level.now) places.old }
     ensures written { result ≡ true → spec.IsWritten level.now.level places.new }
+    ensures rest { spec.IsRestKept (spec.counts_of level.now) places.old places.new }
     ensures kept { result ≡ false → places.new ≡ places.old }
     ensures face_sizes { IsSameArray places.old.face_sizes places.new.face_sizes }
     ensures corners { IsSameArray places.old.corners places.new.corners }

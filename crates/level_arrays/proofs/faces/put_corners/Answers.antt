@@ -10,10 +10,10 @@ loop-f-preserved c =
     let corners = c.face_vertices-corners.result.now in
     let inside : c.loop-f.f < length polygons = omega (arith, c.loop-f-test.true, c.faces-f-end.ensures) in
     let size = ap length c.face_vertices-corners.ensures in
-    let room = counts-room length polygons c.loop-f.f _ c.loop-f.at (length corners) inside c.loop-f.invariant.at size in record {
+    let enough = counts-room length polygons c.loop-f.f _ c.loop-f.at (length corners) inside c.loop-f.invariant.at size in record {
       at = counts-more length polygons c.loop-f.f _ c.loop-f.at (length corners) inside c.loop-f.invariant.at size;
       written = pieces-more (λ (polygon : Polygon). polygon) polygons c.loop-f.f _ (take c.loop-f.at c.loop-f.out) corners _ inside
           c.loop-f.invariant.written c.face_vertices-corners.ensures c.put_items.ensures.written;
-      rest = rest-later (c.loop-f.at + length corners) (sum_by length polygons) c.put_items.new.out c.loop-f.out c.args.out.now room c.put_items.ensures.rest c.loop-f.invariant.rest;
+      rest = rest-later (c.loop-f.at + length corners) (sum_by length polygons) c.put_items.new.out c.loop-f.out c.args.out.now enough c.put_items.ensures.rest c.loop-f.invariant.rest;
       len = c.put_items.ensures.len ∙ c.loop-f.invariant.len;
     }
