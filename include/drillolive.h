@@ -196,6 +196,21 @@ const uint32_t *drillolive_mesh_face_sizes(const drillolive_mesh *mesh);
 const uint32_t *drillolive_mesh_corners(const drillolive_mesh *mesh);
 const uint32_t *drillolive_mesh_texture_corners(const drillolive_mesh *mesh);
 
+/* A crease and a corner tag: points, and a sharpness as a fraction. A sharpness of 10 or more is infinite. */
+typedef struct drillolive_crease {
+    uint32_t first, second;
+    uint64_t sharpness_num, sharpness_den;
+} drillolive_crease;
+typedef struct drillolive_corner_tag {
+    uint32_t point;
+    uint64_t sharpness_num, sharpness_den;
+} drillolive_corner_tag;
+
+/* Return the tags of the mesh in the order in which they were set, as many as its counts say. NULL if `mesh` is not a mesh or has none. */
+const drillolive_crease *drillolive_mesh_creases(const drillolive_mesh *mesh);
+const drillolive_corner_tag *drillolive_mesh_corner_tags(const drillolive_mesh *mesh);
+const uint32_t *drillolive_mesh_holes(const drillolive_mesh *mesh);
+
 /* ---- Tables ---- */
 
 /* The stencil table of a level. Row r gives point r of the level: entry e, from starts[r] to starts[r + 1], gives the weight weights[e] of the control

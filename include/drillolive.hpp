@@ -169,6 +169,9 @@ public:
     view<std::uint32_t> face_sizes() const { return {drillolive_mesh_face_sizes(get()), counts().faces}; }
     view<std::uint32_t> corners() const { return {drillolive_mesh_corners(get()), counts().corners}; }
     view<std::uint32_t> texture_corners() const { return {drillolive_mesh_texture_corners(get()), counts().texture_corners}; }
+    view<drillolive_crease> creases() const { return {drillolive_mesh_creases(get()), counts().creases}; }
+    view<drillolive_corner_tag> corner_tags() const { return {drillolive_mesh_corner_tags(get()), counts().corner_tags}; }
+    view<std::uint32_t> holes() const { return {drillolive_mesh_holes(get()), counts().holes}; }
 
 private:
     static drillolive_faces faces(view<std::uint32_t> sizes, view<std::uint32_t> corners) {

@@ -9,6 +9,8 @@ _Static_assert(sizeof(double) == 8 && sizeof(float) == 4, "doubles have 64 bits,
 _Static_assert(sizeof(struct far_point) == 3 * sizeof(struct far_wide), "a point is three numbers");
 _Static_assert(sizeof(struct far_value) == 2 * sizeof(struct far_wide), "a texture value is two numbers");
 _Static_assert(sizeof(drillolive_wide) == sizeof(struct far_wide), "both have two words");
+_Static_assert(sizeof(drillolive_crease) == sizeof(struct far_sharp_edge), "both have two points and a fraction");
+_Static_assert(sizeof(drillolive_corner_tag) == sizeof(struct far_sharp_point), "both have a point and a fraction");
 
 enum { LINE_ROOM = 160 };
 

@@ -416,3 +416,15 @@ const uint32_t *drillolive_mesh_corners(const drillolive_mesh *mesh) {
 const uint32_t *drillolive_mesh_texture_corners(const drillolive_mesh *mesh) {
     return is_handle(mesh, MESH_WORD) ? mesh->of.texture_corners : NULL;
 }
+
+const drillolive_crease *drillolive_mesh_creases(const drillolive_mesh *mesh) {
+    return is_handle(mesh, MESH_WORD) && mesh->of.creases_len ? (const drillolive_crease *)mesh->of.creases : NULL;
+}
+
+const drillolive_corner_tag *drillolive_mesh_corner_tags(const drillolive_mesh *mesh) {
+    return is_handle(mesh, MESH_WORD) && mesh->of.corner_tags_len ? (const drillolive_corner_tag *)mesh->of.corner_tags : NULL;
+}
+
+const uint32_t *drillolive_mesh_holes(const drillolive_mesh *mesh) {
+    return is_handle(mesh, MESH_WORD) && mesh->of.holes_len ? mesh->of.holes : NULL;
+}

@@ -155,6 +155,7 @@ static void test_creases(void) {
     drillolive_table_free(table);
     DONE(drillolive_mesh_set_creases(mesh, ends, half, 4));
     DONE(drillolive_mesh_set_creases(mesh, NULL, NULL, 0));
+    CHECK(!drillolive_mesh_creases(mesh) && !drillolive_mesh_corner_tags(mesh) && !drillolive_mesh_holes(mesh));
     DONE(drillolive_mesh_set_corner_tags(mesh, ends, sharp, 2));
     DONE(drillolive_table_new_doubles(mesh, 2, &table));
     CHECK(drillolive_table_starts(table)[1] == 1 && drillolive_table_doubles(table)[0] == 1.0);
@@ -170,6 +171,15 @@ static bool are_same_tables(const drillolive_table *a, const drillolive_table *b
            memcmp(drillolive_table_starts(a), drillolive_table_starts(b), 4 * (m.rows + 1)) == 0 &&
            memcmp(drillolive_table_indices(a), drillolive_table_indices(b), 4 * m.entries) == 0 &&
            memcmp(drillolive_table_doubles(a), drillolive_table_doubles(b), 8 * m.entries) == 0;
+}
+
+/* A mesh gives its tags back: a crease of 3/2, a corner of 3 and a hole. */
+static void check_tags(const drillolive_mesh *mesh) {
+    const drillolive_crease *crease = drillolive_mesh_creases(mesh);
+    const drillolive_corner_tag *corner = drillolive_mesh_corner_tags(mesh);
+    CHECK(crease->first == 0 && crease->second == 1 && 2 * crease->sharpness_num == 3 * crease->sharpness_den);
+    CHECK(corner->point == 3 && corner->sharpness_num == 3 * corner->sharpness_den);
+    CHECK(drillolive_mesh_holes(mesh)[0] == 2);
 }
 
 /* The same mesh by text and by arrays, with a crease, a corner and a hole. */
@@ -188,6 +198,8 @@ static void test_obj(void) {
     DONE(drillolive_mesh_count(read, &counts));
     CHECK(counts.points == 8 && counts.faces == 6 && counts.corners == 24 && counts.creases == 1 && counts.corner_tags == 1 && counts.holes == 1);
     CHECK(memcmp(drillolive_mesh_corners(read), CUBE_CORNERS, sizeof CUBE_CORNERS) == 0);
+    check_tags(mesh);
+    check_tags(read);
     DONE(drillolive_table_new_doubles(mesh, 2, &a));
     DONE(drillolive_table_new_doubles(read, 2, &b));
     CHECK(are_same_tables(a, b));
